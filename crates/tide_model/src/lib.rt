@@ -1,0 +1,21 @@
+//! What an object store is: its values, operations, replies and histories.
+//!
+//! The types here are those that code passes about. What they mean stands in `specs/`: the state of a
+//! store, what an operation answers, the least fixpoint of its graph, when the entries of a cycle may stand,
+//! and which histories are lawful. Every other crate's contracts cite these definitions, and this crate
+//! stands on none.
+#![tactic(auto)]
+
+mod entry;
+mod op;
+mod turnstile;
+mod val;
+
+pub use entry::{Entry, Event, Ids};
+pub use op::{Op, Refusal, Reply};
+pub use turnstile::{FreePass, Place, Turnstile};
+pub use val::Val;
+
+/// Want of memory, the one answer that needs no other cause.
+#[derive(Clone, Copy, Debug, PartialEq, Eq)]
+pub struct Memory;

@@ -1,0 +1,20 @@
+/// The numbers of a workload: how large its heap is, and when cycles run.
+#[derive(Clone, Copy, Debug, PartialEq, Eq)]
+pub struct Settings {
+    /// Registers of each mutator, 1 to 16.
+    pub registers: u8,
+    /// Strong handles, 0 to 256.
+    pub strong: u16,
+    /// Weak handles, 0 to 256.
+    pub weak: u16,
+    /// Blocks of 64 cells of the classes 0 to 4, each 0 to 64.
+    pub blocks: [u8; 5],
+    /// Blocks of 64 arrays of the classes 5 to 9, each 0 to 64.
+    pub arrays: [u8; 5],
+    /// Calls of a mutator in an idle part, 4 to 65,536.
+    pub period: u32,
+    /// How many cells may be born in a cycle before the mutators are stopped, 1 to 1,000,000.
+    pub headroom: u32,
+    /// How many births begin a cycle, 0 to 1,000,000, where 0 means never.
+    pub trigger: u32,
+}
