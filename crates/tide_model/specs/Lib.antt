@@ -1,0 +1,14 @@
+pub mod Answer
+pub mod Caller
+pub mod Cycle
+pub mod Graph
+pub mod History
+pub mod Lawful
+pub mod Layout
+pub mod Numbers
+pub mod Prefix
+pub mod Room
+pub mod Rows
+pub mod Schedule
+pub mod Script
+pub mod State

@@ -1,0 +1,133 @@
+-- Histories: lists of entries, and the state after each beginning of one.
+use Rattle.std.specs.Prelude.{ℕ, ◌+◌, ◌==◌, Bool, true, false, ◌&&◌, ◌||◌, if◌then◌else◌, nat_lt, List, [], ◌∷◌, length, take, Option, None, Some}
+use Rattle.tide_model.specs.declared.val.Val.{Val}
+use Rattle.tide_model.specs.declared.val.Val.TheVariants.{Empty, Int, Cell}
+use Rattle.tide_model.specs.declared.op.Op.{Op}
+use Rattle.tide_model.specs.declared.op.Op.TheVariants.{Alloc, Retire}
+use Rattle.tide_model.specs.declared.op.Reply.{Reply}
+use Rattle.tide_model.specs.declared.op.Reply.TheVariants.{Done, Born}
+use Rattle.tide_model.specs.declared.entry.Entry.{Entry}
+use Rattle.tide_model.specs.declared.entry.Entry.TheVariants.{Call, Begin, Pause, Visits, End, Sweep, Open}
+use Rattle.tide_model.specs.declared.entry.Event.{Event}
+use Rattle.tide_model.specs.Layout.{Layout, block_of_cell, block_of_array}
+use Rattle.tide_model.specs.Numbers.{put_at, is_among}
+use Rattle.tide_model.specs.State.{State, CellState, Status, free, live, spent, dead, is_dead, blank_cell, idle, marking, empty_state}
+
+-- an entry that takes no array
+abbrev pub plain : Entry → Event
+plain entry = record { entry = entry; took = None }
+
+-- a mutator's register has another value
+abbrev pub put_register : State → ℕ → ℕ → Val → State
+put_register state who register value =
+    record state { registers = put_at state.registers who (put_at (state.registers who) register value) }
+
+-- what a call leaves, by its operation and reply and the array that it took
+abbrev pub after_call : State → ℕ → Op → Reply → Option ℕ → State
+after_call state who (Alloc dst class) (Born cell) took =
+    put_register (record state { cells = put_at state.cells cell (blank_cell live) }) who dst (Cell cell)
+after_call state who Retire Done took = record state { active = put_at state.active who false }
+after_call state who op reply took = state
+
+-- a value that names none of these cells
+abbrev pub without : List ℕ → Val → Val
+without cells Empty = Empty
+without cells (Int n) = Int n
+without cells (Cell cell) = if is_among cells cell then Empty else Cell cell
+
+-- the array is that of one of these cells
+abbrev pub is_array_of : State → List ℕ → ℕ → Bool
+is_array_of state [] array = false
+is_array_of state (cell ∷ cells) array = is_the_array (state.cells cell).array || is_array_of state cells array
+  where
+    is_the_array : Option ℕ → Bool
+    is_the_array None = false
+    is_the_array (Some a) = a == array
+
+-- a spent array is dead once a cycle ends
+abbrev pub unless_spent : Status → Status
+unless_spent free = free
+unless_spent live = live
+unless_spent spent = dead
+unless_spent dead = dead
+
+-- what the end of a cycle leaves: the freed cells, their arrays and all spent arrays are dead, weak handles to
+-- freed cells are empty, pairs with a freed key are gone, and no cycle marks
+abbrev pub after_end : State → List ℕ → State
+after_end state freed = record state {
+  weak = λ handle. without freed (state.weak handle);
+  cells = λ cell. record (state.cells cell) {
+    status = if is_among freed cell then dead else (state.cells cell).status;
+    pairs = λ key. if is_among freed key then None else (state.cells cell).pairs key;
+  };
+  arrays = λ array. if is_array_of state freed array then dead else unless_spent (state.arrays array);
+  phase = idle;
+}
+
+-- what a sweep leaves: the dead cells or arrays of the block are free and blank
+abbrev pub after_sweep : Layout → State → ℕ → State
+after_sweep layout state block = record state {
+  cells = λ cell. if (block_of_cell cell == block) && is_dead (state.cells cell).status then blank_cell free else state.cells cell;
+  arrays = λ array. if (block_of_array layout array == block) && is_dead (state.arrays array) then free else state.arrays array;
+}
+
+-- what an entry leaves
+abbrev pub after_entry : Layout → State → Entry → Option ℕ → State
+after_entry layout state (Call who op reply) took = after_call state who op reply took
+after_entry layout state (Begin cycle) took = record state { phase = marking cycle }
+after_entry layout state (Pause visits) took = state
+after_entry layout state (Visits who visits) took = state
+after_entry layout state (End cycle freed) took = after_end state freed
+after_entry layout state (Sweep block) took = after_sweep layout state block
+after_entry layout state (Open number run) took = state
+
+abbrev pub after_event : Layout → State → Event → State
+after_event layout state event = after_entry layout state event.entry event.took
+
+-- the state after some events that stand one after another from a state on
+abbrev pub state_from : Layout → State → List Event → State
+state_from layout state [] = state
+state_from layout state (event ∷ events) = state_from layout (after_event layout state event) events
+
+-- the state after a history, and after its first events
+abbrev pub state_after : Layout → List Event → State
+state_after layout history = state_from layout empty_state history
+
+abbrev pub state_at : Layout → List Event → ℕ → State
+state_at layout history moment = state_after layout (take moment history)
+
+-- the moment right after the last event that passes a test, or 0 where none does
+abbrev pub moment_after_last : (Event → Bool) → List Event → ℕ
+moment_after_last test [] = 0
+moment_after_last test (event ∷ events) =
+    if nat_lt 0 (moment_after_last test events) then moment_after_last test events + 1
+    else if test event then 1 else 0
+
+-- which entry an event is
+abbrev pub is_begin : Entry → Bool
+is_begin (Call who op reply) = false
+is_begin (Begin cycle) = true
+is_begin (Pause visits) = false
+is_begin (Visits who visits) = false
+is_begin (End cycle freed) = false
+is_begin (Sweep block) = false
+is_begin (Open number run) = false
+
+abbrev pub is_open : Entry → Bool
+is_open (Call who op reply) = false
+is_open (Begin cycle) = false
+is_open (Pause visits) = false
+is_open (Visits who visits) = false
+is_open (End cycle freed) = false
+is_open (Sweep block) = false
+is_open (Open number run) = true
+
+-- only a call is an entry of a mutator
+abbrev pub is_call_of : ℕ → Entry → Bool
+is_call_of mutator (Call who op reply) = who == mutator
+is_call_of mutator (Begin cycle) = false
+is_call_of mutator (Pause visits) = false
+is_call_of mutator (Visits who visits) = false
+is_call_of mutator (End cycle freed) = false
+is_call_of mutator (Sweep block) = false
+is_call_of mutator (Open number run) = false

@@ -1,0 +1,39 @@
+-- Which histories are lawful.
+use Rattle.std.specs.Prelude.{ℕ, ◌≡◌, ◌<◌, true, List, take, slice_get, Option, None, Some}
+use Rattle.tide_model.specs.declared.op.Op.{Op}
+use Rattle.tide_model.specs.declared.op.Reply.{Reply}
+use Rattle.tide_model.specs.declared.op.Reply.TheVariants.{Refused}
+use Rattle.tide_model.specs.declared.op.Refusal.TheVariants.{Full}
+use Rattle.tide_model.specs.declared.entry.Entry.{Entry}
+use Rattle.tide_model.specs.declared.entry.Entry.TheVariants.{Call, Begin, Pause, Visits, End, Sweep, Open}
+use Rattle.tide_model.specs.declared.entry.Event.{Event}
+use Rattle.tide_model.specs.Layout.{Layout}
+use Rattle.tide_model.specs.History.{state_after}
+use Rattle.tide_model.specs.Answer.{ShapeLists, IsAnswer}
+use Rattle.tide_model.specs.Cycle.{StandsBegin, StandsEnd, HasDead}
+use Rattle.tide_model.specs.Room.{StandsFull}
+
+-- a call stands where its mutator is active and the reply is an answer, and a refusal for room where it may come
+pub record StandsCall (layout : Layout) (shapes : ShapeLists) (before : List Event) (who : ℕ) (op : Op) (reply : Reply) (took : Option ℕ) : Type 0 where
+  pub is_mutator : who < layout.mutators
+  pub is_active : (state_after layout before).active who ≡ true
+  pub answers : IsAnswer layout shapes (state_after layout before) who op reply took
+  pub room : (class : ℕ) → reply ≡ Refused (Full class) → StandsFull layout before who class
+
+-- an entry may stand right after a history; only a call takes an array
+abbrev pub StandsEntry : Layout → ShapeLists → List Event → Entry → Option ℕ → Type 0
+StandsEntry layout shapes before (Call who op reply) took = StandsCall layout shapes before who op reply took
+StandsEntry layout shapes before (Begin cycle) took = (took ≡ None) × StandsBegin layout before cycle
+StandsEntry layout shapes before (Pause visits) took = took ≡ None
+StandsEntry layout shapes before (Visits who visits) took = took ≡ None
+StandsEntry layout shapes before (End cycle freed) took = (took ≡ None) × StandsEnd layout before cycle freed
+StandsEntry layout shapes before (Sweep block) took = (took ≡ None) × HasDead layout (state_after layout before) block
+StandsEntry layout shapes before (Open number run) took = took ≡ None
+
+abbrev pub Stands : Layout → ShapeLists → List Event → Event → Type 0
+Stands layout shapes before event = StandsEntry layout shapes before event.entry event.took
+
+-- each event may stand right after those before it
+abbrev pub IsLawful : Layout → ShapeLists → List Event → Type 0
+IsLawful layout shapes history =
+    (place : ℕ) (event : Event) → slice_get history place ≡ Some event → Stands layout shapes (take place history) event

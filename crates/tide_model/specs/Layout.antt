@@ -1,0 +1,49 @@
+-- How large a store is: its blocks of each class, its registers and handles, and who takes part.
+use Rattle.std.specs.Prelude.{ℕ, ◌+◌, ◌*◌, ◌/◌, ◌<◌, ◌≤◌, List, [], ◌∷◌, ◌++◌, take, sum, slice_index}
+
+-- a layout as its plain numbers
+pub record Layout : Type 0 where
+  -- blocks of 64 cells of the classes 0 to 4, of which class 4 is the tables
+  pub cell_blocks : List ℕ
+  -- blocks of 64 arrays of the classes 5 to 9
+  pub array_blocks : List ℕ
+  -- registers of each mutator
+  pub registers : ℕ
+  pub strong : ℕ
+  pub weak : ℕ
+  pub mutators : ℕ
+  pub visitors : ℕ
+
+-- how many blocks a class has
+abbrev pub blocks_of : Layout → ℕ → ℕ
+blocks_of layout class = slice_index (layout.cell_blocks ++ layout.array_blocks) class
+
+-- the class's first block: the blocks stand in the order of their classes
+abbrev pub first_block_of : Layout → ℕ → ℕ
+first_block_of layout class = sum (take class (layout.cell_blocks ++ layout.array_blocks))
+
+-- the number of cells, of arrays and of all blocks
+abbrev pub cell_count : Layout → ℕ
+cell_count layout = 64 * sum layout.cell_blocks
+
+abbrev pub array_count : Layout → ℕ
+array_count layout = 64 * sum layout.array_blocks
+
+abbrev pub block_count : Layout → ℕ
+block_count layout = sum layout.cell_blocks + sum layout.array_blocks
+
+-- the block in which a cell and an array lies
+abbrev pub block_of_cell : ℕ → ℕ
+block_of_cell cell = cell / 64
+
+abbrev pub block_of_array : Layout → ℕ → ℕ
+block_of_array layout array = sum layout.cell_blocks + array / 64
+
+-- the block is one of the class
+pub record IsBlockOf (layout : Layout) (class block : ℕ) : Type 0 where
+  pub from : first_block_of layout class ≤ block
+  pub below : block < first_block_of layout class + blocks_of layout class
+
+-- how many inline slots a cell of the class has: a table has none
+abbrev pub slots_of : ℕ → ℕ
+slots_of class = slice_index (2 ∷ 4 ∷ 8 ∷ 16 ∷ []) class

@@ -1,0 +1,23 @@
+-- When an allocation may be refused for want of room.
+use Rattle.std.specs.Prelude.{ℕ, ◌≡◌, ◌<◌, ◌≤◌, false, List, length, max}
+use Rattle.tide_model.specs.declared.entry.Event.{Event}
+use Rattle.tide_model.specs.Layout.{Layout, IsBlockOf, cell_count, array_count, block_of_cell, block_of_array}
+use Rattle.tide_model.specs.State.{State, is_free}
+use Rattle.tide_model.specs.History.{state_at, is_call_of, is_open, moment_after_last}
+
+-- nothing of the block is free
+pub record IsFullBlock (layout : Layout) (state : State) (block : ℕ) : Type 0 where
+  pub cells : (cell : ℕ) → cell < cell_count layout → block_of_cell cell ≡ block → is_free (state.cells cell).status ≡ false
+  pub arrays : (array : ℕ) → array < array_count layout → block_of_array layout array ≡ block → is_free (state.arrays array) ≡ false
+
+-- the first moment that a refusal may speak of: right after the mutator's last entry, or after the last Open if
+-- that is later
+abbrev pub window_start : ℕ → List Event → ℕ
+window_start who before =
+    max (moment_after_last (λ event. is_call_of who event.entry) before) (moment_after_last (λ event. is_open event.entry) before)
+
+-- each block of the class was full at some moment of the window
+abbrev pub StandsFull : Layout → List Event → ℕ → ℕ → Type 0
+StandsFull layout before who class =
+    (block : ℕ) → IsBlockOf layout class block →
+    (moment : ℕ) × (window_start who before ≤ moment) × (moment ≤ length before) × IsFullBlock layout (state_at layout before moment) block

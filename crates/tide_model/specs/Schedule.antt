@@ -1,0 +1,80 @@
+-- When cycles run: a whole one after each call that asks for it, and none elsewhere.
+use Rattle.std.specs.Prelude.{ℕ, ◌≡◌, ◌≤◌, Bool, true, false, List, [], ◌∷◌, ◌++◌, map, Option, None, Some, MatchBool}
+use Rattle.tide_model.specs.declared.op.Op.{Op}
+use Rattle.tide_model.specs.declared.op.Op.TheVariants.{Retire}
+use Rattle.tide_model.specs.declared.op.Reply.{Reply}
+use Rattle.tide_model.specs.declared.op.Reply.TheVariants.{Done, Born, Seen, Asked, Refused}
+use Rattle.tide_model.specs.declared.op.Refusal.TheVariants.{Full}
+use Rattle.tide_model.specs.declared.entry.Entry.TheVariants.{Call, Begin, Pause, End, Sweep}
+use Rattle.tide_model.specs.declared.entry.Event.{Event}
+use Rattle.tide_model.specs.Layout.{Layout, IsBlockOf}
+use Rattle.tide_model.specs.Numbers.{is_among}
+use Rattle.tide_model.specs.History.{plain, state_after}
+use Rattle.tide_model.specs.Cycle.{HasDead, live_count}
+use Rattle.tide_model.specs.Room.{IsFullBlock}
+use Rattle.tide_model.specs.Answer.{ShapeLists}
+use Rattle.tide_model.specs.Lawful.{IsLawful}
+use Rattle.tide_model.specs.Script.{calls_of, retry_after, retry_after_all}
+
+-- a mutator's call, and the entries of the cycle that follows it
+pub record Turn : Type 0 where
+  pub who : ℕ
+  pub op : Op
+  pub reply : Reply
+  pub cycle : List Event
+
+abbrev pub call_event : Turn → Event
+call_event turn = plain (Call turn.who turn.op turn.reply)
+
+-- the reply is that a cycle was asked for
+abbrev pub is_asked : Reply → Bool
+is_asked Done = false
+is_asked (Born cell) = false
+is_asked (Seen value) = false
+is_asked Asked = true
+is_asked (Refused refusal) = false
+
+abbrev pub is_retire : Op → Bool
+is_retire Retire = true
+is_retire _ = false
+
+-- the operation that the mutator has to try again after a history, if any
+abbrev pub retry_of : ℕ → List Event → Option Op
+retry_of who history = retry_after_all None (calls_of who history)
+
+-- a cycle runs after a call that was answered Asked or was first refused for room, and after Retire
+pub data AsksForCycle (before : List Event) (turn : Turn) : Type 0 where
+  asked : turn.reply ≡ Asked → AsksForCycle before turn
+  refused : (class : ℕ) → turn.reply ≡ Refused (Full class) → retry_of turn.who before ≡ None → AsksForCycle before turn
+  retired : turn.op ≡ Retire → AsksForCycle before turn
+
+-- the entries of one whole cycle, which keeps no more cells than its pause visited, and sweeps all
+pub record IsWholeCycle (layout : Layout) (before cycle : List Event) : Type 0 where
+  pub number : ℕ
+  pub visits : ℕ
+  pub freed : List ℕ
+  pub blocks : List ℕ
+  pub parts : cycle ≡ (plain (Begin number) ∷ plain (Pause visits) ∷ plain (End number freed) ∷ []) ++ map (λ block. plain (Sweep block)) blocks
+  pub kept : live_count layout (state_after layout (before ++ plain (Begin number) ∷ plain (Pause visits) ∷ plain (End number freed) ∷ [])) ≤ visits
+  pub swept : (block : ℕ) → HasDead layout (state_after layout (before ++ plain (Begin number) ∷ plain (Pause visits) ∷ plain (End number freed) ∷ [])) block →
+      is_among blocks block ≡ true
+
+-- a turn may stand right after a history
+pub record StandsTurn (layout : Layout) (before : List Event) (turn : Turn) : Type 0 where
+  -- after a first refusal for room the same operation is tried again
+  pub retries : (op : Op) → retry_of turn.who before ≡ Some op → turn.op ≡ op
+  -- a refusal for room comes only where nothing of the class is free right then
+  pub room : (class : ℕ) → turn.reply ≡ Refused (Full class) → (block : ℕ) → IsBlockOf layout class block → IsFullBlock layout (state_after layout before) block
+  pub runs : AsksForCycle before turn → IsWholeCycle layout (before ++ call_event turn ∷ []) turn.cycle
+  pub rests : (AsksForCycle before turn → ⊥) → turn.cycle ≡ []
+
+-- the history is turns, one after another
+pub data IsScheduled (layout : Layout) : List Event → Type 0 where
+  no_turn : IsScheduled layout []
+  one_more : (before : List Event) (turn : Turn) → IsScheduled layout before → StandsTurn layout before turn →
+      IsScheduled layout (before ++ call_event turn ∷ turn.cycle)
+
+-- the history is lawful and scheduled
+pub record IsLegal (layout : Layout) (shapes : ShapeLists) (history : List Event) : Type 0 where
+  pub lawful : IsLawful layout shapes history
+  pub scheduled : IsScheduled layout history
