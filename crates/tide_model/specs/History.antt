@@ -1,5 +1,5 @@
 -- Histories: lists of entries, and the state after each beginning of one.
-use Rattle.std.specs.Prelude.{ℕ, ◌+◌, ◌==◌, Bool, true, false, ◌&&◌, ◌||◌, if◌then◌else◌, nat_lt, List, [], ◌∷◌, length, take, Option, None, Some}
+use Rattle.std.specs.Prelude.{ℕ, zero, suc, ◌==◌, Bool, true, false, ◌&&◌, ◌||◌, if◌then◌else◌, List, [], ◌∷◌, take, Option, None, Some}
 use Rattle.tide_model.specs.declared.val.Val.{Val}
 use Rattle.tide_model.specs.declared.val.Val.TheVariants.{Empty, Int, Cell}
 use Rattle.tide_model.specs.declared.op.Op.{Op}
@@ -96,12 +96,16 @@ state_after layout history = state_from layout empty_state history
 abbrev pub state_at : Layout → List Event → ℕ → State
 state_at layout history moment = state_after layout (take moment history)
 
+-- a moment behind one more event in front, which counts where no later one did and it passes the test
+abbrev pub one_later : ℕ → Bool → ℕ
+one_later zero true = 1
+one_later zero false = 0
+one_later (suc moment) passes = suc (suc moment)
+
 -- the moment right after the last event that passes a test, or 0 where none does
 abbrev pub moment_after_last : (Event → Bool) → List Event → ℕ
 moment_after_last test [] = 0
-moment_after_last test (event ∷ events) =
-    if nat_lt 0 (moment_after_last test events) then moment_after_last test events + 1
-    else if test event then 1 else 0
+moment_after_last test (event ∷ events) = one_later (moment_after_last test events) (test event)
 
 -- which entry an event is
 abbrev pub is_begin : Entry → Bool
