@@ -1,2 +1,3 @@
+pub mod Cycles
 pub mod Histories
 pub mod NumberLaws

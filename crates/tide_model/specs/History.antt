@@ -64,11 +64,18 @@ after_end state freed = record state {
   phase = idle;
 }
 
+-- what was dead is free and blank, where its block is swept
+abbrev pub swept_status : Bool → Status → Status
+swept_status is_swept status = if is_swept && is_dead status then free else status
+
+abbrev pub swept_cell : Bool → CellState → CellState
+swept_cell is_swept cell = if is_swept && is_dead cell.status then blank_cell free else cell
+
 -- what a sweep leaves: the dead cells or arrays of the block are free and blank
 abbrev pub after_sweep : Layout → State → ℕ → State
 after_sweep layout state block = record state {
-  cells = λ cell. if (block_of_cell cell == block) && is_dead (state.cells cell).status then blank_cell free else state.cells cell;
-  arrays = λ array. if (block_of_array layout array == block) && is_dead (state.arrays array) then free else state.arrays array;
+  cells = λ cell. swept_cell (block_of_cell cell == block) (state.cells cell);
+  arrays = λ array. swept_status (block_of_array layout array == block) (state.arrays array);
 }
 
 -- what an entry leaves
