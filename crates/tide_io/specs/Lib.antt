@@ -1,1 +1,5 @@
+pub mod Adapter
+pub mod CallLog
 pub mod Faults
+pub mod MemSink
+pub mod MemSource

@@ -58,7 +58,7 @@ phase_within state phase = record {
   twins = λ one other twin. record { one_is_live = twin.one_is_live; other_is_live = twin.other_is_live; same_group = twin.same_group; in_a_group = twin.in_a_group };
 }
 
-take-all : {X : Type 0} (xs : List X) → take (length xs) xs ≡ xs
+pub take-all : {X : Type 0} (xs : List X) → take (length xs) xs ≡ xs
 take-all [] = refl
 take-all (x ∷ xs) = ap (λ (rest : List _). x ∷ rest) (take-all xs)
 

@@ -24,13 +24,13 @@ pub state_after-push : (layout : Layout) (history : List Event) (event : Event) 
 state_after-push layout history event = state_after-append layout history (event ∷ [])
 
 -- what stands at a place of a longer list: it stood there, or is the new one at the end
-take-append-short : {X : Type 0} (xs ys : List X) (n : ℕ) → n ≤ length xs → take n (xs ++ ys) ≡ take n xs
+pub take-append-short : {X : Type 0} (xs ys : List X) (n : ℕ) → n ≤ length xs → take n (xs ++ ys) ≡ take n xs
 take-append-short [] ys zero h = refl
 take-append-short [] ys (suc n) h = absurd (omega arith)
 take-append-short (x ∷ xs) ys zero h = refl
 take-append-short (x ∷ xs) ys (suc n) h = ap (λ (rest : List _). x ∷ rest) (take-append-short xs ys n (omega arith))
 
-push_cases : {X : Type 0} (P : List X → X → Type 0) (xs : List X) (x : X) →
+pub push_cases : {X : Type 0} (P : List X → X → Type 0) (xs : List X) (x : X) →
     ((place : ℕ) (y : X) → slice_get xs place ≡ Some y → P (take place xs) y) → P xs x →
     (place : ℕ) (y : X) → slice_get (xs ++ x ∷ []) place ≡ Some y → P (take place (xs ++ x ∷ [])) y
 push_cases {X} P [] x each last zero y is = let e : x ≡ y = cc in subst (P []) e last

@@ -1,5 +1,5 @@
 -- What an operation may answer.
-use Rattle.std.specs.Prelude.{ℕ, ◌≡◌, ◌<◌, ◌+◌, List, [], Option, None}
+use Rattle.std.specs.Prelude.{ℕ, ◌≡◌, ◌<◌, ◌+◌, List, [], ◌∷◌, Option, None}
 use Rattle.tide_model.specs.declared.op.Op.{Op}
 use Rattle.tide_model.specs.declared.op.Op.TheVariants.{Alloc, Collect, Retire}
 use Rattle.tide_model.specs.declared.op.Reply.{Reply}
@@ -11,6 +11,10 @@ use Rattle.tide_model.specs.State.{State, free}
 -- a shape table: the list of keys of each shape, by its number
 abbrev pub ShapeLists : Type 0
 ShapeLists = List (List ℕ)
+
+-- the table where no path is declared: the empty shape alone
+abbrev pub no_shapes : ShapeLists
+no_shapes = [] ∷ []
 
 -- a free cell of the class
 pub record IsFreeCellOf (layout : Layout) (state : State) (class cell : ℕ) : Type 0 where

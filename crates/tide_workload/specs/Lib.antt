@@ -1,1 +1,13 @@
+pub mod Chain
+pub mod Examples
+pub mod Fields
+pub mod Line
+pub mod Names
+pub mod OpText
+pub mod Reading
+pub mod Scripts
+pub mod Steps
+pub mod Text
+pub mod Words
 pub mod Work
+pub mod Worked

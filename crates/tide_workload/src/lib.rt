@@ -1,8 +1,21 @@
 //! Workloads: reading one from the bytes of a TOML document, and writing the text of its run.
 #![tactic(auto)]
 
+mod examples;
+mod fault;
+mod field;
+mod fields;
+mod op_text;
+mod reading;
+mod scripts;
 mod settings;
+mod text;
+mod words;
 mod workload;
 
+pub use fault::Fault;
+pub use field::Field;
+pub use reading::{MAX_BYTES, read};
 pub use settings::Settings;
-pub use workload::Workload;
+pub use text::{write_call, write_cycle, write_live, write_mutator};
+pub use workload::{MAX_MUTATORS, MAX_OPS, Workload};

@@ -1,0 +1,46 @@
+//! Reads a workload from standard input, runs it and prints what it came to.
+#![tactic(auto)]
+
+use std::alloc::AllocError;
+use std::env;
+use std::process::ExitCode;
+use tide_io::{RealSink, RealSource, Sink};
+use tide_model::FreePass;
+use tide_run::riptide;
+
+/// The words of the command line. Where they aren't all text they are a faulty command line, as is one word too
+/// many.
+fn command_words(rt: &HostRuntime) -> Result<Vec<String>, AllocError> {
+    let alloc = rt.alloc();
+    match env::args(rt) {
+        Ok(words) => words.collect(alloc),
+        Err(_) => {
+            let mut words = Vec::new(alloc);
+            for word in ["riptide", "?"] {
+                words.push(String::from_str(alloc, word)?)?;
+            }
+            Ok(words)
+        }
+    }
+}
+
+fn main(rt: HostRuntime) -> ExitCode {
+    let alloc = rt.alloc();
+    let mut source = RealSource::new(rt.stdin());
+    let mut out = RealSink::new(rt.stdout());
+    let mut err = RealSink::new(rt.stderr());
+    let Ok(words) = command_words(&rt) else {
+        let _ = err.write(b"riptide: no memory\n");
+        return ExitCode::from(6);
+    };
+    let ended = riptide(
+        &rt,
+        alloc,
+        words.as_slice(),
+        &mut source,
+        &mut out,
+        &mut err,
+        &FreePass,
+    );
+    ExitCode::from(ended.status)
+}

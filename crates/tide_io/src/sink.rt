@@ -1,0 +1,22 @@
+ghost use Rattle.std.specs.Prelude.{ℕ, ◌<◌, ◌≤◌, List, Option, length, IfOk};
+ghost use Rattle.std.specs.Io.KnownBytes.{WriteAppends};
+ghost use Rattle.tide_io.specs.Faults.{HasCause};
+
+use crate::Failed;
+
+/// Where bytes go to.
+pub trait Sink {
+    /// The bytes that it holds, where the sink tells them.
+    ghost held: { Self → Option (List ℕ) };
+
+    /// How often it has failed.
+    ghost faults: { Self → ℕ };
+
+    /// Takes some first bytes of `piece`, at least one, and answers their number. Nothing is taken where it
+    /// failed.
+    fn write(&mut self, piece: &[u8]) -> Result<usize, Failed>
+        requires { 0 < length piece.now }
+        ensures taken { IfOk result (λ count. (0 < count) × (count ≤ length piece.now)) }
+        ensures bytes { WriteAppends (held self.old) (held self.new) result piece.now }
+        ensures cause { HasCause (faults self.old) (faults self.new) result };
+}

@@ -1,0 +1,15 @@
+pub mod AllocLaws
+pub mod Blocks
+pub mod Collecting
+pub mod Causes
+pub mod CycleLaws
+pub mod Marking
+pub mod Printed
+pub mod References
+pub mod RunnerLaws
+pub mod Serving
+pub mod Runs
+pub mod StateLaws
+pub mod Telling
+pub mod TurnLaws
+pub mod Turns

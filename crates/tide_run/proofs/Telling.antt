@@ -1,0 +1,53 @@
+-- How what records tell grows by one record.
+use Rattle.std.proofs.Common.{ℕ, zero, suc, ◌≡◌, ◌+◌, ◌≤◌, ◌<◌, refl, sym, ◌∙◌, ap, subst, arith, Bool, true, false, List, [], ◌∷◌, ◌++◌, length, take, zero-add, append-nil}
+use Rattle.std.proofs.lemmas.List.{map-append}
+use Rattle.std.proofs.lemmas.List.Sums.{sum_by-append}
+use Rattle.std.specs.Prelude.{map, max, Option, None, Some, slice_get, if◌then◌else◌}
+use Rattle.tide_model.specs.declared.op.Op.{Op}
+use Rattle.tide_model.specs.declared.op.Reply.{Reply}
+use Rattle.tide_model.specs.declared.op.Reply.TheVariants.{Refused}
+use Rattle.tide_model.specs.declared.op.Refusal.TheVariants.{Full}
+use Rattle.tide_model.specs.declared.entry.Event.{Event}
+use Rattle.tide_model.specs.Layout.{Layout, IsBlockOf}
+use Rattle.tide_model.specs.State.{State}
+use Rattle.tide_model.specs.History.{after_event, state_after, state_at, is_begin, is_open, is_call_of, moment_after_last}
+use Rattle.tide_model.specs.Answer.{no_shapes}
+use Rattle.tide_model.specs.Lawful.{IsLawful, Stands}
+use Rattle.tide_model.specs.Room.{IsFullBlock, StandsFull}
+use Rattle.tide_model.specs.Script.{calls_of, own_calls}
+use Rattle.tide_model.specs.Cycle.{begin_count}
+use Rattle.tide_model.proofs.Histories.{state_after-push, IsLawful-push, calls_of-append, push_cases, moment_after_last-le}
+use Rattle.tide_model.proofs.Cycles.{take-all}
+use Rattle.tide_run.specs.declared.told.Record.{Record}
+use Rattle.tide_run.specs.Told.{event_of, events_of, IsCounted, AreCounted, Tells}
+
+-- one record more
+pub Tells-push : (layout : Layout) (records : List Record) (state : State) (begins : ℕ) (calls : List (Op × Reply)) (record' : Record) →
+    Tells layout records state begins calls → Stands layout no_shapes (events_of records) (event_of record') → IsCounted layout (events_of records) record' →
+    Tells layout (records ++ record' ∷ []) (after_event layout state (event_of record')) (begins + (if is_begin (event_of record').entry then 1 else 0))
+    (calls ++ own_calls 0 (event_of record').entry)
+Tells-push layout records state begins calls record' old stands counted =
+    let grown : events_of (records ++ record' ∷ []) ≡ events_of records ++ event_of record' ∷ [] = map-append event_of records (record' ∷ []) in
+    record {
+      lawful = subst (IsLawful layout no_shapes) (sym grown) (IsLawful-push layout no_shapes (events_of records) (event_of record') old.lawful stands);
+      leaves = ap (state_after layout) grown ∙ state_after-push layout (events_of records) (event_of record') ∙ ap (λ (s : State). after_event layout s (event_of record')) old.leaves;
+      begun = ap begin_count grown ∙ sum_by-append (λ event. if is_begin event.entry then 1 else 0) (events_of records) (event_of record' ∷ [])
+          ∙ (let more = zero-add (if is_begin (event_of record').entry then 1 else 0) in ap (λ (n : ℕ). begin_count (events_of records) + n) more)
+          ∙ ap (λ (n : ℕ). n + (if is_begin (event_of record').entry then 1 else 0)) old.begun;
+      counted = push_cases (λ before r. IsCounted layout (events_of before) r) records record' old.counted counted;
+      called = ap (calls_of 0) grown ∙ calls_of-append 0 (events_of records) (event_of record' ∷ [])
+          ∙ ap (λ (more : List (Op × Reply)). calls_of 0 (events_of records) ++ more) (append-nil (own_calls 0 (event_of record').entry))
+          ∙ ap (λ (before : List (Op × Reply)). before ++ own_calls 0 (event_of record').entry) old.called;
+    }
+
+-- each block of the class is full right now, which is a moment of the window
+pub StandsFull-now : (layout : Layout) (history : List Event) (who class : ℕ) →
+    ((block : ℕ) → IsBlockOf layout class block → IsFullBlock layout (state_after layout history) block) → StandsFull layout history who class
+StandsFull-now layout history who class full block of_class =
+    let calls = moment_after_last-le (λ event. is_call_of who event.entry) history in
+    let opens = moment_after_last-le (λ event. is_open event.entry) history in (
+      length history,
+      omega (arith, calls, opens),
+      omega arith,
+      subst (λ (h : List Event). IsFullBlock layout (state_after layout h) block) (sym (take-all history)) (full block of_class),
+    )

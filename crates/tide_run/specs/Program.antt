@@ -1,0 +1,79 @@
+-- What the program reads, answers and writes.
+use Rattle.std.specs.Prelude.{ℕ, ◌≡◌, ◌≢◌, ◌+◌, ◌<◌, ◌≤◌, ◌⊎◌, true, List, [], ◌∷◌, length, take, Option, None, Some, Ok, Err, codes, ◌==◌, if◌then◌else◌}
+use Rattle.std.specs.Io.KnownBytes.{Consumes, Appends, IsAtEnd}
+use Rattle.tide_io.specs.Faults.{Rose, AppendsPart}
+use Rattle.tide_model.specs.declared.entry.Event.{Event}
+use Rattle.tide_workload.specs.declared.fault.Fault.{Fault}
+use Rattle.tide_workload.specs.declared.reading.TheConstants.{MAX_BYTES}
+use Rattle.tide_workload.specs.Reading.{reads_workload}
+use Rattle.tide_workload.specs.Work.{Work}
+use Rattle.tide_model.specs.Numbers.{is_among}
+use Rattle.tide_run.specs.declared.program.Stop.{Stop}
+use Rattle.tide_run.specs.declared.program.Stop.TheVariants.{Usage, ReadFault, BadInput, Memory}
+use Rattle.tide_run.specs.Ran.{Ran}
+use Rattle.tide_run.specs.Run.{IsRunOf}
+
+-- of the bytes that are left, those that reading takes: all, or one more than a workload may have
+abbrev pub input_of : List ℕ → List ℕ
+input_of bytes = take (MAX_BYTES + 1) bytes
+
+-- these bytes were read, to the end of the source unless they are too many for a workload
+pub record Took (old new : Option (List ℕ)) (bytes : List ℕ) : Type 0 where
+  pub consumed : Consumes old new bytes
+  pub few : length bytes ≤ MAX_BYTES + 1
+  pub ended : length bytes ≤ MAX_BYTES → IsAtEnd new
+
+-- a workload was read
+pub record ReadWork (old new : Option (List ℕ)) (work : Work) : Type 0 where
+  pub bytes : List ℕ
+  pub took : Took old new bytes
+  pub reads : reads_workload bytes ≡ Ok work
+
+-- what was read is refused as a workload
+pub record RefusedInput (old new : Option (List ℕ)) (fault : Fault) : Type 0 where
+  pub bytes : List ℕ
+  pub took : Took old new bytes
+  pub reads : reads_workload bytes ≡ Err fault
+
+-- the run is of the workload that was read
+pub record RanInput (old new : Option (List ℕ)) (ran : Ran) : Type 0 where
+  pub work : Work
+  pub reads : ReadWork old new work
+  pub is_run : IsRunOf work ran
+
+-- a line was written, or a first part of it where the sink failed
+pub record TellsLine (old new : Option (List ℕ)) (before now : ℕ) (line : List ℕ) : Type 0 where
+  pub later : before ≤ now
+  pub line_or_part : Appends old new line ⊎ (Rose before now × AppendsPart old new line)
+
+-- the history of a run, or the empty one
+abbrev pub history_of_ended : Option Ran → List Event
+history_of_ended None = []
+history_of_ended (Some ran) = ran.history
+
+-- the status of a program that ran nothing
+abbrev pub stop_status : Stop → ℕ
+stop_status Usage = 2
+stop_status ReadFault = 4
+stop_status (BadInput fault) = 3
+stop_status Memory = 6
+
+-- the line of a program that ran nothing
+abbrev pub stop_line : Stop → List ℕ
+stop_line Usage = codes "riptide: usage: riptide\n"
+stop_line ReadFault = codes "riptide: read fault\n"
+stop_line (BadInput fault) = codes "riptide: bad field other\n"
+stop_line Memory = codes "riptide: no memory\n"
+
+-- the line of a status that isn't 0
+abbrev pub status_line : ℕ → List ℕ
+status_line status =
+    if status == 2 then codes "riptide: usage: riptide\n"
+    else if status == 3 then codes "riptide: bad field other\n"
+    else if status == 4 then codes "riptide: read fault\n"
+    else if status == 5 then codes "riptide: write fault\n"
+    else codes "riptide: no memory\n"
+
+-- the statuses that there are
+abbrev pub IsStatus : ℕ → Type 0
+IsStatus status = is_among (0 ∷ 2 ∷ 3 ∷ 4 ∷ 5 ∷ 6 ∷ []) status ≡ true

@@ -1,0 +1,10 @@
+-- What a run came to.
+use Rattle.std.specs.Prelude.{Bool, List}
+use Rattle.tide_model.specs.declared.entry.Event.{Event}
+use Rattle.tide_model.specs.Layout.{Layout}
+
+-- the layout of the store, the history, and whether a heap kept it
+pub record Ran : Type 0 where
+  pub layout : Layout
+  pub history : List Event
+  pub is_heap : Bool

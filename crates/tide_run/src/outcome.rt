@@ -1,0 +1,98 @@
+//! What a run came to.
+ghost use Rattle.std.specs.Prelude.{◌≡◌, ◌<◌, ℕ, All, map};
+
+use crate::answered::Answered;
+use crate::told::{Record, Told};
+use std::marker::Model;
+use tide_workload::Settings;
+
+/// Where a run's history was kept.
+#[derive(Debug, Drop)]
+pub enum Kept {
+    /// By the run's own records.
+    Own(Told),
+}
+
+/// A run's history, its replies and what lives at its end.
+#[derive(Debug, Drop)]
+pub struct Outcome {
+    settings: Settings,
+    kept: Kept,
+    calls: Vec<Answered>,
+    live: u32,
+}
+
+impl Model for Outcome {
+    ghost use Rattle.tide_run.specs.Ran.{Ran};
+
+    ghost Value = { Ran };
+
+    ghost use Rattle.tide_run.specs.Outcome.{ran_of, IsOutcome};
+
+    ghost view = { λ o. ran_of o.settings o.kept };
+
+    ghost invariant = { λ o. IsOutcome o.settings o.kept o.calls.items o.live };
+}
+
+impl Outcome {
+    ghost use Rattle.tide_model.specs.declared.entry.Event.{Event};
+    ghost use Rattle.tide_model.specs.Cycle.{live_count};
+    ghost use Rattle.tide_model.specs.History.{state_after};
+    ghost use Rattle.tide_model.specs.Script.{calls_of};
+    ghost use Rattle.tide_workload.specs.Line.{HasText};
+    ghost use Rattle.tide_run.specs.Told.{events_of, AreCounted, pair_of};
+    ghost use Rattle.tide_run.specs.Outcome.{ran_of, IsOutcome};
+
+    /// What the records of a run came to.
+    pub(crate) fn new(
+        settings: Settings,
+        records: Vec<Record>,
+        calls: Vec<Answered>,
+        live: u32,
+    ) -> Outcome
+        requires { IsOutcome settings (Kept.Own (record { records = records })) calls.items live }
+        ensures { result ≡ ran_of settings (Kept.Own (record { records = records })) }
+    {
+        let kept = Kept::Own(Told { records });
+        Outcome {
+            settings,
+            kept,
+            calls,
+            live,
+        }
+    }
+
+    /// What a mutator asked for and was answered, in order.
+    pub fn calls(&self, m: u32) -> &[Answered]
+        requires { m < self.now.layout.mutators }
+        ensures calls { map pair_of result.now ≡ calls_of m self.now.history }
+        ensures texts { All (λ call. HasText call.op) result.now }
+    {
+        let _ = m;
+        self.calls.as_slice()
+    }
+
+    /// How many cells live at the end.
+    pub fn live(&self) -> u32
+        ensures { result ≡ live_count self.now.layout (state_after self.now.layout self.now.history) }
+    {
+        self.live
+    }
+
+    /// How many races visitors met: none, since there are no visitors yet.
+    pub fn deferred(&self) -> u64
+        ensures { result ≡ 0 }
+    {
+        0
+    }
+
+    /// What was run, record by record.
+    pub(crate) fn records(&self) -> &[Record]
+        ensures told { events_of result.now ≡ self.now.history }
+        ensures counted { AreCounted self.now.layout result.now }
+    {
+        match &self.kept {
+            Kept::Own(told) => told.records.as_slice(),
+        }
+    }
+}

@@ -1,0 +1,85 @@
+//! Printing what a run came to.
+ghost use Rattle.std.specs.Prelude.{◌≡◌, map, All, OnOk, OnErr};
+ghost use Rattle.std.specs.List.{flat_map};
+ghost use Rattle.std.specs.Io.KnownBytes.{Appends};
+ghost use Rattle.tide_io.specs.Faults.{AppendsPart, HasCause};
+ghost use Rattle.tide_workload.specs.Line.{HasText};
+ghost use Rattle.tide_workload.specs.Text.{call_lines, cycles_from, text_of};
+ghost use Rattle.tide_model.specs.State.{empty_state};
+ghost use Rattle.tide_model.specs.Script.{calls_of};
+ghost use Rattle.tide_run.specs.Printing.{answered_line, record_line};
+
+use crate::answered::Answered;
+use crate::outcome::Outcome;
+use crate::told::Record;
+use tide_io::{Failed, Sink};
+use tide_workload::{Workload, write_call, write_cycle, write_live, write_mutator};
+
+/// Writes the line of each call.
+fn write_calls<K: Sink>(out: &mut K, load: &Workload, calls: &[Answered]) -> Result<(), Failed>
+    requires { All (λ call. HasText call.op) calls.now }
+    ensures whole { OnOk result (Appends (K.held out.old) (K.held out.new) (flat_map answered_line calls.now)) }
+    ensures part { OnErr result (AppendsPart (K.held out.old) (K.held out.new) (flat_map answered_line calls.now)) }
+    ensures cause { HasCause (K.faults out.old) (K.faults out.new) result }
+{
+    for call in calls {
+        write_call(out, load, call.op, call.reply)?;
+    }
+    Ok(())
+}
+
+/// Writes the line of a record that ended a cycle, and nothing of another.
+fn write_record<K: Sink>(out: &mut K, told: &Record) -> Result<(), Failed>
+    ensures whole { OnOk result (Appends (K.held out.old) (K.held out.new) (record_line told.now)) }
+    ensures part { OnErr result (AppendsPart (K.held out.old) (K.held out.new) (record_line told.now)) }
+    ensures cause { HasCause (K.faults out.old) (K.faults out.new) result }
+{
+    match told {
+        Record::Ended { cycle, freed, kept } => write_cycle(out, *cycle, *kept, freed.as_slice()),
+        _ => Ok(()),
+    }
+}
+
+/// Writes the line of each cycle.
+fn write_cycles<K: Sink>(out: &mut K, records: &[Record]) -> Result<(), Failed>
+    ensures whole { OnOk result (Appends (K.held out.old) (K.held out.new) (flat_map record_line records.now)) }
+    ensures part { OnErr result (AppendsPart (K.held out.old) (K.held out.new) (flat_map record_line records.now)) }
+    ensures cause { HasCause (K.faults out.old) (K.faults out.new) result }
+{
+    for record in records {
+        write_record(out, record)?;
+    }
+    Ok(())
+}
+
+/// Writes the lines of mutator 0's calls.
+fn write_calls_of<K: Sink>(out: &mut K, load: &Workload, outcome: &Outcome) -> Result<(), Failed>
+    requires { outcome.now.layout.mutators ≡ 1 }
+    ensures whole { OnOk result (Appends (K.held out.old) (K.held out.new) (call_lines (calls_of 0 outcome.now.history))) }
+    ensures part { OnErr result (AppendsPart (K.held out.old) (K.held out.new) (call_lines (calls_of 0 outcome.now.history))) }
+    ensures cause { HasCause (K.faults out.old) (K.faults out.new) result }
+{
+    write_calls(out, load, outcome.calls(0))
+}
+
+/// Writes the lines of the cycles.
+fn write_cycles_of<K: Sink>(out: &mut K, outcome: &Outcome) -> Result<(), Failed>
+    ensures whole { OnOk result (Appends (K.held out.old) (K.held out.new) (cycles_from outcome.now.layout empty_state outcome.now.history)) }
+    ensures part { OnErr result (AppendsPart (K.held out.old) (K.held out.new) (cycles_from outcome.now.layout empty_state outcome.now.history)) }
+    ensures cause { HasCause (K.faults out.old) (K.faults out.new) result }
+{
+    write_cycles(out, outcome.records())
+}
+
+/// Writes the text of a run.
+pub fn write_text<K: Sink>(out: &mut K, load: &Workload, outcome: &Outcome) -> Result<(), Failed>
+    requires { outcome.now.layout.mutators ≡ 1 }
+    ensures whole { OnOk result (Appends (K.held out.old) (K.held out.new) (text_of outcome.now.layout outcome.now.history)) }
+    ensures part { OnErr result (AppendsPart (K.held out.old) (K.held out.new) (text_of outcome.now.layout outcome.now.history)) }
+    ensures cause { HasCause (K.faults out.old) (K.faults out.new) result }
+{
+    write_mutator(out, 0)?;
+    write_calls_of(out, load, outcome)?;
+    write_cycles_of(out, outcome)?;
+    write_live(out, outcome.live())
+}

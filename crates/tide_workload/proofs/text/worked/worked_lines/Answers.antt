@@ -1,0 +1,17 @@
+-- The definitions compute to these lines.
+use Rattle.std.proofs.Common.{refl}
+use Rattle.std.specs.Fmt.{digits}
+use Rattle.tide_workload.specs.Line.{call_line, counts_text, cycle_line, freed_cell_text, freed_text, live_line, mutator_line, op_text, refusal_text, reply_text, val_text}
+use Rattle.tide_workload.proofs.text.worked.worked_lines.Goals as goal
+
+pub returns-clause-calls : goal.returns-clause-calls
+unfolding digits call_line op_text reply_text val_text
+returns-clause-calls c = (refl, refl, refl, refl, refl, refl, refl, refl, refl, refl)
+
+pub returns-clause-refusals : goal.returns-clause-refusals
+unfolding digits call_line op_text reply_text refusal_text
+returns-clause-refusals c = (refl, refl, refl, refl, refl, refl, refl, refl, refl, refl, refl, refl, refl)
+
+pub returns-clause-frame : goal.returns-clause-frame
+unfolding digits mutator_line cycle_line counts_text freed_text freed_cell_text live_line
+returns-clause-frame c = (refl, refl, refl, refl, refl)

@@ -1,0 +1,42 @@
+ghost use Rattle.std.specs.Prelude.{◌≡◌};
+ghost use Rattle.tide_workload.specs.Names.{name_of};
+
+/// A field of a workload's document, as refusals name it.
+#[derive(Clone, Copy, Debug, PartialEq, Eq)]
+pub enum Field {
+    Registers,
+    Strong,
+    Weak,
+    Blocks,
+    Arrays,
+    Period,
+    Headroom,
+    Trigger,
+    Shapes,
+    Mutator,
+    Ops,
+    /// A name that no field has.
+    Other,
+}
+
+impl Field {
+    /// The name under which the field stands in the document.
+    pub fn name(self) -> &'static str
+        ensures { result.now ≡ name_of self }
+    {
+        match self {
+            Field::Registers => "registers",
+            Field::Strong => "strong",
+            Field::Weak => "weak",
+            Field::Blocks => "blocks",
+            Field::Arrays => "arrays",
+            Field::Period => "period",
+            Field::Headroom => "headroom",
+            Field::Trigger => "trigger",
+            Field::Shapes => "shapes",
+            Field::Mutator => "mutator",
+            Field::Ops => "ops",
+            Field::Other => "other",
+        }
+    }
+}
