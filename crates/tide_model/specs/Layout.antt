@@ -1,5 +1,6 @@
 -- How large a store is: its blocks of each class, its registers and handles, and who takes part.
-use Rattle.std.specs.Prelude.{ℕ, ◌+◌, ◌*◌, ◌/◌, ◌<◌, ◌≤◌, List, [], ◌∷◌, ◌++◌, take, sum, slice_index}
+use Rattle.std.specs.Prelude.{ℕ, ◌+◌, ◌*◌, ◌/◌, ◌<◌, ◌≤◌, List, [], ◌∷◌, ◌++◌, take, sum, slice_index, nat_le}
+use Rattle.tide_model.specs.Numbers.{count_where}
 
 -- a layout as its plain numbers
 pub record Layout : Type 0 where
@@ -43,6 +44,10 @@ block_of_array layout array = sum layout.cell_blocks + array / 64
 pub record IsBlockOf (layout : Layout) (class block : ℕ) : Type 0 where
   pub from : first_block_of layout class ≤ block
   pub below : block < first_block_of layout class + blocks_of layout class
+
+-- the class of a cell: how many of the classes 1 to 4 begin at its block or before it
+abbrev pub class_of : Layout → ℕ → ℕ
+class_of layout cell = count_where (λ class. nat_le (first_block_of layout (class + 1)) (block_of_cell cell)) 4
 
 -- how many inline slots a cell of the class has: a table has none
 abbrev pub slots_of : ℕ → ℕ

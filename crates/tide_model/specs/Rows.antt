@@ -1,17 +1,18 @@
 -- Small histories worked out by hand, by which the definitions are checked.
 use Rattle.std.specs.Prelude.{ℕ, ◌≡◌, refl, List, [], ◌∷◌, take, None, Some}
 use Rattle.tide_model.specs.declared.val.Val.TheVariants.{Empty, Cell}
-use Rattle.tide_model.specs.declared.op.Op.TheVariants.{Alloc, Collect, Retire}
-use Rattle.tide_model.specs.declared.op.Reply.TheVariants.{Done, Born, Asked, Refused}
-use Rattle.tide_model.specs.declared.op.Refusal.TheVariants.{Full}
+use Rattle.tide_model.specs.declared.op.Op.TheVariants.{Alloc, Get, Put, Drop, Collect, Retire}
+use Rattle.tide_model.specs.declared.op.Reply.TheVariants.{Done, Born, Seen, Asked, Refused}
+use Rattle.tide_model.specs.declared.op.Refusal.TheVariants.{NotCell, NoSlot, Full}
 use Rattle.tide_model.specs.declared.entry.Entry.TheVariants.{Call, Begin, Pause, End, Sweep}
 use Rattle.tide_model.specs.declared.entry.Event.{Event}
-use Rattle.tide_model.specs.Layout.{Layout, first_block_of, blocks_of, cell_count, block_of_array}
+use Rattle.tide_model.specs.Layout.{Layout, first_block_of, blocks_of, cell_count, block_of_array, class_of}
 use Rattle.tide_model.specs.State.{live, dead, free, idle, marking}
 use Rattle.tide_model.specs.Graph.{graph_of, IsRetained, is_root, in_register, no_cell}
 use Rattle.tide_model.specs.History.{plain, state_after, state_at, moment_after_last, is_begin, is_call_of}
 use Rattle.tide_model.specs.Cycle.{begin_count, StandsEnd, live_count}
 use Rattle.tide_model.specs.Script.{script_of}
+use Rattle.tide_model.specs.Answer.{IsAnswer, refusal_of, no_shapes}
 use Rattle.tide_model.specs.Room.{window_start}
 use Rattle.tide_model.specs.Schedule.{retry_of}
 
@@ -75,3 +76,30 @@ refused_twice =
 pub script_of_refused_twice :
     (script_of 0 refused_twice ≡ Alloc 0 1 ∷ Retire ∷ []) × (retry_of 0 (take 1 refused_twice) ≡ Some (Alloc 0 1)) × (retry_of 0 (take 5 refused_twice) ≡ None)
 script_of_refused_twice = (refl, refl, refl)
+
+-- the class of a cell, also beside classes without blocks
+pub classes_of_small : (class_of small 0 ≡ 0) × (class_of small 63 ≡ 0) × (class_of small 64 ≡ 4) × (class_of small 127 ≡ 4)
+classes_of_small = (refl, refl, refl, refl)
+
+-- two cells that hold each other, which nothing else holds
+abbrev ring : List Event
+ring =
+    plain (Call 0 (Alloc 0 0) (Born 0)) ∷ plain (Call 0 (Alloc 1 0) (Born 1))
+    ∷ plain (Call 0 (Put 0 0 1) Done) ∷ plain (Call 0 (Put 1 0 0) Done)
+    ∷ plain (Call 0 (Drop 0) Done) ∷ plain (Call 0 (Drop 1) Done) ∷ plain (Call 0 Collect Asked)
+    ∷ plain (Begin 1) ∷ plain (Pause 0) ∷ []
+
+pub slots_of_ring :
+    (((state_after small ring).cells 0).slots 0 ≡ Cell 1) × (((state_after small ring).cells 1).slots 0 ≡ Cell 0) × (((state_after small ring).cells 1).slots 1 ≡ Empty)
+    × ((state_after small ring).registers 0 1 ≡ Empty) × ((state_at small ring 4).registers 0 1 ≡ Cell 1)
+slots_of_ring = (refl, refl, refl, refl, refl)
+
+-- what a slot answers, and why it doesn't
+pub answers_in_ring :
+    IsAnswer small no_shapes (state_at small ring 4) 0 (Get 2 0 0) (Seen (Cell 1)) None
+    × (refusal_of small no_shapes (state_after small ring) 0 (Get 2 0 0) ≡ Some (NotCell 0))
+    × (refusal_of small no_shapes (state_at small ring 4) 0 (Put 0 2 1) ≡ Some (NoSlot 2))
+answers_in_ring = ((refl, refl), refl, refl)
+
+pub slot_is_not_another : IsAnswer small no_shapes (state_at small ring 4) 0 (Get 2 0 1) (Seen (Cell 1)) None → ⊥
+slot_is_not_another answer = let e : Cell 1 ≡ Empty = answer.1 in absurd (cc)

@@ -9,6 +9,7 @@ pub mod References
 pub mod RunnerLaws
 pub mod Serving
 pub mod Runs
+pub mod SlotLaws
 pub mod StateLaws
 pub mod Telling
 pub mod TurnLaws

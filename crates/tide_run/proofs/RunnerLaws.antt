@@ -4,7 +4,7 @@ use Rattle.std.proofs.lemmas.List.{map-append}
 use Rattle.std.specs.Prelude.{map, slice_get, All, Option, None, Some}
 use Rattle.tide_model.specs.declared.val.Val.{Val}
 use Rattle.tide_model.specs.declared.op.Op.{Op}
-use Rattle.tide_model.specs.declared.op.Op.TheVariants.{Alloc, Collect, Retire}
+use Rattle.tide_model.specs.declared.op.Op.TheVariants.{Alloc, Get, Put, Move, Set, Drop, Collect, Retire}
 use Rattle.tide_model.specs.declared.op.Reply.{Reply}
 use Rattle.tide_model.specs.declared.op.Reply.TheVariants.{Refused}
 use Rattle.tide_model.specs.declared.op.Refusal.TheVariants.{Full}
@@ -142,6 +142,11 @@ RanCycle-did old new freed blocks kept r1 r2 r3 underway sound did =
 -- an operation that is served has a text
 pub HasText-served : (settings : Settings) (op : Op) → IsServed settings op → HasText op
 HasText-served settings (Alloc dst class) served = tt
+HasText-served settings (Get dst src slot) served = tt
+HasText-served settings (Put src slot val) served = tt
+HasText-served settings (Move dst src) served = tt
+HasText-served settings (Set dst n) served = tt
+HasText-served settings (Drop dst) served = tt
 HasText-served settings Collect served = tt
 HasText-served settings Retire served = tt
 HasText-served settings op served = absurd served

@@ -5,7 +5,7 @@ use Rattle.std.specs.List.Sorted.{IsStrictlyIncreasing}
 use Rattle.tide_model.specs.declared.val.Val.{Val}
 use Rattle.tide_model.specs.declared.val.Val.TheVariants.{Empty, Cell}
 use Rattle.tide_model.specs.declared.op.Op.{Op}
-use Rattle.tide_model.specs.declared.op.Op.TheVariants.{Alloc, Collect, Retire}
+use Rattle.tide_model.specs.declared.op.Op.TheVariants.{Alloc, Get, Put, Move, Set, Drop, Collect, Retire}
 use Rattle.tide_model.specs.declared.op.Reply.{Reply}
 use Rattle.tide_model.specs.declared.op.Reply.TheVariants.{Refused}
 use Rattle.tide_model.specs.declared.op.Refusal.TheVariants.{Full}
@@ -40,6 +40,10 @@ state_of is_active registers cells = record {
   phase = idle;
 }
 
+-- a value that names no cell, or a live one
+abbrev pub IsLiveValue : List StoredCell → Val → Type 0
+IsLiveValue cells value = (cell : ℕ) → value ≡ Cell cell → (slice_index_or cells cell (blank_stored false)).is_live ≡ true
+
 -- each reference in a register or in a slot of a live cell is to a live cell
 pub record RefsAreLive (registers : List Val) (cells : List StoredCell) : Type 0 where
   pub in_registers : (register cell : ℕ) → slice_index_or registers register Empty ≡ Cell cell →
@@ -70,6 +74,11 @@ pub record IsSound (settings : Settings) (registers : List Val) (cells : List St
 -- an operation that the store serves, with numbers in their limits
 abbrev pub IsServed : Settings → Op → Type 0
 IsServed settings (Alloc dst class) = (dst < settings.registers) × (class < 4)
+IsServed settings (Get dst src slot) = (dst < settings.registers) × (src < settings.registers)
+IsServed settings (Put src slot val) = (src < settings.registers) × (val < settings.registers)
+IsServed settings (Move dst src) = (dst < settings.registers) × (src < settings.registers)
+IsServed settings (Set dst n) = dst < settings.registers
+IsServed settings (Drop dst) = dst < settings.registers
 IsServed settings Collect = Unit {0}
 IsServed settings Retire = Unit {0}
 IsServed settings op = ⊥

@@ -1,5 +1,5 @@
 -- The document of bytes that are a text, and of those that are none.
-use Rattle.std.proofs.Common.{◌≡◌, List, ℕ, Bool, true, false, Option, Some, None, Result, Ok, Err, IsUtf8, refl, arith}
+use Rattle.std.proofs.Common.{◌≡◌, List, ℕ, Err, IsUtf8}
 use Rattle.std.proofs.lemmas.Bool.{false_from_ne_true}
 use Rattle.std.proofs.lemmas.Str.{IsUtf8-from_is_utf8, is_utf8-from_IsUtf8}
 use Rattle.std.specs.Option.{ok_or}

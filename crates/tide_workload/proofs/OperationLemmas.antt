@@ -7,12 +7,12 @@ use Rattle.std.proofs.lemmas.List.Elements.{All-nil, All-cons, All-head, All-tai
 use Rattle.std.proofs.lemmas.Bool.{ltb-true}
 use Rattle.toml.specs.Data.{Data, as_str, Members}
 use Rattle.tide_model.specs.declared.op.Op.{Op}
-use Rattle.tide_model.specs.declared.op.Op.TheVariants.{Alloc, Collect}
+use Rattle.tide_model.specs.declared.op.Op.TheVariants.{Alloc, Get, Put, Move, Set, Drop, Collect}
 use Rattle.tide_workload.specs.declared.fault.Fault.{Fault}
 use Rattle.tide_workload.specs.declared.field.Field.TheVariants.{Ops}
 use Rattle.tide_workload.specs.declared.workload.TheConstants.{MAX_OPS}
-use Rattle.tide_workload.specs.Words.{number_of, number_below, two_words, words_of, is_trimmed}
-use Rattle.tide_workload.specs.OpText.{register_of, alloc_of, collect_of, op_named, op_of_words, op_of}
+use Rattle.tide_workload.specs.Words.{number_of, number_below, one_word, two_words, three_words, words_of, is_trimmed}
+use Rattle.tide_workload.specs.OpText.{register_of, alloc_of, get_of, put_of, move_of, set_of, drop_of, collect_of, op_named, op_of_words, op_of}
 use Rattle.tide_workload.specs.Fields.{required, values_in, has_only}
 use Rattle.tide_workload.specs.Steps.{◌>>=◌, each, good}
 use Rattle.tide_workload.specs.Scripts.{op_in, ops_of, script_of}
@@ -53,17 +53,68 @@ alloc_within registers words op h =
     let e : Alloc dst class ≡ op = cc in
     subst (IsOperation registers) e (register_below registers dst two.0 e2, below_limit 4 class two.1 e3)
 
+get_within : (registers : ℕ) (words : List (List ℕ)) (op : Op) → get_of registers words ≡ Some op → IsOperation registers op
+get_within registers words op h =
+    let (three, e1, h1) = option_step (three_words words) (λ w. option_and_then (λ dst. option_and_then (λ src. option_and_then (λ slot. Some (Get dst src slot)) (number_below 16 w.2)) (register_of registers w.1)) (register_of registers w.0)) op h in
+    let (dst, e2, h2) = option_step (register_of registers three.0) (λ dst. option_and_then (λ src. option_and_then (λ slot. Some (Get dst src slot)) (number_below 16 three.2)) (register_of registers three.1)) op h1 in
+    let (src, e3, h3) = option_step (register_of registers three.1) (λ src. option_and_then (λ slot. Some (Get dst src slot)) (number_below 16 three.2)) op h2 in
+    let (slot, e4, h4) = option_step (number_below 16 three.2) (λ slot. Some (Get dst src slot)) op h3 in
+    let e : Get dst src slot ≡ op = cc in
+    subst (IsOperation registers) e (register_below registers dst three.0 e2, register_below registers src three.1 e3, below_limit 16 slot three.2 e4)
+
+put_within : (registers : ℕ) (words : List (List ℕ)) (op : Op) → put_of registers words ≡ Some op → IsOperation registers op
+put_within registers words op h =
+    let (three, e1, h1) = option_step (three_words words) (λ w. option_and_then (λ src. option_and_then (λ slot. option_and_then (λ val. Some (Put src slot val)) (register_of registers w.2)) (number_below 16 w.1)) (register_of registers w.0)) op h in
+    let (src, e2, h2) = option_step (register_of registers three.0) (λ src. option_and_then (λ slot. option_and_then (λ val. Some (Put src slot val)) (register_of registers three.2)) (number_below 16 three.1)) op h1 in
+    let (slot, e3, h3) = option_step (number_below 16 three.1) (λ slot. option_and_then (λ val. Some (Put src slot val)) (register_of registers three.2)) op h2 in
+    let (val, e4, h4) = option_step (register_of registers three.2) (λ val. Some (Put src slot val)) op h3 in
+    let e : Put src slot val ≡ op = cc in
+    subst (IsOperation registers) e (register_below registers src three.0 e2, below_limit 16 slot three.1 e3, register_below registers val three.2 e4)
+
+move_within : (registers : ℕ) (words : List (List ℕ)) (op : Op) → move_of registers words ≡ Some op → IsOperation registers op
+move_within registers words op h =
+    let (two, e1, h1) = option_step (two_words words) (λ w. option_and_then (λ dst. option_and_then (λ src. Some (Move dst src)) (register_of registers w.1)) (register_of registers w.0)) op h in
+    let (dst, e2, h2) = option_step (register_of registers two.0) (λ dst. option_and_then (λ src. Some (Move dst src)) (register_of registers two.1)) op h1 in
+    let (src, e3, h3) = option_step (register_of registers two.1) (λ src. Some (Move dst src)) op h2 in
+    let e : Move dst src ≡ op = cc in
+    subst (IsOperation registers) e (register_below registers dst two.0 e2, register_below registers src two.1 e3)
+
+set_within : (registers : ℕ) (words : List (List ℕ)) (op : Op) → set_of registers words ≡ Some op → IsOperation registers op
+set_within registers words op h =
+    let (two, e1, h1) = option_step (two_words words) (λ w. option_and_then (λ dst. option_and_then (λ n. Some (Set dst n)) (number_of w.1)) (register_of registers w.0)) op h in
+    let (dst, e2, h2) = option_step (register_of registers two.0) (λ dst. option_and_then (λ n. Some (Set dst n)) (number_of two.1)) op h1 in
+    let (n, e3, h3) = option_step (number_of two.1) (λ n. Some (Set dst n)) op h2 in
+    let e : Set dst n ≡ op = cc in
+    subst (IsOperation registers) e (register_below registers dst two.0 e2)
+
+drop_within : (registers : ℕ) (words : List (List ℕ)) (op : Op) → drop_of registers words ≡ Some op → IsOperation registers op
+drop_within registers words op h =
+    let (word, e1, h1) = option_step (one_word words) (λ w. option_and_then (λ dst. Some (Drop dst)) (register_of registers w)) op h in
+    let (dst, e2, h2) = option_step (register_of registers word) (λ dst. Some (Drop dst)) op h1 in
+    let e : Drop dst ≡ op = cc in
+    subst (IsOperation registers) e (register_below registers dst word e2)
+
 collect_within : (registers : ℕ) (words : List (List ℕ)) (op : Op) → collect_of words ≡ Some op → IsOperation registers op
 collect_within registers [] op h = let e : Collect ≡ op = cc in subst (IsOperation registers) e tt
 collect_within registers (word ∷ words) op h = absurd (cc)
 
 named_within : (registers : ℕ) (name : List ℕ) (arguments : List (List ℕ)) (op : Op) → op_named registers name arguments ≡ Some op → IsOperation registers op
-named_within registers name arguments op h = step (bytes_eq name (codes "alloc")) (bytes_eq name (codes "collect")) h
+named_within registers name arguments op h =
+    step (bytes_eq name (codes "alloc")) (bytes_eq name (codes "get")) (bytes_eq name (codes "put")) (bytes_eq name (codes "move")) (bytes_eq name (codes "set"))
+    (bytes_eq name (codes "drop")) (bytes_eq name (codes "collect")) h
   where
-    step : (is_alloc is_collect : Bool) → (if is_alloc then alloc_of registers arguments else if is_collect then collect_of arguments else None) ≡ Some op → IsOperation registers op
-    step true is_collect given = alloc_within registers arguments op given
-    step false true given = collect_within registers arguments op given
-    step false false given = absurd (cc)
+    step : (alloc get put move set drop collect : Bool) →
+        (if alloc then alloc_of registers arguments else if get then get_of registers arguments else if put then put_of registers arguments
+        else if move then move_of registers arguments else if set then set_of registers arguments else if drop then drop_of registers arguments
+        else if collect then collect_of arguments else None) ≡ Some op → IsOperation registers op
+    step true get put move set drop collect given = alloc_within registers arguments op given
+    step false true put move set drop collect given = get_within registers arguments op given
+    step false false true move set drop collect given = put_within registers arguments op given
+    step false false false true set drop collect given = move_within registers arguments op given
+    step false false false false true drop collect given = set_within registers arguments op given
+    step false false false false false true collect given = drop_within registers arguments op given
+    step false false false false false false true given = collect_within registers arguments op given
+    step false false false false false false false given = absurd (cc)
 
 words_within : (registers : ℕ) (words : List (List ℕ)) (op : Op) → op_of_words registers words ≡ Some op → IsOperation registers op
 words_within registers [] op h = absurd (cc)

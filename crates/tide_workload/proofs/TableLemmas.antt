@@ -1,5 +1,5 @@
 -- The values of an array and the names of a table.
-use Rattle.std.proofs.Common.{◌≡◌, List, [], ◌∷◌, map, ap, refl, Vec, String, Global, string_bytes}
+use Rattle.std.proofs.Common.{◌≡◌, List, [], ◌∷◌, map, ap, refl, String, Global, string_bytes}
 use Rattle.std.specs.Map.{keys_of}
 use Rattle.toml.specs.View.{view, items_view, members_view}
 use Rattle.toml.specs.declared.value.Value.{Value}

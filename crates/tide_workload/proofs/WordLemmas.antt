@@ -1,13 +1,12 @@
 -- The first word of a text, and those after it.
-use Rattle.std.proofs.Common.{◌≡◌, ℕ, zero, suc, ◌+◌, ◌-◌, ◌<◌, ◌≤◌, Bool, true, false, not, cond, List, [], ◌∷◌, ◌++◌, length, get_or, take, drop, ltb, filter, unwrap_or, length-take, length-drop, Option, Some, None, refl, ap, sym, ◌∙◌, arith, rules, ⊎_elim}
-use Rattle.std.proofs.lemmas.Bool.{cases_Bool, cases_lt, lt-ltb, not-false}
+use Rattle.std.proofs.Common.{◌≡◌, ℕ, zero, suc, ◌+◌, ◌<◌, ◌≤◌, Bool, true, List, [], ◌∷◌, length, get_or, take, drop, ltb, filter, unwrap_or, length-take, length-drop, Some, None, refl, ap, ◌∙◌, arith, ⊎_elim}
+use Rattle.std.proofs.lemmas.Bool.{cases_lt, lt-ltb, not-false}
 use Rattle.std.proofs.lemmas.Bool.Decides.{nat_tests}
-use Rattle.std.proofs.lemmas.Grind.{common_steps}
 use Rattle.std.proofs.lemmas.List.{drop_more, take_all, drop_all}
 use Rattle.std.proofs.lemmas.List.Splits.{slice_split_first, slice_split_none}
-use Rattle.std.proofs.lemmas.List.Sums.{fails_before_first, passes_at_first, position_or_len_is}
-use Rattle.std.specs.List.{slice_split, onto_first, position, position_or_len, before_first, after_first}
-use Rattle.tide_workload.specs.Words.{is_space, is_letter, words_of}
+use Rattle.std.proofs.lemmas.List.Sums.{fails_before_first, passes_at_first}
+use Rattle.std.specs.List.{slice_split, position, position_or_len}
+use Rattle.tide_workload.specs.Words.{is_space, is_word_byte, words_of}
 
 -- a space in front parts no words
 words_of-space : (c : ℕ) (text : List ℕ) → is_space c ≡ true → words_of (c ∷ text) ≡ words_of text
@@ -44,14 +43,14 @@ words_of-one text some at =
     ap (filter (λ part. ltb 0 (length part))) split ∙ rw long
 
 -- a text of spaces has no word
-pub no_words : (text : List ℕ) → position is_letter text ≡ None → words_of text ≡ []
+pub no_words : (text : List ℕ) → position is_word_byte text ≡ None → words_of text ≡ []
 no_words text none =
-    let past = position_none is_letter text none in
-    words_of-spaces (length text) text (λ k below. not-false (is_space (get_or text k 0)) (fails_before_first is_letter text k 0 (omega arith)))
+    let past = position_none is_word_byte text none in
+    words_of-spaces (length text) text (λ k below. not-false (is_space (get_or text k 0)) (fails_before_first is_word_byte text k 0 (omega arith)))
     ∙ ap words_of (drop_all (length text) text (omega arith))
 
 -- a text that begins with a letter begins with a word, up to a space or the text's end
-word_here : (text : List ℕ) (m : ℕ) → 0 < length text → is_letter (get_or text 0 0) ≡ true → unwrap_or (position is_space text) (length text) ≡ m
+word_here : (text : List ℕ) (m : ℕ) → 0 < length text → is_word_byte (get_or text 0 0) ≡ true → unwrap_or (position is_space text) (length text) ≡ m
     → words_of text ≡ take m text ∷ words_of (drop m text)
 word_here text m some letter end = ⊎_elim
     (λ within.
@@ -64,11 +63,11 @@ word_here text m some letter end = ⊎_elim
     (cases_lt (position_or_len is_space text) (length text))
 
 -- where a text has a word, its first one ends at the next space or at the text's end
-pub first_words : (text : List ℕ) (n m : ℕ) → position is_letter text ≡ Some n → unwrap_or (position is_space (drop n text)) (length (drop n text)) ≡ m
+pub first_words : (text : List ℕ) (n m : ℕ) → position is_word_byte text ≡ Some n → unwrap_or (position is_space (drop n text)) (length (drop n text)) ≡ m
     → words_of text ≡ take m (drop n text) ∷ words_of (drop m (drop n text))
 first_words text n m begin end =
-    let (inside, at) = position_some is_letter text n begin in
+    let (inside, at) = position_some is_word_byte text n begin in
     let spaces : words_of text ≡ words_of (drop n text) =
-    words_of-spaces n text (λ k below. not-false (is_space (get_or text k 0)) (fails_before_first is_letter text k 0 (omega arith))) in
-    let letter : is_letter (get_or text n 0) ≡ true = rw at (passes_at_first is_letter text 0 (omega arith)) in
+    words_of-spaces n text (λ k below. not-false (is_space (get_or text k 0)) (fails_before_first is_word_byte text k 0 (omega arith))) in
+    let letter : is_word_byte (get_or text n 0) ≡ true = rw at (passes_at_first is_word_byte text 0 (omega arith)) in
     spaces ∙ word_here (drop n text) m (omega (arith, length-drop n text)) (rw (drop_more text n 0 inside) letter) end

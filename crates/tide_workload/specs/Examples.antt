@@ -1,9 +1,8 @@
 -- Examples that tell what the definitions of reading say.
-use Rattle.std.specs.Prelude.{◌≡◌, List, [], ◌∷◌, ◌++◌, codes, Option, Some, None, Result, Ok, Err}
-use Rattle.tide_model.specs.declared.op.Op.{Op}
-use Rattle.tide_model.specs.declared.op.Op.TheVariants.{Alloc, Collect}
+use Rattle.std.specs.Prelude.{◌≡◌, [], ◌∷◌, codes, Some, None, Ok, Err}
+use Rattle.tide_model.specs.declared.op.Op.TheVariants.{Alloc, Get, Put, Move, Set, Drop, Collect}
 use Rattle.tide_workload.specs.declared.fault.Fault.TheVariants.{NotToml, Missing, Bad}
-use Rattle.tide_workload.specs.declared.field.Field.TheVariants.{Registers, Strong, Blocks, Period, Mutator, Ops, Other}
+use Rattle.tide_workload.specs.declared.field.Field.TheVariants.{Registers, Strong, Other}
 use Rattle.tide_workload.specs.declared.reading.TheConstants.{MAX_BYTES}
 use Rattle.tide_workload.specs.declared.workload.TheConstants.{MAX_MUTATORS, MAX_OPS}
 use Rattle.tide_workload.specs.OpText.{op_of}
@@ -15,6 +14,14 @@ pub record OpTexts : Type 0 where
   pub alloc : op_of 4 (codes "alloc r0 0") ≡ Some (Alloc 0 0)
   pub last_register : op_of 4 (codes "alloc r3 3") ≡ Some (Alloc 3 3)
   pub collect : op_of 4 (codes "collect") ≡ Some Collect
+  pub get : op_of 4 (codes "get r1 r2 15") ≡ Some (Get 1 2 15)
+  pub put : op_of 4 (codes "put r1 0 r2") ≡ Some (Put 1 0 2)
+  pub move : op_of 4 (codes "move r1 r2") ≡ Some (Move 1 2)
+  pub set : op_of 4 (codes "set r1 4294967295") ≡ Some (Set 1 4294967295)
+  pub drop : op_of 4 (codes "drop r3") ≡ Some (Drop 3)
+  pub no_slot_sixteen : op_of 4 (codes "get r1 r2 16") ≡ None
+  pub too_large_to_set : op_of 4 (codes "set r1 4294967296") ≡ None
+  pub put_in_the_order_of_get : op_of 4 (codes "put r1 r2 0") ≡ None
   pub several_spaces : op_of 4 (codes "alloc   r1  2") ≡ Some (Alloc 1 2)
   pub leading_zeros : op_of 4 (codes "alloc r00 0000000001") ≡ Some (Alloc 0 1)
   pub no_fourth_register : op_of 4 (codes "alloc r4 0") ≡ None

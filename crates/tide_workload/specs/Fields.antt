@@ -10,19 +10,21 @@ use Rattle.tide_workload.specs.declared.field.Field.TheVariants.{Other}
 use Rattle.tide_workload.specs.Names.{name_of}
 use Rattle.tide_workload.specs.Steps.{◌>>=◌, each, good}
 
--- the value of a field that has to be there
+-- what is there of a field, which misses where there is nothing
 abbrev pub required_or : Field → Option Data → Result Data Fault
 required_or field None = Err (Missing field)
 required_or field (Some value) = Ok value
 
+-- the value of a field that has to be there
 abbrev pub required : Field → Members → Result Data Fault
 required field table = required_or field (get_member (name_of field) table)
 
--- a field that isn't read may not be there
+-- what is there of a field that isn't read, which is bad
 abbrev pub absent_or : Field → Option Data → Result (Unit {0}) Fault
 absent_or field None = Ok tt
 absent_or field (Some value) = Err (Bad field)
 
+-- a field that isn't read may not be there
 abbrev pub absent : Field → Members → Result (Unit {0}) Fault
 absent field table = absent_or field (get_member (name_of field) table)
 
@@ -31,19 +33,21 @@ abbrev pub number_within : ℕ → ℕ → Data → Option ℕ
 number_within least most (integer (pos n)) = if nat_le least n && nat_le n most then Some n else None
 number_within least most _ = None
 
--- the values of an array, in order
+-- items as a list
 abbrev pub list_of : Items → List Data
 list_of no_items = []
 list_of (item value values) = value ∷ list_of values
 
+-- the values of an array, in order
 abbrev pub values_of : Data → Option (List Data)
 values_of (array items) = Some (list_of items)
 values_of _ = None
 
--- those values, where there are at least and at most so many
+-- some values, where there are at least and at most so many
 abbrev pub so_many : ℕ → ℕ → List Data → Option (List Data)
 so_many least most values = if nat_le least (length values) && nat_le (length values) most then Some values else None
 
+-- the values of an array of at least and at most so many
 abbrev pub values_within : ℕ → ℕ → Data → Option (List Data)
 values_within least most value = option_and_then (so_many least most) (values_of value)
 

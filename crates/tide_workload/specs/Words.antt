@@ -9,8 +9,8 @@ abbrev pub is_space : ℕ → Bool
 is_space byte = byte == 32
 
 -- a byte of a word
-abbrev pub is_letter : ℕ → Bool
-is_letter byte = not (is_space byte)
+abbrev pub is_word_byte : ℕ → Bool
+is_word_byte byte = not (is_space byte)
 
 -- a text neither begins nor ends with a space
 abbrev pub is_trimmed : List ℕ → Bool
@@ -20,10 +20,20 @@ is_trimmed text = not (is_space (slice_index text 0)) && not (is_space (slice_in
 abbrev pub words_of : List ℕ → List (List ℕ)
 words_of text = filter (λ part. nat_lt 0 (length part)) (slice_split is_space text)
 
+-- the one word, where there is one
+abbrev pub one_word : List (List ℕ) → Option (List ℕ)
+one_word (only ∷ []) = Some only
+one_word _ = None
+
 -- these words, where there are two
 abbrev pub two_words : List (List ℕ) → Option (List ℕ × List ℕ)
 two_words (first ∷ second ∷ []) = Some (first, second)
 two_words _ = None
+
+-- these words, where there are three
+abbrev pub three_words : List (List ℕ) → Option (List ℕ × List ℕ × List ℕ)
+three_words (first ∷ second ∷ third ∷ []) = Some (first, second, third)
+three_words _ = None
 
 -- a word has one to ten decimal digits and nothing else
 abbrev pub is_numeral : List ℕ → Bool

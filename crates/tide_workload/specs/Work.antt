@@ -1,7 +1,7 @@
 -- What a workload is.
 use Rattle.std.specs.Prelude.{ℕ, ◌<◌, ◌≤◌, List, length, All}
 use Rattle.tide_model.specs.declared.op.Op.{Op}
-use Rattle.tide_model.specs.declared.op.Op.TheVariants.{Alloc, Collect}
+use Rattle.tide_model.specs.declared.op.Op.TheVariants.{Alloc, Get, Put, Move, Set, Drop, Collect}
 use Rattle.tide_workload.specs.declared.workload.TheConstants.{MAX_MUTATORS, MAX_OPS}
 use Rattle.tide_workload.specs.declared.settings.Settings.{Settings}
 
@@ -19,6 +19,11 @@ pub record IsSized (scripts : List (List Op)) : Type 0 where
 -- the operation is one that a workload may have today, with numbers in their limits
 abbrev pub IsOperation : ℕ → Op → Type 0
 IsOperation registers (Alloc dst class) = (dst < registers) × (class < 4)
+IsOperation registers (Get dst src slot) = (dst < registers) × (src < registers) × (slot < 16)
+IsOperation registers (Put src slot val) = (src < registers) × (slot < 16) × (val < registers)
+IsOperation registers (Move dst src) = (dst < registers) × (src < registers)
+IsOperation registers (Set dst n) = dst < registers
+IsOperation registers (Drop dst) = dst < registers
 IsOperation registers Collect = Unit {0}
 IsOperation registers op = ⊥
 

@@ -3,7 +3,7 @@ ghost use Rattle.std.specs.Prelude.{◌≡◌, true, [], ◌∷◌, position, Ma
 ghost use Rattle.std.specs.Char.{is_ascii_digit};
 ghost use Rattle.std.specs.List.{list_all};
 ghost use Rattle.std.specs.Str.Parse.{digits_value};
-ghost use Rattle.tide_workload.specs.Words.{is_space, is_letter, is_trimmed, words_of, two_words, is_numeral, number_of, number_below};
+ghost use Rattle.tide_workload.specs.Words.{is_space, is_word_byte, is_trimmed, words_of, one_word, two_words, three_words, is_numeral, number_of, number_below};
 
 /// Whether a text neither begins nor ends with a space.
 pub(crate) fn is_trimmed(text: &[u8]) -> bool
@@ -20,8 +20,8 @@ fn first_space(text: &[u8]) -> Option<usize>
 }
 
 /// Where the first byte of a text is that is no space.
-fn first_letter(text: &[u8]) -> Option<usize>
-    ensures { result ≡ position is_letter text.now }
+fn first_word_byte(text: &[u8]) -> Option<usize>
+    ensures { result ≡ position is_word_byte text.now }
 {
     text.iter().position(|byte| *byte != b' ')
 }
@@ -31,10 +31,21 @@ pub(crate) fn next_word(text: &[u8]) -> Option<(&[u8], &[u8])>
     ensures { MatchOption result (words_of text.now ≡ [])
         (λ parts. words_of text.now ≡ parts.0.now ∷ words_of parts.1.now) }
 {
-    let begin = first_letter(text)?;
+    let begin = first_word_byte(text)?;
     let (_, text) = text.split_at(begin);
     let end = first_space(text).unwrap_or(text.len());
     Some(text.split_at(end))
+}
+
+/// The word of a text that has no other.
+pub(crate) fn one_word(text: &[u8]) -> Option<&[u8]>
+    ensures { option_map (λ word. word.now) result ≡ one_word (words_of text.now) }
+{
+    let (only, rest) = next_word(text)?;
+    match next_word(rest) {
+        Some(_) => None,
+        None => Some(only),
+    }
 }
 
 /// The words of a text that has no more than these two.
@@ -47,6 +58,15 @@ pub(crate) fn two_words(text: &[u8]) -> Option<(&[u8], &[u8])>
         Some(_) => None,
         None => Some((first, second)),
     }
+}
+
+/// The words of a text that has no more than these three.
+pub(crate) fn three_words(text: &[u8]) -> Option<(&[u8], &[u8], &[u8])>
+    ensures { option_map (λ words. (words.0.now, words.1.now, words.2.now)) result ≡ three_words (words_of text.now) }
+{
+    let (first, rest) = next_word(text)?;
+    let (second, third) = two_words(rest)?;
+    Some((first, second, third))
 }
 
 fn has_digits_only(word: &[u8]) -> bool

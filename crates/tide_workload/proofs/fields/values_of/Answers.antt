@@ -1,4 +1,4 @@
-use Rattle.std.proofs.Common.{ap, sym, rules}
+use Rattle.std.proofs.Common.{rules}
 use Rattle.tide_workload.proofs.TableLemmas.{list_of-items_view}
 use Rattle.tide_workload.proofs.fields.values_of.Goals as goal
 

@@ -1,10 +1,7 @@
-use Rattle.std.proofs.Common.{◌≡◌, ◌∙◌, ap, sym, IsUtf8, Some, None, Ok, Err}
+use Rattle.std.proofs.Common.{◌∙◌, ap, sym, Err}
 use Rattle.std.specs.Option.{ok_or}
 use Rattle.toml.specs.Errors.{IsMemory}
-use Rattle.toml.specs.Parse.{parse_document}
-use Rattle.toml.specs.View.{table_view}
 use Rattle.tide_workload.specs.declared.fault.Fault.TheVariants.{NotToml}
-use Rattle.tide_workload.specs.Reading.{document_or}
 use Rattle.tide_workload.proofs.DocumentLemmas.{document_or-no_text, document_or-text}
 use Rattle.tide_workload.proofs.reading.document_of.Goals as goal
 

@@ -1,5 +1,4 @@
-use Rattle.std.proofs.Common.{◌<◌, ◌^◌, arith, sym, ◌∙◌, drop}
-use Rattle.std.specs.Str.Parse.{digits_value}
+use Rattle.std.proofs.Common.{arith, sym, ◌∙◌, drop}
 use Rattle.tide_workload.proofs.NumeralLemmas.{digit_at, digits_value_after-grows, digits_value_after-more, numeral_parts, numeral_small}
 use Rattle.tide_workload.proofs.words.numeral_value.Goals as goal
 
