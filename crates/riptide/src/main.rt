@@ -1,10 +1,13 @@
-//! Reads a workload from standard input, runs it and prints what it came to.
+//! The program `riptide`: reads a workload from standard input, runs it and prints its calls and cycles.
+//!
+//! Nothing is decided here. `main` hands the words of the command line, standard input, output and error to
+//! `tide_run::riptide`, and its status to the system.
 #![tactic(auto)]
 
 use std::alloc::AllocError;
 use std::env;
 use std::process::ExitCode;
-use tide_io::{RealSink, RealSource, Sink};
+use tide_io::{RealSink, RealSource, write_all};
 use tide_model::FreePass;
 use tide_run::riptide;
 
@@ -30,7 +33,7 @@ fn main(rt: HostRuntime) -> ExitCode {
     let mut out = RealSink::new(rt.stdout());
     let mut err = RealSink::new(rt.stderr());
     let Ok(words) = command_words(&rt) else {
-        let _ = err.write(b"riptide: no memory\n");
+        let _ = write_all(&mut err, b"riptide: no memory\n");
         return ExitCode::from(6);
     };
     let ended = riptide(

@@ -1,13 +1,13 @@
 -- What a whole cycle leaves, and what its span has.
-use Rattle.std.proofs.Common.{ℕ, zero, suc, ◌≡◌, ◌+◌, ◌≤◌, ◌<◌, refl, sym, ◌∙◌, ap, subst, arith, Bool, true, false, List, [], ◌∷◌, ◌++◌, length, take}
-use Rattle.std.specs.Prelude.{◌==◌, ◌||◌, ◌&&◌, if◌then◌else◌, map}
+use Rattle.std.proofs.Common.{ℕ, ◌≡◌, ◌≤◌, refl, sym, ◌∙◌, ap, subst, arith, Bool, true, false, List, [], ◌∷◌, length, take}
+use Rattle.std.specs.Prelude.{◌==◌, ◌||◌, if◌then◌else◌, map}
 use Rattle.tide_model.specs.declared.entry.Entry.TheVariants.{Sweep}
 use Rattle.tide_model.specs.declared.entry.Event.{Event}
 use Rattle.tide_model.specs.Layout.{Layout, block_of_cell, block_of_array}
 use Rattle.tide_model.specs.Numbers.{is_among}
 use Rattle.tide_model.specs.State.{State, Phase, CellState, Status, free, live, spent, dead, is_dead, blank_cell}
-use Rattle.tide_model.specs.Graph.{Graph, IsRoot, in_register, claimed, in_handle, IsLink, in_slot, in_property, IsTriple, AreTwins, graph_of, IsWithin}
-use Rattle.tide_model.specs.History.{plain, after_sweep, swept_cell, swept_status, state_from, state_after, state_at}
+use Rattle.tide_model.specs.Graph.{IsRoot, in_register, claimed, in_handle, IsLink, in_slot, in_property, IsTriple, AreTwins, graph_of, IsWithin}
+use Rattle.tide_model.specs.History.{plain, after_sweep, swept_cell, swept_status, state_from, state_after}
 use Rattle.tide_model.specs.Cycle.{span_of}
 
 swept_status-twice : (x y : Bool) (status : Status) → swept_status y (swept_status x status) ≡ swept_status (x || y) status

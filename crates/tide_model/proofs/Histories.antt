@@ -1,6 +1,6 @@
 -- How a history grows by one event, and by several.
-use Rattle.std.proofs.Common.{ℕ, zero, suc, ◌≡◌, ◌+◌, ◌≤◌, ◌<◌, refl, sym, ◌∙◌, ap, subst, arith, Bool, true, false, List, [], ◌∷◌, ◌++◌, length, take, append_assoc, append-nil}
-use Rattle.std.specs.Prelude.{Option, None, Some, slice_get, count_by, if◌then◌else◌, is_some}
+use Rattle.std.proofs.Common.{ℕ, zero, suc, ◌≡◌, ◌≤◌, refl, sym, ◌∙◌, ap, subst, arith, Bool, true, false, List, [], ◌∷◌, ◌++◌, length, take, append_assoc}
+use Rattle.std.specs.Prelude.{Option, Some, slice_get, if◌then◌else◌, is_some}
 use Rattle.tide_model.specs.declared.op.Op.{Op}
 use Rattle.tide_model.specs.declared.op.Reply.{Reply}
 use Rattle.tide_model.specs.declared.entry.Event.{Event}

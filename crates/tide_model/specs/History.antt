@@ -86,6 +86,7 @@ after_end state freed = record state {
 abbrev pub swept_status : Bool → Status → Status
 swept_status is_swept status = if is_swept && is_dead status then free else status
 
+-- the cell after a sweep, which makes a dead one of a swept block free and blank
 abbrev pub swept_cell : Bool → CellState → CellState
 swept_cell is_swept cell = if is_swept && is_dead cell.status then blank_cell free else cell
 
@@ -106,6 +107,7 @@ after_entry layout state (End cycle freed) took = after_end state freed
 after_entry layout state (Sweep block) took = after_sweep layout state block
 after_entry layout state (Open number run) took = state
 
+-- the state that an event leaves
 abbrev pub after_event : Layout → State → Event → State
 after_event layout state event = after_entry layout state event.entry event.took
 
@@ -114,10 +116,11 @@ abbrev pub state_from : Layout → State → List Event → State
 state_from layout state [] = state
 state_from layout state (event ∷ events) = state_from layout (after_event layout state event) events
 
--- the state after a history, and after its first events
+-- the state after a whole history, from the empty state on
 abbrev pub state_after : Layout → List Event → State
 state_after layout history = state_from layout empty_state history
 
+-- the state after the first so many events: the state at a moment
 abbrev pub state_at : Layout → List Event → ℕ → State
 state_at layout history moment = state_after layout (take moment history)
 
@@ -142,6 +145,7 @@ is_begin (End cycle freed) = false
 is_begin (Sweep block) = false
 is_begin (Open number run) = false
 
+-- the entry opens a running part, of which there are none today
 abbrev pub is_open : Entry → Bool
 is_open (Call who op reply) = false
 is_open (Begin cycle) = false

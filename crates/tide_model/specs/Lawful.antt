@@ -1,6 +1,7 @@
 -- Which histories are lawful.
 use Rattle.std.specs.Prelude.{ℕ, ◌≡◌, ◌<◌, true, List, take, slice_get, Option, None, Some}
 use Rattle.tide_model.specs.declared.op.Op.{Op}
+use Rattle.tide_model.specs.declared.op.Op.TheVariants.{Alloc, Get, Put, Move, Set, Drop, Collect, Retire}
 use Rattle.tide_model.specs.declared.op.Reply.{Reply}
 use Rattle.tide_model.specs.declared.op.Reply.TheVariants.{Refused}
 use Rattle.tide_model.specs.declared.op.Refusal.TheVariants.{Full}
@@ -13,10 +14,24 @@ use Rattle.tide_model.specs.Answer.{ShapeLists, IsAnswer}
 use Rattle.tide_model.specs.Cycle.{StandsBegin, StandsEnd, HasDead}
 use Rattle.tide_model.specs.Room.{StandsFull}
 
--- a call stands where its mutator is active and the reply is an answer, and a refusal for room where it may come
+-- the operands of an operation are those of the layout: registers of its mutator, and a class of cells with slots
+abbrev pub FitsLayout : Layout → Op → Type 0
+FitsLayout layout (Alloc dst class) = (dst < layout.registers) × (class < 4)
+FitsLayout layout (Get dst src slot) = (dst < layout.registers) × (src < layout.registers)
+FitsLayout layout (Put src slot val) = (src < layout.registers) × (val < layout.registers)
+FitsLayout layout (Move dst src) = (dst < layout.registers) × (src < layout.registers)
+FitsLayout layout (Set dst n) = dst < layout.registers
+FitsLayout layout (Drop dst) = dst < layout.registers
+FitsLayout layout Collect = Unit {0}
+FitsLayout layout Retire = Unit {0}
+FitsLayout layout op = ⊥
+
+-- a call stands where its mutator is active, its operands are there and the reply is an answer, and a refusal for
+-- room where it may come
 pub record StandsCall (layout : Layout) (shapes : ShapeLists) (before : List Event) (who : ℕ) (op : Op) (reply : Reply) (took : Option ℕ) : Type 0 where
   pub is_mutator : who < layout.mutators
   pub is_active : (state_after layout before).active who ≡ true
+  pub fits : FitsLayout layout op
   pub answers : IsAnswer layout shapes (state_after layout before) who op reply took
   pub room : (class : ℕ) → reply ≡ Refused (Full class) → StandsFull layout before who class
 
@@ -30,6 +45,7 @@ StandsEntry layout shapes before (End cycle freed) took = (took ≡ None) × Sta
 StandsEntry layout shapes before (Sweep block) took = (took ≡ None) × HasDead layout (state_after layout before) block
 StandsEntry layout shapes before (Open number run) took = took ≡ None
 
+-- when an event may stand right after a history
 abbrev pub Stands : Layout → ShapeLists → List Event → Event → Type 0
 Stands layout shapes before event = StandsEntry layout shapes before event.entry event.took
 

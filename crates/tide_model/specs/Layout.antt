@@ -23,20 +23,19 @@ blocks_of layout class = slice_index (layout.cell_blocks ++ layout.array_blocks)
 abbrev pub first_block_of : Layout → ℕ → ℕ
 first_block_of layout class = sum (take class (layout.cell_blocks ++ layout.array_blocks))
 
--- the number of cells, of arrays and of all blocks
+-- how many cells there are: 64 in each block
 abbrev pub cell_count : Layout → ℕ
 cell_count layout = 64 * sum layout.cell_blocks
 
+-- how many arrays there are
 abbrev pub array_count : Layout → ℕ
 array_count layout = 64 * sum layout.array_blocks
 
-abbrev pub block_count : Layout → ℕ
-block_count layout = sum layout.cell_blocks + sum layout.array_blocks
-
--- the block in which a cell and an array lies
+-- the block in which a cell lies
 abbrev pub block_of_cell : ℕ → ℕ
 block_of_cell cell = cell / 64
 
+-- the block in which an array lies: array blocks follow the cell blocks
 abbrev pub block_of_array : Layout → ℕ → ℕ
 block_of_array layout array = sum layout.cell_blocks + array / 64
 

@@ -1,4 +1,5 @@
 pub mod Answer
+pub mod BusyRows
 pub mod Caller
 pub mod Cycle
 pub mod Graph
@@ -7,6 +8,7 @@ pub mod Lawful
 pub mod Layout
 pub mod Numbers
 pub mod Prefix
+pub mod RefusedRows
 pub mod Room
 pub mod Rows
 pub mod Schedule

@@ -1,5 +1,5 @@
 -- Functions and sets of numbers, and how they change.
-use Rattle.std.specs.Prelude.{ℕ, zero, suc, ◌+◌, ◌==◌, nat_lt, Bool, true, false, ◌||◌, List, [], ◌∷◌, ◌++◌, if◌then◌else◌}
+use Rattle.std.specs.Prelude.{ℕ, zero, suc, ◌+◌, ◌==◌, Bool, false, ◌||◌, List, [], ◌∷◌, ◌++◌, if◌then◌else◌}
 
 -- the function with another value at one place
 abbrev pub put_at : {X : Type 0} → (ℕ → X) → ℕ → X → ℕ → X

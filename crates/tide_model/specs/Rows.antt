@@ -1,5 +1,5 @@
 -- Small histories worked out by hand, by which the definitions are checked.
-use Rattle.std.specs.Prelude.{ℕ, ◌≡◌, refl, List, [], ◌∷◌, take, None, Some}
+use Rattle.std.specs.Prelude.{◌≡◌, refl, List, [], ◌∷◌, take, None, Some}
 use Rattle.tide_model.specs.declared.val.Val.TheVariants.{Empty, Cell}
 use Rattle.tide_model.specs.declared.op.Op.TheVariants.{Alloc, Get, Put, Drop, Collect, Retire}
 use Rattle.tide_model.specs.declared.op.Reply.TheVariants.{Done, Born, Seen, Asked, Refused}
@@ -8,8 +8,8 @@ use Rattle.tide_model.specs.declared.entry.Entry.TheVariants.{Call, Begin, Pause
 use Rattle.tide_model.specs.declared.entry.Event.{Event}
 use Rattle.tide_model.specs.Layout.{Layout, first_block_of, blocks_of, cell_count, block_of_array, class_of}
 use Rattle.tide_model.specs.State.{live, dead, free, idle, marking}
-use Rattle.tide_model.specs.Graph.{graph_of, IsRetained, is_root, in_register, no_cell}
-use Rattle.tide_model.specs.History.{plain, state_after, state_at, moment_after_last, is_begin, is_call_of}
+use Rattle.tide_model.specs.Graph.{is_root, in_register}
+use Rattle.tide_model.specs.History.{plain, state_after, state_at, moment_after_last, is_begin}
 use Rattle.tide_model.specs.Cycle.{begin_count, StandsEnd, live_count}
 use Rattle.tide_model.specs.Script.{script_of}
 use Rattle.tide_model.specs.Answer.{IsAnswer, refusal_of, no_shapes}
@@ -17,7 +17,7 @@ use Rattle.tide_model.specs.Room.{window_start}
 use Rattle.tide_model.specs.Schedule.{retry_of}
 
 -- one block of cells with two slots, one of tables, and two of arrays
-abbrev small : Layout
+abbrev pub small : Layout
 small = record {
   cell_blocks = 1 ∷ 0 ∷ 0 ∷ 0 ∷ 1 ∷ [];
   array_blocks = 1 ∷ 1 ∷ 0 ∷ 0 ∷ 0 ∷ [];
@@ -33,7 +33,7 @@ pub places_of_small : (first_block_of small 4 ≡ 1) × (blocks_of small 4 ≡ 1
 places_of_small = (refl, refl, refl, refl, refl, refl)
 
 -- a cell is made and kept by its register, and is freed once its mutator has retired
-abbrev kept_then_freed : List Event
+abbrev pub kept_then_freed : List Event
 kept_then_freed =
     plain (Call 0 (Alloc 0 0) (Born 0)) ∷ plain (Call 0 Collect Asked)
     ∷ plain (Begin 1) ∷ plain (Pause 1) ∷ plain (End 1 [])

@@ -1,5 +1,5 @@
 -- When cycles run: a whole one after each call that asks for it, and none elsewhere.
-use Rattle.std.specs.Prelude.{ℕ, ◌≡◌, ◌≤◌, Bool, true, false, List, [], ◌∷◌, ◌++◌, map, Option, None, Some, MatchBool}
+use Rattle.std.specs.Prelude.{ℕ, ◌≡◌, ◌≤◌, Bool, true, false, List, [], ◌∷◌, ◌++◌, map, Option, None, Some}
 use Rattle.tide_model.specs.declared.op.Op.{Op}
 use Rattle.tide_model.specs.declared.op.Op.TheVariants.{Retire}
 use Rattle.tide_model.specs.declared.op.Reply.{Reply}
@@ -14,17 +14,20 @@ use Rattle.tide_model.specs.Cycle.{HasDead, live_count}
 use Rattle.tide_model.specs.Room.{IsFullBlock}
 use Rattle.tide_model.specs.Answer.{ShapeLists}
 use Rattle.tide_model.specs.Lawful.{IsLawful}
-use Rattle.tide_model.specs.Script.{calls_of, retry_after, retry_after_all}
+use Rattle.tide_model.specs.Script.{calls_of, retry_after_all}
 
 -- a mutator's call, and the entries of the cycle that follows it
 pub record Turn : Type 0 where
   pub who : ℕ
   pub op : Op
   pub reply : Reply
+  -- the array that it took, if any
+  pub took : Option ℕ
   pub cycle : List Event
 
+-- the event of a turn's call
 abbrev pub call_event : Turn → Event
-call_event turn = plain (Call turn.who turn.op turn.reply)
+call_event turn = record { entry = Call turn.who turn.op turn.reply; took = turn.took }
 
 -- the reply is that a cycle was asked for
 abbrev pub is_asked : Reply → Bool
@@ -34,6 +37,7 @@ is_asked (Seen value) = false
 is_asked Asked = true
 is_asked (Refused refusal) = false
 
+-- the operation is to retire
 abbrev pub is_retire : Op → Bool
 is_retire Retire = true
 is_retire _ = false

@@ -1,5 +1,5 @@
 -- What a mutator asked for, as its own list of operations has it.
-use Rattle.std.specs.Prelude.{ℕ, ◌==◌, Bool, true, false, not, List, [], ◌∷◌, ◌++◌, if◌then◌else◌, Option, None, Some, is_some}
+use Rattle.std.specs.Prelude.{ℕ, ◌==◌, Bool, true, false, List, [], ◌∷◌, ◌++◌, if◌then◌else◌, Option, None, Some, is_some}
 use Rattle.tide_model.specs.declared.op.Op.{Op}
 use Rattle.tide_model.specs.declared.op.Reply.{Reply}
 use Rattle.tide_model.specs.declared.op.Reply.TheVariants.{Done, Born, Seen, Asked, Refused}
@@ -24,6 +24,7 @@ abbrev pub calls_of : ℕ → List Event → List (Op × Reply)
 calls_of mutator [] = []
 calls_of mutator (event ∷ events) = own_calls mutator event.entry ++ calls_of mutator events
 
+-- the refusal is for want of room
 abbrev pub is_full_refusal : Refusal → Bool
 is_full_refusal (Full class) = true
 is_full_refusal _ = false

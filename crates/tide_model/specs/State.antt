@@ -1,5 +1,5 @@
 -- What a store holds at one moment.
-use Rattle.std.specs.Prelude.{ℕ, ◌==◌, Bool, true, false, List, [], Option, None, Some}
+use Rattle.std.specs.Prelude.{ℕ, Bool, true, false, List, [], Option, None}
 use Rattle.tide_model.specs.declared.val.Val.{Val}
 use Rattle.tide_model.specs.declared.val.Val.TheVariants.{Empty}
 
@@ -10,18 +10,21 @@ pub data Status : Type 0 where
   spent : Status
   dead : Status
 
+-- the status is free
 abbrev pub is_free : Status → Bool
 is_free free = true
 is_free live = false
 is_free spent = false
 is_free dead = false
 
+-- the status is live
 abbrev pub is_live : Status → Bool
 is_live free = false
 is_live live = true
 is_live spent = false
 is_live dead = false
 
+-- the status is dead
 abbrev pub is_dead : Status → Bool
 is_dead free = false
 is_dead live = false

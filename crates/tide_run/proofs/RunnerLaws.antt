@@ -49,10 +49,10 @@ Tells-nothing layout records state answered no_records is_empty no_calls =
 pub Tells-call : (settings : Settings) (registers others : List Val) (cells others_cells : List StoredCell) (was_active is_active : Bool) (records new_records : List Record)
     (answered new_answered : List Answered) (cycles : ℕ) (op : Op) (reply : Reply) →
     was_active ≡ true → new_records ≡ records ++ Called op reply ∷ [] → new_answered ≡ answered ++ record { op = op; reply = reply } ∷ [] →
-    Tells (layout_of settings 1) records (state_of was_active registers cells) cycles (map pair_of answered) →
+    Tells (layout_of settings 1) records (state_of was_active registers cells) cycles (map pair_of answered) → IsServed settings op →
     IsCall settings (state_of was_active registers cells) (state_of is_active others others_cells) op reply →
     Tells (layout_of settings 1) new_records (state_of is_active others others_cells) cycles (map pair_of new_answered)
-Tells-call settings registers others cells others_cells was_active is_active records new_records answered new_answered cycles op reply was recorded told_back told is_call =
+Tells-call settings registers others cells others_cells was_active is_active records new_records answered new_answered cycles op reply was recorded told_back told served is_call =
     let layout = layout_of settings 1 in
     let old = state_of was_active registers cells in
     Tells-by layout (records ++ Called op reply ∷ []) new_records (after_call old 0 op reply None) (state_of is_active others others_cells) (cycles + 0) cycles
@@ -61,6 +61,7 @@ Tells-call settings registers others cells others_cells was_active is_active rec
     (Tells-push layout records old cycles (map pair_of answered) (Called op reply) told (record {
       is_mutator = omega arith;
       is_active = ap (λ (s : State). s.active 0) told.leaves ∙ was;
+      fits = served;
       answers = subst (λ (s : State). IsAnswer layout no_shapes s 0 op reply None) (sym told.leaves) is_call.answers;
       room = λ class is. StandsFull-now layout (events_of records) 0 class
           (λ block of_class. subst (λ (s : State). IsFullBlock layout s block) (sym told.leaves) (is_call.room class is block of_class));

@@ -98,7 +98,7 @@ IsScheduled-rest layout before op reply is_retry scheduled pending rests room =
     })
   where
     turn : Turn
-    turn = record { who = 0; op = op; reply = reply; cycle = [] }
+    turn = record { who = 0; op = op; reply = reply; took = None; cycle = [] }
 
     same : (again : Bool) → retry_of 0 before ≡ (if again then Some op else None) → (other : Op) → retry_of 0 before ≡ Some other → op ≡ other
     same true e other is = let both : Some op ≡ Some other = sym e ∙ is in cc
@@ -120,7 +120,7 @@ IsScheduled-cycle layout before op reply is_retry cycle scheduled pending asks r
     }))
   where
     turn : Turn
-    turn = record { who = 0; op = op; reply = reply; cycle = cycle }
+    turn = record { who = 0; op = op; reply = reply; took = None; cycle = cycle }
 
     same : (again : Bool) → retry_of 0 before ≡ (if again then Some op else None) → (other : Op) → retry_of 0 before ≡ Some other → op ≡ other
     same true e other is = let both : Some op ≡ Some other = sym e ∙ is in cc

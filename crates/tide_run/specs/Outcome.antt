@@ -17,6 +17,7 @@ use Rattle.tide_run.specs.Told.{events_of, AreCounted, pair_of}
 abbrev pub records_of : Kept → List Record
 records_of (Own told) = told.records.items
 
+-- the run that the fields of an outcome stand for
 abbrev pub ran_of : Settings → Kept → Ran
 ran_of settings kept = record { layout = layout_of settings 1; history = events_of (records_of kept); is_heap = false }
 

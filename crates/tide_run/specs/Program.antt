@@ -46,11 +46,6 @@ pub record TellsLine (old new : Option (List ℕ)) (before now : ℕ) (line : Li
   pub later : before ≤ now
   pub line_or_part : Appends old new line ⊎ (Rose before now × AppendsPart old new line)
 
--- the history of a run, or the empty one
-abbrev pub history_of_ended : Option Ran → List Event
-history_of_ended None = []
-history_of_ended (Some ran) = ran.history
-
 -- the status of a program that ran nothing
 abbrev pub stop_status : Stop → ℕ
 stop_status Usage = 2

@@ -1,4 +1,4 @@
--- What a run came to.
+-- A run.
 use Rattle.std.specs.Prelude.{Bool, List}
 use Rattle.tide_model.specs.declared.entry.Event.{Event}
 use Rattle.tide_model.specs.Layout.{Layout}

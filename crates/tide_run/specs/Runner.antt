@@ -12,6 +12,7 @@ use Rattle.tide_run.specs.declared.runner.Runner.{Runner}
 use Rattle.tide_run.specs.Store.{layout_of, state_of, IsSound, is_active_after}
 use Rattle.tide_run.specs.Told.{events_of, Tells, pair_of}
 
+-- the layout of a runner's store
 abbrev pub runner_layout : Runner → Layout
 runner_layout runner = layout_of runner.store.settings 1
 
@@ -19,6 +20,7 @@ runner_layout runner = layout_of runner.store.settings 1
 abbrev pub runner_state : Runner → State
 runner_state runner = state_of runner.store.is_active runner.store.registers.items runner.store.cells.items
 
+-- the history that a runner has recorded
 abbrev pub history_of : Runner → List Event
 history_of runner = events_of runner.records.items
 

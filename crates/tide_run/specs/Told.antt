@@ -24,6 +24,7 @@ event_of (Paused visits) = plain (Pause visits)
 event_of (Ended cycle freed kept) = plain (End cycle freed)
 event_of (Swept block) = plain (Sweep block)
 
+-- the events that records tell: the history
 abbrev pub events_of : List Record → List Event
 events_of records = map event_of records
 
@@ -35,6 +36,7 @@ IsCounted layout before (Paused visits) = Unit {0}
 IsCounted layout before (Ended cycle freed kept) = kept ≡ live_count layout (state_after layout (before ++ plain (End cycle freed) ∷ []))
 IsCounted layout before (Swept block) = Unit {0}
 
+-- each record of a cycle's end has the right number of live cells
 abbrev pub AreCounted : Layout → List Record → Type 0
 AreCounted layout records = (place : ℕ) (record' : Record) → slice_get records place ≡ Some record' → IsCounted layout (events_of (take place records)) record'
 

@@ -1,4 +1,8 @@
 //! Runs of workloads, from the words of a command line to the status.
+//!
+//! `plain` runs a workload on a store that stops for each whole cycle, and `run` and `riptide` stand on it.
+//! `riptide` carries the history theorem: what it printed is the text of a legal history of the workload that it
+//! read.
 #![tactic(auto)]
 
 mod answered;
@@ -8,6 +12,8 @@ mod program;
 mod runner;
 mod running;
 mod store;
+#[cfg(test)]
+mod tests;
 mod told;
 
 pub use answered::Answered;

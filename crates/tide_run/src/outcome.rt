@@ -1,4 +1,4 @@
-//! What a run came to.
+//! The outcome of a run.
 ghost use Rattle.std.specs.Prelude.{◌≡◌, ◌<◌, ℕ, All, map};
 
 use crate::answered::Answered;
@@ -43,7 +43,7 @@ impl Outcome {
     ghost use Rattle.tide_run.specs.Told.{events_of, AreCounted, pair_of};
     ghost use Rattle.tide_run.specs.Outcome.{ran_of, IsOutcome};
 
-    /// What the records of a run came to.
+    /// The outcome of a run with these records.
     pub(crate) fn new(
         settings: Settings,
         records: Vec<Record>,

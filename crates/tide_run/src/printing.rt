@@ -1,4 +1,4 @@
-//! Printing what a run came to.
+//! Printing a run.
 ghost use Rattle.std.specs.Prelude.{◌≡◌, map, All, OnOk, OnErr};
 ghost use Rattle.std.specs.List.{flat_map};
 ghost use Rattle.std.specs.Io.KnownBytes.{Appends};

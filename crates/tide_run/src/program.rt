@@ -17,7 +17,7 @@ use tide_io::{ReadError, Sink, Source, read_up_to, write_all};
 use tide_model::{Memory, Turnstile};
 use tide_workload::{Fault, Field, MAX_BYTES, Workload, read};
 
-/// How a program ended, with what it ran where it came to that.
+/// How a program ended, with the outcome of its run where there was one.
 #[derive(Debug, Drop)]
 pub struct Ended {
     /// 0: printed whole. 2: the words are refused. 3: the bytes that were read are. 4: the source failed. 5: the
@@ -147,8 +147,8 @@ fn print<K: Sink, E: Sink>(out: &mut K, err: &mut E, load: &Workload, outcome: O
 /// Runs the program.
 ///
 /// `words` are those of the command line, of which the first is the program's name and is all that it takes
-/// today. A workload is read from `source`, run, and the text of the run is printed to `out`. Where it doesn't
-/// come to that, a line on `err` says why.
+/// today. A workload is read from `source`, run, and the text of the run is printed to `out`. Where one of
+/// these fails, a line on `err` says why.
 pub fn riptide<R: Threads + Sync, S: Source, K: Sink, E: Sink, T: Turnstile>(
     rt: &R,
     alloc: Global,

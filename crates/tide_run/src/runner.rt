@@ -220,7 +220,7 @@ impl Runner {
         Ok(())
     }
 
-    /// What the run came to.
+    /// The outcome of the run.
     pub fn finish(self) -> Outcome
         requires { IsUnderway self }
         ensures layout { result.layout ≡ runner_layout self }

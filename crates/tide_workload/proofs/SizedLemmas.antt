@@ -1,5 +1,5 @@
 -- The scripts that reading makes are within a workload's limits.
-use Rattle.std.proofs.Common.{◌≡◌, ◌≤◌, List, length, map, Vec, Global, All, arith}
+use Rattle.std.proofs.Common.{◌≤◌, List, length, map, Vec, Global, All, arith}
 use Rattle.std.proofs.lemmas.List.{length-map}
 use Rattle.std.proofs.lemmas.List.Elements.{All-map}
 use Rattle.tide_model.specs.declared.op.Op.{Op}

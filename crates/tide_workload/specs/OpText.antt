@@ -6,6 +6,7 @@ use Rattle.tide_model.specs.declared.op.Op.TheVariants.{Alloc, Get, Put, Move, S
 use Rattle.tide_workload.specs.Words.{is_trimmed, words_of, one_word, two_words, three_words, number_of, number_below}
 
 infixl 10 ◌>>=◌
+-- a step that may give nothing, and then another on what it gave
 abbrev pub ◌>>=◌ : {A B : Type 0} → Option A → (A → Option B) → Option B
 o >>= f = option_and_then f o
 

@@ -1,4 +1,8 @@
 //! Workloads: reading one from the bytes of a TOML document, and writing the text of its run.
+//!
+//! `read` takes bytes to a `Workload` or to the first fault in them, as `reads_workload` of `specs/` defines it
+//! over the crate `toml`. The `write_` functions print a run line by line, and what they print is `text_of` of its
+//! history.
 #![tactic(auto)]
 
 mod examples;

@@ -31,7 +31,7 @@ const DOCUMENT_FIELDS: [Field; 10] = [
     Field::Mutator,
 ];
 
-/// Reads the workload that bytes are. Where they are none, the one refusal is that of another name.
+/// Reads the workload that bytes are. Every refusal is `Bad` of `Other` today.
 pub fn read(alloc: Global, bytes: &[u8]) -> Result<Workload, Fault>
     ensures ok { IfOk result (λ load. reads_workload bytes.now ≡ Ok load) }
     ensures refused { IfErr result (λ fault. fault ≢ Fault.Memory → reads_workload bytes.now ≡ Err fault) }

@@ -11,7 +11,7 @@ pub struct Settings {
     pub blocks: [u8; 5],
     /// Blocks of 64 arrays of the classes 5 to 9, each 0 to 64.
     pub arrays: [u8; 5],
-    /// Calls of a mutator in an idle part, 4 to 65,536.
+    /// How many calls of a mutator a period has at most, 4 to 65,536.
     pub period: u32,
     /// How many cells may be born in a cycle before the mutators are stopped, 1 to 1,000,000.
     pub headroom: u32,

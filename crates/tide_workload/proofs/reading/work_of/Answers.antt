@@ -1,4 +1,4 @@
-use Rattle.std.proofs.Common.{map, arith, length, ◌≤◌}
+use Rattle.std.proofs.Common.{map, arith}
 use Rattle.toml.specs.View.{table_view}
 use Rattle.tide_workload.proofs.OperationLemmas.{scripts_within}
 use Rattle.tide_workload.proofs.SizedLemmas.{scripts_sized}

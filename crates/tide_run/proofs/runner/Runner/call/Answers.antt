@@ -19,7 +19,7 @@ returns-clause-underway c =
           (sym c.call-reply.ensures.settings)
           (Tells-call old.store.settings old.store.registers.items new.registers.items old.store.cells.items new.cells.items old.store.is_active new.is_active
           old.records.items c.append.new.list.items old.answered.items c.append-2.new.list.items old.cycles c.args.op c.call-reply.result
-          c.requires.ready.active c.in_ok-append.ensures c.in_ok-append-2.ensures c.requires.ready.underway.tells c.call-reply.ensures.call);
+          c.requires.ready.active c.in_ok-append.ensures c.in_ok-append-2.ensures c.requires.ready.underway.tells c.requires.served c.call-reply.ensures.call);
       all_cells = sound.all_cells;
       few_cells = sound.few_cells;
       texts = subst (λ (calls : List Answered). All (λ call. HasText call.op) calls) (sym c.in_ok-append-2.ensures)
