@@ -146,64 +146,68 @@ fn runs_print_their_whole_text(rt: HostRuntime) -> Result<(), Fail> {
     Ok(())
 }
 
-/// The text of a run that fills a block from one register, and then allocates once more.
-fn full_block_text(alloc: Global) -> Result<String, AllocError> {
-    let mut text = String::from_str(alloc, "mutator 0\n")?;
+/// All cells of a block, as a cycle's line has them.
+fn cells_of_block(alloc: Global) -> Result<String, AllocError> {
+    let mut text = String::new(alloc);
     for id in 0..64 {
-        text.push_str(format!(in alloc; "alloc r0 0 = #{id}\n")?.as_str())?;
-    }
-    text.push_str("alloc r0 0 = full 0\nalloc r0 0 = #0\nretire = ok\ncycle 1 kept 1 freed 63:")?;
-    for id in 0..63 {
         text.push_str(format!(in alloc; " #{id}")?.as_str())?;
     }
-    text.push_str("\ncycle 2 kept 0 freed 2: #0 #63\nlive 0\n")?;
     Ok(text)
 }
 
-#[test]
-fn full_block_is_collected_before_the_second_try(rt: HostRuntime) -> Result<(), Fail> {
-    let alloc = rt.alloc();
-    let ops = "'alloc r0 0', ".repeat(alloc, 65)?;
-    let list = format!(in alloc; "[{ops}]")?;
-    let document = NO_OPS.replace(alloc, "[]", list.as_str())?;
-    let text = full_block_text(alloc)?;
-    let end = End {
-        status: 0,
-        out: text.as_str(),
-        err: "",
-    };
-    Ends::new(alloc, document.as_str(), NO_FAULTS)?.end_so(&rt, alloc, "65 allocations", end)
-}
-
-/// The text of a run that fills a block with a chain that a register holds, and then allocates once more.
-fn full_chain_text(alloc: Global) -> Result<String, AllocError> {
-    let mut text = String::from_str(alloc, "mutator 0\n")?;
-    for id in 0..64 {
+/// What making a chain prints that fills a block and that r0 and r1 keep.
+fn chain_text(alloc: Global) -> Result<String, AllocError> {
+    let mut text = String::from_str(alloc, "mutator 0\nalloc r0 0 = #0\n")?;
+    for id in 1..64 {
         text.push_str(format!(in alloc; "alloc r1 0 = #{id}\n")?.as_str())?;
         text.push_str("put r1 0 r0 = ok\nmove r0 r1 = ok\n")?;
     }
-    text.push_str("alloc r1 0 = full 0\nalloc r1 0 = full 0\nretire = ok\n")?;
-    text.push_str("cycle 1 kept 64 freed 0\ncycle 2 kept 0 freed 64:")?;
-    for id in 0..64 {
-        text.push_str(format!(in alloc; " #{id}")?.as_str())?;
-    }
-    text.push_str("\nlive 0\n")?;
     Ok(text)
 }
 
-#[test]
-fn full_block_without_garbage_is_reported_twice(rt: HostRuntime) -> Result<(), Fail> {
-    let alloc = rt.alloc();
-    let ops = "'alloc r1 0', 'put r1 0 r0', 'move r0 r1', ".repeat(alloc, 64)?;
-    let list = format!(in alloc; "[{ops}'alloc r1 0']")?;
+/// Makes the chain and goes on with these operations, which print this.
+fn run_after_chain<R: Threads + Sync + Abort>(
+    rt: &R,
+    alloc: Global,
+    ops: &str,
+    printed: &str,
+) -> Result<(), Fail> {
+    let links = "'alloc r1 0', 'put r1 0 r0', 'move r0 r1', ".repeat(alloc, 63)?;
+    let list = format!(in alloc; "['alloc r0 0', {links}{ops}]")?;
     let document = NO_OPS.replace(alloc, "[]", list.as_str())?;
-    let text = full_chain_text(alloc)?;
+    let mut text = chain_text(alloc)?;
+    text.push_str(printed)?;
     let end = End {
         status: 0,
         out: text.as_str(),
         err: "",
     };
-    Ends::new(alloc, document.as_str(), NO_FAULTS)?.end_so(&rt, alloc, "a chain of 64", end)
+    Ends::new(alloc, document.as_str(), NO_FAULTS)?.end_so(rt, alloc, ops, end)
+}
+
+#[test]
+fn full_block_is_reported_twice(rt: HostRuntime) -> Result<(), Fail> {
+    let alloc = rt.alloc();
+    let cells = cells_of_block(alloc)?;
+    let text = format!(in alloc;
+        "alloc r1 0 = full 0\nalloc r1 0 = full 0\nretire = ok\ncycle 1 kept 64 freed 0\ncycle 2 kept 0 freed 64:{cells}\nlive 0\n"
+    )?;
+    run_after_chain(&rt, alloc, "'alloc r1 0'", text.as_str())
+}
+
+#[test]
+fn full_block_is_collected(rt: HostRuntime) -> Result<(), Fail> {
+    let alloc = rt.alloc();
+    let cells = cells_of_block(alloc)?;
+    let text = format!(in alloc;
+        "drop r0 = ok\ndrop r1 = ok\nalloc r1 0 = full 0\nalloc r1 0 = #0\nretire = ok\ncycle 1 kept 0 freed 64:{cells}\ncycle 2 kept 0 freed 1: #0\nlive 0\n"
+    )?;
+    run_after_chain(
+        &rt,
+        alloc,
+        "'drop r0', 'drop r1', 'alloc r1 0'",
+        text.as_str(),
+    )
 }
 
 /// What fails: what a row shows, the text to read, the calls that fail, and how the program ends.

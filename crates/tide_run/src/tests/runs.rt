@@ -2,7 +2,7 @@
 
 /// Workloads of four registers: what a row shows, the blocks, the operations, and the text of the run after its
 /// first line.
-pub const RUNS: [(&str, &str, &str, &str); 11] = [
+pub const RUNS: [(&str, &str, &str, &str); 12] = [
     (
         "ample memory is not refused",
         "[1, 0, 0, 0, 1]",
@@ -88,12 +88,23 @@ pub const RUNS: [(&str, &str, &str, &str); 11] = [
         "a refused operation changes nothing",
         "[1, 0, 0, 0, 1]",
         "['get r1 r0 0', 'put r0 0 r1', 'set r1 7', 'get r1 r0 0', 'set r0 3', 'get r1 r0 2', \
-          'alloc r0 0', 'put r0 1 r1', 'get r1 r0 2', 'put r0 2 r0', 'get r1 r0 15', 'move r3 r1', \
-          'put r0 0 r3', 'get r2 r0 0', 'get r2 r0 1']",
+          'put r0 2 r1', 'alloc r0 0', 'put r0 1 r1', 'get r1 r0 2', 'put r0 2 r0', \
+          'get r1 r0 15', 'get r2 r0 0', 'get r2 r0 1', 'put r0 0 r1', 'get r2 r0 0', 'collect']",
         "get r1 r0 0 = r0 is no cell\nput r0 0 r1 = r0 is no cell\nset r1 7 = ok\n\
-         get r1 r0 0 = r0 is no cell\nset r0 3 = ok\nget r1 r0 2 = r0 is no cell\nalloc r0 0 = #0\n\
-         put r0 1 r1 = ok\nget r1 r0 2 = no slot 2\nput r0 2 r0 = no slot 2\nget r1 r0 15 = no slot 15\n\
-         move r3 r1 = ok\nput r0 0 r3 = ok\nget r2 r0 0 = 7\nget r2 r0 1 = 7\nretire = ok\n\
-         cycle 1 kept 0 freed 1: #0\nlive 0\n",
+         get r1 r0 0 = r0 is no cell\nset r0 3 = ok\nget r1 r0 2 = r0 is no cell\n\
+         put r0 2 r1 = r0 is no cell\nalloc r0 0 = #0\nput r0 1 r1 = ok\n\
+         get r1 r0 2 = no slot 2\nput r0 2 r0 = no slot 2\nget r1 r0 15 = no slot 15\n\
+         get r2 r0 0 = -\nget r2 r0 1 = 7\nput r0 0 r1 = ok\nget r2 r0 0 = 7\ncollect = asked\n\
+         retire = ok\ncycle 1 kept 1 freed 0\ncycle 2 kept 0 freed 1: #0\nlive 0\n",
+    ),
+    (
+        "each operation",
+        "[1, 1, 0, 0, 0]",
+        "['alloc r0 1', 'alloc r1 0', 'put r0 3 r1', 'set r2 41', 'put r1 0 r2', 'move r3 r1', \
+          'drop r1', 'get r1 r0 3', 'get r2 r1 1', 'get r2 r3 0', 'drop r0', 'collect']",
+        "alloc r0 1 = #64\nalloc r1 0 = #0\nput r0 3 r1 = ok\nset r2 41 = ok\nput r1 0 r2 = ok\n\
+         move r3 r1 = ok\ndrop r1 = ok\nget r1 r0 3 = #0\nget r2 r1 1 = -\nget r2 r3 0 = 41\n\
+         drop r0 = ok\ncollect = asked\nretire = ok\ncycle 1 kept 1 freed 1: #64\n\
+         cycle 2 kept 0 freed 1: #0\nlive 0\n",
     ),
 ];
