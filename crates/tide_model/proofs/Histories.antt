@@ -7,7 +7,7 @@ use Rattle.tide_model.specs.declared.entry.Event.{Event}
 use Rattle.tide_model.specs.Layout.{Layout}
 use Rattle.tide_model.specs.State.{State, empty_state}
 use Rattle.tide_model.specs.History.{after_event, state_from, state_after, one_later, moment_after_last}
-use Rattle.tide_model.specs.Answer.{ShapeLists}
+use Rattle.tide_model.specs.Refused.{ShapeLists}
 use Rattle.tide_model.specs.Lawful.{Stands, IsLawful}
 use Rattle.tide_model.specs.Script.{calls_of, own_calls, retry_after, retry_after_all, script_from}
 

@@ -2,50 +2,17 @@
 use Rattle.std.specs.Prelude.{ℕ, zero, suc, ◌==◌, Bool, true, false, ◌&&◌, ◌||◌, if◌then◌else◌, List, [], ◌∷◌, take, Option, None, Some}
 use Rattle.tide_model.specs.declared.val.Val.{Val}
 use Rattle.tide_model.specs.declared.val.Val.TheVariants.{Empty, Int, Cell}
-use Rattle.tide_model.specs.declared.op.Op.{Op}
-use Rattle.tide_model.specs.declared.op.Op.TheVariants.{Alloc, Get, Put, Move, Set, Drop, Retire}
-use Rattle.tide_model.specs.declared.op.Reply.{Reply}
-use Rattle.tide_model.specs.declared.op.Reply.TheVariants.{Done, Born, Seen}
 use Rattle.tide_model.specs.declared.entry.Entry.{Entry}
 use Rattle.tide_model.specs.declared.entry.Entry.TheVariants.{Call, Begin, Pause, Visits, End, Sweep, Open}
 use Rattle.tide_model.specs.declared.entry.Event.{Event}
 use Rattle.tide_model.specs.Layout.{Layout, block_of_cell, block_of_array}
-use Rattle.tide_model.specs.Numbers.{put_at, is_among}
+use Rattle.tide_model.specs.Numbers.{is_among}
+use Rattle.tide_model.specs.Applied.{after_call}
 use Rattle.tide_model.specs.State.{State, CellState, Status, free, live, spent, dead, is_dead, blank_cell, idle, marking, empty_state}
 
 -- an entry that takes no array
 abbrev pub plain : Entry → Event
 plain entry = record { entry = entry; took = None }
-
--- a mutator's register has another value
-abbrev pub put_register : State → ℕ → ℕ → Val → State
-put_register state who register value =
-    record state { registers = put_at state.registers who (put_at (state.registers who) register value) }
-
--- what a cell that a value names holds in a slot
-abbrev pub slot_of : State → Val → ℕ → Val
-slot_of state (Cell cell) slot = (state.cells cell).slots slot
-slot_of state Empty slot = Empty
-slot_of state (Int n) slot = Empty
-
--- a cell that a value names has another value in a slot
-abbrev pub put_slot : State → Val → ℕ → Val → State
-put_slot state (Cell cell) slot value =
-    record state { cells = put_at state.cells cell (record (state.cells cell) { slots = put_at (state.cells cell).slots slot value }) }
-put_slot state Empty slot value = state
-put_slot state (Int n) slot value = state
-
--- what a call leaves, by its operation and reply and the array that it took
-abbrev pub after_call : State → ℕ → Op → Reply → Option ℕ → State
-after_call state who (Alloc dst class) (Born cell) took =
-    put_register (record state { cells = put_at state.cells cell (blank_cell live) }) who dst (Cell cell)
-after_call state who (Get dst src slot) (Seen value) took = put_register state who dst value
-after_call state who (Put src slot val) Done took = put_slot state (state.registers who src) slot (state.registers who val)
-after_call state who (Move dst src) Done took = put_register state who dst (state.registers who src)
-after_call state who (Set dst n) Done took = put_register state who dst (Int n)
-after_call state who (Drop dst) Done took = put_register state who dst Empty
-after_call state who Retire Done took = record state { active = put_at state.active who false }
-after_call state who op reply took = state
 
 -- a value that names none of these cells
 abbrev pub without : List ℕ → Val → Val

@@ -1,7 +1,7 @@
 -- Which histories are lawful.
 use Rattle.std.specs.Prelude.{ℕ, ◌≡◌, ◌<◌, true, List, take, slice_get, Option, None, Some}
 use Rattle.tide_model.specs.declared.op.Op.{Op}
-use Rattle.tide_model.specs.declared.op.Op.TheVariants.{Alloc, Get, Put, Move, Set, Drop, Collect, Retire}
+use Rattle.tide_model.specs.declared.op.Op.TheVariants.{Alloc, Table, Get, Put, Move, Set, Drop, Claim, Release, Unclaim, Add, GetProp, SetProp, StrongSet, StrongGet, WeakSet, WeakGet, PairSet, PairGet, PairDel, Group, Collect, Retire}
 use Rattle.tide_model.specs.declared.op.Reply.{Reply}
 use Rattle.tide_model.specs.declared.op.Reply.TheVariants.{Refused}
 use Rattle.tide_model.specs.declared.op.Refusal.TheVariants.{Full}
@@ -10,21 +10,37 @@ use Rattle.tide_model.specs.declared.entry.Entry.TheVariants.{Call, Begin, Pause
 use Rattle.tide_model.specs.declared.entry.Event.{Event}
 use Rattle.tide_model.specs.Layout.{Layout}
 use Rattle.tide_model.specs.History.{state_after}
-use Rattle.tide_model.specs.Answer.{ShapeLists, IsAnswer}
+use Rattle.tide_model.specs.Refused.{ShapeLists}
+use Rattle.tide_model.specs.Answer.{IsAnswer}
 use Rattle.tide_model.specs.Cycle.{StandsBegin, StandsEnd, HasDead}
 use Rattle.tide_model.specs.Room.{StandsFull}
 
--- the operands of an operation are those of the layout: registers of its mutator, and a class of cells with slots
+-- the operands of an operation are those of the layout: registers of its mutator, handles, and a class of cells with
+-- slots
 abbrev pub FitsLayout : Layout → Op → Type 0
 FitsLayout layout (Alloc dst class) = (dst < layout.registers) × (class < 4)
+FitsLayout layout (Table dst) = dst < layout.registers
 FitsLayout layout (Get dst src slot) = (dst < layout.registers) × (src < layout.registers)
 FitsLayout layout (Put src slot val) = (src < layout.registers) × (val < layout.registers)
 FitsLayout layout (Move dst src) = (dst < layout.registers) × (src < layout.registers)
 FitsLayout layout (Set dst n) = dst < layout.registers
 FitsLayout layout (Drop dst) = dst < layout.registers
+FitsLayout layout (Claim src) = src < layout.registers
+FitsLayout layout (Release src) = src < layout.registers
+FitsLayout layout Unclaim = Unit {0}
+FitsLayout layout (Add src key val) = (src < layout.registers) × (val < layout.registers)
+FitsLayout layout (GetProp dst src key) = (dst < layout.registers) × (src < layout.registers)
+FitsLayout layout (SetProp src key val) = (src < layout.registers) × (val < layout.registers)
+FitsLayout layout (StrongSet at val) = (at < layout.strong) × (val < layout.registers)
+FitsLayout layout (StrongGet dst at) = (dst < layout.registers) × (at < layout.strong)
+FitsLayout layout (WeakSet at val) = (at < layout.weak) × (val < layout.registers)
+FitsLayout layout (WeakGet dst at) = (dst < layout.registers) × (at < layout.weak)
+FitsLayout layout (PairSet src key val) = (src < layout.registers) × (key < layout.registers) × (val < layout.registers)
+FitsLayout layout (PairGet dst src key) = (dst < layout.registers) × (src < layout.registers) × (key < layout.registers)
+FitsLayout layout (PairDel src key) = (src < layout.registers) × (key < layout.registers)
+FitsLayout layout (Group src n) = src < layout.registers
 FitsLayout layout Collect = Unit {0}
 FitsLayout layout Retire = Unit {0}
-FitsLayout layout op = ⊥
 
 -- a call stands where its mutator is active, its operands are there and the reply is an answer, and a refusal for
 -- room where it may come

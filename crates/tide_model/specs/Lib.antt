@@ -1,4 +1,5 @@
 pub mod Answer
+pub mod Applied
 pub mod BusyRows
 pub mod Caller
 pub mod Cycle
@@ -7,7 +8,9 @@ pub mod History
 pub mod Lawful
 pub mod Layout
 pub mod Numbers
+pub mod OperationRows
 pub mod Prefix
+pub mod Refused
 pub mod RefusedRows
 pub mod Room
 pub mod Rows

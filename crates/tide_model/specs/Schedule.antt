@@ -12,7 +12,7 @@ use Rattle.tide_model.specs.Numbers.{is_among}
 use Rattle.tide_model.specs.History.{plain, state_after}
 use Rattle.tide_model.specs.Cycle.{HasDead, live_count}
 use Rattle.tide_model.specs.Room.{IsFullBlock}
-use Rattle.tide_model.specs.Answer.{ShapeLists}
+use Rattle.tide_model.specs.Refused.{ShapeLists}
 use Rattle.tide_model.specs.Lawful.{IsLawful}
 use Rattle.tide_model.specs.Script.{calls_of, retry_after_all}
 

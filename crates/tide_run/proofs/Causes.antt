@@ -1,5 +1,5 @@
 -- What was read decides whether it is run or refused.
-use Rattle.std.proofs.Common.{ℕ, zero, suc, ◌≡◌, ◌+◌, ◌≤◌, ◌<◌, refl, sym, ◌∙◌, ap, subst, arith, true, false, List, [], ◌∷◌, ◌++◌, length, take, append-nil, inl, inr, Option, None, Some, Result, Ok, Err}
+use Rattle.std.proofs.Common.{ℕ, zero, suc, ◌≡◌, ◌+◌, ◌≤◌, ◌<◌, refl, sym, ◌∙◌, ap, subst, arith, List, [], ◌∷◌, ◌++◌, length, take, inr, Option, None, Some, Result, Ok, Err}
 use Rattle.std.specs.Prelude.{◌⊎◌, IfSome, IsOk, IsErr}
 use Rattle.tide_workload.specs.declared.fault.Fault.{Fault}
 use Rattle.tide_workload.specs.declared.reading.TheConstants.{MAX_BYTES}
@@ -8,7 +8,7 @@ use Rattle.tide_workload.specs.Work.{Work}
 use Rattle.tide_run.specs.declared.program.Stop.{Stop}
 use Rattle.tide_run.specs.declared.program.Stop.TheVariants.{Usage, ReadFault, BadInput, Memory}
 use Rattle.tide_run.specs.Ran.{Ran}
-use Rattle.tide_run.specs.Program.{input_of, Took, ReadWork, RefusedInput, RanInput, stop_status}
+use Rattle.tide_run.specs.Program.{input_of, Took, RefusedInput, RanInput, stop_status}
 
 -- the first bytes of two parts, where the first part is that long or all there is
 take_first : (count : ℕ) (xs ys : List ℕ) → length xs ≤ count → (length xs < count → ys ≡ []) → take count (xs ++ ys) ≡ xs

@@ -1,23 +1,22 @@
 -- A whole cycle stands after any call, and leaves what the collection left.
-use Rattle.std.proofs.Common.{ℕ, zero, suc, ◌≡◌, ◌+◌, ◌*◌, ◌/◌, ◌≤◌, ◌<◌, refl, sym, ◌∙◌, ap, subst, arith, Bool, true, false, List, [], ◌∷◌, ◌++◌, length, get_or, sum, append_assoc, append-nil, inl, inr, eq-eqb}
+use Rattle.std.proofs.Common.{ℕ, zero, suc, ◌≡◌, ◌+◌, ◌*◌, ◌<◌, refl, sym, ◌∙◌, ap, subst, arith, Bool, true, false, List, [], ◌∷◌, ◌++◌, length, get_or, sum, append_assoc, append-nil, eq-eqb}
 use Rattle.std.proofs.lemmas.List.{map-append}
 use Rattle.std.proofs.lemmas.Bool.{eqb-true}
-use Rattle.std.specs.Prelude.{map, ◌==◌, ◌||◌, ◌&&◌, ◌⊎◌, Option, None, Some, if◌then◌else◌}
+use Rattle.std.specs.Prelude.{map, ◌==◌, ◌||◌, Option, None, if◌then◌else◌}
 use Rattle.std.specs.List.{list_any}
 use Rattle.tide_model.specs.declared.val.Val.{Val}
-use Rattle.tide_model.specs.declared.val.Val.TheVariants.{Empty}
 use Rattle.tide_model.specs.declared.op.Op.{Op}
 use Rattle.tide_model.specs.declared.op.Reply.{Reply}
-use Rattle.tide_model.specs.declared.entry.Entry.TheVariants.{Begin, Pause, End, Sweep}
+use Rattle.tide_model.specs.declared.entry.Entry.TheVariants.{End, Sweep}
 use Rattle.tide_model.specs.declared.entry.Event.{Event}
 use Rattle.tide_model.specs.Layout.{Layout, block_of_cell, block_of_array, cell_count}
 use Rattle.tide_model.specs.Numbers.{is_among, numbers_where, count_where}
-use Rattle.tide_model.specs.State.{State, Status, free, live, spent, dead, is_live, is_dead, idle, marking, blank_cell}
+use Rattle.tide_model.specs.State.{State, free, live, dead, is_live, is_dead, idle, marking, blank_cell}
 use Rattle.tide_model.specs.Graph.{graph_of, IsRetained, no_cell}
 use Rattle.tide_model.specs.History.{plain, state_from, state_after, after_event, after_end, swept_cell, swept_status, is_array_of, unless_spent, moment_after_last, is_begin}
-use Rattle.tide_model.specs.Cycle.{HasDead, dead_cell, dead_array, StandsEnd, cycle_span, live_count}
+use Rattle.tide_model.specs.Cycle.{HasDead, dead_cell, StandsEnd, cycle_span, live_count}
 use Rattle.tide_model.proofs.NumberLaws.{below_and_passes, passing_is_among, count_where-same}
-use Rattle.tide_model.proofs.Histories.{state_from-append, state_after-push, state_after-append, moment_after_last-le}
+use Rattle.tide_model.proofs.Histories.{state_from-append, state_after-push, moment_after_last-le}
 use Rattle.tide_model.proofs.Cycles.{state_from-sweeps, phase_within, graph_in_span}
 use Rattle.tide_model.specs.Graph.{retained_more}
 use Rattle.tide_workload.specs.declared.settings.Settings.{Settings}
@@ -25,7 +24,7 @@ use Rattle.tide_run.specs.declared.store.stored_cell.StoredCell.{StoredCell}
 use Rattle.tide_run.specs.declared.told.Record.{Record}
 use Rattle.tide_run.specs.declared.told.Record.TheVariants.{Began, Paused, Ended, Swept}
 use Rattle.tide_run.specs.Store.{blank_stored, cell_of, state_of, layout_of, IsFreed, IsBlanked, live_cells}
-use Rattle.tide_run.specs.Told.{event_of, events_of, Tells, frees_in, sweeps_of, cycle_records}
+use Rattle.tide_run.specs.Told.{events_of, Tells, frees_in, sweeps_of, cycle_records}
 use Rattle.tide_run.proofs.StateLaws.{cell_of-blank}
 use Rattle.tide_run.proofs.Telling.{Tells-push}
 

@@ -1,5 +1,5 @@
 -- Lines that were written one after another, and that they are the text of the history.
-use Rattle.std.proofs.Common.{◌≡◌, ℕ, zero, suc, ◌+◌, ◌<◌, refl, subst, List, [], ◌∷◌, ◌++◌, length, take, drop, map, get_or, sym, ap, ◌∙◌, append-nil, append_assoc, take-append-drop}
+use Rattle.std.proofs.Common.{◌≡◌, ℕ, suc, ◌+◌, ◌<◌, refl, subst, List, [], ◌∷◌, ◌++◌, length, take, drop, map, get_or, sym, ap, ◌∙◌, append-nil, append_assoc, take-append-drop}
 use Rattle.std.specs.Prelude.{slice_get, Some}
 use Rattle.std.specs.List.{flat_map}
 use Rattle.std.proofs.lemmas.List.{take_more}
@@ -13,7 +13,7 @@ use Rattle.tide_model.specs.Cycle.{live_count}
 use Rattle.tide_model.specs.Script.{calls_of}
 use Rattle.tide_model.proofs.Histories.{state_after-push}
 use Rattle.tide_workload.specs.Line.{cycle_line, mutator_line, live_line}
-use Rattle.tide_workload.specs.Text.{end_line, cycles_from, call_lines, mutator_text, mutators_text, text_of}
+use Rattle.tide_workload.specs.Text.{end_line, cycles_from, call_lines, mutators_text, text_of}
 use Rattle.tide_run.specs.declared.answered.Answered.{Answered}
 use Rattle.tide_run.specs.declared.told.Record.{Record}
 use Rattle.tide_run.specs.declared.told.Record.TheVariants.{Called, Began, Paused, Ended, Swept}

@@ -1,17 +1,17 @@
 -- What a runner's steps keep.
-use Rattle.std.proofs.Common.{ℕ, zero, suc, ◌≡◌, ◌+◌, ◌≤◌, ◌<◌, refl, sym, ◌∙◌, ap, subst, arith, Bool, true, false, List, [], ◌∷◌, ◌++◌, length, append_assoc}
+use Rattle.std.proofs.Common.{ℕ, zero, suc, ◌≡◌, ◌+◌, ◌≤◌, refl, sym, ◌∙◌, ap, subst, arith, Bool, true, List, [], ◌∷◌, ◌++◌, length, append_assoc}
 use Rattle.std.proofs.lemmas.List.{map-append}
-use Rattle.std.specs.Prelude.{map, slice_get, All, Option, None, Some}
+use Rattle.std.specs.Prelude.{map, All, None}
 use Rattle.tide_model.specs.declared.val.Val.{Val}
 use Rattle.tide_model.specs.declared.op.Op.{Op}
 use Rattle.tide_model.specs.declared.op.Op.TheVariants.{Alloc, Get, Put, Move, Set, Drop, Collect, Retire}
 use Rattle.tide_model.specs.declared.op.Reply.{Reply}
-use Rattle.tide_model.specs.declared.op.Reply.TheVariants.{Refused}
-use Rattle.tide_model.specs.declared.op.Refusal.TheVariants.{Full}
-use Rattle.tide_model.specs.Layout.{Layout, IsBlockOf, cell_count}
+use Rattle.tide_model.specs.Layout.{Layout, cell_count}
 use Rattle.tide_model.specs.State.{State, empty_state}
-use Rattle.tide_model.specs.History.{state_after, after_call}
-use Rattle.tide_model.specs.Answer.{IsAnswer, no_shapes}
+use Rattle.tide_model.specs.Applied.{after_call}
+use Rattle.tide_model.specs.Lawful.{FitsLayout}
+use Rattle.tide_model.specs.Answer.{IsAnswer}
+use Rattle.tide_model.specs.Refused.{no_shapes}
 use Rattle.tide_model.specs.Room.{IsFullBlock}
 use Rattle.tide_model.proofs.Histories.{IsLawful-nil}
 use Rattle.tide_workload.specs.declared.settings.Settings.{Settings}
@@ -21,7 +21,7 @@ use Rattle.tide_run.specs.declared.told.Record.TheVariants.{Called, Began, Pause
 use Rattle.tide_run.specs.declared.answered.Answered.{Answered}
 use Rattle.tide_workload.specs.Line.{HasText}
 use Rattle.tide_run.specs.declared.runner.Runner.{Runner}
-use Rattle.tide_run.specs.Runner.{IsUnderway, IsReady, RanCycle}
+use Rattle.tide_run.specs.Runner.{IsUnderway, RanCycle}
 use Rattle.tide_run.specs.Store.{state_of, layout_of, IsCall, IsSound, IsServed, IsFreed, IsBlanked, RefsAreLive, live_cells}
 use Rattle.tide_run.specs.Told.{event_of, events_of, Tells, AreCounted, pair_of, sweeps_of, cycle_records}
 use Rattle.tide_run.proofs.Telling.{Tells-push, StandsFull-now}
@@ -45,6 +45,18 @@ Tells-nothing layout records state answered no_records is_empty no_calls =
     nothing_counted l zero r is = absurd (cc)
     nothing_counted l (suc place) r is = absurd (cc)
 
+-- the operands of an operation that is served are those of the layout
+FitsLayout-served : (settings : Settings) (op : Op) → IsServed settings op → FitsLayout (layout_of settings 1) op
+FitsLayout-served settings (Alloc dst class) served = served
+FitsLayout-served settings (Get dst src slot) served = served
+FitsLayout-served settings (Put src slot val) served = served
+FitsLayout-served settings (Move dst src) served = served
+FitsLayout-served settings (Set dst n) served = served
+FitsLayout-served settings (Drop dst) served = served
+FitsLayout-served settings Collect served = tt
+FitsLayout-served settings Retire served = tt
+FitsLayout-served settings op served = absurd served
+
 -- a call is told
 pub Tells-call : (settings : Settings) (registers others : List Val) (cells others_cells : List StoredCell) (was_active is_active : Bool) (records new_records : List Record)
     (answered new_answered : List Answered) (cycles : ℕ) (op : Op) (reply : Reply) →
@@ -61,7 +73,7 @@ Tells-call settings registers others cells others_cells was_active is_active rec
     (Tells-push layout records old cycles (map pair_of answered) (Called op reply) told (record {
       is_mutator = omega arith;
       is_active = ap (λ (s : State). s.active 0) told.leaves ∙ was;
-      fits = served;
+      fits = FitsLayout-served settings op served;
       answers = subst (λ (s : State). IsAnswer layout no_shapes s 0 op reply None) (sym told.leaves) is_call.answers;
       room = λ class is. StandsFull-now layout (events_of records) 0 class
           (λ block of_class. subst (λ (s : State). IsFullBlock layout s block) (sym told.leaves) (is_call.room class is block of_class));

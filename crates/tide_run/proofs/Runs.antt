@@ -1,11 +1,11 @@
 -- A run of one mutator is a run of its workload.
-use Rattle.std.proofs.Common.{ℕ, zero, suc, ◌≡◌, ◌+◌, ◌≤◌, ◌<◌, refl, sym, ◌∙◌, ap, subst, arith, List, [], ◌∷◌, ◌++◌, length}
-use Rattle.std.specs.Prelude.{slice_get, Some, None}
+use Rattle.std.proofs.Common.{ℕ, zero, suc, ◌≡◌, refl, sym, ◌∙◌, ap, subst, arith, List, [], ◌∷◌, ◌++◌, length}
+use Rattle.std.specs.Prelude.{slice_get, Some}
 use Rattle.tide_model.specs.declared.op.Op.{Op}
 use Rattle.tide_model.specs.declared.op.Op.TheVariants.{Retire}
 use Rattle.tide_model.specs.declared.entry.Event.{Event}
 use Rattle.tide_model.specs.Layout.{Layout}
-use Rattle.tide_model.specs.Answer.{no_shapes}
+use Rattle.tide_model.specs.Refused.{no_shapes}
 use Rattle.tide_model.specs.Lawful.{IsLawful}
 use Rattle.tide_model.specs.Schedule.{IsScheduled, no_turn}
 use Rattle.tide_model.specs.Script.{script_of}

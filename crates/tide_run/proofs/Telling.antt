@@ -1,17 +1,15 @@
 -- How what records tell grows by one record.
-use Rattle.std.proofs.Common.{ℕ, zero, suc, ◌≡◌, ◌+◌, ◌≤◌, ◌<◌, refl, sym, ◌∙◌, ap, subst, arith, Bool, true, false, List, [], ◌∷◌, ◌++◌, length, take, zero-add, append-nil}
+use Rattle.std.proofs.Common.{ℕ, ◌≡◌, ◌+◌, sym, ◌∙◌, ap, subst, arith, List, [], ◌∷◌, ◌++◌, length, zero-add, append-nil}
 use Rattle.std.proofs.lemmas.List.{map-append}
 use Rattle.std.proofs.lemmas.List.Sums.{sum_by-append}
-use Rattle.std.specs.Prelude.{map, max, Option, None, Some, slice_get, if◌then◌else◌}
+use Rattle.std.specs.Prelude.{if◌then◌else◌}
 use Rattle.tide_model.specs.declared.op.Op.{Op}
 use Rattle.tide_model.specs.declared.op.Reply.{Reply}
-use Rattle.tide_model.specs.declared.op.Reply.TheVariants.{Refused}
-use Rattle.tide_model.specs.declared.op.Refusal.TheVariants.{Full}
 use Rattle.tide_model.specs.declared.entry.Event.{Event}
 use Rattle.tide_model.specs.Layout.{Layout, IsBlockOf}
 use Rattle.tide_model.specs.State.{State}
-use Rattle.tide_model.specs.History.{after_event, state_after, state_at, is_begin, is_open, is_call_of, moment_after_last}
-use Rattle.tide_model.specs.Answer.{no_shapes}
+use Rattle.tide_model.specs.History.{after_event, state_after, is_begin, is_open, is_call_of}
+use Rattle.tide_model.specs.Refused.{no_shapes}
 use Rattle.tide_model.specs.Lawful.{IsLawful, Stands}
 use Rattle.tide_model.specs.Room.{IsFullBlock, StandsFull}
 use Rattle.tide_model.specs.Script.{calls_of, own_calls}
@@ -19,7 +17,7 @@ use Rattle.tide_model.specs.Cycle.{begin_count}
 use Rattle.tide_model.proofs.Histories.{state_after-push, IsLawful-push, calls_of-append, push_cases, moment_after_last-le}
 use Rattle.tide_model.proofs.Cycles.{take-all}
 use Rattle.tide_run.specs.declared.told.Record.{Record}
-use Rattle.tide_run.specs.Told.{event_of, events_of, IsCounted, AreCounted, Tells}
+use Rattle.tide_run.specs.Told.{event_of, events_of, IsCounted, Tells}
 
 -- one record more
 pub Tells-push : (layout : Layout) (records : List Record) (state : State) (begins : ℕ) (calls : List (Op × Reply)) (record' : Record) →

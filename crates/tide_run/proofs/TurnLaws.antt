@@ -1,26 +1,22 @@
 -- A call, and the whole cycle after it where it asks for one, make a turn of the schedule.
-use Rattle.std.proofs.Common.{ℕ, zero, suc, ◌≡◌, ◌+◌, ◌*◌, ◌/◌, ◌≤◌, ◌<◌, refl, sym, ◌∙◌, ap, subst, arith, Bool, true, false, List, [], ◌∷◌, ◌++◌, length, get_or, sum, append_assoc, append-nil, inl, inr}
-use Rattle.std.proofs.lemmas.List.{map-append}
-use Rattle.std.specs.Prelude.{map, ◌⊎◌, not, Option, None, Some, if◌then◌else◌}
+use Rattle.std.proofs.Common.{ℕ, ◌≡◌, refl, sym, ◌∙◌, ap, subst, arith, Bool, true, false, List, [], ◌∷◌, ◌++◌, get_or, sum}
+use Rattle.std.specs.Prelude.{map, if◌then◌else◌}
 use Rattle.tide_model.specs.declared.val.Val.{Val}
-use Rattle.tide_model.specs.declared.op.Op.{Op}
-use Rattle.tide_model.specs.declared.op.Reply.{Reply}
-use Rattle.tide_model.specs.declared.entry.Entry.TheVariants.{Call, Begin, Pause, End, Sweep}
+use Rattle.tide_model.specs.declared.entry.Entry.TheVariants.{Begin, Pause, End, Sweep}
 use Rattle.tide_model.specs.declared.entry.Event.{Event}
-use Rattle.tide_model.specs.Layout.{Layout, block_of_cell, cell_count}
+use Rattle.tide_model.specs.Layout.{block_of_cell}
 use Rattle.tide_model.specs.Numbers.{is_among}
 use Rattle.tide_model.specs.State.{State, free, live, dead, marking}
-use Rattle.tide_model.specs.History.{plain, state_from, state_after, after_end}
+use Rattle.tide_model.specs.History.{plain, state_after, after_end}
 use Rattle.tide_model.specs.Cycle.{HasDead, dead_cell, dead_array, live_count}
 use Rattle.tide_model.specs.Schedule.{IsWholeCycle}
 use Rattle.tide_model.proofs.NumberLaws.{passing_is_among}
 use Rattle.tide_model.proofs.Histories.{state_after-append}
 use Rattle.tide_workload.specs.declared.settings.Settings.{Settings}
 use Rattle.tide_run.specs.declared.store.stored_cell.StoredCell.{StoredCell}
-use Rattle.tide_run.specs.declared.told.Record.TheVariants.{Swept}
-use Rattle.tide_run.specs.Store.{blank_stored, cell_of, state_of, layout_of}
-use Rattle.tide_run.specs.Told.{event_of, events_of, frees_in, sweeps_of, cycle_records}
-use Rattle.tide_run.proofs.CycleLaws.{IsCollected, freed_blocks, ended_state, marking_state, block_of_freed, kept_after_end, after_end-state_of}
+use Rattle.tide_run.specs.Store.{blank_stored, state_of, layout_of}
+use Rattle.tide_run.specs.Told.{events_of, frees_in, sweeps_of, cycle_records}
+use Rattle.tide_run.proofs.CycleLaws.{IsCollected, freed_blocks, ended_state, block_of_freed, kept_after_end, after_end-state_of}
 
 events_of-sweeps : (blocks : List ℕ) → events_of (sweeps_of blocks) ≡ map (λ block. plain (Sweep block)) blocks
 events_of-sweeps [] = refl

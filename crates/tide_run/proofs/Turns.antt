@@ -1,6 +1,6 @@
 -- How a turn keeps the schedule.
-use Rattle.std.proofs.Common.{ℕ, zero, suc, ◌≡◌, ◌+◌, ◌≤◌, refl, sym, ◌∙◌, ap, subst, arith, Bool, true, false, List, [], ◌∷◌, ◌++◌, append_assoc, append-nil, inl, inr}
-use Rattle.std.specs.Prelude.{map, ◌⊎◌, ◌||◌, ◌&&◌, not, Option, None, Some, if◌then◌else◌}
+use Rattle.std.proofs.Common.{ℕ, ◌≡◌, refl, sym, ◌∙◌, ap, subst, arith, Bool, true, false, List, [], ◌∷◌, ◌++◌, append_assoc, append-nil, inl, inr}
+use Rattle.std.specs.Prelude.{map, ◌⊎◌, ◌||◌, ◌&&◌, not, None, Some, if◌then◌else◌}
 use Rattle.tide_model.specs.declared.op.Op.{Op}
 use Rattle.tide_model.specs.declared.op.Op.TheVariants.{Retire}
 use Rattle.tide_model.specs.declared.op.Reply.{Reply}
@@ -12,8 +12,8 @@ use Rattle.tide_model.specs.declared.entry.Event.{Event}
 use Rattle.tide_model.specs.Layout.{Layout, IsBlockOf}
 use Rattle.tide_model.specs.History.{plain, state_after}
 use Rattle.tide_model.specs.Room.{IsFullBlock}
-use Rattle.tide_model.specs.Script.{calls_of, retry_after, retry_after_all, script_from, is_full_reply, is_full_refusal}
-use Rattle.tide_model.specs.Schedule.{Turn, call_event, is_asked, is_retire, retry_of, AsksForCycle, asked, refused, retired, IsWholeCycle, StandsTurn, IsScheduled, one_more}
+use Rattle.tide_model.specs.Script.{calls_of, is_full_reply, is_full_refusal}
+use Rattle.tide_model.specs.Schedule.{Turn, is_asked, is_retire, retry_of, AsksForCycle, asked, refused, retired, IsWholeCycle, IsScheduled, one_more}
 use Rattle.tide_model.proofs.Histories.{calls_of-append}
 use Rattle.tide_workload.specs.declared.settings.Settings.{Settings}
 use Rattle.tide_run.specs.declared.runner.Runner.{Runner}

@@ -1,8 +1,7 @@
 -- What the program reads, answers and writes.
-use Rattle.std.specs.Prelude.{ℕ, ◌≡◌, ◌≢◌, ◌+◌, ◌<◌, ◌≤◌, ◌⊎◌, true, List, [], ◌∷◌, length, take, Option, None, Some, Ok, Err, codes, ◌==◌, if◌then◌else◌}
+use Rattle.std.specs.Prelude.{ℕ, ◌≡◌, ◌+◌, ◌≤◌, ◌⊎◌, true, List, [], ◌∷◌, length, take, Option, Ok, Err, codes, ◌==◌, if◌then◌else◌}
 use Rattle.std.specs.Io.KnownBytes.{Consumes, Appends, IsAtEnd}
 use Rattle.tide_io.specs.Faults.{Rose, AppendsPart}
-use Rattle.tide_model.specs.declared.entry.Event.{Event}
 use Rattle.tide_workload.specs.declared.fault.Fault.{Fault}
 use Rattle.tide_workload.specs.declared.reading.TheConstants.{MAX_BYTES}
 use Rattle.tide_workload.specs.Reading.{reads_workload}

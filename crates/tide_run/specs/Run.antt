@@ -3,7 +3,7 @@ use Rattle.std.specs.Prelude.{ℕ, ◌≡◌, List, [], ◌∷◌, ◌++◌, len
 use Rattle.tide_model.specs.declared.op.Op.{Op}
 use Rattle.tide_model.specs.declared.op.Op.TheVariants.{Retire}
 use Rattle.tide_model.specs.Layout.{Layout}
-use Rattle.tide_model.specs.Answer.{no_shapes}
+use Rattle.tide_model.specs.Refused.{no_shapes}
 use Rattle.tide_model.specs.Schedule.{IsLegal}
 use Rattle.tide_model.specs.Script.{script_of}
 use Rattle.tide_workload.specs.Work.{Work}

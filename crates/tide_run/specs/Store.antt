@@ -5,7 +5,7 @@ use Rattle.std.specs.List.Sorted.{IsStrictlyIncreasing}
 use Rattle.tide_model.specs.declared.val.Val.{Val}
 use Rattle.tide_model.specs.declared.val.Val.TheVariants.{Empty, Cell}
 use Rattle.tide_model.specs.declared.op.Op.{Op}
-use Rattle.tide_model.specs.declared.op.Op.TheVariants.{Retire}
+use Rattle.tide_model.specs.declared.op.Op.TheVariants.{Alloc, Get, Put, Move, Set, Drop, Collect, Retire}
 use Rattle.tide_model.specs.declared.op.Reply.{Reply}
 use Rattle.tide_model.specs.declared.op.Reply.TheVariants.{Refused}
 use Rattle.tide_model.specs.declared.op.Refusal.TheVariants.{Full}
@@ -13,9 +13,9 @@ use Rattle.tide_model.specs.Numbers.{is_among, count_where}
 use Rattle.tide_model.specs.Graph.{graph_of, IsRetained, no_cell}
 use Rattle.tide_model.specs.Layout.{Layout, IsBlockOf, block_of_cell, cell_count}
 use Rattle.tide_model.specs.State.{State, CellState, blank_cell, live, free, idle}
-use Rattle.tide_model.specs.History.{after_call}
-use Rattle.tide_model.specs.Answer.{IsAnswer, no_shapes}
-use Rattle.tide_model.specs.Lawful.{FitsLayout}
+use Rattle.tide_model.specs.Applied.{after_call}
+use Rattle.tide_model.specs.Answer.{IsAnswer}
+use Rattle.tide_model.specs.Refused.{no_shapes}
 use Rattle.tide_model.specs.Room.{IsFullBlock}
 use Rattle.tide_workload.specs.declared.settings.Settings.{Settings}
 use Rattle.tide_run.specs.declared.store.stored_cell.StoredCell.{StoredCell}
@@ -72,9 +72,17 @@ pub record IsSound (settings : Settings) (registers : List Val) (cells : List St
   pub few_cells : length cells ≤ 81600
   pub references : RefsAreLive registers cells
 
--- an operation that the store serves: its operands are there
+-- an operation that the store serves, with operands that are there
 abbrev pub IsServed : Settings → Op → Type 0
-IsServed settings op = FitsLayout (layout_of settings 1) op
+IsServed settings (Alloc dst class) = (dst < settings.registers) × (class < 4)
+IsServed settings (Get dst src slot) = (dst < settings.registers) × (src < settings.registers)
+IsServed settings (Put src slot val) = (src < settings.registers) × (val < settings.registers)
+IsServed settings (Move dst src) = (dst < settings.registers) × (src < settings.registers)
+IsServed settings (Set dst n) = dst < settings.registers
+IsServed settings (Drop dst) = dst < settings.registers
+IsServed settings Collect = Unit {0}
+IsServed settings Retire = Unit {0}
+IsServed settings op = ⊥
 
 -- the block is one of cells, and each of them is live
 pub record IsLiveBlock (settings : Settings) (cells : List StoredCell) (block : ℕ) : Type 0 where

@@ -1,4 +1,4 @@
-use Rattle.std.proofs.Common.{◌≡◌, ◌+◌, ◌++◌, take, drop, subst, sym, ap, get_or, ◌∙◌}
+use Rattle.std.proofs.Common.{◌+◌, take, drop, subst}
 use Rattle.std.specs.List.{flat_map}
 use Rattle.tide_io.specs.Faults.{AppendsPart}
 use Rattle.tide_workload.specs.Chain.{AppendsPart-then, AppendsPart-grown, OnErr-from}

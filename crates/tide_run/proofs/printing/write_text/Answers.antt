@@ -1,4 +1,4 @@
-use Rattle.std.proofs.Common.{◌≡◌, ℕ, ◌++◌, subst, List}
+use Rattle.std.proofs.Common.{ℕ, ◌++◌, subst, List}
 use Rattle.std.specs.Prelude.{OnOk, OnErr}
 use Rattle.std.specs.Io.KnownBytes.{Appends}
 use Rattle.tide_io.specs.Faults.{AppendsPart}

@@ -1,8 +1,4 @@
-use Rattle.std.proofs.Common.{◌≡◌, ℕ, ◌≤◌, ◌∙◌, ap, sym, subst, length, Err, List, Option}
-use Rattle.std.specs.Prelude.{◌⊎◌, IfSome, IsOk}
-use Rattle.tide_io.specs.Faults.{Rose}
-use Rattle.tide_workload.specs.Reading.{reads_workload}
-use Rattle.tide_run.specs.Program.{input_of}
+use Rattle.std.proofs.Common.{◌∙◌, ap, sym, length, Err}
 use Rattle.tide_run.proofs.Causes.{refuses-ran, accepts-stop, bad-stop}
 use Rattle.tide_run.proofs.program.riptide.Goals as goal
 

@@ -1,4 +1,4 @@
-use Rattle.std.proofs.Common.{◌≡◌, ℕ, ◌∙◌, sym, ap, subst, List}
+use Rattle.std.proofs.Common.{sym, subst, List}
 use Rattle.std.proofs.lemmas.List.Elements.{All-push}
 use Rattle.tide_workload.specs.Line.{HasText}
 use Rattle.tide_run.specs.declared.answered.Answered.{Answered}

@@ -1,7 +1,6 @@
-use Rattle.std.proofs.Common.{◌≡◌, ℕ, ◌+◌, ◌∙◌, ◌++◌, ◌∷◌, [], sym, ap, refl, List, sum}
+use Rattle.std.proofs.Common.{ℕ, ◌+◌, ◌∙◌, ◌++◌, ◌∷◌, [], ap, refl, List, sum}
 use Rattle.tide_model.specs.Numbers.{numbers_where}
 use Rattle.tide_workload.specs.declared.settings.Settings.{Settings}
-use Rattle.tide_run.specs.declared.told.Record.{Record}
 use Rattle.tide_run.specs.declared.told.Record.TheVariants.{Ended}
 use Rattle.tide_run.specs.Told.{frees_in, sweeps_of}
 use Rattle.tide_run.proofs.RunnerLaws.{RanCycle-did}
