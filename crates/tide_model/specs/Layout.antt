@@ -1,5 +1,5 @@
 -- How large a store is: its blocks of each class, its registers and handles, and who takes part.
-use Rattle.std.specs.Prelude.{ℕ, ◌≡◌, ◌+◌, ◌-◌, ◌*◌, ◌/◌, ◌<◌, ◌≤◌, ◌==◌, List, [], ◌∷◌, ◌++◌, All, length, take, sum, slice_index, nat_lt, nat_le, if◌then◌else◌}
+use Rattle.std.specs.Prelude.{ℕ, ◌+◌, ◌-◌, ◌*◌, ◌/◌, ◌<◌, ◌≤◌, ◌==◌, List, [], ◌∷◌, ◌++◌, take, sum, slice_index, nat_lt, nat_le, if◌then◌else◌}
 use Rattle.tide_model.specs.Numbers.{count_where}
 
 -- a layout as its plain numbers
@@ -63,19 +63,3 @@ array_capacity_of class = slice_index (4 ∷ 8 ∷ 16 ∷ 32 ∷ 64 ∷ []) (cla
 -- the least capacity that holds so many properties: 0 where there are none, and else that of an array
 abbrev pub capacity_of : ℕ → ℕ
 capacity_of count = if count == 0 then 0 else array_capacity_of (array_class_for count)
-
--- the class of an array: how many of the classes 6 to 9 begin at its block or before it, and 5 more
-abbrev pub class_of_array : Layout → ℕ → ℕ
-class_of_array layout array = 5 + count_where (λ class. nat_le (first_block_of layout (class + 6)) (block_of_array layout array)) 4
-
--- a store's numbers are within its limits
-pub record IsWithinLimits (layout : Layout) : Type 0 where
-  pub cell_classes : length layout.cell_blocks ≡ 5
-  pub array_classes : length layout.array_blocks ≡ 5
-  pub cell_blocks : All (λ blocks. blocks ≤ 64) layout.cell_blocks
-  pub array_blocks : All (λ blocks. blocks ≤ 64) layout.array_blocks
-  pub registers : layout.registers ≤ 16
-  pub strong : layout.strong ≤ 256
-  pub weak : layout.weak ≤ 256
-  pub mutators : layout.mutators ≤ 16
-  pub visitors : layout.visitors ≤ 8

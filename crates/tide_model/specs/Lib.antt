@@ -10,6 +10,7 @@ pub mod Layout
 pub mod Numbers
 pub mod OperationRows
 pub mod Prefix
+pub mod References
 pub mod Refused
 pub mod RefusedRows
 pub mod Room
