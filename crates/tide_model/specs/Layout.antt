@@ -63,3 +63,7 @@ array_capacity_of class = slice_index (4 ∷ 8 ∷ 16 ∷ 32 ∷ 64 ∷ []) (cla
 -- the least capacity that holds so many properties: 0 where there are none, and else that of an array
 abbrev pub capacity_of : ℕ → ℕ
 capacity_of count = if count == 0 then 0 else array_capacity_of (array_class_for count)
+
+-- the class of an array: how many of the classes 6 to 9 begin at its block or before it, and 5 more
+abbrev pub class_of_array : Layout → ℕ → ℕ
+class_of_array layout array = 5 + count_where (λ class. nat_le (first_block_of layout (class + 6)) (block_of_array layout array)) 4

@@ -6,7 +6,7 @@ use Rattle.tide_model.specs.declared.val.Val.TheVariants.{Empty, Int, Cell}
 use Rattle.tide_model.specs.declared.op.Op.TheVariants.{Table, Claim, Release, Unclaim, Add, GetProp, SetProp, StrongSet, StrongGet, WeakSet, PairSet, PairGet, PairDel, Group, Retire}
 use Rattle.tide_model.specs.declared.op.Reply.TheVariants.{Done, Born, Seen, Refused}
 use Rattle.tide_model.specs.declared.op.Refusal.TheVariants.{NotCell, IsTable, NotTable, Held, NotHeld, Present, Absent, NoShape, PairsFull, ClaimsFull, Full}
-use Rattle.tide_model.specs.Layout.{Layout, capacity_of, array_class_for, array_capacity_of}
+use Rattle.tide_model.specs.Layout.{Layout, capacity_of, array_class_for, array_capacity_of, class_of_array}
 use Rattle.tide_model.specs.Numbers.{put_at}
 use Rattle.tide_model.specs.State.{State, free, live, spent, blank_cell, empty_state}
 use Rattle.tide_model.specs.Refused.{ShapeLists, refusal_of}
@@ -18,7 +18,8 @@ use Rattle.tide_model.specs.Rows.{small}
 pub capacities :
     (capacity_of 0 ≡ 0) × (capacity_of 1 ≡ 4) × (capacity_of 4 ≡ 4) × (capacity_of 5 ≡ 8) × (capacity_of 16 ≡ 16) × (capacity_of 33 ≡ 64) × (capacity_of 64 ≡ 64)
     × (array_class_for 4 ≡ 5) × (array_class_for 5 ≡ 6) × (array_class_for 64 ≡ 9) × (array_capacity_of 7 ≡ 16)
-capacities = (refl, refl, refl, refl, refl, refl, refl, refl, refl, refl, refl)
+    × (class_of_array small 63 ≡ 5) × (class_of_array small 64 ≡ 6)
+capacities = (refl, refl, refl, refl, refl, refl, refl, refl, refl, refl, refl, refl, refl)
 
 -- two mutators on the small store
 abbrev pub shared : Layout
