@@ -1,3 +1,4 @@
 pub mod Cycles
 pub mod Histories
 pub mod NumberLaws
+pub mod ReferenceLaws

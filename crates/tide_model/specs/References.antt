@@ -8,6 +8,10 @@ use Rattle.tide_model.specs.State.{State, live}
 abbrev pub IsLive : State → ℕ → Type 0
 IsLive state cell = (state.cells cell).status ≡ live
 
+-- the value names no cell, or a live one
+abbrev pub IsLiveValue : State → Val → Type 0
+IsLiveValue state value = (cell : ℕ) → value ≡ Cell cell → IsLive state cell
+
 -- Each reference in an active mutator's register, in a handle, in a live cell or in a pair of a live table is to a live
 -- cell, and each claimed cell is live. A live cell's array is live, and no two live cells have the same.
 pub record RefsAreLive (state : State) : Type 0 where
