@@ -2,3 +2,4 @@ pub mod Cycles
 pub mod Histories
 pub mod NumberLaws
 pub mod ReferenceLaws
+pub mod ReferencesInCycles

@@ -64,6 +64,13 @@ after_sweep layout state block = record state {
   arrays = λ array. swept_status (block_of_array layout array == block) (state.arrays array);
 }
 
+-- what sweeping every block leaves: each dead cell and array is free, and blank
+abbrev pub swept_all : State → State
+swept_all state = record state {
+  cells = λ cell. swept_cell true (state.cells cell);
+  arrays = λ array. swept_status true (state.arrays array);
+}
+
 -- what an entry leaves
 abbrev pub after_entry : Layout → State → Entry → Option ℕ → State
 after_entry layout state (Call who op reply) took = after_call state who op reply took
