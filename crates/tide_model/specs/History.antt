@@ -20,14 +20,15 @@ without cells Empty = Empty
 without cells (Int n) = Int n
 without cells (Cell cell) = if is_among cells cell then Empty else Cell cell
 
+-- a cell's array, if it has one, is this
+abbrev pub is_this_array : Option ℕ → ℕ → Bool
+is_this_array None array = false
+is_this_array (Some own) array = own == array
+
 -- the array is that of one of these cells
 abbrev pub is_array_of : State → List ℕ → ℕ → Bool
 is_array_of state [] array = false
-is_array_of state (cell ∷ cells) array = is_the_array (state.cells cell).array || is_array_of state cells array
-  where
-    is_the_array : Option ℕ → Bool
-    is_the_array None = false
-    is_the_array (Some a) = a == array
+is_array_of state (cell ∷ cells) array = is_this_array (state.cells cell).array array || is_array_of state cells array
 
 -- a spent array is dead once a cycle ends
 abbrev pub unless_spent : Status → Status
