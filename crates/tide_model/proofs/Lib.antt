@@ -1,3 +1,4 @@
+pub mod ClaimLaws
 pub mod Cycles
 pub mod Histories
 pub mod NumberLaws

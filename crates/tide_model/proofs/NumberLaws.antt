@@ -3,7 +3,8 @@ use Rattle.std.proofs.Common.{ℕ, zero, suc, ◌≡◌, ◌+◌, ◌<◌, refl,
 use Rattle.std.proofs.lemmas.Bool.{eqb-true}
 use Rattle.std.proofs.Math.ListN.{get_or-append}
 use Rattle.std.proofs.Math.Seq.{get_or-append_seam}
-use Rattle.std.specs.Prelude.{◌==◌, ◌||◌, if◌then◌else◌, ◌⊎◌}
+use Rattle.std.proofs.lemmas.List.{get_or_default}
+use Rattle.std.specs.Prelude.{◌==◌, ◌||◌, if◌then◌else◌, ◌⊎◌, Contains}
 use Rattle.std.specs.List.Sorted.{IsStrictlyIncreasing}
 use Rattle.tide_model.specs.Numbers.{is_among, numbers_where, count_where}
 
@@ -119,3 +120,14 @@ count_where-same one other (suc bound) same =
     let a = count_where-same one other bound (λ n h. same n (omega arith)) in
     let b = ap {B = ℕ} (λ (t : Bool). if t then 1 else 0) (same bound (omega arith)) in
     omega (arith, a, b)
+
+-- between the two ways to say that a number is in a list
+pub among_from_contains : (xs : List ℕ) (n : ℕ) → Contains xs n → is_among xs n ≡ true
+among_from_contains xs n at = subst (λ (k : ℕ). is_among xs k ≡ true) (sym (get_or_default xs at.0 n 0 at.1) ∙ at.2) (among_get_or xs at.0 at.1)
+
+pub contains_from_among : (xs : List ℕ) (n : ℕ) → is_among xs n ≡ true → Contains xs n
+contains_from_among [] n among = absurd (cc)
+contains_from_among (x ∷ xs) n among = elim (or_cases (n == x) (is_among xs n) among) [
+  | inl here ↦ (0, omega arith, sym (eqb-true n x here))
+  | inr later ↦ let at = contains_from_among xs n later in (suc at.0, let below = at.1 in omega (arith, below), at.2)
+]
