@@ -24,10 +24,10 @@ use Rattle.tide_model.specs.Applied.{after_call, at_cell, put_cell, put_claims, 
 use Rattle.tide_model.specs.Refused.{ShapeLists, refusal_of, refusal_at, first_of, refuse_if, held_by, holders_of, claims_most}
 use Rattle.tide_model.specs.Answer.{IsAnswer, IsAnswerUnless, IsGranted}
 use Rattle.tide_model.specs.History.{after_entry, state_after}
-use Rattle.tide_model.specs.Lawful.{Stands, StandsEntry}
+use Rattle.tide_model.specs.Lawful.{Stands, StandsEntry, IsLawful}
 use Rattle.tide_model.specs.References.{ClaimsAreOwn}
-use Rattle.tide_model.proofs.NumberLaws.{passing_is_among, among_from_contains, contains_from_among}
-use Rattle.tide_model.proofs.Histories.{state_after-push}
+use Rattle.tide_model.proofs.NumberLaws.{passing_is_among, numbers_where-none, numbers_where-one, among_from_contains, contains_from_among}
+use Rattle.tide_model.proofs.Histories.{state_after-push, IsLawful-elim}
 use Rattle.tide_model.proofs.ReferenceLaws.{put_at_elim, after_call-refused}
 
 -- nobody claims a cell in the empty store
@@ -218,3 +218,31 @@ ClaimsAreOwn-event layout shapes before event own stands =
     step (Call who op reply) took stands_here =
         ClaimsAreOwn-call layout shapes (state_after layout before) who op reply took own stands_here.is_mutator stands_here.answers
     step entry took _ = ClaimsAreOwn-same layout (state_after layout before) (after_entry layout (state_after layout before) entry took) refl own
+
+-- no cell is claimed twice after a lawful history
+pub ClaimsAreOwn-lawful : (layout : Layout) (shapes : ShapeLists) (history : List Event) → IsLawful layout shapes history → ClaimsAreOwn layout (state_after layout history)
+ClaimsAreOwn-lawful layout shapes history lawful =
+    IsLawful-elim layout shapes (λ before. ClaimsAreOwn layout (state_after layout before)) (ClaimsAreOwn-empty layout)
+    (λ before event own stands. ClaimsAreOwn-event layout shapes before event own stands) history lawful
+
+-- the mutators that claim a cell: none where nobody does, and else the one
+pub holders_of-none : (layout : Layout) (state : State) (cell : ℕ) → ((who : ℕ) → who < layout.mutators → Contains (state.claims who) cell → ⊥) →
+    holders_of layout state cell ≡ []
+holders_of-none layout state cell nobody = numbers_where-none (λ who. is_among (state.claims who) cell) layout.mutators (λ who below. fails who below (is_among (state.claims who) cell) refl)
+  where
+    fails : (who : ℕ) → who < layout.mutators → (among : Bool) → is_among (state.claims who) cell ≡ among → among ≡ false
+    fails who below true e = absurd (nobody who below (contains_from_among (state.claims who) cell e))
+    fails who below false e = refl
+
+pub holders_of-one : (layout : Layout) (state : State) (who cell : ℕ) → ClaimsAreOwn layout state → Contains (state.claims who) cell →
+    holders_of layout state cell ≡ who ∷ []
+holders_of-one layout state who cell own at =
+    numbers_where-one (λ m. is_among (state.claims m) cell) layout.mutators who (is_mutator (leb_tells layout.mutators who))
+    (among_from_contains (state.claims who) cell at)
+    (λ m below among. own.one_claims m who cell (contains_from_among (state.claims m) cell among) at)
+  where
+    is_mutator : ((nat_le layout.mutators who ≡ true) × (layout.mutators ≤ who)) ⊎ ((nat_le layout.mutators who ≡ false) × (who < layout.mutators)) → who < layout.mutators
+    is_mutator (inl past) =
+        let none : Contains [] cell = subst (λ (c : List ℕ). Contains c cell) (own.of_mutators who past.1) at in
+        absurd (let below = none.1 in omega (arith, below))
+    is_mutator (inr below) = below.1
