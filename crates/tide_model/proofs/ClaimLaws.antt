@@ -1,5 +1,5 @@
 -- No cell is claimed twice.
-use Rattle.std.proofs.Common.{ℕ, ◌≡◌, ◌<◌, ◌≤◌, ◌≢◌, refl, sym, ◌∙◌, ap, subst, arith, Bool, true, false, List, [], ◌∷◌, ◌++◌, length, inl, inr, ◌⊎◌}
+use Rattle.std.proofs.Common.{ℕ, ◌≡◌, ◌<◌, ◌≤◌, refl, sym, ◌∙◌, ap, subst, arith, Bool, true, false, List, [], ◌∷◌, ◌++◌, length, inl, inr, ◌⊎◌}
 use Rattle.std.proofs.lemmas.Bool.Decides.{leb_tells}
 use Rattle.std.proofs.lemmas.Cmp.{nat_eq_equiv}
 use Rattle.std.proofs.lemmas.List.Elements.{Contains-push_cases, All-contains, All-filter, All-drop, All-contains_itself, All-from_recursion, recursion_from_All}
@@ -9,16 +9,16 @@ use Rattle.std.specs.List.{IsDistinct, list_any}
 use Rattle.tide_model.specs.declared.val.Val.{Val}
 use Rattle.tide_model.specs.declared.val.Val.TheVariants.{Empty, Int, Cell}
 use Rattle.tide_model.specs.declared.op.Op.{Op}
-use Rattle.tide_model.specs.declared.op.Op.TheVariants.{Alloc, Table, Get, Put, Move, Set, Drop, Claim, Release, Unclaim, Add, GetProp, SetProp, StrongSet, StrongGet, WeakSet, WeakGet, PairSet, PairGet, PairDel, Group, Collect, Retire}
+use Rattle.tide_model.specs.declared.op.Op.TheVariants.{Alloc, Get, Put, Claim, Release, Unclaim, Add, SetProp, PairSet, PairDel, Group, Collect}
 use Rattle.tide_model.specs.declared.op.Reply.{Reply}
 use Rattle.tide_model.specs.declared.op.Reply.TheVariants.{Done, Born, Seen, Asked, Refused}
 use Rattle.tide_model.specs.declared.op.Refusal.{Refusal}
 use Rattle.tide_model.specs.declared.op.Refusal.TheVariants.{ClaimsFull}
 use Rattle.tide_model.specs.declared.entry.Entry.{Entry}
-use Rattle.tide_model.specs.declared.entry.Entry.TheVariants.{Call, Begin, Pause, Visits, End, Sweep, Open}
+use Rattle.tide_model.specs.declared.entry.Entry.TheVariants.{Call}
 use Rattle.tide_model.specs.declared.entry.Event.{Event}
 use Rattle.tide_model.specs.Layout.{Layout}
-use Rattle.tide_model.specs.Numbers.{put_at, is_among, numbers_where}
+use Rattle.tide_model.specs.Numbers.{put_at, is_among}
 use Rattle.tide_model.specs.State.{State, empty_state}
 use Rattle.tide_model.specs.Applied.{after_call, at_cell, put_cell, put_claims, put_slot, add_property, put_property, put_pair}
 use Rattle.tide_model.specs.Refused.{ShapeLists, refusal_of, refusal_at, first_of, refuse_if, held_by, holders_of, claims_most}
@@ -74,7 +74,7 @@ distinct_filter test (x ∷ xs) h = step (test x) (distinct_filter test xs (IsDi
     step true rest =
         IsDistinct-cons nat_eq x (filter test xs)
         (recursion_from_All (λ y. nat_eq x y ≡ false) (filter test xs)
-          (All-filter test (λ y. nat_eq x y ≡ false) xs (All-from_recursion (λ y. nat_eq x y ≡ false) xs (IsDistinct-head nat_eq x xs h)))) rest
+        (All-filter test (λ y. nat_eq x y ≡ false) xs (All-from_recursion (λ y. nat_eq x y ≡ false) xs (IsDistinct-head nat_eq x xs h)))) rest
     step false rest = rest
 
 distinct_drop : (xs : List ℕ) → IsDistinct nat_eq xs → IsDistinct nat_eq (drop 1 xs)
@@ -129,14 +129,14 @@ ClaimsAreOwn-at_cell layout state (Cell cell) change own each = each cell refl
 -- a granted claim is of a cell that no mutator holds
 holders_of-claimed : (layout : Layout) (state : State) (who src cell : ℕ) → state.registers who src ≡ Cell cell →
     refusal_at (state.registers who src) src (λ c. first_of (
-      held_by (holders_of layout state c)
-      ∷ refuse_if (nat_le claims_most (length (state.claims who))) ClaimsFull ∷ [])) ≡ None →
+    held_by (holders_of layout state c)
+    ∷ refuse_if (nat_le claims_most (length (state.claims who))) ClaimsFull ∷ [])) ≡ None →
     holders_of layout state cell ≡ []
 holders_of-claimed layout state who src cell is none =
     first (holders_of layout state cell) (refuse_if (nat_le claims_most (length (state.claims who))) ClaimsFull)
     (subst (λ (v : Val). refusal_at v src (λ c. first_of (
-      held_by (holders_of layout state c)
-      ∷ refuse_if (nat_le claims_most (length (state.claims who))) ClaimsFull ∷ [])) ≡ None) is none)
+    held_by (holders_of layout state c)
+    ∷ refuse_if (nat_le claims_most (length (state.claims who))) ClaimsFull ∷ [])) ≡ None) is none)
   where
     first : (holders : List ℕ) (full : Option Refusal) → first_of (held_by holders ∷ full ∷ []) ≡ None → holders ≡ []
     first [] full h = refl
@@ -151,23 +151,23 @@ ClaimsAreOwn-granted layout shapes state who op (Refused refusal) took own is_mu
 ClaimsAreOwn-granted layout shapes state who (Claim src) Done took own is_mutator none granted =
     ClaimsAreOwn-at_cell layout state (state.registers who src) (λ cell. put_claims state who (state.claims who ++ cell ∷ [])) own
     (λ cell is.
-      let nobody = nobody_claims layout state cell own (holders_of-claimed layout state who src cell is none) in
-      ClaimsAreOwn-claims layout state who (state.claims who ++ cell ∷ []) own is_mutator
-      (λ claimed at. elim (Contains-push_cases (state.claims who) cell claimed at) [
-        | inl old ↦ inl old
-        | inr same ↦ inr (λ other has. nobody other (subst (Contains (state.claims other)) (sym same) has))
-      ])
-      (IsDistinct-push nat_eq_equiv (state.claims who) cell (own.once who) (not_any_from_nobody (state.claims who) cell (nobody who))))
+    let nobody = nobody_claims layout state cell own (holders_of-claimed layout state who src cell is none) in
+    ClaimsAreOwn-claims layout state who (state.claims who ++ cell ∷ []) own is_mutator
+    (λ claimed at. elim (Contains-push_cases (state.claims who) cell claimed at) [
+      | inl old ↦ inl old
+      | inr same ↦ inr (λ other has. nobody other (subst (Contains (state.claims other)) (sym same) has))
+    ])
+    (IsDistinct-push nat_eq_equiv (state.claims who) cell (own.once who) (not_any_from_nobody (state.claims who) cell (nobody who))))
 ClaimsAreOwn-granted layout shapes state who (Release src) Done took own is_mutator none granted =
     ClaimsAreOwn-at_cell layout state (state.registers who src) (λ cell. put_claims state who (filter (λ claimed. not (claimed == cell)) (state.claims who))) own
     (λ cell is. ClaimsAreOwn-claims layout state who (filter (λ claimed. not (claimed == cell)) (state.claims who)) own is_mutator
-      (λ claimed at. inl (All-contains (Contains (state.claims who)) (filter (λ c. not (c == cell)) (state.claims who)) claimed
-        (All-filter (λ c. not (c == cell)) (Contains (state.claims who)) (state.claims who) (All-contains_itself (state.claims who))) at))
-      (distinct_filter (λ c. not (c == cell)) (state.claims who) (own.once who)))
+    (λ claimed at. inl (All-contains (Contains (state.claims who)) (filter (λ c. not (c == cell)) (state.claims who)) claimed
+    (All-filter (λ c. not (c == cell)) (Contains (state.claims who)) (state.claims who) (All-contains_itself (state.claims who))) at))
+    (distinct_filter (λ c. not (c == cell)) (state.claims who) (own.once who)))
 ClaimsAreOwn-granted layout shapes state who Unclaim Done took own is_mutator none granted =
     ClaimsAreOwn-claims layout state who (drop 1 (state.claims who)) own is_mutator
     (λ claimed at. inl (All-contains (Contains (state.claims who)) (drop 1 (state.claims who)) claimed
-      (All-drop (Contains (state.claims who)) 1 (state.claims who) (All-contains_itself (state.claims who))) at))
+    (All-drop (Contains (state.claims who)) 1 (state.claims who) (All-contains_itself (state.claims who))) at))
     (distinct_drop (state.claims who) (own.once who))
 ClaimsAreOwn-granted layout shapes state who (Put src slot val) Done took own is_mutator none granted =
     ClaimsAreOwn-same layout state (put_slot state (state.registers who src) slot (state.registers who val)) (claims-put_slot state (state.registers who src) slot (state.registers who val)) own
@@ -180,11 +180,11 @@ ClaimsAreOwn-granted layout shapes state who (SetProp src key val) Done took own
 ClaimsAreOwn-granted layout shapes state who (PairSet src key val) Done took own is_mutator none granted =
     ClaimsAreOwn-same layout state (after_call state who (PairSet src key val) Done took)
     (claims-at_cell state (state.registers who src) (λ table. at_cell state (state.registers who key) (λ cell. put_pair state table cell (Some (state.registers who val))))
-      (λ table. claims-at_cell state (state.registers who key) (λ cell. put_pair state table cell (Some (state.registers who val))) (λ cell. refl))) own
+    (λ table. claims-at_cell state (state.registers who key) (λ cell. put_pair state table cell (Some (state.registers who val))) (λ cell. refl))) own
 ClaimsAreOwn-granted layout shapes state who (PairDel src key) Done took own is_mutator none granted =
     ClaimsAreOwn-same layout state (after_call state who (PairDel src key) Done took)
     (claims-at_cell state (state.registers who src) (λ table. at_cell state (state.registers who key) (λ cell. put_pair state table cell None))
-      (λ table. claims-at_cell state (state.registers who key) (λ cell. put_pair state table cell None) (λ cell. refl))) own
+    (λ table. claims-at_cell state (state.registers who key) (λ cell. put_pair state table cell None) (λ cell. refl))) own
 ClaimsAreOwn-granted layout shapes state who (Group src n) Done took own is_mutator none granted =
     ClaimsAreOwn-same layout state (after_call state who (Group src n) Done took)
     (claims-at_cell state (state.registers who src) (λ cell. put_cell state cell (record (state.cells cell) { group = n })) (λ cell. refl)) own

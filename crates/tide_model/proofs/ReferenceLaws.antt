@@ -1,6 +1,6 @@
 -- No call makes a reference to a cell that isn't live.
-use Rattle.std.proofs.Common.{ℕ, zero, suc, ◌≡◌, ◌+◌, ◌<◌, ◌≢◌, refl, sym, ◌∙◌, ap, subst, arith, Bool, true, false, List, [], ◌∷◌, ◌++◌, length, length-append, inl, inr, ◌⊎◌}
-use Rattle.std.proofs.lemmas.Bool.{eqb-true, eqb-false, eq-eqb}
+use Rattle.std.proofs.Common.{ℕ, suc, ◌≡◌, ◌+◌, ◌<◌, ◌≢◌, refl, sym, ◌∙◌, ap, subst, arith, Bool, true, false, List, [], ◌∷◌, ◌++◌, length, length-append, inl, inr}
+use Rattle.std.proofs.lemmas.Bool.{eqb-true, eqb-false}
 use Rattle.std.proofs.lemmas.List.Elements.{Contains-push_cases, All-contains, All-filter, All-drop, All-contains_itself}
 use Rattle.std.specs.Prelude.{◌==◌, ◌||◌, if◌then◌else◌, not, Contains, filter, drop, Option, None, Some}
 use Rattle.tide_model.specs.declared.val.Val.{Val}
@@ -14,9 +14,9 @@ use Rattle.tide_model.specs.declared.op.Refusal.TheVariants.{IsTable, NotHeld, A
 use Rattle.tide_model.specs.Layout.{Layout}
 use Rattle.tide_model.specs.Numbers.{put_at, is_among}
 use Rattle.tide_model.specs.State.{State, CellState, Status, free, live, spent, blank_cell, empty_state}
-use Rattle.tide_model.specs.Applied.{after_call, put_register, put_slot, slot_of, at_cell, put_cell, put_claims, place_of, property_of, add_property, put_property, pair_of, put_pair, spend, exchange_array, array_after, is_array_full}
+use Rattle.tide_model.specs.Applied.{after_call, put_register, put_slot, slot_of, at_cell, put_cell, put_claims, place_of, property_of, add_property, put_property, pair_of, put_pair, spend, exchange_array, array_after}
 use Rattle.tide_model.specs.Refused.{ShapeLists, refusal_of, refusal_at, first_of, refuse_if, is_table, holds, has_key, property_refusal}
-use Rattle.tide_model.specs.Answer.{IsAnswer, IsAnswerUnless, IsGranted, AtCell, IsTakenFor, IsFreeCellOf}
+use Rattle.tide_model.specs.Answer.{IsAnswer, IsAnswerUnless, IsGranted, AtCell, IsTakenFor}
 use Rattle.tide_model.specs.References.{IsLive, IsLiveValue, RefsAreLive}
 
 -- what holds of the new value at its place, and of the old ones elsewhere, holds of all
@@ -50,7 +50,7 @@ RefsAreLive-register state who register value refs alive = record {
   in_registers = λ w r cell active. put_at_elim (λ n (own : ℕ → Val). state.active n ≡ true → own r ≡ Cell cell → IsLive state cell)
       state.registers who (put_at (state.registers who) register value)
       (λ is_active. put_at_elim (λ n v. v ≡ Cell cell → IsLive state cell) (state.registers who) register value
-        (alive cell) (λ n other. refs.in_registers who n cell is_active) r)
+      (alive cell) (λ n other. refs.in_registers who n cell is_active) r)
       (λ n other is_active. refs.in_registers n r cell is_active) w active;
   claimed = refs.claimed;
   in_strong = refs.in_strong;
@@ -161,11 +161,11 @@ RefsAreLive-cell state cell held arrays refs holds_live = record {
       (λ n other alive is. holds_live.others_stay n array other alive is) source;
   arrays_are_own = λ one other array. put_at_elim (λ n c. c.status ≡ live → Stays other → c.array ≡ Some array → (put_at state.cells cell held other).array ≡ Some array → n ≡ other) state.cells cell held
       (λ alive. put_at_elim (λ m d. d.status ≡ live → held.array ≡ Some array → d.array ≡ Some array → cell ≡ m) state.cells cell held
-        (λ same is again. refl)
-        (λ m apart other_alive is other_is. absurd (holds_live.array_is_own m array apart other_alive other_is is)) other)
+      (λ same is again. refl)
+      (λ m apart other_alive is other_is. absurd (holds_live.array_is_own m array apart other_alive other_is is)) other)
       (λ n apart alive. put_at_elim (λ m d. d.status ≡ live → (state.cells n).array ≡ Some array → d.array ≡ Some array → n ≡ m) state.cells cell held
-        (λ same is other_is. absurd (holds_live.array_is_own n array apart alive is other_is))
-        (λ m other_apart other_alive is other_is. refs.arrays_are_own n m array alive other_alive is other_is) other) one;
+      (λ same is other_is. absurd (holds_live.array_is_own n array apart alive is other_is))
+      (λ m other_apart other_alive is other_is. refs.arrays_are_own n m array alive other_alive is other_is) other) one;
 }
   where
     Stays : ℕ → Type 0
@@ -270,7 +270,7 @@ RefsAreLive-born state who dst cell refs =
       others_stay = λ other array apart alive is. refs.arrays_are_live other array alive is;
     }))
     (λ named is. let same : cell ≡ named = cc in
-      subst (IsLive (put_cell state cell (blank_cell live))) same (put_at_elim (λ n c. n ≡ cell → c.status ≡ live) state.cells cell (blank_cell live) (λ _. refl) (λ n other is_cell. absurd (other is_cell)) cell refl))
+    subst (IsLive (put_cell state cell (blank_cell live))) same (put_at_elim (λ n c. n ≡ cell → c.status ≡ live) state.cells cell (blank_cell live) (λ _. refl) (λ n other is_cell. absurd (other is_cell)) cell refl))
 
 -- a live cell has one more property, and the free array that was taken for it
 pub RefsAreLive-add : (layout : Layout) (state : State) (cell key : ℕ) (value : Val) (took : Option ℕ) → RefsAreLive state → IsLive state cell → IsLiveValue state value →
@@ -362,9 +362,9 @@ IsLiveValue-property layout state who register key refs source_is_live granted =
 
     step : (source : Val) → IsLiveValue state source →
         refusal_at source register (λ cell. first_of (
-          refuse_if (is_table layout cell) IsTable
-          ∷ refuse_if (not (holds state who cell)) NotHeld
-          ∷ refuse_if (not (has_key state cell key)) Absent ∷ [])) ≡ None → IsLiveValue state (property_of state source key)
+        refuse_if (is_table layout cell) IsTable
+        ∷ refuse_if (not (holds state who cell)) NotHeld
+        ∷ refuse_if (not (has_key state cell key)) Absent ∷ [])) ≡ None → IsLiveValue state (property_of state source key)
     step Empty alive none = λ cell is. absurd (cc)
     step (Int n) alive none = λ cell is. absurd (cc)
     step (Cell source) alive none = λ cell is.
@@ -411,19 +411,19 @@ RefsAreLive-granted layout shapes state who (Drop dst) Done took refs active non
 RefsAreLive-granted layout shapes state who (Claim src) Done took refs active none granted =
     RefsAreLive-at_cell state (state.registers who src) (λ cell. put_claims state who (state.claims who ++ cell ∷ [])) refs
     (λ cell is. RefsAreLive-claims state who (state.claims who ++ cell ∷ []) refs
-      (λ claimed at. elim (Contains-push_cases (state.claims who) cell claimed at) [
-        | inl old ↦ refs.claimed who claimed old
-        | inr same ↦ refs.in_registers who src claimed active (is ∙ ap (λ (c : ℕ). Cell c) same)
-      ]))
+    (λ claimed at. elim (Contains-push_cases (state.claims who) cell claimed at) [
+      | inl old ↦ refs.claimed who claimed old
+      | inr same ↦ refs.in_registers who src claimed active (is ∙ ap (λ (c : ℕ). Cell c) same)
+    ]))
 RefsAreLive-granted layout shapes state who (Release src) Done took refs active none granted =
     RefsAreLive-at_cell state (state.registers who src) (λ cell. put_claims state who (filter (λ claimed. not (claimed == cell)) (state.claims who))) refs
     (λ cell is. RefsAreLive-claims state who (filter (λ claimed. not (claimed == cell)) (state.claims who)) refs
-      (λ claimed at. refs.claimed who claimed (All-contains (Contains (state.claims who)) (filter (λ c. not (c == cell)) (state.claims who)) claimed
-        (All-filter (λ c. not (c == cell)) (Contains (state.claims who)) (state.claims who) (All-contains_itself (state.claims who))) at)))
+    (λ claimed at. refs.claimed who claimed (All-contains (Contains (state.claims who)) (filter (λ c. not (c == cell)) (state.claims who)) claimed
+    (All-filter (λ c. not (c == cell)) (Contains (state.claims who)) (state.claims who) (All-contains_itself (state.claims who))) at)))
 RefsAreLive-granted layout shapes state who Unclaim Done took refs active none granted =
     RefsAreLive-claims state who (drop 1 (state.claims who)) refs
     (λ claimed at. refs.claimed who claimed (All-contains (Contains (state.claims who)) (drop 1 (state.claims who)) claimed
-      (All-drop (Contains (state.claims who)) 1 (state.claims who) (All-contains_itself (state.claims who))) at))
+    (All-drop (Contains (state.claims who)) 1 (state.claims who) (All-contains_itself (state.claims who))) at))
 RefsAreLive-granted layout shapes state who (Add src key val) Done took refs active none granted =
     add (state.registers who src) (IsLiveValue-register state who src refs active) granted
   where
@@ -450,16 +450,16 @@ RefsAreLive-granted layout shapes state who (WeakGet dst at) (Seen value) took r
 RefsAreLive-granted layout shapes state who (PairSet src key val) Done took refs active none granted =
     RefsAreLive-at_cell state (state.registers who src) (λ table. at_cell state (state.registers who key) (λ cell. put_pair state table cell (Some (state.registers who val)))) refs
     (λ table is. RefsAreLive-at_cell state (state.registers who key) (λ cell. put_pair state table cell (Some (state.registers who val))) refs
-      (λ cell is_key. RefsAreLive-pair state table cell (Some (state.registers who val)) refs (refs.in_registers who src table active is) (refs.in_registers who key cell active is_key)
-        (λ value same. let e : state.registers who val ≡ value = cc in subst (IsLiveValue state) e (IsLiveValue-register state who val refs active))))
+    (λ cell is_key. RefsAreLive-pair state table cell (Some (state.registers who val)) refs (refs.in_registers who src table active is) (refs.in_registers who key cell active is_key)
+    (λ value same. let e : state.registers who val ≡ value = cc in subst (IsLiveValue state) e (IsLiveValue-register state who val refs active))))
 RefsAreLive-granted layout shapes state who (PairGet dst src key) (Seen value) took refs active none granted =
     RefsAreLive-register state who dst value refs
     (IsLiveValue-pair state (state.registers who src) (state.registers who key) value refs (IsLiveValue-register state who src refs active) granted.1)
 RefsAreLive-granted layout shapes state who (PairDel src key) Done took refs active none granted =
     RefsAreLive-at_cell state (state.registers who src) (λ table. at_cell state (state.registers who key) (λ cell. put_pair state table cell None)) refs
     (λ table is. RefsAreLive-at_cell state (state.registers who key) (λ cell. put_pair state table cell None) refs
-      (λ cell is_key. RefsAreLive-pair state table cell None refs (refs.in_registers who src table active is) (refs.in_registers who key cell active is_key)
-        (λ value same. absurd (cc))))
+    (λ cell is_key. RefsAreLive-pair state table cell None refs (refs.in_registers who src table active is) (refs.in_registers who key cell active is_key)
+    (λ value same. absurd (cc))))
 RefsAreLive-granted layout shapes state who (Group src n) Done took refs active none granted =
     RefsAreLive-at_cell state (state.registers who src) (λ cell. put_cell state cell (record (state.cells cell) { group = n })) refs
     (λ cell is. RefsAreLive-group state cell n refs (refs.in_registers who src cell active is))

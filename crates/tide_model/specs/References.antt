@@ -1,5 +1,5 @@
 -- That no reference names a cell that isn't live, and no cell is claimed twice.
-use Rattle.std.specs.Prelude.{ℕ, ◌≡◌, ◌<◌, ◌≤◌, true, nat_eq, [], length, Contains, Option, Some}
+use Rattle.std.specs.Prelude.{ℕ, ◌≡◌, ◌<◌, ◌≤◌, true, nat_eq, [], length, Contains, Some}
 use Rattle.std.specs.List.{IsDistinct}
 use Rattle.tide_model.specs.declared.val.Val.{Val}
 use Rattle.tide_model.specs.declared.val.Val.TheVariants.{Cell}
