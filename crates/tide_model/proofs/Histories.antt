@@ -1,5 +1,7 @@
 -- How a history grows by one event, and by several.
-use Rattle.std.proofs.Common.{ℕ, zero, suc, ◌≡◌, ◌≤◌, refl, sym, ◌∙◌, ap, subst, arith, Bool, true, false, List, [], ◌∷◌, ◌++◌, length, take, append_assoc}
+use Rattle.std.proofs.Common.{ℕ, zero, suc, ◌≡◌, ◌<◌, ◌≤◌, refl, sym, ◌∙◌, ap, subst, arith, Bool, true, false, List, [], ◌∷◌, ◌++◌, length, take, append_assoc, inl, inr, take_all, add-one, get_or}
+use Rattle.std.proofs.lemmas.List.{take_more}
+use Rattle.std.proofs.lemmas.Option.{slice_get_cases}
 use Rattle.std.specs.Prelude.{Option, Some, slice_get, if◌then◌else◌, is_some}
 use Rattle.tide_model.specs.declared.op.Op.{Op}
 use Rattle.tide_model.specs.declared.op.Reply.{Reply}
@@ -47,6 +49,23 @@ IsLawful-nil layout shapes (suc place) event is = absurd (cc)
 pub IsLawful-push : (layout : Layout) (shapes : ShapeLists) (history : List Event) (event : Event) →
     IsLawful layout shapes history → Stands layout shapes history event → IsLawful layout shapes (history ++ event ∷ [])
 IsLawful-push layout shapes history event lawful stands = push_cases (λ before e. Stands layout shapes before e) history event lawful stands
+
+-- what holds of the empty history, and is kept by each event that stands, holds of a lawful history
+pub IsLawful-elim : (layout : Layout) (shapes : ShapeLists) (P : List Event → Type 0) → P [] →
+    ((before : List Event) (event : Event) → P before → Stands layout shapes before event → P (before ++ event ∷ [])) →
+    (history : List Event) → IsLawful layout shapes history → P history
+IsLawful-elim layout shapes P at_first kept history lawful = subst P (take_all (length history) history (omega arith)) (upto (length history) (omega arith))
+  where
+    one_more : (n : ℕ) (event : Event) → n < length history → get_or history n event ≡ event → take (suc n) history ≡ take n history ++ event ∷ []
+    one_more n event below is =
+        ap (λ (k : ℕ). take k history) (sym (add-one n)) ∙ take_more history n event below ∙ ap (λ (e : Event). take n history ++ e ∷ []) is
+
+    upto : (n : ℕ) → n ≤ length history → P (take n history)
+    upto zero h = at_first
+    upto (suc n) h = elim (slice_get_cases history n).1 [
+      | inl at ↦ subst P (sym (one_more n at.0 at.1 at.3)) (kept (take n history) at.0 (upto n (omega arith)) (lawful n at.0 at.2))
+      | inr past ↦ absurd (let short = past.0 in omega (arith, short))
+    ]
 
 -- the moment after the last event that passes a test is no later than the end
 pub moment_after_last-le : (test : Event → Bool) (history : List Event) → moment_after_last test history ≤ length history

@@ -1,9 +1,10 @@
 -- Membership, lists of numbers below a bound, and their number.
-use Rattle.std.proofs.Common.{ℕ, zero, suc, ◌≡◌, ◌+◌, ◌<◌, refl, sym, ◌∙◌, ap, subst, arith, Bool, true, false, List, [], ◌∷◌, ◌++◌, length, append-nil, get_or, inl, inr, eq-eqb, length-append}
+use Rattle.std.proofs.Common.{ℕ, zero, suc, ◌≡◌, ◌+◌, ◌<◌, refl, sym, ◌∙◌, ap, subst, arith, Bool, true, false, List, [], ◌∷◌, ◌++◌, length, append-nil, get_or, inl, inr, eq-eqb, length-append, ◌≢◌, true≢false}
 use Rattle.std.proofs.lemmas.Bool.{eqb-true}
 use Rattle.std.proofs.Math.ListN.{get_or-append}
 use Rattle.std.proofs.Math.Seq.{get_or-append_seam}
-use Rattle.std.specs.Prelude.{◌==◌, ◌||◌, if◌then◌else◌, ◌⊎◌}
+use Rattle.std.proofs.lemmas.List.{get_or_default}
+use Rattle.std.specs.Prelude.{◌==◌, ◌||◌, if◌then◌else◌, ◌⊎◌, Contains}
 use Rattle.std.specs.List.Sorted.{IsStrictlyIncreasing}
 use Rattle.tide_model.specs.Numbers.{is_among, numbers_where, count_where}
 
@@ -119,3 +120,37 @@ count_where-same one other (suc bound) same =
     let a = count_where-same one other bound (λ n h. same n (omega arith)) in
     let b = ap {B = ℕ} (λ (t : Bool). if t then 1 else 0) (same bound (omega arith)) in
     omega (arith, a, b)
+
+-- between the two ways to say that a number is in a list
+pub among_from_contains : (xs : List ℕ) (n : ℕ) → Contains xs n → is_among xs n ≡ true
+among_from_contains xs n at = subst (λ (k : ℕ). is_among xs k ≡ true) (sym (get_or_default xs at.0 n 0 at.1) ∙ at.2) (among_get_or xs at.0 at.1)
+
+pub contains_from_among : (xs : List ℕ) (n : ℕ) → is_among xs n ≡ true → Contains xs n
+contains_from_among [] n among = absurd (cc)
+contains_from_among (x ∷ xs) n among = elim (or_cases (n == x) (is_among xs n) among) [
+  | inl here ↦ (0, omega arith, sym (eqb-true n x here))
+  | inr later ↦ let at = contains_from_among xs n later in (suc at.0, let below = at.1 in omega (arith, below), at.2)
+]
+
+-- the numbers below a bound that pass, where none does, and where just one does
+pub numbers_where-none : (test : ℕ → Bool) (bound : ℕ) → ((n : ℕ) → n < bound → test n ≡ false) → numbers_where test bound ≡ []
+numbers_where-none test zero none = refl
+numbers_where-none test (suc bound) none =
+    ap (λ (xs : List ℕ). xs ++ (if test bound then bound ∷ [] else [])) (numbers_where-none test bound (λ n below. none n (omega (arith, below))))
+    ∙ ap (λ (b : Bool). if b then bound ∷ [] else []) (none bound (omega arith))
+
+pub numbers_where-one : (test : ℕ → Bool) (bound n : ℕ) → n < bound → test n ≡ true → ((m : ℕ) → m < bound → test m ≡ true → m ≡ n) → numbers_where test bound ≡ n ∷ []
+numbers_where-one test zero n below passes alone = absurd (omega arith)
+numbers_where-one test (suc bound) n below passes alone =
+    step (test bound) refl (λ early. numbers_where-one test bound n early passes (λ m under. alone m (omega (arith, under))))
+  where
+    fails : n ≡ bound → (m : ℕ) → m < bound → (b : Bool) → test m ≡ b → b ≡ false
+    fails same m under true e = absurd (let again = alone m (omega (arith, under)) e in omega (arith, again, same, under))
+    fails same m under false e = refl
+
+    step : (last : Bool) → test bound ≡ last → (n < bound → numbers_where test bound ≡ n ∷ []) → numbers_where test bound ++ (if last then bound ∷ [] else []) ≡ n ∷ []
+    step true e before =
+        let same : bound ≡ n = alone bound (omega arith) e in
+        ap (λ (xs : List ℕ). xs ++ bound ∷ []) (numbers_where-none test bound (λ m under. fails (sym same) m under (test m) refl))
+        ∙ ap (λ (k : ℕ). k ∷ []) same
+    step false e before = append-nil (numbers_where test bound) ∙ before (let differs : n ≢ bound = λ same. true≢false (sym passes ∙ ap test same ∙ e) in omega (arith, below, differs))

@@ -20,14 +20,15 @@ without cells Empty = Empty
 without cells (Int n) = Int n
 without cells (Cell cell) = if is_among cells cell then Empty else Cell cell
 
+-- a cell's array, if it has one, is this
+abbrev pub is_this_array : Option ℕ → ℕ → Bool
+is_this_array None array = false
+is_this_array (Some own) array = own == array
+
 -- the array is that of one of these cells
 abbrev pub is_array_of : State → List ℕ → ℕ → Bool
 is_array_of state [] array = false
-is_array_of state (cell ∷ cells) array = is_the_array (state.cells cell).array || is_array_of state cells array
-  where
-    is_the_array : Option ℕ → Bool
-    is_the_array None = false
-    is_the_array (Some a) = a == array
+is_array_of state (cell ∷ cells) array = is_this_array (state.cells cell).array array || is_array_of state cells array
 
 -- a spent array is dead once a cycle ends
 abbrev pub unless_spent : Status → Status
@@ -62,6 +63,13 @@ abbrev pub after_sweep : Layout → State → ℕ → State
 after_sweep layout state block = record state {
   cells = λ cell. swept_cell (block_of_cell cell == block) (state.cells cell);
   arrays = λ array. swept_status (block_of_array layout array == block) (state.arrays array);
+}
+
+-- what sweeping every block leaves: each dead cell and array is free, and blank
+abbrev pub swept_all : State → State
+swept_all state = record state {
+  cells = λ cell. swept_cell true (state.cells cell);
+  arrays = λ array. swept_status true (state.arrays array);
 }
 
 -- what an entry leaves
