@@ -50,7 +50,7 @@ class_of layout cell = count_where (λ class. nat_le (first_block_of layout (cla
 
 -- how many inline slots a cell of the class has: a table has none
 abbrev pub slots_of : ℕ → ℕ
-slots_of class = slice_index (2 ∷ 4 ∷ 8 ∷ 16 ∷ []) class
+slots_of class = slice_index (2 ∷ 4 ∷ 8 ∷ 16 ∷ 0 ∷ []) class
 
 -- the class of the arrays that hold so many properties with the least capacity
 abbrev pub array_class_for : ℕ → ℕ

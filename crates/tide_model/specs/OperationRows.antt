@@ -1,12 +1,12 @@
 -- What each operation on claims, properties, handles, pairs and groups answers and leaves, worked out by hand.
 use Rattle.std.specs.Prelude.{ℕ, ◌≡◌, refl, true, false, Option, [], ◌∷◌, None, Some, nat_lt, if◌then◌else◌}
-use Rattle.std.proofs.Common.{lit<, lit≤}
+use Rattle.std.proofs.Common.{arith, lit<, lit≤}
 use Rattle.tide_model.specs.declared.val.Val.{Val}
 use Rattle.tide_model.specs.declared.val.Val.TheVariants.{Empty, Int, Cell}
 use Rattle.tide_model.specs.declared.op.Op.TheVariants.{Table, Claim, Release, Unclaim, Add, GetProp, SetProp, StrongSet, StrongGet, WeakSet, PairSet, PairGet, PairDel, Group, Retire}
 use Rattle.tide_model.specs.declared.op.Reply.TheVariants.{Done, Born, Seen, Refused}
 use Rattle.tide_model.specs.declared.op.Refusal.TheVariants.{NotCell, IsTable, NotTable, Held, NotHeld, Present, Absent, NoShape, PairsFull, ClaimsFull, Full}
-use Rattle.tide_model.specs.Layout.{Layout, capacity_of, array_class_for, array_capacity_of, class_of_array}
+use Rattle.tide_model.specs.Layout.{Layout, capacity_of, array_class_for, array_capacity_of, class_of_array, slots_of}
 use Rattle.tide_model.specs.Numbers.{put_at}
 use Rattle.tide_model.specs.State.{State, free, live, spent, blank_cell, empty_state}
 use Rattle.tide_model.specs.Refused.{ShapeLists, refusal_of}
@@ -17,9 +17,9 @@ use Rattle.tide_model.specs.Rows.{small}
 -- the capacities are 4, 8, 16, 32 and 64, of the classes 5 to 9
 pub capacities :
     (capacity_of 0 ≡ 0) × (capacity_of 1 ≡ 4) × (capacity_of 4 ≡ 4) × (capacity_of 5 ≡ 8) × (capacity_of 16 ≡ 16) × (capacity_of 33 ≡ 64) × (capacity_of 64 ≡ 64)
-    × (array_class_for 4 ≡ 5) × (array_class_for 5 ≡ 6) × (array_class_for 64 ≡ 9) × (array_capacity_of 7 ≡ 16)
+    × (array_class_for 4 ≡ 5) × (array_class_for 5 ≡ 6) × (array_class_for 64 ≡ 9) × (array_capacity_of 7 ≡ 16) × (slots_of 3 ≡ 16) × (slots_of 4 ≡ 0)
     × (class_of_array small 63 ≡ 5) × (class_of_array small 64 ≡ 6)
-capacities = (refl, refl, refl, refl, refl, refl, refl, refl, refl, refl, refl, refl, refl)
+capacities = (refl, refl, refl, refl, refl, refl, refl, refl, refl, refl, refl, refl, refl, refl, refl)
 
 -- two mutators on the small store
 abbrev pub shared : Layout
@@ -155,6 +155,22 @@ bare = record working { cells = put_at working.cells 0 (blank_cell live) }
 
 pub first_property_takes_array : IsAnswer shared path bare 0 (Add 0 0 2) Done (Some 4)
 first_property_takes_array = (refl, record { of_class = record { from = lit≤ tt; below = lit< tt }; is_free = refl })
+
+-- an array of the next class but one, and one that is live, are none for it
+pub larger_array_is_not_taken : IsAnswer shared path bare 0 (Add 0 0 2) Done (Some 70) → ⊥
+larger_array_is_not_taken takes = let below = takes.1.of_class.below in omega (arith, below)
+
+pub live_array_is_not_taken : IsAnswer shared path bare 0 (Add 0 0 2) Done (Some 3) → ⊥
+live_array_is_not_taken takes = let clash = takes.1.is_free in cc
+
+-- a fifth property takes an array of eight
+abbrev pub of_four : State
+of_four = record working {
+  cells = put_at working.cells 0 (record (blank_cell live) { keys = 0 ∷ 1 ∷ 2 ∷ 3 ∷ []; array = Some 3 });
+}
+
+pub fifth_property_takes_array_of_eight : IsAnswer shared path of_four 0 (Add 0 4 2) Done (Some 70)
+fifth_property_takes_array_of_eight = (refl, record { of_class = record { from = lit≤ tt; below = lit< tt }; is_free = refl })
 
 pub first_property_takes_one : IsAnswer shared path bare 0 (Add 0 0 2) Done None → ⊥
 first_property_takes_one takes = let bad : true ≡ false = takes in cc

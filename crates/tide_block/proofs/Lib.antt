@@ -1,0 +1,5 @@
+pub mod ArrayLaws
+pub mod BitLaws
+pub mod BlockLaws
+pub mod PlaceLaws
+pub mod RisingLaws

@@ -1,0 +1,20 @@
+//! Where the cells and arrays of a store lie: classes, blocks of 64, and the bits of a block's words.
+//!
+//! A block's words have one bit for each of its 64 cells or arrays. `lowest` and `after` walk the set bits of a
+//! word. The other calls go from an id to its class, its block and its bit, and from a class to its first block
+//! and its first id, in the order that a `Layout` of `tide_words` gives. `proofs/` has the laws that tie these
+//! together, for the crates above.
+#![tactic(auto)]
+
+mod bits;
+mod classes;
+mod sizes;
+#[cfg(test)]
+mod tests;
+
+pub use bits::{after, lowest};
+pub use classes::{
+    bit_of, block_of_array, block_of_cell, class_of, class_of_array, first_array_of,
+    first_block_of, first_of,
+};
+pub use sizes::{array_capacity, slots};

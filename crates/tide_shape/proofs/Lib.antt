@@ -1,0 +1,8 @@
+pub mod DoubleLaws
+pub mod GrowthLaws
+pub mod LinkLaws
+pub mod PathLaws
+pub mod PositionLaws
+pub mod ShapesLaws
+pub mod TableLaws
+pub mod WalkLaws

@@ -1,0 +1,21 @@
+//! Shapes: the lists of property keys that a cell may have, and the next shape by a key.
+//!
+//! A workload declares paths of keys, and the shapes are the beginnings of these paths. `ShapeTable` is what the
+//! crates above use of them, and its contracts speak of nothing but the list of keys of each shape. `Shapes` is
+//! the table that is made of declared paths. The crate stands on tide_model alone.
+#![tactic(auto)]
+
+mod capacities;
+mod paths;
+mod shape_table;
+mod shapes;
+mod shapes_refused;
+#[cfg(test)]
+mod tests;
+mod tree;
+
+pub use capacities::capacity;
+pub use paths::Paths;
+pub use shape_table::ShapeTable;
+pub use shapes::{Shapes, double_path};
+pub use shapes_refused::ShapesRefused;
