@@ -8,7 +8,7 @@ use Rattle.tide_workload.specs.Work.{Work}
 use Rattle.tide_run.specs.declared.program.Stop.{Stop}
 use Rattle.tide_run.specs.declared.program.Stop.TheVariants.{Usage, ReadFault, BadInput, Memory}
 use Rattle.tide_run.specs.Ran.{Ran}
-use Rattle.tide_run.specs.Program.{input_of, Took, RefusedInput, RanInput, stop_status}
+use Rattle.tide_run.specs.Program.{input_of, Took, RefusedInput, RanInput, stop_status, stop_line, status_line}
 
 -- the first bytes of two parts, where the first part is that long or all there is
 take_first : (count : ℕ) (xs ys : List ℕ) → length xs ≤ count → (length xs < count → ys ≡ []) → take count (xs ++ ys) ≡ xs
@@ -59,3 +59,10 @@ bad-stop Usage is = absurd (omega (arith, is))
 bad-stop ReadFault is = absurd (omega (arith, is))
 bad-stop (BadInput fault) is = (fault, refl)
 bad-stop Memory is = absurd (omega (arith, is))
+
+-- the line of a program that ran nothing is that of its status, but for bad input
+pub told-stop : (stop : Stop) (status : ℕ) → status ≡ stop_status stop → (status ≡ 3 → ⊥) → stop_line stop ≡ status_line status
+told-stop Usage status is other = ap status_line (sym is)
+told-stop ReadFault status is other = ap status_line (sym is)
+told-stop (BadInput fault) status is other = absurd (other is)
+told-stop Memory status is other = ap status_line (sym is)

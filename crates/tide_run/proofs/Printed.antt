@@ -35,7 +35,7 @@ all_lines line xs n = sym (flat_map-append line (take n xs) (drop n xs)) ∙ ap 
 -- what a record prints is what its event prints, after the events before it
 record_prints : (layout : Layout) (before : List Event) (r : Record) → IsCounted layout before r →
     end_line (event_of r).entry (live_count layout (after_event layout (state_after layout before) (event_of r))) ≡ record_line r
-record_prints layout before (Called op reply) counted = refl
+record_prints layout before (Called op reply took) counted = refl
 record_prints layout before (Began cycle) counted = refl
 record_prints layout before (Paused visits) counted = refl
 record_prints layout before (Ended cycle freed kept) counted =
@@ -61,13 +61,14 @@ pub cycles_printed : (layout : Layout) (records : List Record) → AreCounted la
 cycles_printed layout records counted = cycles_after layout [] records counted
 
 -- the calls print their lines
-pub calls_printed : (calls : List Answered) → call_lines (map pair_of calls) ≡ flat_map answered_line calls
-calls_printed [] = refl
-calls_printed (call ∷ calls) = ap (λ (rest : List ℕ). answered_line call ++ rest) (calls_printed calls)
+pub calls_printed : (keys : List (List ℕ)) (calls : List Answered) → call_lines keys (map pair_of calls) ≡ flat_map (answered_line keys) calls
+calls_printed keys [] = refl
+calls_printed keys (call ∷ calls) = ap (λ (rest : List ℕ). answered_line keys call ++ rest) (calls_printed keys calls)
 
 -- the calls that were recorded print those of the history
-pub calls_text : (history : List Event) (calls : List Answered) → map pair_of calls ≡ calls_of 0 history → flat_map answered_line calls ≡ call_lines (calls_of 0 history)
-calls_text history calls told = sym (calls_printed calls) ∙ ap call_lines told
+pub calls_text : (keys : List (List ℕ)) (history : List Event) (calls : List Answered) → map pair_of calls ≡ calls_of 0 history →
+    flat_map (answered_line keys) calls ≡ call_lines keys (calls_of 0 history)
+calls_text keys history calls told = sym (calls_printed keys calls) ∙ ap (call_lines keys) told
 
 -- and the records its cycles
 pub cycles_text : (layout : Layout) (history : List Event) (records : List Record) → events_of records ≡ history → AreCounted layout records →
@@ -75,7 +76,8 @@ pub cycles_text : (layout : Layout) (history : List Event) (records : List Recor
 cycles_text layout history records told counted = sym (cycles_printed layout records counted) ∙ ap (cycles_from layout empty_state) told
 
 -- the text of a history of one mutator, in its parts
-pub text_parts : (layout : Layout) (history : List Event) → layout.mutators ≡ 1 →
-    ((mutator_line 0 ++ call_lines (calls_of 0 history)) ++ cycles_from layout empty_state history) ++ live_line (live_count layout (state_after layout history)) ≡ text_of layout history
-text_parts layout history one =
-    ap (λ (n : ℕ). (mutators_text n history ++ cycles_from layout empty_state history) ++ live_line (live_count layout (state_after layout history))) (sym one)
+pub text_parts : (keys : List (List ℕ)) (layout : Layout) (history : List Event) → layout.mutators ≡ 1 →
+    ((mutator_line 0 ++ call_lines keys (calls_of 0 history)) ++ cycles_from layout empty_state history) ++ live_line (live_count layout (state_after layout history))
+    ≡ text_of keys layout history
+text_parts keys layout history one =
+    ap (λ (n : ℕ). (mutators_text keys n history ++ cycles_from layout empty_state history) ++ live_line (live_count layout (state_after layout history))) (sym one)

@@ -1,83 +1,123 @@
 -- What a runner's steps keep.
-use Rattle.std.proofs.Common.{ℕ, zero, suc, ◌≡◌, ◌+◌, ◌≤◌, refl, sym, ◌∙◌, ap, subst, arith, Bool, true, List, [], ◌∷◌, ◌++◌, length, append_assoc}
+use Rattle.std.proofs.Common.{ℕ, ◌≡◌, ◌+◌, ◌<◌, refl, sym, ◌∙◌, ap, subst, arith, Bool, true, false, List, [], ◌∷◌, ◌++◌, length, append_assoc}
 use Rattle.std.proofs.lemmas.List.{map-append}
-use Rattle.std.specs.Prelude.{map, All, None}
-use Rattle.tide_model.specs.declared.val.Val.{Val}
+use Rattle.std.proofs.lemmas.List.Elements.{All-nil, All-push}
+use Rattle.std.specs.Prelude.{map, All, Option, None, Some, if◌then◌else◌}
 use Rattle.tide_model.specs.declared.op.Op.{Op}
-use Rattle.tide_model.specs.declared.op.Op.TheVariants.{Alloc, Get, Put, Move, Set, Drop, Collect, Retire}
+use Rattle.tide_model.specs.declared.op.Op.TheVariants.{Unclaim, Retire}
 use Rattle.tide_model.specs.declared.op.Reply.{Reply}
-use Rattle.tide_model.specs.Layout.{Layout, cell_count}
-use Rattle.tide_model.specs.State.{State, empty_state}
-use Rattle.tide_model.specs.Applied.{after_call}
-use Rattle.tide_model.specs.Lawful.{FitsLayout}
+use Rattle.tide_model.specs.declared.op.Reply.TheVariants.{Refused}
+use Rattle.tide_model.specs.declared.op.Refusal.TheVariants.{Full}
+use Rattle.tide_model.specs.declared.entry.Event.{Event}
 use Rattle.tide_model.specs.Answer.{IsAnswer}
-use Rattle.tide_model.specs.Refused.{no_shapes}
+use Rattle.tide_model.specs.Applied.{after_call}
+use Rattle.tide_model.specs.Layout.{Layout, IsBlockOf}
+use Rattle.tide_model.specs.Lawful.{FitsLayout}
+use Rattle.tide_model.specs.Refused.{ShapeLists}
 use Rattle.tide_model.specs.Room.{IsFullBlock}
-use Rattle.tide_model.proofs.Histories.{IsLawful-nil}
-use Rattle.tide_workload.specs.declared.settings.Settings.{Settings}
-use Rattle.tide_run.specs.declared.store.stored_cell.StoredCell.{StoredCell}
+use Rattle.tide_model.specs.History.{after_end, swept_all}
+use Rattle.tide_model.specs.Schedule.{is_retire}
+use Rattle.tide_model.specs.State.{State, empty_state, idle}
+use Rattle.tide_plain.specs.Store.{layout_of, shapes_of, state_of}
+use Rattle.tide_workload.specs.Line.{HasText}
+use Rattle.tide_run.specs.declared.answered.Answered.{Answered}
+use Rattle.tide_run.specs.declared.runner.Runner.{Runner}
 use Rattle.tide_run.specs.declared.told.Record.{Record}
 use Rattle.tide_run.specs.declared.told.Record.TheVariants.{Called, Began, Paused, Ended}
-use Rattle.tide_run.specs.declared.answered.Answered.{Answered}
-use Rattle.tide_workload.specs.Line.{HasText}
-use Rattle.tide_run.specs.declared.runner.Runner.{Runner}
-use Rattle.tide_run.specs.Runner.{IsUnderway, RanCycle}
-use Rattle.tide_run.specs.Store.{state_of, layout_of, IsCall, IsSound, IsServed, IsFreed, IsBlanked, RefsAreLive, live_cells}
-use Rattle.tide_run.specs.Told.{event_of, events_of, Tells, AreCounted, pair_of, sweeps_of, cycle_records}
-use Rattle.tide_run.proofs.Telling.{Tells-push, StandsFull-now}
-use Rattle.tide_run.proofs.CycleLaws.{Tells-by, Tells-cycle, IsCollected, freed_blocks}
-use Rattle.tide_run.proofs.TurnLaws.{IsWholeCycle-recorded}
-use Rattle.tide_run.proofs.Collecting.{RefsAreLive-blanked}
+use Rattle.tide_run.specs.Runner.{history_of, is_swept, keys_of, IsAskable, IsSameRun, IsUnderway, MadeCall, MayAsk, RanCycle}
+use Rattle.tide_run.specs.Told.{event_of, events_of, Tells, pair_of, sweeps_of, cycle_records}
+use Rattle.tide_run.proofs.CycleLaws.{IsCollected, IsWholeCycle-recorded, Tells-cycle, swept_blocks}
+use Rattle.tide_run.proofs.Telling.{StandsFull-now, Tells-by, Tells-nothing, Tells-push}
 
--- nothing was told yet
-pub Tells-nothing : (layout : Layout) (records : List Record) (state : State) (answered : List Answered) → records ≡ [] → state ≡ empty_state → answered ≡ [] →
-    Tells layout records state 0 (map pair_of answered)
-Tells-nothing layout records state answered no_records is_empty no_calls =
-    Tells-by layout [] records empty_state state 0 0 [] (map pair_of answered) (sym no_records) (sym is_empty) refl (ap (map pair_of) (sym no_calls)) (record {
-      lawful = IsLawful-nil layout no_shapes;
-      leaves = refl;
-      begun = refl;
-      counted = nothing_counted layout;
-      called = refl;
-    })
-  where
-    nothing_counted : (l : Layout) → AreCounted l []
-    nothing_counted l zero r is = absurd (cc)
-    nothing_counted l (suc place) r is = absurd (cc)
+-- an operation that isn't to retire may be asked for where its operands are there
+pub MayAsk-askable : (runner : Runner) (op : Op) → IsAskable runner.layout (keys_of runner) op → MayAsk runner op
+MayAsk-askable runner op askable = record {
+  fits = askable.fits;
+  text = askable.text;
+  released = λ is. let clash : true ≡ false = sym (ap is_retire is) ∙ askable.goes_on in absurd (cc);
+}
 
--- the operands of an operation that is served are those of the layout
-FitsLayout-served : (settings : Settings) (op : Op) → IsServed settings op → FitsLayout (layout_of settings 1) op
-FitsLayout-served settings (Alloc dst class) served = served
-FitsLayout-served settings (Get dst src slot) served = served
-FitsLayout-served settings (Put src slot val) served = served
-FitsLayout-served settings (Move dst src) served = served
-FitsLayout-served settings (Set dst n) served = served
-FitsLayout-served settings (Drop dst) served = served
-FitsLayout-served settings Collect served = tt
-FitsLayout-served settings Retire served = tt
-FitsLayout-served settings op served = absurd served
+-- what may be asked for stays so
+pub IsAskable-same : (old new : Runner) (op : Op) → IsSameRun old new → IsAskable old.layout (keys_of old) op → IsAskable new.layout (keys_of new) op
+IsAskable-same old new op same askable =
+    subst (λ (l : Layout). IsAskable l (keys_of new) op) (sym same.layout)
+    (subst (λ (keys : List (List ℕ)). IsAskable old.layout keys op) (sym (ap (λ names. map (λ name. name.items) names.items) same.names)) askable)
+
+-- the runner is underway before anything was run
+pub IsUnderway-nothing : (runner : Runner) → runner.records.items ≡ [] → runner.answered.items ≡ [] → runner.cycles ≡ 0 → state_of runner.store ≡ empty_state →
+    layout_of runner.store ≡ runner.layout → runner.layout.mutators ≡ 1 → IsUnderway runner
+IsUnderway-nothing runner no_records no_calls no_cycles is_empty layout one = record {
+  tells = Tells-by runner.layout (shapes_of runner.store) [] runner.records.items empty_state (state_of runner.store) 0 runner.cycles [] (map pair_of runner.answered.items)
+      (sym no_records) (sym is_empty) (sym no_cycles) (ap (map pair_of) (sym no_calls)) (Tells-nothing runner.layout (shapes_of runner.store));
+  layout = layout;
+  one_mutator = one;
+  texts = subst (λ (calls : List Answered). All (λ call. HasText (keys_of runner) call.op) calls) (sym no_calls) (All-nil (λ call. HasText (keys_of runner) call.op));
+}
+
+-- what a call did to a runner
+pub record DidCall (old new : Runner) (op : Op) (reply : Reply) (took : Option ℕ) : Type 0 where
+  pub answers : IsAnswer (layout_of old.store) (shapes_of old.store) (state_of old.store) 0 op reply took
+  pub leaves : state_of new.store ≡ after_call (state_of old.store) 0 op reply took
+  pub room : (class : ℕ) → reply ≡ Refused (Full class) → (block : ℕ) → IsBlockOf (layout_of old.store) class block →
+      IsFullBlock (layout_of old.store) (state_of old.store) block
+  pub store_layout : layout_of new.store ≡ layout_of old.store
+  pub shapes : shapes_of new.store ≡ shapes_of old.store
+  pub recorded : new.records.items ≡ old.records.items ++ Called op reply took ∷ []
+  pub answered : new.answered.items ≡ old.answered.items ++ record { op = op; reply = reply } ∷ []
+  pub layout : new.layout ≡ old.layout
+  pub names : new.names ≡ old.names
+  pub cycles : new.cycles ≡ old.cycles
 
 -- a call is told
-pub Tells-call : (settings : Settings) (registers others : List Val) (cells others_cells : List StoredCell) (was_active is_active : Bool) (records new_records : List Record)
-    (answered new_answered : List Answered) (cycles : ℕ) (op : Op) (reply : Reply) →
-    was_active ≡ true → new_records ≡ records ++ Called op reply ∷ [] → new_answered ≡ answered ++ record { op = op; reply = reply } ∷ [] →
-    Tells (layout_of settings 1) records (state_of was_active registers cells) cycles (map pair_of answered) → IsServed settings op →
-    IsCall settings (state_of was_active registers cells) (state_of is_active others others_cells) op reply →
-    Tells (layout_of settings 1) new_records (state_of is_active others others_cells) cycles (map pair_of new_answered)
-Tells-call settings registers others cells others_cells was_active is_active records new_records answered new_answered cycles op reply was recorded told_back told served is_call =
-    let layout = layout_of settings 1 in
-    let old = state_of was_active registers cells in
-    Tells-by layout (records ++ Called op reply ∷ []) new_records (after_call old 0 op reply None) (state_of is_active others others_cells) (cycles + 0) cycles
-    (map pair_of answered ++ (op, reply) ∷ []) (map pair_of new_answered)
-    (sym recorded) (sym is_call.leaves) (omega arith) (sym (ap (map pair_of) told_back ∙ map-append pair_of answered (record { op = op; reply = reply } ∷ [])))
-    (Tells-push layout records old cycles (map pair_of answered) (Called op reply) told (record {
-      is_mutator = omega arith;
-      is_active = ap (λ (s : State). s.active 0) told.leaves ∙ was;
-      fits = FitsLayout-served settings op served;
-      answers = subst (λ (s : State). IsAnswer layout no_shapes s 0 op reply None) (sym told.leaves) is_call.answers;
-      room = λ class is. StandsFull-now layout (events_of records) 0 class
-          (λ block of_class. subst (λ (s : State). IsFullBlock layout s block) (sym told.leaves) (is_call.room class is block of_class));
+Tells-call : (old new : Runner) (op : Op) (reply : Reply) (took : Option ℕ) → IsUnderway old → (state_of old.store).active 0 ≡ true → FitsLayout old.layout op →
+    IsAnswer old.layout (shapes_of old.store) (state_of old.store) 0 op reply took →
+    ((class : ℕ) → reply ≡ Refused (Full class) → (block : ℕ) → IsBlockOf old.layout class block → IsFullBlock old.layout (state_of old.store) block) →
+    DidCall old new op reply took →
+    Tells old.layout (shapes_of old.store) new.records.items (state_of new.store) new.cycles (map pair_of new.answered.items)
+Tells-call old new op reply took underway active fits answers room did =
+    let told = underway.tells in
+    let calls = map pair_of old.answered.items in
+    let state = state_of old.store in
+    Tells-by old.layout (shapes_of old.store) (old.records.items ++ Called op reply took ∷ []) new.records.items (after_call state 0 op reply took) (state_of new.store)
+    (old.cycles + 0) new.cycles (calls ++ (op, reply) ∷ []) (map pair_of new.answered.items)
+    (sym did.recorded) (sym did.leaves) (let e = did.cycles in omega (arith, e))
+    (sym (ap (map pair_of) did.answered ∙ map-append pair_of old.answered.items (record { op = op; reply = reply } ∷ [])))
+    (Tells-push old.layout (shapes_of old.store) old.records.items state old.cycles calls (Called op reply took) told (record {
+      is_mutator = let one = underway.one_mutator in omega (arith, one);
+      is_active = ap (λ (s : State). s.active 0) told.leaves ∙ active;
+      fits = fits;
+      answers = subst (λ (s : State). IsAnswer old.layout (shapes_of old.store) s 0 op reply took) (sym told.leaves) answers;
+      room = λ class is. StandsFull-now old.layout (history_of old) 0 class
+          (λ block of_class. subst (λ (s : State). IsFullBlock old.layout s block) (sym told.leaves) (room class is block of_class));
     }) tt)
+
+pub MadeCall-did : (old new : Runner) (op : Op) (reply : Reply) (took : Option ℕ) → IsUnderway old → (state_of old.store).active 0 ≡ true → MayAsk old op →
+    DidCall old new op reply took → MadeCall old new op reply
+MadeCall-did old new op reply took underway active may did =
+    let answers : IsAnswer old.layout (shapes_of old.store) (state_of old.store) 0 op reply took =
+    subst (λ (l : Layout). IsAnswer l (shapes_of old.store) (state_of old.store) 0 op reply took) underway.layout did.answers in
+    let room : (class : ℕ) → reply ≡ Refused (Full class) → (block : ℕ) → IsBlockOf old.layout class block → IsFullBlock old.layout (state_of old.store) block =
+    subst (λ (l : Layout). (class : ℕ) → reply ≡ Refused (Full class) → (block : ℕ) → IsBlockOf l class block → IsFullBlock l (state_of old.store) block) underway.layout did.room in
+    let tells = Tells-call old new op reply took underway active may.fits answers room did in
+    let same_keys : keys_of new ≡ keys_of old = ap (λ names. map (λ name. name.items) names.items) did.names in
+    record {
+      underway = record {
+        tells = subst (λ (l : Layout). Tells l (shapes_of new.store) new.records.items (state_of new.store) new.cycles (map pair_of new.answered.items)) (sym did.layout)
+            (subst (λ (shapes : ShapeLists). Tells old.layout shapes new.records.items (state_of new.store) new.cycles (map pair_of new.answered.items)) (sym did.shapes) tells);
+        layout = did.store_layout ∙ underway.layout ∙ sym did.layout;
+        one_mutator = ap (λ (l : Layout). l.mutators) did.layout ∙ underway.one_mutator;
+        texts = subst (λ (keys : List (List ℕ)). All (λ call. HasText keys call.op) new.answered.items) (sym same_keys)
+            (subst (λ (calls : List Answered). All (λ call. HasText (keys_of old) call.op) calls) (sym did.answered)
+            (All-push (λ call. HasText (keys_of old) call.op) old.answered.items (record { op = op; reply = reply }) underway.texts may.text));
+      };
+      took = took;
+      answers = answers;
+      leaves = did.leaves;
+      history = ap events_of did.recorded ∙ map-append event_of old.records.items (Called op reply took ∷ []);
+      room = room;
+      same = record { layout = did.layout; names = did.names; shapes = did.shapes };
+      cycles = did.cycles;
+    }
 
 -- the records of a cycle, one after another
 joined_records : (r0 r1 r2 r3 r4 : List Record) (number kept : ℕ) (freed blocks : List ℕ) →
@@ -90,76 +130,52 @@ joined_records r0 r1 r2 r3 r4 number kept freed blocks e1 e2 e3 e4 =
     ∙ append_assoc r0 (Began number ∷ Paused kept ∷ Ended number freed kept ∷ []) (sweeps_of blocks)
 
 -- what the steps of a cycle did to a runner
-pub record DidCycle (old new : Runner) (freed blocks : List ℕ) (kept : ℕ) (r1 r2 r3 : List Record) : Type 0 where
-  pub is_freed : IsFreed old.store.is_active old.store.registers.items old.store.cells.items freed
-  pub blanked : IsBlanked old.store.cells.items new.store.cells.items freed
-  pub settings : new.store.settings ≡ old.store.settings
-  pub registers : new.store.registers.items ≡ old.store.registers.items
-  pub active : new.store.is_active ≡ old.store.is_active
-  pub is_kept : kept ≡ live_cells new.store.cells.items
-  pub swept : blocks ≡ freed_blocks old.store.settings freed
+pub record DidCycle (old new : Runner) (freed : List ℕ) (kept : ℕ) (r1 r2 r3 : List Record) : Type 0 where
+  pub collected : IsCollected (layout_of old.store) (state_of old.store) freed (is_swept new.store) kept
+  pub leaves : state_of new.store ≡ swept_all (after_end (state_of old.store) freed)
+  pub store_layout : layout_of new.store ≡ layout_of old.store
+  pub shapes : shapes_of new.store ≡ shapes_of old.store
   pub began : r1 ≡ old.records.items ++ Began (old.cycles + 1) ∷ []
   pub paused : r2 ≡ r1 ++ Paused kept ∷ []
   pub ended : r3 ≡ r2 ++ Ended (old.cycles + 1) freed kept ∷ []
-  pub recorded : new.records.items ≡ r3 ++ sweeps_of blocks
+  pub recorded : new.records.items ≡ r3 ++ sweeps_of (swept_blocks old.layout (is_swept new.store))
   pub answered : new.answered.items ≡ old.answered.items
+  pub layout : new.layout ≡ old.layout
+  pub names : new.names ≡ old.names
   pub cycles : new.cycles ≡ old.cycles + 1
 
-pub RanCycle-did : (old new : Runner) (freed blocks : List ℕ) (kept : ℕ) (r1 r2 r3 : List Record) → IsUnderway old →
-    IsSound old.store.settings old.store.registers.items old.store.cells.items → DidCycle old new freed blocks kept r1 r2 r3 → RanCycle old new
-RanCycle-did old new freed blocks kept r1 r2 r3 underway sound did =
-    let settings = old.store.settings in
-    let collected : IsCollected settings old.store.is_active old.store.registers.items old.store.cells.items new.store.cells.items freed kept =
-    record { all_cells = underway.all_cells; is_freed = did.is_freed; blanked = did.blanked; is_kept = did.is_kept } in
+pub RanCycle-did : (old new : Runner) (freed : List ℕ) (kept : ℕ) (r1 r2 r3 : List Record) → IsUnderway old → (state_of old.store).phase ≡ idle →
+    DidCycle old new freed kept r1 r2 r3 → RanCycle old new
+RanCycle-did old new freed kept r1 r2 r3 underway is_idle did =
+    let layout = old.layout in
+    let shapes = shapes_of old.store in
+    let state = state_of old.store in
+    let test = is_swept new.store in
     let number = old.cycles + 1 in
-    let records : new.records.items ≡ old.records.items ++ cycle_records number freed kept (freed_blocks settings freed) =
-    joined_records old.records.items r1 r2 r3 new.records.items number kept freed blocks did.began did.paused did.ended did.recorded
-    ∙ ap (λ (bs : List ℕ). old.records.items ++ cycle_records number freed kept bs) did.swept in
-    let told = Tells-cycle settings old.store.is_active old.store.registers.items old.store.cells.items new.store.cells.items freed kept
-    old.records.items old.cycles (map pair_of old.answered.items) collected underway.tells in
-    let same_state : state_of old.store.is_active old.store.registers.items new.store.cells.items ≡ state_of new.store.is_active new.store.registers.items new.store.cells.items =
-    ap (λ (a : Bool). state_of a old.store.registers.items new.store.cells.items) (sym did.active)
-    ∙ ap (λ (r : List Val). state_of new.store.is_active r new.store.cells.items) (sym did.registers) in
-    let tells = subst (λ (s : Settings). Tells (layout_of s 1) new.records.items (state_of new.store.is_active new.store.registers.items new.store.cells.items) new.cycles (map pair_of new.answered.items))
-    (sym did.settings)
-    (Tells-by (layout_of settings 1) (old.records.items ++ cycle_records number freed kept (freed_blocks settings freed)) new.records.items
-    (state_of old.store.is_active old.store.registers.items new.store.cells.items) (state_of new.store.is_active new.store.registers.items new.store.cells.items)
-    number new.cycles (map pair_of old.answered.items) (map pair_of new.answered.items)
-    (sym records) same_state (sym did.cycles) (ap (map pair_of) (sym did.answered)) told) in
-    let all : length new.store.cells.items ≡ cell_count (layout_of new.store.settings 1) =
-    did.blanked.as_many ∙ underway.all_cells ∙ ap (λ (s : Settings). cell_count (layout_of s 1)) (sym did.settings) in
-    let few : length new.store.cells.items ≤ 81600 = let e = did.blanked.as_many in let f = underway.few_cells in omega (arith, e, f) in
-    let under : IsUnderway new = record { tells = tells; all_cells = all; few_cells = few; texts = subst (λ (calls : List Answered). All (λ call. HasText call.op) calls) (sym did.answered) underway.texts } in
+    let blocks = swept_blocks layout test in
+    let calls = map pair_of old.answered.items in
+    let collected : IsCollected layout state freed test kept = subst (λ (l : Layout). IsCollected l state freed test kept) underway.layout did.collected in
+    let records : new.records.items ≡ old.records.items ++ cycle_records number freed kept blocks =
+    joined_records old.records.items r1 r2 r3 new.records.items number kept freed blocks did.began did.paused did.ended did.recorded in
+    let told = Tells-cycle layout shapes state freed test kept old.records.items old.cycles calls collected is_idle underway.tells in
+    let tells = Tells-by layout shapes (old.records.items ++ cycle_records number freed kept blocks) new.records.items (swept_all (after_end state freed)) (state_of new.store)
+    number new.cycles calls (map pair_of new.answered.items)
+    (sym records) (sym did.leaves) (sym did.cycles) (ap (map pair_of) (sym did.answered)) told in
+    let same_keys : keys_of new ≡ keys_of old = ap (λ names. map (λ name. name.items) names.items) did.names in
     record {
-      underway = under;
-      cycle = events_of (cycle_records number freed kept (freed_blocks settings freed));
-      whole = IsWholeCycle-recorded settings old.store.is_active old.store.registers.items old.store.cells.items new.store.cells.items freed kept number (events_of old.records.items) collected underway.tells.leaves;
-      history = ap events_of records ∙ map-append event_of old.records.items (cycle_records number freed kept (freed_blocks settings freed));
-      calls = did.answered;
-      settings = did.settings;
-      ready = λ active. record {
-        underway = under;
-        sound = record {
-          all_registers = ap length did.registers ∙ sound.all_registers ∙ ap (λ (s : Settings). s.registers) (sym did.settings);
-          all_cells = all;
-          few_cells = few;
-          references = subst (λ (r : List Val). RefsAreLive r new.store.cells.items) (sym did.registers)
-              (RefsAreLive-blanked old.store.registers.items old.store.cells.items new.store.cells.items freed sound.references
-              (subst (λ (a : Bool). IsFreed a old.store.registers.items old.store.cells.items freed) active did.is_freed) did.blanked);
-        };
-        active = did.active ∙ active;
+      underway = record {
+        tells = subst (λ (l : Layout). Tells l (shapes_of new.store) new.records.items (state_of new.store) new.cycles (map pair_of new.answered.items)) (sym did.layout)
+            (subst (λ (s : ShapeLists). Tells layout s new.records.items (state_of new.store) new.cycles (map pair_of new.answered.items)) (sym did.shapes) tells);
+        layout = did.store_layout ∙ underway.layout ∙ sym did.layout;
+        one_mutator = ap (λ (l : Layout). l.mutators) did.layout ∙ underway.one_mutator;
+        texts = subst (λ (keys : List (List ℕ)). All (λ call. HasText keys call.op) new.answered.items) (sym same_keys)
+            (subst (λ (some : List Answered). All (λ call. HasText (keys_of old) call.op) some) (sym did.answered) underway.texts);
       };
+      cycle = events_of (cycle_records number freed kept blocks);
+      whole = IsWholeCycle-recorded layout state freed test kept number (history_of old) collected underway.tells.leaves;
+      history = ap events_of records ∙ map-append event_of old.records.items (cycle_records number freed kept blocks);
+      active = ap (λ (s : State). s.active) did.leaves;
+      claims = ap (λ (s : State). s.claims) did.leaves;
+      same = record { layout = did.layout; names = did.names; shapes = did.shapes };
       cycles = did.cycles;
     }
-
--- an operation that is served has a text
-pub HasText-served : (settings : Settings) (op : Op) → IsServed settings op → HasText op
-HasText-served settings (Alloc dst class) served = tt
-HasText-served settings (Get dst src slot) served = tt
-HasText-served settings (Put src slot val) served = tt
-HasText-served settings (Move dst src) served = tt
-HasText-served settings (Set dst n) served = tt
-HasText-served settings (Drop dst) served = tt
-HasText-served settings Collect served = tt
-HasText-served settings Retire served = tt
-HasText-served settings op served = absurd served

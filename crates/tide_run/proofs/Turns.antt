@@ -1,6 +1,6 @@
 -- How a turn keeps the schedule.
 use Rattle.std.proofs.Common.{ℕ, ◌≡◌, refl, sym, ◌∙◌, ap, subst, arith, Bool, true, false, List, [], ◌∷◌, ◌++◌, append_assoc, append-nil, inl, inr}
-use Rattle.std.specs.Prelude.{map, ◌⊎◌, ◌||◌, ◌&&◌, not, None, Some, if◌then◌else◌}
+use Rattle.std.specs.Prelude.{map, ◌⊎◌, ◌||◌, ◌&&◌, not, Option, None, Some, if◌then◌else◌}
 use Rattle.tide_model.specs.declared.op.Op.{Op}
 use Rattle.tide_model.specs.declared.op.Op.TheVariants.{Retire}
 use Rattle.tide_model.specs.declared.op.Reply.{Reply}
@@ -11,15 +11,17 @@ use Rattle.tide_model.specs.declared.entry.Entry.TheVariants.{Call, Sweep}
 use Rattle.tide_model.specs.declared.entry.Event.{Event}
 use Rattle.tide_model.specs.Layout.{Layout, IsBlockOf}
 use Rattle.tide_model.specs.History.{plain, state_after}
+use Rattle.tide_model.specs.State.{State}
 use Rattle.tide_model.specs.Room.{IsFullBlock}
 use Rattle.tide_model.specs.Script.{calls_of, is_full_reply, is_full_refusal}
 use Rattle.tide_model.specs.Schedule.{Turn, is_asked, is_retire, retry_of, AsksForCycle, asked, refused, retired, IsWholeCycle, IsScheduled, one_more}
 use Rattle.tide_model.proofs.Histories.{calls_of-append}
-use Rattle.tide_workload.specs.declared.settings.Settings.{Settings}
+use Rattle.tide_model.specs.Applied.{after_call}
+use Rattle.tide_plain.specs.Store.{state_of}
 use Rattle.tide_run.specs.declared.runner.Runner.{Runner}
-use Rattle.tide_run.specs.Runner.{runner_layout, history_of, IsUnderway, IsReady, RanCycle, RanTurn}
-use Rattle.tide_run.specs.Store.{layout_of, IsSound, is_active_after}
 use Rattle.tide_run.specs.Asking.{asks_for_cycle}
+use Rattle.tide_run.specs.Runner.{history_of, IsReady, IsUnderway, MadeCall, RanCycle, RanTurn}
+use Rattle.tide_run.proofs.CallLaws.{active_after-call}
 
 -- the tests tell which operation and reply it is
 retire_from_test : (op : Op) → is_retire op ≡ true → op ≡ Retire
@@ -84,12 +86,16 @@ test_from_asks before turn is_retry pending (refused class is none) =
     step false e = or_true (is_retire turn.op)
 test_from_asks before turn is_retry pending (retired is) = ap (λ (o : Op). asks_for_cycle o turn.reply is_retry) is
 
+-- the event of a call by mutator 0
+abbrev pub called : Op → Reply → Option ℕ → Event
+called op reply took = record { entry = Call 0 op reply; took = took }
+
 -- a call by mutator 0 that asks for no cycle
-pub IsScheduled-rest : (layout : Layout) (before : List Event) (op : Op) (reply : Reply) (is_retry : Bool) →
+pub IsScheduled-rest : (layout : Layout) (before : List Event) (op : Op) (reply : Reply) (took : Option ℕ) (is_retry : Bool) →
     IsScheduled layout before → retry_of 0 before ≡ (if is_retry then Some op else None) → asks_for_cycle op reply is_retry ≡ false →
     ((class : ℕ) → reply ≡ Refused (Full class) → (block : ℕ) → IsBlockOf layout class block → IsFullBlock layout (state_after layout before) block) →
-    IsScheduled layout (before ++ plain (Call 0 op reply) ∷ [])
-IsScheduled-rest layout before op reply is_retry scheduled pending rests room =
+    IsScheduled layout (before ++ called op reply took ∷ [])
+IsScheduled-rest layout before op reply took is_retry scheduled pending rests room =
     one_more before turn scheduled (record {
       retries = λ other is. same is_retry pending other is;
       room = room;
@@ -98,20 +104,20 @@ IsScheduled-rest layout before op reply is_retry scheduled pending rests room =
     })
   where
     turn : Turn
-    turn = record { who = 0; op = op; reply = reply; took = None; cycle = [] }
+    turn = record { who = 0; op = op; reply = reply; took = took; cycle = [] }
 
     same : (again : Bool) → retry_of 0 before ≡ (if again then Some op else None) → (other : Op) → retry_of 0 before ≡ Some other → op ≡ other
     same true e other is = let both : Some op ≡ Some other = sym e ∙ is in cc
     same false e other is = let both : None ≡ Some other = sym e ∙ is in absurd (cc)
 
 -- a call by mutator 0 and the cycle that it asked for
-pub IsScheduled-cycle : (layout : Layout) (before : List Event) (op : Op) (reply : Reply) (is_retry : Bool) (cycle : List Event) →
+pub IsScheduled-cycle : (layout : Layout) (before : List Event) (op : Op) (reply : Reply) (took : Option ℕ) (is_retry : Bool) (cycle : List Event) →
     IsScheduled layout before → retry_of 0 before ≡ (if is_retry then Some op else None) → asks_for_cycle op reply is_retry ≡ true →
     ((class : ℕ) → reply ≡ Refused (Full class) → (block : ℕ) → IsBlockOf layout class block → IsFullBlock layout (state_after layout before) block) →
-    IsWholeCycle layout (before ++ plain (Call 0 op reply) ∷ []) cycle →
-    IsScheduled layout ((before ++ plain (Call 0 op reply) ∷ []) ++ cycle)
-IsScheduled-cycle layout before op reply is_retry cycle scheduled pending asks room whole =
-    subst (IsScheduled layout) (sym (append_assoc before (plain (Call 0 op reply) ∷ []) cycle))
+    IsWholeCycle layout (before ++ called op reply took ∷ []) cycle →
+    IsScheduled layout ((before ++ called op reply took ∷ []) ++ cycle)
+IsScheduled-cycle layout before op reply took is_retry cycle scheduled pending asks room whole =
+    subst (IsScheduled layout) (sym (append_assoc before (called op reply took ∷ []) cycle))
     (one_more before turn scheduled (record {
       retries = λ other is. same is_retry pending other is;
       room = room;
@@ -120,26 +126,38 @@ IsScheduled-cycle layout before op reply is_retry cycle scheduled pending asks r
     }))
   where
     turn : Turn
-    turn = record { who = 0; op = op; reply = reply; took = None; cycle = cycle }
+    turn = record { who = 0; op = op; reply = reply; took = took; cycle = cycle }
 
     same : (again : Bool) → retry_of 0 before ≡ (if again then Some op else None) → (other : Op) → retry_of 0 before ≡ Some other → op ≡ other
     same true e other is = let both : Some op ≡ Some other = sym e ∙ is in cc
     same false e other is = let both : None ≡ Some other = sym e ∙ is in absurd (cc)
 
+-- the room of a call, as its history has it
+full_after : (old new : Runner) (op : Op) (reply : Reply) → IsUnderway old → MadeCall old new op reply →
+    (class : ℕ) → reply ≡ Refused (Full class) → (block : ℕ) → IsBlockOf old.layout class block → IsFullBlock old.layout (state_after old.layout (history_of old)) block
+full_after old new op reply underway made class is block of_class =
+    subst (λ (s : State). IsFullBlock old.layout s block) (sym underway.tells.leaves) (made.room class is block of_class)
+
+-- the mutator is active after a call but to retire
+stays_active : (old : Runner) (op : Op) (reply : Reply) (took : Option ℕ) → IsReady old → is_retire op ≡ false → (after_call (state_of old.store) 0 op reply took).active 0 ≡ true
+stays_active old op reply took ready goes_on = ap (λ (active : ℕ → Bool). active 0) (active_after-call (state_of old.store) 0 op reply took goes_on) ∙ ready.active
+
 -- a turn without a cycle, from what its call did
-pub RanTurn-rest : (old new : Runner) (op : Op) (reply : Reply) (is_retry : Bool) → IsReady old → IsScheduled (runner_layout old) (history_of old) →
-    retry_of 0 (history_of old) ≡ (if is_retry then Some op else None) → IsUnderway new → IsSound new.store.settings new.store.registers.items new.store.cells.items →
-    new.store.is_active ≡ is_active_after op → new.store.settings ≡ old.store.settings → history_of new ≡ history_of old ++ plain (Call 0 op reply) ∷ [] →
-    ((class : ℕ) → reply ≡ Refused (Full class) → (block : ℕ) → IsBlockOf (runner_layout old) class block → IsFullBlock (runner_layout old) (state_after (runner_layout old) (history_of old)) block) →
-    new.cycles ≡ old.cycles → asks_for_cycle op reply is_retry ≡ false → RanTurn old new op reply
-RanTurn-rest old new op reply is_retry ready scheduled pending underway sound active settings history room cycles rests = record {
-  underway = underway;
-  scheduled = subst (λ (s : Settings). IsScheduled (layout_of s 1) (history_of new)) (sym settings)
-      (subst (IsScheduled (runner_layout old)) (sym history) (IsScheduled-rest (runner_layout old) (history_of old) op reply is_retry scheduled pending rests room));
-  calls = ap (calls_of 0) history ∙ calls_of-append 0 (history_of old) (plain (Call 0 op reply) ∷ []);
-  settings = settings;
-  ready = λ goes_on. record { underway = underway; sound = sound; active = active ∙ goes_on };
-  cycles = omega (arith, cycles);
+pub RanTurn-rest : (old new : Runner) (op : Op) (reply : Reply) (is_retry : Bool) → IsReady old → IsScheduled old.layout (history_of old) →
+    retry_of 0 (history_of old) ≡ (if is_retry then Some op else None) → MadeCall old new op reply → asks_for_cycle op reply is_retry ≡ false → RanTurn old new op reply
+RanTurn-rest old new op reply is_retry ready scheduled pending made rests = record {
+  underway = made.underway;
+  scheduled = subst (λ (l : Layout). IsScheduled l (history_of new)) (sym made.same.layout)
+      (subst (IsScheduled old.layout) (sym made.history)
+      (IsScheduled-rest old.layout (history_of old) op reply made.took is_retry scheduled pending rests (full_after old new op reply ready.underway made)));
+  calls = ap (calls_of 0) made.history ∙ calls_of-append 0 (history_of old) (called op reply made.took ∷ []);
+  grown = record { rest = called op reply made.took ∷ []; joins = sym made.history };
+  took = made.took;
+  answers = made.answers;
+  ready = λ goes_on. record { underway = made.underway; active = ap (λ (s : State). s.active 0) made.leaves ∙ stays_active old op reply made.took ready goes_on };
+  claims = ap (λ (s : State). s.claims) made.leaves;
+  same = made.same;
+  cycles = let e = made.cycles in omega (arith, e);
 }
 
 -- a whole cycle has no calls
@@ -151,27 +169,36 @@ no_calls_in_cycle layout before cycle whole = ap (calls_of 0) whole.parts ∙ no
     none (block ∷ blocks) = none blocks
 
 -- a turn with a cycle, from what its call and its cycle did
-pub RanTurn-cycle : (old mid new : Runner) (op : Op) (reply : Reply) (is_retry : Bool) → IsScheduled (runner_layout old) (history_of old) →
-    retry_of 0 (history_of old) ≡ (if is_retry then Some op else None) →
-    mid.store.is_active ≡ is_active_after op → mid.store.settings ≡ old.store.settings → history_of mid ≡ history_of old ++ plain (Call 0 op reply) ∷ [] →
-    ((class : ℕ) → reply ≡ Refused (Full class) → (block : ℕ) → IsBlockOf (runner_layout old) class block → IsFullBlock (runner_layout old) (state_after (runner_layout old) (history_of old)) block) →
-    mid.cycles ≡ old.cycles → asks_for_cycle op reply is_retry ≡ true → RanCycle mid new → RanTurn old new op reply
-RanTurn-cycle old mid new op reply is_retry scheduled pending active settings history room cycles asks ran =
-    let all_settings : new.store.settings ≡ old.store.settings = ran.settings ∙ settings in
-    let whole : IsWholeCycle (runner_layout old) (history_of old ++ plain (Call 0 op reply) ∷ []) ran.cycle =
-    subst (λ (h : List Event). IsWholeCycle (runner_layout old) h ran.cycle) history (subst (λ (s : Settings). IsWholeCycle (layout_of s 1) (history_of mid) ran.cycle) settings ran.whole) in
-    let all_history : history_of new ≡ (history_of old ++ plain (Call 0 op reply) ∷ []) ++ ran.cycle = ran.history ∙ ap (λ (h : List Event). h ++ ran.cycle) history in
+pub RanTurn-cycle : (old mid new : Runner) (op : Op) (reply : Reply) (is_retry : Bool) → IsReady old → IsScheduled old.layout (history_of old) →
+    retry_of 0 (history_of old) ≡ (if is_retry then Some op else None) → MadeCall old mid op reply → asks_for_cycle op reply is_retry ≡ true →
+    RanCycle mid new → RanTurn old new op reply
+RanTurn-cycle old mid new op reply is_retry ready scheduled pending made asks ran =
+    let call = called op reply made.took in
+    let whole : IsWholeCycle old.layout (history_of old ++ call ∷ []) ran.cycle =
+    subst (λ (h : List Event). IsWholeCycle old.layout h ran.cycle) made.history
+    (subst (λ (l : Layout). IsWholeCycle l (history_of mid) ran.cycle) made.same.layout ran.whole) in
+    let all_history : history_of new ≡ (history_of old ++ call ∷ []) ++ ran.cycle = ran.history ∙ ap (λ (h : List Event). h ++ ran.cycle) made.history in
     record {
       underway = ran.underway;
-      scheduled = subst (λ (s : Settings). IsScheduled (layout_of s 1) (history_of new)) (sym all_settings)
-          (subst (IsScheduled (runner_layout old)) (sym all_history)
-          (IsScheduled-cycle (runner_layout old) (history_of old) op reply is_retry ran.cycle scheduled pending asks room whole));
-      calls = ap (calls_of 0) all_history ∙ calls_of-append 0 (history_of old ++ plain (Call 0 op reply) ∷ []) ran.cycle
-          ∙ ap (λ (more : List (Op × Reply)). calls_of 0 (history_of old ++ plain (Call 0 op reply) ∷ []) ++ more)
-          (no_calls_in_cycle (runner_layout mid) (history_of mid) ran.cycle ran.whole)
-          ∙ append-nil (calls_of 0 (history_of old ++ plain (Call 0 op reply) ∷ []))
-          ∙ calls_of-append 0 (history_of old) (plain (Call 0 op reply) ∷ []);
-      settings = all_settings;
-      ready = λ goes_on. ran.ready (active ∙ goes_on);
-      cycles = let e = ran.cycles in omega (arith, e, cycles);
+      scheduled = subst (λ (l : Layout). IsScheduled l (history_of new)) (sym (ran.same.layout ∙ made.same.layout))
+          (subst (IsScheduled old.layout) (sym all_history)
+          (IsScheduled-cycle old.layout (history_of old) op reply made.took is_retry ran.cycle scheduled pending asks (full_after old mid op reply ready.underway made) whole));
+      calls = ap (calls_of 0) all_history ∙ calls_of-append 0 (history_of old ++ call ∷ []) ran.cycle
+          ∙ ap (λ (more : List (Op × Reply)). calls_of 0 (history_of old ++ call ∷ []) ++ more) (no_calls_in_cycle mid.layout (history_of mid) ran.cycle ran.whole)
+          ∙ append-nil (calls_of 0 (history_of old ++ call ∷ []))
+          ∙ calls_of-append 0 (history_of old) (call ∷ []);
+      grown = record { rest = call ∷ ran.cycle; joins = sym (all_history ∙ append_assoc (history_of old) (call ∷ []) ran.cycle) };
+      took = made.took;
+      answers = made.answers;
+      ready = λ goes_on. record {
+        underway = ran.underway;
+        active = ap (λ (active : ℕ → Bool). active 0) ran.active ∙ ap (λ (s : State). s.active 0) made.leaves ∙ stays_active old op reply made.took ready goes_on;
+      };
+      claims = ran.claims ∙ ap (λ (s : State). s.claims) made.leaves;
+      same = record {
+        layout = ran.same.layout ∙ made.same.layout;
+        names = ran.same.names ∙ made.same.names;
+        shapes = ran.same.shapes ∙ made.same.shapes;
+      };
+      cycles = let e = ran.cycles in let f = made.cycles in omega (arith, e, f);
     }

@@ -1,10 +1,8 @@
 pub mod Asking
-pub mod Marking
 pub mod Outcome
 pub mod Printing
 pub mod Program
 pub mod Ran
 pub mod Run
 pub mod Runner
-pub mod Store
 pub mod Told

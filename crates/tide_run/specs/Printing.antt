@@ -5,13 +5,13 @@ use Rattle.tide_run.specs.declared.answered.Answered.{Answered}
 use Rattle.tide_run.specs.declared.told.Record.{Record}
 use Rattle.tide_run.specs.declared.told.Record.TheVariants.{Called, Began, Paused, Ended, Swept}
 
--- the line of a call
-abbrev pub answered_line : Answered → List ℕ
-answered_line answered = call_line answered.op answered.reply
+-- the line of a call, under these names of keys
+abbrev pub answered_line : List (List ℕ) → Answered → List ℕ
+answered_line keys answered = call_line keys answered.op answered.reply
 
 -- the line of a cycle, at the record that ended it
 abbrev pub record_line : Record → List ℕ
-record_line (Called op reply) = []
+record_line (Called op reply took) = []
 record_line (Began cycle) = []
 record_line (Paused visits) = []
 record_line (Ended cycle freed kept) = cycle_line cycle kept freed

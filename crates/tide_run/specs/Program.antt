@@ -4,6 +4,7 @@ use Rattle.std.specs.Io.KnownBytes.{Consumes, Appends, IsAtEnd}
 use Rattle.tide_io.specs.Faults.{Rose, AppendsPart}
 use Rattle.tide_workload.specs.declared.fault.Fault.{Fault}
 use Rattle.tide_workload.specs.declared.reading.TheConstants.{MAX_BYTES}
+use Rattle.tide_workload.specs.FaultLine.{fault_line}
 use Rattle.tide_workload.specs.Reading.{reads_workload}
 use Rattle.tide_workload.specs.Work.{Work}
 use Rattle.tide_model.specs.Numbers.{is_among}
@@ -34,16 +35,22 @@ pub record RefusedInput (old new : Option (List ℕ)) (fault : Fault) : Type 0 w
   pub took : Took old new bytes
   pub reads : reads_workload bytes ≡ Err fault
 
+-- a line was written, or a first part of it where the sink failed
+pub record TellsLine (old new : Option (List ℕ)) (before now : ℕ) (line : List ℕ) : Type 0 where
+  pub later : before ≤ now
+  pub line_or_part : Appends old new line ⊎ (Rose before now × AppendsPart old new line)
+
+-- what was read is refused as a workload, and the line that was told, or a first part of it where the sink failed, is that of its first fault
+pub record ToldFault (old new : Option (List ℕ)) (held held' : Option (List ℕ)) (before now : ℕ) : Type 0 where
+  pub fault : Fault
+  pub refused : RefusedInput old new fault
+  pub told : TellsLine held held' before now (fault_line fault)
+
 -- the run is of the workload that was read
 pub record RanInput (old new : Option (List ℕ)) (ran : Ran) : Type 0 where
   pub work : Work
   pub reads : ReadWork old new work
   pub is_run : IsRunOf work ran
-
--- a line was written, or a first part of it where the sink failed
-pub record TellsLine (old new : Option (List ℕ)) (before now : ℕ) (line : List ℕ) : Type 0 where
-  pub later : before ≤ now
-  pub line_or_part : Appends old new line ⊎ (Rose before now × AppendsPart old new line)
 
 -- the status of a program that ran nothing
 abbrev pub stop_status : Stop → ℕ
@@ -56,14 +63,13 @@ stop_status Memory = 6
 abbrev pub stop_line : Stop → List ℕ
 stop_line Usage = codes "riptide: usage: riptide\n"
 stop_line ReadFault = codes "riptide: read fault\n"
-stop_line (BadInput fault) = codes "riptide: bad field other\n"
+stop_line (BadInput fault) = fault_line fault
 stop_line Memory = codes "riptide: no memory\n"
 
--- the line of a status that isn't 0
+-- the line of a status that has one and the same each time: neither 0, which has none, nor 3, which has that of the fault
 abbrev pub status_line : ℕ → List ℕ
 status_line status =
     if status == 2 then codes "riptide: usage: riptide\n"
-    else if status == 3 then codes "riptide: bad field other\n"
     else if status == 4 then codes "riptide: read fault\n"
     else if status == 5 then codes "riptide: write fault\n"
     else codes "riptide: no memory\n"

@@ -1,13 +1,12 @@
 -- What the records of a run tell.
-use Rattle.std.specs.Prelude.{ℕ, ◌≡◌, ◌==◌, Bool, List, [], ◌∷◌, ◌++◌, map, take, slice_get, Some}
-use Rattle.std.specs.List.{list_any}
+use Rattle.std.specs.Prelude.{ℕ, ◌≡◌, List, [], ◌∷◌, ◌++◌, map, take, slice_get, Some}
 use Rattle.tide_model.specs.declared.op.Op.{Op}
 use Rattle.tide_model.specs.declared.op.Reply.{Reply}
 use Rattle.tide_model.specs.declared.entry.Entry.TheVariants.{Call, Begin, Pause, End, Sweep}
 use Rattle.tide_model.specs.declared.entry.Event.{Event}
-use Rattle.tide_model.specs.Layout.{Layout, block_of_cell}
+use Rattle.tide_model.specs.Layout.{Layout}
 use Rattle.tide_model.specs.State.{State}
-use Rattle.tide_model.specs.Refused.{no_shapes}
+use Rattle.tide_model.specs.Refused.{ShapeLists}
 use Rattle.tide_model.specs.Lawful.{IsLawful}
 use Rattle.tide_model.specs.Script.{calls_of}
 use Rattle.tide_model.specs.History.{plain, state_after}
@@ -18,7 +17,7 @@ use Rattle.tide_run.specs.declared.answered.Answered.{Answered}
 
 -- the event that a record tells
 abbrev pub event_of : Record → Event
-event_of (Called op reply) = plain (Call 0 op reply)
+event_of (Called op reply took) = record { entry = Call 0 op reply; took = took }
 event_of (Began cycle) = plain (Begin cycle)
 event_of (Paused visits) = plain (Pause visits)
 event_of (Ended cycle freed kept) = plain (End cycle freed)
@@ -30,7 +29,7 @@ events_of records = map event_of records
 
 -- a record of a cycle's end has the number of cells that live after it
 abbrev pub IsCounted : Layout → List Event → Record → Type 0
-IsCounted layout before (Called op reply) = Unit {0}
+IsCounted layout before (Called op reply took) = Unit {0}
 IsCounted layout before (Began cycle) = Unit {0}
 IsCounted layout before (Paused visits) = Unit {0}
 IsCounted layout before (Ended cycle freed kept) = kept ≡ live_count layout (state_after layout (before ++ plain (End cycle freed) ∷ []))
@@ -41,16 +40,12 @@ abbrev pub AreCounted : Layout → List Record → Type 0
 AreCounted layout records = (place : ℕ) (record' : Record) → slice_get records place ≡ Some record' → IsCounted layout (events_of (take place records)) record'
 
 -- the records tell a lawful history of these calls, in which so many cycles began and which leaves this state
-pub record Tells (layout : Layout) (records : List Record) (state : State) (begins : ℕ) (calls : List (Op × Reply)) : Type 0 where
-  pub lawful : IsLawful layout no_shapes (events_of records)
+pub record Tells (layout : Layout) (shapes : ShapeLists) (records : List Record) (state : State) (begins : ℕ) (calls : List (Op × Reply)) : Type 0 where
+  pub lawful : IsLawful layout shapes (events_of records)
   pub leaves : state_after layout (events_of records) ≡ state
   pub begun : begin_count (events_of records) ≡ begins
   pub counted : AreCounted layout records
   pub called : calls_of 0 (events_of records) ≡ calls
-
--- the block has one of these cells
-abbrev pub frees_in : List ℕ → ℕ → Bool
-frees_in freed block = list_any (λ cell. block_of_cell cell == block) freed
 
 -- what sweeping these blocks is recorded as
 abbrev pub sweeps_of : List ℕ → List Record

@@ -11,7 +11,6 @@ mod printing;
 mod program;
 mod runner;
 mod running;
-mod store;
 #[cfg(test)]
 mod tests;
 mod told;

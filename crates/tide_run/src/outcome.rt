@@ -4,7 +4,7 @@ ghost use Rattle.std.specs.Prelude.{◌≡◌, ◌<◌, ℕ, All, map};
 use crate::answered::Answered;
 use crate::told::{Record, Told};
 use std::marker::Model;
-use tide_workload::Settings;
+use tide_words::Layout;
 
 /// Where a run's history was kept.
 #[derive(Debug, Drop)]
@@ -16,22 +16,25 @@ pub enum Kept {
 /// A run's history, its replies and what lives at its end.
 #[derive(Debug, Drop)]
 pub struct Outcome {
-    settings: Settings,
+    layout: Layout,
+    /// The names of the property keys by number.
+    names: Vec<Vec<u8>>,
     kept: Kept,
     calls: Vec<Answered>,
     live: u32,
 }
 
 impl Model for Outcome {
+    ghost use Rattle.std.specs.Prelude.{map};
     ghost use Rattle.tide_run.specs.Ran.{Ran};
 
     ghost Value = { Ran };
 
     ghost use Rattle.tide_run.specs.Outcome.{ran_of, IsOutcome};
 
-    ghost view = { λ o. ran_of o.settings o.kept };
+    ghost view = { λ o. ran_of o.layout (map (λ name. name.items) o.names.items) o.kept };
 
-    ghost invariant = { λ o. IsOutcome o.settings o.kept o.calls.items o.live };
+    ghost invariant = { λ o. IsOutcome o.layout (map (λ name. name.items) o.names.items) o.kept o.calls.items o.live };
 }
 
 impl Outcome {
@@ -45,17 +48,19 @@ impl Outcome {
 
     /// The outcome of a run with these records.
     pub(crate) fn new(
-        settings: Settings,
+        layout: Layout,
+        names: Vec<Vec<u8>>,
         records: Vec<Record>,
         calls: Vec<Answered>,
         live: u32,
     ) -> Outcome
-        requires { IsOutcome settings (Kept.Own (record { records = records })) calls.items live }
-        ensures { result ≡ ran_of settings (Kept.Own (record { records = records })) }
+        requires { IsOutcome layout (map (λ name. name.items) names.items) (Kept.Own (record { records = records })) calls.items live }
+        ensures { result ≡ ran_of layout (map (λ name. name.items) names.items) (Kept.Own (record { records = records })) }
     {
         let kept = Kept::Own(Told { records });
         Outcome {
-            settings,
+            layout,
+            names,
             kept,
             calls,
             live,
@@ -66,7 +71,7 @@ impl Outcome {
     pub fn calls(&self, m: u32) -> &[Answered]
         requires { m < self.now.layout.mutators }
         ensures calls { map pair_of result.now ≡ calls_of m self.now.history }
-        ensures texts { All (λ call. HasText call.op) result.now }
+        ensures texts { All (λ call. HasText self.now.keys call.op) result.now }
     {
         let _ = m;
         self.calls.as_slice()

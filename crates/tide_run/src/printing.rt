@@ -17,9 +17,9 @@ use tide_workload::{Workload, write_call, write_cycle, write_live, write_mutator
 
 /// Writes the line of each call.
 fn write_calls<K: Sink>(out: &mut K, load: &Workload, calls: &[Answered]) -> Result<(), Failed>
-    requires { All (λ call. HasText call.op) calls.now }
-    ensures whole { OnOk result (Appends (K.held out.old) (K.held out.new) (flat_map answered_line calls.now)) }
-    ensures part { OnErr result (AppendsPart (K.held out.old) (K.held out.new) (flat_map answered_line calls.now)) }
+    requires { All (λ call. HasText load.now.keys call.op) calls.now }
+    ensures whole { OnOk result (Appends (K.held out.old) (K.held out.new) (flat_map (answered_line load.now.keys) calls.now)) }
+    ensures part { OnErr result (AppendsPart (K.held out.old) (K.held out.new) (flat_map (answered_line load.now.keys) calls.now)) }
     ensures cause { HasCause (K.faults out.old) (K.faults out.new) result }
 {
     for call in calls {
@@ -54,9 +54,10 @@ fn write_cycles<K: Sink>(out: &mut K, records: &[Record]) -> Result<(), Failed>
 
 /// Writes the lines of mutator 0's calls.
 fn write_calls_of<K: Sink>(out: &mut K, load: &Workload, outcome: &Outcome) -> Result<(), Failed>
-    requires { outcome.now.layout.mutators ≡ 1 }
-    ensures whole { OnOk result (Appends (K.held out.old) (K.held out.new) (call_lines (calls_of 0 outcome.now.history))) }
-    ensures part { OnErr result (AppendsPart (K.held out.old) (K.held out.new) (call_lines (calls_of 0 outcome.now.history))) }
+    requires mutators { outcome.now.layout.mutators ≡ 1 }
+    requires keys { outcome.now.keys ≡ load.now.keys }
+    ensures whole { OnOk result (Appends (K.held out.old) (K.held out.new) (call_lines outcome.now.keys (calls_of 0 outcome.now.history))) }
+    ensures part { OnErr result (AppendsPart (K.held out.old) (K.held out.new) (call_lines outcome.now.keys (calls_of 0 outcome.now.history))) }
     ensures cause { HasCause (K.faults out.old) (K.faults out.new) result }
 {
     write_calls(out, load, outcome.calls(0))
@@ -73,9 +74,10 @@ fn write_cycles_of<K: Sink>(out: &mut K, outcome: &Outcome) -> Result<(), Failed
 
 /// Writes the text of a run.
 pub fn write_text<K: Sink>(out: &mut K, load: &Workload, outcome: &Outcome) -> Result<(), Failed>
-    requires { outcome.now.layout.mutators ≡ 1 }
-    ensures whole { OnOk result (Appends (K.held out.old) (K.held out.new) (text_of outcome.now.layout outcome.now.history)) }
-    ensures part { OnErr result (AppendsPart (K.held out.old) (K.held out.new) (text_of outcome.now.layout outcome.now.history)) }
+    requires mutators { outcome.now.layout.mutators ≡ 1 }
+    requires keys { outcome.now.keys ≡ load.now.keys }
+    ensures whole { OnOk result (Appends (K.held out.old) (K.held out.new) (text_of outcome.now.keys outcome.now.layout outcome.now.history)) }
+    ensures part { OnErr result (AppendsPart (K.held out.old) (K.held out.new) (text_of outcome.now.keys outcome.now.layout outcome.now.history)) }
     ensures cause { HasCause (K.faults out.old) (K.faults out.new) result }
 {
     write_mutator(out, 0)?;

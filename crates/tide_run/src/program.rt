@@ -5,7 +5,7 @@ ghost use Rattle.tide_io.specs.Faults.{AppendsPart, Rose};
 ghost use Rattle.tide_workload.specs.declared.fault.Fault.{Fault as FaultValue};
 ghost use Rattle.tide_workload.specs.Reading.{reads_workload};
 ghost use Rattle.tide_workload.specs.Text.{text_of};
-ghost use Rattle.tide_run.specs.Program.{input_of, status_line, IsStatus, ReadWork, RefusedInput, RanInput, TellsLine};
+ghost use Rattle.tide_run.specs.Program.{input_of, status_line, IsStatus, ReadWork, RefusedInput, RanInput, TellsLine, ToldFault};
 
 use crate::outcome::Outcome;
 use crate::printing::write_text;
@@ -15,7 +15,7 @@ use std::marker::Sync;
 use std::thread::Threads;
 use tide_io::{ReadError, Sink, Source, read_up_to, write_all};
 use tide_model::{Memory, Turnstile};
-use tide_workload::{Fault, Field, MAX_BYTES, Workload, read};
+use tide_workload::{Fault, MAX_BYTES, Workload, read, write_fault_line};
 
 /// How a program ended, with the outcome of its run where there was one.
 #[derive(Debug, Drop)]
@@ -49,14 +49,17 @@ impl Stop {
         }
     }
 
-    fn line(self) -> &'static str
-        ensures { result.now ≡ stop_line self }
+    /// Writes the line that says why to the error sink, whose faults change nothing.
+    fn tell<E: Sink>(self, err: &mut E)
+        ensures { TellsLine (E.held err.old) (E.held err.new) (E.faults err.old) (E.faults err.new) (stop_line self) }
     {
         match self {
-            Stop::Usage => "riptide: usage: riptide\n",
-            Stop::BadInput { .. } => "riptide: bad field other\n",
-            Stop::ReadFault => "riptide: read fault\n",
-            Stop::Memory => "riptide: no memory\n",
+            Stop::Usage => tell(err, "riptide: usage: riptide\n"),
+            Stop::ReadFault => tell(err, "riptide: read fault\n"),
+            Stop::BadInput { fault } => {
+                let _ = write_fault_line(err, fault);
+            }
+            Stop::Memory => tell(err, "riptide: no memory\n"),
         }
     }
 }
@@ -91,6 +94,7 @@ fn attempt<R: Threads + Sync, S: Source, T: Turnstile>(
 ) -> Result<(Workload, Outcome), Stop>
     ensures ran { IfOk result (λ both. RanInput (S.left source.old) (S.left source.new) both.1) }
     ensures one_mutator { IfOk result (λ both. both.1.layout.mutators ≡ 1) }
+    ensures keys { IfOk result (λ both. both.1.keys ≡ both.0.keys) }
     ensures usage { result ≡ Err Stop.Usage → 1 < length words.now }
     ensures words { IfErr result (λ stop. 1 < length words.now → stop ≡ Stop.Usage) }
     ensures one_word { OnOk result (length words.now ≤ 1) }
@@ -118,11 +122,12 @@ fn tell<E: Sink>(err: &mut E, line: &str)
 
 /// Prints a run.
 fn print<K: Sink, E: Sink>(out: &mut K, err: &mut E, load: &Workload, outcome: Outcome) -> Ended
-    requires { outcome.layout.mutators ≡ 1 }
+    requires mutators { outcome.layout.mutators ≡ 1 }
+    requires keys { outcome.keys ≡ load.now.keys }
     ensures status { (result.status ≡ 0) ⊎ (result.status ≡ 5) }
     ensures outcome { result.outcome ≡ Some outcome }
-    ensures printed { result.status ≡ 0 → Appends (K.held out.old) (K.held out.new) (text_of outcome.layout outcome.history) }
-    ensures part { result.status ≡ 5 → AppendsPart (K.held out.old) (K.held out.new) (text_of outcome.layout outcome.history) }
+    ensures printed { result.status ≡ 0 → Appends (K.held out.old) (K.held out.new) (text_of outcome.keys outcome.layout outcome.history) }
+    ensures part { result.status ≡ 5 → AppendsPart (K.held out.old) (K.held out.new) (text_of outcome.keys outcome.layout outcome.history) }
     ensures write_fault { result.status ≡ 5 → Rose (K.faults out.old) (K.faults out.new) }
     ensures quiet { result.status ≡ 0 → Keeps (E.held err.old) (E.held err.new) }
     ensures told { result.status ≢ 0 → TellsLine (E.held err.old) (E.held err.new) (E.faults err.old) (E.faults err.new) (status_line result.status) }
@@ -162,8 +167,8 @@ pub fn riptide<R: Threads + Sync, S: Source, K: Sink, E: Sink, T: Turnstile>(
 
     // What was run is a legal history of the workload that was read, each operation once and in its order.
     ensures ran { (result.status ≡ 0) ⊎ (result.status ≡ 5) → IsSomeAnd result.outcome (RanInput (S.left source.old) (S.left source.new)) }
-    ensures printed { result.status ≡ 0 → IsSomeAnd result.outcome (λ ran. Appends (K.held out.old) (K.held out.new) (text_of ran.layout ran.history)) }
-    ensures printed_part { result.status ≡ 5 → IsSomeAnd result.outcome (λ ran. AppendsPart (K.held out.old) (K.held out.new) (text_of ran.layout ran.history)) }
+    ensures printed { result.status ≡ 0 → IsSomeAnd result.outcome (λ ran. Appends (K.held out.old) (K.held out.new) (text_of ran.keys ran.layout ran.history)) }
+    ensures printed_part { result.status ≡ 5 → IsSomeAnd result.outcome (λ ran. AppendsPart (K.held out.old) (K.held out.new) (text_of ran.keys ran.layout ran.history)) }
 
     // Where nothing was run, nothing is printed.
     ensures no_outcome { result.status ≢ 0 → result.status ≢ 5 → result.outcome ≡ None }
@@ -172,7 +177,7 @@ pub fn riptide<R: Threads + Sync, S: Source, K: Sink, E: Sink, T: Turnstile>(
     // Each answer but want of memory has its cause.
     ensures usage { (result.status ≡ 2) ↔ (1 < length words.now) }
     ensures unread { result.status ≡ 2 → Keeps (S.left source.old) (S.left source.new) }
-    ensures bad_input { result.status ≡ 3 → (fault : FaultValue) × RefusedInput (S.left source.old) (S.left source.new) fault }
+    ensures bad_input { result.status ≡ 3 → ToldFault (S.left source.old) (S.left source.new) (E.held err.old) (E.held err.new) (E.faults err.old) (E.faults err.new) }
     ensures read_fault { result.status ≡ 4 → Rose (S.faults source.old) (S.faults source.new) }
     ensures write_fault { result.status ≡ 5 → Rose (K.faults out.old) (K.faults out.new) }
 
@@ -183,7 +188,7 @@ pub fn riptide<R: Threads + Sync, S: Source, K: Sink, E: Sink, T: Turnstile>(
         ¬ Rose (S.faults source.old) (S.faults source.new) → (result.status ≡ 3) ⊎ (result.status ≡ 6)) }
 
     ensures quiet { result.status ≡ 0 → Keeps (E.held err.old) (E.held err.new) }
-    ensures told { result.status ≢ 0 → TellsLine (E.held err.old) (E.held err.new) (E.faults err.old) (E.faults err.new) (status_line result.status) }
+    ensures told { result.status ≢ 0 → result.status ≢ 3 → TellsLine (E.held err.old) (E.held err.new) (E.faults err.old) (E.faults err.new) (status_line result.status) }
 
     ensures source_faults { S.faults source.old ≤ S.faults source.new }
     ensures out_faults { K.faults out.old ≤ K.faults out.new }
@@ -192,7 +197,7 @@ pub fn riptide<R: Threads + Sync, S: Source, K: Sink, E: Sink, T: Turnstile>(
     match attempt(rt, alloc, words, source, gate) {
         Ok((load, outcome)) => print(out, err, &load, outcome),
         Err(stop) => {
-            tell(err, stop.line());
+            stop.tell(err);
             Ended {
                 status: stop.status(),
                 outcome: None,

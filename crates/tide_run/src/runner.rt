@@ -1,22 +1,25 @@
 //! One mutator's calls on the plain store, with a whole cycle after each call that asks for one.
-ghost use Rattle.std.specs.Prelude.{◌≡◌, ℕ, ◌+◌, ◌-◌, ◌*◌, ◌^◌, ◌<◌, ◌≤◌, Bool, true, None, Some, List, [], ◌∷◌, ◌++◌, map, length, All, if◌then◌else◌, IfOk, OnOk};
-ghost use Rattle.std.specs.List.{list_any};
-ghost use Rattle.tide_model.specs.Layout.{IsBlockOf, block_of_cell};
+ghost use Rattle.std.specs.Prelude.{◌≡◌, ℕ, ◌+◌, ◌-◌, ◌*◌, ◌^◌, ◌<◌, ◌≤◌, Bool, true, None, Some, List, [], ◌∷◌, ◌++◌, map, length, replicate, All, if◌then◌else◌, IfOk, OnOk};
 ghost use Rattle.tide_model.specs.Numbers.{numbers_where};
-ghost use Rattle.tide_model.specs.Room.{IsFullBlock};
-ghost use Rattle.tide_model.specs.History.{plain, state_after};
-ghost use Rattle.tide_model.specs.Script.{is_full_reply, script_of};
+ghost use Rattle.tide_model.specs.Script.{is_full_reply};
 ghost use Rattle.tide_model.specs.Schedule.{IsScheduled, is_asked, is_retire, retry_of};
+ghost use Rattle.tide_words.specs.Region.{block_count};
+ghost use Rattle.tide_plain.specs.Store.{layout_of};
 ghost use Rattle.tide_run.specs.Asking.{asks_for_cycle};
-ghost use Rattle.tide_run.specs.Told.{frees_in, sweeps_of};
+ghost use Rattle.tide_run.specs.Runner.{is_swept};
+ghost use Rattle.tide_run.specs.Told.{sweeps_of};
+
+mod starting;
 
 use crate::answered::Answered;
 use crate::outcome::Outcome;
-use crate::store::Store;
 use crate::told::Record;
+use starting::{layout_with, names_of, shapes_of};
 use std::alloc::Global;
 use tide_model::{Ids, Memory, Op, Refusal, Reply};
-use tide_workload::Settings;
+use tide_plain::PlainStore;
+use tide_words::Layout;
+use tide_workload::Workload;
 
 fn is_asked(reply: Reply) -> bool
     ensures { result ≡ is_asked reply }
@@ -43,26 +46,6 @@ fn asks_for_cycle(op: Op, reply: Reply, is_retry: bool) -> bool
     is_retire(op) || is_asked(reply) || (!is_retry && is_full(reply))
 }
 
-/// Whether one of the freed cells lies in the block.
-fn frees_in(freed: &[u32], block: u32) -> bool
-    ensures { result ≡ frees_in freed.now block }
-{
-    freed.iter().any(|cell| *cell / 64 == block)
-}
-
-/// The blocks below `count` that have freed cells, rising.
-fn freed_blocks(alloc: Global, freed: &[u32], count: u32) -> Result<Vec<u32>, Memory>
-    ensures { IfOk result (λ blocks. blocks.items ≡ numbers_where (frees_in freed.now) count) }
-{
-    let mut blocks = Vec::new(alloc);
-    for block in 0..count {
-        if frees_in(freed, block) {
-            append(&mut blocks, block)?;
-        }
-    }
-    Ok(blocks)
-}
-
 /// One more at the end of a list.
 fn append<T: Drop>(list: &mut Vec<T>, item: T) -> Result<(), Memory>
     ensures { OnOk result (list.new.items ≡ list.old.items ++ item ∷ []) }
@@ -73,12 +56,22 @@ fn append<T: Drop>(list: &mut Vec<T>, item: T) -> Result<(), Memory>
     }
 }
 
-/// Records that these blocks were swept.
-fn record_sweeps(records: &mut Vec<Record>, blocks: &[u32]) -> Result<(), Memory>
-    ensures { OnOk result (records.new.items ≡ records.old.items ++ sweeps_of blocks.now) }
+/// How many blocks there are: those of cells, and then those of arrays.
+fn block_count(layout: &Layout) -> u32
+    ensures { result ≡ block_count layout.now }
 {
-    for block in blocks {
-        append(records, Record::Swept { block: *block })?;
+    layout.cells() / 64 + layout.arrays() / 64
+}
+
+/// Records which of the first `count` blocks the last collection swept.
+fn record_sweeps(records: &mut Vec<Record>, store: &PlainStore, count: u32) -> Result<(), Memory>
+    requires { count ≤ block_count (layout_of store.now) }
+    ensures { OnOk result (records.new.items ≡ records.old.items ++ sweeps_of (numbers_where (is_swept store.now) count)) }
+{
+    for block in 0..count {
+        if store.swept(block) {
+            append(records, Record::Swept { block })?;
+        }
     }
     Ok(())
 }
@@ -86,26 +79,39 @@ fn record_sweeps(records: &mut Vec<Record>, blocks: &[u32]) -> Result<(), Memory
 /// A store, and what was run on it so far.
 #[derive(Drop)]
 pub struct Runner {
-    store: Store,
+    layout: Layout,
+    /// The names of the property keys by number.
+    names: Vec<Vec<u8>>,
+    store: PlainStore,
     records: Vec<Record>,
     answered: Vec<Answered>,
     cycles: u64,
 }
 
 impl Runner {
-    ghost use Rattle.tide_model.specs.declared.entry.Entry.TheVariants.{Call};
-    ghost use Rattle.tide_run.specs.Store.{IsServed, IsSound, is_active_after};
-    ghost use Rattle.tide_run.specs.Runner.{runner_layout, history_of, IsUnderway, IsReady, RanCycle, RanTurn, HasServed};
+    ghost use Rattle.tide_model.specs.declared.op.Op.TheVariants.{Unclaim, Retire};
+    ghost use Rattle.tide_model.specs.declared.op.Reply.TheVariants.{Done};
+    ghost use Rattle.tide_plain.specs.Store.{shapes_of, state_of};
+    ghost use Rattle.tide_shape.specs.Shapes.{shapes_of as shapes_of_paths};
+    ghost use Rattle.tide_run.specs.Run.{layout_with};
+    ghost use Rattle.tide_run.specs.Runner.{claim_count, history_of, keys_of, IsAskable, IsUnderway, IsReady, MayAsk, MadeCall, RanCycle, RanTurn, HasServed};
 
     /// Nothing was run yet.
-    pub fn new(alloc: Global, settings: Settings) -> Result<Runner, Memory>
+    pub fn new(alloc: Global, load: &Workload) -> Result<Runner, Memory>
         ensures ready { IfOk result IsReady }
         ensures nothing { IfOk result (λ runner. history_of runner ≡ []) }
-        ensures settings { IfOk result (λ runner. runner.store.settings ≡ settings) }
+        ensures layout { IfOk result (λ runner. runner.layout ≡ layout_with load.now.settings 1) }
+        ensures shapes { IfOk result (λ runner. shapes_of runner.store ≡ shapes_of_paths load.now.paths) }
+        ensures keys { IfOk result (λ runner. keys_of runner ≡ load.now.keys) }
         ensures cycles { IfOk result (λ runner. runner.cycles ≡ 0) }
     {
-        let store = Store::new(alloc, settings)?;
+        let layout = layout_with(load.settings());
+        let names = names_of(alloc, load)?;
+        let shapes = shapes_of(alloc, load.paths())?;
+        let store = PlainStore::new(alloc, layout, shapes)?;
         Ok(Runner {
+            layout,
+            names,
             store,
             records: Vec::new(alloc),
             answered: Vec::new(alloc),
@@ -116,19 +122,12 @@ impl Runner {
     /// Makes a call and records it.
     fn call(&mut self, op: Op) -> Result<Reply, Memory>
         requires ready { IsReady self.old }
-        requires served { IsServed self.old.store.settings op }
-        ensures underway { OnOk result (IsUnderway self.new) }
-        ensures sound { OnOk result (IsSound self.new.store.settings self.new.store.registers.items self.new.store.cells.items) }
-        ensures active { self.new.store.is_active ≡ is_active_after op }
-        ensures settings { self.new.store.settings ≡ self.old.store.settings }
-        ensures history { IfOk result (λ reply. history_of self.new ≡ history_of self.old ++ plain (Call 0 op reply) ∷ []) }
-        ensures room { IfOk result (λ reply. (class : ℕ) → reply ≡ Reply.Refused (Refusal.Full class) → (block : ℕ) → IsBlockOf (runner_layout self.old) class block →
-            IsFullBlock (runner_layout self.old) (state_after (runner_layout self.old) (history_of self.old)) block) }
-        ensures retired { IfOk result (λ reply. op ≡ Op.Retire → reply ≡ Reply.Done) }
-        ensures cycles { self.new.cycles ≡ self.old.cycles }
+        requires asks { MayAsk self.old op }
+        ensures { IfOk result (λ reply. MadeCall self.old self.new op reply) }
     {
-        let reply = self.store.call(op);
-        append(&mut self.records, Record::Called { op, reply })?;
+        let reply = self.store.call(0, op);
+        let took = self.store.taken();
+        append(&mut self.records, Record::Called { op, reply, took })?;
         append(&mut self.answered, Answered { op, reply })?;
         Ok(reply)
     }
@@ -136,32 +135,29 @@ impl Runner {
     /// Runs a whole cycle and records it.
     fn cycle(&mut self, alloc: Global) -> Result<(), Memory>
         requires underway { IsUnderway self.old }
-        requires sound { IsSound self.old.store.settings self.old.store.registers.items self.old.store.cells.items }
         requires room { self.old.cycles < 2 ^ 64 - 1 }
         ensures { OnOk result (RanCycle self.old self.new) }
     {
         let freed = self.store.collect(alloc)?;
         let kept = self.store.live();
-        let blocks = freed_blocks(alloc, freed.as_slice(), self.store.cell_blocks())?;
         self.cycles += 1;
         let cycle = self.cycles;
         append(&mut self.records, Record::Began { cycle })?;
         append(&mut self.records, Record::Paused { visits: kept })?;
         let freed = Ids::new(freed);
         append(&mut self.records, Record::Ended { cycle, freed, kept })?;
-        record_sweeps(&mut self.records, blocks.as_slice())?;
+        record_sweeps(&mut self.records, &self.store, block_count(&self.layout))?;
         Ok(())
     }
 
     /// Makes a call, and runs a whole cycle where it asks for one.
     fn turn(&mut self, alloc: Global, op: Op, is_retry: bool) -> Result<Reply, Memory>
         requires ready { IsReady self.old }
-        requires scheduled { IsScheduled (runner_layout self.old) (history_of self.old) }
-        requires served { IsServed self.old.store.settings op }
+        requires scheduled { IsScheduled self.old.layout (history_of self.old) }
+        requires asks { MayAsk self.old op }
         requires retry { retry_of 0 (history_of self.old) ≡ (if is_retry then Some op else None) }
         requires room { self.old.cycles < 2 ^ 64 - 1 }
-        ensures turn { IfOk result (λ reply. RanTurn self.old self.new op reply) }
-        ensures retired { IfOk result (λ reply. op ≡ Op.Retire → reply ≡ Reply.Done) }
+        ensures { IfOk result (λ reply. RanTurn self.old self.new op reply) }
     {
         let reply = self.call(op)?;
         if asks_for_cycle(op, reply, is_retry) {
@@ -173,9 +169,8 @@ impl Runner {
     /// Makes a call, and where it was refused for room makes it once more after the cycle.
     fn serve(&mut self, alloc: Global, op: Op) -> Result<(), Memory>
         requires ready { IsReady self.old }
-        requires scheduled { IsScheduled (runner_layout self.old) (history_of self.old) }
-        requires served { IsServed self.old.store.settings op }
-        requires goes_on { is_active_after op ≡ true }
+        requires scheduled { IsScheduled self.old.layout (history_of self.old) }
+        requires asks { IsAskable self.old.layout (keys_of self.old) op }
         requires no_retry { retry_of 0 (history_of self.old) ≡ None }
         requires room { self.old.cycles < 2 ^ 64 - 2 }
         ensures served { OnOk result (HasServed self.old self.new (op ∷ [])) }
@@ -192,8 +187,8 @@ impl Runner {
     /// Serves all operations in order.
     pub fn serve_all(&mut self, alloc: Global, ops: &[Op]) -> Result<(), Memory>
         requires ready { IsReady self.old }
-        requires scheduled { IsScheduled (runner_layout self.old) (history_of self.old) }
-        requires served { All (λ op. IsServed self.old.store.settings op × (is_active_after op ≡ true)) ops.now }
+        requires scheduled { IsScheduled self.old.layout (history_of self.old) }
+        requires operations { All (IsAskable self.old.layout (keys_of self.old)) ops.now }
         requires no_retry { retry_of 0 (history_of self.old) ≡ None }
         requires cycles { self.old.cycles ≡ 0 }
         requires few { length ops.now < 2 ^ 32 }
@@ -207,14 +202,48 @@ impl Runner {
         Ok(())
     }
 
-    /// The mutator retires, and the last cycle runs.
+    /// The mutator gives up the claim that it has held longest.
+    fn unclaim(&mut self, alloc: Global) -> Result<(), Memory>
+        requires ready { IsReady self.old }
+        requires scheduled { IsScheduled self.old.layout (history_of self.old) }
+        requires no_retry { retry_of 0 (history_of self.old) ≡ None }
+        requires claims { 0 < claim_count self.old }
+        requires room { self.old.cycles < 2 ^ 64 - 1 }
+        ensures served { OnOk result (HasServed self.old self.new (Unclaim ∷ [])) }
+        ensures ready { OnOk result (IsReady self.new) }
+        ensures claims { OnOk result (claim_count self.new + 1 ≡ claim_count self.old) }
+        ensures cycles { OnOk result (self.new.cycles ≤ self.old.cycles + 1) }
+    {
+        self.turn(alloc, Op::Unclaim, false)?;
+        Ok(())
+    }
+
+    /// The mutator gives up each of its claims.
+    pub fn unclaim_all(&mut self, alloc: Global) -> Result<(), Memory>
+        requires ready { IsReady self.old }
+        requires scheduled { IsScheduled self.old.layout (history_of self.old) }
+        requires no_retry { retry_of 0 (history_of self.old) ≡ None }
+        requires room { self.old.cycles < 2 ^ 63 }
+        ensures served { OnOk result (HasServed self.old self.new (replicate (claim_count self.old) Unclaim)) }
+        ensures ready { OnOk result (IsReady self.new) }
+        ensures released { OnOk result (claim_count self.new ≡ 0) }
+        ensures cycles { OnOk result (self.new.cycles < 2 ^ 63 + 2 ^ 32) }
+    {
+        for _claim in 0..self.store.claims(0) {
+            self.unclaim(alloc)?;
+        }
+        Ok(())
+    }
+
+    /// The mutator, which claims nothing, retires, and the last cycle runs.
     pub fn retire(&mut self, alloc: Global) -> Result<(), Memory>
         requires ready { IsReady self.old }
-        requires scheduled { IsScheduled (runner_layout self.old) (history_of self.old) }
+        requires scheduled { IsScheduled self.old.layout (history_of self.old) }
         requires no_retry { retry_of 0 (history_of self.old) ≡ None }
+        requires released { claim_count self.old ≡ 0 }
         requires room { self.old.cycles < 2 ^ 64 - 1 }
         ensures underway { OnOk result (IsUnderway self.new) }
-        ensures served { OnOk result (HasServed self.old self.new (Op.Retire ∷ [])) }
+        ensures served { OnOk result (HasServed self.old self.new (Retire ∷ [])) }
     {
         self.turn(alloc, Op::Retire, false)?;
         Ok(())
@@ -223,17 +252,19 @@ impl Runner {
     /// The outcome of the run.
     pub fn finish(self) -> Outcome
         requires { IsUnderway self }
-        ensures layout { result.layout ≡ runner_layout self }
+        ensures layout { result.layout ≡ self.layout }
+        ensures keys { result.keys ≡ keys_of self }
         ensures history { result.history ≡ history_of self }
     {
-        let settings = self.store.settings();
         let live = self.store.live();
         let Runner {
+            layout,
+            names,
             store: _,
             records,
             answered,
             cycles: _,
         } = self;
-        Outcome::new(settings, records, answered, live)
+        Outcome::new(layout, names, records, answered, live)
     }
 }

@@ -10,15 +10,17 @@ use std::thread::Threads;
 use tide_model::{Memory, Turnstile};
 use tide_workload::Workload;
 
-/// Runs a workload on the plain store, one operation after another.
+/// Runs a workload on the plain store, one operation after another, then one unclaim for each claim that is left, and
+/// then retires.
 pub fn plain(alloc: Global, load: &Workload) -> Result<Outcome, Memory>
     ensures run { IfOk result (IsRunOf load.now) }
     ensures one_mutator { IfOk result (λ outcome. outcome.layout.mutators ≡ 1) }
 {
     let mutators = load.mutators();
     prove!(mutators == 1);
-    let mut runner = Runner::new(alloc, load.settings())?;
+    let mut runner = Runner::new(alloc, load)?;
     runner.serve_all(alloc, load.ops(0))?;
+    runner.unclaim_all(alloc)?;
     runner.retire(alloc)?;
     Ok(runner.finish())
 }

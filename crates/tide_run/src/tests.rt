@@ -10,10 +10,6 @@ use tide_io::{MemSink, MemSource, read_up_to};
 use tide_model::{FreePass, Op, Reply};
 use tide_workload::read;
 
-mod runs;
-
-use runs::RUNS;
-
 /// A workload as it is stored.
 const STORED: &str = "\
 registers = 4
@@ -127,91 +123,8 @@ impl Ends {
     }
 }
 
-#[test]
-fn runs_print_their_whole_text(rt: HostRuntime) -> Result<(), Fail> {
-    let alloc = rt.alloc();
-    for (name, blocks, ops, text) in RUNS {
-        let numbers = format!(in alloc;
-            "registers = 4\nblocks = {blocks}\nperiod = 16\nheadroom = 32"
-        )?;
-        let document = format!(in alloc; "{numbers}\nmutator = [{{ ops = {ops} }}]\n")?;
-        let printed = format!(in alloc; "mutator 0\n{text}")?;
-        let end = End {
-            status: 0,
-            out: printed.as_str(),
-            err: "",
-        };
-        Ends::new(alloc, document.as_str(), NO_FAULTS)?.end_so(&rt, alloc, name, end)?;
-    }
-    Ok(())
-}
-
-/// All cells of a block, as a cycle's line has them.
-fn cells_of_block(alloc: Global) -> Result<String, AllocError> {
-    let mut text = String::new(alloc);
-    for id in 0..64 {
-        text.push_str(format!(in alloc; " #{id}")?.as_str())?;
-    }
-    Ok(text)
-}
-
-/// What making a chain prints that fills a block and that r0 and r1 keep.
-fn chain_text(alloc: Global) -> Result<String, AllocError> {
-    let mut text = String::from_str(alloc, "mutator 0\nalloc r0 0 = #0\n")?;
-    for id in 1..64 {
-        text.push_str(format!(in alloc; "alloc r1 0 = #{id}\n")?.as_str())?;
-        text.push_str("put r1 0 r0 = ok\nmove r0 r1 = ok\n")?;
-    }
-    Ok(text)
-}
-
-/// Makes the chain and goes on with these operations, which print this.
-fn run_after_chain<R: Threads + Sync + Abort>(
-    rt: &R,
-    alloc: Global,
-    ops: &str,
-    printed: &str,
-) -> Result<(), Fail> {
-    let links = "'alloc r1 0', 'put r1 0 r0', 'move r0 r1', ".repeat(alloc, 63)?;
-    let list = format!(in alloc; "['alloc r0 0', {links}{ops}]")?;
-    let document = NO_OPS.replace(alloc, "[]", list.as_str())?;
-    let mut text = chain_text(alloc)?;
-    text.push_str(printed)?;
-    let end = End {
-        status: 0,
-        out: text.as_str(),
-        err: "",
-    };
-    Ends::new(alloc, document.as_str(), NO_FAULTS)?.end_so(rt, alloc, ops, end)
-}
-
-#[test]
-fn full_block_is_reported_twice(rt: HostRuntime) -> Result<(), Fail> {
-    let alloc = rt.alloc();
-    let cells = cells_of_block(alloc)?;
-    let text = format!(in alloc;
-        "alloc r1 0 = full 0\nalloc r1 0 = full 0\nretire = ok\ncycle 1 kept 64 freed 0\ncycle 2 kept 0 freed 64:{cells}\nlive 0\n"
-    )?;
-    run_after_chain(&rt, alloc, "'alloc r1 0'", text.as_str())
-}
-
-#[test]
-fn full_block_is_collected(rt: HostRuntime) -> Result<(), Fail> {
-    let alloc = rt.alloc();
-    let cells = cells_of_block(alloc)?;
-    let text = format!(in alloc;
-        "drop r0 = ok\ndrop r1 = ok\nalloc r1 0 = full 0\nalloc r1 0 = #0\nretire = ok\ncycle 1 kept 0 freed 64:{cells}\ncycle 2 kept 0 freed 1: #0\nlive 0\n"
-    )?;
-    run_after_chain(
-        &rt,
-        alloc,
-        "'drop r0', 'drop r1', 'alloc r1 0'",
-        text.as_str(),
-    )
-}
-
 /// What fails: what a row shows, the text to read, the calls that fail, and how the program ends.
-const FAULTY_RUNS: [(&str, &str, Faults, End<'static>); 7] = [
+const FAULTY_RUNS: [(&str, &str, Faults, End<'static>); 8] = [
     (
         "the source fails in mid-stream",
         NO_OPS,
@@ -291,6 +204,19 @@ const FAULTY_RUNS: [(&str, &str, Faults, End<'static>); 7] = [
         },
     ),
     (
+        "the line of a refusal is told in part",
+        "registers = 0",
+        Faults {
+            tells: &[2],
+            ..NO_FAULTS
+        },
+        End {
+            status: 3,
+            out: "",
+            err: "riptide: bad field r",
+        },
+    ),
+    (
         "the line of a fault is told in part",
         NO_OPS,
         Faults {
@@ -311,33 +237,6 @@ fn faults_end_the_run_with_their_line(rt: HostRuntime) -> Result<(), Fail> {
     let alloc = rt.alloc();
     for (name, document, faults, end) in FAULTY_RUNS {
         Ends::new(alloc, document, faults)?.end_so(&rt, alloc, name, end)?;
-    }
-    Ok(())
-}
-
-#[test]
-fn cut_documents_are_refused(rt: HostRuntime) -> Result<(), Fail> {
-    let alloc = rt.alloc();
-    let refused = End {
-        status: 3,
-        out: "",
-        err: "riptide: bad field other\n",
-    };
-    let taken = End {
-        status: 0,
-        out: STORED_TEXT,
-        err: "",
-    };
-    let last_newline = STORED.len() - 1;
-    for length in 0..STORED.len() + 1 {
-        let cut = STORED.get(..length).ok_or("not at a character")?;
-        let end = if length < last_newline {
-            refused
-        } else {
-            taken
-        };
-        let name = format!(in alloc; "{length} bytes")?;
-        Ends::new(alloc, cut, NO_FAULTS)?.end_so(&rt, alloc, name.as_str(), end)?;
     }
     Ok(())
 }

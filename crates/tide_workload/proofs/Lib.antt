@@ -1,7 +1,12 @@
 pub mod DocumentLemmas
 pub mod EachLemmas
+pub mod KeyLemmas
 pub mod NumeralLemmas
 pub mod OperationLemmas
+pub mod PathLemmas
+pub mod ShapeLemmas
 pub mod SizedLemmas
 pub mod TableLemmas
+pub mod TextLemmas
 pub mod WordLemmas
+pub mod WorkLemmas

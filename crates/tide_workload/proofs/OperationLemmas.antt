@@ -1,21 +1,19 @@
 -- The operations that reading makes have numbers in their limits.
-use Rattle.std.proofs.Common.{◌≡◌, ℕ, zero, suc, ◌<◌, arith, length, map, get_or, ap, refl, subst, Bool, true, false, List, [], ◌∷◌, Option, Some, None, Result, Ok, Err}
-use Rattle.std.specs.Prelude.{◌==◌, nat_lt, if◌then◌else◌, All, codes, option_and_then}
+use Rattle.std.proofs.Common.{◌≡◌, ℕ, zero, suc, ◌+◌, ◌<◌, arith, length, map, get_or, ap, refl, subst, ◌∙◌, Bool, true, false, List, [], ◌∷◌, Option, Some, None, Result, Ok, Err}
+use Rattle.std.specs.Prelude.{◌==◌, nat_lt, if◌then◌else◌, All, option_and_then, option_map, codes}
 use Rattle.std.specs.Str.{bytes_eq}
 use Rattle.std.proofs.lemmas.List.Elements.{All-nil, All-cons, All-head, All-tail}
 use Rattle.std.proofs.lemmas.Bool.{ltb-true}
-use Rattle.toml.specs.Data.{Data, as_str, Members}
+use Rattle.std.proofs.lemmas.Bool.Decides.{nat_tests}
 use Rattle.tide_model.specs.declared.op.Op.{Op}
-use Rattle.tide_model.specs.declared.op.Op.TheVariants.{Alloc, Get, Put, Move, Set, Drop, Collect}
+use Rattle.tide_model.specs.declared.op.Op.TheVariants.{Alloc, Table, Get, Put, Move, Set, Drop, Claim, Release, Unclaim, Add, GetProp, SetProp, StrongSet, StrongGet, WeakSet, WeakGet, PairSet, PairGet, PairDel, Group, Collect}
 use Rattle.tide_workload.specs.declared.fault.Fault.{Fault}
-use Rattle.tide_workload.specs.declared.field.Field.TheVariants.{Ops}
-use Rattle.tide_workload.specs.declared.workload.TheConstants.{MAX_OPS}
+use Rattle.tide_workload.specs.OpLimits.{OpLimits}
+use Rattle.tide_workload.specs.OpText.{register_of, key_of, one, two, three, alone, pair_op_named, handle_op_named, property_op_named, op_named, op_of_words, op_of}
+use Rattle.tide_workload.specs.Scripts.{op_or, op_at, ops_of, scripts_of}
+use Rattle.tide_workload.specs.Steps.{◌>>=◌, each_from}
 use Rattle.tide_workload.specs.Words.{number_of, number_below, one_word, two_words, three_words, words_of, is_trimmed}
-use Rattle.tide_workload.specs.OpText.{register_of, alloc_of, get_of, put_of, move_of, set_of, drop_of, collect_of, op_named, op_of_words, op_of}
-use Rattle.tide_workload.specs.Fields.{required, values_in, has_only}
-use Rattle.tide_workload.specs.Steps.{◌>>=◌, each, good}
-use Rattle.tide_workload.specs.Scripts.{op_in, ops_of, script_of}
-use Rattle.tide_workload.specs.Work.{IsOperation}
+use Rattle.tide_workload.specs.Work.{IsOperation, AreOperations}
 
 -- what a step on an option gave came from something
 option_step : {A B : Type 0} (o : Option A) (f : A → Option B) (b : B) → option_and_then f o ≡ Some b → (a : A) × (o ≡ Some a) × (f a ≡ Some b)
@@ -27,8 +25,8 @@ result_step (Err e) f b h = absurd (cc)
 result_step (Ok a) f b h = (a, refl, h)
 
 -- a number that was read below a limit is below it
-below_limit : (limit n : ℕ) (word : List ℕ) → number_below limit word ≡ Some n → n < limit
-below_limit limit n word h =
+below_limit : (limit : ℕ) (word : List ℕ) (n : ℕ) → number_below limit word ≡ Some n → n < limit
+below_limit limit word n h =
     let (number, read, given) = option_step (number_of word) (λ m. if nat_lt m limit then Some m else None) n h in
     step (nat_lt number limit) number refl given
   where
@@ -36,128 +34,201 @@ below_limit limit n word h =
     step true m is given = let e : m ≡ n = cc in subst (λ (k : ℕ). k < limit) e (ltb-true m limit is)
     step false m is given = absurd (cc)
 
-register_below : (registers r : ℕ) (word : List ℕ) → register_of registers word ≡ Some r → r < registers
-register_below registers r [] h = absurd (cc)
-register_below registers r (first ∷ digits) h = step (first == 114) h
+register_below : (limits : OpLimits) (word : List ℕ) (r : ℕ) → register_of limits word ≡ Some r → r < limits.registers
+register_below limits [] r h = absurd (cc)
+register_below limits (first ∷ digits) r h = step (first == 114) h
   where
-    step : (b : Bool) → (if b then number_below registers digits else None) ≡ Some r → r < registers
-    step true given = below_limit registers r digits given
+    step : (b : Bool) → (if b then number_below limits.registers digits else None) ≡ Some r → r < limits.registers
+    step true given = below_limit limits.registers digits r given
     step false given = absurd (cc)
 
-alloc_within : (registers : ℕ) (words : List (List ℕ)) (op : Op) → alloc_of registers words ≡ Some op → IsOperation registers op
-alloc_within registers words op h =
-    let (two, e1, h1) = option_step (two_words words) (λ pair. option_and_then (λ dst. option_and_then (λ class. Some (Alloc dst class)) (number_below 4 pair.1)) (register_of registers pair.0)) op h in
-    let (dst, e2, h2) = option_step (register_of registers two.0) (λ dst. option_and_then (λ class. Some (Alloc dst class)) (number_below 4 two.1)) op h1 in
-    let (class, e3, h3) = option_step (number_below 4 two.1) (λ class. Some (Alloc dst class)) op h2 in
-    let e : Alloc dst class ≡ op = cc in
-    subst (IsOperation registers) e (register_below registers dst two.0 e2, below_limit 4 class two.1 e3)
+key_below : (limits : OpLimits) (word : List ℕ) (key : ℕ) → key_of limits word ≡ Some key → key < length limits.keys
+key_below limits word key h = grind (arith, nat_tests)
 
-get_within : (registers : ℕ) (words : List (List ℕ)) (op : Op) → get_of registers words ≡ Some op → IsOperation registers op
-get_within registers words op h =
-    let (three, e1, h1) = option_step (three_words words) (λ w. option_and_then (λ dst. option_and_then (λ src. option_and_then (λ slot. Some (Get dst src slot)) (number_below 16 w.2)) (register_of registers w.1)) (register_of registers w.0)) op h in
-    let (dst, e2, h2) = option_step (register_of registers three.0) (λ dst. option_and_then (λ src. option_and_then (λ slot. Some (Get dst src slot)) (number_below 16 three.2)) (register_of registers three.1)) op h1 in
-    let (src, e3, h3) = option_step (register_of registers three.1) (λ src. option_and_then (λ slot. Some (Get dst src slot)) (number_below 16 three.2)) op h2 in
-    let (slot, e4, h4) = option_step (number_below 16 three.2) (λ slot. Some (Get dst src slot)) op h3 in
-    let e : Get dst src slot ≡ op = cc in
-    subst (IsOperation registers) e (register_below registers dst three.0 e2, register_below registers src three.1 e3, below_limit 16 slot three.2 e4)
+map_step : {A : Type 0} (o : Option A) (make : A → Op) (op : Op) → option_map make o ≡ Some op → (a : A) × (o ≡ Some a) × (make a ≡ op)
+map_step None make op h = absurd (cc)
+map_step (Some a) make op h = let same : make a ≡ op = cc in (a, refl, same)
 
-put_within : (registers : ℕ) (words : List (List ℕ)) (op : Op) → put_of registers words ≡ Some op → IsOperation registers op
-put_within registers words op h =
-    let (three, e1, h1) = option_step (three_words words) (λ w. option_and_then (λ src. option_and_then (λ slot. option_and_then (λ val. Some (Put src slot val)) (register_of registers w.2)) (number_below 16 w.1)) (register_of registers w.0)) op h in
-    let (src, e2, h2) = option_step (register_of registers three.0) (λ src. option_and_then (λ slot. option_and_then (λ val. Some (Put src slot val)) (register_of registers three.2)) (number_below 16 three.1)) op h1 in
-    let (slot, e3, h3) = option_step (number_below 16 three.1) (λ slot. option_and_then (λ val. Some (Put src slot val)) (register_of registers three.2)) op h2 in
-    let (val, e4, h4) = option_step (register_of registers three.2) (λ val. Some (Put src slot val)) op h3 in
-    let e : Put src slot val ≡ op = cc in
-    subst (IsOperation registers) e (register_below registers src three.0 e2, below_limit 16 slot three.1 e3, register_below registers val three.2 e4)
+-- what a word names is so
+abbrev Names : {A : Type 0} → (List ℕ → Option A) → (A → Type 0) → Type 0
+Names {A} named IsSo = (word : List ℕ) (a : A) → named word ≡ Some a → IsSo a
 
-move_within : (registers : ℕ) (words : List (List ℕ)) (op : Op) → move_of registers words ≡ Some op → IsOperation registers op
-move_within registers words op h =
-    let (two, e1, h1) = option_step (two_words words) (λ w. option_and_then (λ dst. option_and_then (λ src. Some (Move dst src)) (register_of registers w.1)) (register_of registers w.0)) op h in
-    let (dst, e2, h2) = option_step (register_of registers two.0) (λ dst. option_and_then (λ src. Some (Move dst src)) (register_of registers two.1)) op h1 in
-    let (src, e3, h3) = option_step (register_of registers two.1) (λ src. Some (Move dst src)) op h2 in
-    let e : Move dst src ≡ op = cc in
-    subst (IsOperation registers) e (register_below registers dst two.0 e2, register_below registers src two.1 e3)
+any_number : Names number_of (λ n. Unit {0})
+any_number word n h = tt
 
-set_within : (registers : ℕ) (words : List (List ℕ)) (op : Op) → set_of registers words ≡ Some op → IsOperation registers op
-set_within registers words op h =
-    let (two, e1, h1) = option_step (two_words words) (λ w. option_and_then (λ dst. option_and_then (λ n. Some (Set dst n)) (number_of w.1)) (register_of registers w.0)) op h in
-    let (dst, e2, h2) = option_step (register_of registers two.0) (λ dst. option_and_then (λ n. Some (Set dst n)) (number_of two.1)) op h1 in
-    let (n, e3, h3) = option_step (number_of two.1) (λ n. Some (Set dst n)) op h2 in
-    let e : Set dst n ≡ op = cc in
-    subst (IsOperation registers) e (register_below registers dst two.0 e2)
+-- an operation of one, two or three arguments is as what they name makes it
+one_within : {A : Type 0} (Is : Op → Type 0) (P : A → Type 0) (first : List ℕ → Option A) → Names first P
+    → (make : A → Op) → ((a : A) → P a → Is (make a)) → (arguments : List (List ℕ)) (op : Op) → option_map make (one first arguments) ≡ Some op → Is op
+one_within Is P first p make made arguments op h =
+    let (a, e, same) = map_step (one first arguments) make op h in
+    let (word, e1, h1) = option_step (one_word arguments) first a e in
+    subst Is same (made a (p word a h1))
 
-drop_within : (registers : ℕ) (words : List (List ℕ)) (op : Op) → drop_of registers words ≡ Some op → IsOperation registers op
-drop_within registers words op h =
-    let (word, e1, h1) = option_step (one_word words) (λ w. option_and_then (λ dst. Some (Drop dst)) (register_of registers w)) op h in
-    let (dst, e2, h2) = option_step (register_of registers word) (λ dst. Some (Drop dst)) op h1 in
-    let e : Drop dst ≡ op = cc in
-    subst (IsOperation registers) e (register_below registers dst word e2)
+two_within : {A B : Type 0} (Is : Op → Type 0) (P : A → Type 0) (Q : B → Type 0) (first : List ℕ → Option A) (second : List ℕ → Option B)
+    → Names first P → Names second Q → (make : A × B → Op) → ((a : A) (b : B) → P a → Q b → Is (make (a, b)))
+    → (arguments : List (List ℕ)) (op : Op) → option_map make (two first second arguments) ≡ Some op → Is op
+two_within Is P Q first second p q make made arguments op h =
+    let (both, e, same) = map_step (two first second arguments) make op h in
+    let (words, e1, h1) = option_step (two_words arguments) (λ words. option_and_then (λ a. option_and_then (λ b. Some (a, b)) (second words.1)) (first words.0)) both e in
+    let (a, e2, h2) = option_step (first words.0) (λ a. option_and_then (λ b. Some (a, b)) (second words.1)) both h1 in
+    let (b, e3, h3) = option_step (second words.1) (λ b. Some (a, b)) both h2 in
+    let these : (a, b) ≡ both = cc in
+    subst Is (ap make these ∙ same) (made a b (p words.0 a e2) (q words.1 b e3))
 
-collect_within : (registers : ℕ) (words : List (List ℕ)) (op : Op) → collect_of words ≡ Some op → IsOperation registers op
-collect_within registers [] op h = let e : Collect ≡ op = cc in subst (IsOperation registers) e tt
-collect_within registers (word ∷ words) op h = absurd (cc)
+three_within : {A B C : Type 0} (Is : Op → Type 0) (P : A → Type 0) (Q : B → Type 0) (R : C → Type 0)
+    (first : List ℕ → Option A) (second : List ℕ → Option B) (third : List ℕ → Option C) → Names first P → Names second Q → Names third R
+    → (make : A × B × C → Op) → ((a : A) (b : B) (c : C) → P a → Q b → R c → Is (make (a, b, c)))
+    → (arguments : List (List ℕ)) (op : Op) → option_map make (three first second third arguments) ≡ Some op → Is op
+three_within Is P Q R first second third p q r make made arguments op h =
+    let (all, e, same) = map_step (three first second third arguments) make op h in
+    let (words, e1, h1) = option_step (three_words arguments) (λ words. option_and_then (λ a. option_and_then (λ b. option_and_then (λ c. Some (a, b, c)) (third words.2)) (second words.1)) (first words.0)) all e in
+    let (a, e2, h2) = option_step (first words.0) (λ a. option_and_then (λ b. option_and_then (λ c. Some (a, b, c)) (third words.2)) (second words.1)) all h1 in
+    let (b, e3, h3) = option_step (second words.1) (λ b. option_and_then (λ c. Some (a, b, c)) (third words.2)) all h2 in
+    let (c, e4, h4) = option_step (third words.2) (λ c. Some (a, b, c)) all h3 in
+    let these : (a, b, c) ≡ all = cc in
+    subst Is (ap make these ∙ same) (made a b c (p words.0 a e2) (q words.1 b e3) (r words.2 c e4))
 
-named_within : (registers : ℕ) (name : List ℕ) (arguments : List (List ℕ)) (op : Op) → op_named registers name arguments ≡ Some op → IsOperation registers op
-named_within registers name arguments op h =
-    step (bytes_eq name (codes "alloc")) (bytes_eq name (codes "get")) (bytes_eq name (codes "put")) (bytes_eq name (codes "move")) (bytes_eq name (codes "set"))
-    (bytes_eq name (codes "drop")) (bytes_eq name (codes "collect")) h
-  where
-    step : (alloc get put move set drop collect : Bool) →
-        (if alloc then alloc_of registers arguments else if get then get_of registers arguments else if put then put_of registers arguments
-        else if move then move_of registers arguments else if set then set_of registers arguments else if drop then drop_of registers arguments
-        else if collect then collect_of arguments else None) ≡ Some op → IsOperation registers op
-    step true get put move set drop collect given = alloc_within registers arguments op given
-    step false true put move set drop collect given = get_within registers arguments op given
-    step false false true move set drop collect given = put_within registers arguments op given
-    step false false false true set drop collect given = move_within registers arguments op given
-    step false false false false true drop collect given = set_within registers arguments op given
-    step false false false false false true collect given = drop_within registers arguments op given
-    step false false false false false false true given = collect_within registers arguments op given
-    step false false false false false false false given = absurd (cc)
+alone_within : (Is : Op → Type 0) (lone : Op) → Is lone → (arguments : List (List ℕ)) (op : Op) → alone lone arguments ≡ Some op → Is op
+alone_within Is lone is [] op h = let e : lone ≡ op = cc in subst Is e is
+alone_within Is lone is (word ∷ words) op h = absurd (cc)
 
-words_within : (registers : ℕ) (words : List (List ℕ)) (op : Op) → op_of_words registers words ≡ Some op → IsOperation registers op
-words_within registers [] op h = absurd (cc)
-words_within registers (name ∷ arguments) op h = named_within registers name arguments op h
+none_within : (Is : Op → Type 0) (op : Op) → None ≡ Some op → Is op
+none_within Is op h = absurd (cc)
 
--- an operation that a text is
-pub op_within : (registers : ℕ) (text : List ℕ) (op : Op) → op_of registers text ≡ Some op → IsOperation registers op
-op_within registers text op h = step (is_trimmed text) h
-  where
-    step : (b : Bool) → (if b then op_of_words registers (words_of text) else None) ≡ Some op → IsOperation registers op
-    step true given = words_within registers (words_of text) op given
-    step false given = absurd (cc)
+module _ (limits : OpLimits) where
+  abbrev Is : Op → Type 0
+  Is op = IsOperation limits op
+
+  abbrev IsRegister : ℕ → Type 0
+  IsRegister r = r < limits.registers
+
+  abbrev IsKey : ℕ → Type 0
+  IsKey key = key < length limits.keys
+
+  abbrev IsBelow : ℕ → ℕ → Type 0
+  IsBelow most n = n < most
+
+  abbrev IsAny : ℕ → Type 0
+  IsAny n = Unit {0}
+
+  abbrev register : List ℕ → Option ℕ
+  register word = register_of limits word
+
+  pair_within : (name : List ℕ) (arguments : List (List ℕ)) (op : Op) → pair_op_named limits name arguments ≡ Some op → Is op
+  unfolding pair_op_named
+  pair_within name arguments op h =
+      step (bytes_eq name (codes "table")) (bytes_eq name (codes "pair")) (bytes_eq name (codes "pget")) (bytes_eq name (codes "pdel")) (bytes_eq name (codes "group")) h
+    where
+      step : (table_is pair_is pget_is pdel_is group_is : Bool) →
+          (if table_is then option_map Table (one (register_of limits) arguments)
+          else if pair_is then option_map (λ o. PairSet o.0 o.1 o.2) (three (register_of limits) (register_of limits) (register_of limits) arguments)
+          else if pget_is then option_map (λ o. PairGet o.0 o.1 o.2) (three (register_of limits) (register_of limits) (register_of limits) arguments)
+          else if pdel_is then option_map (λ o. PairDel o.0 o.1) (two (register_of limits) (register_of limits) arguments)
+          else if group_is then option_map (λ o. Group o.0 o.1) (two (register_of limits) number_of arguments)
+          else None) ≡ Some op → Is op
+      step true pair_is pget_is pdel_is group_is h = one_within Is IsRegister register (register_below limits) Table (λ r is. is) arguments op h
+      step false true pget_is pdel_is group_is h = three_within Is IsRegister IsRegister IsRegister register register register (register_below limits) (register_below limits) (register_below limits) (λ o. PairSet o.0 o.1 o.2) (λ a b c p q r. (p, q, r)) arguments op h
+      step false false true pdel_is group_is h = three_within Is IsRegister IsRegister IsRegister register register register (register_below limits) (register_below limits) (register_below limits) (λ o. PairGet o.0 o.1 o.2) (λ a b c p q r. (p, q, r)) arguments op h
+      step false false false true group_is h = two_within Is IsRegister IsRegister register register (register_below limits) (register_below limits) (λ o. PairDel o.0 o.1) (λ a b p q. (p, q)) arguments op h
+      step false false false false true h = two_within Is IsRegister IsAny register number_of (register_below limits) any_number (λ o. Group o.0 o.1) (λ a b p q. p) arguments op h
+      step false false false false false h = none_within Is op h
+
+  handle_within : (name : List ℕ) (arguments : List (List ℕ)) (op : Op) → handle_op_named limits name arguments ≡ Some op → Is op
+  unfolding handle_op_named
+  handle_within name arguments op h =
+      step (bytes_eq name (codes "strong")) (bytes_eq name (codes "sget")) (bytes_eq name (codes "weak")) (bytes_eq name (codes "wget")) h
+    where
+      step : (strong_is sget_is weak_is wget_is : Bool) →
+          (if strong_is then option_map (λ o. StrongSet o.0 o.1) (two (number_below limits.strong) (register_of limits) arguments)
+          else if sget_is then option_map (λ o. StrongGet o.0 o.1) (two (register_of limits) (number_below limits.strong) arguments)
+          else if weak_is then option_map (λ o. WeakSet o.0 o.1) (two (number_below limits.weak) (register_of limits) arguments)
+          else if wget_is then option_map (λ o. WeakGet o.0 o.1) (two (register_of limits) (number_below limits.weak) arguments)
+          else pair_op_named limits name arguments) ≡ Some op → Is op
+      step true sget_is weak_is wget_is h = two_within Is (IsBelow limits.strong) IsRegister (number_below limits.strong) register (below_limit limits.strong) (register_below limits) (λ o. StrongSet o.0 o.1) (λ a b p q. (p, q)) arguments op h
+      step false true weak_is wget_is h = two_within Is IsRegister (IsBelow limits.strong) register (number_below limits.strong) (register_below limits) (below_limit limits.strong) (λ o. StrongGet o.0 o.1) (λ a b p q. (p, q)) arguments op h
+      step false false true wget_is h = two_within Is (IsBelow limits.weak) IsRegister (number_below limits.weak) register (below_limit limits.weak) (register_below limits) (λ o. WeakSet o.0 o.1) (λ a b p q. (p, q)) arguments op h
+      step false false false true h = two_within Is IsRegister (IsBelow limits.weak) register (number_below limits.weak) (register_below limits) (below_limit limits.weak) (λ o. WeakGet o.0 o.1) (λ a b p q. (p, q)) arguments op h
+      step false false false false h = pair_within name arguments op h
+
+  property_within : (name : List ℕ) (arguments : List (List ℕ)) (op : Op) → property_op_named limits name arguments ≡ Some op → Is op
+  unfolding property_op_named
+  property_within name arguments op h =
+      step (bytes_eq name (codes "claim")) (bytes_eq name (codes "release")) (bytes_eq name (codes "unclaim")) (bytes_eq name (codes "add")) (bytes_eq name (codes "getp")) (bytes_eq name (codes "setp")) h
+    where
+      step : (claim_is release_is unclaim_is add_is getp_is setp_is : Bool) →
+          (if claim_is then option_map Claim (one (register_of limits) arguments)
+          else if release_is then option_map Release (one (register_of limits) arguments)
+          else if unclaim_is then alone Unclaim arguments
+          else if add_is then option_map (λ o. Add o.0 o.1 o.2) (three (register_of limits) (key_of limits) (register_of limits) arguments)
+          else if getp_is then option_map (λ o. GetProp o.0 o.1 o.2) (three (register_of limits) (register_of limits) (key_of limits) arguments)
+          else if setp_is then option_map (λ o. SetProp o.0 o.1 o.2) (three (register_of limits) (key_of limits) (register_of limits) arguments)
+          else handle_op_named limits name arguments) ≡ Some op → Is op
+      step true release_is unclaim_is add_is getp_is setp_is h = one_within Is IsRegister register (register_below limits) Claim (λ r is. is) arguments op h
+      step false true unclaim_is add_is getp_is setp_is h = one_within Is IsRegister register (register_below limits) Release (λ r is. is) arguments op h
+      step false false true add_is getp_is setp_is h = alone_within Is Unclaim tt arguments op h
+      step false false false true getp_is setp_is h = three_within Is IsRegister IsKey IsRegister register (key_of limits) register (register_below limits) (key_below limits) (register_below limits) (λ o. Add o.0 o.1 o.2) (λ a b c p q r. (p, q, r)) arguments op h
+      step false false false false true setp_is h = three_within Is IsRegister IsRegister IsKey register register (key_of limits) (register_below limits) (register_below limits) (key_below limits) (λ o. GetProp o.0 o.1 o.2) (λ a b c p q r. (p, q, r)) arguments op h
+      step false false false false false true h = three_within Is IsRegister IsKey IsRegister register (key_of limits) register (register_below limits) (key_below limits) (register_below limits) (λ o. SetProp o.0 o.1 o.2) (λ a b c p q r. (p, q, r)) arguments op h
+      step false false false false false false h = handle_within name arguments op h
+
+  named_within : (name : List ℕ) (arguments : List (List ℕ)) (op : Op) → op_named limits name arguments ≡ Some op → Is op
+  unfolding op_named
+  named_within name arguments op h =
+      step (bytes_eq name (codes "alloc")) (bytes_eq name (codes "get")) (bytes_eq name (codes "put")) (bytes_eq name (codes "move")) (bytes_eq name (codes "set")) (bytes_eq name (codes "drop")) (bytes_eq name (codes "collect")) h
+    where
+      step : (alloc_is get_is put_is move_is set_is drop_is collect_is : Bool) →
+          (if alloc_is then option_map (λ o. Alloc o.0 o.1) (two (register_of limits) (number_below 4) arguments)
+          else if get_is then option_map (λ o. Get o.0 o.1 o.2) (three (register_of limits) (register_of limits) (number_below 16) arguments)
+          else if put_is then option_map (λ o. Put o.0 o.1 o.2) (three (register_of limits) (number_below 16) (register_of limits) arguments)
+          else if move_is then option_map (λ o. Move o.0 o.1) (two (register_of limits) (register_of limits) arguments)
+          else if set_is then option_map (λ o. Set o.0 o.1) (two (register_of limits) number_of arguments)
+          else if drop_is then option_map Drop (one (register_of limits) arguments)
+          else if collect_is then alone Collect arguments
+          else property_op_named limits name arguments) ≡ Some op → Is op
+      step true get_is put_is move_is set_is drop_is collect_is h = two_within Is IsRegister (IsBelow 4) register (number_below 4) (register_below limits) (below_limit 4) (λ o. Alloc o.0 o.1) (λ a b p q. (p, q)) arguments op h
+      step false true put_is move_is set_is drop_is collect_is h = three_within Is IsRegister IsRegister (IsBelow 16) register register (number_below 16) (register_below limits) (register_below limits) (below_limit 16) (λ o. Get o.0 o.1 o.2) (λ a b c p q r. (p, q, r)) arguments op h
+      step false false true move_is set_is drop_is collect_is h = three_within Is IsRegister (IsBelow 16) IsRegister register (number_below 16) register (register_below limits) (below_limit 16) (register_below limits) (λ o. Put o.0 o.1 o.2) (λ a b c p q r. (p, q, r)) arguments op h
+      step false false false true set_is drop_is collect_is h = two_within Is IsRegister IsRegister register register (register_below limits) (register_below limits) (λ o. Move o.0 o.1) (λ a b p q. (p, q)) arguments op h
+      step false false false false true drop_is collect_is h = two_within Is IsRegister IsAny register number_of (register_below limits) any_number (λ o. Set o.0 o.1) (λ a b p q. p) arguments op h
+      step false false false false false true collect_is h = one_within Is IsRegister register (register_below limits) Drop (λ r is. is) arguments op h
+      step false false false false false false true h = alone_within Is Collect tt arguments op h
+      step false false false false false false false h = property_within name arguments op h
+
+  words_within : (words : List (List ℕ)) (op : Op) → op_of_words limits words ≡ Some op → Is op
+  words_within [] op h = none_within Is op h
+  words_within (name ∷ arguments) op h = named_within name arguments op h
+
+  -- an operation that a text is
+  pub op_within : (text : List ℕ) (op : Op) → op_of limits text ≡ Some op → Is op
+  op_within text op h = step (is_trimmed text) h
+    where
+      step : (b : Bool) → (if b then op_of_words limits (words_of text) else None) ≡ Some op → Is op
+      step true h = words_within (words_of text) op h
+      step false h = none_within Is op h
 
 -- what holds of each thing that a step gives holds of all that it gave in turn
-each_within : {A B : Type 0} (P : B → Type 0) (f : A → Result B Fault) → ((a : A) (b : B) → f a ≡ Ok b → P b) → (xs : List A) (ys : List B) → each f xs ≡ Ok ys → All P ys
-each_within P f gives [] ys h = let e : [] ≡ ys = cc in subst (All P) e (All-nil P)
-each_within P f gives (x ∷ xs) ys h =
-    let (y, e1, h1) = result_step (f x) (λ y. each f xs >>= (λ rest. Ok (y ∷ rest))) ys h in
-    let (rest, e2, h2) = result_step (each f xs) (λ rest. Ok (y ∷ rest)) ys h1 in
+each_within : {A B : Type 0} (P : B → Type 0) (f : ℕ → A → Result B Fault) → ((at : ℕ) (a : A) (b : B) → f at a ≡ Ok b → P b)
+    → (at : ℕ) (xs : List A) (ys : List B) → each_from f at xs ≡ Ok ys → All P ys
+each_within P f gives at [] ys h = let e : [] ≡ ys = cc in subst (All P) e (All-nil P)
+each_within P f gives at (x ∷ xs) ys h =
+    let (y, e1, h1) = result_step (f at x) (λ y. each_from f (at + 1) xs >>= (λ rest. Ok (y ∷ rest))) ys h in
+    let (rest, e2, h2) = result_step (each_from f (at + 1) xs) (λ rest. Ok (y ∷ rest)) ys h1 in
     let e : y ∷ rest ≡ ys = cc in
-    subst (All P) e (All-cons P y rest (gives x y e1) (each_within P f gives xs rest e2))
+    subst (All P) e (All-cons P y rest (gives at x y e1) (each_within P f gives (at + 1) xs rest e2))
 
-good_ops : (o : Option Op) (op : Op) → good Ops o ≡ Ok op → o ≡ Some op
-good_ops None op h = absurd (cc)
-good_ops (Some x) op h = let e : x ≡ op = cc in ap Some e
+op_or-some : (mutator at : ℕ) (o : Option Op) (op : Op) → op_or mutator at o ≡ Ok op → o ≡ Some op
+op_or-some mutator at None op h = absurd (cc)
+op_or-some mutator at (Some x) op h = let e : x ≡ op = cc in ap Some e
 
-op_in_within : (registers : ℕ) (value : Data) (op : Op) → op_in registers value ≡ Ok op → IsOperation registers op
-op_in_within registers value op h =
-    let (text, e, given) = option_step (as_str value) (op_of registers) op (good_ops (option_and_then (op_of registers) (as_str value)) op h) in
-    op_within registers text op given
+op_at_within : (limits : OpLimits) (mutator at : ℕ) (text : List ℕ) (op : Op) → op_at limits mutator at text ≡ Ok op → IsOperation limits op
+op_at_within limits mutator at text op h = op_within limits text op (op_or-some mutator at (op_of limits text) op h)
 
-script_within : (registers : ℕ) (mutator : Members) (ops : List Op) → script_of registers mutator ≡ Ok ops → All (IsOperation registers) ops
-script_within registers mutator ops h =
-    let (read, e1, h1) = result_step (ops_of registers mutator) (λ read. has_only (Ops ∷ []) mutator >>= (λ only. Ok read)) ops h in
-    let (only, e2, h2) = result_step (has_only (Ops ∷ []) mutator) (λ only. Ok read) ops h1 in
-    let same : read ≡ ops = cc in
-    let (value, e3, h3) = result_step (required Ops mutator) (λ value. values_in Ops 0 MAX_OPS value >>= (λ texts. each (op_in registers) texts)) read e1 in
-    let (texts, e4, h4) = result_step (values_in Ops 0 MAX_OPS value) (λ texts. each (op_in registers) texts) read h3 in
-    subst (All (IsOperation registers)) same (each_within (IsOperation registers) (op_in registers) (op_in_within registers) texts read h4)
-
--- the scripts of some tables
-pub scripts_within : (registers : ℕ) (tables : List Members) (scripts : List (List Op)) → each (script_of registers) tables ≡ Ok scripts →
-    All (λ ops. All (IsOperation registers) ops) scripts
-scripts_within registers tables scripts h = each_within (λ ops. All (IsOperation registers) ops) (script_of registers) (script_within registers) tables scripts h
+-- the scripts of some texts
+pub scripts_within : (limits : OpLimits) (texts : List (List (List ℕ))) (scripts : List (List Op)) → scripts_of limits texts ≡ Ok scripts
+    → AreOperations limits scripts
+scripts_within limits texts scripts h =
+    each_within (λ ops. All (IsOperation limits) ops) (ops_of limits)
+    (λ mutator script ops read. each_within (IsOperation limits) (op_at limits mutator) (op_at_within limits mutator) 0 script ops read) 0 texts scripts h
 
 -- what holds of all that a list is seen as holds of what one of its elements is seen as
 pub All-seen : {X Y : Type 0} (P : Y → Type 0) (show : X → Y) (xs : List X) (m : ℕ) (d : X) → m < length xs → All P (map show xs) → P (show (get_or xs m d))

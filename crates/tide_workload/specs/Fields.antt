@@ -59,18 +59,36 @@ values_in field least most value = good field (values_within least most value)
 abbrev pub number_in : Field → ℕ → ℕ → Data → Result ℕ Fault
 number_in field least most value = good field (number_within least most value)
 
+-- what a field's value is read as, or what stands for it where it isn't there
+abbrev pub or_default : {A : Type 0} → A → (Data → Result A Fault) → Option Data → Result A Fault
+or_default otherwise read None = Ok otherwise
+or_default otherwise read (Some value) = read value
+
 -- the number of a field that has to be there
 abbrev pub number_of_field : Field → ℕ → ℕ → Members → Result ℕ Fault
 number_of_field field least most table = do
   value ← required field table
   number_in field least most value
 
--- the five numbers, from 0 to the most, of a field that has to be there
+-- the number of a field, 0 where it isn't there
+abbrev pub number_or_zero : Field → ℕ → Members → Result ℕ Fault
+number_or_zero field most table = or_default 0 (number_in field 0 most) (get_member (name_of field) table)
+
+-- the five numbers, from 0 to the most, of a field's value
+abbrev pub five_in : Field → ℕ → Data → Result (List ℕ) Fault
+five_in field most value = do
+  values ← values_in field 5 5 value
+  each (number_in field 0 most) values
+
+-- the five numbers of a field that has to be there
 abbrev pub five_of_field : Field → ℕ → Members → Result (List ℕ) Fault
 five_of_field field most table = do
   value ← required field table
-  values ← values_in field 5 5 value
-  each (number_in field 0 most) values
+  five_in field most value
+
+-- the five numbers of a field, all 0 where it isn't there
+abbrev pub five_or_zeros : Field → ℕ → Members → Result (List ℕ) Fault
+five_or_zeros field most table = or_default (0 ∷ 0 ∷ 0 ∷ 0 ∷ 0 ∷ []) (five_in field most) (get_member (name_of field) table)
 
 -- the names that a table has
 abbrev pub names_of : Members → List (List ℕ)

@@ -1,5 +1,5 @@
 -- Reading step by step: the first step that refuses decides.
-use Rattle.std.specs.Prelude.{◌≡◌, ◌≢◌, List, [], ◌∷◌, Option, Some, None, Result, Ok, Err}
+use Rattle.std.specs.Prelude.{◌≡◌, ◌≢◌, ℕ, ◌+◌, List, [], ◌∷◌, Option, Some, None, Result, Ok, Err}
 use Rattle.tide_workload.specs.declared.fault.Fault.{Fault}
 use Rattle.tide_workload.specs.declared.fault.Fault.TheVariants.{Bad, Memory}
 use Rattle.tide_workload.specs.declared.field.Field.{Field}
@@ -16,6 +16,14 @@ each f [] = Ok []
 each f (x ∷ xs) = do
   y ← f x
   ys ← each f xs
+  Ok (y ∷ ys)
+
+-- each of these in order, told its place from a number on, or the first refusal
+abbrev pub each_from : {A B : Type 0} → (ℕ → A → Result B Fault) → ℕ → List A → Result (List B) Fault
+each_from f at [] = Ok []
+each_from f at (x ∷ xs) = do
+  y ← f at x
+  ys ← each_from f (at + 1) xs
   Ok (y ∷ ys)
 
 -- what is read of a field, which is bad where there is nothing

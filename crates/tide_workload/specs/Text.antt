@@ -13,18 +13,18 @@ use Rattle.tide_model.specs.Cycle.{live_count}
 use Rattle.tide_model.specs.Script.{calls_of}
 use Rattle.tide_workload.specs.Line.{call_line, mutator_line, cycle_line, live_line}
 
--- the lines of some calls
-abbrev pub call_lines : List (Op × Reply) → List ℕ
-call_lines calls = flat_map (λ call. call_line call.0 call.1) calls
+-- the lines of some calls, under these names of keys
+abbrev pub call_lines : List (List ℕ) → List (Op × Reply) → List ℕ
+call_lines keys calls = flat_map (λ call. call_line keys call.0 call.1) calls
 
 -- a mutator's line, and its calls in order
-abbrev pub mutator_text : ℕ → List Event → List ℕ
-mutator_text mutator history = mutator_line mutator ++ call_lines (calls_of mutator history)
+abbrev pub mutator_text : List (List ℕ) → ℕ → List Event → List ℕ
+mutator_text keys mutator history = mutator_line mutator ++ call_lines keys (calls_of mutator history)
 
 -- the mutators below some number
-abbrev pub mutators_text : ℕ → List Event → List ℕ
-mutators_text zero history = []
-mutators_text (suc mutator) history = mutators_text mutator history ++ mutator_text mutator history
+abbrev pub mutators_text : List (List ℕ) → ℕ → List Event → List ℕ
+mutators_text keys zero history = []
+mutators_text keys (suc mutator) history = mutators_text keys mutator history ++ mutator_text keys mutator history
 
 -- the line of an entry that ends a cycle, after which so many cells live
 abbrev pub end_line : Entry → ℕ → List ℕ
@@ -42,7 +42,7 @@ cycles_from layout state [] = []
 cycles_from layout state (event ∷ events) =
     end_line event.entry (live_count layout (after_event layout state event)) ++ cycles_from layout (after_event layout state event) events
 
--- each mutator's calls, each cycle, and the cells that live at the end
-abbrev pub text_of : Layout → List Event → List ℕ
-text_of layout history =
-    mutators_text layout.mutators history ++ cycles_from layout empty_state history ++ live_line (live_count layout (state_after layout history))
+-- each mutator's calls under these names of keys, each cycle, and the cells that live at the end
+abbrev pub text_of : List (List ℕ) → Layout → List Event → List ℕ
+text_of keys layout history =
+    mutators_text keys layout.mutators history ++ cycles_from layout empty_state history ++ live_line (live_count layout (state_after layout history))

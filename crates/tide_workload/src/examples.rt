@@ -1,5 +1,5 @@
 //! Examples of what the definitions of reading say, as laws.
-ghost use Rattle.tide_workload.specs.Examples.{OpTexts, Numbers, Documents, Limits};
+ghost use Rattle.tide_workload.specs.Examples.{OpTexts, Numbers, Keys, Documents, Limits};
 
 /// Which texts are operations.
 fn op_texts()
@@ -9,6 +9,11 @@ fn op_texts()
 /// Which words are numbers.
 fn numbers()
     ensures { Numbers }
+{}
+
+/// How keys are numbered, and which words are keys.
+fn keys()
+    ensures { Keys }
 {}
 
 /// What some documents read as.

@@ -3,6 +3,7 @@ ghost use Rattle.tide_workload.specs.declared.fault.Fault.TheVariants.{Memory};
 
 use crate::field::Field;
 use std::alloc::{AllocError, AllocFailed};
+use tide_model::Memory;
 
 /// Why bytes are no workload.
 #[derive(Clone, Copy, Debug, PartialEq, Eq)]
@@ -13,9 +14,10 @@ pub enum Fault {
     TooLong,
     /// A field that has to be there isn't.
     Missing { field: Field },
-    /// A field's value isn't as it has to be, or a name that no field has is there.
+    /// A field's value isn't as it has to be, a field that isn't read yet is there, or a name that no field has.
     Bad { field: Field },
-    /// The text of this mutator at this place, both counted from 0, is no operation's.
+    /// The text of this mutator at this place, both counted from 0, is no operation's. Reading tells `Bad` of
+    /// `Ops` in its place today.
     BadOp { mutator: u32, at: u32 },
     /// Want of memory.
     Memory,
@@ -33,6 +35,14 @@ impl<T: Drop> From<AllocFailed<T>> for Fault {
     ghost from_gives = { λ _ fault. fault ≡ Memory };
 
     fn from(_: AllocFailed<T>) -> Fault {
+        Fault::Memory
+    }
+}
+
+impl From<Memory> for Fault {
+    ghost from_gives = { λ _ fault. fault ≡ Memory };
+
+    fn from(_: Memory) -> Fault {
         Fault::Memory
     }
 }

@@ -1,4 +1,4 @@
-ghost use Rattle.std.specs.Prelude.{◌≡◌};
+ghost use Rattle.std.specs.Prelude.{◌≡◌, ◌≤◌, length};
 ghost use Rattle.tide_workload.specs.Names.{name_of};
 
 /// A field of a workload's document, as refusals name it.
@@ -22,7 +22,8 @@ pub enum Field {
 impl Field {
     /// The name under which the field stands in the document.
     pub fn name(self) -> &'static str
-        ensures { result.now ≡ name_of self }
+        ensures value { result.now ≡ name_of self }
+        ensures short { length result.now ≤ 9 }
     {
         match self {
             Field::Registers => "registers",

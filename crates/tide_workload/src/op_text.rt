@@ -1,129 +1,133 @@
 //! The texts of operations.
 ghost use Rattle.std.specs.Prelude.{◌≡◌};
 ghost use Rattle.tide_workload.specs.Words.{words_of};
-ghost use Rattle.tide_workload.specs.OpText.{op_of, op_named, register_of, alloc_of, get_of, put_of, move_of, set_of, drop_of, collect_of};
+ghost use Rattle.tide_workload.specs.OpText.{op_of, op_named, property_op_named, handle_op_named, pair_op_named, alone};
 
-use crate::words::{
-    is_trimmed, next_word, number_below, number_of, one_word, three_words, two_words,
-};
+use crate::op_limits::OpLimits;
+use crate::words::{is_trimmed, next_word};
 use tide_model::Op;
 
-/// The operation that a text is, under this number of registers.
-pub(crate) fn op_of(text: &[u8], registers: u8) -> Option<Op>
-    ensures { result ≡ op_of registers text.now }
+/// The operation that a text is, under these limits.
+pub(crate) fn op_of(text: &[u8], limits: &OpLimits<'_>) -> Option<Op>
+    ensures { result ≡ op_of limits.now text.now }
 {
     if !is_trimmed(text) {
         return None;
     }
     let (name, arguments) = next_word(text)?;
-    op_named(name, arguments, registers)
+    op_named(name, arguments, limits)
 }
 
 /// The operation of this name with these arguments.
-fn op_named(name: &[u8], arguments: &[u8], registers: u8) -> Option<Op>
-    ensures { result ≡ op_named registers name.now (words_of arguments.now) }
+#[tactic(auto, unfolding(crate::specs::OpText::op_named))]
+fn op_named(name: &[u8], arguments: &[u8], limits: &OpLimits<'_>) -> Option<Op>
+    ensures { result ≡ op_named limits.now name.now (words_of arguments.now) }
 {
     if name == "alloc".as_bytes() {
-        alloc(arguments, registers)
+        let (dst, class) = limits.register_and_class(arguments)?;
+        Some(Op::Alloc { dst, class })
     } else if name == "get".as_bytes() {
-        get(arguments, registers)
+        let (dst, src, slot) = limits.two_registers_and_slot(arguments)?;
+        Some(Op::Get { dst, src, slot })
     } else if name == "put".as_bytes() {
-        put(arguments, registers)
+        let (src, slot, val) = limits.slot_between_registers(arguments)?;
+        Some(Op::Put { src, slot, val })
     } else if name == "move".as_bytes() {
-        move_value(arguments, registers)
+        let (dst, src) = limits.two_registers(arguments)?;
+        Some(Op::Move { dst, src })
     } else if name == "set".as_bytes() {
-        set(arguments, registers)
+        let (dst, n) = limits.register_and_number(arguments)?;
+        Some(Op::Set { dst, n })
     } else if name == "drop".as_bytes() {
-        drop_value(arguments, registers)
+        let dst = limits.one_register(arguments)?;
+        Some(Op::Drop { dst })
     } else if name == "collect".as_bytes() {
-        collect(arguments)
+        alone(Op::Collect, arguments)
+    } else {
+        property_op_named(name, arguments, limits)
+    }
+}
+
+/// The operation on claims or properties of this name, or one on handles, tables or groups.
+#[tactic(auto, unfolding(crate::specs::OpText::property_op_named))]
+fn property_op_named(name: &[u8], arguments: &[u8], limits: &OpLimits<'_>) -> Option<Op>
+    ensures { result ≡ property_op_named limits.now name.now (words_of arguments.now) }
+{
+    if name == "claim".as_bytes() {
+        let src = limits.one_register(arguments)?;
+        Some(Op::Claim { src })
+    } else if name == "release".as_bytes() {
+        let src = limits.one_register(arguments)?;
+        Some(Op::Release { src })
+    } else if name == "unclaim".as_bytes() {
+        alone(Op::Unclaim, arguments)
+    } else if name == "add".as_bytes() {
+        let (src, key, val) = limits.key_between_registers(arguments)?;
+        Some(Op::Add { src, key, val })
+    } else if name == "getp".as_bytes() {
+        let (dst, src, key) = limits.two_registers_and_key(arguments)?;
+        Some(Op::GetProp { dst, src, key })
+    } else if name == "setp".as_bytes() {
+        let (src, key, val) = limits.key_between_registers(arguments)?;
+        Some(Op::SetProp { src, key, val })
+    } else {
+        handle_op_named(name, arguments, limits)
+    }
+}
+
+/// The operation on handles of this name, or one on tables or groups.
+#[tactic(auto, unfolding(crate::specs::OpText::handle_op_named))]
+fn handle_op_named(name: &[u8], arguments: &[u8], limits: &OpLimits<'_>) -> Option<Op>
+    ensures { result ≡ handle_op_named limits.now name.now (words_of arguments.now) }
+{
+    if name == "strong".as_bytes() {
+        let (at, val) = limits.strong_and_register(arguments)?;
+        Some(Op::StrongSet { at, val })
+    } else if name == "sget".as_bytes() {
+        let (dst, at) = limits.register_and_strong(arguments)?;
+        Some(Op::StrongGet { dst, at })
+    } else if name == "weak".as_bytes() {
+        let (at, val) = limits.weak_and_register(arguments)?;
+        Some(Op::WeakSet { at, val })
+    } else if name == "wget".as_bytes() {
+        let (dst, at) = limits.register_and_weak(arguments)?;
+        Some(Op::WeakGet { dst, at })
+    } else {
+        pair_op_named(name, arguments, limits)
+    }
+}
+
+/// The operation on tables or groups of this name.
+#[tactic(auto, unfolding(crate::specs::OpText::pair_op_named))]
+fn pair_op_named(name: &[u8], arguments: &[u8], limits: &OpLimits<'_>) -> Option<Op>
+    ensures { result ≡ pair_op_named limits.now name.now (words_of arguments.now) }
+{
+    if name == "table".as_bytes() {
+        let dst = limits.one_register(arguments)?;
+        Some(Op::Table { dst })
+    } else if name == "pair".as_bytes() {
+        let (src, key, val) = limits.three_registers(arguments)?;
+        Some(Op::PairSet { src, key, val })
+    } else if name == "pget".as_bytes() {
+        let (dst, src, key) = limits.three_registers(arguments)?;
+        Some(Op::PairGet { dst, src, key })
+    } else if name == "pdel".as_bytes() {
+        let (src, key) = limits.two_registers(arguments)?;
+        Some(Op::PairDel { src, key })
+    } else if name == "group".as_bytes() {
+        let (src, n) = limits.register_and_number(arguments)?;
+        Some(Op::Group { src, n })
     } else {
         None
     }
 }
 
-fn alloc(arguments: &[u8], registers: u8) -> Option<Op>
-    ensures { result ≡ alloc_of registers (words_of arguments.now) }
-{
-    let (dst, class) = two_words(arguments)?;
-    Some(Op::Alloc {
-        dst: register_of(dst, registers)?,
-        class: number_below(class, CLASSES)?,
-    })
-}
-
-fn get(arguments: &[u8], registers: u8) -> Option<Op>
-    ensures { result ≡ get_of registers (words_of arguments.now) }
-{
-    let (dst, src, slot) = three_words(arguments)?;
-    Some(Op::Get {
-        dst: register_of(dst, registers)?,
-        src: register_of(src, registers)?,
-        slot: number_below(slot, SLOTS)?,
-    })
-}
-
-fn put(arguments: &[u8], registers: u8) -> Option<Op>
-    ensures { result ≡ put_of registers (words_of arguments.now) }
-{
-    let (src, slot, val) = three_words(arguments)?;
-    Some(Op::Put {
-        src: register_of(src, registers)?,
-        slot: number_below(slot, SLOTS)?,
-        val: register_of(val, registers)?,
-    })
-}
-
-fn move_value(arguments: &[u8], registers: u8) -> Option<Op>
-    ensures { result ≡ move_of registers (words_of arguments.now) }
-{
-    let (dst, src) = two_words(arguments)?;
-    Some(Op::Move {
-        dst: register_of(dst, registers)?,
-        src: register_of(src, registers)?,
-    })
-}
-
-fn set(arguments: &[u8], registers: u8) -> Option<Op>
-    ensures { result ≡ set_of registers (words_of arguments.now) }
-{
-    let (dst, n) = two_words(arguments)?;
-    Some(Op::Set {
-        dst: register_of(dst, registers)?,
-        n: number_of(n)?,
-    })
-}
-
-fn drop_value(arguments: &[u8], registers: u8) -> Option<Op>
-    ensures { result ≡ drop_of registers (words_of arguments.now) }
-{
-    let dst = one_word(arguments)?;
-    Some(Op::Drop {
-        dst: register_of(dst, registers)?,
-    })
-}
-
-fn collect(arguments: &[u8]) -> Option<Op>
-    ensures { result ≡ collect_of (words_of arguments.now) }
+/// An operation that has no arguments.
+fn alone(op: Op, arguments: &[u8]) -> Option<Op>
+    ensures { result ≡ alone op (words_of arguments.now) }
 {
     match next_word(arguments) {
         Some(_) => None,
-        None => Some(Op::Collect),
+        None => Some(op),
     }
 }
-
-/// The register that a word names: `r` and its number.
-fn register_of(word: &[u8], registers: u8) -> Option<u8>
-    ensures { result ≡ register_of registers word.now }
-{
-    match word {
-        [b'r', digits @ ..] => number_below(digits, registers),
-        _ => None,
-    }
-}
-
-/// How many classes of cells with slots there are.
-const CLASSES: u8 = 4;
-
-/// How many slots the largest of these classes has.
-const SLOTS: u8 = 16;

@@ -1,17 +1,24 @@
 //! Reading a workload from bytes.
-ghost use Rattle.std.specs.Prelude.{◌≡◌, ◌≢◌, IfOk, IfErr, Ok, Err};
+ghost use Rattle.std.specs.Prelude.{◌≡◌, ◌≢◌, ◌≤◌, All, IfOk, IfErr, Ok, Err, length, map};
 ghost use Rattle.toml.specs.Errors.{IsMemory};
 ghost use Rattle.toml.specs.View.{table_view};
-ghost use Rattle.tide_workload.specs.Reading.{document_or, settings_of, work_of, reads_by_fields, reads_workload};
+ghost use Rattle.tide_workload.specs.Reading.{document_or, load_with, settings_of, work_of, reads_workload};
 ghost use Rattle.tide_workload.specs.Steps.{Gives};
+ghost use Rattle.tide_workload.specs.Work.{AreKeys, ArePaths, AreSettings};
 
 use crate::fault::Fault;
 use crate::field::Field;
-use crate::fields::{absent, five_of_field, has_only, number_of_field};
-use crate::scripts::{mutators_of, scripts_of};
+use crate::fields::{
+    absent, five_of_field, five_or_zeros, has_only, number_of_field, number_or_zero,
+};
+use crate::keys::Keys;
+use crate::op_limits::OpLimits;
+use crate::scripts::{mutators_of, scripts_of, texts_of_each};
 use crate::settings::Settings;
-use crate::workload::Workload;
+use crate::shapes::shapes_of;
+use crate::workload::{MAX_MUTATORS, MAX_OPS, Workload};
 use std::alloc::Global;
+use tide_shape::Paths;
 use toml::Table;
 
 /// How many bytes a workload may have.
@@ -31,24 +38,15 @@ const DOCUMENT_FIELDS: [Field; 10] = [
     Field::Mutator,
 ];
 
-/// Reads the workload that bytes are. Every refusal is `Bad` of `Other` today.
+/// Reads the workload that bytes are, or tells the first fault in them.
+///
+/// The faults are looked for in this order: that there are too many bytes, that they are no document, the fields
+/// from `registers` to `mutator` in the order of `Field`, other names, the table of each mutator, and then the text of
+/// each operation. Want of memory may come at any point.
+#[tactic(auto, unfolding(crate::specs::Reading::reads_workload))]
 pub fn read(alloc: Global, bytes: &[u8]) -> Result<Workload, Fault>
     ensures ok { IfOk result (λ load. reads_workload bytes.now ≡ Ok load) }
     ensures refused { IfErr result (λ fault. fault ≢ Fault.Memory → reads_workload bytes.now ≡ Err fault) }
-{
-    match read_by_fields(alloc, bytes) {
-        Ok(load) => Ok(load),
-        Err(Fault::Memory) => Err(Fault::Memory),
-        Err(_) => Err(Fault::Bad {
-            field: Field::Other,
-        }),
-    }
-}
-
-/// Reads the workload that bytes are, or tells their first refusal.
-#[tactic(auto, unfolding(crate::specs::Reading::reads_by_fields))]
-fn read_by_fields(alloc: Global, bytes: &[u8]) -> Result<Workload, Fault>
-    ensures { Gives (λ load. load) result (reads_by_fields bytes.now) }
 {
     if bytes.len() > MAX_BYTES {
         return Err(Fault::TooLong);
@@ -83,42 +81,65 @@ fn fault_of(error: &toml::de::Error) -> Fault
     }
 }
 
-/// The settings of a document.
+/// The settings of a document, its fields up to `trigger`.
 #[tactic(auto, unfolding(crate::specs::Reading::settings_of))]
 fn settings_of(document: &Table) -> Result<Settings, Fault>
-    ensures { result ≡ settings_of (table_view document.now) }
+    ensures value { result ≡ settings_of (table_view document.now) }
+    ensures within { IfOk result AreSettings }
 {
     let registers = number_of_field(document, Field::Registers, 1, 16)?;
-    absent(document, Field::Strong)?;
-    absent(document, Field::Weak)?;
+    let strong = number_or_zero(document, Field::Strong, 256)?;
+    let weak = number_or_zero(document, Field::Weak, 256)?;
     let blocks = five_of_field(document, Field::Blocks, 64)?;
-    absent(document, Field::Arrays)?;
+    let arrays = five_or_zeros(document, Field::Arrays, 64)?;
     let period = number_of_field(document, Field::Period, 4, 65_536)?;
     let headroom = number_of_field(document, Field::Headroom, 1, 1_000_000)?;
     absent(document, Field::Trigger)?;
-    absent(document, Field::Shapes)?;
     Ok(Settings {
         registers: registers as u8,
-        strong: 0,
-        weak: 0,
+        strong: strong as u16,
+        weak: weak as u16,
         blocks,
-        arrays: [0; 5],
+        arrays,
         period,
         headroom,
         trigger: 0,
     })
 }
 
+/// The workload with these settings, keys, paths and texts of operations.
+fn load_of(
+    alloc: Global,
+    settings: Settings,
+    keys: Keys,
+    paths: Paths,
+    texts: &[Vec<&str>],
+) -> Result<Workload, Fault>
+    requires settings { AreSettings settings }
+    requires keys { AreKeys keys }
+    requires paths { ArePaths (length keys) paths }
+    requires some { 1 ≤ length texts.now }
+    requires few { length texts.now ≤ MAX_MUTATORS }
+    requires short { All (λ texts. length texts.items ≤ MAX_OPS) texts.now }
+    ensures { Gives (λ load. load) result
+        (load_with settings keys paths (map (λ texts. map (λ text. text.now) texts.items) texts.now)) }
+{
+    let limits = OpLimits::new(&settings, &keys);
+    let scripts = scripts_of(alloc, &limits, texts)?;
+    Ok(Workload::new(settings, keys, paths, scripts))
+}
+
 /// The workload that a document is.
-#[tactic(auto, using(crate::proofs::SizedLemmas::scripts_sized), unfolding(crate::specs::Reading::work_of))]
+#[tactic(auto, unfolding(crate::specs::Reading::work_of))]
 fn work_of(alloc: Global, document: &Table) -> Result<Workload, Fault>
     ensures { Gives (λ load. load) result (work_of (table_view document.now)) }
 {
     let settings = settings_of(document)?;
+    let (keys, paths) = shapes_of(alloc, document)?;
     let mutators = mutators_of(alloc, document)?;
     has_only(document, &DOCUMENT_FIELDS)?;
-    let scripts = scripts_of(alloc, mutators.as_slice(), settings.registers)?;
-    Ok(Workload::new(settings, scripts))
+    let texts = texts_of_each(alloc, mutators.as_slice())?;
+    load_of(alloc, settings, keys, paths, texts.as_slice())
 }
 
 #[cfg(test)]

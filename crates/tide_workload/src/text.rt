@@ -1,16 +1,19 @@
-//! The text of a run, line by line.
+//! The text of a run, line by line, and the line of a fault.
 ghost use Rattle.std.specs.Prelude.{◌≡◌, ◌+◌, ◌≤◌, ◌++◌, length, OnErr, OnOk};
 ghost use Rattle.std.specs.List.{flat_map};
 ghost use Rattle.std.specs.Io.KnownBytes.{Appends};
 ghost use Rattle.tide_io.specs.Faults.{AppendsPart, HasCause};
+ghost use Rattle.tide_workload.specs.FaultLine.{fault_line};
 ghost use Rattle.tide_workload.specs.Line.{HasText, call_line, counts_text, cycle_line, freed_cell_text, freed_text, live_line, mutator_line};
 
 mod call;
+mod fault;
 mod line;
 #[cfg(test)]
 mod tests;
 mod worked;
 
+use crate::fault::Fault;
 use crate::workload::Workload;
 use line::Line;
 use tide_io::{Failed, Sink, write_all};
@@ -27,21 +30,20 @@ pub fn write_mutator<K: Sink>(out: &mut K, m: u32) -> Result<(), Failed>
     write_all(out, line.as_bytes())
 }
 
-/// Writes the line of a call: what was asked, and what was answered. The workload has the names of the keys in
-/// operations, and no operation that has a text yet has a key.
+/// Writes the line of a call: what was asked, and what was answered. The operation's property key, where it has one, is
+/// a key of the workload.
 #[tactic(auto, unfolding(crate::specs::Line::call_line))]
-pub fn write_call<K: Sink>(
-    out: &mut K,
-    _load: &Workload,
-    op: Op,
-    reply: Reply,
-) -> Result<(), Failed>
-    requires { HasText op }
-    ensures whole { OnOk result (Appends (K.held out.old) (K.held out.new) (call_line op reply)) }
-    ensures part { OnErr result (AppendsPart (K.held out.old) (K.held out.new) (call_line op reply)) }
+pub fn write_call<K: Sink>(out: &mut K, load: &Workload, op: Op, reply: Reply) -> Result<(), Failed>
+    requires { HasText load.now.keys op }
+    ensures whole { OnOk result (Appends (K.held out.old) (K.held out.new) (call_line load.now.keys op reply)) }
+    ensures part { OnErr result (AppendsPart (K.held out.old) (K.held out.new) (call_line load.now.keys op reply)) }
     ensures cause { HasCause (K.faults out.old) (K.faults out.new) result }
 {
-    let line = Line::new().op(op).text(" = ").reply(reply).text("\n");
+    let line = Line::new()
+        .op(load.keys(), op)
+        .text(" = ")
+        .reply(reply)
+        .text("\n");
     write_all(out, line.as_bytes())
 }
 
@@ -53,6 +55,17 @@ pub fn write_live<K: Sink>(out: &mut K, live: u32) -> Result<(), Failed>
     ensures cause { HasCause (K.faults out.old) (K.faults out.new) result }
 {
     let line = Line::new().text("live").operand(live).text("\n");
+    write_all(out, line.as_bytes())
+}
+
+/// Writes the line that tells a fault, as one piece.
+#[tactic(auto, unfolding(crate::specs::FaultLine::fault_line))]
+pub fn write_fault_line<K: Sink>(out: &mut K, fault: Fault) -> Result<(), Failed>
+    ensures whole { OnOk result (Appends (K.held out.old) (K.held out.new) (fault_line fault)) }
+    ensures part { OnErr result (AppendsPart (K.held out.old) (K.held out.new) (fault_line fault)) }
+    ensures cause { HasCause (K.faults out.old) (K.faults out.new) result }
+{
+    let line = Line::new().text("riptide: ").fault(fault).text("\n");
     write_all(out, line.as_bytes())
 }
 

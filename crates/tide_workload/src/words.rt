@@ -117,5 +117,17 @@ pub(crate) fn number_below(word: &[u8], limit: u8) -> Option<u8>
     }
 }
 
+/// The handle that a word names: a number below how many there are.
+pub(crate) fn handle_below(word: &[u8], handles: u16) -> Option<u16>
+    ensures { result ≡ number_below handles word.now }
+{
+    let number = number_of(word)?;
+    if number < u32::from(handles) {
+        Some(number as u16)
+    } else {
+        None
+    }
+}
+
 /// How many digits a number may have.
 const MAX_DIGITS: usize = 10;

@@ -3,6 +3,7 @@ ghost use Rattle.std.specs.Prelude.{◌≡◌, ◌+◌, ◌≤◌, ◌++◌, len
 ghost use Rattle.tide_workload.specs.Line.{HasText, op_text, refusal_text, reply_text, val_text};
 
 use super::line::{LONGEST_ID, Line, ROOM};
+use crate::keys::Keys;
 use tide_model::{Op, Refusal, Reply, Val};
 
 /// A bound on the bytes of an operation.
@@ -12,32 +13,44 @@ const LONGEST_OP: usize = 40;
 const LONGEST_REPLY: usize = 24;
 
 impl Line {
-    /// An operation, as a workload writes it.
+    /// An operation, as a workload with these keys writes it.
     #[tactic(auto, unfolding(crate::specs::Line::op_text))]
-    pub fn op(self, op: Op) -> Self
-        requires text { HasText op }
+    pub fn op(self, keys: &Keys, op: Op) -> Self
+        requires text { HasText keys.now op }
         requires room { length self + LONGEST_OP ≤ ROOM }
-        ensures value { result ≡ self ++ op_text op }
+        ensures value { result ≡ self ++ op_text keys.now op }
         ensures grown { length result ≤ length self + LONGEST_OP }
     {
         match op {
             Op::Alloc { dst, class } => self.text("alloc").register(dst).operand(class),
-            Op::Get { dst, src, slot } => self
-                .text("get")
-                .register(dst)
-                .register(src)
-                .operand(slot),
-            Op::Put { src, slot, val } => self
-                .text("put")
-                .register(src)
-                .operand(slot)
-                .register(val),
-            Op::Move { dst, src } => self.text("move").register(dst).register(src),
+            Op::Table { dst } => self.text("table").register(dst),
+            Op::Get { dst, src, slot } => self.text("get").registers(dst, src).operand(slot),
+            Op::Put { src, slot, val } => {
+                self.text("put").register(src).operand(slot).register(val)
+            }
+            Op::Move { dst, src } => self.text("move").registers(dst, src),
             Op::Set { dst, n } => self.text("set").register(dst).operand(n),
             Op::Drop { dst } => self.text("drop").register(dst),
+            Op::Claim { src } => self.text("claim").register(src),
+            Op::Release { src } => self.text("release").register(src),
+            Op::Unclaim => self.text("unclaim"),
+            Op::Add { src, key, val } => self.text("add").property(keys, src, key).register(val),
+            Op::GetProp { dst, src, key } => {
+                self.text("getp").register(dst).property(keys, src, key)
+            }
+            Op::SetProp { src, key, val } => {
+                self.text("setp").property(keys, src, key).register(val)
+            }
+            Op::StrongSet { at, val } => self.text("strong").operand(at).register(val),
+            Op::StrongGet { dst, at } => self.text("sget").register(dst).operand(at),
+            Op::WeakSet { at, val } => self.text("weak").operand(at).register(val),
+            Op::WeakGet { dst, at } => self.text("wget").register(dst).operand(at),
+            Op::PairSet { src, key, val } => self.text("pair").registers(src, key).register(val),
+            Op::PairGet { dst, src, key } => self.text("pget").register(dst).registers(src, key),
+            Op::PairDel { src, key } => self.text("pdel").registers(src, key),
+            Op::Group { src, n } => self.text("group").register(src).operand(n),
             Op::Collect => self.text("collect"),
             Op::Retire => self.text("retire"),
-            _ => unreachable!(),
         }
     }
 

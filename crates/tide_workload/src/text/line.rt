@@ -1,8 +1,9 @@
 //! A line that is composed on the stack.
-ghost use Rattle.std.specs.Prelude.{◌≡◌, ◌+◌, ◌≤◌, [], ◌++◌, length, codes};
-ghost use Rattle.tide_workload.specs.Line.{cell_text, register_operand};
+ghost use Rattle.std.specs.Prelude.{◌≡◌, ◌+◌, ◌<◌, ◌≤◌, [], ◌++◌, length, codes};
+ghost use Rattle.tide_workload.specs.Line.{cell_text, key_operand, register_operand};
 
-use arrayvec::ArrayString;
+use crate::keys::Keys;
+use arrayvec::ArrayVec;
 use itoa::{Buffer, Integer};
 use std::marker::Model;
 
@@ -15,10 +16,13 @@ pub const LONGEST_ID: usize = 11;
 /// A bound on the bytes of a register after a space.
 pub const LONGEST_REGISTER: usize = 5;
 
+/// A bound on the bytes of a property key after a space.
+pub const LONGEST_KEY: usize = 17;
+
 /// The bytes of a line, composed before they are written.
 #[derive(Drop)]
 pub struct Line {
-    buffer: ArrayString<ROOM>,
+    buffer: ArrayVec<u8, ROOM>,
 }
 
 impl Model for Line {
@@ -26,7 +30,7 @@ impl Model for Line {
 
     ghost Value = { List ℕ };
 
-    ghost view = { λ s. s.buffer.bytes };
+    ghost view = { λ s. s.buffer.items };
 }
 
 impl Line {
@@ -34,17 +38,27 @@ impl Line {
         ensures { result ≡ [] }
     {
         Line {
-            buffer: ArrayString::new(),
+            buffer: ArrayVec::new(),
         }
     }
 
-    pub fn text(mut self, text: &str) -> Self
+    pub fn bytes(mut self, bytes: &[u8]) -> Self
+        requires { length self + length bytes.now ≤ ROOM }
+        ensures value { result ≡ self ++ bytes.now }
+        ensures grown { length result ≡ length self + length bytes.now }
+    {
+        match self.buffer.try_extend_from_slice(bytes) {
+            Ok(()) => self,
+            Err(_) => unreachable!(),
+        }
+    }
+
+    pub fn text(self, text: &str) -> Self
         requires { length self + length text.now ≤ ROOM }
         ensures value { result ≡ self ++ text.now }
         ensures grown { length result ≡ length self + length text.now }
     {
-        self.buffer.push_str(text);
-        self
+        self.bytes(text.as_bytes())
     }
 
     pub fn number<N: Integer>(self, n: N) -> Self
@@ -74,6 +88,35 @@ impl Line {
         self.text(" r").number(register)
     }
 
+    /// Two registers, each after a space.
+    pub fn registers(self, first: u8, second: u8) -> Self
+        requires { length self + LONGEST_REGISTER + LONGEST_REGISTER ≤ ROOM }
+        ensures value { result ≡ self ++ (register_operand first ++ register_operand second) }
+        ensures grown { length result ≤ length self + LONGEST_REGISTER + LONGEST_REGISTER }
+    {
+        self.register(first).register(second)
+    }
+
+    /// A register and a property key, each after a space.
+    pub fn property(self, keys: &Keys, register: u8, key: u32) -> Self
+        requires key { key < length keys.now }
+        requires room { length self + LONGEST_REGISTER + LONGEST_KEY ≤ ROOM }
+        ensures value { result ≡ self ++ (register_operand register ++ key_operand keys.now key) }
+        ensures grown { length result ≤ length self + LONGEST_REGISTER + LONGEST_KEY }
+    {
+        self.register(register).key(keys, key)
+    }
+
+    /// The name of a property key after a space.
+    fn key(self, keys: &Keys, key: u32) -> Self
+        requires key { key < length keys.now }
+        requires room { length self + LONGEST_KEY ≤ ROOM }
+        ensures value { result ≡ self ++ key_operand keys.now key }
+        ensures grown { length result ≤ length self + LONGEST_KEY }
+    {
+        self.text(" ").bytes(keys.name(key))
+    }
+
     /// A number after a space.
     pub fn operand<N: Integer>(self, n: N) -> Self
         requires { length self + 1 + N.MAX_STR_LEN ≤ ROOM }
@@ -86,6 +129,6 @@ impl Line {
     pub fn as_bytes(&self) -> &[u8]
         ensures { result.now ≡ self.now }
     {
-        self.buffer.as_str().as_bytes()
+        self.buffer.as_slice()
     }
 }

@@ -1,14 +1,15 @@
-use super::{write_call, write_cycle, write_live, write_mutator};
-use crate::{Workload, read};
+use super::{write_call, write_cycle, write_fault_line, write_live, write_mutator};
+use crate::{Fault, Field, Workload, read};
 use std::test::Fail;
 use tide_io::{Failed, MemSink};
 use tide_model::{Op, Refusal, Reply, Val};
 
-/// Any workload, since no text of today's depends on it.
+/// A workload with two keys.
 const LOAD: &[u8] =
-    b"registers = 4\nblocks = [1, 0, 0, 0, 1]\nperiod = 16\nheadroom = 32\nmutator = [{ ops = [] }]\n";
+    b"registers=4\nstrong=2\nblocks=[1,0,0,0,1]\nperiod=16\nheadroom=32\nshapes=['a next']\n\
+    mutator=[{ops=['add r0 next r1','getp r1  r0 a','strong 1 r0','unclaim']}]\n";
 
-// A call of each operation that has a text, with each kind of reply but a refusal.
+// Calls with each kind of reply but a refusal.
 fn write_calls(out: &mut MemSink, load: &Workload) -> Result<(), Failed> {
     let (dst, src, slot) = (1, 0, 15);
     write_call(out, load, Op::Alloc { dst, class: 3 }, Reply::Born(64))?;
@@ -32,6 +33,27 @@ fn calls_are_written_with_their_replies(rt: HostRuntime) -> Result<(), Fail> {
     let text = "alloc r1 3 = #64\nget r1 r0 15 = -\nget r1 r0 15 = 5\nget r1 r0 15 = #20479\n\
         put r0 15 r2 = ok\nmove r1 r0 = ok\nset r1 4294967295 = ok\ndrop r12 = ok\n\
         collect = asked\nretire = ok\n";
+    assert!(rt; sink.held() == text.as_bytes());
+    Ok(())
+}
+
+// Each operation of the workload.
+#[tactic(auto, using(crate::proofs::TextLemmas::has_text))]
+fn write_ops(out: &mut MemSink, load: &Workload) -> Result<(), Failed> {
+    for m in 0..load.mutators() {
+        for op in load.ops(m) {
+            write_call(out, load, *op, Reply::Done)?;
+        }
+    }
+    Ok(())
+}
+
+#[test]
+fn keys_are_written_by_their_names(rt: HostRuntime) -> Result<(), Fail> {
+    let load = read(rt.alloc(), LOAD)?;
+    let mut sink = MemSink::new(rt.alloc(), 200, 200, Vec::new(rt.alloc()))?;
+    assert_eq!(rt; write_ops(&mut sink, &load), Ok(()));
+    let text = "add r0 next r1 = ok\ngetp r1 r0 a = ok\nstrong 1 r0 = ok\nunclaim = ok\n";
     assert!(rt; sink.held() == text.as_bytes());
     Ok(())
 }
@@ -78,6 +100,32 @@ fn cycles_are_written_with_the_cells_that_they_freed(rt: HostRuntime) -> Result<
     for (number, kept, freed, line) in cases {
         let mut sink = MemSink::new(rt.alloc(), 100, 7, Vec::new(rt.alloc()))?;
         assert_eq!(rt; write_cycle(&mut sink, number, kept, freed), Ok(()));
+        assert!(rt; sink.held() == line.as_bytes(), "{line}");
+    }
+    Ok(())
+}
+
+#[test]
+fn faults_are_written_in_words(rt: HostRuntime) -> Result<(), Fail> {
+    let field = Field::Headroom;
+    let (mutator, at) = (15, u32::MAX);
+    let cases = [
+        (Fault::TooLong, "riptide: too long\n"),
+        (Fault::NotToml, "riptide: not TOML\n"),
+        (
+            Fault::Missing { field },
+            "riptide: missing field headroom\n",
+        ),
+        (Fault::Bad { field }, "riptide: bad field headroom\n"),
+        (
+            Fault::BadOp { mutator, at },
+            "riptide: bad op 4294967295 of mutator 15\n",
+        ),
+        (Fault::Memory, "riptide: no memory\n"),
+    ];
+    for (fault, line) in cases {
+        let mut sink = MemSink::new(rt.alloc(), 100, 100, Vec::new(rt.alloc()))?;
+        assert_eq!(rt; write_fault_line(&mut sink, fault), Ok(()));
         assert!(rt; sink.held() == line.as_bytes(), "{line}");
     }
     Ok(())

@@ -7,6 +7,6 @@ use Rattle.tide_run.proofs.printing.write_calls.Given as goal
 abbrev pub invariant-loop-call : goal.invariant-loop-call
 invariant-loop-call g l =
     record {
-      written : Appends (g.K.Sink.held l.initial.out) (g.K.Sink.held l.out) (flat_map answered_line (take l.call-index l.calls));
+      written : Appends (g.K.Sink.held l.initial.out) (g.K.Sink.held l.out) (flat_map (answered_line l.load.keys) (take l.call-index l.calls));
       later : g.K.Sink.faults l.initial.out ≤ g.K.Sink.faults l.out;
     }

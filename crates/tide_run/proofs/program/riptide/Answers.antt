@@ -1,5 +1,6 @@
-use Rattle.std.proofs.Common.{◌∙◌, ap, sym, length, Err}
-use Rattle.tide_run.proofs.Causes.{refuses-ran, accepts-stop, bad-stop}
+use Rattle.std.proofs.Common.{◌∙◌, ap, sym, subst, length, Err}
+use Rattle.tide_run.specs.Program.{stop_line, TellsLine}
+use Rattle.tide_run.proofs.Causes.{refuses-ran, accepts-stop, bad-stop, told-stop}
 use Rattle.tide_run.proofs.program.riptide.Goals as goal
 
 pub returns-in-Ok-clause-refuses : goal.returns-in-Ok-clause-refuses
@@ -8,7 +9,14 @@ returns-in-Ok-clause-refuses g c = refuses-ran _ _ c.in-Ok.outcome _ _ _ c.in-Ok
 pub returns-in-Err-clause-bad_input : goal.returns-in-Err-clause-bad_input
 returns-in-Err-clause-bad_input g c = λ is.
     let bad = bad-stop c.in-Err.stop (sym c.status.ensures ∙ is) in
-    (bad.0, c.in-Err.ensures.bad_input bad.0 (ap Err bad.1))
+    record {
+      fault = bad.0;
+      refused = c.in-Err.ensures.bad_input bad.0 (ap Err bad.1);
+      told = subst (TellsLine _ _ _ _) (ap stop_line bad.1) c.tell.ensures;
+    }
+
+pub returns-in-Err-clause-told : goal.returns-in-Err-clause-told
+returns-in-Err-clause-told g c = λ _ other. subst (TellsLine _ _ _ _) (told-stop c.in-Err.stop c.status.result c.status.ensures other) c.tell.ensures
 
 pub returns-in-Err-clause-accepts : goal.returns-in-Err-clause-accepts
 returns-in-Err-clause-accepts g c =

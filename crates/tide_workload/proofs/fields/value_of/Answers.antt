@@ -7,4 +7,4 @@ use Rattle.tide_workload.proofs.fields.value_of.Goals as goal
 pub returns : goal.returns
 returns c =
     table_get c.get.result c.name.result.now c.args.table.now.entries c.get.ensures.value
-    ∙ ap (λ name. get_member name (table_view c.args.table.now)) c.name.ensures
+    ∙ ap (λ name. get_member name (table_view c.args.table.now)) c.name.ensures.value

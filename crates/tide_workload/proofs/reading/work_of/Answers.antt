@@ -1,14 +1,17 @@
-use Rattle.std.proofs.Common.{map, arith}
+use Rattle.std.proofs.Common.{sym, subst, map, ℕ, List, Bor, Vec, Global, Result}
 use Rattle.toml.specs.View.{table_view}
-use Rattle.tide_workload.proofs.OperationLemmas.{scripts_within}
-use Rattle.tide_workload.proofs.SizedLemmas.{scripts_sized}
+use Rattle.tide_workload.specs.declared.fault.Fault.{Fault}
+use Rattle.tide_workload.specs.Steps.{Gives}
+use Rattle.tide_workload.specs.Work.{Work}
+use Rattle.tide_workload.proofs.WorkLemmas.{work_by}
 use Rattle.tide_workload.proofs.reading.work_of.Goals as goal
 
-pub new-requires : goal.new-requires
-new-requires c =
-    let made = c.in_ok-scripts.ensures in
-    let mutators = c.in_ok-mutators.ensures in
-    record {
-      sized = scripts_sized c.in_ok-scripts.scripts.items (omega (arith, made.count, mutators.some, c.as_slice.ensures.len)) (omega (arith, made.count, mutators.few, c.as_slice.ensures.len)) made.short;
-      operations = scripts_within c.in_ok-settings.settings.registers (map (λ table. table_view table.now) c.as_slice.result.now) (map (λ ops. ops.items) c.in_ok-scripts.scripts.items) made.scripts;
-    }
+pub returns : goal.returns
+returns c =
+    let texts = rw c.as_slice.ensures.value at c.in_ok-texts.ensures.texts in
+    let read = rw c.as_slice-2.ensures.value at c.load_of.ensures in
+    subst (λ (reading : Result Work Fault). Gives (λ (load : Work). load) c.load_of.result reading)
+    (sym (work_by (table_view c.args.document.now) c.in_ok-settings.settings c.in_ok-keys.keys c.in_ok-keys.paths (map (λ table. table_view table.now) c.in_ok-mutators.mutators.items)
+    (map (λ (texts : Vec (Bor (List ℕ)) Global). map (λ (text : Bor (List ℕ)). text.now) texts.items) c.in_ok-texts.texts.items)
+    (sym c.in_ok-settings.ensures.value) c.in_ok-keys.ensures.shapes c.in_ok-mutators.ensures.tables (sym c.in_ok-has_only.ensures) texts))
+    read

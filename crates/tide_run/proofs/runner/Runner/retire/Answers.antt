@@ -1,10 +1,8 @@
-use Rattle.std.proofs.Common.{ap, refl}
-use Rattle.tide_model.specs.declared.op.Op.TheVariants.{Retire}
-use Rattle.tide_model.specs.Script.{is_full_reply}
-use Rattle.tide_run.proofs.Serving.{HasServed-once}
+use Rattle.tide_run.proofs.Releasing.{MayAsk-retire, HasServed-retire}
 use Rattle.tide_run.proofs.runner.Runner.retire.Goals as goal
 
+pub turn-requires-clause-asks : goal.turn-requires-clause-asks
+turn-requires-clause-asks c = MayAsk-retire c.args.self.now c.requires.released
+
 pub returns-clause-served : goal.returns-clause-served
-returns-clause-served c =
-    HasServed-once c.args.self.now c.turn.new.self Retire c.in_ok-turn.field-0 c.in_ok-turn.ensures.turn c.requires.no_retry
-    (ap is_full_reply (c.in_ok-turn.ensures.retired refl))
+returns-clause-served c = HasServed-retire c.args.self.now c.turn.new.self c.in_ok-turn.field-0 c.in_ok-turn.ensures c.requires.no_retry

@@ -1,12 +1,13 @@
 -- The definitions compute to these lines.
 use Rattle.std.proofs.Common.{refl}
 use Rattle.std.specs.Fmt.{digits}
+use Rattle.tide_workload.specs.FaultLine.{fault_line, fault_text}
 use Rattle.tide_workload.specs.Line.{call_line, counts_text, cycle_line, freed_cell_text, freed_text, live_line, mutator_line, op_text, refusal_text, reply_text, val_text}
 use Rattle.tide_workload.proofs.text.worked.worked_lines.Goals as goal
 
 pub returns-clause-calls : goal.returns-clause-calls
-unfolding digits call_line op_text reply_text val_text
-returns-clause-calls c = (refl, refl, refl, refl, refl, refl, refl, refl, refl, refl)
+unfolding digits call_line op_text reply_text refusal_text val_text
+returns-clause-calls c = (refl, refl, refl, refl, refl, refl, refl, refl, refl, refl, refl, refl, refl, refl, refl, refl, refl, refl, refl, refl, refl, refl, refl, refl, refl)
 
 pub returns-clause-refusals : goal.returns-clause-refusals
 unfolding digits call_line op_text reply_text refusal_text
@@ -15,3 +16,7 @@ returns-clause-refusals c = (refl, refl, refl, refl, refl, refl, refl, refl, ref
 pub returns-clause-frame : goal.returns-clause-frame
 unfolding digits mutator_line cycle_line counts_text freed_text freed_cell_text live_line
 returns-clause-frame c = (refl, refl, refl, refl, refl)
+
+pub returns-clause-faults : goal.returns-clause-faults
+unfolding digits fault_line fault_text
+returns-clause-faults c = (refl, refl, refl, refl, refl, refl, refl)

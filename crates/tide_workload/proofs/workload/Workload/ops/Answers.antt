@@ -2,7 +2,8 @@ use Rattle.std.proofs.Common.{◌≡◌, ◌<◌, arith, subst, sym, ◌∙◌, 
 use Rattle.std.proofs.lemmas.Grind.{common_steps}
 use Rattle.std.specs.Prelude.{All}
 use Rattle.tide_model.specs.declared.op.Op.{Op}
-use Rattle.tide_workload.specs.Work.{Work, IsOperation}
+use Rattle.tide_workload.specs.Work.{Work, IsOperation, limits_of}
+use Rattle.tide_workload.specs.OpLimits.{limits_with}
 use Rattle.tide_workload.proofs.OperationLemmas.{All-seen}
 use Rattle.tide_workload.proofs.workload.Workload.ops.Goals as goal
 
@@ -15,8 +16,8 @@ returns-clause-short c =
 pub returns-clause-within : goal.returns-clause-within
 returns-clause-within c =
     let m : c.args.m < length c.self.inside.scripts.items = grind (arith, common_steps) in
-    let all = All-seen (λ ops. All (IsOperation c.self.inside.settings.registers) ops) (λ (ops : Vec Op Global). ops.items) c.self.inside.scripts.items c.args.m c.index.result.now m c.self.invariant.operations in
+    let all = All-seen (λ ops. All (IsOperation (limits_with c.self.inside.settings c.self.inside.keys)) ops) (λ (ops : Vec Op Global). ops.items) c.self.inside.scripts.items c.args.m c.index.result.now m c.self.invariant.operations in
     let same : c.as_slice.result.now ≡ (get_or c.self.inside.scripts.items c.args.m c.index.result.now).items =
     c.as_slice.ensures.value ∙ ap (λ (ops : Vec Op Global). ops.items) c.index.ensures in
-    subst (λ (ops : List Op). All (IsOperation c.args.self.now.settings.registers) ops) (sym same)
-    (subst (λ (w : Work). All (IsOperation w.settings.registers) (get_or c.self.inside.scripts.items c.args.m c.index.result.now).items) c.self.view_is all)
+    subst (λ (ops : List Op). All (IsOperation (limits_of c.args.self.now)) ops) (sym same)
+    (subst (λ (w : Work). All (IsOperation (limits_of w)) (get_or c.self.inside.scripts.items c.args.m c.index.result.now).items) c.self.view_is all)
