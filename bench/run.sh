@@ -49,6 +49,44 @@ graph() { # SHAPE
     }'
 }
 
+# A workload of COUNT operations on properties: of eight, one makes a cell and the others claim it, give it two
+# properties, write one, read one, release it and drop it; of 256, the last is a collection.
+properties() { # COUNT
+    awk -v count="$1" 'BEGIN {
+        print "registers = 4\nblocks = [4, 0, 0, 0, 0]\narrays = [4, 0, 0, 0, 0]\nperiod = 16\nheadroom = 32"
+        print "shapes = [\"a b\"]\n\n[[mutator]]\nops = ["
+        split("alloc r0 0|claim r0|add r0 a r1|add r0 b r0|setp r0 a r0|getp r2 r0 b|release r0|drop r0", ops, "|")
+        for (i = 1; i <= count; i++) {
+            if (i % 256 == 0) print "  \"collect\","
+            else print "  \"" ops[(i - 1) % 8 + 1] "\","
+        }
+        print "]"
+    }'
+}
+
+# A workload that puts the 4,096 cells of a class into one group, collects while one register keeps one of them, and
+# collects again when none does.
+group() {
+    awk 'BEGIN {
+        print "registers = 4\nblocks = [0, 0, 0, 64, 0]\nperiod = 16\nheadroom = 32\n\n[[mutator]]\nops = ["
+        for (i = 0; i < 4096; i++) print "  \"alloc r0 3\", \"group r0 7\","
+        print "  \"collect\", \"drop r0\", \"collect\","
+        print "]"
+    }'
+}
+
+# A workload of 512 tables, each of which has the table before it under one key, so that each is kept by the next one
+# alone. Tables are looked at in the order in which they were made, so each round of a collection finds one more.
+tables() {
+    awk 'BEGIN {
+        print "registers = 4\nblocks = [1, 0, 0, 0, 8]\nperiod = 16\nheadroom = 32\n\n[[mutator]]\nops = ["
+        print "  \"alloc r2 0\", \"table r0\","
+        for (i = 1; i < 512; i++) print "  \"table r1\", \"claim r1\", \"pair r1 r2 r0\", \"release r1\", \"move r0 r1\","
+        print "  \"drop r1\", \"collect\", \"drop r0\", \"collect\","
+        print "]"
+    }'
+}
+
 # The seconds of one run.
 seconds() { # FILE
     { time "$program" < "$1" > "$folder/text"; } 2>&1
@@ -89,6 +127,35 @@ done
 for count in 8192 32768 65536; do
     row '[64, 64, 64, 64, 64]' "$count" 1 "collections"
 done
+
+
+echo
+echo "| Operations on properties | Seconds | Peak memory, MB |"
+echo "|---|---|---|"
+for count in 8192 32768 65536; do
+    properties "$count" > "$folder/load.toml"
+    if "$program" < "$folder/load.toml" > /dev/null; then
+        echo "| $count | $(least "$folder/load.toml") | $(memory "$folder/load.toml") |"
+    else
+        echo "| $count | not run | |"
+    fi
+done
+
+echo
+echo "| Kept by one register | Seconds | Peak memory, MB |"
+echo "|---|---|---|"
+kept() { # NAME KEPT FREED
+    if "$program" < "$folder/load.toml" > "$folder/text" 2> /dev/null &&
+        grep -q "^cycle 1 kept $2 freed 0\$" "$folder/text" && grep -q "^cycle 2 kept [01] freed $3: " "$folder/text"; then
+        echo "| $1 | $(least "$folder/load.toml") | $(memory "$folder/load.toml") |"
+    else
+        echo "| $1 | not run, or not as expected | |"
+    fi
+}
+group > "$folder/load.toml"
+kept "a group of 4,096 cells" 4096 4096
+tables > "$folder/load.toml"
+kept "a chain of 512 tables" 513 512
 
 echo
 echo "| Graph of 4,096 cells | Seconds | Peak memory, MB |"
