@@ -1,14 +1,12 @@
 -- What a runner's steps keep.
-use Rattle.std.proofs.Common.{ℕ, ◌≡◌, ◌+◌, ◌<◌, refl, sym, ◌∙◌, ap, subst, arith, Bool, true, false, List, [], ◌∷◌, ◌++◌, length, append_assoc}
+use Rattle.std.proofs.Common.{ℕ, ◌≡◌, ◌+◌, sym, ◌∙◌, ap, subst, arith, true, false, List, [], ◌∷◌, ◌++◌, append_assoc}
 use Rattle.std.proofs.lemmas.List.{map-append}
 use Rattle.std.proofs.lemmas.List.Elements.{All-nil, All-push}
-use Rattle.std.specs.Prelude.{map, All, Option, None, Some, if◌then◌else◌}
+use Rattle.std.specs.Prelude.{map, All, Option}
 use Rattle.tide_model.specs.declared.op.Op.{Op}
-use Rattle.tide_model.specs.declared.op.Op.TheVariants.{Unclaim, Retire}
 use Rattle.tide_model.specs.declared.op.Reply.{Reply}
 use Rattle.tide_model.specs.declared.op.Reply.TheVariants.{Refused}
 use Rattle.tide_model.specs.declared.op.Refusal.TheVariants.{Full}
-use Rattle.tide_model.specs.declared.entry.Event.{Event}
 use Rattle.tide_model.specs.Answer.{IsAnswer}
 use Rattle.tide_model.specs.Applied.{after_call}
 use Rattle.tide_model.specs.Layout.{Layout, IsBlockOf}

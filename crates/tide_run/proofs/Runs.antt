@@ -1,14 +1,13 @@
 -- A run of one mutator is a run of its workload.
-use Rattle.std.proofs.Common.{ℕ, zero, suc, ◌≡◌, ◌≤◌, ◌<◌, refl, sym, ◌∙◌, ap, subst, arith, List, [], ◌∷◌, ◌++◌, length, take}
+use Rattle.std.proofs.Common.{ℕ, zero, suc, ◌≡◌, ◌≤◌, refl, sym, ◌∙◌, ap, subst, arith, List, [], ◌∷◌, ◌++◌, length, take}
 use Rattle.std.proofs.lemmas.List.Elements.{All-weaker}
-use Rattle.std.specs.Prelude.{All, map, replicate, slice_get, None, Some}
+use Rattle.std.specs.Prelude.{All, map, replicate, slice_get, Some}
 use Rattle.tide_model.specs.declared.op.Op.{Op}
 use Rattle.tide_model.specs.declared.op.Op.TheVariants.{Alloc, Table, Get, Put, Move, Set, Drop, Claim, Release, Unclaim, Add, GetProp, SetProp, StrongSet, StrongGet, WeakSet, WeakGet, PairSet, PairGet, PairDel, Group, Collect, Retire}
 use Rattle.tide_model.specs.declared.entry.Event.{Event}
 use Rattle.tide_model.specs.History.{state_after}
 use Rattle.tide_model.specs.Layout.{Layout}
 use Rattle.tide_model.specs.Lawful.{IsLawful}
-use Rattle.tide_model.specs.Prefix.{IsPrefix}
 use Rattle.tide_model.specs.Refused.{ShapeLists}
 use Rattle.tide_model.specs.Schedule.{IsScheduled, no_turn}
 use Rattle.tide_model.specs.Script.{script_of}
@@ -20,7 +19,7 @@ use Rattle.tide_workload.specs.OpLimits.{limits_with}
 use Rattle.tide_workload.specs.Work.{Work, IsOperation, limits_of}
 use Rattle.tide_run.specs.declared.runner.Runner.{Runner}
 use Rattle.tide_run.specs.Ran.{Ran}
-use Rattle.tide_run.specs.Run.{claims_at, layout_of_work, layout_with, IsRunOf, IsWhole}
+use Rattle.tide_run.specs.Run.{layout_of_work, layout_with, IsRunOf, IsWhole}
 use Rattle.tide_run.specs.Runner.{claim_count, history_of, keys_of, HasServed, IsAskable, IsUnderway}
 use Rattle.tide_run.proofs.Serving.{HasServed-then}
 

@@ -1,9 +1,7 @@
-use Rattle.std.proofs.Common.{ℕ, ◌+◌, ◌∙◌, ◌++◌, ◌∷◌, [], ap, refl, sym, subst, List}
+use Rattle.std.proofs.Common.{ℕ, ◌+◌, ◌∙◌, ◌++◌, ◌∷◌, [], ap, refl, List}
 use Rattle.tide_model.specs.Cycle.{live_count}
-use Rattle.tide_model.specs.History.{after_end, swept_all}
 use Rattle.tide_model.specs.Layout.{Layout}
 use Rattle.tide_model.specs.Numbers.{numbers_where}
-use Rattle.tide_model.specs.State.{State}
 use Rattle.tide_plain.specs.Store.{layout_of, state_of}
 use Rattle.tide_run.specs.declared.told.Record.TheVariants.{Ended}
 use Rattle.tide_run.specs.Runner.{is_swept}

@@ -1,4 +1,4 @@
-use Rattle.std.proofs.Common.{ℕ, ◌<◌, ◌∙◌, ap, arith, length, map, sym, List, Vec, Global, Some}
+use Rattle.std.proofs.Common.{ℕ, ◌<◌, ◌∙◌, ap, arith, length, map, sym, Vec, Global, Some}
 use Rattle.tide_run.proofs.Names.{name_more}
 use Rattle.tide_run.proofs.runner.starting.names_of.Goals as goal
 
