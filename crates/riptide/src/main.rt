@@ -6,6 +6,7 @@
 
 use std::alloc::AllocError;
 use std::env;
+use std::io;
 use std::process::ExitCode;
 use tide_io::{RealSink, RealSource, write_all};
 use tide_model::FreePass;
@@ -17,6 +18,7 @@ fn command_words(rt: &HostRuntime) -> Result<Vec<String>, AllocError> {
     let alloc = rt.alloc();
     match env::args(rt) {
         Ok(words) => words.collect(alloc),
+        Err(error) if error.kind() == io::ErrorKind::OutOfMemory => Err(AllocError),
         Err(_) => {
             let mut words = Vec::new(alloc);
             for word in ["riptide", "?"] {

@@ -55,7 +55,7 @@ pub enum Refusal {
     NotTable,
     /// The source's class has no such slot.
     NoSlot { slot: u8 },
-    /// The cell is claimed by this mutator.
+    /// The cell is claimed by mutator `by`, the caller or another.
     Held { by: u32 },
     /// The caller has no claim on the cell, or none at all.
     NotHeld,

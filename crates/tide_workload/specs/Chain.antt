@@ -1,11 +1,11 @@
 -- How writes to a sink make one, when one follows another.
-use Rattle.std.specs.Prelude.{ℕ, ◌+◌, ◌≤◌, min, List, ◌++◌, length, take, Option, Result, Ok, Err, OnOk, OnErr}
+use Rattle.std.specs.Prelude.{ℕ, ◌+◌, min, List, ◌++◌, length, take, Option, Result, Ok, Err, OnOk, OnErr}
 use Rattle.std.specs.Io.KnownBytes.{Appends}
 use Rattle.std.proofs.Common.{◌≡◌, arith, subst, sym}
 use Rattle.std.proofs.Math.Seq.{take-append-add}
 use Rattle.std.proofs.KnownBytes.{Appends-trans}
 use Rattle.std.proofs.lemmas.Grind.{common_steps}
-use Rattle.tide_io.specs.Faults.{AppendsPart, HasCause, Rose}
+use Rattle.tide_io.specs.Faults.{AppendsPart}
 
 -- bytes, and then more bytes
 pub Appends-then : (a b c : Option (List ℕ)) (xs ys : List ℕ) → Appends a b xs → Appends b c ys → Appends a c (xs ++ ys)
@@ -23,13 +23,6 @@ take_of_front count xs ys = grind (arith, common_steps)
 pub AppendsPart-grown : (a b : Option (List ℕ)) (xs ys : List ℕ) → AppendsPart a b xs → AppendsPart a b (xs ++ ys)
 AppendsPart-grown a b xs ys (count, part) = (min count (length xs), subst (Appends a b) (take_of_front count xs ys) part)
 
-take_whole : (xs : List ℕ) → xs ≡ take (length xs) xs
-take_whole xs = grind (arith, common_steps)
-
--- all of the bytes are a part of them
-pub AppendsPart-whole : (a b : Option (List ℕ)) (xs : List ℕ) → Appends a b xs → AppendsPart a b xs
-AppendsPart-whole a b xs whole = (length xs, subst (Appends a b) (take_whole xs) whole)
-
 -- what holds anyway holds at an `Err`
 pub OnErr-from : {T E P : Type 0} (result : Result T E) → P → OnErr result P
 OnErr-from (Ok value) holds = tt
@@ -46,13 +39,3 @@ pub OnErr-then : {T E : Type 0} (a b c : Option (List ℕ)) (xs ys : List ℕ) (
     → Appends a b xs → OnErr result (AppendsPart b c ys) → OnErr result (AppendsPart a c (xs ++ ys))
 OnErr-then a b c xs ys (Ok value) first second = tt
 OnErr-then a b c xs ys (Err error) first second = AppendsPart-then a b c xs ys first second
-
--- a count that rose since a later moment rose since an earlier one
-pub Rose-before : (before mid now : ℕ) → before ≤ mid → Rose mid now → Rose before now
-Rose-before before mid now earlier rose = omega arith
-
--- what has its cause since a later moment has it since an earlier one
-pub HasCause-before : {T E : Type 0} (before mid now : ℕ) (result : Result T E) → before ≤ mid → HasCause mid now result → HasCause before now result
-HasCause-before before mid now (Ok value) earlier cause = record { later = omega (arith, cause.later); failed = tt }
-HasCause-before before mid now (Err error) earlier cause =
-    record { later = omega (arith, cause.later); failed = Rose-before before mid now earlier cause.failed }
