@@ -16,8 +16,7 @@ pub enum Fault {
     Missing { field: Field },
     /// A field's value isn't as it has to be, a field that isn't read yet is there, or a name that no field has.
     Bad { field: Field },
-    /// The text of this mutator at this place, both counted from 0, is no operation's. Reading tells `Bad` of
-    /// `Ops` in its place today.
+    /// The text of this mutator at this place, both counted from 0, is no operation's.
     BadOp { mutator: u32, at: u32 },
     /// Want of memory.
     Memory,

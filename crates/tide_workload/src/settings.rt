@@ -1,4 +1,4 @@
-/// The numbers of a workload: how large its heap is, and when cycles run.
+/// The numbers of a workload: how large its store is, and three that have no effect yet.
 #[derive(Clone, Copy, Debug, PartialEq, Eq)]
 pub struct Settings {
     /// Registers of each mutator, 1 to 16.
@@ -11,10 +11,10 @@ pub struct Settings {
     pub blocks: [u8; 5],
     /// Blocks of 64 arrays of the classes 5 to 9, each 0 to 64.
     pub arrays: [u8; 5],
-    /// How many calls of a mutator a period has at most, 4 to 65,536.
+    /// Not used yet. 4 to 65,536.
     pub period: u32,
-    /// How many cells may be born in a cycle before the mutators are stopped, 1 to 1,000,000.
+    /// Not used yet. 1 to 1,000,000.
     pub headroom: u32,
-    /// How many births begin a cycle, 0 to 1,000,000, where 0 means never.
+    /// Not read yet: 0.
     pub trigger: u32,
 }
