@@ -1,10 +1,19 @@
--- Names that are seen as their bytes, and where one is among them.
-use Rattle.std.proofs.Common.{◌≡◌, ◌+◌, Bool, cond, not, ◌||◌, List, [], ◌∷◌, length, map, refl, ap, arith}
+-- Names that are seen as their bytes, where one is among them, and that one more is another key.
+use Rattle.std.proofs.Common.{◌≡◌, ◌≢◌, ℕ, zero, suc, ◌+◌, ◌<◌, Bool, true, false, cond, not, ◌||◌, List, [], ◌∷◌, ◌++◌, length, get_or, map, refl, ap, arith, subst, sym, Vec, Global}
 use Rattle.std.proofs.Common.{unwrap_or}
-use Rattle.std.proofs.lemmas.List.{length-map}
+use Rattle.std.proofs.lemmas.List.{length-map, map-append}
 use Rattle.std.proofs.lemmas.Bool.Decides.{nat_tests}
 use Rattle.std.proofs.lemmas.List.Sums.{prefix_len-le-length}
+use Rattle.std.proofs.lemmas.Bool.{or_parts}
+use Rattle.std.proofs.lemmas.Grind.{common_steps}
+use Rattle.std.proofs.lemmas.List.Elements.{All-nil, All-push}
+use Rattle.std.proofs.lemmas.List.Quantifiers.{all_pairs_push}
+use Rattle.std.proofs.lemmas.Slice.Eq.{bytes_eq-Decides}
 use Rattle.std.specs.List.{list_any, position, position_or_len}
+use Rattle.std.specs.Str.{bytes_eq}
+use Rattle.tide_workload.specs.declared.keys.TheConstants.{MAX_KEYS}
+use Rattle.tide_workload.specs.Shapes.{is_key, is_named}
+use Rattle.tide_workload.specs.Work.{AreKeys}
 
 pub list_any-map : {X Y : Type 0} (p : X → Bool) (show : Y → X) (ys : List Y) → list_any p (map show ys) ≡ list_any (λ y. p (show y)) ys
 list_any-map p show [] = refl
@@ -21,3 +30,32 @@ position-map p show ys = rw (position_or_len-map p show ys, length-map ys show)
 -- the place of the first that passes, or else how many there are
 pub position_or_length : {X : Type 0} (p : X → Bool) (xs : List X) → unwrap_or (position p xs) (length xs) ≡ position_or_len p xs
 position_or_length p xs = let bound = prefix_len-le-length (λ x. not (p x)) xs in grind (arith, nat_tests, bound)
+
+unlike : (name word : List ℕ) → bytes_eq name word ≡ false → name ≢ word
+unlike name word apart same = grind (arith, bytes_eq-Decides)
+
+-- a word that is none of some names is another than each of them
+unnamed : (names : List (List ℕ)) (word : List ℕ) → is_named names word ≡ false → (k : ℕ) (d : List ℕ) → k < length names → get_or names k d ≢ word
+unnamed [] word new k d within = absurd (omega arith)
+unnamed (name ∷ names) word new zero d within = unlike name word (or_parts (bytes_eq name word) (is_named names word) new).0
+unnamed (name ∷ names) word new (suc k) d within = unnamed names word (or_parts (bytes_eq name word) (is_named names word) new).1 k d (omega arith)
+
+pub no_keys : AreKeys []
+no_keys = record { few = omega arith; each = All-nil (λ name. is_key name ≡ true); distinct = λ i j d before within. absurd (omega arith) }
+
+-- keys, and a new one behind them
+pub one_more_key : (names : List (List ℕ)) (word : List ℕ) → AreKeys names → length names < MAX_KEYS → is_key word ≡ true → is_named names word ≡ false
+    → AreKeys (names ++ word ∷ [])
+one_more_key names word keys room key new = record {
+  few = grind (arith, common_steps);
+  each = All-push (λ name. is_key name ≡ true) names word keys.each key;
+  distinct = all_pairs_push (λ earlier later. earlier ≢ later) names word keys.distinct (unnamed names word new);
+}
+
+-- the same of names that are seen as their bytes, and a copy of the new one
+pub pushed_key : (names now : List (Vec ℕ Global)) (copy : Vec ℕ Global) (view : List (List ℕ)) (word : List ℕ) → now ≡ names ++ copy ∷ []
+    → copy.items ≡ word → map (λ (v : Vec ℕ Global). v.items) names ≡ view → AreKeys (map (λ (v : Vec ℕ Global). v.items) names)
+    → length view < MAX_KEYS → is_key word ≡ true → is_named view word ≡ false → AreKeys (map (λ (v : Vec ℕ Global). v.items) now)
+pushed_key names now copy view word pushed same seen keys room key new =
+    let behind : map (λ (v : Vec ℕ Global). v.items) now ≡ view ++ word ∷ [] = rw (pushed, map-append, seen, same) refl in
+    subst AreKeys (sym behind) (one_more_key view word (subst AreKeys seen keys) room key new)

@@ -46,10 +46,10 @@ all_keys_at show (x ∷ xs) (suc i) d within all = all_keys_at show xs i d (omeg
 
 -- each word of a path is a key
 pub key_at : {X : Type 0} (show : X → List ℕ) (xs : List X) (i : ℕ) (d : X) → i < length xs → are_keys (map show xs) ≡ true
-    → IsBetween 1 MAX_KEY_BYTES (length (show (get_or xs i d)))
+    → is_key (show (get_or xs i d)) ≡ true
 key_at show xs i d within keys =
-    key_sized (show (get_or xs i d)) (all_keys_at show xs i d within
-    (and_parts (nat_lt 0 (length (map show xs)) && nat_le (length (map show xs)) 64) (list_all is_key (map show xs)) keys).1)
+    all_keys_at show xs i d within
+    (and_parts (nat_lt 0 (length (map show xs)) && nat_le (length (map show xs)) 64) (list_all is_key (map show xs)) keys).1
 
 -- words that are no more than a path's are a path where each is a key
 pub are_keys-few : (words : List (List ℕ)) → 0 < length words → length words ≤ 64 → are_keys words ≡ list_all is_key words

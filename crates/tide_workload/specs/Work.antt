@@ -1,12 +1,13 @@
 -- What a workload is.
-use Rattle.std.specs.Prelude.{ℕ, ◌≡◌, ◌<◌, ◌≤◌, List, length, All, None}
+use Rattle.std.specs.Prelude.{ℕ, ◌≡◌, ◌≢◌, ◌<◌, ◌≤◌, true, List, length, All, AllPairs, None}
 use Rattle.tide_model.specs.declared.op.Op.{Op}
 use Rattle.tide_model.specs.declared.op.Op.TheVariants.{Alloc, Table, Get, Put, Move, Set, Drop, Claim, Release, Unclaim, Add, GetProp, SetProp, StrongSet, StrongGet, WeakSet, WeakGet, PairSet, PairGet, PairDel, Group, Collect, Retire}
 use Rattle.tide_shape.specs.Shapes.{first_double, IsPath}
-use Rattle.tide_workload.specs.declared.keys.TheConstants.{MAX_KEYS, MAX_KEY_BYTES}
+use Rattle.tide_workload.specs.declared.keys.TheConstants.{MAX_KEYS}
 use Rattle.tide_workload.specs.declared.workload.TheConstants.{MAX_MUTATORS, MAX_OPS}
 use Rattle.tide_workload.specs.declared.settings.Settings.{Settings}
 use Rattle.tide_workload.specs.OpLimits.{OpLimits, limits_with}
+use Rattle.tide_workload.specs.Shapes.{is_key}
 
 -- the settings, the names of the property keys by number, the declared paths as numbers of keys, and each mutator's
 -- operations in order
@@ -41,10 +42,11 @@ pub record IsSized (scripts : List (List Op)) : Type 0 where
   pub few : length scripts ≤ MAX_MUTATORS
   pub short : All (λ ops. length ops ≤ MAX_OPS) scripts
 
--- the names of keys are few, and each has 1 to 16 bytes
+-- the names of keys are few, each is a key, and no two are the same
 pub record AreKeys (keys : List (List ℕ)) : Type 0 where
   pub few : length keys ≤ MAX_KEYS
-  pub sized : All (λ name. IsBetween 1 MAX_KEY_BYTES (length name)) keys
+  pub each : All (λ name. is_key name ≡ true) keys
+  pub distinct : AllPairs (λ earlier later. earlier ≢ later) keys
 
 -- there are at most 64 paths, each of 1 to 64 keys that are among so many, and none names a key twice
 pub record ArePaths (keys : ℕ) (paths : List (List ℕ)) : Type 0 where

@@ -44,8 +44,8 @@ fn place_among(names: &[Vec<u8>], name: &[u8]) -> Option<usize>
 }
 
 impl Keys {
-    ghost use Rattle.std.specs.Prelude.{[], Some, slice_get, OnOk};
-    ghost use Rattle.tide_workload.specs.Shapes.{add_name, is_named, key_number};
+    ghost use Rattle.std.specs.Prelude.{[], Some, true, slice_get, OnOk};
+    ghost use Rattle.tide_workload.specs.Shapes.{add_name, is_key, is_named, key_number};
     ghost use Rattle.tide_workload.specs.Work.{AreKeys, IsBetween};
 
     /// No key.
@@ -91,6 +91,7 @@ impl Keys {
     pub fn name(&self, key: u32) -> &[u8]
         requires { key < length self.now }
         ensures name { slice_get self.now key ≡ Some result.now }
+        ensures key { is_key result.now ≡ true }
         ensures sized { IsBetween 1 MAX_KEY_BYTES (length result.now) }
     {
         self.names[key as usize].as_slice()
@@ -99,7 +100,7 @@ impl Keys {
     /// Puts a name behind the others, unless it is there.
     pub fn add(&mut self, alloc: Global, name: &[u8]) -> Result<(), AllocError>
         requires room { length self.old < MAX_KEYS }
-        requires sized { IsBetween 1 MAX_KEY_BYTES (length name.now) }
+        requires key { is_key name.now ≡ true }
         ensures { OnOk result (self.new ≡ add_name self.old name.now) }
     {
         if !self.has(name) {

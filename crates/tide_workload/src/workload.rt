@@ -32,7 +32,8 @@ impl Model for Workload {
 }
 
 impl Workload {
-    ghost use Rattle.std.specs.Prelude.{◌≡◌, ◌<◌, ◌≤◌, Some, length, map, slice_get, All};
+    ghost use Rattle.std.specs.Prelude.{◌≡◌, ◌≢◌, ◌<◌, ◌≤◌, Some, true, length, map, slice_get, All, AllPairs};
+    ghost use Rattle.tide_workload.specs.Shapes.{is_key};
     ghost use Rattle.tide_workload.specs.Work.{ArePaths, AreSettings, IsBetween, IsOperation, IsWork, limits_of};
 
     pub(crate) fn new(
@@ -68,10 +69,11 @@ impl Workload {
         &self.paths
     }
 
-    /// How many property keys it has.
+    /// How many property keys it has, no two of which have the same name.
     pub fn key_count(&self) -> u32
         ensures count { result ≡ length self.now.keys }
         ensures few { result ≤ MAX_KEYS }
+        ensures distinct { AllPairs (λ earlier later. earlier ≢ later) self.now.keys }
     {
         self.keys.len()
     }
@@ -80,6 +82,7 @@ impl Workload {
     pub fn key_name(&self, key: u32) -> &[u8]
         requires { key < length self.now.keys }
         ensures name { slice_get self.now.keys key ≡ Some result.now }
+        ensures key { is_key result.now ≡ true }
         ensures sized { IsBetween 1 MAX_KEY_BYTES (length result.now) }
     {
         self.keys.name(key)

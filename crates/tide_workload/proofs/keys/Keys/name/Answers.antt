@@ -1,14 +1,17 @@
-use Rattle.std.proofs.Common.{◌≡◌, ◌<◌, ◌∙◌, arith, ap, sym, subst, ℕ, List, length, get_or, Vec, Global}
+use Rattle.std.proofs.Common.{◌≡◌, ◌<◌, ◌∙◌, true, arith, ap, sym, subst, ℕ, List, length, get_or, Vec, Global}
 use Rattle.std.proofs.lemmas.Grind.{common_steps}
-use Rattle.tide_workload.specs.declared.keys.TheConstants.{MAX_KEY_BYTES}
-use Rattle.tide_workload.specs.Work.{IsBetween}
+use Rattle.tide_workload.specs.Shapes.{is_key}
 use Rattle.tide_workload.proofs.OperationLemmas.{All-seen}
+use Rattle.tide_workload.proofs.PathLemmas.{key_sized}
 use Rattle.tide_workload.proofs.keys.Keys.name.Goals as goal
 
-pub returns-clause-sized : goal.returns-clause-sized
-returns-clause-sized c =
+pub returns-clause-key : goal.returns-clause-key
+returns-clause-key c =
     let within : c.args.key < length c.self.inside.names.items = grind (arith, common_steps) in
-    let sized = All-seen (λ name. IsBetween 1 MAX_KEY_BYTES (length name)) (λ (v : Vec ℕ Global). v.items) c.self.inside.names.items c.args.key c.index.result.now within c.self.invariant.sized in
+    let key = All-seen (λ name. is_key name ≡ true) (λ (v : Vec ℕ Global). v.items) c.self.inside.names.items c.args.key c.index.result.now within c.self.invariant.each in
     let same : c.as_slice.result.now ≡ (get_or c.self.inside.names.items c.args.key c.index.result.now).items =
     c.as_slice.ensures.value ∙ ap (λ (v : Vec ℕ Global). v.items) c.index.ensures in
-    subst (λ (name : List ℕ). IsBetween 1 MAX_KEY_BYTES (length name)) (sym same) sized
+    subst (λ (name : List ℕ). is_key name ≡ true) (sym same) key
+
+pub returns-clause-sized : goal.returns-clause-sized
+returns-clause-sized c = key_sized c.as_slice.result.now (returns-clause-key c)
