@@ -5,9 +5,8 @@
 #![tactic(auto)]
 
 use std::alloc::AllocError;
-use std::env;
-use std::io;
 use std::process::ExitCode;
+use std::{env, io};
 use tide_io::{RealSink, RealSource, write_all};
 use tide_model::FreePass;
 use tide_run::riptide;
