@@ -82,7 +82,7 @@ words_among-class blocks widths class ids few within =
     (λ k h. ap (slice_index widths) (class_among-is blocks class (64 * sum (take class blocks) + k) few (omega arith) (omega (arith, ends))))
 
 -- at most as many numbers pass as there are
-count_where-le : (test : ℕ → Bool) (bound : ℕ) → count_where test bound ≤ bound
+pub count_where-le : (test : ℕ → Bool) (bound : ℕ) → count_where test bound ≤ bound
 count_where-le test zero = omega arith
 count_where-le test (suc bound) =
     let before = count_where-le test bound in

@@ -26,6 +26,10 @@ same_from_val_word (Cell c) Empty e = absurd (omega arith)
 same_from_val_word (Cell c) (Int m) e = absurd (omega arith)
 same_from_val_word (Cell c) (Cell d) e = ap Cell (omega arith)
 
+-- cells of one word are one cell
+pub same_cell_from_val_word : (one other : ℕ) → val_word (Cell one) ≡ val_word (Cell other) → one ≡ other
+same_cell_from_val_word one other same = omega (arith, same)
+
 -- a value's word leaves room for a key above it
 pub val_word-lt : (v : Val) → HasU32 v → val_word v < 2 ^ 34
 val_word-lt Empty h = omega arith

@@ -8,12 +8,14 @@ pub mod FormReading
 mod FormRows
 pub mod HeapLaws
 pub mod LimitLaws
+pub mod LiveLaws
 pub mod MarkedLaws
 pub mod MarkingLaws
 pub mod Places
 pub mod ReadGraph
 pub mod ReadingLaws
-mod ReadingRows
+pub mod ReadingRows
+pub mod RowLaws
 pub mod RuleLaws
 pub mod SlotPlaces
 pub mod StartLaws

@@ -1,27 +1,33 @@
 -- A heap of two cells, worked out by hand, and some that read as nothing.
-use Rattle.std.proofs.Common.{ℕ, zero, suc, ◌≡◌, ◌≢◌, ◌-◌, ◌/◌, ◌%◌, ◌^◌, ◌<◌, ◌≤◌, ◌==◌, refl, sym, ◌∙◌, ap, arith, true, false, [], ◌∷◌, inl, inr, length, Contains, None}
-use Rattle.std.proofs.lemmas.Nat.Bits.{bit_at_mask_inside}
+use Rattle.std.proofs.Common.{ℕ, zero, suc, ◌≡◌, ◌≢◌, ◌-◌, ◌/◌, ◌%◌, ◌^◌, ◌<◌, ◌≤◌, ◌==◌, refl, sym, ◌∙◌, ap, subst, arith, true, false, [], ◌∷◌, inl, inr, length, Contains, Some, None}
+use Rattle.std.proofs.lemmas.Nat.Bits.{bit_at-zero, bit_at_mask_inside}
 use Rattle.std.specs.Int.{bit_at}
 use Rattle.std.specs.Prelude.{◌⊎◌, if◌then◌else◌}
 use Rattle.tide_model.specs.declared.val.Val.{Val}
 use Rattle.tide_model.specs.declared.val.Val.TheVariants.{Empty, Cell}
+use Rattle.tide_model.specs.Graph.{in_slot}
 use Rattle.tide_model.specs.Layout.{Layout, class_of, slots_of}
 use Rattle.tide_model.specs.Numbers.{put_at}
+use Rattle.tide_model.specs.References.{IsLive, RefsAreLive}
 use Rattle.tide_model.specs.Refused.{no_shapes, is_table}
 use Rattle.tide_model.specs.State.{State, CellState, free, live, dead, is_free, idle, marking, blank_cell, empty_state}
 use Rattle.tide_model.proofs.ReferenceLaws.{put_at_elim}
-use Rattle.tide_words.specs.declared.region.Region.TheVariants.{Phase, Free, Dead, Registers, Structure, Claim, Group, Slots}
+use Rattle.tide_words.specs.declared.region.Region.TheVariants.{Phase, Colour, Free, Dead, Registers, Structure, Claim, Group, Slots}
 use Rattle.tide_words.specs.EmptyHeap.{empty_heap}
 use Rattle.tide_words.specs.Heap.{Heap, write}
+use Rattle.tide_words.specs.Marking.{Marking}
 use Rattle.tide_words.specs.Reading.{ReadsAs, IsZeroed, IsValueOf, IsStructureOf, status_by, cell_status, slot_word}
 use Rattle.tide_words.specs.Reference.{array_word}
 use Rattle.tide_words.specs.Region.{index_of_register}
 use Rattle.tide_words.specs.Slots.{index_of_slot, width_of_cell}
+use Rattle.tide_words.specs.ValueWord.{val_word}
+use Rattle.tide_words.proofs.FormLaws.{same_cell_from_val_word}
 use Rattle.tide_words.proofs.HeapLaws.{write-same, write-other_index}
+use Rattle.tide_words.proofs.MarkingLaws.{Marking-greyed}
 use Rattle.tide_words.proofs.SlotPlaces.{index_of_slot-alone}
 
 -- one block of cells with two slots, and one mutator with one register
-abbrev small : Layout
+abbrev pub small : Layout
 small = record {
   cell_blocks = 1 ∷ 0 ∷ 0 ∷ 0 ∷ 0 ∷ [];
   array_blocks = 0 ∷ 0 ∷ 0 ∷ 0 ∷ 0 ∷ [];
@@ -37,7 +43,7 @@ abbrev first_cell : CellState
 first_cell = record (blank_cell live) { slots = put_at (λ slot. Empty) 0 (Cell 1) }
 
 -- cells 0 and 1 are live, the register has cell 0, and the second cycle marks
-abbrev two_cells : State
+abbrev pub two_cells : State
 two_cells = record empty_state {
   registers = put_at (λ who register. Empty) 0 (put_at (λ register. Empty) 0 (Cell 0));
   cells = put_at (put_at (λ cell. blank_cell free) 0 first_cell) 1 (blank_cell live);
@@ -45,7 +51,7 @@ two_cells = record empty_state {
 }
 
 -- its words
-abbrev worked : Heap
+abbrev pub worked : Heap
 worked = write (write (write (write empty_heap Phase 0 5) Registers 0 2) Free 0 (2 ^ 64 - 2 ^ 2)) Slots (index_of_slot small 0 0) 6
 
 -- what holds of the two cells and of free ones holds of all
@@ -215,3 +221,58 @@ cycle_over reads = let phase : idle ≡ marking 2 = reads.phase in absurd (cc)
 -- nor with a word in a free cell
 free_cell_in_a_group : ReadsAs small no_shapes (write worked Group 5 1) two_cells → ⊥
 free_cell_in_a_group reads = let group : 1 ≡ 0 = (reads.free_cells 5 (omega arith) refl).group in omega (arith, group)
+
+-- each reference of these cells is to one of them
+references : RefsAreLive two_cells
+references = record {
+  in_registers = λ who register cell active. each_register (λ who register value. value ≡ Cell cell → IsLive two_cells cell)
+      (λ is. subst (IsLive two_cells) (of_cell 0 cell is) refl) (λ who register apart is. absurd (cc)) who register;
+  claimed = λ who cell at. absurd (nothing_in cell at);
+  in_strong = λ handle cell is. absurd (cc);
+  in_weak = λ handle cell is. absurd (cc);
+  in_slots = λ source slot cell. each_cell (λ n held. held.status ≡ live → held.slots slot ≡ Cell cell → IsLive two_cells cell)
+      (λ alive. put_at_elim (λ slot value. value ≡ Cell cell → IsLive two_cells cell) (λ slot. Empty) 0 (Cell 1)
+      (λ is. subst (IsLive two_cells) (of_cell 1 cell is) refl) (λ slot other is. absurd (cc)) slot)
+      (λ alive is. absurd (cc)) (λ n not_zero not_one alive. absurd (cc)) source;
+  in_properties = λ source place cell. each_cell (λ n held. held.status ≡ live → place < length held.keys → held.properties place ≡ Cell cell → IsLive two_cells cell)
+      (λ alive below. absurd (omega (arith, below))) (λ alive below. absurd (omega (arith, below))) (λ n not_zero not_one alive. absurd (cc)) source;
+  keys_of_pairs = λ table key value. each_cell (λ n held. held.status ≡ live → held.pairs key ≡ Some value → IsLive two_cells key)
+      (λ alive is. absurd (cc)) (λ alive is. absurd (cc)) (λ n not_zero not_one alive. absurd (cc)) table;
+  in_pairs = λ table key cell. each_cell (λ n held. held.status ≡ live → held.pairs key ≡ Some (Cell cell) → IsLive two_cells cell)
+      (λ alive is. absurd (cc)) (λ alive is. absurd (cc)) (λ n not_zero not_one alive. absurd (cc)) table;
+  arrays_are_live = λ cell array. each_cell (λ n held. held.status ≡ live → held.array ≡ Some array → two_cells.arrays array ≡ live)
+      (λ alive is. absurd (cc)) (λ alive is. absurd (cc)) (λ n not_zero not_one alive. absurd (cc)) cell;
+  arrays_are_own = λ one other array. each_cell (λ n held. held.status ≡ live → IsLive two_cells other → held.array ≡ Some array → (two_cells.cells other).array ≡ Some array → n ≡ other)
+      (λ alive also is. absurd (cc)) (λ alive also is. absurd (cc)) (λ n not_zero not_one alive. absurd (cc)) one;
+}
+  where
+    of_cell : (one other : ℕ) → Cell one ≡ Cell other → one ≡ other
+    of_cell one other same = same_cell_from_val_word one other (ap val_word same)
+
+-- no cell is marked yet, and the words meet marking
+pub marking_of_two : Marking small no_shapes worked two_cells []
+marking_of_two = record {
+  reads = reads;
+  references = references;
+  colours = λ cell within. omega arith;
+  held = record {
+    each_once = λ marks cell within. (let none = bit_at-zero (cell % 64) in omega (arith, none));
+    of_layout = λ cell at. absurd (nothing_in cell at);
+    no_words = λ rests. absurd (cc);
+    no_cells = λ rests. absurd (cc);
+  };
+  black = λ marks source cell black. absurd (cc);
+  live = λ marks cell within marked. absurd (cc);
+}
+
+-- with the first cell grey and in the list they do too
+pub marking_of_one_grey : Marking small no_shapes (write worked Colour 0 10) two_cells (0 ∷ [])
+marking_of_one_grey = Marking-greyed small no_shapes worked two_cells [] 0 refl (omega arith) refl refl marking_of_two
+
+-- but not where nobody holds the grey cell
+grey_cell_held_by_none : Marking small no_shapes (write worked Colour 0 10) two_cells [] → ⊥
+grey_cell_held_by_none meets = let once = meets.held.each_once refl 0 (omega arith) in absurd (cc)
+
+-- nor where a black cell holds a white one
+black_cell_to_white : Marking small no_shapes (write worked Colour 0 8) two_cells [] → ⊥
+black_cell_to_white meets = let marked = meets.black refl 0 1 refl (in_slot 0 refl refl) in absurd (cc)

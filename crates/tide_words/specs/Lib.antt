@@ -8,6 +8,7 @@ pub mod Greys
 pub mod Heap
 pub mod Layout
 pub mod Limits
+pub mod Live
 pub mod Marked
 pub mod Marking
 pub mod PairWord

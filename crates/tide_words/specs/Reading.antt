@@ -160,7 +160,8 @@ pub record IsEmptyBeyond (layout : Layout) (state : State) : Type 0 where
   pub arrays : (array : ℕ) → array_count layout ≤ array → state.arrays array ≡ free
 
 -- The words read as the state. They leave open only what no operation and no cycle looks at: what a free cell held, the
--- properties of a dead cell, and those that have no key; and they leave open the order of each mutator's claims.
+-- properties of a dead cell, and those that have no key; and they leave open the order of each mutator's claims, and how
+-- often a cell stands among them.
 pub record ReadsAs (layout : Layout) (shapes : ShapeLists) (heap : Heap) (state : State) : Type 0 where
   pub phase : phase_of (heap Phase 0) ≡ state.phase
   pub active : ActiveRead layout heap state

@@ -1,9 +1,11 @@
 use crate::{
-    Colour, GreyList, Layout, MAX_CELLS, Region, Structure, VecWords, Words, colour, is_marked,
-    mark, pair_word, structure_word, val_word, word_pair, word_structure, word_val,
+    Colour, GreyList, Layout, MAX_CELLS, Region, Structure, VecWords, Words, colour, is_live,
+    is_marked, mark, mark_named, pair_word, structure_word, val_word, word_pair, word_structure,
+    word_val,
 };
+use std::alloc::Global;
 use std::test::Fail;
-use tide_model::Val;
+use tide_model::{Memory, Val};
 
 #[test]
 fn values_have_their_words(rt: HostRuntime) {
@@ -135,5 +137,54 @@ fn marked_cell_is_grey_and_pushed(rt: HostRuntime) -> Result<(), Fail> {
     assert!(rt; mark(&mut words, &layout, 7, &mut list));
     assert_eq!(rt; words.load(layout.place(Region::Colour, 7)), 10);
     assert_eq!(rt; list.pop(), Some(7));
+    Ok(())
+}
+
+/// The cell that `mark_named` pushes for a word, in a heap of 128 cells of which cell 5 is marked already.
+fn pushed_for(alloc: Global, word: u64) -> Result<Option<u32>, Memory> {
+    let layout = Layout::new([1, 0, 0, 0, 1], [1, 1, 0, 0, 0], 4, 2, 2, 2, 1);
+    let mut words = VecWords::new(alloc, &layout)?;
+    let mut list = GreyList::new(alloc, layout.cells())?;
+    words.store(layout.place(Region::Colour, 5), 10);
+    words.store(layout.place(Region::Phase, 0), 5);
+    mark_named(&mut words, &layout, word, &mut list);
+    Ok(list.pop())
+}
+
+#[test]
+fn only_a_value_that_names_an_unmarked_cell_is_marked(rt: HostRuntime) -> Result<(), Fail> {
+    let cases = [
+        (val_word(Val::Cell(7)), Some(7)),
+        (val_word(Val::Cell(127)), Some(127)),
+        (val_word(Val::Cell(5)), None),
+        (val_word(Val::Cell(128)), None),
+        (val_word(Val::Int(8)), None),
+        (val_word(Val::Empty), None),
+        (u64::MAX, None),
+    ];
+    for (word, cell) in cases {
+        assert_eq!(rt; pushed_for(rt.alloc(), word)?, cell, "at {word}");
+    }
+    Ok(())
+}
+
+#[test]
+fn neither_free_nor_dead_cells_are_live(rt: HostRuntime) -> Result<(), Fail> {
+    let layout = Layout::new([1, 0, 0, 0, 1], [1, 1, 0, 0, 0], 4, 2, 2, 2, 1);
+    let mut words = VecWords::new(rt.alloc(), &layout)?;
+    words.store(layout.place(Region::Free, 0), u64::MAX - 2 - 4);
+    words.store(layout.place(Region::Dead, 0), 4);
+    words.store(layout.place(Region::Free, 1), u64::MAX >> 1);
+    for (cell, live) in [
+        (0, false),
+        (1, true),
+        (2, false),
+        (63, false),
+        (126, false),
+        (127, true),
+    ] {
+        assert!(rt; cell < layout.cells());
+        assert_eq!(rt; is_live(&mut words, &layout, cell), live, "cell {cell}");
+    }
     Ok(())
 }
