@@ -1,6 +1,6 @@
 -- The empty heap reads as the empty state.
 use Rattle.std.proofs.Common.{ℕ, ◌≡◌, ◌-◌, ◌%◌, ◌^◌, ◌<◌, ◌==◌, refl, sym, ap, arith, [], Contains}
-use Rattle.std.proofs.lemmas.Nat.Bits.{bit_at_ones}
+use Rattle.std.proofs.lemmas.Nat.Bits.{bit_at_ones, bit_at-zero}
 use Rattle.std.specs.Int.{bit_at}
 use Rattle.std.specs.Prelude.{if◌then◌else◌}
 use Rattle.tide_model.specs.Layout.{Layout}
@@ -36,6 +36,7 @@ ReadsAs-empty layout shapes = record {
     unnamed = λ cell within alone. refl;
   };
   status = λ cell within. free_by_ones (cell % 64) live (omega arith);
+  apart = λ block bit within few is_free. bit_at-zero bit;
   free_cells = λ cell within is_free. record { structure = refl; array = refl; claim = refl; group = refl; slots = λ slot has. refl };
   keys = λ cell taken. absurd (none_taken layout cell taken);
   array_of = λ cell taken. absurd (none_taken layout cell taken);

@@ -1,3 +1,5 @@
+pub mod CellLaw
+pub mod CellReading
 pub mod ClassWidths
 pub mod ColourLaws
 pub mod ConstraintLaws
@@ -6,11 +8,13 @@ pub mod Filling
 pub mod FormLaws
 pub mod FormReading
 mod FormRows
+pub mod Frames
 pub mod HeapLaws
 pub mod LimitLaws
 pub mod LiveLaws
 pub mod MarkedLaws
 pub mod MarkingLaws
+pub mod Parts
 pub mod Places
 pub mod ReadGraph
 pub mod ReadingLaws

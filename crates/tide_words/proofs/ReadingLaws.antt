@@ -11,7 +11,8 @@ use Rattle.tide_words.specs.declared.region.Region.TheVariants.{Period, Phase, A
 use Rattle.tide_words.specs.ColourWord.{phase_of}
 use Rattle.tide_words.specs.Heap.{Heap, Reads, SameIn, write}
 use Rattle.tide_words.specs.PairWord.{IsPairWord}
-use Rattle.tide_words.specs.Reading.{IsValueOf, IsPairOf, IsStructureOf, IsTableOf, ActiveRead, RegistersRead, StrongRead, WeakRead, ClaimsRead, StatusRead, FreeRead, KeysRead, ArrayOfRead, GroupRead, SlotsRead, PairsRead, PropertiesRead, ArraysRead, ReadsAs, status_by, array_status, slot_word, element_word}
+use Rattle.std.specs.Int.{bit_at}
+use Rattle.tide_words.specs.Reading.{BitsAreApart, IsValueOf, IsPairOf, IsStructureOf, IsTableOf, ActiveRead, RegistersRead, StrongRead, WeakRead, ClaimsRead, StatusRead, FreeRead, KeysRead, ArrayOfRead, GroupRead, SlotsRead, PairsRead, PropertiesRead, ArraysRead, ReadsAs, status_by, array_status, slot_word, element_word}
 use Rattle.tide_words.specs.Region.{tag, size_of, index_of_register}
 use Rattle.tide_words.specs.Slots.{HasSlot, index_of_slot, index_of_element, width_of_class}
 use Rattle.tide_words.proofs.HeapLaws.{write-other_region}
@@ -231,6 +232,12 @@ ArraysRead-same layout old new state same_free same_dead reads = record {
         status_by-same (old Free (block_of_array layout array)) (new Free (block_of_array layout array)) (old Dead (block_of_array layout array)) (new Dead (block_of_array layout array))
         (array % 64) otherwise (same_free (block_of_array layout array) below) (same_dead (block_of_array layout array) below)
 
+pub BitsAreApart-same : (layout : Layout) (old new : Heap) → SameIn layout Free old new → SameIn layout Dead old new → BitsAreApart layout old → BitsAreApart layout new
+BitsAreApart-same layout old new same_free same_dead apart block bit within few is_free =
+    ap (λ (word : ℕ). bit_at word bit) (same_dead block within)
+    ∙ apart block bit within few (sym (ap (λ (word : ℕ). bit_at word bit) (same_free block within)) ∙ is_free)
+
+
 -- a heap with the same words in each region that is read reads as the same state
 pub ReadsAs-same : (layout : Layout) (shapes : ShapeLists) (old new : Heap) (state : State) → ((region : Region) → is_read region ≡ true → SameIn layout region old new) →
     ReadsAs layout shapes old state → ReadsAs layout shapes new state
@@ -242,6 +249,7 @@ ReadsAs-same layout shapes old new state same reads = record {
   weak = WeakRead-same layout old new state (same Weak refl) reads.weak;
   claims = ClaimsRead-same layout old new state (same Claim refl) reads.claims;
   status = StatusRead-same layout old new state (same Free refl) (same Dead refl) reads.status;
+  apart = BitsAreApart-same layout old new (same Free refl) (same Dead refl) reads.apart;
   free_cells = FreeRead-same layout old new state (same Structure refl) (same Array refl) (same Claim refl) (same Group refl) (same Slots refl) reads.free_cells;
   keys = KeysRead-same layout shapes old new state (same Structure refl) reads.keys;
   array_of = ArrayOfRead-same layout old new state (same Array refl) reads.array_of;

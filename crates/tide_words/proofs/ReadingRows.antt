@@ -117,6 +117,7 @@ reads = record {
     unnamed = λ cell within alone. refl;
   };
   status = status;
+  apart = λ block bit within few is_free. bit_at-zero bit;
   free_cells = each_cell (λ cell held. cell < 64 → held.status ≡ free → IsZeroed small worked cell)
       (λ within is_free. absurd (cc)) (λ within is_free. absurd (cc))
       (λ cell not_zero not_one within is_free.

@@ -6,13 +6,13 @@ use Rattle.tide_model.specs.declared.val.Val.TheVariants.{Empty}
 use Rattle.tide_model.specs.Layout.{Layout, cell_count, array_count, block_of_cell, block_of_array, class_of, slots_of}
 use Rattle.tide_model.specs.References.{IsLive}
 use Rattle.tide_model.specs.Refused.{ShapeLists, is_table}
-use Rattle.tide_model.specs.State.{State, Status, free, live, dead, spent, is_free, blank_cell}
+use Rattle.tide_model.specs.State.{CellState, State, Status, free, live, dead, spent, is_free, blank_cell}
 use Rattle.tide_words.specs.declared.region.Region.TheVariants.{Phase, Active, Registers, Strong, Weak, Structure, Array, Claim, Group, Slots, Elements, Free, Dead}
 use Rattle.tide_words.specs.ColourWord.{phase_of}
 use Rattle.tide_words.specs.Heap.{Heap}
 use Rattle.tide_words.specs.PairWord.{pair_word, max_cells, IsPairWord}
 use Rattle.tide_words.specs.Reference.{array_word, claim_word}
-use Rattle.tide_words.specs.Region.{index_of_register}
+use Rattle.tide_words.specs.Region.{block_count, index_of_register}
 use Rattle.tide_words.specs.Slots.{index_of_slot, index_of_element, HasSlot, HasElement}
 use Rattle.tide_words.specs.StructureWord.{structure_word}
 use Rattle.tide_words.specs.ValueWord.{val_word, HasU32}
@@ -59,13 +59,21 @@ abbrev pub element_word : Layout → Heap → ℕ → ℕ → ℕ
 element_word layout heap array element = heap Elements (index_of_element layout array element)
 
 -- the cell is of the layout and is live or dead
-pub record IsTaken (layout : Layout) (state : State) (cell : ℕ) : Type 0 where
+pub record IsTakenAmong (layout : Layout) (cells : ℕ → CellState) (cell : ℕ) : Type 0 where
   pub within : cell < cell_count layout
-  pub not_free : is_free (state.cells cell).status ≡ false
+  pub not_free : is_free (cells cell).status ≡ false
+
+-- the same in a state
+abbrev pub IsTaken : Layout → State → ℕ → Type 0
+IsTaken layout state cell = IsTakenAmong layout state.cells cell
 
 -- some live cell has the array
+abbrev pub IsNamedAmong : (ℕ → CellState) → ℕ → Type 0
+IsNamedAmong cells array = (cell : ℕ) × ((cells cell).status ≡ live) × ((cells cell).array ≡ Some array)
+
+-- the same in a state
 abbrev pub IsNamed : State → ℕ → Type 0
-IsNamed state array = (cell : ℕ) × IsLive state cell × ((state.cells cell).array ≡ Some array)
+IsNamed state array = IsNamedAmong state.cells array
 
 -- which mutators are active
 abbrev pub ActiveRead : Layout → Heap → State → Type 0
@@ -85,13 +93,20 @@ abbrev pub WeakRead : Layout → Heap → State → Type 0
 WeakRead layout heap state = (handle : ℕ) → handle < layout.weak → IsValueOf (state.weak handle) (heap Weak handle)
 
 -- whose claim a cell is, if it is one's: a mutator's claims are these cells, in an order that no word tells
-pub record ClaimsRead (layout : Layout) (heap : Heap) (state : State) : Type 0 where
-  pub named : (cell who : ℕ) → cell < cell_count layout → (heap Claim cell ≡ claim_word (Some who)) ↔ Contains (state.claims who) cell
-  pub unnamed : (cell : ℕ) → cell < cell_count layout → ((who : ℕ) → Contains (state.claims who) cell → ⊥) → heap Claim cell ≡ claim_word None
+pub record AreClaimsRead (layout : Layout) (heap : Heap) (claims : ℕ → List ℕ) : Type 0 where
+  pub named : (cell who : ℕ) → cell < cell_count layout → (heap Claim cell ≡ claim_word (Some who)) ↔ Contains (claims who) cell
+  pub unnamed : (cell : ℕ) → cell < cell_count layout → ((who : ℕ) → Contains (claims who) cell → ⊥) → heap Claim cell ≡ claim_word None
+
+abbrev pub ClaimsRead : Layout → Heap → State → Type 0
+ClaimsRead layout heap state = AreClaimsRead layout heap state.claims
 
 -- which cells are free, live and dead
 abbrev pub StatusRead : Layout → Heap → State → Type 0
 StatusRead layout heap state = (cell : ℕ) → cell < cell_count layout → (state.cells cell).status ≡ cell_status heap cell
+
+-- no cell or array is both free and dead by its two bits
+abbrev pub BitsAreApart : Layout → Heap → Type 0
+BitsAreApart layout heap = (block bit : ℕ) → block < block_count layout → bit < 64 → bit_at (heap Free block) bit ≡ 1 → bit_at (heap Dead block) bit ≡ 0
 
 -- all words of a free cell are 0, its colour's apart
 pub record IsZeroed (layout : Layout) (heap : Heap) (cell : ℕ) : Type 0 where
@@ -118,10 +133,13 @@ abbrev pub GroupRead : Layout → Heap → State → Type 0
 GroupRead layout heap state = (cell : ℕ) → IsTaken layout state cell → heap Group cell ≡ (state.cells cell).group
 
 -- what a cell's slots hold; those that its class lacks are empty, and so are all of a table
-pub record SlotsRead (layout : Layout) (heap : Heap) (state : State) : Type 0 where
-  pub inside : (cell slot : ℕ) → IsTaken layout state cell → slot < slots_of (class_of layout cell) →
-      IsValueOf ((state.cells cell).slots slot) (slot_word layout heap cell slot)
-  pub beyond : (cell slot : ℕ) → IsTaken layout state cell → slots_of (class_of layout cell) ≤ slot → (state.cells cell).slots slot ≡ Empty
+pub record AreSlotsRead (layout : Layout) (heap : Heap) (cells : ℕ → CellState) : Type 0 where
+  pub inside : (cell slot : ℕ) → IsTakenAmong layout cells cell → slot < slots_of (class_of layout cell) →
+      IsValueOf ((cells cell).slots slot) (slot_word layout heap cell slot)
+  pub beyond : (cell slot : ℕ) → IsTakenAmong layout cells cell → slots_of (class_of layout cell) ≤ slot → (cells cell).slots slot ≡ Empty
+
+abbrev pub SlotsRead : Layout → Heap → State → Type 0
+SlotsRead layout heap state = AreSlotsRead layout heap state.cells
 
 -- a table has these pairs: just those that its words say, none twice
 pub record IsTableOf (layout : Layout) (heap : Heap) (table : ℕ) (pairs : ℕ → Option Val) : Type 0 where
@@ -132,9 +150,12 @@ pub record IsTableOf (layout : Layout) (heap : Heap) (table : ℕ) (pairs : ℕ 
       IsPairOf key value (slot_word layout heap table one) → IsPairOf key another (slot_word layout heap table other) → one ≡ other
 
 -- which pairs a table has; other cells have none
-pub record PairsRead (layout : Layout) (heap : Heap) (state : State) : Type 0 where
-  pub tables : (table : ℕ) → IsTaken layout state table → is_table layout table ≡ true → IsTableOf layout heap table (state.cells table).pairs
-  pub others : (cell key : ℕ) → IsTaken layout state cell → is_table layout cell ≡ false → (state.cells cell).pairs key ≡ None
+pub record ArePairsRead (layout : Layout) (heap : Heap) (cells : ℕ → CellState) : Type 0 where
+  pub tables : (table : ℕ) → IsTakenAmong layout cells table → is_table layout table ≡ true → IsTableOf layout heap table (cells table).pairs
+  pub others : (cell key : ℕ) → IsTakenAmong layout cells cell → is_table layout cell ≡ false → (cells cell).pairs key ≡ None
+
+abbrev pub PairsRead : Layout → Heap → State → Type 0
+PairsRead layout heap state = ArePairsRead layout heap state.cells
 
 -- each property of a live cell stands in an element of its array, at the place of its key; those of a dead cell aren't
 -- read, since its array may be swept before it
@@ -144,9 +165,12 @@ PropertiesRead layout heap state = (cell place : ℕ) → cell < cell_count layo
     × IsValueOf ((state.cells cell).properties place) (element_word layout heap array place)
 
 -- which arrays are free, live, spent and dead: no word tells the live ones from the spent ones but those of the cells
-pub record ArraysRead (layout : Layout) (heap : Heap) (state : State) : Type 0 where
-  pub named : (array : ℕ) → array < array_count layout → IsNamed state array → state.arrays array ≡ array_status layout heap array live
-  pub unnamed : (array : ℕ) → array < array_count layout → (IsNamed state array → ⊥) → state.arrays array ≡ array_status layout heap array spent
+pub record AreArraysRead (layout : Layout) (heap : Heap) (cells : ℕ → CellState) (arrays : ℕ → Status) : Type 0 where
+  pub named : (array : ℕ) → array < array_count layout → IsNamedAmong cells array → arrays array ≡ array_status layout heap array live
+  pub unnamed : (array : ℕ) → array < array_count layout → (IsNamedAmong cells array → ⊥) → arrays array ≡ array_status layout heap array spent
+
+abbrev pub ArraysRead : Layout → Heap → State → Type 0
+ArraysRead layout heap state = AreArraysRead layout heap state.cells state.arrays
 
 -- what lies outside of the layout is as in the empty state
 pub record IsEmptyBeyond (layout : Layout) (state : State) : Type 0 where
@@ -170,6 +194,7 @@ pub record ReadsAs (layout : Layout) (shapes : ShapeLists) (heap : Heap) (state 
   pub weak : WeakRead layout heap state
   pub claims : ClaimsRead layout heap state
   pub status : StatusRead layout heap state
+  pub apart : BitsAreApart layout heap
   pub free_cells : FreeRead layout heap state
   pub keys : KeysRead layout shapes heap state
   pub array_of : ArrayOfRead layout heap state
