@@ -6,17 +6,17 @@ use Rattle.tide_model.specs.declared.val.Val.{Val}
 use Rattle.tide_model.specs.Layout.{Layout, cell_count, array_count, block_of_cell, block_of_array, class_of, slots_of}
 use Rattle.tide_model.specs.Refused.{ShapeLists}
 use Rattle.tide_model.specs.State.{State, Status, live}
-use Rattle.tide_words.specs.declared.region.Region.{Region}
-use Rattle.tide_words.specs.declared.region.Region.TheVariants.{Period, Phase, Active, Call, Stopped, Registers, Strong, Weak, Colour, Structure, Array, Claim, Group, Slots, Elements, Free, Dead, GreyShared, GreyMutator, GreyRace, Swept}
+use Rattle.tide_layout.specs.declared.region.Region.{Region}
+use Rattle.tide_layout.specs.declared.region.Region.TheVariants.{Period, Phase, Active, Call, Stopped, Registers, Strong, Weak, Colour, Structure, Array, Claim, Group, Slots, Elements, Free, Dead, GreyShared, GreyMutator, GreyRace, Swept}
 use Rattle.tide_words.specs.ColourWord.{phase_of}
 use Rattle.tide_words.specs.Heap.{Heap, Reads, SameIn, write}
 use Rattle.tide_words.specs.PairWord.{IsPairWord}
 use Rattle.tide_words.specs.Reading.{IsValueOf, IsPairOf, IsStructureOf, IsTableOf, ActiveRead, RegistersRead, StrongRead, WeakRead, ClaimsRead, StatusRead, FreeRead, KeysRead, ArrayOfRead, GroupRead, SlotsRead, PairsRead, PropertiesRead, ArraysRead, ReadsAs, status_by, array_status, slot_word, element_word}
-use Rattle.tide_words.specs.Region.{tag, size_of, index_of_register}
-use Rattle.tide_words.specs.Slots.{HasSlot, index_of_slot, index_of_element, width_of_class}
+use Rattle.tide_layout.specs.Region.{tag, size_of, index_of_register}
+use Rattle.tide_layout.specs.Slots.{HasSlot, index_of_slot, index_of_element, width_of_class}
 use Rattle.tide_words.proofs.HeapLaws.{write-other_region}
-use Rattle.tide_words.proofs.Places.{tag-injective}
-use Rattle.tide_words.proofs.SlotPlaces.{index_of_register-below, index_of_slot-below, index_of_element-below}
+use Rattle.tide_layout.proofs.Places.{tag-injective}
+use Rattle.tide_layout.proofs.SlotPlaces.{index_of_register-below, index_of_slot-below, index_of_element-below}
 
 -- a region that the reading looks at
 abbrev pub is_read : Region → Bool
