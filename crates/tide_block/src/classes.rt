@@ -4,7 +4,7 @@ ghost use Rattle.tide_model.specs.Numbers.{count_where};
 ghost use Rattle.tide_model.specs.Layout.{array_count, block_of_array, block_of_cell, cell_count, class_of, class_of_array, first_block_of};
 ghost use Rattle.tide_block.specs.Places.{bit_of, first_array_of, first_cell_of};
 
-use tide_words::Layout;
+use tide_layout::Layout;
 
 /// How many cells or arrays a block has.
 const BLOCK: u32 = 64;

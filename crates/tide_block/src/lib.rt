@@ -2,7 +2,7 @@
 //!
 //! A block's words have one bit for each of its 64 cells or arrays. `lowest` and `after` walk the set bits of a
 //! word. The other calls go from an id to its class, its block and its bit, and from a class to its first block
-//! and its first id, in the order that a `Layout` of `tide_words` gives. `proofs/` has the laws that tie these
+//! and its first id, in the order that a `Layout` of `tide_layout` gives. `proofs/` has the laws that tie these
 //! together, for the crates above.
 #![tactic(auto)]
 

@@ -1,17 +1,18 @@
 -- One cell changes: it reads anew, and the words of all others are the same.
-use Rattle.std.proofs.Common.{ℕ, ◌≡◌, ◌≢◌, ◌<◌, ◌≤◌, sym, ◌∙◌, arith, Some, length}
+use Rattle.std.proofs.Common.{ℕ, ◌≡◌, ◌≢◌, ◌<◌, ◌≤◌, sym, ◌∙◌, ap, arith, Some, length}
 use Rattle.tide_model.specs.Applied.{put_cell}
 use Rattle.tide_model.specs.Layout.{Layout, cell_count}
 use Rattle.tide_model.specs.Numbers.{put_at}
 use Rattle.tide_model.specs.Refused.{ShapeLists}
-use Rattle.tide_model.specs.State.{CellState, State, blank_cell, free, live}
+use Rattle.tide_model.specs.References.{IsLive}
+use Rattle.tide_model.specs.State.{CellState, State, blank_cell, free, is_free, live}
 use Rattle.tide_model.proofs.ReferenceLaws.{put_at_elim}
-use Rattle.tide_words.specs.declared.region.Region.TheVariants.{Claim, Dead, Free}
+use Rattle.tide_layout.specs.declared.region.Region.TheVariants.{Claim, Dead, Free}
 use Rattle.tide_words.specs.Heap.{Heap, SameIn}
-use Rattle.tide_words.specs.Reading.{IsNamedAmong, ReadsAs, cell_status}
-use Rattle.tide_words.proofs.ReadingLaws.{ArraysRead-same, BitsAreApart-same, ClaimsRead-same}
-use Rattle.tide_words.proofs.CellReading.{CellReads, CellReads-kept, PropertyReads, SameCellWords, TakenReads}
-use Rattle.tide_words.proofs.Parts.{PartsRead, ReadsAs-parts, RootsRead-same, SameRoots, parts_of, roots_of}
+use Rattle.tide_words.specs.Reading.{CellReads, IsNamedAmong, PartsRead, PropertyReads, ReadsAs, TakenReads, cell_status}
+use Rattle.tide_words.proofs.ReadingLaws.{AreArraysRead-same, AreClaimsRead-same, BitsAreApart-same}
+use Rattle.tide_words.proofs.CellReading.{CellReads-kept, SameCellWords}
+use Rattle.tide_words.proofs.Parts.{RootsRead-same, SameRoots}
 
 -- the array is named as before where the one cell that changes has the same status and array
 pub named-put : (cells : ℕ → CellState) (cell : ℕ) (held : CellState) → held.status ≡ (cells cell).status → held.array ≡ (cells cell).array → (array : ℕ) →
@@ -41,22 +42,31 @@ module _ (layout : Layout) (shapes : ShapeLists) (old new : Heap) (state : State
   -- the cell keeps its status and array
   pub ReadsAs-cell : held.status ≡ (state.cells cell).status → held.array ≡ (state.cells cell).array → CellReads layout shapes new cell held →
       ReadsAs layout shapes new (put_cell state cell held)
-  ReadsAs-cell same_status same_array here =
-      ReadsAs-parts layout shapes new (put_cell state cell held) (RootsRead-same layout old new state roots (roots_of layout shapes old state reads)) (
-      let parts : PartsRead layout shapes old state = parts_of layout shapes old state reads in record {
-        cells = put_at_elim (λ x (h : CellState). x < cell_count layout → CellReads layout shapes new x h) state.cells cell held (λ inside. here)
-            (λ x apart inside. CellReads-kept layout shapes old new x (state.cells x) inside (others x inside apart) (parts.cells x inside));
-        arrays = (let was = ArraysRead-same layout old new state same_free same_dead parts.arrays in record {
-          named = λ array inside is. was.named array inside (named-put state.cells cell held same_status same_array array is);
-          unnamed = λ array inside isnt. was.unnamed array inside (λ is. isnt (named-before state.cells cell held same_status same_array array is));
-        });
-        claims = ClaimsRead-same layout old new state same_claim parts.claims;
-        apart = BitsAreApart-same layout old new same_free same_dead parts.apart;
-        past_cells = past-put layout state.cells cell held within parts.past_cells;
-        past_arrays = parts.past_arrays;
-        past_claims = parts.past_claims;
-        claimed = parts.claimed;
-      })
+  ReadsAs-cell same_status same_array here = record {
+    roots = RootsRead-same layout old new state roots reads.roots;
+    parts = record {
+      cells = put_at_elim (λ x (h : CellState). x < cell_count layout → CellReads layout shapes new x h) state.cells cell held (λ inside. here)
+          (λ x apart inside. CellReads-kept layout shapes old new x (state.cells x) inside (others x inside apart) (parts.cells x inside));
+      arrays = (let was = AreArraysRead-same layout old new state.cells state.arrays same_free same_dead parts.arrays in record {
+        named = λ array inside is. was.named array inside (named-put state.cells cell held same_status same_array array is);
+        unnamed = λ array inside isnt. was.unnamed array inside (λ is. isnt (named-before state.cells cell held same_status same_array array is));
+      });
+      claims = AreClaimsRead-same layout old new state.claims same_claim parts.claims;
+      apart = BitsAreApart-same layout old new same_free same_dead parts.apart;
+      past_cells = past-put layout state.cells cell held within parts.past_cells;
+      past_arrays = parts.past_arrays;
+      past_claims = parts.past_claims;
+      claimed = parts.claimed;
+    };
+  }
+    where
+      parts : PartsRead layout shapes old state
+      parts = reads.parts
+
+-- what the words say of a live cell
+pub live_reads : (layout : Layout) (shapes : ShapeLists) (heap : Heap) (state : State) (cell : ℕ) → ReadsAs layout shapes heap state → cell < cell_count layout →
+    IsLive state cell → TakenReads layout shapes heap cell (state.cells cell)
+live_reads layout shapes heap state cell reads within alive = (reads.parts.cells cell within).taken (ap is_free alive)
 
 -- a live cell reads as this where its words do
 pub CellReads-live : (layout : Layout) (shapes : ShapeLists) (heap : Heap) (cell : ℕ) (held : CellState) → held.status ≡ live → cell_status heap cell ≡ live →

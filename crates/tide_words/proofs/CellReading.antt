@@ -6,35 +6,13 @@ use Rattle.tide_model.specs.declared.val.Val.TheVariants.{Empty}
 use Rattle.tide_model.specs.Layout.{Layout, cell_count, class_of, slots_of}
 use Rattle.tide_model.specs.Refused.{ShapeLists, is_table}
 use Rattle.tide_model.specs.State.{CellState, free, live, is_free}
-use Rattle.tide_words.specs.declared.region.Region.TheVariants.{Array, Claim, Group, Structure}
+use Rattle.tide_layout.specs.declared.region.Region.TheVariants.{Array, Claim, Group, Structure}
 use Rattle.tide_words.specs.Heap.{Heap}
 use Rattle.tide_words.specs.PairWord.{IsPairWord}
-use Rattle.tide_words.specs.Reading.{IsPairOf, IsStructureOf, IsTableOf, IsValueOf, IsZeroed, cell_status, element_word, slot_word}
+use Rattle.tide_words.specs.Reading.{CellReads, IsPairOf, IsTableOf, TakenReads, cell_status, element_word, slot_word}
 use Rattle.tide_words.specs.Reference.{array_word}
-use Rattle.tide_words.specs.Slots.{HasElement, HasSlot}
+use Rattle.tide_layout.specs.Slots.{HasElement, HasSlot}
 use Rattle.tide_words.proofs.ReadingLaws.{HasSlot-class, IsPairOf-same, IsStructureOf-same, IsValueOf-same}
-
--- the property at a place of a cell's keys stands in that element of its array
-abbrev pub PropertyReads : Layout → Heap → CellState → ℕ → Type 0
-PropertyReads layout heap held place = (array : ℕ) × (held.array ≡ Some array) × HasElement layout array place
-    × IsValueOf (held.properties place) (element_word layout heap array place)
-
--- what the words say of a cell that isn't free
-pub record TakenReads (layout : Layout) (shapes : ShapeLists) (heap : Heap) (cell : ℕ) (held : CellState) : Type 0 where
-  pub keys : IsStructureOf shapes held.keys (heap Structure cell)
-  pub array : heap Array cell ≡ array_word held.array
-  pub group : heap Group cell ≡ held.group
-  pub slots : (slot : ℕ) → slot < slots_of (class_of layout cell) → IsValueOf (held.slots slot) (slot_word layout heap cell slot)
-  pub past_slots : (slot : ℕ) → slots_of (class_of layout cell) ≤ slot → held.slots slot ≡ Empty
-  pub table : is_table layout cell ≡ true → IsTableOf layout heap cell held.pairs
-  pub no_table : is_table layout cell ≡ false → (key : ℕ) → held.pairs key ≡ None
-
--- what the words say of a cell
-pub record CellReads (layout : Layout) (shapes : ShapeLists) (heap : Heap) (cell : ℕ) (held : CellState) : Type 0 where
-  pub status : held.status ≡ cell_status heap cell
-  pub zeroed : held.status ≡ free → IsZeroed layout heap cell
-  pub taken : is_free held.status ≡ false → TakenReads layout shapes heap cell held
-  pub properties : held.status ≡ live → (place : ℕ) → place < length held.keys → PropertyReads layout heap held place
 
 -- the words of a cell that holds this are the same in two heaps
 pub record SameCellWords (layout : Layout) (old new : Heap) (cell : ℕ) (held : CellState) : Type 0 where
@@ -69,6 +47,7 @@ TakenReads-kept layout shapes old new cell held within same reads = record {
   keys = IsStructureOf-same shapes held.keys (old Structure cell) (new Structure cell) same.structure reads.keys;
   array = same.array ∙ reads.array;
   group = same.group ∙ reads.group;
+  group_number = reads.group_number;
   slots = λ slot below. IsValueOf-same (held.slots slot) (slot_word layout old cell slot) (slot_word layout new cell slot)
       (same.slots slot (HasSlot-class layout cell slot within below)) (reads.slots slot below);
   past_slots = reads.past_slots;

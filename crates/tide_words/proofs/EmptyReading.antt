@@ -5,11 +5,11 @@ use Rattle.std.specs.Int.{bit_at}
 use Rattle.std.specs.Prelude.{if◌then◌else◌}
 use Rattle.tide_model.specs.Layout.{Layout}
 use Rattle.tide_model.specs.Refused.{ShapeLists}
-use Rattle.tide_model.specs.State.{Status, free, dead, live, spent, empty_state}
+use Rattle.tide_model.specs.State.{Status, blank_cell, free, dead, live, spent, empty_state}
 use Rattle.tide_model.proofs.ReferenceLaws.{RefsAreLive-empty}
 use Rattle.tide_words.specs.EmptyHeap.{empty_heap}
 use Rattle.tide_words.specs.Marking.{Marking}
-use Rattle.tide_words.specs.Reading.{IsTaken, ReadsAs, status_by}
+use Rattle.tide_words.specs.Reading.{CellReads, ReadsAs, status_by}
 
 -- no list without cells has one
 nothing_in : (cell : ℕ) → Contains {X = ℕ} [] cell → ⊥
@@ -20,49 +20,43 @@ free_by_ones : (k : ℕ) (otherwise : Status) → k < 64 → free ≡ status_by 
 free_by_ones k otherwise few =
     sym (ap (λ (bit : ℕ). if bit == 1 then free else (if bit_at 0 k == 1 then dead else otherwise)) (bit_at_ones 64 k few))
 
--- no cell is taken
-none_taken : (layout : Layout) (cell : ℕ) → IsTaken layout empty_state cell → ⊥
-none_taken layout cell taken = let not_free = taken.not_free in absurd (cc)
+-- the words of a free cell
+CellReads-empty : (layout : Layout) (shapes : ShapeLists) (cell : ℕ) → CellReads layout shapes empty_heap cell (blank_cell free)
+CellReads-empty layout shapes cell = record {
+  status = free_by_ones (cell % 64) live (omega arith);
+  zeroed = λ is_free. record { structure = refl; array = refl; claim = refl; group = refl; slots = λ slot has. refl };
+  taken = λ not_free. absurd (cc);
+  properties = λ alive. absurd (cc);
+}
 
 pub ReadsAs-empty : (layout : Layout) (shapes : ShapeLists) → ReadsAs layout shapes empty_heap empty_state
 ReadsAs-empty layout shapes = record {
-  phase = refl;
-  active = λ who within. refl;
-  registers = λ who register in_mutators in_registers. record { number = tt; is_word = refl };
-  strong = λ handle within. record { number = tt; is_word = refl };
-  weak = λ handle within. record { number = tt; is_word = refl };
-  claims = record {
-    named = λ cell who within. ((λ is. absurd (omega (arith, is))), (λ at. absurd (nothing_in cell at)));
-    unnamed = λ cell within alone. refl;
+  roots = record {
+    phase = refl;
+    active = λ who within. refl;
+    registers = λ who register in_mutators in_registers. record { number = tt; is_word = refl };
+    strong = λ handle within. record { number = tt; is_word = refl };
+    weak = λ handle within. record { number = tt; is_word = refl };
+    past_active = λ who past. refl;
+    past_registers = λ who register past. refl;
+    past_strong = λ handle past. refl;
+    past_weak = λ handle past. refl;
   };
-  status = λ cell within. free_by_ones (cell % 64) live (omega arith);
-  apart = λ block bit within few is_free. bit_at-zero bit;
-  free_cells = λ cell within is_free. record { structure = refl; array = refl; claim = refl; group = refl; slots = λ slot has. refl };
-  keys = λ cell taken. absurd (none_taken layout cell taken);
-  array_of = λ cell taken. absurd (none_taken layout cell taken);
-  groups = λ cell taken. absurd (none_taken layout cell taken);
-  slots = record {
-    inside = λ cell slot taken. absurd (none_taken layout cell taken);
-    beyond = λ cell slot taken. absurd (none_taken layout cell taken);
-  };
-  pairs = record {
-    tables = λ table taken. absurd (none_taken layout table taken);
-    others = λ cell key taken. absurd (none_taken layout cell taken);
-  };
-  properties = λ cell place within alive. absurd (cc);
-  arrays = record {
-    named = λ array within is_named. (let alive = is_named.1 in absurd (cc));
-    unnamed = λ array within not_named. free_by_ones (array % 64) spent (omega arith);
-  };
-  beyond = record {
-    active = λ who past. refl;
-    registers = λ who register past. refl;
-    claims = λ who past. refl;
+  parts = record {
+    cells = λ cell within. CellReads-empty layout shapes cell;
+    arrays = record {
+      named = λ array within is_named. (let alive = is_named.1 in absurd (cc));
+      unnamed = λ array within not_named. free_by_ones (array % 64) spent (omega arith);
+    };
+    claims = record {
+      named = λ cell who within. ((λ is. absurd (omega (arith, is))), (λ at. absurd (nothing_in cell at)));
+      unnamed = λ cell within alone. refl;
+    };
+    apart = λ block bit within few is_free. bit_at-zero bit;
+    past_cells = λ cell past. refl;
+    past_arrays = λ array past. refl;
+    past_claims = λ who past. refl;
     claimed = λ who cell at. absurd (nothing_in cell at);
-    strong = λ handle past. refl;
-    weak = λ handle past. refl;
-    cells = λ cell past. refl;
-    arrays = λ array past. refl;
   };
 }
 

@@ -1,21 +1,22 @@
 -- Which words of a cell a write leaves.
 use Rattle.std.proofs.Common.{ℕ, ◌≡◌, ◌≢◌, ◌%◌, ◌<◌, refl, ◌∙◌, ap, subst, arith, Bool, true, false, Some, length}
-use Rattle.std.proofs.lemmas.Bool.{ne_eqb}
+use Rattle.std.proofs.lemmas.Bool.{or_left, or_right}
+use Rattle.std.specs.Prelude.{◌||◌}
 use Rattle.tide_model.specs.Layout.{Layout, block_of_cell}
 use Rattle.tide_model.specs.Refused.{ShapeLists}
 use Rattle.tide_model.specs.State.{CellState, State, live}
-use Rattle.tide_words.specs.declared.region.Region.{Region}
-use Rattle.tide_words.specs.declared.region.Region.TheVariants.{Period, Phase, Active, Call, Stopped, Registers, Strong, Weak, Colour, Structure, Array, Claim, Group, Slots, Elements, Free, Dead, GreyShared, GreyMutator, GreyRace, Swept}
+use Rattle.tide_layout.specs.declared.region.Region.{Region}
+use Rattle.tide_layout.specs.declared.region.Region.TheVariants.{Period, Phase, Active, Call, Stopped, Registers, Strong, Weak, Colour, Structure, Array, Claim, Group, Slots, Elements, Free, Dead, GreyShared, GreyMutator, GreyRace, Swept}
 use Rattle.tide_words.specs.Heap.{Heap, SameIn, write}
-use Rattle.tide_words.specs.Reading.{cell_status, status_by}
-use Rattle.tide_words.specs.Region.{tag}
-use Rattle.tide_words.specs.Slots.{index_of_element, index_of_slot, width_of_array, width_of_cell}
+use Rattle.tide_words.specs.Reading.{PartsRead, ReadsAs, cell_status, status_by}
+use Rattle.tide_layout.specs.Region.{tag}
+use Rattle.tide_layout.specs.Slots.{index_of_element, index_of_slot, width_of_array, width_of_cell}
 use Rattle.tide_words.proofs.HeapLaws.{write-other_index}
-use Rattle.tide_words.proofs.Places.{tag-injective}
-use Rattle.tide_words.proofs.ReadingLaws.{SameIn-write}
-use Rattle.tide_words.proofs.SlotPlaces.{index_of_element-alone, index_of_element-below, index_of_slot-alone, index_of_slot-below}
+use Rattle.tide_layout.proofs.Places.{tag-injective}
+use Rattle.tide_words.proofs.ReadingLaws.{SameIn-write, tags-apart}
+use Rattle.tide_layout.proofs.SlotPlaces.{index_of_element-alone, index_of_element-below, index_of_slot-alone, index_of_slot-below}
 use Rattle.tide_words.proofs.CellReading.{SameCellWords}
-use Rattle.tide_words.proofs.Parts.{PartsRead, PartsRead-same, SameParts}
+use Rattle.tide_words.proofs.Parts.{PartsRead-same, RootsRead-same, SameParts, is_root_region}
 
 -- a region that tells cells, arrays or claims
 abbrev pub is_part_region : Region → Bool
@@ -44,9 +45,7 @@ is_part_region Swept = false
 -- a write to another region leaves a region of the parts
 pub SameIn-part : (layout : Layout) (heap : Heap) (region other : Region) (index word : ℕ) → is_part_region region ≡ false → is_part_region other ≡ true →
     SameIn layout other heap (write heap region index word)
-SameIn-part layout heap region other index word is_none is_one = SameIn-write layout heap region other index word (ne_eqb (tag other) (tag region) (λ is.
-    let also : is_part_region other ≡ is_part_region region = ap is_part_region (tag-injective other region is) in
-    absurd (cc)))
+SameIn-part layout heap region other index word is_none is_one = SameIn-write layout heap region other index word (tags-apart is_part_region region other is_none is_one)
 
 -- where these regions are the same, so are every cell's words
 pub SameParts-regions : (layout : Layout) (old new : Heap) → ((region : Region) → is_part_region region ≡ true → SameIn layout region old new) → SameParts layout old new
@@ -66,6 +65,25 @@ SameParts-regions layout old new same cell held within = record {
 pub PartsRead-regions : (layout : Layout) (shapes : ShapeLists) (old new : Heap) (state : State) → ((region : Region) → is_part_region region ≡ true → SameIn layout region old new) →
     PartsRead layout shapes old state → PartsRead layout shapes new state
 PartsRead-regions layout shapes old new state same parts = PartsRead-same layout shapes old new state (SameParts-regions layout old new same) (same Free refl) (same Dead refl) parts
+
+-- a region that a reading looks at
+abbrev pub is_read : Region → Bool
+is_read region = is_root_region region || is_part_region region
+
+-- a heap with the same words in each region that is read reads as the same state
+pub ReadsAs-same : (layout : Layout) (shapes : ShapeLists) (old new : Heap) (state : State) → ((region : Region) → is_read region ≡ true → SameIn layout region old new) →
+    ReadsAs layout shapes old state → ReadsAs layout shapes new state
+ReadsAs-same layout shapes old new state same reads = record {
+  roots = RootsRead-same layout old new state (λ region is. same region (or_left (is_root_region region) (is_part_region region) is)) reads.roots;
+  parts = PartsRead-regions layout shapes old new state (λ region is. same region (or_right (is_root_region region) (is_part_region region) is)) reads.parts;
+}
+
+-- a write to a region that isn't read leaves the reading
+pub ReadsAs-write_unread : (layout : Layout) (shapes : ShapeLists) (heap : Heap) (state : State) (region : Region) (index word : ℕ) → is_read region ≡ false →
+    ReadsAs layout shapes heap state → ReadsAs layout shapes (write heap region index word) state
+ReadsAs-write_unread layout shapes heap state region index word unread reads =
+    ReadsAs-same layout shapes heap (write heap region index word) state
+    (λ other read. SameIn-write layout heap region other index word (tags-apart is_read region other unread read)) reads
 
 -- the words of two steps
 pub SameCellWords-then : (layout : Layout) (one two three : Heap) (cell : ℕ) (held : CellState) → SameCellWords layout one two cell held → SameCellWords layout two three cell held →

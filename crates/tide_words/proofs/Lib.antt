@@ -1,6 +1,5 @@
 pub mod CellLaw
 pub mod CellReading
-pub mod ClassWidths
 pub mod ColourLaws
 pub mod ConstraintLaws
 pub mod EmptyReading
@@ -10,16 +9,12 @@ pub mod FormReading
 mod FormRows
 pub mod Frames
 pub mod HeapLaws
-pub mod LimitLaws
 pub mod LiveLaws
 pub mod MarkedLaws
 pub mod MarkingLaws
 pub mod Parts
-pub mod Places
 pub mod ReadGraph
 pub mod ReadingLaws
 pub mod ReadingRows
 pub mod RowLaws
 pub mod RuleLaws
-pub mod SlotPlaces
-pub mod StartLaws

@@ -1,30 +1,29 @@
 -- A heap of two cells, worked out by hand, and some that read as nothing.
 use Rattle.std.proofs.Common.{ℕ, zero, suc, ◌≡◌, ◌≢◌, ◌-◌, ◌/◌, ◌%◌, ◌^◌, ◌<◌, ◌≤◌, ◌==◌, refl, sym, ◌∙◌, ap, subst, arith, true, false, [], ◌∷◌, inl, inr, length, Contains, Some, None}
-use Rattle.std.proofs.lemmas.Nat.Bits.{bit_at-zero, bit_at_mask_inside}
+use Rattle.std.proofs.lemmas.Nat.Bits.{bit_at-zero, bit_at_mask_inside, bit_at_ones}
 use Rattle.std.specs.Int.{bit_at}
 use Rattle.std.specs.Prelude.{◌⊎◌, if◌then◌else◌}
 use Rattle.tide_model.specs.declared.val.Val.{Val}
 use Rattle.tide_model.specs.declared.val.Val.TheVariants.{Empty, Cell}
 use Rattle.tide_model.specs.Graph.{in_slot}
-use Rattle.tide_model.specs.Layout.{Layout, class_of, slots_of}
+use Rattle.tide_model.specs.Layout.{Layout}
 use Rattle.tide_model.specs.Numbers.{put_at}
 use Rattle.tide_model.specs.References.{IsLive, RefsAreLive}
-use Rattle.tide_model.specs.Refused.{no_shapes, is_table}
+use Rattle.tide_model.specs.Refused.{ShapeLists, no_shapes}
 use Rattle.tide_model.specs.State.{State, CellState, free, live, dead, is_free, idle, marking, blank_cell, empty_state}
 use Rattle.tide_model.proofs.ReferenceLaws.{put_at_elim}
-use Rattle.tide_words.specs.declared.region.Region.TheVariants.{Phase, Colour, Free, Dead, Registers, Structure, Claim, Group, Slots}
+use Rattle.tide_layout.specs.declared.region.Region.TheVariants.{Phase, Colour, Free, Dead, Registers, Structure, Claim, Group, Slots}
 use Rattle.tide_words.specs.EmptyHeap.{empty_heap}
 use Rattle.tide_words.specs.Heap.{Heap, write}
 use Rattle.tide_words.specs.Marking.{Marking}
-use Rattle.tide_words.specs.Reading.{ReadsAs, IsZeroed, IsValueOf, IsStructureOf, status_by, cell_status, slot_word}
-use Rattle.tide_words.specs.Reference.{array_word}
-use Rattle.tide_words.specs.Region.{index_of_register}
-use Rattle.tide_words.specs.Slots.{index_of_slot, width_of_cell}
+use Rattle.tide_words.specs.Reading.{CellReads, ReadsAs, IsValueOf, status_by, cell_status, slot_word}
+use Rattle.tide_layout.specs.Region.{block_count, index_of_register}
+use Rattle.tide_layout.specs.Slots.{index_of_slot, width_of_cell}
 use Rattle.tide_words.specs.ValueWord.{val_word}
 use Rattle.tide_words.proofs.FormLaws.{same_cell_from_val_word}
 use Rattle.tide_words.proofs.HeapLaws.{write-same, write-other_index}
 use Rattle.tide_words.proofs.MarkingLaws.{Marking-greyed}
-use Rattle.tide_words.proofs.SlotPlaces.{index_of_slot-alone}
+use Rattle.tide_layout.proofs.SlotPlaces.{index_of_slot-alone}
 
 -- one block of cells with two slots, and one mutator with one register
 abbrev pub small : Layout
@@ -73,14 +72,13 @@ each_register P here others who register =
 nothing_in : (cell : ℕ) → Contains {X = ℕ} [] cell → ⊥
 nothing_in cell at = let below = at.1 in omega (arith, below)
 
--- which cells are free
-status : (cell : ℕ) → cell < 64 → (two_cells.cells cell).status ≡ cell_status worked cell
-status = each_cell (λ cell held. cell < 64 → held.status ≡ cell_status worked cell) (λ within. refl) (λ within. refl)
-    (λ cell not_zero not_one within.
+-- each cell but the first two is free by its bit
+free_by_bit : (cell : ℕ) → cell ≢ 0 → cell ≢ 1 → cell < 64 → free ≡ cell_status worked cell
+free_by_bit cell not_zero not_one within =
     let block : cell / 64 ≡ 0 = omega (arith, within) in
     sym (ap (λ (block : ℕ). status_by (worked Free block) (worked Dead block) (cell % 64) live) block
     ∙ ap (λ (bit : ℕ). if bit == 1 then free else (if bit_at 0 (cell % 64) == 1 then dead else live))
-    (bit_at_mask_inside 2 64 (cell % 64) (omega (arith, not_zero, not_one, within)) (omega arith))))
+    (bit_at_mask_inside 2 64 (cell % 64) (omega (arith, not_zero, not_one, within)) (omega arith)))
 
 -- another slot than the first of cell 0
 other_slot : (cell slot : ℕ) → slot < width_of_cell small cell → (cell ≢ 0) ⊎ (slot ≢ 0) → slot_word small worked cell slot ≡ 0
@@ -102,126 +100,139 @@ slots_of_first (suc (suc slot)) below = absurd (omega (arith, below))
 slots_past_first : (slot : ℕ) → 2 ≤ slot → first_cell.slots slot ≡ Empty
 slots_past_first = put_at_elim (λ slot value. 2 ≤ slot → value ≡ Empty) (λ slot. Empty) 0 (Cell 1) (λ past. absurd (omega (arith, past))) (λ slot other past. refl)
 
+-- what the words say of the first cell
+first_reads : CellReads small no_shapes worked 0 first_cell
+first_reads = record {
+  status = refl;
+  zeroed = λ is_free. absurd (cc);
+  taken = λ not_free. record {
+    keys = record { shape = 0; is_shape = refl; few_shapes = omega arith; few_keys = omega arith; is_word = refl };
+    array = refl;
+    group = refl;
+    group_number = omega arith;
+    slots = λ slot below. slots_of_first slot (omega (arith, below));
+    past_slots = λ slot past. slots_past_first slot (omega (arith, past));
+    table = λ is_one. absurd (cc);
+    no_table = λ isnt key. refl;
+  };
+  properties = λ alive place below. absurd (omega (arith, below));
+}
+
+-- of the second, which has nothing
+second_reads : CellReads small no_shapes worked 1 (blank_cell live)
+second_reads = record {
+  status = refl;
+  zeroed = λ is_free. absurd (cc);
+  taken = λ not_free. record {
+    keys = record { shape = 0; is_shape = refl; few_shapes = omega arith; few_keys = omega arith; is_word = refl };
+    array = refl;
+    group = refl;
+    group_number = omega arith;
+    slots = λ slot below. record { number = tt; is_word = sym (other_slot 1 slot (omega (arith, below)) (inl (λ same. omega (arith, same)))) };
+    past_slots = λ slot past. refl;
+    table = λ is_one. absurd (cc);
+    no_table = λ isnt key. refl;
+  };
+  properties = λ alive place below. absurd (omega (arith, below));
+}
+
+-- and of all others, which are free
+free_reads : (cell : ℕ) → cell ≢ 0 → cell ≢ 1 → cell < 64 → CellReads small no_shapes worked cell (blank_cell free)
+free_reads cell not_zero not_one within = record {
+  status = free_by_bit cell not_zero not_one within;
+  zeroed = λ is_free. record { structure = refl; array = refl; claim = refl; group = refl; slots = λ slot has. other_slot cell slot has.slot_within (inl not_zero) };
+  taken = λ not_free. absurd (cc);
+  properties = λ alive. absurd (cc);
+}
+
 -- the words read as the state
 reads : ReadsAs small no_shapes worked two_cells
 reads = record {
-  phase = refl;
-  active = λ who within. refl;
-  registers = each_register (λ who register value. who < 1 → register < 1 → IsValueOf value (worked Registers (index_of_register small who register)))
-      (λ in_mutators in_registers. record { number = omega arith; is_word = refl })
-      (λ who register apart in_mutators in_registers. absurd (elim apart [ inl other ↦ other (omega (arith, in_mutators)) | inr other ↦ other (omega (arith, in_registers)) ]));
-  strong = λ handle within. absurd (omega (arith, within));
-  weak = λ handle within. absurd (omega (arith, within));
-  claims = record {
-    named = λ cell who within. ((λ is. absurd (omega (arith, is))), (λ at. absurd (nothing_in cell at)));
-    unnamed = λ cell within alone. refl;
-  };
-  status = status;
-  apart = λ block bit within few is_free. bit_at-zero bit;
-  free_cells = each_cell (λ cell held. cell < 64 → held.status ≡ free → IsZeroed small worked cell)
-      (λ within is_free. absurd (cc)) (λ within is_free. absurd (cc))
-      (λ cell not_zero not_one within is_free.
-      record { structure = refl; array = refl; claim = refl; group = refl; slots = λ slot has. other_slot cell slot has.slot_within (inl not_zero) });
-  keys = λ cell taken. keys cell taken.not_free;
-  array_of = λ cell taken. array_of cell taken.not_free;
-  groups = λ cell taken. groups cell taken.not_free;
-  slots = record {
-    inside = λ cell slot taken below. inside cell slot taken.not_free below;
-    beyond = λ cell slot taken past. beyond cell slot taken.not_free past;
-  };
-  pairs = record {
-    tables = λ table taken is_one. absurd (no_table table taken.not_free is_one);
-    others = λ cell key taken not_one. no_pairs cell key taken.not_free;
-  };
-  properties = λ cell place within alive below. absurd (no_property cell place below);
-  arrays = record {
-    named = λ array within. absurd (omega (arith, within));
-    unnamed = λ array within. absurd (omega (arith, within));
-  };
-  beyond = record {
-    active = λ who past. refl;
-    registers = each_register (λ who register value. (1 ≤ who) ⊎ (1 ≤ register) → value ≡ Empty)
+  roots = record {
+    phase = refl;
+    active = λ who within. refl;
+    registers = each_register (λ who register value. who < 1 → register < 1 → IsValueOf value (worked Registers (index_of_register small who register)))
+        (λ in_mutators in_registers. record { number = omega arith; is_word = refl })
+        (λ who register apart in_mutators in_registers. absurd (elim apart [ inl other ↦ other (omega (arith, in_mutators)) | inr other ↦ other (omega (arith, in_registers)) ]));
+    strong = λ handle within. absurd (omega (arith, within));
+    weak = λ handle within. absurd (omega (arith, within));
+    past_active = λ who past. refl;
+    past_registers = each_register (λ who register value. (1 ≤ who) ⊎ (1 ≤ register) → value ≡ Empty)
         (λ past. absurd (elim past [ inl more ↦ omega (arith, more) | inr more ↦ omega (arith, more) ]))
         (λ who register apart past. refl);
-    claims = λ who past. refl;
-    claimed = λ who cell at. absurd (nothing_in cell at);
-    strong = λ handle past. refl;
-    weak = λ handle past. refl;
-    cells = each_cell (λ cell held. 64 ≤ cell → held ≡ blank_cell free) (λ past. absurd (omega (arith, past))) (λ past. absurd (omega (arith, past)))
+    past_strong = λ handle past. refl;
+    past_weak = λ handle past. refl;
+  };
+  parts = record {
+    cells = each_cell (λ cell held. cell < 64 → CellReads small no_shapes worked cell held) (λ within. first_reads) (λ within. second_reads) free_reads;
+    arrays = record {
+      named = λ array within. absurd (omega (arith, within));
+      unnamed = λ array within. absurd (omega (arith, within));
+    };
+    claims = record {
+      named = λ cell who within. ((λ is. absurd (omega (arith, is))), (λ at. absurd (nothing_in cell at)));
+      unnamed = λ cell within alone. refl;
+    };
+    apart = λ block bit within few is_free. bit_at-zero bit;
+    past_cells = each_cell (λ cell held. 64 ≤ cell → held ≡ blank_cell free) (λ past. absurd (omega (arith, past))) (λ past. absurd (omega (arith, past)))
         (λ cell not_zero not_one past. refl);
-    arrays = λ array past. refl;
+    past_arrays = λ array past. refl;
+    past_claims = λ who past. refl;
+    claimed = λ who cell at. absurd (nothing_in cell at);
   };
 }
-  where
-    keys : (cell : ℕ) → is_free (two_cells.cells cell).status ≡ false → IsStructureOf no_shapes (two_cells.cells cell).keys (worked Structure cell)
-    keys = each_cell (λ cell held. is_free held.status ≡ false → IsStructureOf no_shapes held.keys (worked Structure cell))
-        (λ taken. record { shape = 0; is_shape = refl; few_shapes = omega arith; few_keys = omega arith; is_word = refl })
-        (λ taken. record { shape = 0; is_shape = refl; few_shapes = omega arith; few_keys = omega arith; is_word = refl })
-        (λ cell not_zero not_one taken. absurd (cc))
-
-    array_of : (cell : ℕ) → is_free (two_cells.cells cell).status ≡ false → 0 ≡ array_word (two_cells.cells cell).array
-    array_of = each_cell (λ cell held. is_free held.status ≡ false → 0 ≡ array_word held.array) (λ taken. refl) (λ taken. refl)
-        (λ cell not_zero not_one taken. refl)
-
-    groups : (cell : ℕ) → is_free (two_cells.cells cell).status ≡ false → 0 ≡ (two_cells.cells cell).group
-    groups = each_cell (λ cell held. is_free held.status ≡ false → 0 ≡ held.group) (λ taken. refl) (λ taken. refl)
-        (λ cell not_zero not_one taken. refl)
-
-    inside : (cell slot : ℕ) → is_free (two_cells.cells cell).status ≡ false → slot < slots_of (class_of small cell) →
-        IsValueOf ((two_cells.cells cell).slots slot) (slot_word small worked cell slot)
-    inside = each_cell (λ cell held. (slot : ℕ) → is_free held.status ≡ false → slot < slots_of (class_of small cell) → IsValueOf (held.slots slot) (slot_word small worked cell slot))
-        (λ slot taken below. slots_of_first slot (omega (arith, below)))
-        (λ slot taken below. record { number = tt; is_word = sym (other_slot 1 slot (omega (arith, below)) (inl (λ same. omega (arith, same)))) })
-        (λ cell not_zero not_one slot taken. absurd (cc))
-
-    beyond : (cell slot : ℕ) → is_free (two_cells.cells cell).status ≡ false → slots_of (class_of small cell) ≤ slot → (two_cells.cells cell).slots slot ≡ Empty
-    beyond = each_cell (λ cell held. (slot : ℕ) → is_free held.status ≡ false → slots_of (class_of small cell) ≤ slot → held.slots slot ≡ Empty)
-        (λ slot taken past. slots_past_first slot (omega (arith, past)))
-        (λ slot taken past. refl)
-        (λ cell not_zero not_one slot taken past. refl)
-
-    no_table : (cell : ℕ) → is_free (two_cells.cells cell).status ≡ false → is_table small cell ≡ true → ⊥
-    no_table = each_cell (λ cell held. is_free held.status ≡ false → is_table small cell ≡ true → ⊥)
-        (λ taken is_one. absurd (cc)) (λ taken is_one. absurd (cc)) (λ cell not_zero not_one taken. absurd (cc))
-
-    no_pairs : (cell key : ℕ) → is_free (two_cells.cells cell).status ≡ false → (two_cells.cells cell).pairs key ≡ None
-    no_pairs = each_cell (λ cell held. (key : ℕ) → is_free held.status ≡ false → held.pairs key ≡ None)
-        (λ key taken. refl) (λ key taken. refl) (λ cell not_zero not_one key taken. refl)
-
-    no_property : (cell place : ℕ) → place < length (two_cells.cells cell).keys → ⊥
-    no_property = each_cell (λ cell held. (place : ℕ) → place < length held.keys → ⊥)
-        (λ place below. omega (arith, below)) (λ place below. omega (arith, below)) (λ cell not_zero not_one place below. omega (arith, below))
 
 -- with the free bit of cell 1 set, they don't
 free_bit_set : ReadsAs small no_shapes (write worked Free 0 (2 ^ 64 - 2)) two_cells → ⊥
-free_bit_set reads = let is_live : live ≡ free = reads.status 1 (omega arith) in absurd (cc)
+free_bit_set reads = let is_live : live ≡ free = (reads.parts.cells 1 (omega arith)).status in absurd (cc)
 
 -- nor with its dead bit set
 dead_bit_set : ReadsAs small no_shapes (write worked Dead 0 2) two_cells → ⊥
-dead_bit_set reads = let is_live : live ≡ dead = reads.status 1 (omega arith) in absurd (cc)
+dead_bit_set reads = let is_live : live ≡ dead = (reads.parts.cells 1 (omega arith)).status in absurd (cc)
 
 -- nor with a word in the register that is no value's
 word_of_no_value : ReadsAs small no_shapes (write worked Registers 0 3) two_cells → ⊥
-word_of_no_value reads = let word : 2 ≡ 3 = (reads.registers 0 0 (omega arith) (omega arith)).is_word in omega (arith, word)
+word_of_no_value reads = let word : 2 ≡ 3 = (reads.roots.registers 0 0 (omega arith) (omega arith)).is_word in omega (arith, word)
 
 -- nor where cell 1 is in the middle of a transition
 transition_under_way : ReadsAs small no_shapes (write worked Structure 1 1) two_cells → ⊥
 transition_under_way reads =
-    let structure = reads.keys 1 (record { within = omega arith; not_free = refl }) in
+    let structure = ((reads.parts.cells 1 (omega arith)).taken refl).keys in
     let word = structure.is_word in
     omega (arith, word)
 
 -- nor with a claim that no mutator has
 claim_of_none : ReadsAs small no_shapes (write worked Claim 0 1) two_cells → ⊥
-claim_of_none reads = nothing_in 0 ((reads.claims.named 0 0 (omega arith)).0 refl)
+claim_of_none reads = nothing_in 0 ((reads.parts.claims.named 0 0 (omega arith)).0 refl)
 
 -- nor where the cycle is over
 cycle_over : ReadsAs small no_shapes (write worked Phase 0 4) two_cells → ⊥
-cycle_over reads = let phase : idle ≡ marking 2 = reads.phase in absurd (cc)
+cycle_over reads = let phase : idle ≡ marking 2 = reads.roots.phase in absurd (cc)
 
 -- nor with a word in a free cell
 free_cell_in_a_group : ReadsAs small no_shapes (write worked Group 5 1) two_cells → ⊥
-free_cell_in_a_group reads = let group : 1 ≡ 0 = (reads.free_cells 5 (omega arith) refl).group in omega (arith, group)
+free_cell_in_a_group reads = let group : 1 ≡ 0 = ((reads.parts.cells 5 (omega arith)).zeroed refl).group in omega (arith, group)
+
+-- nor do words with a group that has no u32, as any state
+group_of_no_number : (state : State) → ReadsAs small no_shapes (write worked Group 0 (2 ^ 32)) state → ⊥
+group_of_no_number state reads =
+    let cell = reads.parts.cells 0 (omega arith) in
+    let taken = cell.taken (ap is_free cell.status) in
+    let group = taken.group in
+    let number = taken.group_number in
+    omega (arith, group, number)
+
+-- nor do words where a block's cells are free and dead at once, as any state: a free bit that is taken would give a dead cell
+free_and_dead : (layout : Layout) (shapes : ShapeLists) (state : State) → 0 < block_count layout →
+    ReadsAs layout shapes (write empty_heap Dead 0 (2 ^ 64 - 1)) state → ⊥
+free_and_dead layout shapes state some reads =
+    let apart : bit_at (2 ^ 64 - 1) 0 ≡ 0 = reads.parts.apart 0 0 some (omega arith) (bit_at_ones 64 0 (omega arith)) in
+    let one = bit_at_ones 64 0 (omega arith) in
+    omega (arith, apart, one)
+
+-- such a bit that is taken does give one
+taken_is_dead : cell_status (write (write empty_heap Dead 0 (2 ^ 64 - 1)) Free 0 (2 ^ 64 - 2)) 0 ≡ dead
+taken_is_dead = refl
 
 -- each reference of these cells is to one of them
 references : RefsAreLive two_cells

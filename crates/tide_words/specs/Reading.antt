@@ -1,19 +1,18 @@
 -- What the words of a heap say of a store.
-use Rattle.std.specs.Prelude.{ℕ, ◌≡◌, ◌↔◌, ◌⊎◌, ◌%◌, ◌^◌, ◌<◌, ◌≤◌, ◌==◌, true, false, List, [], length, slice_get, Contains, Option, Some, None, if◌then◌else◌}
+use Rattle.std.specs.Prelude.{ℕ, ◌≡◌, ◌↔◌, ◌⊎◌, ◌%◌, ◌^◌, ◌<◌, ◌≤◌, ◌==◌, Bool, true, false, List, [], length, slice_get, Contains, Option, Some, None, if◌then◌else◌}
 use Rattle.std.specs.Int.{bit_at}
 use Rattle.tide_model.specs.declared.val.Val.{Val}
 use Rattle.tide_model.specs.declared.val.Val.TheVariants.{Empty}
 use Rattle.tide_model.specs.Layout.{Layout, cell_count, array_count, block_of_cell, block_of_array, class_of, slots_of}
-use Rattle.tide_model.specs.References.{IsLive}
 use Rattle.tide_model.specs.Refused.{ShapeLists, is_table}
-use Rattle.tide_model.specs.State.{CellState, State, Status, free, live, dead, spent, is_free, blank_cell}
-use Rattle.tide_words.specs.declared.region.Region.TheVariants.{Phase, Active, Registers, Strong, Weak, Structure, Array, Claim, Group, Slots, Elements, Free, Dead}
+use Rattle.tide_model.specs.State.{CellState, Phase as CyclePhase, State, Status, free, live, dead, spent, is_free, blank_cell}
+use Rattle.tide_layout.specs.declared.region.Region.TheVariants.{Phase, Active, Registers, Strong, Weak, Structure, Array, Claim, Group, Slots, Elements, Free, Dead}
 use Rattle.tide_words.specs.ColourWord.{phase_of}
 use Rattle.tide_words.specs.Heap.{Heap}
 use Rattle.tide_words.specs.PairWord.{pair_word, max_cells, IsPairWord}
 use Rattle.tide_words.specs.Reference.{array_word, claim_word}
-use Rattle.tide_words.specs.Region.{block_count, index_of_register}
-use Rattle.tide_words.specs.Slots.{index_of_slot, index_of_element, HasSlot, HasElement}
+use Rattle.tide_layout.specs.Region.{block_count, index_of_register}
+use Rattle.tide_layout.specs.Slots.{index_of_slot, index_of_element, HasSlot, HasElement}
 use Rattle.tide_words.specs.StructureWord.{structure_word}
 use Rattle.tide_words.specs.ValueWord.{val_word, HasU32}
 
@@ -58,55 +57,9 @@ slot_word layout heap cell slot = heap Slots (index_of_slot layout cell slot)
 abbrev pub element_word : Layout → Heap → ℕ → ℕ → ℕ
 element_word layout heap array element = heap Elements (index_of_element layout array element)
 
--- the cell is of the layout and is live or dead
-pub record IsTakenAmong (layout : Layout) (cells : ℕ → CellState) (cell : ℕ) : Type 0 where
-  pub within : cell < cell_count layout
-  pub not_free : is_free (cells cell).status ≡ false
-
--- the same in a state
-abbrev pub IsTaken : Layout → State → ℕ → Type 0
-IsTaken layout state cell = IsTakenAmong layout state.cells cell
-
 -- some live cell has the array
 abbrev pub IsNamedAmong : (ℕ → CellState) → ℕ → Type 0
 IsNamedAmong cells array = (cell : ℕ) × ((cells cell).status ≡ live) × ((cells cell).array ≡ Some array)
-
--- the same in a state
-abbrev pub IsNamed : State → ℕ → Type 0
-IsNamed state array = IsNamedAmong state.cells array
-
--- which mutators are active
-abbrev pub ActiveRead : Layout → Heap → State → Type 0
-ActiveRead layout heap state = (who : ℕ) → who < layout.mutators → heap Active who ≡ (if state.active who then 1 else 0)
-
--- what the registers hold
-abbrev pub RegistersRead : Layout → Heap → State → Type 0
-RegistersRead layout heap state = (who register : ℕ) → who < layout.mutators → register < layout.registers →
-    IsValueOf (state.registers who register) (heap Registers (index_of_register layout who register))
-
--- what the strong handles hold
-abbrev pub StrongRead : Layout → Heap → State → Type 0
-StrongRead layout heap state = (handle : ℕ) → handle < layout.strong → IsValueOf (state.strong handle) (heap Strong handle)
-
--- what the weak handles hold
-abbrev pub WeakRead : Layout → Heap → State → Type 0
-WeakRead layout heap state = (handle : ℕ) → handle < layout.weak → IsValueOf (state.weak handle) (heap Weak handle)
-
--- whose claim a cell is, if it is one's: a mutator's claims are these cells, in an order that no word tells
-pub record AreClaimsRead (layout : Layout) (heap : Heap) (claims : ℕ → List ℕ) : Type 0 where
-  pub named : (cell who : ℕ) → cell < cell_count layout → (heap Claim cell ≡ claim_word (Some who)) ↔ Contains (claims who) cell
-  pub unnamed : (cell : ℕ) → cell < cell_count layout → ((who : ℕ) → Contains (claims who) cell → ⊥) → heap Claim cell ≡ claim_word None
-
-abbrev pub ClaimsRead : Layout → Heap → State → Type 0
-ClaimsRead layout heap state = AreClaimsRead layout heap state.claims
-
--- which cells are free, live and dead
-abbrev pub StatusRead : Layout → Heap → State → Type 0
-StatusRead layout heap state = (cell : ℕ) → cell < cell_count layout → (state.cells cell).status ≡ cell_status heap cell
-
--- no cell or array is both free and dead by its two bits
-abbrev pub BitsAreApart : Layout → Heap → Type 0
-BitsAreApart layout heap = (block bit : ℕ) → block < block_count layout → bit < 64 → bit_at (heap Free block) bit ≡ 1 → bit_at (heap Dead block) bit ≡ 0
 
 -- all words of a free cell are 0, its colour's apart
 pub record IsZeroed (layout : Layout) (heap : Heap) (cell : ℕ) : Type 0 where
@@ -116,31 +69,6 @@ pub record IsZeroed (layout : Layout) (heap : Heap) (cell : ℕ) : Type 0 where
   pub group : heap Group cell ≡ 0
   pub slots : (slot : ℕ) → HasSlot layout cell slot → slot_word layout heap cell slot ≡ 0
 
--- the words of each free cell
-abbrev pub FreeRead : Layout → Heap → State → Type 0
-FreeRead layout heap state = (cell : ℕ) → cell < cell_count layout → (state.cells cell).status ≡ free → IsZeroed layout heap cell
-
--- which keys a cell has, in their order
-abbrev pub KeysRead : Layout → ShapeLists → Heap → State → Type 0
-KeysRead layout shapes heap state = (cell : ℕ) → IsTaken layout state cell → IsStructureOf shapes (state.cells cell).keys (heap Structure cell)
-
--- which array a cell has, if one
-abbrev pub ArrayOfRead : Layout → Heap → State → Type 0
-ArrayOfRead layout heap state = (cell : ℕ) → IsTaken layout state cell → heap Array cell ≡ array_word (state.cells cell).array
-
--- which group a cell is in
-abbrev pub GroupRead : Layout → Heap → State → Type 0
-GroupRead layout heap state = (cell : ℕ) → IsTaken layout state cell → heap Group cell ≡ (state.cells cell).group
-
--- what a cell's slots hold; those that its class lacks are empty, and so are all of a table
-pub record AreSlotsRead (layout : Layout) (heap : Heap) (cells : ℕ → CellState) : Type 0 where
-  pub inside : (cell slot : ℕ) → IsTakenAmong layout cells cell → slot < slots_of (class_of layout cell) →
-      IsValueOf ((cells cell).slots slot) (slot_word layout heap cell slot)
-  pub beyond : (cell slot : ℕ) → IsTakenAmong layout cells cell → slots_of (class_of layout cell) ≤ slot → (cells cell).slots slot ≡ Empty
-
-abbrev pub SlotsRead : Layout → Heap → State → Type 0
-SlotsRead layout heap state = AreSlotsRead layout heap state.cells
-
 -- a table has these pairs: just those that its words say, none twice
 pub record IsTableOf (layout : Layout) (heap : Heap) (table : ℕ) (pairs : ℕ → Option Val) : Type 0 where
   pub forms : (place : ℕ) → HasSlot layout table place → (slot_word layout heap table place ≡ 0) ⊎ IsPairWord (slot_word layout heap table place)
@@ -149,58 +77,81 @@ pub record IsTableOf (layout : Layout) (heap : Heap) (table : ℕ) (pairs : ℕ 
   pub once : (one other key : ℕ) (value another : Val) → HasSlot layout table one → HasSlot layout table other →
       IsPairOf key value (slot_word layout heap table one) → IsPairOf key another (slot_word layout heap table other) → one ≡ other
 
--- which pairs a table has; other cells have none
-pub record ArePairsRead (layout : Layout) (heap : Heap) (cells : ℕ → CellState) : Type 0 where
-  pub tables : (table : ℕ) → IsTakenAmong layout cells table → is_table layout table ≡ true → IsTableOf layout heap table (cells table).pairs
-  pub others : (cell key : ℕ) → IsTakenAmong layout cells cell → is_table layout cell ≡ false → (cells cell).pairs key ≡ None
+-- what the words say of a cell that isn't free: its keys, its array, its group, its slots and pairs; slots that its class
+-- lacks are empty, a table has none, and other cells have no pairs
+pub record TakenReads (layout : Layout) (shapes : ShapeLists) (heap : Heap) (cell : ℕ) (held : CellState) : Type 0 where
+  pub keys : IsStructureOf shapes held.keys (heap Structure cell)
+  pub array : heap Array cell ≡ array_word held.array
+  pub group : heap Group cell ≡ held.group
+  pub group_number : held.group < 2 ^ 32
+  pub slots : (slot : ℕ) → slot < slots_of (class_of layout cell) → IsValueOf (held.slots slot) (slot_word layout heap cell slot)
+  pub past_slots : (slot : ℕ) → slots_of (class_of layout cell) ≤ slot → held.slots slot ≡ Empty
+  pub table : is_table layout cell ≡ true → IsTableOf layout heap cell held.pairs
+  pub no_table : is_table layout cell ≡ false → (key : ℕ) → held.pairs key ≡ None
 
-abbrev pub PairsRead : Layout → Heap → State → Type 0
-PairsRead layout heap state = ArePairsRead layout heap state.cells
+-- the property at a place of a cell's keys stands in that element of its array
+abbrev pub PropertyReads : Layout → Heap → CellState → ℕ → Type 0
+PropertyReads layout heap held place = (array : ℕ) × (held.array ≡ Some array) × HasElement layout array place
+    × IsValueOf (held.properties place) (element_word layout heap array place)
 
--- each property of a live cell stands in an element of its array, at the place of its key; those of a dead cell aren't
--- read, since its array may be swept before it
-abbrev pub PropertiesRead : Layout → Heap → State → Type 0
-PropertiesRead layout heap state = (cell place : ℕ) → cell < cell_count layout → IsLive state cell → place < length (state.cells cell).keys →
-    (array : ℕ) × ((state.cells cell).array ≡ Some array) × HasElement layout array place
-    × IsValueOf ((state.cells cell).properties place) (element_word layout heap array place)
+-- what the words say of a cell: all words of a free one are 0, and of a dead one the properties aren't read, since its
+-- array may be swept before it
+pub record CellReads (layout : Layout) (shapes : ShapeLists) (heap : Heap) (cell : ℕ) (held : CellState) : Type 0 where
+  pub status : held.status ≡ cell_status heap cell
+  pub zeroed : held.status ≡ free → IsZeroed layout heap cell
+  pub taken : is_free held.status ≡ false → TakenReads layout shapes heap cell held
+  pub properties : held.status ≡ live → (place : ℕ) → place < length held.keys → PropertyReads layout heap held place
 
 -- which arrays are free, live, spent and dead: no word tells the live ones from the spent ones but those of the cells
 pub record AreArraysRead (layout : Layout) (heap : Heap) (cells : ℕ → CellState) (arrays : ℕ → Status) : Type 0 where
   pub named : (array : ℕ) → array < array_count layout → IsNamedAmong cells array → arrays array ≡ array_status layout heap array live
   pub unnamed : (array : ℕ) → array < array_count layout → (IsNamedAmong cells array → ⊥) → arrays array ≡ array_status layout heap array spent
 
-abbrev pub ArraysRead : Layout → Heap → State → Type 0
-ArraysRead layout heap state = AreArraysRead layout heap state.cells state.arrays
+-- whose claim a cell is, if it is one's: a mutator's claims are these cells, in an order that no word tells
+pub record AreClaimsRead (layout : Layout) (heap : Heap) (claims : ℕ → List ℕ) : Type 0 where
+  pub named : (cell who : ℕ) → cell < cell_count layout → (heap Claim cell ≡ claim_word (Some who)) ↔ Contains (claims who) cell
+  pub unnamed : (cell : ℕ) → cell < cell_count layout → ((who : ℕ) → Contains (claims who) cell → ⊥) → heap Claim cell ≡ claim_word None
 
--- what lies outside of the layout is as in the empty state
-pub record IsEmptyBeyond (layout : Layout) (state : State) : Type 0 where
-  pub active : (who : ℕ) → layout.mutators ≤ who → state.active who ≡ true
-  pub registers : (who register : ℕ) → (layout.mutators ≤ who) ⊎ (layout.registers ≤ register) → state.registers who register ≡ Empty
-  pub claims : (who : ℕ) → layout.mutators ≤ who → state.claims who ≡ []
-  pub claimed : (who cell : ℕ) → Contains (state.claims who) cell → cell < cell_count layout
-  pub strong : (handle : ℕ) → layout.strong ≤ handle → state.strong handle ≡ Empty
-  pub weak : (handle : ℕ) → layout.weak ≤ handle → state.weak handle ≡ Empty
-  pub cells : (cell : ℕ) → cell_count layout ≤ cell → state.cells cell ≡ blank_cell free
-  pub arrays : (array : ℕ) → array_count layout ≤ array → state.arrays array ≡ free
+-- no cell or array is both free and dead by its two bits
+abbrev pub BitsAreApart : Layout → Heap → Type 0
+BitsAreApart layout heap = (block bit : ℕ) → block < block_count layout → bit < 64 → bit_at (heap Free block) bit ≡ 1 → bit_at (heap Dead block) bit ≡ 0
+
+-- what the words say of the phase, of who is active, and of registers and handles; beyond the layout all is as in the
+-- empty state
+pub record AreRootsRead (layout : Layout) (heap : Heap) (active_of : ℕ → Bool) (registers_of : ℕ → ℕ → Val) (strong_of weak_of : ℕ → Val) (phase_is : CyclePhase) : Type 0 where
+  pub phase : phase_of (heap Phase 0) ≡ phase_is
+  pub active : (who : ℕ) → who < layout.mutators → heap Active who ≡ (if active_of who then 1 else 0)
+  pub registers : (who register : ℕ) → who < layout.mutators → register < layout.registers →
+      IsValueOf (registers_of who register) (heap Registers (index_of_register layout who register))
+  pub strong : (handle : ℕ) → handle < layout.strong → IsValueOf (strong_of handle) (heap Strong handle)
+  pub weak : (handle : ℕ) → handle < layout.weak → IsValueOf (weak_of handle) (heap Weak handle)
+  pub past_active : (who : ℕ) → layout.mutators ≤ who → active_of who ≡ true
+  pub past_registers : (who register : ℕ) → (layout.mutators ≤ who) ⊎ (layout.registers ≤ register) → registers_of who register ≡ Empty
+  pub past_strong : (handle : ℕ) → layout.strong ≤ handle → strong_of handle ≡ Empty
+  pub past_weak : (handle : ℕ) → layout.weak ≤ handle → weak_of handle ≡ Empty
+
+-- what they say of a state's
+abbrev pub RootsRead : Layout → Heap → State → Type 0
+RootsRead layout heap state = AreRootsRead layout heap state.active state.registers state.strong state.weak state.phase
+
+-- what the words say of cells, arrays and claims; beyond the layout all is as in the empty state
+pub record ArePartsRead (layout : Layout) (shapes : ShapeLists) (heap : Heap) (cells_of : ℕ → CellState) (arrays_of : ℕ → Status) (claims_of : ℕ → List ℕ) : Type 0 where
+  pub cells : (cell : ℕ) → cell < cell_count layout → CellReads layout shapes heap cell (cells_of cell)
+  pub arrays : AreArraysRead layout heap cells_of arrays_of
+  pub claims : AreClaimsRead layout heap claims_of
+  pub apart : BitsAreApart layout heap
+  pub past_cells : (cell : ℕ) → cell_count layout ≤ cell → cells_of cell ≡ blank_cell free
+  pub past_arrays : (array : ℕ) → array_count layout ≤ array → arrays_of array ≡ free
+  pub past_claims : (who : ℕ) → layout.mutators ≤ who → claims_of who ≡ []
+  pub claimed : (who cell : ℕ) → Contains (claims_of who) cell → cell < cell_count layout
+
+-- what they say of a state's
+abbrev pub PartsRead : Layout → ShapeLists → Heap → State → Type 0
+PartsRead layout shapes heap state = ArePartsRead layout shapes heap state.cells state.arrays state.claims
 
 -- The words read as the state. They leave open only what no operation and no cycle looks at: what a free cell held, the
 -- properties of a dead cell, and those that have no key; and they leave open the order of each mutator's claims, and how
 -- often a cell stands among them.
 pub record ReadsAs (layout : Layout) (shapes : ShapeLists) (heap : Heap) (state : State) : Type 0 where
-  pub phase : phase_of (heap Phase 0) ≡ state.phase
-  pub active : ActiveRead layout heap state
-  pub registers : RegistersRead layout heap state
-  pub strong : StrongRead layout heap state
-  pub weak : WeakRead layout heap state
-  pub claims : ClaimsRead layout heap state
-  pub status : StatusRead layout heap state
-  pub apart : BitsAreApart layout heap
-  pub free_cells : FreeRead layout heap state
-  pub keys : KeysRead layout shapes heap state
-  pub array_of : ArrayOfRead layout heap state
-  pub groups : GroupRead layout heap state
-  pub slots : SlotsRead layout heap state
-  pub pairs : PairsRead layout heap state
-  pub properties : PropertiesRead layout heap state
-  pub arrays : ArraysRead layout heap state
-  pub beyond : IsEmptyBeyond layout state
+  pub roots : RootsRead layout heap state
+  pub parts : PartsRead layout shapes heap state

@@ -1,5 +1,5 @@
 ghost use Rattle.std.specs.Prelude.{◌≡◌, length, IfOk};
-ghost use Rattle.tide_words.specs.Region.{size_of, words_of};
+ghost use Rattle.tide_layout.specs.Region.{size_of, words_of};
 
 use crate::{Layout, Region, Words};
 use std::alloc::Global;

@@ -1,7 +1,7 @@
 use Rattle.std.proofs.Common.{◌≡◌, ℕ, ◌+◌, ◌/◌, ◌∙◌, ap, subst, arith, replicate}
 use Rattle.tide_words.specs.Filled.{IsFilledTo}
-use Rattle.tide_words.specs.Region.{words_of, block_count}
-use Rattle.tide_words.specs.declared.region.Region.TheVariants.{Active, Free}
+use Rattle.tide_layout.specs.Region.{words_of, block_count}
+use Rattle.tide_layout.specs.declared.region.Region.TheVariants.{Active, Free}
 use Rattle.tide_words.proofs.Filling.{Reads-empty}
 use Rattle.tide_words.proofs.vec_words.VecWords.new.Goals as goal
 

@@ -1,0 +1,13 @@
+//! The layout of a heap: how large it is, and where each of its words lies.
+//!
+//! A heap is one list of words, parted into the regions of `Region`. A `Layout` tells how large each region is and
+//! where each word lies: `place` for any region, `slot` for a cell and `element` for an array. No two words share a
+//! place. What a word says, and that there are words at all, this crate does not know. It stands on `tide_model`.
+#![tactic(auto)]
+
+mod layout;
+mod numbers;
+mod region;
+
+pub use layout::Layout;
+pub use region::Region;
