@@ -1,4 +1,3 @@
-pub mod Bits
 pub mod ColourWord
 pub mod Colours
 pub mod EmptyHeap

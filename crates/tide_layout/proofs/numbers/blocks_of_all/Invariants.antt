@@ -1,5 +1,5 @@
 use Rattle.std.proofs.Common.{◌≡◌, ◌*◌, ◌≤◌, sum, take}
-use Rattle.tide_layout.proofs.numbers.block_count.Given as goal
+use Rattle.tide_layout.proofs.numbers.blocks_of_all.Given as goal
 
 abbrev pub invariant-loop-of_class : goal.invariant-loop-of_class
 invariant-loop-of_class l = record {
