@@ -8,7 +8,6 @@
 
 mod bits;
 mod classes;
-mod sizes;
 #[cfg(test)]
 mod tests;
 
@@ -17,4 +16,4 @@ pub use classes::{
     bit_of, block_of_array, block_of_cell, class_of, class_of_array, first_array_of,
     first_block_of, first_of,
 };
-pub use sizes::{array_capacity, slots};
+pub use tide_layout::{array_capacity, slots};

@@ -1,3 +1,4 @@
+//! `Layout`: how large a heap is, and the place of each of its words. It knows no word.
 ghost use Rattle.std.specs.Prelude.{◌≡◌, ◌≤◌, ℕ, slice_index, sum, take};
 
 #[cfg(test)]
@@ -60,7 +61,7 @@ impl Layout {
     ghost use Rattle.std.specs.Prelude.{◌≡◌, ◌<◌, ◌≤◌, All, ℕ};
     ghost use Rattle.tide_model.specs.Layout.{array_count, blocks_of, cell_count};
     ghost use Rattle.tide_layout.specs.Limits.{IsWithinLimits};
-    ghost use Rattle.tide_layout.specs.Region.{place_of, place_of_element, place_of_slot, size_of, words_of};
+    ghost use Rattle.tide_layout.specs.Region.{block_count, place_of, place_of_element, place_of_slot, size_of, words_of};
     ghost use Rattle.tide_layout.specs.Slots.{index_of_element, index_of_slot, width_of_array, width_of_cell, HasElement, HasSlot};
     ghost use Rattle.tide_layout.specs.declared.region.Region.{Region};
 
@@ -124,6 +125,15 @@ impl Layout {
         ensures limits { IsWithinLimits self.now }
     {
         self.numbers.arrays()
+    }
+
+    /// How many blocks there are: those of cells, and then those of arrays.
+    pub fn block_count(&self) -> u32
+        ensures count { result ≡ block_count self.now }
+        ensures few { result ≤ 640 }
+        ensures limits { IsWithinLimits self.now }
+    {
+        self.numbers.block_count()
     }
 
     /// How many blocks a class has, the classes 0 to 4 being those of cells and 5 to 9 those of arrays.

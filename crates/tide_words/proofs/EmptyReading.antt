@@ -65,6 +65,7 @@ pub Marking-empty : (layout : Layout) (shapes : ShapeLists) → Marking layout s
 Marking-empty layout shapes = record {
   reads = ReadsAs-empty layout shapes;
   references = RefsAreLive-empty;
+  few_cycles = omega arith;
   colours = λ cell within. omega arith;
   held = record {
     each_once = λ marks. absurd (cc);

@@ -1,6 +1,6 @@
 -- No two values have one word, and each word reads as what it is the word of.
 use Rattle.std.proofs.Common.{◌≡◌, ◌≢◌, ℕ, zero, suc, sym, ◌∙◌, add-one, ◌+◌, ◌*◌, ◌/◌, ◌^◌, ◌<◌, ◌≤◌, refl, ap, arith, Bool, true, false, Option, Some, None}
-use Rattle.std.specs.Prelude.{IfSome, IfNone, if◌then◌else◌}
+use Rattle.std.specs.Prelude.{◌||◌, ◌==◌, IfSome, IfNone, if◌then◌else◌}
 use Rattle.std.proofs.lemmas.Bool.Decides.{nat_tests}
 use Rattle.tide_model.specs.declared.val.Val.{Val}
 use Rattle.tide_model.specs.declared.val.Val.TheVariants.{Empty, Int, Cell}
@@ -8,7 +8,7 @@ use Rattle.tide_model.specs.State.{idle, marking}
 use Rattle.tide_words.specs.declared.colours.Colour.{Colour}
 use Rattle.tide_words.specs.declared.colours.Colour.TheVariants.{Black, White, Grey}
 use Rattle.tide_words.specs.declared.structure.Structure.{Structure}
-use Rattle.tide_words.specs.ColourWord.{colour_word, colour_of, is_marked_in, phase_word, phase_of, cycle_of}
+use Rattle.tide_words.specs.ColourWord.{colour_state, colour_word, colour_of, is_marked_in, phase_word, phase_of, cycle_of}
 use Rattle.tide_words.specs.PairWord.{pair_word, max_cells, IsPairWord}
 use Rattle.tide_words.specs.Reference.{optional_word, optional_of}
 use Rattle.tide_words.specs.StructureWord.{structure_word, IsStructureWord}
@@ -117,15 +117,18 @@ colour_of-same cycle Grey = grind (arith, nat_tests)
 pub colour_of-older : (word cycle : ℕ) → word < 4 * cycle → colour_of word cycle ≡ White
 colour_of-older word cycle older = grind (arith, nat_tests)
 
--- a word of the running cycle is marked exactly where it reads as black or grey, and no other word is marked
+-- a colour is marked unless it is white
+marked_colour : (colour : Colour) → colour ≢ White → ((colour_state colour == 0) || (colour_state colour == 2)) ≡ true
+marked_colour Black coloured = refl
+marked_colour White coloured = absurd (coloured refl)
+marked_colour Grey coloured = refl
+
+-- a word is marked exactly where it reads as black or grey
 pub is_marked_in-white : (cycle word : ℕ) → colour_of word cycle ≡ White → is_marked_in cycle word ≡ false
-is_marked_in-white cycle word white = grind (arith, nat_tests)
+is_marked_in-white cycle word white = ap (λ (colour : Colour). (colour_state colour == 0) || (colour_state colour == 2)) white
 
-pub is_marked_in-coloured : (cycle word : ℕ) → word / 4 ≡ cycle → colour_of word cycle ≢ White → is_marked_in cycle word ≡ true
-is_marked_in-coloured cycle word same coloured = grind (arith, nat_tests)
-
-pub is_marked_in-other : (cycle word : ℕ) → word / 4 ≢ cycle → is_marked_in cycle word ≡ false
-is_marked_in-other cycle word other = grind (arith, nat_tests)
+pub is_marked_in-coloured : (cycle word : ℕ) → colour_of word cycle ≢ White → is_marked_in cycle word ≡ true
+is_marked_in-coloured cycle word coloured = marked_colour (colour_of word cycle) coloured
 
 -- the phase
 pub same_from_phase_word : (c d : ℕ) (a b : Bool) → phase_word c a ≡ phase_word d b → (c ≡ d) × (a ≡ b)

@@ -3,7 +3,9 @@ pub mod CellReading
 pub mod ColourLaws
 pub mod ConstraintLaws
 pub mod EmptyReading
+pub mod FieldLaws
 pub mod Filling
+pub mod NamedLaws
 pub mod FormLaws
 pub mod FormReading
 mod FormRows

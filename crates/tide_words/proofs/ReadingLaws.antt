@@ -1,5 +1,5 @@
 -- A heap's reading depends on the words of its own regions alone.
-use Rattle.std.proofs.Common.{ℕ, zero, suc, ◌≡◌, ◌%◌, ◌<◌, ◌≤◌, refl, sym, ◌∙◌, ap, arith, Bool, true, false, List, inl, inr, Option}
+use Rattle.std.proofs.Common.{ℕ, ◌≡◌, ◌%◌, ◌<◌, refl, sym, ◌∙◌, ap, arith, Bool, true, false, List, inl, inr, Option}
 use Rattle.std.proofs.lemmas.Bool.{ne_eqb}
 use Rattle.std.specs.Prelude.{◌⊎◌, ◌==◌}
 use Rattle.tide_model.specs.declared.val.Val.{Val}
@@ -14,7 +14,8 @@ use Rattle.tide_words.specs.PairWord.{IsPairWord}
 use Rattle.std.specs.Int.{bit_at}
 use Rattle.tide_words.specs.Reading.{AreArraysRead, AreClaimsRead, BitsAreApart, IsValueOf, IsPairOf, IsStructureOf, status_by, array_status}
 use Rattle.tide_layout.specs.Region.{tag, size_of, index_of_register}
-use Rattle.tide_layout.specs.Slots.{HasSlot, index_of_slot, index_of_element, width_of_class}
+use Rattle.tide_layout.specs.Slots.{HasSlot, index_of_slot, index_of_element}
+use Rattle.tide_layout.proofs.ClassWidths.{slots_of-width}
 use Rattle.tide_words.proofs.HeapLaws.{write-other_region}
 use Rattle.tide_layout.proofs.Places.{tag-injective}
 use Rattle.tide_layout.proofs.SlotPlaces.{index_of_register-below, index_of_slot-below, index_of_element-below}
@@ -71,15 +72,6 @@ pub status_by-same : (old_free new_free old_dead new_dead k : ℕ) (otherwise : 
     status_by new_free new_dead k otherwise ≡ status_by old_free old_dead k otherwise
 status_by-same old_free new_free old_dead new_dead k otherwise free_is dead_is =
     ap (λ (word : ℕ). status_by word new_dead k otherwise) free_is ∙ ap (λ (word : ℕ). status_by old_free word k otherwise) dead_is
-
--- a class has as many words for a cell as slots, or more
-slots_of-width : (class : ℕ) → slots_of class ≤ width_of_class class
-slots_of-width zero = omega arith
-slots_of-width (suc zero) = omega arith
-slots_of-width (suc (suc zero)) = omega arith
-slots_of-width (suc (suc (suc zero))) = omega arith
-slots_of-width (suc (suc (suc (suc zero)))) = omega arith
-slots_of-width (suc (suc (suc (suc (suc class))))) = omega arith
 
 -- a slot of the cell's class is one of its words
 pub HasSlot-class : (layout : Layout) (cell slot : ℕ) → cell < cell_count layout → slot < slots_of (class_of layout cell) → HasSlot layout cell slot

@@ -1,5 +1,5 @@
 -- A heap of two cells, worked out by hand, and some that read as nothing.
-use Rattle.std.proofs.Common.{ℕ, zero, suc, ◌≡◌, ◌≢◌, ◌-◌, ◌/◌, ◌%◌, ◌^◌, ◌<◌, ◌≤◌, ◌==◌, refl, sym, ◌∙◌, ap, subst, arith, true, false, [], ◌∷◌, inl, inr, length, Contains, Some, None}
+use Rattle.std.proofs.Common.{ℕ, zero, suc, ◌≡◌, ◌≢◌, ◌+◌, ◌-◌, ◌/◌, ◌%◌, ◌^◌, ◌<◌, ◌≤◌, ◌==◌, refl, sym, ◌∙◌, ap, subst, arith, true, false, [], ◌∷◌, inl, inr, length, Contains, Some, None}
 use Rattle.std.proofs.lemmas.Nat.Bits.{bit_at-zero, bit_at_mask_inside, bit_at_ones}
 use Rattle.std.specs.Int.{bit_at}
 use Rattle.std.specs.Prelude.{◌⊎◌, if◌then◌else◌}
@@ -266,6 +266,7 @@ pub marking_of_two : Marking small no_shapes worked two_cells []
 marking_of_two = record {
   reads = reads;
   references = references;
+  few_cycles = omega arith;
   colours = λ cell within. omega arith;
   held = record {
     each_once = λ marks cell within. (let none = bit_at-zero (cell % 64) in omega (arith, none));
@@ -288,3 +289,7 @@ grey_cell_held_by_none meets = let once = meets.held.each_once refl 0 (omega ari
 -- nor where a black cell holds a white one
 black_cell_to_white : Marking small no_shapes (write worked Colour 0 8) two_cells [] → ⊥
 black_cell_to_white meets = let marked = meets.black refl 0 1 refl (in_slot 0 refl refl) in absurd (cc)
+
+-- nor where the running cycle is one whose colours have no words of 64 bits
+cycle_without_colours : (state : State) → Marking small no_shapes (write worked Phase 0 (2 ^ 63 + 1)) state [] → ⊥
+cycle_without_colours state meets = let few = meets.few_cycles in omega (arith, few)

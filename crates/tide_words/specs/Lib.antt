@@ -1,7 +1,7 @@
-pub mod Bits
 pub mod ColourWord
 pub mod Colours
 pub mod EmptyHeap
+pub mod Fields
 pub mod Filled
 pub mod Greyed
 pub mod Greys
@@ -9,6 +9,7 @@ pub mod Heap
 pub mod Live
 pub mod Marked
 pub mod Marking
+pub mod Named
 pub mod PairWord
 pub mod Reading
 pub mod Reference

@@ -6,14 +6,17 @@
 //! stands on `tide_model` and `tide_layout`.
 #![tactic(auto)]
 
-mod colour_word;
+mod colour_form;
 mod colours;
 mod constraint;
+mod fields;
 mod grey_list;
 mod greying;
 mod live;
 mod marked;
 mod pairs;
+mod phase_form;
+mod reference;
 mod structure;
 #[cfg(test)]
 mod tests;
@@ -22,14 +25,17 @@ mod vec_words;
 mod volatility;
 mod words;
 
-pub use colour_word::colour;
+pub use colour_form::{colour, colour_word};
 pub use colours::Colour;
 pub use constraint::Constraint;
+pub use fields::{Fields, array_of};
 pub use grey_list::GreyList;
-pub use greying::{mark, mark_named};
+pub use greying::{blacken, mark, mark_named};
 pub use live::is_live;
-pub use marked::is_marked;
+pub use marked::{is_marked, running_cycle};
 pub use pairs::{MAX_CELLS, pair_word, word_pair};
+pub use phase_form::{phase_word, word_phase};
+pub use reference::{array_word, claim_word, word_array, word_claim};
 pub use structure::{Structure, structure_word, word_structure};
 pub use tide_layout::{Layout, Region};
 pub use value_word::{val_word, word_val};

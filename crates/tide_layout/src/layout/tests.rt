@@ -1,3 +1,4 @@
+//! The counts and places of small and largest layouts, worked out by hand.
 use super::Layout;
 use crate::region::Region;
 use std::process::Abort;
