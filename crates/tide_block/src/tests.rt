@@ -1,3 +1,4 @@
+//! The bits, the sizes and the classes of one layout, worked out by hand.
 use crate::{
     after, array_capacity, bit_of, block_of_array, block_of_cell, class_of, class_of_array,
     first_array_of, first_block_of, first_of, lowest, slots,

@@ -1,3 +1,4 @@
+//! The worked words, and how cells are made grey.
 use crate::{
     Colour, GreyList, Layout, MAX_CELLS, Region, Structure, VecWords, Words, colour, is_live,
     is_marked, mark, mark_named, pair_word, structure_word, val_word, word_pair, word_structure,

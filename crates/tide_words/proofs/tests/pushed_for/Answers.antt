@@ -1,7 +1,8 @@
+-- Why `pushed_for` meets its contract.
 use Rattle.std.proofs.Common.{ap, arith, length}
-use Rattle.tide_words.specs.Greys.{Greys}
-use Rattle.tide_words.specs.Heap.{heap_of}
-use Rattle.tide_words.proofs.RowLaws.{room_for_all}
+use Rattle.tide_words.specs.marking.Greys.{Greys}
+use Rattle.tide_words.specs.heap.Heap.{heap_of}
+use Rattle.tide_words.proofs.marking_laws.RowLaws.{room_for_all}
 use Rattle.tide_words.proofs.tests.pushed_for.Goals as goal
 
 pub mark_named-requires-clause-room : goal.mark_named-requires-clause-room
