@@ -1,5 +1,5 @@
 -- The empty heap meets marking.
-use Rattle.std.proofs.Common.{ℕ, arith, refl, []}
+use Rattle.std.proofs.Common.{arith, refl, []}
 use Rattle.tide_model.specs.Layout.{Layout}
 use Rattle.tide_model.specs.Refused.{ShapeLists}
 use Rattle.tide_model.specs.State.{empty_state}

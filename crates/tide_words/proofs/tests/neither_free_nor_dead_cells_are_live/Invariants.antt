@@ -1,7 +1,0 @@
--- What holds at each turn of the loop of `neither_free_nor_dead_cells_are_live`.
-use Rattle.std.proofs.Common.{◌≡◌, length}
-use Rattle.tide_layout.specs.Region.{word_count}
-use Rattle.tide_words.proofs.tests.neither_free_nor_dead_cells_are_live.Given as goal
-
-abbrev pub invariant-loop-cell : goal.invariant-loop-cell
-invariant-loop-cell g l = length l.words ≡ word_count l.layout
