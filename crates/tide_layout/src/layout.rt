@@ -1,9 +1,6 @@
 //! `Layout`: how large a heap is, and the place of each of its words. It knows no word.
 ghost use Rattle.std.specs.Prelude.{◌≡◌, ◌≤◌, ℕ, slice_index, sum, take};
 
-#[cfg(test)]
-mod tests;
-
 use crate::numbers::Numbers;
 use crate::region::Region;
 use std::marker::Model;

@@ -9,8 +9,6 @@
 mod forms;
 mod heap;
 mod marking;
-#[cfg(test)]
-mod tests;
 
 pub use forms::{
     Colour, MAX_CELLS, Structure, colour, pair_word, structure_word, val_word, word_pair,
