@@ -4,12 +4,11 @@ use Rattle.std.specs.List.{IsDistinct}
 use Rattle.std.specs.Prelude.{slice_set}
 use Rattle.tide_model.specs.Layout.{Layout, cell_count}
 use Rattle.tide_layout.specs.declared.region.Region.TheVariants.{Phase}
-use Rattle.tide_words.specs.Heap.{heap_of}
-use Rattle.tide_layout.specs.Region.{place_of, words_of}
-use Rattle.tide_words.proofs.ConstraintLaws.{heap_of-stored}
-use Rattle.tide_words.proofs.HeapLaws.{Reads-heap_of, reads_write}
-use Rattle.tide_solver.specs.Traced.{AreGreys}
-use Rattle.check_marking.specs.Underway.{IsUnderway}
+use Rattle.tide_words.specs.heap.Heap.{heap_of}
+use Rattle.tide_layout.specs.Region.{place_of, word_count}
+use Rattle.tide_words.proofs.heap_laws.ReadingLaws.{heap_of-stored}
+use Rattle.tide_words.proofs.heap_laws.HeapLaws.{Reads-heap_of, reads_write}
+use Rattle.tide_solver.specs.Traced.{AreGreys, IsUnderway}
 
 -- a list without cells holds grey ones alone
 AreGreys-none : (layout : Layout) (words : List ℕ) → AreGreys layout (heap_of layout words) []
@@ -24,12 +23,13 @@ AreGreys-none layout words = record {
     nothing cell at = let below = at.1 in omega (arith, below)
 
 -- once the first cycle's phase word is stored, marking is under way with an empty list for all cells
-pub IsUnderway-first : (layout : Layout) (words : List ℕ) → length words ≡ words_of layout →
+pub IsUnderway-first : (layout : Layout) (words : List ℕ) → length words ≡ word_count layout →
     IsUnderway layout (slice_set words (place_of layout Phase 0) 3) (record { cells = []; cap = cell_count layout })
 IsUnderway-first layout words all = record {
-  all_words = (reads_write layout words (heap_of layout words) Phase 0 3 (Reads-heap_of layout words all) (omega arith)).all_words;
-  marking = ap (λ (word : ℕ). word % 2 == 1) phase;
-  colours = subst (λ (word : ℕ). word / 2 < 2 ^ 62) (sym phase) (omega arith);
+  heap = record {
+    all_words = (reads_write layout words (heap_of layout words) Phase 0 3 (Reads-heap_of layout words all) (omega arith)).all_words;
+    marks = ap (λ (word : ℕ). word % 2 == 1) phase;
+  };
   room = omega arith;
   greys = AreGreys-none layout (slice_set words (place_of layout Phase 0) 3);
 }

@@ -34,7 +34,7 @@ pub struct Marking {
 }
 
 impl Model for Marking {
-    ghost use Rattle.check_marking.specs.Underway.{IsUnderway};
+    ghost use Rattle.tide_solver.specs.Traced.{IsUnderway};
 
     ghost Value = { Unit {0} };
 
