@@ -1,0 +1,5 @@
+pub mod FaultLine
+pub mod Line
+pub mod OpText
+pub mod Text
+pub mod Worked
