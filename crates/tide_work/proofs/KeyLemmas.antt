@@ -4,9 +4,9 @@ use Rattle.std.proofs.Common.{unwrap_or}
 use Rattle.std.proofs.lemmas.List.{length-map, map-append}
 use Rattle.std.proofs.lemmas.Bool.Decides.{nat_tests}
 use Rattle.std.proofs.lemmas.List.Sums.{prefix_len-le-length}
-use Rattle.std.proofs.lemmas.Bool.{and_parts, or_parts, leb-true, ltb-true}
+use Rattle.std.proofs.lemmas.Bool.{and_parts, or_parts, leb-true, lt-ltb, ltb-true}
 use Rattle.std.specs.Char.{is_ascii_lowercase}
-use Rattle.std.specs.Prelude.{slice_index}
+use Rattle.std.specs.Prelude.{slice_index, Some}
 use Rattle.std.proofs.lemmas.Grind.{common_steps}
 use Rattle.std.proofs.lemmas.List.Elements.{All-nil, All-push}
 use Rattle.std.proofs.lemmas.List.Quantifiers.{all_pairs_push}
@@ -14,6 +14,8 @@ use Rattle.std.proofs.lemmas.Slice.Eq.{bytes_eq-Decides}
 use Rattle.std.specs.List.{list_all, list_any, position, position_or_len}
 use Rattle.std.specs.Str.{bytes_eq}
 use Rattle.tide_work.specs.declared.keys.TheConstants.{MAX_KEYS, MAX_KEY_BYTES}
+use Rattle.tide_work.proofs.SpacedLemmas.{IsWord, list_all-weaker}
+use Rattle.tide_work.specs.Words.{is_word_byte}
 use Rattle.tide_work.specs.Keys.{is_key, is_key_byte, is_named}
 use Rattle.tide_work.specs.Work.{AreKeys, IsBetween}
 
@@ -70,3 +72,36 @@ key_sized word holds =
     let sized = (and_parts (nat_lt 0 (length word) && nat_le (length word) 16) (is_ascii_lowercase (slice_index word 0)) front).0 in
     let (some, short) = and_parts (nat_lt 0 (length word)) (nat_le (length word) 16) sized in
     (omega (arith, ltb-true 0 (length word) some), leb-true (length word) 16 short)
+
+-- the first that passes is at its place
+position_or_len-at : {X : Type 0} (p : X → Bool) (xs : List X) (i : ℕ) (d : X) → i < length xs → p (get_or xs i d) ≡ true
+    → ((k : ℕ) → k < i → p (get_or xs k d) ≡ false) → position_or_len p xs ≡ i
+position_or_len-at p [] i d within passes before = absurd (omega arith)
+position_or_len-at p (x ∷ xs) zero d within passes before = rw passes refl
+position_or_len-at p (x ∷ xs) (suc i) d within passes before =
+    let rest = position_or_len-at p xs i d (omega arith) passes (λ k below. before (suc k) (omega arith)) in
+    rw (before zero (omega arith), rest) (omega arith)
+
+-- the name of a key is at its number
+pub position_of_name : (keys : List (List ℕ)) (key : ℕ) → AreKeys keys → key < length keys
+    → position (λ name. bytes_eq name (get_or keys key [])) keys ≡ Some key
+position_of_name keys key are within =
+    let word = get_or keys key [] in
+    let same : bytes_eq word word ≡ true = grind (arith, bytes_eq-Decides) in
+    let at : position_or_len (λ name. bytes_eq name word) keys ≡ key =
+    position_or_len-at (λ name. bytes_eq name word) keys key [] within same (λ k below. other (get_or keys k []) (get_or keys key []) (are.distinct k key [] below within)) in
+    rw (at, lt-ltb key (length keys) within) refl
+  where
+    other : (name word : List ℕ) → name ≢ word → bytes_eq name word ≡ false
+    other name word apart = grind (arith, bytes_eq-Decides)
+
+key_byte : (byte : ℕ) → is_key_byte byte ≡ true → is_word_byte byte ≡ true
+key_byte byte is = grind (arith, nat_tests)
+
+-- a key is a word
+pub key-word : (word : List ℕ) → is_key word ≡ true → IsWord word
+unfolding is_key
+key-word word key =
+    let sized = key_sized word key in
+    let all = (and_parts ((nat_lt 0 (length word) && nat_le (length word) 16) && is_ascii_lowercase (slice_index word 0)) (list_all is_key_byte word) key).1 in
+    record { some = sized.0; spaceless = list_all-weaker is_key_byte is_word_byte key_byte word all }

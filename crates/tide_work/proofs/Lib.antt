@@ -2,4 +2,5 @@ pub mod KeyLemmas
 pub mod NumeralLemmas
 pub mod OperationLemmas
 pub mod SeenLemmas
+pub mod SpacedLemmas
 pub mod WordLemmas
