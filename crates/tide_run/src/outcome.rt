@@ -4,7 +4,7 @@ ghost use Rattle.std.specs.Prelude.{◌≡◌, ◌<◌, ℕ, All, map};
 use crate::answered::Answered;
 use crate::told::{Record, Told};
 use std::marker::Model;
-use tide_words::Layout;
+use tide_layout::Layout;
 
 /// Where a run's history was kept.
 #[derive(Debug, Drop)]

@@ -9,7 +9,7 @@ use super::append;
 use std::alloc::Global;
 use tide_model::Memory;
 use tide_shape::{Paths, Shapes, ShapesRefused};
-use tide_words::Layout;
+use tide_layout::Layout;
 use tide_workload::{Settings, Workload};
 
 /// The layout of a store with these settings, for one mutator and no visitor.
