@@ -16,7 +16,7 @@ use Rattle.tide_model.specs.Refused.{ShapeLists}
 use Rattle.tide_model.specs.Lawful.{IsLawful}
 use Rattle.tide_model.specs.Script.{calls_of, retry_after_all}
 
--- a mutator's call, and the entries of the cycle that follows it
+-- a mutator's call with the array that it took, if any, and the entries of the cycle that follows it
 pub record Turn : Type 0 where
   pub who : ℕ
   pub op : Op
@@ -63,7 +63,9 @@ pub record IsWholeCycle (layout : Layout) (before cycle : List Event) : Type 0 w
   pub swept : (block : ℕ) → HasDead layout (state_after layout (before ++ plain (Begin number) ∷ plain (Pause visits) ∷ plain (End number freed) ∷ [])) block →
       is_among blocks block ≡ true
 
--- a turn may stand right after a history
+-- When a turn may stand right after a history: a first refusal for room is tried again; a refusal for room comes only
+-- where nothing of the class is free right then; a whole cycle follows where the call asks for one, and nothing where
+-- it doesn't.
 pub record StandsTurn (layout : Layout) (before : List Event) (turn : Turn) : Type 0 where
   -- after a first refusal for room the same operation is tried again
   pub retries : (op : Op) → retry_of turn.who before ≡ Some op → turn.op ≡ op
@@ -72,13 +74,13 @@ pub record StandsTurn (layout : Layout) (before : List Event) (turn : Turn) : Ty
   pub runs : AsksForCycle before turn → IsWholeCycle layout (before ++ call_event turn ∷ []) turn.cycle
   pub rests : (AsksForCycle before turn → ⊥) → turn.cycle ≡ []
 
--- the history is turns, one after another
+-- a history that is turns, one after another
 pub data IsScheduled (layout : Layout) : List Event → Type 0 where
   no_turn : IsScheduled layout []
   one_more : (before : List Event) (turn : Turn) → IsScheduled layout before → StandsTurn layout before turn →
       IsScheduled layout (before ++ call_event turn ∷ turn.cycle)
 
--- the history is lawful and scheduled
+-- a history that is lawful and scheduled
 pub record IsLegal (layout : Layout) (shapes : ShapeLists) (history : List Event) : Type 0 where
   pub lawful : IsLawful layout shapes history
   pub scheduled : IsScheduled layout history

@@ -37,8 +37,8 @@ is_full_reply (Seen value) = false
 is_full_reply Asked = false
 is_full_reply (Refused refusal) = is_full_refusal refusal
 
--- After a refusal for room the operation is tried once more. The operation that is to be tried again after a call,
--- if any, from the one that was to be tried at it: a refusal of a second try is no first one.
+-- The operation that is to be tried again after a call, if any, from the one that was to be tried at it: a first
+-- refusal for room is tried once more, and a refusal of that second try is no first one.
 abbrev pub retry_after : Option Op → Op × Reply → Option Op
 retry_after None call = if is_full_reply call.1 then Some call.0 else None
 retry_after (Some tried) call = None
@@ -54,6 +54,6 @@ script_from retry [] = []
 script_from retry (call ∷ calls) =
     (if is_some (retry_after retry call) then [] else call.0 ∷ []) ++ script_from (retry_after retry call) calls
 
--- a mutator's script: its operations in order, each once
+-- a mutator's script: its operations in order, each once, so without each first refusal for room
 abbrev pub script_of : ℕ → List Event → List Op
 script_of mutator history = script_from None (calls_of mutator history)

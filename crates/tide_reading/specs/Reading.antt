@@ -17,7 +17,7 @@ use Rattle.tide_reading.specs.Shapes.{declared_in}
 use Rattle.tide_reading.specs.Steps.{◌>>=◌, each}
 use Rattle.tide_work.specs.Work.{Work}
 
--- the document that bytes are: they are UTF-8, and TOML
+-- the document that bytes are, if any: they are UTF-8, and TOML as the crate `toml` states it
 unfoldable pub document_of : List ℕ → Option Members
 document_of bytes = if is_utf8 bytes then parse_document bytes else None
 

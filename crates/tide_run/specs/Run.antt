@@ -40,7 +40,8 @@ pub record IsWhole (layout : Layout) (history : List Event) (mutator : ℕ) (ops
   pub done : script_of mutator (take moment history) ≡ ops
   pub script : script_of mutator history ≡ ops ++ (replicate (claims_at layout history moment mutator) Unclaim ++ Retire ∷ [])
 
--- the history is legal for the workload, and each mutator asked for all that it was to ask for
+-- A run of a workload: its history is legal in the layout and with the shapes that the workload asks for, its keys
+-- have the workload's names, and each mutator asked for all that it was to ask for.
 pub record IsRunOf (work : Work) (ran : Ran) : Type 0 where
   pub layout : ran.layout ≡ layout_of_work work
   pub keys : ran.keys ≡ work.keys

@@ -58,7 +58,7 @@ pub record IsAskable (layout : Layout) (keys : List (List ℕ)) (op : Op) : Type
   pub text : HasText keys op
   pub goes_on : is_retire op ≡ false
 
--- both are of one workload
+-- two runs so far are of one workload
 pub record IsSameRun (old new : Runner) : Type 0 where
   pub layout : new.layout ≡ old.layout
   pub names : new.names ≡ old.names

@@ -14,6 +14,6 @@ fault_text (Bad field) = codes "bad field " ++ name_of field
 fault_text (BadOp mutator at) = codes "bad op" ++ number_operand at ++ codes " of mutator" ++ number_operand mutator
 fault_text Memory = codes "no memory"
 
--- its line
+-- the line of a fault: the program's name, and the fault in words
 unfoldable pub fault_line : Fault → List ℕ
 fault_line fault = codes "riptide: " ++ fault_text fault ++ codes "\n"

@@ -15,7 +15,7 @@ number_operand n = codes " " ++ decimal n
 abbrev pub key_operand : List (List ℕ) → ℕ → List ℕ
 key_operand keys key = codes " " ++ slice_index_or keys key []
 
--- an operation, as a workload with these names of keys writes it; `retire` is no workload's
+-- an operation's text, as a workload with these names of keys writes it; `retire` is no workload's
 unfoldable pub op_text : List (List ℕ) → Op → List ℕ
 op_text keys (Alloc dst class) = codes "alloc" ++ register_operand dst ++ number_operand class
 op_text keys (Table dst) = codes "table" ++ register_operand dst
