@@ -1,6 +1,9 @@
 pub mod ClaimLaws
 pub mod Cycles
+pub mod DanglingRows
 pub mod Histories
+pub mod LawfulReferences
 pub mod NumberLaws
 pub mod ReferenceLaws
 pub mod ReferencesInCycles
+pub mod Retained
