@@ -1,3 +1,4 @@
+pub mod CallerRows
 pub mod ClaimLaws
 pub mod Cycles
 pub mod DanglingRows
