@@ -92,6 +92,22 @@ moment_after_last-le test (event ∷ events) = step (moment_after_last test even
     step zero rest false h = omega arith
     step (suc later) rest passes h = omega arith
 
+-- the same where one more event came
+pub moment_after_last-push : (test : Event → Bool) (history : List Event) (event : Event) →
+    moment_after_last test (history ++ event ∷ []) ≡ (if test event then suc (length history) else moment_after_last test history)
+moment_after_last-push test [] event = step (test event)
+  where
+    step : (passes : Bool) → one_later 0 passes ≡ (if passes then 1 else 0)
+    step true = refl
+    step false = refl
+moment_after_last-push test (first ∷ history) event =
+    ap (λ (m : ℕ). one_later m (test first)) (moment_after_last-push test history event) ∙ step (test event)
+  where
+    step : (passes : Bool) → one_later (if passes then suc (length history) else moment_after_last test history) (test first)
+        ≡ (if passes then suc (suc (length history)) else one_later (moment_after_last test history) (test first))
+    step true = refl
+    step false = refl
+
 -- the calls of a longer history
 pub calls_of-append : (who : ℕ) (xs ys : List Event) → calls_of who (xs ++ ys) ≡ calls_of who xs ++ calls_of who ys
 calls_of-append who [] ys = refl

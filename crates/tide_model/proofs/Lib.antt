@@ -8,3 +8,5 @@ pub mod NumberLaws
 pub mod ReferenceLaws
 pub mod ReferencesInCycles
 pub mod Retained
+pub mod Spans
+pub mod Windows
