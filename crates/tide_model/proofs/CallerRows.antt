@@ -9,6 +9,7 @@ use Rattle.tide_model.specs.Caller.{MakesCall}
 use Rattle.tide_model.specs.History.{plain}
 use Rattle.tide_model.specs.Lawful.{IsLawful}
 use Rattle.tide_model.specs.OperationRows.{shared}
+use Rattle.tide_model.specs.Prefix.{prefix_push}
 use Rattle.tide_model.specs.Refused.{no_shapes}
 use Rattle.tide_model.proofs.Histories.{IsLawful-nil, IsLawful-push}
 
@@ -29,7 +30,7 @@ pub call_is_added : MakesCall shared no_shapes 0 (Drop 0) Done [] (own ∷ []) [
 call_is_added = record {
   took = None;
   between = [];
-  seen = record { rest = own ∷ []; joins = refl };
+  seen = prefix_push [] own;
   lawful = own_is_lawful;
   ends = refl;
   adds = refl;

@@ -21,7 +21,7 @@ use Rattle.tide_model.specs.Refused.{no_shapes}
 use Rattle.tide_model.specs.Rows.{small}
 use Rattle.tide_model.proofs.Histories.{IsLawful-nil, IsLawful-push}
 use Rattle.tide_model.proofs.LawfulReferences.{RefsAreLive-lawful}
-use Rattle.tide_model.proofs.ReferenceLaws.{put_at_elim}
+use Rattle.tide_model.proofs.NumberLaws.{put_at_elim}
 use Rattle.tide_model.proofs.Retained.{IsClosed-all_kept}
 
 -- cell 0 holds cell 1, and a weak handle names cell 0

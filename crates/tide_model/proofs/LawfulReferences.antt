@@ -11,7 +11,8 @@ use Rattle.tide_model.specs.Refused.{ShapeLists}
 use Rattle.tide_model.specs.Lawful.{IsLawful, Stands, StandsEntry}
 use Rattle.tide_model.specs.References.{RefsAreLive}
 use Rattle.tide_model.proofs.Histories.{state_after-push, IsLawful-elim}
-use Rattle.tide_model.proofs.ReferenceLaws.{RefsAreLive-call, RefsAreLive-empty}
+use Rattle.tide_model.proofs.ReferenceLaws.{RefsAreLive-call}
+use Rattle.tide_model.proofs.ReferenceSteps.{RefsAreLive-empty}
 use Rattle.tide_model.proofs.ReferencesInCycles.{RefsAreLive-end, RefsAreLive-phase, RefsAreLive-sweep}
 
 -- an event that stands keeps references to live cells

@@ -6,6 +6,7 @@ pub mod Histories
 pub mod LawfulReferences
 pub mod NumberLaws
 pub mod ReferenceLaws
+pub mod ReferenceSteps
 pub mod ReferencesInCycles
 pub mod Retained
 pub mod Spans
