@@ -3,9 +3,9 @@ use Rattle.std.proofs.Common.{ℕ, ◌≡◌, ◌<◌, ◌/◌, ◌%◌, ◌^◌
 use Rattle.std.specs.List.{IsDistinct}
 use Rattle.std.specs.Prelude.{slice_set}
 use Rattle.tide_model.specs.Layout.{Layout, cell_count}
-use Rattle.tide_words.specs.declared.region.Region.TheVariants.{Phase}
+use Rattle.tide_layout.specs.declared.region.Region.TheVariants.{Phase}
 use Rattle.tide_words.specs.Heap.{heap_of}
-use Rattle.tide_words.specs.Region.{place_of, words_of}
+use Rattle.tide_layout.specs.Region.{place_of, words_of}
 use Rattle.tide_words.proofs.ConstraintLaws.{heap_of-stored}
 use Rattle.tide_words.proofs.HeapLaws.{Reads-heap_of, reads_write}
 use Rattle.tide_solver.specs.Traced.{AreGreys}

@@ -4,7 +4,7 @@ use Rattle.tide_model.specs.Layout.{Layout, cell_count}
 use Rattle.tide_words.specs.Colours.{is_marking, HasColours}
 use Rattle.tide_words.specs.Greys.{Greys}
 use Rattle.tide_words.specs.Heap.{heap_of}
-use Rattle.tide_words.specs.Region.{words_of}
+use Rattle.tide_layout.specs.Region.{words_of}
 use Rattle.tide_solver.specs.Traced.{AreGreys}
 
 -- a cycle marks in these words, and the list has room for all cells and holds grey ones

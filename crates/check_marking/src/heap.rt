@@ -1,8 +1,8 @@
 //! The words of a heap, which are written one fact at a time.
 ghost use Rattle.std.specs.Prelude.{◌≡◌, ◌<◌, ◌≤◌, length};
 ghost use Rattle.tide_model.specs.Layout.{cell_count};
-ghost use Rattle.tide_words.specs.Region.{block_count, size_of, words_of};
-ghost use Rattle.tide_words.specs.Slots.{width_of_class};
+ghost use Rattle.tide_layout.specs.Region.{block_count, size_of, words_of};
+ghost use Rattle.tide_layout.specs.Slots.{width_of_class};
 
 use crate::fact::Fact;
 use std::alloc::{AllocError, Global};

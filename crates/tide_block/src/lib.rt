@@ -2,13 +2,12 @@
 //!
 //! A block's words have one bit for each of its 64 cells or arrays. `lowest` and `after` walk the set bits of a
 //! word. The other calls go from an id to its class, its block and its bit, and from a class to its first block
-//! and its first id, in the order that a `Layout` of `tide_words` gives. `proofs/` has the laws that tie these
+//! and its first id, in the order that a `Layout` of `tide_layout` gives. `proofs/` has the laws that tie these
 //! together, for the crates above.
 #![tactic(auto)]
 
 mod bits;
 mod classes;
-mod sizes;
 #[cfg(test)]
 mod tests;
 
@@ -17,4 +16,4 @@ pub use classes::{
     bit_of, block_of_array, block_of_cell, class_of, class_of_array, first_array_of,
     first_block_of, first_of,
 };
-pub use sizes::{array_capacity, slots};
+pub use tide_layout::{array_capacity, slots};

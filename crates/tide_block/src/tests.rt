@@ -3,7 +3,7 @@ use crate::{
     first_array_of, first_block_of, first_of, lowest, slots,
 };
 use std::test::Fail;
-use tide_words::Layout;
+use tide_layout::Layout;
 
 #[test]
 fn each_bit_is_found(rt: HostRuntime) -> Result<(), Fail> {

@@ -6,7 +6,7 @@ use Rattle.tide_model.specs.Layout.{Layout, IsBlockOf, first_block_of, blocks_of
 use Rattle.tide_model.specs.Answer.{IsFreeArrayOf}
 use Rattle.tide_model.specs.Room.{IsFullBlock}
 use Rattle.tide_model.specs.State.{blank_cell, free, is_free}
-use Rattle.tide_words.specs.Limits.{IsWithinLimits}
+use Rattle.tide_layout.specs.Limits.{IsWithinLimits}
 use Rattle.tide_block.specs.Places.{first_cell_of, first_array_of}
 use Rattle.tide_block.proofs.RisingLaws.{rising-le}
 use Rattle.tide_block.proofs.BlockLaws.{first_block_of-next, first_block_of-rises, first_block_of-arrays}

@@ -8,7 +8,7 @@ use Rattle.tide_model.specs.Layout.{cell_count, array_count}
 use Rattle.tide_model.specs.State.{State, blank_cell, free, live, empty_state}
 use Rattle.tide_model.specs.References.{RefsAreLive}
 use Rattle.tide_model.proofs.ReferenceLaws.{RefsAreLive-empty}
-use Rattle.tide_words.specs.Limits.{IsWithinLimits}
+use Rattle.tide_layout.specs.Limits.{IsWithinLimits}
 use Rattle.tide_shape.specs.ShapeTable.{IsShapeTable}
 use Rattle.tide_plain.specs.declared.contents.Contents.{Contents}
 use Rattle.tide_plain.specs.declared.stored.StoredMutator.{StoredMutator}

@@ -13,7 +13,7 @@ use Rattle.tide_model.specs.Applied.{after_call}
 use Rattle.tide_model.specs.Answer.{IsAnswer}
 use Rattle.tide_model.specs.Room.{IsFullBlock}
 use Rattle.tide_model.specs.References.{IsLive, RefsAreLive}
-use Rattle.tide_words.specs.Limits.{IsWithinLimits}
+use Rattle.tide_layout.specs.Limits.{IsWithinLimits}
 use Rattle.tide_shape.specs.Lists.{lists_of}
 use Rattle.tide_shape.specs.ShapeTable.{keys_of, IsShapeTable}
 use Rattle.tide_plain.specs.declared.contents.Contents.{Contents}

@@ -21,7 +21,7 @@ use crate::stored::{ArrayStatus, Elements, StoredCell, StoredMutator};
 use std::alloc::Global;
 use tide_model::{Memory, Op, Reply, Val};
 use tide_shape::Shapes;
-use tide_words::Layout;
+use tide_layout::Layout;
 
 /// All that the plain store holds.
 #[derive(Drop)]

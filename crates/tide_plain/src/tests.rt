@@ -7,7 +7,7 @@ use std::alloc::Global;
 use std::process::Abort;
 use std::test::Fail;
 use tide_model::{Op, Refusal, Reply, Val};
-use tide_words::Layout;
+use tide_layout::Layout;
 
 /// The keys of the one path.
 const PATH: [u32; 5] = [0, 1, 2, 3, 4];

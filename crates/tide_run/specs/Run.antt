@@ -8,8 +8,7 @@ use Rattle.tide_model.specs.Layout.{Layout}
 use Rattle.tide_model.specs.Schedule.{IsLegal}
 use Rattle.tide_model.specs.Script.{script_of}
 use Rattle.tide_shape.specs.Shapes.{shapes_of}
-use Rattle.tide_workload.specs.declared.settings.Settings.{Settings}
-use Rattle.tide_workload.specs.Work.{Work}
+use Rattle.tide_workload.specs.Words.{Settings, Work}
 use Rattle.tide_run.specs.Ran.{Ran}
 
 -- the plain numbers of a store with these settings and so many mutators

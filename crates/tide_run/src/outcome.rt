@@ -4,7 +4,7 @@ ghost use Rattle.std.specs.Prelude.{◌≡◌, ◌<◌, ℕ, All, map};
 use crate::answered::Answered;
 use crate::told::{Record, Told};
 use std::marker::Model;
-use tide_words::Layout;
+use tide_layout::Layout;
 
 /// Where a run's history was kept.
 #[derive(Debug, Drop)]
@@ -42,7 +42,7 @@ impl Outcome {
     ghost use Rattle.tide_model.specs.Cycle.{live_count};
     ghost use Rattle.tide_model.specs.History.{state_after};
     ghost use Rattle.tide_model.specs.Script.{calls_of};
-    ghost use Rattle.tide_workload.specs.Line.{HasText};
+    ghost use Rattle.tide_workload.specs.Words.{HasText};
     ghost use Rattle.tide_run.specs.Told.{events_of, AreCounted, pair_of};
     ghost use Rattle.tide_run.specs.Outcome.{ran_of, IsOutcome};
 

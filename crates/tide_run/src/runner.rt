@@ -3,7 +3,7 @@ ghost use Rattle.std.specs.Prelude.{◌≡◌, ℕ, ◌+◌, ◌-◌, ◌*◌, �
 ghost use Rattle.tide_model.specs.Numbers.{numbers_where};
 ghost use Rattle.tide_model.specs.Script.{is_full_reply};
 ghost use Rattle.tide_model.specs.Schedule.{IsScheduled, is_asked, is_retire, retry_of};
-ghost use Rattle.tide_words.specs.Region.{block_count};
+ghost use Rattle.tide_layout.specs.Region.{block_count};
 ghost use Rattle.tide_plain.specs.Store.{layout_of};
 ghost use Rattle.tide_run.specs.Asking.{asks_for_cycle};
 ghost use Rattle.tide_run.specs.Runner.{is_swept};
@@ -18,7 +18,7 @@ use starting::{layout_with, names_of, shapes_of};
 use std::alloc::Global;
 use tide_model::{Ids, Memory, Op, Refusal, Reply};
 use tide_plain::PlainStore;
-use tide_words::Layout;
+use tide_layout::Layout;
 use tide_workload::Workload;
 
 fn is_asked(reply: Reply) -> bool

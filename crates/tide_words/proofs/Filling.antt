@@ -4,13 +4,13 @@ use Rattle.std.proofs.lemmas.Bool.{cases_eq}
 use Rattle.std.proofs.lemmas.List.{get_or-set_other, get_or-replicate, length-replicate}
 use Rattle.std.proofs.lemmas.Grind.{get_or-set_at}
 use Rattle.tide_model.specs.Layout.{Layout}
-use Rattle.tide_words.specs.declared.region.Region.{Region}
-use Rattle.tide_words.specs.declared.region.Region.TheVariants.{Period, Phase, Active, Call, Stopped, Registers, Strong, Weak, Colour, Structure, Array, Claim, Group, Slots, Elements, Free, Dead, GreyShared, GreyMutator, GreyRace, Swept}
-use Rattle.tide_words.specs.Region.{tag, size_of, words_of, place_of, block_count}
+use Rattle.tide_layout.specs.declared.region.Region.{Region}
+use Rattle.tide_layout.specs.declared.region.Region.TheVariants.{Period, Phase, Active, Call, Stopped, Registers, Strong, Weak, Colour, Structure, Array, Claim, Group, Slots, Elements, Free, Dead, GreyShared, GreyMutator, GreyRace, Swept}
+use Rattle.tide_layout.specs.Region.{tag, size_of, words_of, place_of, block_count}
 use Rattle.tide_words.specs.EmptyHeap.{empty_heap}
 use Rattle.tide_words.specs.Filled.{IsFilledTo}
 use Rattle.tide_words.specs.Heap.{Reads}
-use Rattle.tide_words.proofs.Places.{place_of-below, place_of-other_index, place_of-other_region}
+use Rattle.tide_layout.proofs.Places.{place_of-below, place_of-other_index, place_of-other_region}
 
 -- nothing is filled yet
 pub IsFilledTo-none : (layout : Layout) (region : Region) (word : ℕ) (words : List ℕ) → IsFilledTo layout region word 0 words words

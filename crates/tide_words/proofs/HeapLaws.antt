@@ -6,10 +6,10 @@ use Rattle.std.proofs.lemmas.Grind.{get_or-set_at}
 use Rattle.std.proofs.lemmas.List.{get_or-set_other}
 use Rattle.std.proofs.lemmas.Bool.Decides.{nat_tests}
 use Rattle.tide_model.specs.Layout.{Layout}
-use Rattle.tide_words.specs.declared.region.Region.{Region}
+use Rattle.tide_layout.specs.declared.region.Region.{Region}
 use Rattle.tide_words.specs.Heap.{Heap, write, Reads, heap_of}
-use Rattle.tide_words.specs.Region.{tag, size_of, place_of, words_of}
-use Rattle.tide_words.proofs.Places.{place_of-below, place_of-other_index, place_of-other_region, tag-injective}
+use Rattle.tide_layout.specs.Region.{tag, size_of, place_of, words_of}
+use Rattle.tide_layout.proofs.Places.{place_of-below, place_of-other_index, place_of-other_region, tag-injective}
 
 -- the word that was written
 pub write-same : (heap : Heap) (region : Region) (index word : ℕ) → write heap region index word region index ≡ word

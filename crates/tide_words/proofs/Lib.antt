@@ -1,4 +1,3 @@
-pub mod ClassWidths
 pub mod ColourLaws
 pub mod ConstraintLaws
 pub mod EmptyReading
@@ -7,15 +6,11 @@ pub mod FormLaws
 pub mod FormReading
 mod FormRows
 pub mod HeapLaws
-pub mod LimitLaws
 pub mod LiveLaws
 pub mod MarkedLaws
 pub mod MarkingLaws
-pub mod Places
 pub mod ReadGraph
 pub mod ReadingLaws
 pub mod ReadingRows
 pub mod RowLaws
 pub mod RuleLaws
-pub mod SlotPlaces
-pub mod StartLaws

@@ -1,7 +1,7 @@
 -- Which cells are marked, by what the words read as.
 use Rattle.std.proofs.Common.{ℕ, ◌≡◌, ◌<◌, ap, ◌∙◌, arith, List}
 use Rattle.tide_model.specs.Layout.{Layout, cell_count}
-use Rattle.tide_words.specs.declared.region.Region.TheVariants.{Phase, Colour}
+use Rattle.tide_layout.specs.declared.region.Region.TheVariants.{Phase, Colour}
 use Rattle.tide_words.specs.ColourWord.{cycle_of, is_marked_in}
 use Rattle.tide_words.specs.Heap.{Heap, Reads, heap_of}
 use Rattle.tide_words.specs.Marked.{is_marked}

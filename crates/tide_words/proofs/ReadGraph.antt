@@ -9,10 +9,10 @@ use Rattle.tide_model.specs.Layout.{Layout, class_of, slots_of}
 use Rattle.tide_model.specs.References.{IsLive}
 use Rattle.tide_model.specs.Refused.{ShapeLists, is_table}
 use Rattle.tide_model.specs.State.{State, is_free}
-use Rattle.tide_words.specs.declared.region.Region.TheVariants.{Registers, Strong, Structure}
+use Rattle.tide_layout.specs.declared.region.Region.TheVariants.{Registers, Strong, Structure}
 use Rattle.tide_words.specs.Heap.{Heap}
 use Rattle.tide_words.specs.Reading.{IsValueOf, IsStructureOf, IsTaken, ReadsAs, slot_word, element_word}
-use Rattle.tide_words.specs.Region.{index_of_register}
+use Rattle.tide_layout.specs.Region.{index_of_register}
 use Rattle.tide_words.proofs.FormLaws.{same_from_val_word, same_from_optional_word}
 use Rattle.tide_words.proofs.MarkingLaws.{live_within}
 

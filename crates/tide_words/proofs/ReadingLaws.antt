@@ -1,22 +1,23 @@
 -- A heap's reading depends on the words of its own regions alone.
-use Rattle.std.proofs.Common.{ℕ, zero, suc, ◌≡◌, ◌%◌, ◌<◌, ◌≤◌, refl, sym, ◌∙◌, ap, arith, Bool, true, false, List, inl, inr, Option}
+use Rattle.std.proofs.Common.{ℕ, ◌≡◌, ◌%◌, ◌<◌, refl, sym, ◌∙◌, ap, arith, Bool, true, false, List, inl, inr, Option}
 use Rattle.std.proofs.lemmas.Bool.{ne_eqb}
 use Rattle.std.specs.Prelude.{◌⊎◌, ◌==◌}
 use Rattle.tide_model.specs.declared.val.Val.{Val}
 use Rattle.tide_model.specs.Layout.{Layout, cell_count, array_count, block_of_cell, block_of_array, class_of, slots_of}
 use Rattle.tide_model.specs.Refused.{ShapeLists}
 use Rattle.tide_model.specs.State.{State, Status, live}
-use Rattle.tide_words.specs.declared.region.Region.{Region}
-use Rattle.tide_words.specs.declared.region.Region.TheVariants.{Period, Phase, Active, Call, Stopped, Registers, Strong, Weak, Colour, Structure, Array, Claim, Group, Slots, Elements, Free, Dead, GreyShared, GreyMutator, GreyRace, Swept}
+use Rattle.tide_layout.specs.declared.region.Region.{Region}
+use Rattle.tide_layout.specs.declared.region.Region.TheVariants.{Period, Phase, Active, Call, Stopped, Registers, Strong, Weak, Colour, Structure, Array, Claim, Group, Slots, Elements, Free, Dead, GreyShared, GreyMutator, GreyRace, Swept}
 use Rattle.tide_words.specs.ColourWord.{phase_of}
 use Rattle.tide_words.specs.Heap.{Heap, Reads, SameIn, write}
 use Rattle.tide_words.specs.PairWord.{IsPairWord}
 use Rattle.tide_words.specs.Reading.{IsValueOf, IsPairOf, IsStructureOf, IsTableOf, ActiveRead, RegistersRead, StrongRead, WeakRead, ClaimsRead, StatusRead, FreeRead, KeysRead, ArrayOfRead, GroupRead, SlotsRead, PairsRead, PropertiesRead, ArraysRead, ReadsAs, status_by, array_status, slot_word, element_word}
-use Rattle.tide_words.specs.Region.{tag, size_of, index_of_register}
-use Rattle.tide_words.specs.Slots.{HasSlot, index_of_slot, index_of_element, width_of_class}
+use Rattle.tide_layout.specs.Region.{tag, size_of, index_of_register}
+use Rattle.tide_layout.specs.Slots.{HasSlot, index_of_slot, index_of_element}
+use Rattle.tide_layout.proofs.ClassWidths.{slots_of-width}
 use Rattle.tide_words.proofs.HeapLaws.{write-other_region}
-use Rattle.tide_words.proofs.Places.{tag-injective}
-use Rattle.tide_words.proofs.SlotPlaces.{index_of_register-below, index_of_slot-below, index_of_element-below}
+use Rattle.tide_layout.proofs.Places.{tag-injective}
+use Rattle.tide_layout.proofs.SlotPlaces.{index_of_register-below, index_of_slot-below, index_of_element-below}
 
 -- a region that the reading looks at
 abbrev pub is_read : Region → Bool
@@ -157,15 +158,6 @@ ArrayOfRead-same layout old new state same reads cell taken = same cell taken.wi
 -- the groups
 pub GroupRead-same : (layout : Layout) (old new : Heap) (state : State) → SameIn layout Group old new → GroupRead layout old state → GroupRead layout new state
 GroupRead-same layout old new state same reads cell taken = same cell taken.within ∙ reads cell taken
-
--- a class has as many words for a cell as slots, or more
-slots_of-width : (class : ℕ) → slots_of class ≤ width_of_class class
-slots_of-width zero = omega arith
-slots_of-width (suc zero) = omega arith
-slots_of-width (suc (suc zero)) = omega arith
-slots_of-width (suc (suc (suc zero))) = omega arith
-slots_of-width (suc (suc (suc (suc zero)))) = omega arith
-slots_of-width (suc (suc (suc (suc (suc class))))) = omega arith
 
 -- a slot of the cell's class is one of its words
 pub HasSlot-class : (layout : Layout) (cell slot : ℕ) → cell < cell_count layout → slot < slots_of (class_of layout cell) → HasSlot layout cell slot

@@ -12,19 +12,19 @@ use Rattle.tide_model.specs.References.{IsLive, RefsAreLive}
 use Rattle.tide_model.specs.Refused.{no_shapes, is_table}
 use Rattle.tide_model.specs.State.{State, CellState, free, live, dead, is_free, idle, marking, blank_cell, empty_state}
 use Rattle.tide_model.proofs.ReferenceLaws.{put_at_elim}
-use Rattle.tide_words.specs.declared.region.Region.TheVariants.{Phase, Colour, Free, Dead, Registers, Structure, Claim, Group, Slots}
+use Rattle.tide_layout.specs.declared.region.Region.TheVariants.{Phase, Colour, Free, Dead, Registers, Structure, Claim, Group, Slots}
 use Rattle.tide_words.specs.EmptyHeap.{empty_heap}
 use Rattle.tide_words.specs.Heap.{Heap, write}
 use Rattle.tide_words.specs.Marking.{Marking}
 use Rattle.tide_words.specs.Reading.{ReadsAs, IsZeroed, IsValueOf, IsStructureOf, status_by, cell_status, slot_word}
 use Rattle.tide_words.specs.Reference.{array_word}
-use Rattle.tide_words.specs.Region.{index_of_register}
-use Rattle.tide_words.specs.Slots.{index_of_slot, width_of_cell}
+use Rattle.tide_layout.specs.Region.{index_of_register}
+use Rattle.tide_layout.specs.Slots.{index_of_slot, width_of_cell}
 use Rattle.tide_words.specs.ValueWord.{val_word}
 use Rattle.tide_words.proofs.FormLaws.{same_cell_from_val_word}
 use Rattle.tide_words.proofs.HeapLaws.{write-same, write-other_index}
 use Rattle.tide_words.proofs.MarkingLaws.{Marking-greyed}
-use Rattle.tide_words.proofs.SlotPlaces.{index_of_slot-alone}
+use Rattle.tide_layout.proofs.SlotPlaces.{index_of_slot-alone}
 
 -- one block of cells with two slots, and one mutator with one register
 abbrev pub small : Layout

@@ -1,6 +1,6 @@
 -- The words of a store that holds nothing.
 use Rattle.std.specs.Prelude.{◌-◌, ◌^◌}
-use Rattle.tide_words.specs.declared.region.Region.TheVariants.{Period, Phase, Active, Call, Stopped, Registers, Strong, Weak, Colour, Structure, Array, Claim, Group, Slots, Elements, Free, Dead, GreyShared, GreyMutator, GreyRace, Swept}
+use Rattle.tide_layout.specs.declared.region.Region.TheVariants.{Period, Phase, Active, Call, Stopped, Registers, Strong, Weak, Colour, Structure, Array, Claim, Group, Slots, Elements, Free, Dead, GreyShared, GreyMutator, GreyRace, Swept}
 use Rattle.tide_words.specs.Heap.{Heap}
 
 -- the empty heap: every mutator is active, and each cell and array of each block is free

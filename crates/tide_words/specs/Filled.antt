@@ -1,8 +1,8 @@
 -- A region whose words were all set to one word.
 use Rattle.std.specs.Prelude.{◌≡◌, ℕ, ◌<◌, ◌==◌, false, List, length, slice_index}
 use Rattle.tide_model.specs.Layout.{Layout}
-use Rattle.tide_words.specs.declared.region.Region.{Region}
-use Rattle.tide_words.specs.Region.{tag, size_of, place_of}
+use Rattle.tide_layout.specs.declared.region.Region.{Region}
+use Rattle.tide_layout.specs.Region.{tag, size_of, place_of}
 
 -- the first places of the region hold the word, and each place of another region what it held
 pub record IsFilledTo (layout : Layout) (region : Region) (word count : ℕ) (old new : List ℕ) : Type 0 where

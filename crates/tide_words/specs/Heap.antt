@@ -1,8 +1,8 @@
 -- What the words of a heap say, as a function of region and index.
 use Rattle.std.specs.Prelude.{ℕ, ◌≡◌, ◌<◌, ◌==◌, ◌&&◌, List, length, slice_index, if◌then◌else◌}
 use Rattle.tide_model.specs.Layout.{Layout}
-use Rattle.tide_words.specs.declared.region.Region.{Region}
-use Rattle.tide_words.specs.Region.{tag, size_of, words_of, place_of}
+use Rattle.tide_layout.specs.declared.region.Region.{Region}
+use Rattle.tide_layout.specs.Region.{tag, size_of, words_of, place_of}
 
 -- the word at each index of each region
 abbrev pub Heap : Type 0

@@ -1,4 +1,3 @@
-pub mod Bits
 pub mod ColourWord
 pub mod Colours
 pub mod EmptyHeap
@@ -6,16 +5,12 @@ pub mod Filled
 pub mod Greyed
 pub mod Greys
 pub mod Heap
-pub mod Layout
-pub mod Limits
 pub mod Live
 pub mod Marked
 pub mod Marking
 pub mod PairWord
 pub mod Reading
 pub mod Reference
-pub mod Region
 pub mod Rules
-pub mod Slots
 pub mod StructureWord
 pub mod ValueWord

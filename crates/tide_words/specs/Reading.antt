@@ -7,13 +7,13 @@ use Rattle.tide_model.specs.Layout.{Layout, cell_count, array_count, block_of_ce
 use Rattle.tide_model.specs.References.{IsLive}
 use Rattle.tide_model.specs.Refused.{ShapeLists, is_table}
 use Rattle.tide_model.specs.State.{State, Status, free, live, dead, spent, is_free, blank_cell}
-use Rattle.tide_words.specs.declared.region.Region.TheVariants.{Phase, Active, Registers, Strong, Weak, Structure, Array, Claim, Group, Slots, Elements, Free, Dead}
+use Rattle.tide_layout.specs.declared.region.Region.TheVariants.{Phase, Active, Registers, Strong, Weak, Structure, Array, Claim, Group, Slots, Elements, Free, Dead}
 use Rattle.tide_words.specs.ColourWord.{phase_of}
 use Rattle.tide_words.specs.Heap.{Heap}
 use Rattle.tide_words.specs.PairWord.{pair_word, max_cells, IsPairWord}
 use Rattle.tide_words.specs.Reference.{array_word, claim_word}
-use Rattle.tide_words.specs.Region.{index_of_register}
-use Rattle.tide_words.specs.Slots.{index_of_slot, index_of_element, HasSlot, HasElement}
+use Rattle.tide_layout.specs.Region.{index_of_register}
+use Rattle.tide_layout.specs.Slots.{index_of_slot, index_of_element, HasSlot, HasElement}
 use Rattle.tide_words.specs.StructureWord.{structure_word}
 use Rattle.tide_words.specs.ValueWord.{val_word, HasU32}
 

@@ -1,5 +1,5 @@
 ghost use Rattle.std.specs.Prelude.{◌≡◌, length, IfOk};
-ghost use Rattle.tide_words.specs.Region.{size_of, words_of};
+ghost use Rattle.tide_layout.specs.Region.{size_of, words_of};
 
 use crate::{Layout, Region, Words};
 use std::alloc::Global;
@@ -34,8 +34,7 @@ impl VecWords {
         };
         let mut words = VecWords { words };
         words.fill(layout, Region::Active, u32::from(layout.mutators()), 1);
-        let blocks = (layout.cells() + layout.arrays()) / 64;
-        words.fill(layout, Region::Free, blocks, u64::MAX);
+        words.fill(layout, Region::Free, layout.block_count(), u64::MAX);
         Ok(words)
     }
 

@@ -9,7 +9,7 @@ use std::process::Abort;
 use std::test::Fail;
 use tide_model::{Op, Reply};
 use tide_shape::{Paths, Shapes};
-use tide_words::Layout;
+use tide_layout::Layout;
 
 /// A call by a mutator, and what it is to be answered.
 pub type Call = (u32, Op, Reply);

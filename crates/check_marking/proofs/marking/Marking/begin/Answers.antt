@@ -1,8 +1,8 @@
 use Rattle.std.proofs.Common.{ℕ, ◌≡◌, sym, ◌∙◌, ap, subst, List, []}
 use Rattle.std.specs.Prelude.{slice_set}
-use Rattle.tide_words.specs.declared.region.Region.TheVariants.{Phase}
+use Rattle.tide_layout.specs.declared.region.Region.TheVariants.{Phase}
 use Rattle.tide_words.specs.Greys.{Greys}
-use Rattle.tide_words.specs.Region.{place_of}
+use Rattle.tide_layout.specs.Region.{place_of}
 use Rattle.check_marking.specs.Underway.{IsUnderway}
 use Rattle.check_marking.proofs.Beginning.{IsUnderway-first}
 use Rattle.check_marking.proofs.marking.Marking.begin.Goals as goal

@@ -1,6 +1,6 @@
 use Rattle.std.proofs.Common.{◌≢◌, sym, ◌∙◌, ap, subst, arith, List, get_or}
 use Rattle.std.proofs.lemmas.Option.{IfSome_then}
-use Rattle.tide_words.proofs.LimitLaws.{few_arrays}
+use Rattle.tide_layout.proofs.LimitLaws.{few_arrays}
 use Rattle.tide_plain.proofs.ClassLaws.{IfNone_then, arrays_of_class-end, arrays_of_class-full, IsFreeArrayOf-stored, lowest_free_array}
 use Rattle.tide_plain.specs.declared.stored.ArrayStatus.{ArrayStatus}
 use Rattle.tide_plain.specs.declared.stored.ArrayStatus.TheVariants.{Free}

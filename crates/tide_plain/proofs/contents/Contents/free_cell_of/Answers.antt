@@ -1,6 +1,6 @@
 use Rattle.std.proofs.Common.{sym, ◌∙◌, ap, arith, Bool, false, List, get_or}
 use Rattle.std.proofs.lemmas.Option.{IfSome_then}
-use Rattle.tide_words.proofs.LimitLaws.{few_cells}
+use Rattle.tide_layout.proofs.LimitLaws.{few_cells}
 use Rattle.tide_plain.proofs.ClassLaws.{IfNone_then, cells_of_class-end, cells_of_class-full}
 use Rattle.tide_plain.proofs.contents.Contents.free_cell_of.Goals as goal
 

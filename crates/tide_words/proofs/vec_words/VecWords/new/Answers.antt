@@ -1,7 +1,7 @@
-use Rattle.std.proofs.Common.{◌≡◌, ℕ, ◌+◌, ◌/◌, ◌∙◌, ap, subst, arith, replicate}
+use Rattle.std.proofs.Common.{◌≡◌, ℕ, ◌∙◌, ap, subst, replicate}
 use Rattle.tide_words.specs.Filled.{IsFilledTo}
-use Rattle.tide_words.specs.Region.{words_of, block_count}
-use Rattle.tide_words.specs.declared.region.Region.TheVariants.{Active, Free}
+use Rattle.tide_layout.specs.Region.{words_of}
+use Rattle.tide_layout.specs.declared.region.Region.TheVariants.{Active, Free}
 use Rattle.tide_words.proofs.Filling.{Reads-empty}
 use Rattle.tide_words.proofs.vec_words.VecWords.new.Goals as goal
 
@@ -11,7 +11,6 @@ returns c =
     let zeros = c.in-Ok.words.items in
     let all_zero : zeros ≡ replicate (words_of layout) 0 = c.in-Ok.ensures.items_if_clones_equal (λ y e. e) ∙ ap (λ (n : ℕ). replicate n 0) c.words.ensures.words in
     let mutators : c.from.result ≡ layout.mutators = cc in
-    let blocks : (c.cells.result + c.arrays.result) / 64 ≡ block_count layout = omega (arith, c.cells.ensures.count, c.arrays.ensures.count) in
     let active = subst (λ (count : ℕ). IsFilledTo layout Active 1 count zeros c.fill.new.self) mutators c.fill.ensures in
-    let free = subst (λ (count : ℕ). IsFilledTo layout Free 18446744073709551615 count c.fill.new.self c.fill-2.new.self) blocks c.fill-2.ensures in
+    let free = subst (λ (count : ℕ). IsFilledTo layout Free 18446744073709551615 count c.fill.new.self c.fill-2.new.self) c.block_count.ensures.count c.fill-2.ensures in
     Reads-empty layout zeros c.fill.new.self c.fill-2.new.self all_zero active free

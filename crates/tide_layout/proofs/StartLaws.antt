@@ -1,0 +1,77 @@
+-- The starts of regions that a layout keeps.
+use Rattle.std.proofs.Common.{ℕ, ◌≡◌, ◌-◌, ◌≤◌, ◌++◌, inl, inr, refl, sym, ◌∙◌, ap, arith, List, length, get_or, take, sum, sum_by, map}
+use Rattle.std.specs.Prelude.{slice_index, All}
+use Rattle.std.specs.List.{range_with_len}
+use Rattle.std.proofs.Math.ListN.{get_or-append}
+use Rattle.std.proofs.lemmas.Bool.{cases_lt}
+use Rattle.std.proofs.lemmas.List.{ext_get_or, get_or_past, get_or-append_right, take-map}
+use Rattle.std.proofs.lemmas.List.FromFn.{get_or-map-range_with_len, length-map-range_with_len}
+use Rattle.std.proofs.lemmas.List.Sums.{sum-map}
+use Rattle.tide_model.specs.Layout.{Layout}
+use Rattle.tide_layout.specs.declared.region.Region.{Region}
+use Rattle.tide_layout.specs.Layout.{starts_of}
+use Rattle.tide_layout.specs.Limits.{IsWithinLimits}
+use Rattle.tide_layout.specs.Region.{base_of, regions, size_of, tag, words_of}
+use Rattle.tide_layout.proofs.LimitLaws.{words_of-few}
+use Rattle.tide_layout.proofs.Places.{tag-below}
+
+-- where a region begins
+pub starts_of-base : (layout : Layout) (region : Region) → get_or (starts_of layout) (tag region) 0 ≡ base_of layout region
+unfolding starts_of base_of
+starts_of-base layout region =
+    get_or-map-range_with_len (λ (count : ℕ). sum_by (size_of layout) (take count regions)) 0 22 (tag region) (tag region) 0
+    (let below = tag-below region in omega (arith, below)) (omega arith)
+
+-- where all regions end
+pub starts_of-words : (layout : Layout) → get_or (starts_of layout) 21 0 ≡ words_of layout
+unfolding starts_of words_of
+starts_of-words layout =
+    get_or-map-range_with_len (λ (count : ℕ). sum_by (size_of layout) (take count regions)) 0 22 21 21 0 (omega arith) (omega arith)
+
+-- the sizes of all regions have few words together
+pub sum-sizes : (layout : Layout) (sizes : List ℕ) → IsWithinLimits layout → sizes ≡ map (size_of layout) regions → sum sizes ≤ 769658
+unfolding words_of
+sum-sizes layout sizes limits is_sizes =
+    let few : sum_by (size_of layout) regions ≤ 769658 = words_of-few layout limits in
+    let all : sum sizes ≡ sum_by (size_of layout) regions = ap sum is_sizes ∙ sum-map (size_of layout) regions in
+    omega (arith, few, all)
+
+-- sums of the first sizes are the starts
+pub starts_of-is : (layout : Layout) (sizes starts : List ℕ) → sizes ≡ map (size_of layout) regions → length starts ≡ 22 →
+    ((k : ℕ) → k ≤ 21 → slice_index starts k ≡ sum (take k sizes)) → starts ≡ starts_of layout
+unfolding starts_of
+starts_of-is layout sizes starts is_sizes all each =
+    let first : ℕ → ℕ = λ count. sum_by (size_of layout) (take count regions) in
+    let many = length-map-range_with_len first 0 22 in
+    ext_get_or 0 starts (map first (range_with_len 0 22)) (all ∙ sym many)
+    (λ k h. each k (omega (arith, all))
+    ∙ ap (λ (xs : List ℕ). sum (take k xs)) is_sizes ∙ ap sum (take-map (size_of layout) k regions) ∙ sum-map (size_of layout) (take k regions)
+    ∙ sym (get_or-map-range_with_len first 0 22 k k 0 (omega (arith, all)) (omega arith)))
+
+-- blocks of five and five classes that are in their limits
+few_of_both : (blocks arrays : List ℕ) → All (λ count. count ≤ 64) blocks → All (λ count. count ≤ 64) arrays →
+    (class : ℕ) → slice_index (blocks ++ arrays) class ≤ 64
+few_of_both blocks arrays few_blocks few_arrays class = elim (cases_lt class (length blocks)) [
+  | inl front ↦ (let few = few_blocks class 0 front in let at = get_or-append blocks arrays 0 class front in omega (arith, few, at))
+  | inr back ↦
+      let at = get_or-append_right blocks arrays (length blocks) class 0 refl back in
+      elim (cases_lt (class - length blocks) (length arrays)) [
+        | inl within ↦ (let few = few_arrays (class - length blocks) 0 within in omega (arith, few, at))
+        | inr past ↦ (let none = get_or_past arrays (class - length blocks) 0 past in omega (arith, none, at))
+      ]
+]
+
+-- numbers that are each in its limit are within the limits
+pub IsWithinLimits-each : (layout : Layout) → length layout.cell_blocks ≡ 5 → length layout.array_blocks ≡ 5 →
+    All (λ count. count ≤ 64) layout.cell_blocks → All (λ count. count ≤ 64) layout.array_blocks →
+    layout.registers ≤ 16 → layout.strong ≤ 256 → layout.weak ≤ 256 → layout.mutators ≤ 16 → layout.visitors ≤ 8 → IsWithinLimits layout
+IsWithinLimits-each layout five_cells five_arrays few_blocks few_arrays registers strong weak mutators visitors = record {
+  five_cell_classes = five_cells;
+  five_array_classes = five_arrays;
+  few_blocks = few_of_both layout.cell_blocks layout.array_blocks few_blocks few_arrays;
+  few_registers = registers;
+  few_strong = strong;
+  few_weak = weak;
+  few_mutators = mutators;
+  few_visitors = visitors;
+}

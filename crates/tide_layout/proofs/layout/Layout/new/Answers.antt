@@ -1,0 +1,20 @@
+use Rattle.std.proofs.Common.{arith}
+use Rattle.tide_layout.specs.Layout.{layout_of}
+use Rattle.tide_layout.proofs.StartLaws.{IsWithinLimits-each, starts_of-is, sum-sizes}
+use Rattle.tide_layout.proofs.layout.Layout.new.Goals as goal
+
+pub starts_of-starts-requires : goal.starts_of-starts-requires
+starts_of-starts-requires c =
+    let layout = layout_of (record { cell_blocks = c.args.blocks; array_blocks = c.args.arrays; registers = c.args.registers; strong = c.args.strong; weak = c.args.weak; mutators = c.args.mutators; visitors = c.args.visitors }) in
+    let limits = IsWithinLimits-each layout (omega arith) (omega arith) c.requires.few_blocks c.requires.few_arrays c.requires.few_registers
+    c.requires.few_strong c.requires.few_weak c.requires.few_mutators c.requires.few_visitors in
+    sum-sizes layout c.sizes.result limits c.sizes.ensures
+
+pub invariant_of-result : goal.invariant_of-result
+invariant_of-result c =
+    let layout = layout_of (record { cell_blocks = c.args.blocks; array_blocks = c.args.arrays; registers = c.args.registers; strong = c.args.strong; weak = c.args.weak; mutators = c.args.mutators; visitors = c.args.visitors }) in
+    record {
+      limits = IsWithinLimits-each layout (omega arith) (omega arith) c.requires.few_blocks c.requires.few_arrays c.requires.few_registers
+          c.requires.few_strong c.requires.few_weak c.requires.few_mutators c.requires.few_visitors;
+      begins = starts_of-is layout c.sizes.result c.starts_of-starts.result c.sizes.ensures (omega arith) c.starts_of-starts.ensures;
+    }

@@ -1,0 +1,7 @@
+use Rattle.std.proofs.Common.{arith, sym, ◌∙◌}
+use Rattle.tide_layout.specs.Layout.{layout_of}
+use Rattle.tide_layout.proofs.ClassWidths.{words_before_array-among}
+use Rattle.tide_layout.proofs.numbers.Numbers.words_before_array.Goals as goal
+
+pub returns : goal.returns
+returns c = c.words_among.ensures ∙ sym (words_before_array-among (layout_of c.args.self.now) c.args.array (omega arith))

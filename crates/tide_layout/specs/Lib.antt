@@ -1,0 +1,4 @@
+pub mod Layout
+pub mod Limits
+pub mod Region
+pub mod Slots

@@ -1,0 +1,17 @@
+//! The layout of a heap: how large it is, and where each of its words lies.
+//!
+//! A heap is one list of words, parted into the regions of `Region`. A `Layout` tells how large each region is and
+//! where each word lies: `place` for any region, `slot` for a cell and `element` for an array. No two words share a
+//! place. What a word says, and that there are words at all, this crate does not know. It stands on `tide_model`.
+#![tactic(auto)]
+
+mod layout;
+mod numbers;
+mod operands;
+mod region;
+mod sizes;
+
+pub use layout::Layout;
+pub use operands::fits;
+pub use region::Region;
+pub use sizes::{BLOCK_SIZE, PAIRS, TABLE, array_capacity, slots, width};

@@ -1,0 +1,124 @@
+//! The numbers that a layout is made of, and the sizes that follow from them. It knows no place of a word.
+ghost use Rattle.std.specs.Prelude.{◌≡◌, ◌*◌, ◌≤◌, map, sum};
+ghost use Rattle.tide_model.specs.Layout.{array_count, cell_count};
+ghost use Rattle.tide_layout.specs.Layout.{layout_of};
+ghost use Rattle.tide_layout.specs.Region.{block_count, regions, size_of};
+ghost use Rattle.tide_layout.specs.Slots.{words_among, words_before_array, words_before_cell};
+
+use crate::sizes::{BLOCK_SIZE, width};
+
+/// The numbers that a layout is made of.
+#[derive(Clone, Copy, Debug, PartialEq, Eq)]
+pub(crate) struct Numbers {
+    pub(crate) cell_blocks: [u8; 5],
+    pub(crate) array_blocks: [u8; 5],
+    pub(crate) registers: u8,
+    pub(crate) strong: u16,
+    pub(crate) weak: u16,
+    pub(crate) mutators: u8,
+    pub(crate) visitors: u8,
+}
+
+/// How many blocks five classes have together.
+fn blocks_of_all(blocks: &[u8; 5]) -> u32
+    ensures count { result ≡ sum blocks.now }
+    ensures small { result ≤ 1275 }
+{
+    let mut count = 0;
+    for of_class in blocks {
+        count += u32::from(*of_class);
+    }
+    count
+}
+
+/// How many words the first ids of five classes from `first` on have together.
+fn words_among(blocks: &[u8; 5], first: u8, ids: u32) -> u32
+    requires few { first ≤ 5 }
+    requires within { ids ≤ 64 * sum blocks.now }
+    ensures { result ≡ words_among blocks.now first ids }
+{
+    let mut rest = ids;
+    let mut words = 0;
+    for class in 0u8..5 {
+        let of_class = rest.min(BLOCK_SIZE * u32::from(blocks[usize::from(class)]));
+        words += of_class * u32::from(width(first + class));
+        rest -= of_class;
+    }
+    words
+}
+
+impl Numbers {
+    /// How many cells there are.
+    pub(crate) fn cells(&self) -> u32
+        ensures count { result ≡ cell_count (layout_of self.now) }
+        ensures small { result ≤ 81600 }
+    {
+        BLOCK_SIZE * blocks_of_all(&self.cell_blocks)
+    }
+
+    /// How many arrays there are.
+    pub(crate) fn arrays(&self) -> u32
+        ensures count { result ≡ array_count (layout_of self.now) }
+        ensures small { result ≤ 81600 }
+    {
+        BLOCK_SIZE * blocks_of_all(&self.array_blocks)
+    }
+
+    /// How many blocks there are.
+    pub(crate) fn block_count(&self) -> u32
+        ensures count { result ≡ block_count (layout_of self.now) }
+        ensures small { result ≤ 2550 }
+    {
+        blocks_of_all(&self.cell_blocks) + blocks_of_all(&self.array_blocks)
+    }
+
+    /// How many words the slots and pairs of the cells before this one take.
+    pub(crate) fn words_before_cell(&self, cell: u32) -> u32
+        requires { cell ≤ cell_count (layout_of self.now) }
+        ensures { result ≡ words_before_cell (layout_of self.now) cell }
+    {
+        words_among(&self.cell_blocks, 0, cell)
+    }
+
+    /// How many words the elements of the arrays before this one take.
+    pub(crate) fn words_before_array(&self, array: u32) -> u32
+        requires { array ≤ array_count (layout_of self.now) }
+        ensures { result ≡ words_before_array (layout_of self.now) array }
+    {
+        words_among(&self.array_blocks, 5, array)
+    }
+
+    /// How many words each region has, in the order of the regions.
+    pub(crate) fn sizes(&self) -> [u32; 21]
+        ensures { result ≡ map (size_of (layout_of self.now)) regions }
+    {
+        let mutators = u32::from(self.mutators);
+        let participants = mutators + u32::from(self.visitors);
+        let cells = self.cells();
+        let cell_blocks = blocks_of_all(&self.cell_blocks);
+        let blocks = self.block_count();
+        [
+            1, // Period
+            1, // Phase
+            mutators, // Active
+            mutators, // Call
+            participants, // Stopped
+            mutators * u32::from(self.registers), // Registers
+            u32::from(self.strong), // Strong
+            u32::from(self.weak), // Weak
+            cells, // Colour
+            cells, // Structure
+            cells, // Array
+            cells, // Claim
+            cells, // Group
+            self.words_before_cell(cells), // Slots
+            self.words_before_array(self.arrays()), // Elements
+            blocks, // Free
+            blocks, // Dead
+            cell_blocks, // GreyShared
+            cell_blocks, // GreyMutator
+            cell_blocks, // GreyRace
+            blocks, // Swept
+        ]
+    }
+}

@@ -1,7 +1,0 @@
-use Rattle.std.proofs.Common.{arith}
-use Rattle.tide_words.specs.Layout.{layout_of}
-use Rattle.tide_words.proofs.LimitLaws.{few_arrays}
-use Rattle.tide_words.proofs.layout.Layout.arrays.Goals as goal
-
-pub returns-clause-few : goal.returns-clause-few
-returns-clause-few c = let few = few_arrays (layout_of c.self.inside.numbers) c.self.invariant.limits in omega (arith, few)

@@ -1,9 +1,0 @@
-use Rattle.std.proofs.Common.{ℕ, ◌≡◌, ◌≤◌, length, sum, take}
-use Rattle.std.specs.Prelude.{slice_index}
-use Rattle.tide_words.proofs.layout.starts_of.Given as goal
-
-abbrev pub invariant-loop-tag : goal.invariant-loop-tag
-invariant-loop-tag l = record {
-  all : length l.starts ≡ 22;
-  each : (k : ℕ) → k ≤ l.tag → slice_index l.starts k ≡ sum (take k l.sizes);
-}

@@ -1,7 +1,0 @@
-use Rattle.std.proofs.Common.{arith, sym, ◌∙◌}
-use Rattle.tide_words.specs.Layout.{layout_of}
-use Rattle.tide_words.proofs.ClassWidths.{words_before_cell-among}
-use Rattle.tide_words.proofs.numbers.Numbers.words_before_cell.Goals as goal
-
-pub returns : goal.returns
-returns c = c.words_among.ensures ∙ sym (words_before_cell-among (layout_of c.args.self.now) c.args.cell (omega arith))
