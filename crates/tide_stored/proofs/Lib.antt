@@ -1,0 +1,12 @@
+pub mod CellLaws
+pub mod ClassLaws
+pub mod Copies
+pub mod EmptyContents
+pub mod LayoutLaws
+pub mod ListsAsFunctions
+pub mod PairLaws
+pub mod PropertyLaws
+pub mod RegisterLaws
+pub mod RoomLaws
+pub mod StoredCellLaws
+pub mod StoredLaws
