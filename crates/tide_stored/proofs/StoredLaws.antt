@@ -5,13 +5,13 @@ use Rattle.std.proofs.lemmas.List.{length-set, get_or-set_same, get_or-set_other
 use Rattle.std.proofs.lemmas.Option.{slice_get_within, get_or_from_slice_get}
 use Rattle.std.specs.Prelude.{slice_set, IsSome}
 use Rattle.tide_model.specs.declared.val.Val.{Val}
-use Rattle.tide_model.specs.References.{IsLive}
+use Rattle.tide_model.specs.References.{IsLive, RefsAreLive}
 use Rattle.tide_model.specs.State.{CellState}
 use Rattle.tide_shape.specs.ShapeTable.{keys_of}
 use Rattle.tide_stored.specs.Stored.{Stored}
 use Rattle.tide_stored.specs.declared.cells.StoredCell.{StoredCell}
 use Rattle.tide_stored.specs.declared.arrays.ArrayStatus.{ArrayStatus}
-use Rattle.tide_stored.specs.Contents.{state_of, stored_at, IsStored}
+use Rattle.tide_stored.specs.Contents.{state_of, stored_at, IsSound, IsStored}
 use Rattle.tide_stored.specs.Stored.{blank_stored, IsDistinctPairs}
 use Rattle.tide_stored.proofs.CellLaws.{flag_from_live, cell_from_flag, live_below}
 use Rattle.tide_stored.proofs.Copies.{get_or-copies}
@@ -109,3 +109,15 @@ IsStored-elements contents elements long old = record {
     was_live cell alive =
         ap (λ (c : CellState). c.status) (cell_from_flag contents.shapes contents.elements contents.are_live contents.cells cell
         (flag_from_live contents.shapes elements contents.are_live contents.cells cell alive))
+
+-- what is live in the contents as they are seen is live in their parts
+pub IsLive-at : (parts contents : Stored) (cell : ℕ) → parts ≡ contents → IsLive (state_of contents) cell → IsLive (state_of parts) cell
+IsLive-at parts contents cell is alive = subst (λ (s : Stored). IsLive (state_of s) cell) (sym is) alive
+
+-- something is stored of a live cell
+pub stored_within : (contents : Stored) (cell : ℕ) → IsStored contents → IsLive (state_of contents) cell → cell < length contents.cells
+stored_within contents cell stored alive = let below = live_below contents cell stored alive in omega (arith, below, stored.all_cells)
+
+-- contents whose references are live are sound in their parts
+pub IsSound-at : (parts contents : Stored) → parts ≡ contents → IsStored parts → RefsAreLive (state_of contents) → IsSound parts
+IsSound-at parts contents is stored references = record { stored = stored; references = subst (λ (s : Stored). RefsAreLive (state_of s)) (sym is) references }

@@ -4,7 +4,13 @@ ghost use Rattle.tide_model.specs.State.{empty_state};
 ghost use Rattle.tide_shape.specs.Lists.{lists_of};
 ghost use Rattle.tide_stored.specs.Contents.{state_of, IsWithinLayout};
 
+mod cells;
+mod handles;
+mod mutators;
+mod pairs;
+mod properties;
 mod reading;
+mod room;
 
 use crate::arrays::Arrays;
 use crate::cells::Cells;

@@ -17,7 +17,7 @@ fn is_of(place: Option<Pair>, key: u32) -> bool
 }
 
 /// The place that has a pair of the key.
-fn place_of(places: &[Option<Pair>], key: u32) -> Option<usize>
+pub fn place_of(places: &[Option<Pair>], key: u32) -> Option<usize>
     ensures first { result ≡ position (is_of key) places.now }
     ensures within { IfSome result (λ place. place < length places.now) }
 {
@@ -42,7 +42,7 @@ pub fn value_of(places: &[Option<Pair>], key: u32) -> Option<Val>
 }
 
 /// The place for a pair of the key: the one that has the key, and else the first empty one.
-fn seat(places: &[Option<Pair>], key: u32) -> Option<usize>
+pub fn seat(places: &[Option<Pair>], key: u32) -> Option<usize>
     requires { IsDistinctPairs places.now }
     ensures seat { IfSome result (IsSeat places.now key) }
     ensures absent { IfNone result (pairs_of places.now key ≡ None) }
