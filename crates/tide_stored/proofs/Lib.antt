@@ -3,6 +3,7 @@ pub mod CellLaws
 pub mod ClassLaws
 pub mod Copies
 pub mod EmptyContents
+pub mod FreedArrays
 pub mod LayoutLaws
 pub mod ListsAsFunctions
 pub mod MutatorLaws
@@ -12,3 +13,4 @@ pub mod PropertyLaws
 pub mod RoomLaws
 pub mod StoredCellLaws
 pub mod StoredLaws
+pub mod SweepLaws

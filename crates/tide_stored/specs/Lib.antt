@@ -7,3 +7,4 @@ pub mod Parts
 pub mod Properties
 pub mod Stored
 pub mod Sweeping
+pub mod Swept

@@ -11,6 +11,7 @@ mod pairs;
 mod properties;
 mod reading;
 mod room;
+mod sweeping;
 
 use crate::arrays::Arrays;
 use crate::cells::Cells;

@@ -12,6 +12,7 @@ mod contents;
 mod handles;
 mod mutators;
 mod pairs;
+mod sweeping;
 
 pub use arrays::ArrayStatus;
 pub use cells::Pair;

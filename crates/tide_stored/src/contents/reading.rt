@@ -80,6 +80,15 @@ impl Contents {
         &self.cells.stored(cell).slots
     }
 
+    /// What a slot of a live cell holds.
+    pub fn slot(&self, cell: u32, slot: u8) -> Val
+        requires live { IsLive (state_of self.now) cell }
+        requires slot { slot < 16 }
+        ensures { result ≡ ((state_of self.now).cells cell).slots slot }
+    {
+        self.cells.stored(cell).slots[usize::from(slot)]
+    }
+
     /// How many keys a live cell has.
     pub fn key_count(&self, cell: u32) -> u32
         requires { IsLive (state_of self.now) cell }
