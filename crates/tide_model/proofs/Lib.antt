@@ -1,3 +1,4 @@
+pub mod ActiveLaws
 pub mod ClaimLaws
 pub mod Cycles
 pub mod Histories

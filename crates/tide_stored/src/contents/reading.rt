@@ -49,6 +49,14 @@ impl Contents {
         self.mutators.stored(who).claims.as_slice()
     }
 
+    /// How many cells a mutator claims.
+    pub fn claim_count(&self, who: u32) -> u32
+        requires { who < self.now.layout.mutators }
+        ensures { result ≡ length ((state_of self.now).claims who) }
+    {
+        self.mutators.stored(who).claims.len() as u32
+    }
+
     /// What the strong handles hold.
     pub fn strong_handles(&self) -> &[Val]
         ensures all { length result.now ≡ self.now.layout.strong }
