@@ -1,7 +1,7 @@
 //! The words of a heap, which are written one fact at a time.
 ghost use Rattle.std.specs.Prelude.{◌≡◌, ◌<◌, ◌≤◌, length};
 ghost use Rattle.tide_model.specs.Layout.{cell_count};
-ghost use Rattle.tide_layout.specs.Region.{block_count, size_of, words_of};
+ghost use Rattle.tide_layout.specs.Region.{block_count, size_of, word_count};
 ghost use Rattle.tide_layout.specs.Slots.{width_of_class};
 
 use crate::fact::Fact;
@@ -33,7 +33,7 @@ fn block_count(layout: &Layout) -> u32
 pub struct Heap {
     pub layout: Layout,
     pub words: VecWords,
-    ghost all_words: { length words ≡ words_of layout },
+    ghost all_words: { length words ≡ word_count layout },
 }
 
 impl Heap {

@@ -8,8 +8,6 @@
 
 mod bits;
 mod classes;
-#[cfg(test)]
-mod tests;
 
 pub use bits::{after, lowest};
 pub use classes::{

@@ -8,7 +8,7 @@ use Rattle.std.proofs.lemmas.List.{get_or_default, get_or_past, get_or-append-ad
 use Rattle.std.proofs.lemmas.List.Sums.{sum_by-le}
 use Rattle.tide_model.specs.Layout.{Layout, cell_count, array_count}
 use Rattle.tide_layout.specs.Limits.{IsWithinLimits}
-use Rattle.tide_layout.specs.Region.{size_of, words_of}
+use Rattle.tide_layout.specs.Region.{size_of, word_count}
 use Rattle.tide_layout.specs.declared.region.Region.{Region}
 use Rattle.tide_layout.proofs.Places.{base_of-end}
 use Rattle.tide_layout.specs.Slots.{width_of_class, words_among}
@@ -77,9 +77,9 @@ words_among-few blocks first ids five few within =
     omega (arith, last, none, s0, s1, s2, s3, s4)
 
 -- there are at most 769,658 words
-pub words_of-few : (layout : Layout) → IsWithinLimits layout → words_of layout ≤ 769658
-unfolding words_of
-words_of-few layout limits =
+pub word_count-few : (layout : Layout) → IsWithinLimits layout → word_count layout ≤ 769658
+unfolding word_count
+word_count-few layout limits =
     let cells = few_cells layout limits in
     let arrays = few_arrays layout limits in
     let mutators = limits.few_mutators in
@@ -97,6 +97,6 @@ words_of-few layout limits =
 -- each region has at most 769,658 words
 pub size_of-few : (layout : Layout) (region : Region) → IsWithinLimits layout → size_of layout region ≤ 769658
 size_of-few layout region limits =
-    let few = words_of-few layout limits in
+    let few = word_count-few layout limits in
     let ends = base_of-end layout region in
     omega (arith, few, ends)

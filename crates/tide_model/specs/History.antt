@@ -112,30 +112,15 @@ moment_after_last test (event ∷ events) = one_later (moment_after_last test ev
 
 -- the entry begins a cycle
 abbrev pub is_begin : Entry → Bool
-is_begin (Call who op reply) = false
 is_begin (Begin cycle) = true
-is_begin (Pause visits) = false
-is_begin (Visits who visits) = false
-is_begin (End cycle freed) = false
-is_begin (Sweep block) = false
-is_begin (Open number run) = false
+is_begin _ = false
 
 -- the entry opens a running part, of which there are none today
 abbrev pub is_open : Entry → Bool
-is_open (Call who op reply) = false
-is_open (Begin cycle) = false
-is_open (Pause visits) = false
-is_open (Visits who visits) = false
-is_open (End cycle freed) = false
-is_open (Sweep block) = false
 is_open (Open number run) = true
+is_open _ = false
 
 -- the entry is a call of the mutator: nothing else is a mutator's entry
 abbrev pub is_call_of : ℕ → Entry → Bool
 is_call_of mutator (Call who op reply) = who == mutator
-is_call_of mutator (Begin cycle) = false
-is_call_of mutator (Pause visits) = false
-is_call_of mutator (Visits who visits) = false
-is_call_of mutator (End cycle freed) = false
-is_call_of mutator (Sweep block) = false
-is_call_of mutator (Open number run) = false
+is_call_of mutator _ = false

@@ -1,5 +1,5 @@
 -- Which histories are lawful.
-use Rattle.std.specs.Prelude.{ℕ, ◌≡◌, ◌<◌, true, List, take, slice_get, Option, None, Some}
+use Rattle.std.specs.Prelude.{ℕ, ◌≡◌, ◌<◌, ◌^◌, true, List, take, slice_get, Option, None, Some}
 use Rattle.tide_model.specs.declared.op.Op.{Op}
 use Rattle.tide_model.specs.declared.op.Op.TheVariants.{Alloc, Table, Get, Put, Move, Set, Drop, Claim, Release, Unclaim, Add, GetProp, SetProp, StrongSet, StrongGet, WeakSet, WeakGet, PairSet, PairGet, PairDel, Group, Collect, Retire}
 use Rattle.tide_model.specs.declared.op.Reply.{Reply}
@@ -16,14 +16,14 @@ use Rattle.tide_model.specs.Cycle.{StandsBegin, StandsEnd, HasDead}
 use Rattle.tide_model.specs.Room.{StandsFull}
 
 -- the operands of an operation are those of the layout: registers of its mutator, handles, and a class of cells with
--- slots
+-- slots; a number that is set, or that names a group, has 32 bits
 abbrev pub FitsLayout : Layout → Op → Type 0
 FitsLayout layout (Alloc dst class) = (dst < layout.registers) × (class < 4)
 FitsLayout layout (Table dst) = dst < layout.registers
 FitsLayout layout (Get dst src slot) = (dst < layout.registers) × (src < layout.registers)
 FitsLayout layout (Put src slot val) = (src < layout.registers) × (val < layout.registers)
 FitsLayout layout (Move dst src) = (dst < layout.registers) × (src < layout.registers)
-FitsLayout layout (Set dst n) = dst < layout.registers
+FitsLayout layout (Set dst n) = (dst < layout.registers) × (n < 2 ^ 32)
 FitsLayout layout (Drop dst) = dst < layout.registers
 FitsLayout layout (Claim src) = src < layout.registers
 FitsLayout layout (Release src) = src < layout.registers
@@ -38,7 +38,7 @@ FitsLayout layout (WeakGet dst at) = (dst < layout.registers) × (at < layout.we
 FitsLayout layout (PairSet src key val) = (src < layout.registers) × (key < layout.registers) × (val < layout.registers)
 FitsLayout layout (PairGet dst src key) = (dst < layout.registers) × (src < layout.registers) × (key < layout.registers)
 FitsLayout layout (PairDel src key) = (src < layout.registers) × (key < layout.registers)
-FitsLayout layout (Group src n) = src < layout.registers
+FitsLayout layout (Group src n) = (src < layout.registers) × (n < 2 ^ 32)
 FitsLayout layout Collect = Unit {0}
 FitsLayout layout Retire = Unit {0}
 

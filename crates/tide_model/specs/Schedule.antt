@@ -3,7 +3,7 @@ use Rattle.std.specs.Prelude.{ℕ, ◌≡◌, ◌≤◌, Bool, true, false, List
 use Rattle.tide_model.specs.declared.op.Op.{Op}
 use Rattle.tide_model.specs.declared.op.Op.TheVariants.{Retire}
 use Rattle.tide_model.specs.declared.op.Reply.{Reply}
-use Rattle.tide_model.specs.declared.op.Reply.TheVariants.{Done, Born, Seen, Asked, Refused}
+use Rattle.tide_model.specs.declared.op.Reply.TheVariants.{Asked, Refused}
 use Rattle.tide_model.specs.declared.op.Refusal.TheVariants.{Full}
 use Rattle.tide_model.specs.declared.entry.Entry.TheVariants.{Call, Begin, Pause, End, Sweep}
 use Rattle.tide_model.specs.declared.entry.Event.{Event}
@@ -31,11 +31,8 @@ call_event turn = record { entry = Call turn.who turn.op turn.reply; took = turn
 
 -- the reply is that a cycle was asked for
 abbrev pub is_asked : Reply → Bool
-is_asked Done = false
-is_asked (Born cell) = false
-is_asked (Seen value) = false
 is_asked Asked = true
-is_asked (Refused refusal) = false
+is_asked _ = false
 
 -- the operation is to retire
 abbrev pub is_retire : Op → Bool

@@ -32,7 +32,7 @@ IsAskable-operation settings keys (Table dst) is = record { fits = is; text = tt
 IsAskable-operation settings keys (Get dst src slot) is = record { fits = (is.0, is.1); text = tt; goes_on = refl }
 IsAskable-operation settings keys (Put src slot val) is = record { fits = (is.0, is.2); text = tt; goes_on = refl }
 IsAskable-operation settings keys (Move dst src) is = record { fits = is; text = tt; goes_on = refl }
-IsAskable-operation settings keys (Set dst n) is = record { fits = is.0; text = tt; goes_on = refl }
+IsAskable-operation settings keys (Set dst n) is = record { fits = is; text = tt; goes_on = refl }
 IsAskable-operation settings keys (Drop dst) is = record { fits = is; text = tt; goes_on = refl }
 IsAskable-operation settings keys (Claim src) is = record { fits = is; text = tt; goes_on = refl }
 IsAskable-operation settings keys (Release src) is = record { fits = is; text = tt; goes_on = refl }
@@ -47,7 +47,7 @@ IsAskable-operation settings keys (WeakGet dst at) is = record { fits = is; text
 IsAskable-operation settings keys (PairSet src key val) is = record { fits = is; text = tt; goes_on = refl }
 IsAskable-operation settings keys (PairGet dst src key) is = record { fits = is; text = tt; goes_on = refl }
 IsAskable-operation settings keys (PairDel src key) is = record { fits = is; text = tt; goes_on = refl }
-IsAskable-operation settings keys (Group src n) is = record { fits = is.0; text = tt; goes_on = refl }
+IsAskable-operation settings keys (Group src n) is = record { fits = is; text = tt; goes_on = refl }
 IsAskable-operation settings keys Collect is = record { fits = tt; text = tt; goes_on = refl }
 IsAskable-operation settings keys Retire is = absurd is
 

@@ -1,3 +1,4 @@
+-- What holds at each turn of the loop of `class_from`.
 use Rattle.std.proofs.Common.{◌≡◌, ◌+◌, ◌*◌, ◌≤◌, nat_le}
 use Rattle.tide_model.specs.Numbers.{count_where}
 use Rattle.tide_model.specs.Layout.{first_block_of}

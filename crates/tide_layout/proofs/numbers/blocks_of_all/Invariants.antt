@@ -1,3 +1,4 @@
+-- What holds at each turn of the loop of `blocks_of_all`.
 use Rattle.std.proofs.Common.{◌≡◌, ◌*◌, ◌≤◌, sum, take}
 use Rattle.tide_layout.proofs.numbers.blocks_of_all.Given as goal
 

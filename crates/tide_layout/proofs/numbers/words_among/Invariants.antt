@@ -1,3 +1,4 @@
+-- What holds at each turn of the loop of `words_among`.
 use Rattle.std.proofs.Common.{◌≡◌, ◌-◌, ◌*◌, ◌≤◌, min, sum, take}
 use Rattle.tide_layout.specs.Slots.{words_among}
 use Rattle.tide_layout.proofs.numbers.words_among.Given as goal
