@@ -9,6 +9,8 @@
   names, in order.
 - A printed call, as `drop r2 = ok`, and a printed count, as `live 1`, is a line of some workload's text.
 - A line on the error output, as `riptide: not TOML`, is one that a refused input or a run that fails is compared with.
+
+It also tells which links of the pages lead nowhere, and which files that they name below crates/ aren't there.
 """
 import re
 import sys
@@ -80,8 +82,25 @@ def spans_differ(name, page):
             yield f"{name}: nothing that the gate runs is told {span}"
 
 
+def paths_differ():
+    """The links of all pages, and the files that they name by a crate's folder."""
+    folders = [TOP / "crates", *(TOP / "crates").iterdir()]
+    pages = [TOP / "README.md", *(TOP / "docs").glob("*.md"), *(TOP / "crates").glob("*/README.md")]
+    for page in sorted(pages):
+        text = page.read_text()
+        for link in re.findall(r"\]\(([^()#:]+)(?:#[^()]*)?\)", text):
+            if not (page.parent / link).exists():
+                yield f"{page.relative_to(TOP)}: no file {link}"
+        for path in re.findall(r"`((?:\w+/)?(?:src|specs|proofs|data)/[\w/]+\.\w+)`", text):
+            if "NAME" not in path and not any((folder / path).exists() for folder in folders):
+                yield f"{page.relative_to(TOP)}: no file {path} in crates/"
+
+
 def main():
     differ = 0
+    for message in paths_differ():
+        differ = 1
+        print(message)
     for name in ("README.md", "docs/WORKLOAD.md"):
         page = (TOP / name).read_text()
         for message in (*blocks_differ(name, page), *tables_differ(name, page), *spans_differ(name, page)):
