@@ -3,24 +3,24 @@ ghost use Rattle.std.specs.Prelude.{◌≡◌, ◌+◌, ◌≤◌, ◌++◌, len
 ghost use Rattle.tide_text.specs.Line.{refusal_text, reply_text, val_text};
 ghost use Rattle.tide_text.specs.OpText.{HasText, op_text};
 
-use crate::line::{LONGEST_ID, Line, ROOM};
+use crate::line::{LONGEST_ID, Line};
 use tide_model::{Op, Refusal, Reply, Val};
 use tide_work::Keys;
 
 /// A bound on the bytes of an operation.
-const LONGEST_OP: usize = 40;
+pub const LONGEST_OP: usize = 40;
 
 /// A bound on the bytes of a reply.
-const LONGEST_REPLY: usize = 24;
+pub const LONGEST_REPLY: usize = 24;
 
-impl Line {
+impl<const ROOM: usize> Line<ROOM> {
     /// An operation, as a workload with these keys writes it.
     #[tactic(auto, unfolding(crate::specs::OpText::op_text))]
     pub fn op(self, keys: &Keys, op: Op) -> Self
         requires text { HasText keys.now op }
         requires room { length self + LONGEST_OP ≤ ROOM }
-        ensures value { result ≡ self ++ op_text keys.now op }
-        ensures grown { length result ≤ length self + LONGEST_OP }
+        ensures value { result ≡ self.entry ++ op_text keys.now op }
+        ensures grown { length result ≤ length self.entry + LONGEST_OP }
     {
         match op {
             Op::Alloc { dst, class } => self.text("alloc").register(dst).operand(class),
@@ -59,8 +59,8 @@ impl Line {
     #[tactic(auto, unfolding(crate::specs::Line::reply_text))]
     pub fn reply(self, reply: Reply) -> Self
         requires { length self + LONGEST_REPLY ≤ ROOM }
-        ensures value { result ≡ self ++ reply_text reply }
-        ensures grown { length result ≤ length self + LONGEST_REPLY }
+        ensures value { result ≡ self.entry ++ reply_text reply }
+        ensures grown { length result ≤ length self.entry + LONGEST_REPLY }
     {
         match reply {
             Reply::Done => self.text("ok"),
@@ -71,11 +71,12 @@ impl Line {
         }
     }
 
+    /// A value that was read.
     #[tactic(auto, unfolding(crate::specs::Line::val_text))]
-    fn val(self, val: Val) -> Self
+    pub fn val(self, val: Val) -> Self
         requires { length self + LONGEST_ID ≤ ROOM }
-        ensures value { result ≡ self ++ val_text val }
-        ensures grown { length result ≤ length self + LONGEST_ID }
+        ensures value { result ≡ self.entry ++ val_text val }
+        ensures grown { length result ≤ length self.entry + LONGEST_ID }
     {
         match val {
             Val::Empty => self.text("-"),
@@ -84,11 +85,12 @@ impl Line {
         }
     }
 
+    /// Why an operation was refused.
     #[tactic(auto, unfolding(crate::specs::Line::refusal_text))]
     fn refusal(self, refusal: Refusal) -> Self
         requires { length self + LONGEST_REPLY ≤ ROOM }
-        ensures value { result ≡ self ++ refusal_text refusal }
-        ensures grown { length result ≤ length self + LONGEST_REPLY }
+        ensures value { result ≡ self.entry ++ refusal_text refusal }
+        ensures grown { length result ≤ length self.entry + LONGEST_REPLY }
     {
         match refusal {
             Refusal::NotCell { reg } => self.text("r").number(reg).text(" is no cell"),

@@ -2,19 +2,19 @@
 ghost use Rattle.std.specs.Prelude.{◌≡◌, ◌+◌, ◌≤◌, ◌++◌, length};
 ghost use Rattle.tide_text.specs.FaultLine.{fault_text};
 
-use crate::line::{Line, ROOM};
+use crate::line::Line;
 use tide_work::Fault;
 
 /// A bound on the bytes of a fault.
-const LONGEST_FAULT: usize = 60;
+pub const LONGEST_FAULT: usize = 60;
 
-impl Line {
+impl<const ROOM: usize> Line<ROOM> {
     /// A fault in words.
     #[tactic(auto, unfolding(crate::specs::FaultLine::fault_text))]
     pub fn fault(self, fault: Fault) -> Self
         requires { length self + LONGEST_FAULT ≤ ROOM }
-        ensures value { result ≡ self ++ fault_text fault }
-        ensures grown { length result ≤ length self + LONGEST_FAULT }
+        ensures value { result ≡ self.entry ++ fault_text fault }
+        ensures grown { length result ≤ length self.entry + LONGEST_FAULT }
     {
         match fault {
             Fault::NotToml => self.text("not TOML"),

@@ -12,5 +12,8 @@ mod read_back;
 mod worked;
 mod writing;
 
+pub use call::{LONGEST_OP, LONGEST_REPLY};
+pub use fault::LONGEST_FAULT;
+pub use line::{LONGEST_ID, LONGEST_KEY, LONGEST_LINE, LONGEST_REGISTER, Line};
 pub use read_back::texts_read_back;
 pub use writing::{write_call, write_cycle, write_fault_line, write_live, write_mutator};

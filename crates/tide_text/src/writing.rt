@@ -7,10 +7,13 @@ ghost use Rattle.tide_text.specs.FaultLine.{fault_line};
 ghost use Rattle.tide_text.specs.Line.{call_line, counts_text, cycle_line, freed_cell_text, freed_text, live_line, mutator_line};
 ghost use Rattle.tide_text.specs.OpText.{HasText};
 
-use crate::line::Line;
+use crate::line::{LONGEST_LINE, Line};
 use tide_io::{Failed, Sink, write_all};
 use tide_model::{Op, Reply};
 use tide_work::{Fault, Workload};
+
+/// A line of a run or of a fault.
+type RunLine = Line<LONGEST_LINE>;
 
 /// Writes the line above a mutator's calls, as one piece.
 #[tactic(auto, unfolding(crate::specs::Line::mutator_line))]
@@ -19,7 +22,7 @@ pub fn write_mutator<K: Sink>(out: &mut K, m: u32) -> Result<(), Failed>
     ensures part { OnErr result (AppendsPart (K.held out.old) (K.held out.new) (mutator_line m)) }
     ensures cause { HasCause (K.faults out.old) (K.faults out.new) result }
 {
-    let line = Line::new().text("mutator").operand(m).text("\n");
+    let line = RunLine::new().text("mutator").operand(m).text("\n");
     write_all(out, line.as_bytes())
 }
 
@@ -32,7 +35,7 @@ pub fn write_call<K: Sink>(out: &mut K, load: &Workload, op: Op, reply: Reply) -
     ensures part { OnErr result (AppendsPart (K.held out.old) (K.held out.new) (call_line load.now.keys op reply)) }
     ensures cause { HasCause (K.faults out.old) (K.faults out.new) result }
 {
-    let line = Line::new()
+    let line = RunLine::new()
         .op(load.keys(), op)
         .text(" = ")
         .reply(reply)
@@ -47,7 +50,7 @@ pub fn write_live<K: Sink>(out: &mut K, live: u32) -> Result<(), Failed>
     ensures part { OnErr result (AppendsPart (K.held out.old) (K.held out.new) (live_line live)) }
     ensures cause { HasCause (K.faults out.old) (K.faults out.new) result }
 {
-    let line = Line::new().text("live").operand(live).text("\n");
+    let line = RunLine::new().text("live").operand(live).text("\n");
     write_all(out, line.as_bytes())
 }
 
@@ -58,7 +61,7 @@ pub fn write_fault_line<K: Sink>(out: &mut K, fault: Fault) -> Result<(), Failed
     ensures part { OnErr result (AppendsPart (K.held out.old) (K.held out.new) (fault_line fault)) }
     ensures cause { HasCause (K.faults out.old) (K.faults out.new) result }
 {
-    let line = Line::new().text("riptide: ").fault(fault).text("\n");
+    let line = RunLine::new().text("riptide: ").fault(fault).text("\n");
     write_all(out, line.as_bytes())
 }
 
@@ -84,7 +87,7 @@ fn write_counts<K: Sink>(out: &mut K, number: u64, kept: u32, freed: usize) -> R
     ensures part { OnErr result (AppendsPart (K.held out.old) (K.held out.new) (counts_text number kept freed)) }
     ensures cause { HasCause (K.faults out.old) (K.faults out.new) result }
 {
-    let line = Line::new()
+    let line = RunLine::new()
         .text("cycle")
         .operand(number)
         .text(" kept")
@@ -124,6 +127,6 @@ fn write_cell<K: Sink>(out: &mut K, id: u32) -> Result<(), Failed>
     ensures part { OnErr result (AppendsPart (K.held out.old) (K.held out.new) (freed_cell_text id)) }
     ensures cause { HasCause (K.faults out.old) (K.faults out.new) result }
 {
-    let line = Line::new().text(" ").cell(id);
+    let line = RunLine::new().text(" ").cell(id);
     write_all(out, line.as_bytes())
 }
