@@ -39,8 +39,18 @@ impl Workload {
 
     /// A workload of parts that are within its limits.
     pub fn new(settings: Settings, keys: Keys, paths: Paths, scripts: Vec<Vec<Op>>) -> Workload
-        requires { IsWork (record { settings = settings; keys = keys; paths = paths; scripts = map (λ v. v.items) scripts.items }) }
-        ensures { result ≡ record { settings = settings; keys = keys; paths = paths; scripts = map (λ v. v.items) scripts.items } }
+        requires { IsWork (record {
+          settings = settings;
+          keys = keys;
+          paths = paths;
+          scripts = map (λ v. v.items) scripts.items;
+        }) }
+        ensures { result ≡ record {
+          settings = settings;
+          keys = keys;
+          paths = paths;
+          scripts = map (λ v. v.items) scripts.items;
+        } }
     {
         Workload {
             settings,
