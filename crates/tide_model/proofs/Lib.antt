@@ -1,3 +1,4 @@
+pub mod ActiveLaws
 pub mod CallerRows
 pub mod ClaimLaws
 pub mod Cycles

@@ -23,7 +23,7 @@ use Rattle.tide_model.proofs.ReferencesInCycles.{state_from-swept_in_layout}
 use Rattle.tide_model.proofs.Retained.{IsClosed-kept}
 use Rattle.tide_model.proofs.Spans.{graph_in_cycle_span}
 use Rattle.tide_layout.specs.Region.{block_count}
-use Rattle.tide_plain.specs.Collecting.{IsFreed, IsDeadWithin}
+use Rattle.tide_collect.specs.Collecting.{IsFreed, IsDeadWithin}
 use Rattle.tide_run.specs.declared.told.Record.{Record}
 use Rattle.tide_run.specs.declared.told.Record.TheVariants.{Began, Paused, Ended, Swept}
 use Rattle.tide_run.specs.Told.{events_of, Tells, sweeps_of, cycle_records}

@@ -1,6 +1,6 @@
 use Rattle.std.proofs.Common.{ℕ, ◌∙◌, ap, Bool, rules}
 use Rattle.tide_model.specs.State.{State}
-use Rattle.tide_plain.proofs.ActiveLaws.{active_after-call}
+use Rattle.tide_model.proofs.ActiveLaws.{active_after-call}
 use Rattle.check_marking.proofs.caller.Caller.call.Goals as goal
 
 pub invariant_of-self : goal.invariant_of-self
