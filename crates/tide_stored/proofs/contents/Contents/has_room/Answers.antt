@@ -34,7 +34,7 @@ returns-clause-own c = λ room.
     let counted : c.count-count.result ≡ length ((state_of contents).cells c.args.cell).keys = c.count-count.ensures ∙ ap length keys in
     let few : c.count-count.result < 64 = omega (arith, counted, ap (λ (s : Stored). length ((state_of s).cells c.args.cell).keys) c.self.view_is, c.requires.fewer) in
     let differs : c.count-count.result ≡ c.capacity.result → ⊥ = λ e.
-        let same : not true ≡ true = sym (ap not (eq-eqb c.count-count.result c.capacity.result e)) ∙ room in cc in
+    let same : not true ≡ true = sym (ap not (eq-eqb c.count-count.result c.capacity.result e)) ∙ room in cc in
     rw (← c.self.view_is)
     (own_array contents c.args.cell sound live (keys_from-room ((state_of contents).cells c.args.cell)
     (has_room-at ((state_of contents).cells c.args.cell) c.count-count.result counted few (λ e. differs (e ∙ sym c.capacity.ensures)))))
