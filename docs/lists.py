@@ -11,8 +11,9 @@
 - docs/GATE.md, between `<!-- sizes -->` and `<!-- end of sizes -->`: the size of each crate. The columns of seconds are
   measured, written by hand and kept.
 
-It also refuses a crates.txt in which a crate stands above one that it stands on, and a reading order that names a
-definition that the clauses of `riptide` don't rest on, or leaves out a fact (a name in CamelCase) that they do.
+It also refuses a crates.txt in which a crate stands above one that it stands on, a README.md of a crate that names
+others than crates.txt under "What it stands on", and a reading order that names a definition that the clauses of
+`riptide` don't rest on, or leaves out a fact (a name in CamelCase) that they do.
 """
 import re
 import sys
@@ -52,6 +53,18 @@ def layers():
 
 def crates():
     return [name for _, here in layers() for name, _ in here]
+
+
+def readmes_differ():
+    """The crates whose README.md names others, first thing under its last heading, than crates.txt has for them."""
+    here = [(name, below) for _, crates_of_layer in layers() for name, below in crates_of_layer]
+    known = {name for name, _ in here} | {other for _, below in here for other in below}
+    for name, below in here:
+        path = TOP / "crates" / name / "README.md"
+        text = path.read_text() if path.exists() else ""
+        said = re.search(r"## What it stands on\n\n(.*)", text)
+        if not said or set(re.findall(r"`(\w+)`", said.group(1))) & known != set(below):
+            yield name
 
 
 def files_of(crate, part):
@@ -309,6 +322,9 @@ def main():
     if sys.argv[1:] not in ([], ["--check"]):
         sys.exit(__doc__)
     differ = 0
+    for name in readmes_differ():
+        differ = 1
+        print(f"crates/{name}/README.md doesn't say what it stands on as crates.txt does")
     for path, text in pages().items():
         if path.exists() and path.read_text() == text:
             continue
