@@ -1,3 +1,4 @@
+//! Random numbers.
 ghost use Rattle.std.specs.Prelude.{◌<◌};
 
 /// Numbers that look random and follow from a seed.

@@ -1,13 +1,13 @@
-use Rattle.std.proofs.Common.{ℕ, ◌∙◌, ap, Bool, rules}
+use Rattle.std.proofs.Common.{◌≡◌, ℕ, ◌∙◌, ap, Bool, rules}
 use Rattle.tide_model.specs.State.{State}
 use Rattle.tide_plain.proofs.ActiveLaws.{active_after-call}
-use Rattle.check_marking.proofs.caller.Caller.call.Goals as goal
+use Rattle.check_heap.proofs.caller.Caller.call.Goals as goal
 
 pub invariant_of-self : goal.invariant_of-self
 invariant_of-self c = (
   c.call.ensures.layout ∙ c.self.invariant.0,
-  λ who.
+  λ still who.
       ap (λ (s : State). s.active who) c.call.ensures.leaves
       ∙ ap (λ (active : ℕ → Bool). active who) (active_after-call _ _ _ _ _ (c.fits.ensures.stays (search rules)))
-      ∙ c.self.invariant.1 who,
+      ∙ c.self.invariant.1 still who,
 )
