@@ -10,9 +10,9 @@ pub trait Checks {
     fn check(&self, line: &str) -> io::Result<bool>;
 }
 
-/// Makes the check of a line, and prints how it ended.
-fn check_line<R: System, C: Checks>(rt: &R, checks: &C, line: &str) -> io::Result<bool> {
-    let (is_so, end) = match checks.check(line) {
+/// Prints how the check of a line ended, and answers whether that was as expected.
+pub fn tell_line<R: System>(rt: &R, line: &str, ended: io::Result<bool>) -> io::Result<bool> {
+    let (is_so, end) = match ended {
         Ok(true) => (true, "as expected"),
         Ok(false) => (false, "not as expected"),
         Err(_) => (false, "a file or memory is wanting"),
@@ -26,7 +26,8 @@ fn check_each<R: System, C: Checks>(rt: &R, checks: &C) -> io::Result<bool> {
     let mut all = true;
     for line in rt.lines(rt.alloc()) {
         let line = line?;
-        all = check_line(rt, checks, line.as_str())? && all;
+        let ended = checks.check(line.as_str());
+        all = tell_line(rt, line.as_str(), ended)? && all;
     }
     Ok(all)
 }

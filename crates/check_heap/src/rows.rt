@@ -41,16 +41,20 @@ pub fn number_or_none(alloc: Global, number: Option<u32>) -> Result<String, Allo
     }
 }
 
-/// Does a line, `DO` or `DO = EXPECTED`, and prints what was answered where it is other than expected.
-fn is_line_so<R: System, A: Answers<R>>(
+/// The two parts of a line: what it does, and the answer that is expected.
+pub fn parts_of(line: &str) -> (&str, &str) {
+    line.split_once(" = ").unwrap_or((line, ""))
+}
+
+/// Answers whether a line was answered as expected, and prints what it was answered where it wasn't.
+pub fn tell_answer<R: System>(
     rt: &R,
-    answers: &mut A,
     row: &str,
     line: &str,
+    answer: Option<String>,
 ) -> io::Result<bool> {
-    let (said, expected) = line.split_once(" = ").unwrap_or((line, ""));
-    let words = words_of(rt.alloc(), said)?;
-    match answers.answer(rt, words.as_slice())? {
+    let (said, expected) = parts_of(line);
+    match answer {
         Some(answer) if answer.as_str() == expected => Ok(true),
         Some(answer) => {
             println!(rt; "{row}: {said} = {answer}, and not {expected}")?;
@@ -61,6 +65,19 @@ fn is_line_so<R: System, A: Answers<R>>(
             Ok(false)
         }
     }
+}
+
+/// Does a line, `DO` or `DO = EXPECTED`, and prints what was answered where it is other than expected.
+fn is_line_so<R: System, A: Answers<R>>(
+    rt: &R,
+    answers: &mut A,
+    row: &str,
+    line: &str,
+) -> io::Result<bool> {
+    let (said, _) = parts_of(line);
+    let words = words_of(rt.alloc(), said)?;
+    let answer = answers.answer(rt, words.as_slice())?;
+    tell_answer(rt, row, line, answer)
 }
 
 /// Does lines one after another, up to the first that ends otherwise than expected.

@@ -10,8 +10,7 @@ use Rattle.tide_workload.specs.Work.{Work}
 use Rattle.tide_model.specs.Numbers.{is_among}
 use Rattle.tide_run.specs.declared.program.Stop.{Stop}
 use Rattle.tide_run.specs.declared.program.Stop.TheVariants.{Usage, ReadFault, BadInput, Memory}
-use Rattle.tide_run.specs.Ran.{Ran}
-use Rattle.tide_run.specs.Run.{IsRunOf}
+use Rattle.tide_run.specs.Runs.{IsRunOf, Ran}
 
 -- of the bytes that are left, those that reading takes: all, or one more than a workload may have
 abbrev pub input_of : List ℕ → List ℕ
