@@ -1,40 +1,19 @@
 //! A plain store whose callers may ask anything: what it can't be asked is refused here.
-ghost use Rattle.std.specs.Prelude.{◌≡◌, false, IsTrue};
-ghost use Rattle.tide_model.specs.Lawful.{FitsLayout};
+ghost use Rattle.std.specs.Prelude.{◌≡◌};
 ghost use Rattle.tide_model.specs.Schedule.{is_retire};
 
 use std::alloc::{AllocError, Global};
 use std::marker::Model;
-use tide_layout::Layout;
+use tide_layout::{Layout, fits};
 use tide_model::{Op, Reply};
 use tide_plain::PlainStore;
 use tide_shape::{Paths, Shapes};
 
-/// Whether the operands of an operation are those of the layout, where it isn't to retire.
-fn fits(layout: &Layout, op: Op) -> bool
-    ensures operands { IsTrue result → FitsLayout layout.now op }
-    ensures stays { IsTrue result → is_retire op ≡ false }
+/// Whether an operation is to retire.
+fn is_retire(op: Op) -> bool
+    ensures { result ≡ is_retire op }
 {
-    let registers = layout.registers();
-    match op {
-        Op::Alloc { dst, class } => dst < registers && class < 4,
-        Op::Table { dst } | Op::Set { dst, n: _ } | Op::Drop { dst } => dst < registers,
-        Op::Claim { src } | Op::Release { src } | Op::Group { src, n: _ } => src < registers,
-        Op::Get { dst, src, slot: _ } | Op::Move { dst, src } | Op::GetProp { dst, src, key: _ } =>
-            { dst < registers && src < registers }
-        Op::Put { src, slot: _, val }
-        | Op::Add { src, key: _, val }
-        | Op::SetProp { src, key: _, val } => { src < registers && val < registers }
-        Op::StrongSet { at, val } => at < layout.strong() && val < registers,
-        Op::StrongGet { dst, at } => dst < registers && at < layout.strong(),
-        Op::WeakSet { at, val } => at < layout.weak() && val < registers,
-        Op::WeakGet { dst, at } => dst < registers && at < layout.weak(),
-        Op::PairSet { src, key, val } => src < registers && key < registers && val < registers,
-        Op::PairGet { dst, src, key } => dst < registers && src < registers && key < registers,
-        Op::PairDel { src, key } => src < registers && key < registers,
-        Op::Unclaim | Op::Collect => true,
-        Op::Retire => false,
-    }
+    matches!(op, Op::Retire)
 }
 
 /// The shapes of one path of 1 to 64 keys, or the empty shape alone where it isn't that.
@@ -81,7 +60,8 @@ impl Caller {
 
     /// Makes a mutator's call, and tells what it is answered. What the layout has no operands for isn't called.
     pub fn call(&mut self, who: u32, op: Op) -> Option<Reply> {
-        if self.has_retired || who >= u32::from(self.layout.mutators()) || !fits(&self.layout, op) {
+        let is_open = !self.has_retired && who < u32::from(self.layout.mutators());
+        if !is_open || is_retire(op) || !fits(&self.layout, op) {
             return None;
         }
         Some(self.store.call(who, op))
@@ -133,7 +113,7 @@ impl Caller {
 
     /// Whether the last collection swept something of a block of the layout.
     pub fn swept(&self, block: u8) -> Option<bool> {
-        if 64 * u32::from(block) >= self.layout.cells() + self.layout.arrays() {
+        if u32::from(block) >= self.layout.block_count() {
             return None;
         }
         Some(self.store.swept(u32::from(block)))

@@ -1,5 +1,5 @@
 //! What the check programs share: the loop over the lines of their input and over the rows of a file, the text of
-//! layouts, numbers, operations and replies, random numbers, a plain store whose callers may ask anything, and heaps in
+//! layouts, numbers and replies, random numbers, a plain store whose callers may ask anything, and heaps in
 //! words that are written a fact at a time.
 //!
 //! A row of a file is a name and lines, each of which is something to do, with the answer that is expected of it. What
@@ -11,7 +11,6 @@ mod draw;
 mod fact;
 mod heap;
 mod lines;
-mod op;
 mod places;
 mod reading;
 mod reply;
@@ -23,7 +22,6 @@ pub use draw::Draw;
 pub use fact::{pair_text, region_of, value_of, word_of, word_text};
 pub use heap::Heap;
 pub use lines::{Checks, check_lines, tell_line};
-pub use op::op_of;
 pub use places::{place_of_element, place_of_slot, place_of_word};
 pub use reading::{layout_of, number, number_behind, numbers, pair_of_numbers, words_of};
 pub use reply::{reply_text, value_text};

@@ -1,25 +1,9 @@
 //! The places of a layout's words, where it has them.
-ghost use Rattle.std.specs.Prelude.{◌≡◌, ◌<◌, ◌≤◌, IfSome};
-ghost use Rattle.tide_layout.specs.Region.{block_count, size_of, words_of};
-ghost use Rattle.tide_layout.specs.Slots.{width_of_class};
+ghost use Rattle.std.specs.Prelude.{◌<◌, ◌≤◌, IfSome};
+ghost use Rattle.tide_layout.specs.Region.{size_of, words_of};
 
 use tide_block::{class_of, class_of_array};
-use tide_layout::{Layout, Region};
-
-/// How many words a cell or an array of a class has: its slots, pairs or elements.
-fn width(class: u8) -> u8
-    requires { class < 10 }
-    ensures { result ≡ width_of_class class }
-{
-    [2, 4, 8, 16, 8, 4, 8, 16, 32, 64][usize::from(class)]
-}
-
-/// How many blocks there are: those of cells, and then those of arrays.
-fn block_count(layout: &Layout) -> u32
-    ensures { result ≡ block_count layout.now }
-{
-    layout.cells() / 64 + layout.arrays() / 64
-}
+use tide_layout::{BLOCK_SIZE, Layout, Region, width};
 
 /// How many words a region has that one may write by their number in it; none of slots and of elements, which go by their
 /// cell or array.
@@ -37,8 +21,8 @@ fn size(layout: &Layout, region: Region) -> u32
         Region::Colour | Region::Structure | Region::Array | Region::Claim | Region::Group => {
             layout.cells()
         }
-        Region::GreyShared | Region::GreyMutator | Region::GreyRace => layout.cells() / 64,
-        Region::Free | Region::Dead | Region::Swept => block_count(layout),
+        Region::GreyShared | Region::GreyMutator | Region::GreyRace => layout.cells() / BLOCK_SIZE,
+        Region::Free | Region::Dead | Region::Swept => layout.block_count(),
         Region::Slots | Region::Elements => 0,
     }
 }

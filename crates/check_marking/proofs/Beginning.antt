@@ -4,10 +4,10 @@ use Rattle.std.specs.List.{IsDistinct}
 use Rattle.std.specs.Prelude.{slice_set}
 use Rattle.tide_model.specs.Layout.{Layout, cell_count}
 use Rattle.tide_layout.specs.declared.region.Region.TheVariants.{Phase}
-use Rattle.tide_words.specs.Heap.{heap_of}
-use Rattle.tide_layout.specs.Region.{place_of, words_of}
-use Rattle.tide_words.proofs.ConstraintLaws.{heap_of-stored}
-use Rattle.tide_words.proofs.HeapLaws.{Reads-heap_of, reads_write}
+use Rattle.tide_words.specs.heap.Heap.{heap_of}
+use Rattle.tide_layout.specs.Region.{place_of, word_count}
+use Rattle.tide_words.proofs.heap_laws.ReadingLaws.{heap_of-stored}
+use Rattle.tide_words.proofs.heap_laws.HeapLaws.{Reads-heap_of, reads_write}
 use Rattle.tide_solver.specs.Traced.{AreGreys}
 use Rattle.check_marking.specs.Underway.{IsUnderway}
 
@@ -24,7 +24,7 @@ AreGreys-none layout words = record {
     nothing cell at = let below = at.1 in omega (arith, below)
 
 -- once the first cycle's phase word is stored, marking is under way with an empty list for all cells
-pub IsUnderway-first : (layout : Layout) (words : List ℕ) → length words ≡ words_of layout →
+pub IsUnderway-first : (layout : Layout) (words : List ℕ) → length words ≡ word_count layout →
     IsUnderway layout (slice_set words (place_of layout Phase 0) 3) (record { cells = []; cap = cell_count layout })
 IsUnderway-first layout words all = record {
   all_words = (reads_write layout words (heap_of layout words) Phase 0 3 (Reads-heap_of layout words all) (omega arith)).all_words;

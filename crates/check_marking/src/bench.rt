@@ -10,9 +10,9 @@
 //!   `pair TABLE.PLACE` with what is there.
 ghost use Rattle.std.specs.Prelude.{◌≡◌, ◌+◌, true, length, IfOk};
 ghost use Rattle.tide_model.specs.Layout.{cell_count};
-ghost use Rattle.tide_words.specs.Colours.{is_marking, HasColours};
-ghost use Rattle.tide_words.specs.Greyed.{HasRoom};
-ghost use Rattle.tide_words.specs.Heap.{heap_of, Heap as HeapWords};
+ghost use Rattle.tide_words.specs.marking.Colours.{is_marking, HasColours};
+ghost use Rattle.tide_words.specs.marking.Greyed.{HasRoom};
+ghost use Rattle.tide_words.specs.heap.Heap.{heap_of, Heap as HeapWords};
 
 use check_heap::{Answers, Heap, System, layout_of, number, numbers_text, text, word_of};
 use std::alloc::{AllocError, Global};

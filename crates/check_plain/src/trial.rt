@@ -7,9 +7,10 @@
 //! - `collect` is answered with the cells that a collection frees;
 //! - `free CLASS`, `claims MUTATOR`, `live`, `taken` and `swept BLOCK` with what the store tells.
 
+use crate::op::op_of;
 use check_heap::{
     Answers, Caller, System, layout_of, number, number_behind, number_or_none, numbers,
-    numbers_text, op_of, reply_text, text,
+    numbers_text, reply_text, text,
 };
 use std::alloc::{AllocError, Global};
 use std::io;

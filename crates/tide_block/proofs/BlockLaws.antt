@@ -5,6 +5,7 @@ use Rattle.std.proofs.lemmas.List.{take_all, get_or_past}
 use Rattle.std.proofs.lemmas.List.Sums.{sum_by_more, sum_by-append}
 use Rattle.std.proofs.Math.Seq.{take-append-add}
 use Rattle.tide_model.specs.Layout.{Layout, IsBlockOf, first_block_of, blocks_of, cell_count, class_of, block_of_cell}
+use Rattle.tide_layout.specs.Slots.{class_among}
 use Rattle.tide_block.proofs.RisingLaws.{IsRising, count_up_to, count_up_to-le, count_up_to-is, count_up_to-more, count_up_to-stays, counted_are_below, uncounted_are_above, rising-le}
 
 -- the sum of one more number
@@ -33,22 +34,22 @@ first_block_of-step layout first count =
 
 -- one more of the classes behind `first` that begins at the block or before it counts, and another doesn't
 module _ (layout : Layout) (first count block end : ℕ) (ends : end ≡ first_block_of layout (first + (count + 1))) where
-  begins_there : end ≡ first_block_of layout (count + (first + 1))
+  begins_there : end ≡ first_block_of layout (count + 1 + first)
   begins_there =
-      let same : first + (count + 1) ≡ count + (first + 1) = omega arith in
+      let same : first + (count + 1) ≡ count + 1 + first = omega arith in
       ends ∙ ap (first_block_of layout) same
 
   pub class_from-more : end ≤ block
-      → count_up_to (λ k. first_block_of layout (k + (first + 1))) block (count + 1) ≡ count_up_to (λ k. first_block_of layout (k + (first + 1))) block count + 1
+      → count_up_to (λ k. first_block_of layout (k + 1 + first)) block (count + 1) ≡ count_up_to (λ k. first_block_of layout (k + 1 + first)) block count + 1
   class_from-more within =
-      let row : ℕ → ℕ = λ k. first_block_of layout (k + (first + 1)) in
+      let row : ℕ → ℕ = λ k. first_block_of layout (k + 1 + first) in
       let one : count + 1 ≡ suc count = omega arith in
       ap (count_up_to row block) one ∙ count_up_to-more row block count (omega (arith, begins_there, within))
 
   pub class_from-stays : block < end
-      → count_up_to (λ k. first_block_of layout (k + (first + 1))) block (count + 1) ≡ count_up_to (λ k. first_block_of layout (k + (first + 1))) block count
+      → count_up_to (λ k. first_block_of layout (k + 1 + first)) block (count + 1) ≡ count_up_to (λ k. first_block_of layout (k + 1 + first)) block count
   class_from-stays above =
-      let row : ℕ → ℕ = λ k. first_block_of layout (k + (first + 1)) in
+      let row : ℕ → ℕ = λ k. first_block_of layout (k + 1 + first) in
       let one : count + 1 ≡ suc count = omega arith in
       ap (count_up_to row block) one ∙ count_up_to-stays row block count (omega (arith, begins_there, above))
 
@@ -62,30 +63,30 @@ first_block_of-arrays layout class five large =
     ∙ sum_by-append (λ x. x) layout.cell_blocks (take (class - 5) layout.array_blocks)
 
 -- so do the classes from one on
-row-rises : (layout : Layout) (base : ℕ) → IsRising (λ k. first_block_of layout (k + (base + 1)))
-row-rises layout base k = rising-le (first_block_of layout) (first_block_of-rises layout) (k + (base + 1)) (k + 1 + (base + 1)) (omega arith)
+row-rises : (layout : Layout) (base : ℕ) → IsRising (λ k. first_block_of layout (k + 1 + base))
+row-rises layout base k = rising-le (first_block_of layout) (first_block_of-rises layout) (k + 1 + base) (k + 1 + 1 + base) (omega arith)
 
 -- of some classes in a row, the one that as many of the others reach as begin at a block or before it has the block
 pub counted-block : (layout : Layout) (base block : ℕ) → first_block_of layout base ≤ block → block < first_block_of layout (base + 5)
-    → IsBlockOf layout (base + count_up_to (λ k. first_block_of layout (k + (base + 1))) block 4) block
+    → IsBlockOf layout (base + class_among (λ class. first_block_of layout (class + base)) block) block
 counted-block layout base block low high =
-    let row : ℕ → ℕ = λ k. first_block_of layout (k + (base + 1)) in
+    let row : ℕ → ℕ = λ k. first_block_of layout (k + 1 + base) in
     placed (count_up_to row block 4) (count_up_to-le row block 4)
     (counted_are_below row (row-rises layout base) block 4) (uncounted_are_above row (row-rises layout base) block 4)
   where
-    begins : (front : ℕ) → ((k : ℕ) → k < front → first_block_of layout (k + (base + 1)) ≤ block) → first_block_of layout (base + front) ≤ block
+    begins : (front : ℕ) → ((k : ℕ) → k < front → first_block_of layout (k + 1 + base) ≤ block) → first_block_of layout (base + front) ≤ block
     begins zero below = let same : base + 0 ≡ base = omega arith in let equal = ap (first_block_of layout) same in omega (arith, equal, low)
     begins (suc front) below =
-        let same : base + suc front ≡ front + (base + 1) = omega arith in
+        let same : base + suc front ≡ front + 1 + base = omega arith in
         let equal = ap (first_block_of layout) same in
         let last = below front (omega arith) in
         omega (arith, equal, last)
 
-    placed : (front : ℕ) → front ≤ 4 → ((k : ℕ) → k < front → first_block_of layout (k + (base + 1)) ≤ block)
-        → ((k : ℕ) → front ≤ k → k < 4 → block < first_block_of layout (k + (base + 1))) → IsBlockOf layout (base + front) block
+    placed : (front : ℕ) → front ≤ 4 → ((k : ℕ) → k < front → first_block_of layout (k + 1 + base) ≤ block)
+        → ((k : ℕ) → front ≤ k → k < 4 → block < first_block_of layout (k + 1 + base)) → IsBlockOf layout (base + front) block
     placed front few below above =
         let next = first_block_of-next layout (base + front) in
-        let same : base + front + 1 ≡ front + (base + 1) = omega arith in
+        let same : base + front + 1 ≡ front + 1 + base = omega arith in
         let equal = ap (first_block_of layout) same in
         let ends : block < first_block_of layout (base + front + 1) = elim (cases_lt front 4) [
           | inl inner ↦ (let end = above front (omega arith) inner in omega (arith, equal, end))
@@ -95,14 +96,14 @@ counted-block layout base block low high =
 
 -- and the class that has a block is the one so counted
 pub counted-is : (layout : Layout) (base class block : ℕ) → base ≤ class → class < base + 5 → IsBlockOf layout class block
-    → base + count_up_to (λ k. first_block_of layout (k + (base + 1))) block 4 ≡ class
+    → base + class_among (λ class. first_block_of layout (class + base)) block ≡ class
 counted-is layout base class block low high of =
-    let row : ℕ → ℕ = λ k. first_block_of layout (k + (base + 1)) in
+    let row : ℕ → ℕ = λ k. first_block_of layout (k + 1 + base) in
     let rises = first_block_of-rises layout in
     let next = first_block_of-next layout class in
     let counted = count_up_to-is row block 4 (class - base) (omega arith)
-    (λ k h. let before = rising-le (first_block_of layout) rises (k + (base + 1)) class (omega arith) in omega (arith, before, of.from))
-    (λ k h less. let after = rising-le (first_block_of layout) rises (class + 1) (k + (base + 1)) (omega arith) in omega (arith, after, next, of.below)) in
+    (λ k h. let before = rising-le (first_block_of layout) rises (k + 1 + base) class (omega arith) in omega (arith, before, of.from))
+    (λ k h less. let after = rising-le (first_block_of layout) rises (class + 1) (k + 1 + base) (omega arith) in omega (arith, after, next, of.below)) in
     omega (arith, counted)
 
 -- a block is one of no more than one class

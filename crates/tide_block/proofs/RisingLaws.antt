@@ -3,6 +3,7 @@ use Rattle.std.proofs.Common.{ℕ, zero, suc, ◌≡◌, ◌+◌, ◌<◌, ◌�
 use Rattle.std.proofs.lemmas.Bool.{cases_lt, le-leb, lt-leb}
 use Rattle.std.specs.Prelude.{if◌then◌else◌, nat_le}
 use Rattle.tide_model.specs.Numbers.{count_where}
+use Rattle.tide_layout.proofs.ClassWidths.{count_where-first, count_where-le}
 
 -- each number of the row is no more than the next
 abbrev pub IsRising : (ℕ → ℕ) → Type 0
@@ -41,26 +42,13 @@ count_up_to-stays row bound count h =
     omega (arith, none)
 
 pub count_up_to-le : (row : ℕ → ℕ) (bound count : ℕ) → count_up_to row bound count ≤ count
-count_up_to-le row bound zero = omega arith
-count_up_to-le row bound (suc count) = elim (cases_lt bound (row count)) [
-  | inl above ↦ omega (arith, count_up_to-stays row bound count above, count_up_to-le row bound count)
-  | inr within ↦ omega (arith, count_up_to-more row bound count within, count_up_to-le row bound count)
-]
+count_up_to-le row bound count = count_where-le (λ k. nat_le (row k) bound) count
 
 -- where the numbers at most the bound are those in front, so many are counted
 pub count_up_to-is : (row : ℕ → ℕ) (bound count front : ℕ) → front ≤ count
     → ((k : ℕ) → k < front → row k ≤ bound) → ((k : ℕ) → front ≤ k → k < count → bound < row k) → count_up_to row bound count ≡ front
-count_up_to-is row bound zero front few below above = omega arith
-count_up_to-is row bound (suc count) front few below above = elim (cases_lt count front) [
-  | inl all ↦
-      let last = count_up_to-more row bound count (below count all) in
-      let rest = count_up_to-is row bound count count (omega arith) (λ k h. below k (omega arith)) (λ k h less. absurd (omega arith)) in
-      omega (arith, last, rest)
-  | inr some ↦
-      let last = count_up_to-stays row bound count (above count some (omega arith)) in
-      let rest = count_up_to-is row bound count front some below (λ k h less. above k h (omega arith)) in
-      omega (arith, last, rest)
-]
+count_up_to-is row bound count front few below above = count_where-first (λ k. nat_le (row k) bound) front count few
+    (λ k inside. le-leb (row k) bound (below k inside)) (λ k past inside. lt-leb (row k) bound (above k past inside))
 
 -- of a rising row those counted stand in front
 pub counted_are_below : (row : ℕ → ℕ) → IsRising row → (bound count k : ℕ) → k < count_up_to row bound count → row k ≤ bound

@@ -1,26 +1,23 @@
 //! The classes of cells and arrays, and the blocks and ids that each class has.
-ghost use Rattle.std.specs.Prelude.{◌≡◌, ◌+◌, ◌*◌, ◌<◌, ◌≤◌, nat_le};
-ghost use Rattle.tide_model.specs.Numbers.{count_where};
+ghost use Rattle.std.specs.Prelude.{◌≡◌, ◌+◌, ◌*◌, ◌<◌, ◌≤◌};
 ghost use Rattle.tide_model.specs.Layout.{array_count, block_of_array, block_of_cell, cell_count, class_of, class_of_array, first_block_of};
+ghost use Rattle.tide_layout.specs.Slots.{class_among};
 ghost use Rattle.tide_block.specs.Places.{bit_of, first_array_of, first_cell_of};
 
-use tide_layout::Layout;
-
-/// How many cells or arrays a block has.
-const BLOCK: u32 = 64;
+use tide_layout::{BLOCK_SIZE, Layout};
 
 /// The block in which a cell lies.
 pub fn block_of_cell(cell: u32) -> u32
     ensures { result ≡ block_of_cell cell }
 {
-    cell / BLOCK
+    cell / BLOCK_SIZE
 }
 
 /// The block in which an array lies: blocks of arrays follow those of cells.
 pub fn block_of_array(layout: &Layout, array: u32) -> u32
     ensures { result ≡ block_of_array layout.now array }
 {
-    layout.cells() / BLOCK + array / BLOCK
+    layout.cells() / BLOCK_SIZE + array / BLOCK_SIZE
 }
 
 /// The bit of a cell or an array in the words of its block, from 0 to 63.
@@ -28,7 +25,7 @@ pub fn bit_of(id: u32) -> u32
     ensures place { result ≡ bit_of id }
     ensures small { result < 64 }
 {
-    id % BLOCK
+    id % BLOCK_SIZE
 }
 
 /// The first block of a class from 0 to 9. Where the class has no block, this is where it would begin.
@@ -49,7 +46,7 @@ pub fn first_of(layout: &Layout, class: u8) -> u32
     requires { class < 5 }
     ensures { result ≡ first_cell_of layout.now class }
 {
-    BLOCK * first_block_of(layout, class)
+    BLOCK_SIZE * first_block_of(layout, class)
 }
 
 /// The first array of a class from 5 to 9. Where the class has no array, this is where it would begin.
@@ -58,7 +55,7 @@ pub fn first_array_of(layout: &Layout, class: u8) -> u32
     requires largest { class < 10 }
     ensures { result ≡ first_array_of layout.now class }
 {
-    BLOCK * first_block_of(layout, class) - layout.cells()
+    BLOCK_SIZE * first_block_of(layout, class) - layout.cells()
 }
 
 /// The class of a cell, from 0 to 4.
@@ -83,7 +80,7 @@ pub fn class_of_array(layout: &Layout, array: u32) -> u8
 /// The last of the five classes from `first` on that begins at the block or before it, or `first` where none does.
 fn class_from(layout: &Layout, first: u8, block: u32) -> u8
     requires { first ≤ 5 }
-    ensures class { result ≡ first + count_where (λ class. nat_le (first_block_of layout.now (class + (first + 1))) block) 4 }
+    ensures class { result ≡ first + class_among (λ class. first_block_of layout.now (class + first)) block }
     ensures large { first ≤ result }
     ensures small { result < first + 5 }
 {

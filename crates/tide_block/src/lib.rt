@@ -8,13 +8,10 @@
 
 mod bits;
 mod classes;
-mod sizes;
-#[cfg(test)]
-mod tests;
 
 pub use bits::{after, lowest};
 pub use classes::{
     bit_of, block_of_array, block_of_cell, class_of, class_of_array, first_array_of,
     first_block_of, first_of,
 };
-pub use sizes::{array_capacity, slots};
+pub use tide_layout::{array_capacity, slots};

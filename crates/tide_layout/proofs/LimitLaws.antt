@@ -8,10 +8,10 @@ use Rattle.std.proofs.lemmas.List.{get_or_default, get_or_past, get_or-append-ad
 use Rattle.std.proofs.lemmas.List.Sums.{sum_by-le}
 use Rattle.tide_model.specs.Layout.{Layout, cell_count, array_count}
 use Rattle.tide_layout.specs.Limits.{IsWithinLimits}
-use Rattle.tide_layout.specs.Region.{size_of, words_of}
+use Rattle.tide_layout.specs.Region.{size_of, word_count}
 use Rattle.tide_layout.specs.declared.region.Region.{Region}
 use Rattle.tide_layout.proofs.Places.{base_of-end}
-use Rattle.tide_layout.specs.Slots.{array_widths, cell_widths, words_among}
+use Rattle.tide_layout.specs.Slots.{width_of_class, words_among}
 use Rattle.tide_layout.proofs.ClassWidths.{words_among-class, words_among-none, words_before_cell-among, words_before_array-among}
 
 -- each class has few blocks of cells
@@ -52,34 +52,34 @@ few_arrays layout limits =
     omega (arith, few)
 
 -- a class adds at most 4,096 times its width
-words_among-step : (blocks widths : List ℕ) (class ids : ℕ) → class < 5 → length blocks ≡ 5 → slice_index blocks class ≤ 64 →
-    words_among blocks widths (min ids (64 * sum (take (class + 1) blocks)))
-    ≤ words_among blocks widths (min ids (64 * sum (take class blocks))) + 4096 * slice_index widths class
-words_among-step blocks widths class ids few five small =
-    let grows = words_among-class blocks widths class ids few (omega (arith, five)) in
+words_among-step : (blocks : List ℕ) (first class ids : ℕ) → class < 5 → length blocks ≡ 5 → slice_index blocks class ≤ 64 →
+    words_among blocks first (min ids (64 * sum (take (class + 1) blocks)))
+    ≤ words_among blocks first (min ids (64 * sum (take class blocks))) + 4096 * width_of_class (first + class)
+words_among-step blocks first class ids few five small =
+    let grows = words_among-class blocks first class ids few (omega (arith, five)) in
     let count : min (ids - 64 * sum (take class blocks)) (64 * slice_index blocks class) ≤ 4096 = omega (arith, small) in
-    let within = mul-le-mul_right (slice_index widths class) count in
+    let within = mul-le-mul_right (width_of_class (first + class)) count in
     omega (arith, grows, within)
 
 -- the words of five classes
-words_among-few : (blocks widths : List ℕ) (ids : ℕ) → length blocks ≡ 5 → ((class : ℕ) → slice_index blocks class ≤ 64) → ids ≤ 64 * sum blocks →
-    words_among blocks widths ids
-    ≤ 4096 * (slice_index widths 0 + slice_index widths 1 + slice_index widths 2 + slice_index widths 3 + slice_index widths 4)
-words_among-few blocks widths ids five few within =
+words_among-few : (blocks : List ℕ) (first ids : ℕ) → length blocks ≡ 5 → ((class : ℕ) → slice_index blocks class ≤ 64) → ids ≤ 64 * sum blocks →
+    words_among blocks first ids
+    ≤ 4096 * (width_of_class (first + 0) + width_of_class (first + 1) + width_of_class (first + 2) + width_of_class (first + 3) + width_of_class (first + 4))
+words_among-few blocks first ids five few within =
     let whole = ap sum (take_all 5 blocks (omega (arith, five))) in
-    let last = ap (words_among blocks widths) (let e : min ids (64 * sum (take 5 blocks)) ≡ ids = omega (arith, whole) in e) in
-    let none = words_among-none blocks widths ids in
-    let s0 = words_among-step blocks widths 0 ids (omega arith) five (few 0) in
-    let s1 = words_among-step blocks widths 1 ids (omega arith) five (few 1) in
-    let s2 = words_among-step blocks widths 2 ids (omega arith) five (few 2) in
-    let s3 = words_among-step blocks widths 3 ids (omega arith) five (few 3) in
-    let s4 = words_among-step blocks widths 4 ids (omega arith) five (few 4) in
+    let last = ap (words_among blocks first) (let e : min ids (64 * sum (take 5 blocks)) ≡ ids = omega (arith, whole) in e) in
+    let none = words_among-none blocks first ids in
+    let s0 = words_among-step blocks first 0 ids (omega arith) five (few 0) in
+    let s1 = words_among-step blocks first 1 ids (omega arith) five (few 1) in
+    let s2 = words_among-step blocks first 2 ids (omega arith) five (few 2) in
+    let s3 = words_among-step blocks first 3 ids (omega arith) five (few 3) in
+    let s4 = words_among-step blocks first 4 ids (omega arith) five (few 4) in
     omega (arith, last, none, s0, s1, s2, s3, s4)
 
 -- there are at most 769,658 words
-pub words_of-few : (layout : Layout) → IsWithinLimits layout → words_of layout ≤ 769658
-unfolding words_of
-words_of-few layout limits =
+pub word_count-few : (layout : Layout) → IsWithinLimits layout → word_count layout ≤ 769658
+unfolding word_count
+word_count-few layout limits =
     let cells = few_cells layout limits in
     let arrays = few_arrays layout limits in
     let mutators = limits.few_mutators in
@@ -88,8 +88,8 @@ words_of-few layout limits =
     let visitors = limits.few_visitors in
     let strong = limits.few_strong in
     let weak = limits.few_weak in
-    let slots = words_among-few layout.cell_blocks cell_widths (cell_count layout) limits.five_cell_classes (few_cell_blocks layout limits) (omega arith) in
-    let elements = words_among-few layout.array_blocks array_widths (array_count layout) limits.five_array_classes (few_array_blocks layout limits) (omega arith) in
+    let slots = words_among-few layout.cell_blocks 0 (cell_count layout) limits.five_cell_classes (few_cell_blocks layout limits) (omega arith) in
+    let elements = words_among-few layout.array_blocks 5 (array_count layout) limits.five_array_classes (few_array_blocks layout limits) (omega arith) in
     let of_cells = words_before_cell-among layout (cell_count layout) limits.five_cell_classes in
     let of_arrays = words_before_array-among layout (array_count layout) limits.five_cell_classes in
     omega (arith, cells, arrays, mutators, registers, each, visitors, strong, weak, slots, elements, of_cells, of_arrays)
@@ -97,6 +97,6 @@ words_of-few layout limits =
 -- each region has at most 769,658 words
 pub size_of-few : (layout : Layout) (region : Region) → IsWithinLimits layout → size_of layout region ≤ 769658
 size_of-few layout region limits =
-    let few = words_of-few layout limits in
+    let few = word_count-few layout limits in
     let ends = base_of-end layout region in
     omega (arith, few, ends)

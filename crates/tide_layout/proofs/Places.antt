@@ -7,7 +7,7 @@ use Rattle.std.specs.Prelude.{◌==◌, ◌&&◌}
 use Rattle.tide_model.specs.Layout.{Layout}
 use Rattle.tide_layout.specs.declared.region.Region.{Region}
 use Rattle.tide_layout.specs.declared.region.Region.TheVariants.{Period, Phase, Active, Call, Stopped, Registers, Strong, Weak, Colour, Structure, Array, Claim, Group, Slots, Elements, Free, Dead, GreyShared, GreyMutator, GreyRace, Swept}
-use Rattle.tide_layout.specs.Region.{regions, tag, size_of, base_of, words_of, place_of}
+use Rattle.tide_layout.specs.Region.{regions, tag, size_of, base_of, word_count, place_of}
 
 -- a region stands at its tag among all regions
 pub get_or-regions : (region : Region) → get_or regions (tag region) Period ≡ region
@@ -63,8 +63,8 @@ tag-injective one other same =
     sym (get_or-regions one) ∙ ap (λ (t : ℕ). get_or regions t Period) same ∙ get_or-regions other
 
 -- a region ends by the end of the words
-pub base_of-end : (layout : Layout) (region : Region) → base_of layout region + size_of layout region ≤ words_of layout
-unfolding base_of words_of
+pub base_of-end : (layout : Layout) (region : Region) → base_of layout region + size_of layout region ≤ word_count layout
+unfolding base_of word_count
 base_of-end layout region =
     let within = sum_by_more_le (size_of layout) regions (tag region) Period (tag-below region) in
     subst (λ (r : Region). sum_by (size_of layout) (take (tag region) regions) + size_of layout r ≤ sum_by (size_of layout) regions)
@@ -90,7 +90,7 @@ unfolding place_of
 place_of-is layout region index = refl
 
 -- each word's place is below the number of words
-pub place_of-below : (layout : Layout) (region : Region) (index : ℕ) → index < size_of layout region → place_of layout region index < words_of layout
+pub place_of-below : (layout : Layout) (region : Region) (index : ℕ) → index < size_of layout region → place_of layout region index < word_count layout
 unfolding place_of
 place_of-below layout region index within = let ends = base_of-end layout region in omega (arith, ends)
 

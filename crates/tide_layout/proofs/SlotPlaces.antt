@@ -6,7 +6,7 @@ use Rattle.std.proofs.lemmas.Nat.{div-mul-add, mod-mul-add, mul-add-lt}
 use Rattle.std.proofs.Math.Nat.{mul_comm}
 use Rattle.tide_model.specs.Layout.{Layout, cell_count, array_count}
 use Rattle.tide_layout.specs.declared.region.Region.TheVariants.{Registers, Slots, Elements}
-use Rattle.tide_layout.specs.Region.{index_of_register, place_of_element, place_of_slot, size_of, words_of}
+use Rattle.tide_layout.specs.Region.{index_of_register, place_of_element, place_of_slot, size_of, word_count}
 use Rattle.tide_layout.specs.Slots.{total_below, width_of_cell, width_of_array, words_before_cell, words_before_array, index_of_slot, index_of_element, HasSlot, HasElement}
 use Rattle.tide_layout.proofs.Places.{place_of-below, place_of-other_index}
 
@@ -105,11 +105,11 @@ place_of_element-alone layout array other element at in_one in_other same =
     (place_of-other_index layout Elements (index_of_element layout other at) (index_of_element layout array element) same)
 
 -- each slot's place is below the number of words
-pub place_of_slot-below : (layout : Layout) (cell slot : ℕ) → HasSlot layout cell slot → place_of_slot layout cell slot < words_of layout
+pub place_of_slot-below : (layout : Layout) (cell slot : ℕ) → HasSlot layout cell slot → place_of_slot layout cell slot < word_count layout
 place_of_slot-below layout cell slot has = place_of-below layout Slots (index_of_slot layout cell slot) (index_of_slot-below layout cell slot has)
 
 -- each element's place is below the number of words
-pub place_of_element-below : (layout : Layout) (array element : ℕ) → HasElement layout array element → place_of_element layout array element < words_of layout
+pub place_of_element-below : (layout : Layout) (array element : ℕ) → HasElement layout array element → place_of_element layout array element < word_count layout
 place_of_element-below layout array element has = place_of-below layout Elements (index_of_element layout array element) (index_of_element-below layout array element has)
 
 -- two indices of slots are equal exactly where cell and slot are

@@ -11,8 +11,8 @@ use Rattle.tide_model.specs.Layout.{Layout}
 use Rattle.tide_layout.specs.declared.region.Region.{Region}
 use Rattle.tide_layout.specs.Layout.{starts_of}
 use Rattle.tide_layout.specs.Limits.{IsWithinLimits}
-use Rattle.tide_layout.specs.Region.{base_of, regions, size_of, tag, words_of}
-use Rattle.tide_layout.proofs.LimitLaws.{words_of-few}
+use Rattle.tide_layout.specs.Region.{base_of, regions, size_of, tag, word_count}
+use Rattle.tide_layout.proofs.LimitLaws.{word_count-few}
 use Rattle.tide_layout.proofs.Places.{tag-below}
 
 -- where a region begins
@@ -23,16 +23,16 @@ starts_of-base layout region =
     (let below = tag-below region in omega (arith, below)) (omega arith)
 
 -- where all regions end
-pub starts_of-words : (layout : Layout) → get_or (starts_of layout) 21 0 ≡ words_of layout
-unfolding starts_of words_of
+pub starts_of-words : (layout : Layout) → get_or (starts_of layout) 21 0 ≡ word_count layout
+unfolding starts_of word_count
 starts_of-words layout =
     get_or-map-range_with_len (λ (count : ℕ). sum_by (size_of layout) (take count regions)) 0 22 21 21 0 (omega arith) (omega arith)
 
 -- the sizes of all regions have few words together
 pub sum-sizes : (layout : Layout) (sizes : List ℕ) → IsWithinLimits layout → sizes ≡ map (size_of layout) regions → sum sizes ≤ 769658
-unfolding words_of
+unfolding word_count
 sum-sizes layout sizes limits is_sizes =
-    let few : sum_by (size_of layout) regions ≤ 769658 = words_of-few layout limits in
+    let few : sum_by (size_of layout) regions ≤ 769658 = word_count-few layout limits in
     let all : sum sizes ≡ sum_by (size_of layout) regions = ap sum is_sizes ∙ sum-map (size_of layout) regions in
     omega (arith, few, all)
 

@@ -71,8 +71,8 @@ unfoldable pub base_of : Layout → Region → ℕ
 base_of layout region = sum_by (size_of layout) (take (tag region) regions)
 
 -- how many words there are
-unfoldable pub words_of : Layout → ℕ
-words_of layout = sum_by (size_of layout) regions
+unfoldable pub word_count : Layout → ℕ
+word_count layout = sum_by (size_of layout) regions
 
 -- the place of a region's word
 unfoldable pub place_of : Layout → Region → ℕ → ℕ

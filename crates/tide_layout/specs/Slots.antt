@@ -1,6 +1,6 @@
 -- Where the slots of a cell and the elements of an array lie.
-use Rattle.std.specs.Prelude.{ℕ, zero, suc, ◌+◌, ◌/◌, ◌<◌, List, [], ◌∷◌, ◌++◌, slice_index, nat_le, sum, take}
-use Rattle.tide_model.specs.Layout.{Layout, cell_count, array_count, class_of, class_of_array}
+use Rattle.std.specs.Prelude.{ℕ, zero, suc, ◌+◌, ◌/◌, ◌<◌, ◌==◌, List, if◌then◌else◌, nat_le, nat_lt, sum, take}
+use Rattle.tide_model.specs.Layout.{Layout, array_capacity_of, array_count, cell_count, class_of, class_of_array, slots_of}
 use Rattle.tide_model.specs.Numbers.{count_where}
 
 -- the sum of a function over the numbers below a bound
@@ -8,26 +8,22 @@ abbrev pub total_below : (ℕ → ℕ) → ℕ → ℕ
 total_below f zero = 0
 total_below f (suc n) = total_below f n + f n
 
--- how many slots the cells of the classes 0 to 3 have, and how many pairs the tables of class 4
-abbrev pub cell_widths : List ℕ
-cell_widths = 2 ∷ 4 ∷ 8 ∷ 16 ∷ 8 ∷ []
-
--- how many elements the arrays of the classes 5 to 9 have
-abbrev pub array_widths : List ℕ
-array_widths = 4 ∷ 8 ∷ 16 ∷ 32 ∷ 64 ∷ []
-
--- how many words a cell or an array of the class has
+-- how many words a cell or an array of the class has: a cell its slots, a table 8 pairs, an array its elements
 abbrev pub width_of_class : ℕ → ℕ
-width_of_class class = slice_index (cell_widths ++ array_widths) class
+width_of_class class = if nat_lt class 4 then slots_of class else if class == 4 then 8 else array_capacity_of class
 
--- which of some classes an id lies in, 64 ids to a block: how many of the classes after the first begin at its block
--- or before it
-abbrev pub class_among : List ℕ → ℕ → ℕ
-class_among blocks id = count_where (λ class. nat_le (sum (take (class + 1) blocks)) (id / 64)) 4
+-- which of five classes has a block, where each class begins at one: how many of those after the first begin at it or
+-- before it
+abbrev pub class_among : (ℕ → ℕ) → ℕ → ℕ
+class_among begins block = count_where (λ class. nat_le (begins (class + 1)) block) 4
 
--- the words of the ids before this one, where each class has a width
-unfoldable pub words_among : List ℕ → List ℕ → ℕ → ℕ
-words_among blocks widths id = total_below (λ before. slice_index widths (class_among blocks before)) id
+-- which of five classes with so many blocks an id lies in, 64 ids to a block
+abbrev pub class_of_id : List ℕ → ℕ → ℕ
+class_of_id blocks id = class_among (λ count. sum (take count blocks)) (id / 64)
+
+-- the words of the ids before this one, of five classes from one on with so many blocks
+unfoldable pub words_among : List ℕ → ℕ → ℕ → ℕ
+words_among blocks first id = total_below (λ before. width_of_class (first + class_of_id blocks before)) id
 
 -- how many slots a cell has, or a table pairs
 abbrev pub width_of_cell : Layout → ℕ → ℕ

@@ -1,7 +1,5 @@
+//! `Layout`: how large a heap is, and the place of each of its words. It knows no word.
 ghost use Rattle.std.specs.Prelude.{◌≡◌, ◌≤◌, ℕ, slice_index, sum, take};
-
-#[cfg(test)]
-mod tests;
 
 use crate::numbers::Numbers;
 use crate::region::Region;
@@ -60,7 +58,7 @@ impl Layout {
     ghost use Rattle.std.specs.Prelude.{◌≡◌, ◌<◌, ◌≤◌, All, ℕ};
     ghost use Rattle.tide_model.specs.Layout.{array_count, blocks_of, cell_count};
     ghost use Rattle.tide_layout.specs.Limits.{IsWithinLimits};
-    ghost use Rattle.tide_layout.specs.Region.{place_of, place_of_element, place_of_slot, size_of, words_of};
+    ghost use Rattle.tide_layout.specs.Region.{block_count, place_of, place_of_element, place_of_slot, size_of, word_count};
     ghost use Rattle.tide_layout.specs.Slots.{index_of_element, index_of_slot, width_of_array, width_of_cell, HasElement, HasSlot};
     ghost use Rattle.tide_layout.specs.declared.region.Region.{Region};
 
@@ -126,6 +124,15 @@ impl Layout {
         self.numbers.arrays()
     }
 
+    /// How many blocks there are: those of cells, and then those of arrays.
+    pub fn block_count(&self) -> u32
+        ensures count { result ≡ block_count self.now }
+        ensures few { result ≤ 640 }
+        ensures limits { IsWithinLimits self.now }
+    {
+        self.numbers.block_count()
+    }
+
     /// How many blocks a class has, the classes 0 to 4 being those of cells and 5 to 9 those of arrays.
     pub fn blocks(&self, class: u8) -> u8
         requires { class < 10 }
@@ -182,7 +189,7 @@ impl Layout {
 
     /// How many words there are.
     pub fn words(&self) -> usize
-        ensures words { result ≡ words_of self.now }
+        ensures words { result ≡ word_count self.now }
         ensures few { result ≤ 769658 }
     {
         self.starts[21] as usize
@@ -192,7 +199,7 @@ impl Layout {
     pub fn place(&self, region: Region, index: u32) -> usize
         requires { index < size_of self.now region }
         ensures place { result ≡ place_of self.now region index }
-        ensures within { result < words_of self.now }
+        ensures within { result < word_count self.now }
         ensures alone { (other : Region) (at : ℕ) → at < size_of self.now other →
             place_of self.now other at ≡ result → (other ≡ region) × (at ≡ index) }
     {
@@ -219,7 +226,7 @@ impl Layout {
     pub fn slot(&self, cell: u32, k: u8) -> usize
         requires { HasSlot self.now cell k }
         ensures place { result ≡ place_of_slot self.now cell k }
-        ensures within { result < words_of self.now }
+        ensures within { result < word_count self.now }
         ensures alone { (other at : ℕ) → at < width_of_cell self.now other →
             place_of_slot self.now other at ≡ result → (other ≡ cell) × (at ≡ k) }
     {
@@ -230,7 +237,7 @@ impl Layout {
     pub fn element(&self, array: u32, k: u8) -> usize
         requires { HasElement self.now array k }
         ensures place { result ≡ place_of_element self.now array k }
-        ensures within { result < words_of self.now }
+        ensures within { result < word_count self.now }
         ensures alone { (other at : ℕ) → at < width_of_array self.now other →
             place_of_element self.now other at ≡ result → (other ≡ array) × (at ≡ k) }
     {

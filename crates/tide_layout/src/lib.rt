@@ -7,7 +7,11 @@
 
 mod layout;
 mod numbers;
+mod operands;
 mod region;
+mod sizes;
 
 pub use layout::Layout;
+pub use operands::fits;
 pub use region::Region;
+pub use sizes::{BLOCK_SIZE, PAIRS, TABLE, array_capacity, slots, width};

@@ -1,15 +1,11 @@
-//! The numbers that a layout is made of, and the sizes that follow from them.
+//! The numbers that a layout is made of, and the sizes that follow from them. It knows no place of a word.
 ghost use Rattle.std.specs.Prelude.{◌≡◌, ◌*◌, ◌≤◌, map, sum};
 ghost use Rattle.tide_model.specs.Layout.{array_count, cell_count};
 ghost use Rattle.tide_layout.specs.Layout.{layout_of};
-ghost use Rattle.tide_layout.specs.Region.{regions, size_of};
+ghost use Rattle.tide_layout.specs.Region.{block_count, regions, size_of};
 ghost use Rattle.tide_layout.specs.Slots.{words_among, words_before_array, words_before_cell};
 
-/// How many slots the cells of each class have, and a table pairs.
-const SLOTS: [u8; 5] = [2, 4, 8, 16, 8];
-
-/// How many elements the arrays of each class have.
-const CAPACITIES: [u8; 5] = [4, 8, 16, 32, 64];
+use crate::sizes::{BLOCK_SIZE, width};
 
 /// The numbers that a layout is made of.
 #[derive(Clone, Copy, Debug, PartialEq, Eq)]
@@ -24,7 +20,7 @@ pub(crate) struct Numbers {
 }
 
 /// How many blocks five classes have together.
-fn block_count(blocks: &[u8; 5]) -> u32
+fn blocks_of_all(blocks: &[u8; 5]) -> u32
     ensures count { result ≡ sum blocks.now }
     ensures small { result ≤ 1275 }
 {
@@ -35,16 +31,17 @@ fn block_count(blocks: &[u8; 5]) -> u32
     count
 }
 
-/// How many words the first ids of five classes have together, where each class has a width.
-fn words_among(blocks: &[u8; 5], widths: &[u8; 5], ids: u32) -> u32
-    requires { ids ≤ 64 * sum blocks.now }
-    ensures { result ≡ words_among blocks.now widths.now ids }
+/// How many words the first ids of five classes from `first` on have together.
+fn words_among(blocks: &[u8; 5], first: u8, ids: u32) -> u32
+    requires few { first ≤ 5 }
+    requires within { ids ≤ 64 * sum blocks.now }
+    ensures { result ≡ words_among blocks.now first ids }
 {
     let mut rest = ids;
     let mut words = 0;
-    for class in 0..5 {
-        let of_class = rest.min(64 * u32::from(blocks[class]));
-        words += of_class * u32::from(widths[class]);
+    for class in 0u8..5 {
+        let of_class = rest.min(BLOCK_SIZE * u32::from(blocks[usize::from(class)]));
+        words += of_class * u32::from(width(first + class));
         rest -= of_class;
     }
     words
@@ -56,7 +53,7 @@ impl Numbers {
         ensures count { result ≡ cell_count (layout_of self.now) }
         ensures small { result ≤ 81600 }
     {
-        64 * block_count(&self.cell_blocks)
+        BLOCK_SIZE * blocks_of_all(&self.cell_blocks)
     }
 
     /// How many arrays there are.
@@ -64,7 +61,15 @@ impl Numbers {
         ensures count { result ≡ array_count (layout_of self.now) }
         ensures small { result ≤ 81600 }
     {
-        64 * block_count(&self.array_blocks)
+        BLOCK_SIZE * blocks_of_all(&self.array_blocks)
+    }
+
+    /// How many blocks there are.
+    pub(crate) fn block_count(&self) -> u32
+        ensures count { result ≡ block_count (layout_of self.now) }
+        ensures small { result ≤ 2550 }
+    {
+        blocks_of_all(&self.cell_blocks) + blocks_of_all(&self.array_blocks)
     }
 
     /// How many words the slots and pairs of the cells before this one take.
@@ -72,7 +77,7 @@ impl Numbers {
         requires { cell ≤ cell_count (layout_of self.now) }
         ensures { result ≡ words_before_cell (layout_of self.now) cell }
     {
-        words_among(&self.cell_blocks, &SLOTS, cell)
+        words_among(&self.cell_blocks, 0, cell)
     }
 
     /// How many words the elements of the arrays before this one take.
@@ -80,7 +85,7 @@ impl Numbers {
         requires { array ≤ array_count (layout_of self.now) }
         ensures { result ≡ words_before_array (layout_of self.now) array }
     {
-        words_among(&self.array_blocks, &CAPACITIES, array)
+        words_among(&self.array_blocks, 5, array)
     }
 
     /// How many words each region has, in the order of the regions.
@@ -90,8 +95,8 @@ impl Numbers {
         let mutators = u32::from(self.mutators);
         let participants = mutators + u32::from(self.visitors);
         let cells = self.cells();
-        let cell_blocks = block_count(&self.cell_blocks);
-        let blocks = cell_blocks + block_count(&self.array_blocks);
+        let cell_blocks = blocks_of_all(&self.cell_blocks);
+        let blocks = self.block_count();
         [
             1, // Period
             1, // Phase

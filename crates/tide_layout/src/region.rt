@@ -1,3 +1,4 @@
+//! `Region`: the parts of a heap's words, in their order. It knows no layout.
 ghost use Rattle.std.specs.Prelude.{◌<◌, ◌≡◌};
 ghost use Rattle.tide_layout.specs.Region.{tag};
 

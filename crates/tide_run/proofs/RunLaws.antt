@@ -14,9 +14,7 @@ use Rattle.tide_model.specs.Script.{script_of}
 use Rattle.tide_model.specs.State.{State}
 use Rattle.tide_plain.specs.Store.{shapes_of, state_of}
 use Rattle.tide_shape.specs.Shapes.{shapes_of as shapes_of_paths}
-use Rattle.tide_workload.specs.declared.settings.Settings.{Settings}
-use Rattle.tide_workload.specs.OpLimits.{limits_with}
-use Rattle.tide_workload.specs.Work.{Work, IsOperation, limits_of}
+use Rattle.tide_workload.specs.Words.{Settings, limits_with, Work, IsOperation, limits_of}
 use Rattle.tide_run.specs.declared.runner.Runner.{Runner}
 use Rattle.tide_run.specs.Runs.{layout_of_work, layout_with, IsRunOf, IsWhole, Ran}
 use Rattle.tide_run.specs.Runner.{claim_count, history_of, keys_of, HasServed, IsAskable, IsUnderway}

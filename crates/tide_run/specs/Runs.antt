@@ -8,8 +8,7 @@ use Rattle.tide_model.specs.Layout.{Layout}
 use Rattle.tide_model.specs.Schedule.{IsLegal}
 use Rattle.tide_model.specs.Script.{script_of}
 use Rattle.tide_shape.specs.Shapes.{shapes_of}
-use Rattle.tide_workload.specs.declared.settings.Settings.{Settings}
-use Rattle.tide_workload.specs.Work.{Work}
+use Rattle.tide_workload.specs.Words.{Settings, Work}
 
 -- the layout of the store, the names of the property keys by number, the history, and whether a heap kept it
 pub record Ran : Type 0 where
@@ -47,7 +46,8 @@ pub record IsWhole (layout : Layout) (history : List Event) (mutator : ℕ) (ops
   pub done : script_of mutator (take moment history) ≡ ops
   pub script : script_of mutator history ≡ ops ++ (replicate (claims_at layout history moment mutator) Unclaim ++ Retire ∷ [])
 
--- the history is legal for the workload, and each mutator asked for all that it was to ask for
+-- A run of a workload: its history is legal in the layout and with the shapes that the workload asks for, its keys
+-- have the workload's names, and each mutator asked for all that it was to ask for.
 pub record IsRunOf (work : Work) (ran : Ran) : Type 0 where
   pub layout : ran.layout ≡ layout_of_work work
   pub keys : ran.keys ≡ work.keys

@@ -41,7 +41,7 @@ impl Outcome {
     ghost use Rattle.tide_model.specs.Cycle.{live_count};
     ghost use Rattle.tide_model.specs.History.{state_after};
     ghost use Rattle.tide_model.specs.Script.{calls_of};
-    ghost use Rattle.tide_workload.specs.Line.{HasText};
+    ghost use Rattle.tide_workload.specs.Words.{HasText};
     ghost use Rattle.tide_run.specs.Told.{events_of, AreCounted, pair_of};
     ghost use Rattle.tide_run.specs.Outcome.{ran_of, IsOutcome};
 

@@ -6,33 +6,14 @@
 //! stands on `tide_model` and `tide_layout`.
 #![tactic(auto)]
 
-mod colour_word;
-mod colours;
-mod constraint;
-mod grey_list;
-mod greying;
-mod live;
-mod marked;
-mod pairs;
-mod structure;
-#[cfg(test)]
-mod tests;
-mod value_word;
-mod vec_words;
-mod volatility;
-mod words;
+mod forms;
+mod heap;
+mod marking;
 
-pub use colour_word::colour;
-pub use colours::Colour;
-pub use constraint::Constraint;
-pub use grey_list::GreyList;
-pub use greying::{mark, mark_named};
-pub use live::is_live;
-pub use marked::is_marked;
-pub use pairs::{MAX_CELLS, pair_word, word_pair};
-pub use structure::{Structure, structure_word, word_structure};
+pub use forms::{
+    Colour, MAX_CELLS, Structure, colour, pair_word, structure_word, val_word, word_pair,
+    word_structure, word_val,
+};
+pub use heap::{VecWords, Words, is_live};
+pub use marking::{Constraint, GreyList, Volatility, is_marked, mark, mark_named};
 pub use tide_layout::{Layout, Region};
-pub use value_word::{val_word, word_val};
-pub use vec_words::VecWords;
-pub use volatility::Volatility;
-pub use words::Words;

@@ -2,7 +2,7 @@
 ghost use Rattle.std.specs.Prelude.{◌≡◌, ◌≤◌, None, length, map, All, IfOk};
 ghost use Rattle.tide_shape.specs.Lists.{lists_of};
 ghost use Rattle.tide_shape.specs.Shapes.{first_double, shapes_of, IsPath};
-ghost use Rattle.tide_workload.specs.Work.{AreSettings};
+ghost use Rattle.tide_workload.specs.Words.{AreSettings};
 ghost use Rattle.tide_run.specs.Runs.{layout_with};
 
 use super::append;

@@ -2,8 +2,8 @@
 use Rattle.std.proofs.Common.{◌∙◌, ap, arith, length}
 use Rattle.std.specs.Prelude.{not}
 use Rattle.tide_model.specs.Layout.{cell_count}
-use Rattle.tide_words.specs.Greys.{Greys, pushed}
-use Rattle.tide_words.specs.Marked.{is_marked}
+use Rattle.tide_words.specs.marking.Greys.{Greys, pushed}
+use Rattle.tide_words.specs.marking.Marked.{is_marked}
 use Rattle.tide_layout.proofs.ClassWidths.{count_where-le}
 use Rattle.check_marking.proofs.bench.list_of.Goals as goal
 

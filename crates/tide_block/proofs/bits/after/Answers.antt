@@ -1,3 +1,4 @@
+-- Why `after` meets its contract.
 use Rattle.std.proofs.Common.{◌+◌, ◌∙◌, sym, refl}
 use Rattle.tide_block.proofs.BitLaws.{lowest-shifted, clear-shifted, lowest-not_clear}
 use Rattle.tide_block.proofs.bits.after.Goals as goal

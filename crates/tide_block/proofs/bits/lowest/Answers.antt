@@ -1,3 +1,4 @@
+-- Why `lowest` meets its contract.
 use Rattle.std.proofs.Common.{arith}
 use Rattle.tide_block.proofs.BitLaws.{lowest-trailing_zeros}
 use Rattle.tide_block.proofs.bits.lowest.Goals as goal

@@ -1,3 +1,4 @@
+-- Why `class_from` meets its contract.
 use Rattle.std.proofs.Common.{◌+◌, ◌≡◌, arith}
 use Rattle.tide_model.specs.Layout.{first_block_of}
 use Rattle.tide_block.proofs.BlockLaws.{first_block_of-step, class_from-more, class_from-stays}

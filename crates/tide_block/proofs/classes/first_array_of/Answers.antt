@@ -1,3 +1,4 @@
+-- Why `first_array_of` meets its contract.
 use Rattle.std.proofs.Common.{arith}
 use Rattle.tide_block.proofs.BlockLaws.{first_block_of-arrays}
 use Rattle.tide_block.proofs.classes.first_array_of.Goals as goal

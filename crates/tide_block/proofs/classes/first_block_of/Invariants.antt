@@ -1,3 +1,4 @@
+-- What holds at each turn of the loop of `first_block_of`.
 use Rattle.std.proofs.Common.{◌≡◌, ◌*◌, ◌≤◌}
 use Rattle.tide_model.specs.Layout.{first_block_of}
 use Rattle.tide_block.proofs.classes.first_block_of.Given as goal

@@ -1,3 +1,4 @@
+-- Why `starts_of` meets its contract.
 use Rattle.std.proofs.Common.{ℕ, ◌≡◌, ◌+◌, arith, get_or, length, length-set, sum, take, inl, inr, ap, sym, ◌∙◌}
 use Rattle.std.proofs.lemmas.Bool.{cases_eq}
 use Rattle.std.proofs.lemmas.Grind.{get_or-set_at}

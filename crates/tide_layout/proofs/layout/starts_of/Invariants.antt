@@ -1,3 +1,4 @@
+-- What holds at each turn of the loop of `starts_of`.
 use Rattle.std.proofs.Common.{ℕ, ◌≡◌, ◌≤◌, length, sum, take}
 use Rattle.std.specs.Prelude.{slice_index}
 use Rattle.tide_layout.proofs.layout.starts_of.Given as goal

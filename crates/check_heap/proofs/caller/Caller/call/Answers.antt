@@ -8,6 +8,6 @@ invariant_of-self c = (
   c.call.ensures.layout ∙ c.self.invariant.0,
   λ still who.
       ap (λ (s : State). s.active who) c.call.ensures.leaves
-      ∙ ap (λ (active : ℕ → Bool). active who) (active_after-call _ _ _ _ _ (c.fits.ensures.stays (search rules)))
+      ∙ ap (λ (active : ℕ → Bool). active who) (active_after-call _ _ _ _ _ (search rules))
       ∙ c.self.invariant.1 still who,
 )

@@ -1,7 +1,7 @@
 use Rattle.std.proofs.Common.{ℕ, ◌≡◌, sym, ◌∙◌, ap, subst, List, []}
 use Rattle.std.specs.Prelude.{slice_set}
 use Rattle.tide_layout.specs.declared.region.Region.TheVariants.{Phase}
-use Rattle.tide_words.specs.Greys.{Greys}
+use Rattle.tide_words.specs.marking.Greys.{Greys}
 use Rattle.tide_layout.specs.Region.{place_of}
 use Rattle.check_marking.specs.Underway.{IsUnderway}
 use Rattle.check_marking.proofs.Beginning.{IsUnderway-first}

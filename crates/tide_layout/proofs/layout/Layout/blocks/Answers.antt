@@ -1,3 +1,4 @@
+-- Why `blocks` meets its contract.
 use Rattle.tide_layout.specs.Layout.{layout_of}
 use Rattle.tide_layout.proofs.LimitLaws.{few_array_blocks}
 use Rattle.tide_layout.proofs.layout.Layout.blocks.Goals as goal

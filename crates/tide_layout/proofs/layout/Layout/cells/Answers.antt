@@ -1,3 +1,4 @@
+-- Why `cells` meets its contract.
 use Rattle.std.proofs.Common.{arith}
 use Rattle.tide_layout.specs.Layout.{layout_of}
 use Rattle.tide_layout.proofs.LimitLaws.{few_cells}

@@ -1,3 +1,4 @@
+-- Why `element` meets its contract.
 use Rattle.std.proofs.Common.{◌<◌, ◌∙◌, ap, sym, subst}
 use Rattle.tide_layout.specs.declared.region.Region.TheVariants.{Elements}
 use Rattle.tide_layout.specs.Region.{place_of, size_of}

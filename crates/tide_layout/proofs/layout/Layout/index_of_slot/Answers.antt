@@ -1,3 +1,4 @@
+-- Why `index_of_slot` meets its contract.
 use Rattle.std.proofs.Common.{arith, ap, subst, ◌∙◌}
 use Rattle.tide_model.specs.Layout.{Layout}
 use Rattle.tide_layout.specs.declared.region.Region.TheVariants.{Slots}

@@ -1,3 +1,4 @@
+-- Why `place` meets its contract.
 use Rattle.std.proofs.Common.{ℕ, ◌≡◌, ◌+◌, ◌∙◌, arith, ap, get_or, sym}
 use Rattle.tide_model.specs.Layout.{Layout}
 use Rattle.tide_layout.specs.Layout.{layout_of}

@@ -1,3 +1,4 @@
+-- Why `slot` meets its contract.
 use Rattle.std.proofs.Common.{◌<◌, ◌∙◌, ap, sym, subst}
 use Rattle.tide_layout.specs.declared.region.Region.TheVariants.{Slots}
 use Rattle.tide_layout.specs.Region.{place_of, size_of}

@@ -1,3 +1,4 @@
+-- Why `words_before_array` meets its contract.
 use Rattle.std.proofs.Common.{arith, sym, ◌∙◌}
 use Rattle.tide_layout.specs.Layout.{layout_of}
 use Rattle.tide_layout.proofs.ClassWidths.{words_before_array-among}

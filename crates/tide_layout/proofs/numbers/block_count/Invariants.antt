@@ -1,8 +1,0 @@
-use Rattle.std.proofs.Common.{◌≡◌, ◌*◌, ◌≤◌, sum, take}
-use Rattle.tide_layout.proofs.numbers.block_count.Given as goal
-
-abbrev pub invariant-loop-of_class : goal.invariant-loop-of_class
-invariant-loop-of_class l = record {
-  counted : l.count ≡ sum (take l.of_class-index l.blocks);
-  small : l.count ≤ 255 * l.of_class-index;
-}

@@ -1,0 +1,57 @@
+//! How much a block, a cell and an array hold: the one table of the classes' widths. It knows no layout.
+ghost use Rattle.std.specs.Prelude.{◌≡◌, ◌<◌, ◌≤◌};
+ghost use Rattle.tide_model.specs.Layout.{array_capacity_of, slots_of};
+ghost use Rattle.tide_layout.specs.Slots.{width_of_class};
+
+/// How many cells or arrays a block has.
+pub const BLOCK_SIZE: u32 = 64;
+
+/// The class of tables, which is the last class of cells.
+pub const TABLE: u8 = 4;
+
+/// How many pairs a table has.
+pub const PAIRS: u8 = 8;
+
+/// The number of inline slots of a cell of a class from 0 to 4. A table, which is of class 4, has none.
+pub fn slots(class: u8) -> u8
+    requires { class ≤ 4 }
+    ensures { result ≡ slots_of class }
+{
+    match class {
+        0 => 2,
+        1 => 4,
+        2 => 8,
+        3 => 16,
+        _ => 0,
+    }
+}
+
+/// The number of elements of an array of a class from 5 to 9.
+pub fn array_capacity(class: u8) -> u8
+    requires smallest { 5 ≤ class }
+    requires largest { class ≤ 9 }
+    ensures { result ≡ array_capacity_of class }
+{
+    match class {
+        5 => 4,
+        6 => 8,
+        7 => 16,
+        8 => 32,
+        _ => 64,
+    }
+}
+
+/// The number of words of a cell or an array of a class from 0 to 9: its slots, a table's pairs or its elements.
+pub fn width(class: u8) -> u8
+    requires { class < 10 }
+    ensures width { result ≡ width_of_class class }
+    ensures few { result ≤ 64 }
+{
+    if class < TABLE {
+        slots(class)
+    } else if class == TABLE {
+        PAIRS
+    } else {
+        array_capacity(class)
+    }
+}

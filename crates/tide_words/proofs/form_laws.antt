@@ -1,0 +1,3 @@
+-- The laws of the word forms.
+pub mod FormLaws
+mod FormRows

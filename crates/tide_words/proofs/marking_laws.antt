@@ -1,0 +1,9 @@
+-- The laws of colours, greys, marking and constraints.
+pub mod ColourLaws
+pub mod ConstraintLaws
+pub mod EmptyMarking
+pub mod MarkedLaws
+pub mod MarkingLaws
+pub mod ReadingRows
+pub mod RowLaws
+pub mod RuleLaws

@@ -1,0 +1,6 @@
+-- The words of a heap, and the state that they read as.
+pub mod EmptyHeap
+pub mod Filled
+pub mod Heap
+pub mod Live
+pub mod Reading

@@ -1,0 +1,7 @@
+-- What marking keeps, and what a constraint promises.
+pub mod Colours
+pub mod Greyed
+pub mod Greys
+pub mod Marked
+pub mod Marking
+pub mod Rules
