@@ -4,7 +4,7 @@ use Rattle.std.specs.Prelude.{◌⊎◌, IfSome, IsOk, IsErr}
 use Rattle.tide_workload.specs.Words.{Fault, MAX_BYTES, reads_workload, Work}
 use Rattle.tide_run.specs.declared.program.Stop.{Stop}
 use Rattle.tide_run.specs.declared.program.Stop.TheVariants.{Usage, ReadFault, BadInput, Memory}
-use Rattle.tide_run.specs.Ran.{Ran}
+use Rattle.tide_run.specs.Runs.{Ran}
 use Rattle.tide_run.specs.Program.{input_of, Took, RefusedInput, RanInput, stop_status, stop_line, status_line}
 
 -- the first bytes of two parts, where the first part is that long or all there is

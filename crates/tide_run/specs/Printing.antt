@@ -1,7 +1,7 @@
 -- The lines of what was recorded.
 use Rattle.std.specs.Prelude.{ℕ, List, []}
 use Rattle.tide_workload.specs.Words.{call_line, cycle_line}
-use Rattle.tide_run.specs.declared.answered.Answered.{Answered}
+use Rattle.tide_run.specs.declared.told.Answered.{Answered}
 use Rattle.tide_run.specs.declared.told.Record.{Record}
 use Rattle.tide_run.specs.declared.told.Record.TheVariants.{Called, Began, Paused, Ended, Swept}
 

@@ -6,8 +6,7 @@ use Rattle.tide_workload.specs.Words.{Fault, MAX_BYTES, fault_line, reads_worklo
 use Rattle.tide_model.specs.Numbers.{is_among}
 use Rattle.tide_run.specs.declared.program.Stop.{Stop}
 use Rattle.tide_run.specs.declared.program.Stop.TheVariants.{Usage, ReadFault, BadInput, Memory}
-use Rattle.tide_run.specs.Ran.{Ran}
-use Rattle.tide_run.specs.Run.{IsRunOf}
+use Rattle.tide_run.specs.Runs.{IsRunOf, Ran}
 
 -- of the bytes that are left, those that reading takes: at most 4,194,305, one more than a workload may have
 abbrev pub input_of : List ℕ → List ℕ

@@ -1,8 +1,7 @@
 //! The outcome of a run.
 ghost use Rattle.std.specs.Prelude.{◌≡◌, ◌<◌, ℕ, All, map};
 
-use crate::answered::Answered;
-use crate::told::{Record, Told};
+use crate::told::{Answered, Record, Told};
 use std::marker::Model;
 use tide_layout::Layout;
 
@@ -26,7 +25,7 @@ pub struct Outcome {
 
 impl Model for Outcome {
     ghost use Rattle.std.specs.Prelude.{map};
-    ghost use Rattle.tide_run.specs.Ran.{Ran};
+    ghost use Rattle.tide_run.specs.Runs.{Ran};
 
     ghost Value = { Ran };
 

@@ -8,9 +8,8 @@ ghost use Rattle.tide_model.specs.State.{empty_state};
 ghost use Rattle.tide_model.specs.Script.{calls_of};
 ghost use Rattle.tide_run.specs.Printing.{answered_line, record_line};
 
-use crate::answered::Answered;
 use crate::outcome::Outcome;
-use crate::told::Record;
+use crate::told::{Answered, Record};
 use tide_io::{Failed, Sink};
 use tide_workload::{Workload, write_call, write_cycle, write_live, write_mutator};
 

@@ -7,7 +7,7 @@ ghost use Rattle.tide_run.specs.Program.{input_of, status_line, IsStatus, ReadWo
 
 use crate::outcome::Outcome;
 use crate::printing::write_text;
-use crate::running::run;
+use crate::runs::run;
 use std::alloc::Global;
 use std::marker::Sync;
 use std::thread::Threads;

@@ -1,3 +1,4 @@
+-- Answers to the goals of printing::write_cycles.
 use Rattle.std.proofs.Common.{◌+◌, ◌++◌, take, drop, subst, ap, ◌∙◌}
 use Rattle.std.specs.List.{flat_map}
 use Rattle.tide_io.specs.Faults.{AppendsPart}
