@@ -25,23 +25,22 @@ fn shapes(alloc: Global, path: &[u32]) -> Result<Shapes, AllocError> {
     Shapes::new(alloc, &paths).map_err(|_| AllocError)
 }
 
-/// A plain store. Once a mutator has retired it takes no further call.
+/// A plain store.
 #[derive(Drop)]
 pub struct Caller {
     layout: Layout,
     store: PlainStore,
-    has_retired: bool,
 }
 
 impl Model for Caller {
-    ghost use Rattle.std.specs.Prelude.{◌≡◌, ℕ, true, false};
-    ghost use Rattle.tide_plain.specs.Store.{layout_of, state_of};
+    ghost use Rattle.std.specs.Prelude.{◌≡◌};
+    ghost use Rattle.tide_plain.specs.Store.{layout_of};
 
     ghost Value = { Unit {0} };
 
     ghost view = { λ _. tt };
 
-    ghost invariant = { λ c. (layout_of c.store ≡ c.layout) × (c.has_retired ≡ false → (who : ℕ) → (state_of c.store).active who ≡ true) };
+    ghost invariant = { λ c. layout_of c.store ≡ c.layout };
 }
 
 impl Caller {
@@ -49,19 +48,15 @@ impl Caller {
     pub fn new(alloc: Global, layout: Layout, path: &[u32]) -> Result<Self, AllocError> {
         let shapes = shapes(alloc, path)?;
         match PlainStore::new(alloc, layout, shapes) {
-            Ok(store) => Ok(Caller {
-                layout,
-                store,
-                has_retired: false,
-            }),
+            Ok(store) => Ok(Caller { layout, store }),
             Err(_) => Err(AllocError),
         }
     }
 
     /// Makes a mutator's call, and tells what it is answered. What the layout has no operands for isn't called.
     pub fn call(&mut self, who: u32, op: Op) -> Option<Reply> {
-        let is_open = !self.has_retired && who < u32::from(self.layout.mutators());
-        if !is_open || is_retire(op) || !fits(&self.layout, op) {
+        let is_active = who < u32::from(self.layout.mutators()) && self.store.is_active(who);
+        if !is_active || is_retire(op) || !fits(&self.layout, op) {
             return None;
         }
         Some(self.store.call(who, op))
@@ -69,11 +64,10 @@ impl Caller {
 
     /// A mutator retires, if it claims nothing.
     pub fn retire(&mut self, who: u32) -> Option<Reply> {
-        let is_open = !self.has_retired && who < u32::from(self.layout.mutators());
-        if !is_open || self.store.claims(who) > 0 {
+        let is_active = who < u32::from(self.layout.mutators()) && self.store.is_active(who);
+        if !is_active || self.store.claims(who) > 0 {
             return None;
         }
-        self.has_retired = true;
         Some(self.store.call(who, Op::Retire))
     }
 

@@ -1,6 +1,6 @@
 //! The words of a heap, each of which can be written wherever the layout has one. Nothing is written elsewhere.
 ghost use Rattle.std.specs.Prelude.{◌≡◌, ◌<◌, length};
-ghost use Rattle.tide_layout.specs.Region.{words_of};
+ghost use Rattle.tide_layout.specs.Region.{word_count};
 
 use crate::places::{place_of_element, place_of_slot, place_of_word};
 use std::alloc::{AllocError, Global};

@@ -1,6 +1,6 @@
 //! The places of a layout's words, where it has them.
 ghost use Rattle.std.specs.Prelude.{◌<◌, ◌≤◌, IfSome};
-ghost use Rattle.tide_layout.specs.Region.{size_of, words_of};
+ghost use Rattle.tide_layout.specs.Region.{size_of, word_count};
 
 use tide_block::{class_of, class_of_array};
 use tide_layout::{BLOCK_SIZE, Layout, Region, width};
