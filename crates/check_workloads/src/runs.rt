@@ -112,33 +112,33 @@ impl Trial {
         Ok(Some(()))
     }
 
-    /// Runs the program.
-    fn run<R: Machine>(&mut self, rt: &R) -> Result<Ending, AllocError> {
+    /// Runs the program with so much room to print, and gives how many bytes it left.
+    fn run<R: Machine>(&self, rt: &R, room: usize) -> Result<(Ending, usize), AllocError> {
         let alloc = rt.alloc();
         let document = self.document.as_slice().to_vec(alloc)?;
         let reads = self.faults.reads.as_slice().to_vec(alloc)?;
         let mut source = MemSource::new(document, 10, reads);
-        let out = sink(alloc, self.room, self.faults.prints.as_slice())?;
+        let out = sink(alloc, room, self.faults.prints.as_slice())?;
         let err = sink(alloc, TOLD, self.faults.tells.as_slice())?;
         let ended = Ending::over(rt, self.words.as_slice(), &mut source, out, err);
-        self.left = read_up_to(alloc, &mut source, MAX_BYTES).map_or(0, |rest| rest.len());
-        Ok(ended)
+        let left = read_up_to(alloc, &mut source, MAX_BYTES).map_or(0, |rest| rest.len());
+        Ok((ended, left))
     }
 
     /// Runs the program, and answers with its status.
     fn run_once<R: Machine>(&mut self, rt: &R) -> Result<String, AllocError> {
-        let ended = self.run(rt)?;
+        let (ended, left) = self.run(rt, self.room)?;
         let answer = ended.status_text(rt.alloc())?;
         self.ended = Some(ended);
+        self.left = left;
         Ok(answer)
     }
 
     /// Runs the program with each room that is too small for its text, and answers with the first that doesn't end with the
     /// line of a write fault and as many first bytes of the text, if one doesn't.
-    fn run_short_of_room<R: Machine>(&mut self, rt: &R) -> Result<String, AllocError> {
+    fn run_short_of_room<R: Machine>(&self, rt: &R) -> Result<String, AllocError> {
         for room in 0..self.printed.len() {
-            self.room = room;
-            let ended = self.run(rt)?;
+            let (ended, _) = self.run(rt, room)?;
             let wanted = Wanted {
                 status: 5,
                 line: "riptide: write fault",
