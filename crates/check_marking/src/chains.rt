@@ -1,15 +1,13 @@
 //! Long chains.
 ghost use Rattle.std.specs.Prelude.{◌≡◌, ◌*◌, ◌≤◌};
 
-use crate::fact::Fact;
-use crate::heap::Heap;
 use crate::marking::Marking;
-use crate::system::System;
+use check_heap::Heap;
 use std::alloc::{AllocError, Global};
-use std::io;
+use tide_layout::Layout;
 use tide_model::Val;
 use tide_solver::Solved;
-use tide_words::{Colour, Layout};
+use tide_words::{Colour, val_word};
 
 /// How many cells a class of so many blocks has.
 fn class_size(blocks: u8) -> u32
@@ -28,33 +26,23 @@ fn chain(alloc: Global, blocks: u8) -> Result<Heap, AllocError>
     let first_table = 4 * tables;
     let mut heap = Heap::new(alloc, layout)?;
     for cell in 0..5 * tables {
-        heap.say(Fact::Live { cell });
+        heap.take_cell(cell);
     }
-    heap.say(Fact::Register {
-        who: 0,
-        register: 0,
-        value: Val::Cell(0),
-    });
+    heap.set_register(0, 0, val_word(Val::Cell(0)));
     for cell in 0..first_table {
         let next = cell + 1;
         if next < first_table {
-            heap.say(Fact::Slot {
-                cell,
-                slot: 0,
-                value: Val::Cell(next),
-            });
+            heap.set_slot(cell, 0, val_word(Val::Cell(next)));
         }
-        heap.say(Fact::Slot {
-            cell,
-            slot: 1,
-            value: Val::Cell(first_table + cell % tables),
-        });
+        let table = first_table + cell % tables;
+        heap.set_slot(cell, 1, val_word(Val::Cell(table)));
     }
     Ok(heap)
 }
 
-/// Marks the chain, all of which is retained.
-fn is_all_marked(alloc: Global, blocks: u8) -> Result<bool, AllocError>
+/// Marks the chain of a layout with so many blocks in each class of cells, all of which is retained, and answers whether
+/// all of it is marked.
+pub fn check_chains(alloc: Global, blocks: u8) -> Result<bool, AllocError>
     requires { blocks ≤ 64 }
 {
     let heap = chain(alloc, blocks)?;
@@ -63,18 +51,4 @@ fn is_all_marked(alloc: Global, blocks: u8) -> Result<bool, AllocError>
     let solved = marking.solve(visits);
     let black = marking.cells_of(alloc, Colour::Black)?;
     Ok(solved == Solved::Converged { visits } && black.len() == visits as usize)
-}
-
-/// Marks the chain of a layout with so many blocks in each class of cells, 64 at most.
-pub fn check_chains<R: System>(rt: &R, blocks: u8) -> io::Result<bool>
-    requires { blocks ≤ 64 }
-{
-    let is_so = is_all_marked(rt.alloc(), blocks)?;
-    let ends = if is_so {
-        "as expected"
-    } else {
-        "not all marked"
-    };
-    println!(rt; "chains {blocks}: {ends}")?;
-    Ok(is_so)
 }

@@ -2,14 +2,15 @@
 ghost use Rattle.std.specs.Prelude.{◌≡◌, ◌<◌};
 ghost use Rattle.tide_model.specs.Layout.{cell_count};
 
-use crate::heap::Heap;
+use check_heap::Heap;
 use std::alloc::{AllocError, Global};
 use std::marker::Model;
 use tide_ephemeron::Ephemerons;
 use tide_groups::Groups;
+use tide_layout::{Layout, Region};
 use tide_roots::{Registers, Strong};
 use tide_solver::{ConstraintSet, Solved, solve};
-use tide_words::{Colour, GreyList, Layout, Region, VecWords, Words, colour, is_live, is_marked};
+use tide_words::{Colour, GreyList, VecWords, Words, colour, is_live, is_marked};
 
 /// The cycle that marks.
 const CYCLE: u64 = 1;

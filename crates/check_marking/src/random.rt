@@ -1,9 +1,8 @@
 //! Random heaps, which a plain store collects and the solver marks.
 ghost use Rattle.std.specs.Prelude.{◌<◌};
 
-use crate::draw::Draw;
-use crate::system::System;
 use crate::twin::Twin;
+use check_heap::{Draw, System};
 use std::alloc::{AllocError, Global};
 use std::io;
 use tide_model::Op;
@@ -127,12 +126,11 @@ fn first_differing(alloc: Global, seed: u64, count: u32) -> Result<Option<u32>, 
     Ok(None)
 }
 
-/// Marks so many heaps of random operations, which follow from the seed.
+/// Marks so many heaps of random operations, which follow from the seed, and tells the first that differs, if one does.
 pub fn check_random<R: System>(rt: &R, seed: u64, count: u32) -> io::Result<bool> {
     let differing = first_differing(rt.alloc(), seed, count)?;
-    match differing {
-        None => println!(rt; "random {seed} {count}: as expected")?,
-        Some(number) => println!(rt; "random {seed} {count}: heap {number} differs")?,
+    if let Some(number) = differing {
+        println!(rt; "random {seed} {count}: heap {number} differs")?;
     }
     Ok(differing.is_none())
 }

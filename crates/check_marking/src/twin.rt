@@ -1,13 +1,12 @@
 //! A plain store and the same heap in words.
 
-use crate::caller::Caller;
-use crate::fact::Fact;
-use crate::heap::Heap;
 use crate::marking::Marking;
+use check_heap::{Caller, Heap};
 use std::alloc::{AllocError, Global};
+use tide_layout::{Layout, Region};
 use tide_model::{Op, Reply, Val};
 use tide_solver::Solved;
-use tide_words::{Colour, Layout};
+use tide_words::{Colour, MAX_CELLS, pair_word, val_word};
 
 /// A plain store, and a heap in words that holds what the store does. One mutator calls.
 #[derive(Drop)]
@@ -23,7 +22,7 @@ impl Twin {
     pub fn new(alloc: Global) -> Result<Self, AllocError> {
         let layout = Layout::new([1, 1, 0, 0, 1], [1, 1, 0, 0, 0], 4, 2, 2, 1, 0);
         Ok(Twin {
-            store: Caller::new(alloc, layout)?,
+            store: Caller::new(alloc, layout, &[0, 1, 2, 3, 4])?,
             heap: Heap::new(alloc, layout)?,
             claims: Vec::new(alloc),
         })
@@ -32,6 +31,11 @@ impl Twin {
     /// The value in a register.
     fn value_in(&mut self, register: u8) -> Val {
         self.heap.register(0, register)
+    }
+
+    /// The word in a register.
+    fn word_in(&mut self, register: u8) -> u64 {
+        val_word(self.value_in(register))
     }
 
     /// The cell in a register, where it holds one.
@@ -50,7 +54,7 @@ impl Twin {
 
     /// Makes a call on the store, and tells the words what it changed.
     pub fn call(&mut self, op: Op) -> Result<(), AllocError> {
-        match self.store.call(op) {
+        match self.store.call(0, op) {
             Some(Reply::Born(cell)) => self.bear(op, cell),
             Some(Reply::Done) => self.follow(op)?,
             _ => {}
@@ -61,7 +65,7 @@ impl Twin {
     /// Tells the words of a new cell.
     fn bear(&mut self, op: Op, cell: u32) {
         if let Op::Alloc { dst, class: _ } | Op::Table { dst } = op {
-            self.heap.say(Fact::Live { cell });
+            self.heap.take_cell(cell);
             self.set_register(dst, Val::Cell(cell));
         }
     }
@@ -75,8 +79,8 @@ impl Twin {
                 self.set_register(dst, value);
             }
             Op::StrongSet { at, val } => {
-                let value = self.value_in(val);
-                self.heap.say(Fact::Strong { handle: at, value });
+                let word = self.word_in(val);
+                self.heap.set(Region::Strong, u32::from(at), word);
             }
             Op::Unclaim => self.unclaim(0),
             Op::Put { src, .. }
@@ -100,11 +104,11 @@ impl Twin {
     fn follow_at(&mut self, cell: u32, op: Op) -> Result<(), AllocError> {
         match op {
             Op::Put { src: _, slot, val } => {
-                let value = self.value_in(val);
-                self.heap.say(Fact::Slot { cell, slot, value });
+                let word = self.word_in(val);
+                self.heap.set_slot(cell, slot, word);
             }
             Op::Claim { src: _ } => {
-                self.heap.say(Fact::Claimed { cell, by: 0 });
+                self.heap.set(Region::Claim, cell, 1);
                 self.claims.push(cell)?;
             }
             Op::Release { src: _ } => {
@@ -125,25 +129,21 @@ impl Twin {
                 self.set_pair(cell, key, value);
             }
             Op::PairDel { src: _, key } => self.delete_pair(cell, key),
-            Op::Group { src: _, n } => self.heap.say(Fact::InGroup { cell, group: n }),
+            Op::Group { src: _, n } => self.heap.set(Region::Group, cell, u64::from(n)),
             _ => {}
         }
         Ok(())
     }
 
     fn set_register(&mut self, register: u8, value: Val) {
-        self.heap.say(Fact::Register {
-            who: 0,
-            register,
-            value,
-        });
+        self.heap.set_register(0, register, val_word(value));
     }
 
     /// Gives up a claim.
     fn unclaim(&mut self, at: usize) {
         if at < self.claims.len() {
             let cell = self.claims.remove(at);
-            self.heap.say(Fact::Unclaimed { cell });
+            self.heap.set(Region::Claim, cell, 0);
         }
     }
 
@@ -156,30 +156,19 @@ impl Twin {
         };
         if let Some(old) = old {
             for place in 0..count.min(64) as u8 {
-                let value = self.heap.element(old, place);
-                self.heap.say(Fact::Element {
-                    array,
-                    place,
-                    value,
-                });
+                let word = self.heap.element(old, place);
+                self.heap.set_element(array, place, word);
             }
         }
-        self.heap.say(Fact::Properties {
-            cell,
-            array,
-            count: count.saturating_add(1),
-        });
+        let count_then = count.saturating_add(1);
+        self.heap.set_properties(cell, array, count_then);
         self.set_property(cell, count, value);
     }
 
     /// Puts a value into the property at a place, which is that of its key.
     fn set_property(&mut self, cell: u32, place: u32, value: Val) {
         if let (Some(array), Ok(place)) = (self.heap.array(cell), u8::try_from(place)) {
-            self.heap.say(Fact::Element {
-                array,
-                place,
-                value,
-            });
+            self.heap.set_element(array, place, val_word(value));
         }
     }
 
@@ -193,17 +182,15 @@ impl Twin {
         let Some(key) = self.cell_in(key) else {
             return;
         };
+        if key >= MAX_CELLS {
+            return;
+        }
         let place = match self.place_of(table, Some(key)) {
             Some(place) => Some(place),
             None => self.place_of(table, None),
         };
         if let Some(place) = place {
-            self.heap.say(Fact::Pair {
-                table,
-                place,
-                key,
-                value,
-            });
+            self.heap.set_slot(table, place, pair_word(key, value));
         }
     }
 
@@ -211,7 +198,7 @@ impl Twin {
     fn delete_pair(&mut self, table: u32, key: u8) {
         let key = self.cell_in(key);
         if let Some(place) = self.place_of(table, key) {
-            self.heap.say(Fact::NoPair { table, place });
+            self.heap.set_slot(table, place, 0);
         }
     }
 
@@ -219,12 +206,13 @@ impl Twin {
     /// freed.
     pub fn agrees(self, alloc: Global) -> Result<bool, AllocError> {
         let Twin {
-            store,
+            mut store,
             heap,
             claims: _,
         } = self;
         let count = store.live();
-        let (freed, visits) = store.collect(alloc)?;
+        let freed = store.collect(alloc)?;
+        let visits = store.live();
         let mut marking = Marking::begin(alloc, heap)?;
         let cells = marking.cells();
         let solved = marking.solve(cells);

@@ -1,20 +1,21 @@
-//! The checks, each of which answers whether all was as expected.
+//! The checks of documents, each of which answers whether all was as expected.
 
 use crate::ending::Ending;
-use crate::system::System;
+use crate::machine::Machine;
 use crate::wanted::{Case, Wanted};
+use check_heap::text;
 use std::alloc::{AllocError, Global};
 use std::{fs, io};
 use tide_io::RealSource;
 use tide_workload::MAX_BYTES;
 
-/// The name of a file of a check.
-fn file_name(alloc: Global, name: &str, kind: &str) -> Result<String, AllocError> {
-    format!(in alloc; "{name}.{kind}")
+/// The name of a workload's file of a kind.
+pub fn file_of(alloc: Global, workload: &str, kind: &str) -> Result<String, AllocError> {
+    format!(in alloc; "workloads/{workload}.{kind}")
 }
 
 /// Runs these bytes, which are to end so.
-fn check_bytes<R: System>(
+fn check_bytes<R: Machine>(
     rt: &R,
     name: &str,
     bytes: &[u8],
@@ -23,11 +24,11 @@ fn check_bytes<R: System>(
     Ending::of_bytes(rt, bytes)?.tell(rt, name, wanted)
 }
 
-/// Runs `NAME.toml`, which is to print `NAME.txt`.
-pub fn check_run<R: System>(rt: &R, name: &str) -> io::Result<bool> {
+/// Runs a workload, which is to print the text beside it.
+fn check_workload<R: Machine>(rt: &R, name: &str) -> io::Result<bool> {
     let alloc = rt.alloc();
-    let file = fs::open(rt, file_name(alloc, name, "toml")?)?;
-    let printed = fs::read(rt, file_name(alloc, name, "txt")?)?;
+    let file = fs::open(rt, file_of(alloc, name, "toml")?)?;
+    let printed = fs::read(rt, file_of(alloc, name, "txt")?)?;
     let wanted = Wanted {
         status: 0,
         line: "",
@@ -36,13 +37,26 @@ pub fn check_run<R: System>(rt: &R, name: &str) -> io::Result<bool> {
     Ending::of(rt, &mut RealSource::new(file))?.tell(rt, name, wanted)
 }
 
-/// Runs each document of `NAME.txt`.
-pub fn check_cases<R: System>(rt: &R, name: &str) -> io::Result<bool> {
-    let file = fs::read_to_string(rt, file_name(rt.alloc(), name, "txt")?)?;
+/// Runs each workload of a list, which isn't to be empty.
+pub fn check_workloads<R: Machine>(rt: &R, list: &str) -> io::Result<bool> {
+    let list = fs::read_to_string(rt, text(rt.alloc(), list)?)?;
+    let mut all = !list.as_str().is_empty();
+    for name in list.as_str().lines() {
+        all = check_workload(rt, name)? && all;
+    }
+    Ok(all)
+}
+
+/// Runs each document of a file.
+pub fn check_cases<R: Machine>(rt: &R, file: &str) -> io::Result<bool> {
+    let file = fs::read_to_string(rt, text(rt.alloc(), file)?)?;
+    let Some((_, cases)) = file.as_str().split_once("=== ") else {
+        return Ok(false);
+    };
     let mut all = true;
-    for text in file.as_str().split("=== ").skip(1) {
-        let Some(case) = Case::parse(text) else {
-            println!(rt; "{text}: no case")?;
+    for case in cases.split("=== ") {
+        let Some(case) = Case::parse(case) else {
+            println!(rt; "{case}: no case")?;
             return Ok(false);
         };
         all = check_bytes(rt, case.name, case.document.as_bytes(), case.wanted)? && all;
@@ -50,27 +64,27 @@ pub fn check_cases<R: System>(rt: &R, name: &str) -> io::Result<bool> {
     Ok(all)
 }
 
-/// Runs each beginning of `NAME.toml`, which is to end as the line of `NAME.cut.txt` for its length says.
-pub fn check_cut<R: System>(rt: &R, name: &str) -> io::Result<bool> {
+/// Runs each beginning of a document, which is to end as the line for its length says.
+pub fn check_cut<R: Machine>(rt: &R, document: &str, ends: &str) -> io::Result<bool> {
     let alloc = rt.alloc();
-    let bytes = fs::read(rt, file_name(alloc, name, "toml")?)?;
-    let ends = fs::read_to_string(rt, file_name(alloc, name, "cut.txt")?)?;
+    let bytes = fs::read(rt, text(alloc, document)?)?;
+    let ends = fs::read_to_string(rt, text(alloc, ends)?)?;
     let mut ends = ends.as_str().lines();
     let mut all = true;
     for length in 0..=bytes.len() {
         let Some(wanted) = ends.next().and_then(Wanted::parse) else {
-            println!(rt; "{name} has no end for {length} bytes")?;
+            println!(rt; "{document} has no end for {length} bytes")?;
             return Ok(false);
         };
-        let cut = format!(in alloc; "{name} cut to {length} bytes")?;
+        let cut = format!(in alloc; "{document} cut to {length} bytes")?;
         all = check_bytes(rt, cut.as_str(), &bytes[..length], wanted)? && all;
     }
     Ok(all)
 }
 
-/// Runs `NAME.toml` with empty lines after it: as many as may be, and then one more.
-pub fn check_padded<R: System>(rt: &R, name: &str) -> io::Result<bool> {
-    let mut bytes = fs::read(rt, file_name(rt.alloc(), name, "toml")?)?;
+/// Runs a document with empty lines after it: as many as may be, and then one more.
+pub fn check_padded<R: Machine>(rt: &R, document: &str) -> io::Result<bool> {
+    let mut bytes = fs::read(rt, text(rt.alloc(), document)?)?;
     let short = Ending::of_bytes(rt, bytes.as_slice())?;
     bytes.resize(MAX_BYTES, b'\n')?;
     let is_same = check_bytes(rt, "the longest input", bytes.as_slice(), short.wanted())?;
@@ -88,10 +102,10 @@ const NO_TEXT: [(&str, &[u8]); 5] = [
     ("half of a pair", b"# \xED\xA0\x80"),
 ];
 
-/// Runs `NAME.toml` with a comment after it that is no text.
-pub fn check_spoiled<R: System>(rt: &R, name: &str) -> io::Result<bool> {
+/// Runs a document with a comment after it that is no text.
+pub fn check_spoiled<R: Machine>(rt: &R, document: &str) -> io::Result<bool> {
     let alloc = rt.alloc();
-    let document = fs::read(rt, file_name(alloc, name, "toml")?)?;
+    let document = fs::read(rt, text(alloc, document)?)?;
     let wanted = Wanted::refused("riptide: not TOML");
     let mut all = true;
     for (what, comment) in NO_TEXT {

@@ -1,10 +1,12 @@
+//! How a run ended, and whether that is as it was to end.
 ghost use Rattle.std.specs.Prelude.{◌≡◌, true, IfSome};
 
-use crate::system::System;
+use crate::machine::Machine;
 use crate::wanted::Wanted;
+use check_heap::text;
 use std::alloc::{AllocError, Global};
 use std::io;
-use tide_io::{MemSink, MemSource, Source};
+use tide_io::{MemSink, MemSource, Source, read_up_to};
 use tide_model::FreePass;
 use tide_run::riptide;
 
@@ -15,6 +17,7 @@ const ROOM: usize = 65_536;
 #[derive(Drop)]
 pub struct Ending {
     status: u8,
+    has_outcome: bool,
     out: MemSink,
     err: MemSink,
 }
@@ -28,36 +31,47 @@ fn sink(alloc: Global) -> Result<MemSink, AllocError> {
 }
 
 impl Ending {
+    /// Runs the program with these words, on what a source gives and to these sinks.
+    pub fn over<R: Machine, S: Source>(
+        rt: &R,
+        words: &[String],
+        source: &mut S,
+        mut out: MemSink,
+        mut err: MemSink,
+    ) -> Self {
+        let ended = riptide(rt, rt.alloc(), words, source, &mut out, &mut err, &FreePass);
+        Ending {
+            status: ended.status,
+            has_outcome: ended.outcome.is_some(),
+            out,
+            err,
+        }
+    }
+
     /// Runs the program, by its name alone, on what a source gives.
-    pub fn of<R: System, S: Source>(rt: &R, source: &mut S) -> Result<Self, AllocError> {
+    pub fn of<R: Machine, S: Source>(rt: &R, source: &mut S) -> Result<Self, AllocError> {
         let alloc = rt.alloc();
-        let mut out = sink(alloc)?;
-        let mut err = sink(alloc)?;
-        let words = [String::from_str(alloc, "riptide")?];
-        let ended = riptide(
-            rt,
-            alloc,
-            words.as_slice(),
-            source,
-            &mut out,
-            &mut err,
-            &FreePass,
-        );
-        let status = ended.status;
-        Ok(Ending { status, out, err })
+        let words = [text(alloc, "riptide")?];
+        let (out, err) = (sink(alloc)?, sink(alloc)?);
+        Ok(Ending::over(rt, words.as_slice(), source, out, err))
     }
 
     /// Runs the program on these bytes, of which it gets some at a time.
-    pub fn of_bytes<R: System>(rt: &R, bytes: &[u8]) -> Result<Self, AllocError> {
+    pub fn of_bytes<R: Machine>(rt: &R, bytes: &[u8]) -> Result<Self, AllocError> {
         let alloc = rt.alloc();
         let mut source = MemSource::new(bytes.to_vec(alloc)?, 1_000, Vec::new(alloc));
         Ending::of(rt, &mut source)
     }
 
+    /// What stands on the error output.
+    fn told(&self) -> &str {
+        std::str::from_utf8(self.err.held()).unwrap_or("no text")
+    }
+
     /// The line on the error output, without its end.
     fn line(&self) -> &str {
-        let text = std::str::from_utf8(self.err.held()).unwrap_or("no text");
-        text.strip_suffix('\n').unwrap_or(text)
+        let told = self.told();
+        told.strip_suffix('\n').unwrap_or(told)
     }
 
     /// What another run is to come to, that this one came to.
@@ -66,6 +80,39 @@ impl Ending {
             status: self.status,
             line: self.line(),
             out: Some(self.out.held()),
+        }
+    }
+
+    /// The status, and whether there is an outcome.
+    pub fn status_text(&self, alloc: Global) -> Result<String, AllocError> {
+        let outcome = if self.has_outcome {
+            " with an outcome"
+        } else {
+            ""
+        };
+        format!(in alloc; "{}{outcome}", self.status)
+    }
+
+    /// How much was printed of a text: all, nothing or so many first bytes.
+    pub fn printed_text(&self, alloc: Global, whole: &[u8]) -> Result<String, AllocError> {
+        let printed = self.out.held();
+        if printed.is_empty() {
+            text(alloc, "nothing")
+        } else if printed == whole {
+            text(alloc, "all")
+        } else if whole.starts_with(printed) {
+            format!(in alloc; "{}", printed.len())
+        } else {
+            text(alloc, "something else")
+        }
+    }
+
+    /// What was told, which is to be a whole line.
+    pub fn told_text(&self, alloc: Global) -> Result<String, AllocError> {
+        match self.told().strip_suffix('\n') {
+            Some(line) => text(alloc, line),
+            None if self.told().is_empty() => text(alloc, "nothing"),
+            None => format!(in alloc; "{}, cut off", self.told()),
         }
     }
 
@@ -79,15 +126,17 @@ impl Ending {
         }
     }
 
-    /// Prints whether the run ended so, and else its status and its line.
-    pub fn tell<R: System>(&self, rt: &R, name: &str, wanted: Wanted<'_>) -> io::Result<bool> {
-        let line = self.line();
-        if self.status == wanted.status && line == wanted.line && self.has_printed(wanted.out) {
-            println!(rt; "{name}: as expected")?;
-            Ok(true)
-        } else {
-            println!(rt; "{name}: ends with {} and '{line}'", self.status)?;
-            Ok(false)
+    /// Whether the run ended so.
+    pub fn is(&self, wanted: Wanted<'_>) -> bool {
+        self.status == wanted.status && self.line() == wanted.line && self.has_printed(wanted.out)
+    }
+
+    /// Answers whether the run ended so, and else prints its status and its line.
+    pub fn tell<R: Machine>(&self, rt: &R, name: &str, wanted: Wanted<'_>) -> io::Result<bool> {
+        let is_so = self.is(wanted);
+        if !is_so {
+            println!(rt; "{name}: ends with {} and '{}'", self.status, self.line())?;
         }
+        Ok(is_so)
     }
 }

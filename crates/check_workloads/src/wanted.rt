@@ -1,3 +1,5 @@
+//! How runs are to end, as the files of documents tell it.
+
 /// How a run is to end.
 #[derive(Clone, Copy)]
 pub struct Wanted<'a> {

@@ -1,3 +1,4 @@
+-- The definitions of this crate.
 pub mod Adapter
 pub mod CallLog
 pub mod Faults

@@ -1,3 +1,4 @@
+//! The calls that a source or a sink in memory was made, and which of them fail.
 ghost use Rattle.std.specs.Prelude.{◌≡◌, ◌≤◌, ◌↔◌, IsTrue};
 
 use std::marker::Model;

@@ -15,8 +15,6 @@ mod real_sink;
 mod real_source;
 mod sink;
 mod source;
-#[cfg(test)]
-mod tests;
 mod writing;
 
 pub use mem_sink::MemSink;

@@ -1,3 +1,4 @@
+//! A source in memory, which fails where it is told to.
 ghost use Rattle.std.specs.Prelude.{◌≡◌, ◌↔◌, ◌<◌, ◌≤◌, Some, min, take, length, IfOk, IsErr, OnErr};
 ghost use Rattle.std.specs.Io.KnownBytes.{ReadConsumes};
 ghost use Rattle.tide_io.specs.Faults.{HasCause};

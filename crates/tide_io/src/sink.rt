@@ -1,3 +1,4 @@
+//! What a sink is. It knows nothing of what the bytes say.
 ghost use Rattle.std.specs.Prelude.{ℕ, ◌<◌, ◌≤◌, List, Option, length, IfOk};
 ghost use Rattle.std.specs.Io.KnownBytes.{WriteAppends};
 ghost use Rattle.tide_io.specs.Faults.{HasCause};

@@ -1,3 +1,4 @@
+//! Writing all of some bytes.
 ghost use Rattle.std.specs.Prelude.{OnErr, OnOk};
 ghost use Rattle.std.specs.Io.KnownBytes.{Appends};
 ghost use Rattle.tide_io.specs.Faults.{AppendsPart, HasCause};

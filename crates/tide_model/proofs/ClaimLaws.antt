@@ -26,9 +26,9 @@ use Rattle.tide_model.specs.Answer.{IsAnswer, IsAnswerUnless, IsGranted}
 use Rattle.tide_model.specs.History.{after_entry, state_after}
 use Rattle.tide_model.specs.Lawful.{Stands, StandsEntry, IsLawful}
 use Rattle.tide_model.specs.References.{ClaimsAreOwn}
-use Rattle.tide_model.proofs.NumberLaws.{passing_is_among, numbers_where-none, numbers_where-one, among_from_contains, contains_from_among}
+use Rattle.tide_model.proofs.NumberLaws.{put_at_elim, passing_is_among, numbers_where-none, numbers_where-one, among_from_contains, contains_from_among}
 use Rattle.tide_model.proofs.Histories.{state_after-push, IsLawful-elim}
-use Rattle.tide_model.proofs.ReferenceLaws.{put_at_elim, after_call-refused}
+use Rattle.tide_model.proofs.ReferenceLaws.{after_call-refused}
 
 -- nobody claims a cell in the empty store
 pub ClaimsAreOwn-empty : (layout : Layout) → ClaimsAreOwn layout empty_state

@@ -1,7 +1,7 @@
 -- How a history grows by one event, and by several.
 use Rattle.std.proofs.Common.{ℕ, zero, suc, ◌≡◌, ◌<◌, ◌≤◌, refl, sym, ◌∙◌, ap, subst, arith, Bool, true, false, List, [], ◌∷◌, ◌++◌, length, take, append_assoc, inl, inr, take_all, add-one, get_or}
 use Rattle.std.proofs.lemmas.List.{take_more}
-use Rattle.std.proofs.lemmas.Option.{slice_get_cases}
+use Rattle.std.proofs.lemmas.Option.{slice_get_cases, slice_get_within}
 use Rattle.std.specs.Prelude.{Option, Some, slice_get, if◌then◌else◌, is_some}
 use Rattle.tide_model.specs.declared.op.Op.{Op}
 use Rattle.tide_model.specs.declared.op.Reply.{Reply}
@@ -9,6 +9,7 @@ use Rattle.tide_model.specs.declared.entry.Event.{Event}
 use Rattle.tide_model.specs.Layout.{Layout}
 use Rattle.tide_model.specs.State.{State, empty_state}
 use Rattle.tide_model.specs.History.{after_event, state_from, state_after, one_later, moment_after_last}
+use Rattle.tide_model.specs.Prefix.{IsPrefix}
 use Rattle.tide_model.specs.Refused.{ShapeLists}
 use Rattle.tide_model.specs.Lawful.{Stands, IsLawful}
 use Rattle.tide_model.specs.Script.{calls_of, own_calls, retry_after, retry_after_all, script_from}
@@ -32,6 +33,12 @@ take-append-short [] ys (suc n) h = absurd (omega arith)
 take-append-short (x ∷ xs) ys zero h = refl
 take-append-short (x ∷ xs) ys (suc n) h = ap (λ (rest : List _). x ∷ rest) (take-append-short xs ys n (omega arith))
 
+slice_get-append-short : {X : Type 0} (xs ys : List X) (place : ℕ) (x : X) → slice_get xs place ≡ Some x → slice_get (xs ++ ys) place ≡ Some x
+slice_get-append-short [] ys zero x is = absurd (cc)
+slice_get-append-short [] ys (suc place) x is = absurd (cc)
+slice_get-append-short (first ∷ xs) ys zero x is = is
+slice_get-append-short (first ∷ xs) ys (suc place) x is = slice_get-append-short xs ys place x is
+
 pub push_cases : {X : Type 0} (P : List X → X → Type 0) (xs : List X) (x : X) →
     ((place : ℕ) (y : X) → slice_get xs place ≡ Some y → P (take place xs) y) → P xs x →
     (place : ℕ) (y : X) → slice_get (xs ++ x ∷ []) place ≡ Some y → P (take place (xs ++ x ∷ [])) y
@@ -49,6 +56,14 @@ IsLawful-nil layout shapes (suc place) event is = absurd (cc)
 pub IsLawful-push : (layout : Layout) (shapes : ShapeLists) (history : List Event) (event : Event) →
     IsLawful layout shapes history → Stands layout shapes history event → IsLawful layout shapes (history ++ event ∷ [])
 IsLawful-push layout shapes history event lawful stands = push_cases (λ before e. Stands layout shapes before e) history event lawful stands
+
+-- a beginning of a lawful history is lawful
+pub IsLawful-prefix : (layout : Layout) (shapes : ShapeLists) (before history : List Event) → IsPrefix before history → IsLawful layout shapes history → IsLawful layout shapes before
+IsLawful-prefix layout shapes before history prefix lawful place event is =
+    let within = slice_get_within before place event is in
+    subst (λ (first : List Event). Stands layout shapes first event)
+    (ap (take place) (sym prefix.joins) ∙ take-append-short before prefix.rest place (omega (arith, within)))
+    (lawful place event (ap (λ (all : List Event). slice_get all place) (sym prefix.joins) ∙ slice_get-append-short before prefix.rest place event is))
 
 -- what holds of the empty history, and is kept by each event that stands, holds of a lawful history
 pub IsLawful-elim : (layout : Layout) (shapes : ShapeLists) (P : List Event → Type 0) → P [] →
@@ -76,6 +91,22 @@ moment_after_last-le test (event ∷ events) = step (moment_after_last test even
     step zero rest true h = omega arith
     step zero rest false h = omega arith
     step (suc later) rest passes h = omega arith
+
+-- the same where one more event came
+pub moment_after_last-push : (test : Event → Bool) (history : List Event) (event : Event) →
+    moment_after_last test (history ++ event ∷ []) ≡ (if test event then suc (length history) else moment_after_last test history)
+moment_after_last-push test [] event = step (test event)
+  where
+    step : (passes : Bool) → one_later 0 passes ≡ (if passes then 1 else 0)
+    step true = refl
+    step false = refl
+moment_after_last-push test (first ∷ history) event =
+    ap (λ (m : ℕ). one_later m (test first)) (moment_after_last-push test history event) ∙ step (test event)
+  where
+    step : (passes : Bool) → one_later (if passes then suc (length history) else moment_after_last test history) (test first)
+        ≡ (if passes then suc (suc (length history)) else one_later (moment_after_last test history) (test first))
+    step true = refl
+    step false = refl
 
 -- the calls of a longer history
 pub calls_of-append : (who : ℕ) (xs ys : List Event) → calls_of who (xs ++ ys) ≡ calls_of who xs ++ calls_of who ys

@@ -1,6 +1,14 @@
+pub mod ActiveLaws
+pub mod CallerRows
 pub mod ClaimLaws
 pub mod Cycles
+pub mod DanglingRows
 pub mod Histories
+pub mod LawfulReferences
 pub mod NumberLaws
 pub mod ReferenceLaws
+pub mod ReferenceSteps
 pub mod ReferencesInCycles
+pub mod Retained
+pub mod Spans
+pub mod Windows

@@ -1,12 +1,21 @@
--- Membership, lists of numbers below a bound, and their number.
+-- Functions with another value at one place, membership, lists of numbers below a bound, and their number.
 use Rattle.std.proofs.Common.{ℕ, zero, suc, ◌≡◌, ◌+◌, ◌<◌, refl, sym, ◌∙◌, ap, subst, arith, Bool, true, false, List, [], ◌∷◌, ◌++◌, length, append-nil, get_or, inl, inr, eq-eqb, length-append, ◌≢◌, true≢false}
-use Rattle.std.proofs.lemmas.Bool.{eqb-true}
+use Rattle.std.proofs.lemmas.Bool.{eqb-true, eqb-false}
 use Rattle.std.proofs.Math.ListN.{get_or-append}
 use Rattle.std.proofs.Math.Seq.{get_or-append_seam}
 use Rattle.std.proofs.lemmas.List.{get_or_default}
 use Rattle.std.specs.Prelude.{◌==◌, ◌||◌, if◌then◌else◌, ◌⊎◌, Contains}
 use Rattle.std.specs.List.Sorted.{IsStrictlyIncreasing}
-use Rattle.tide_model.specs.Numbers.{is_among, numbers_where, count_where}
+use Rattle.tide_model.specs.Numbers.{put_at, is_among, numbers_where, count_where}
+
+-- what holds of the new value at its place, and of the old ones elsewhere, holds of all
+pub put_at_elim : {X : Type 0} (P : ℕ → X → Type 0) (f : ℕ → X) (place : ℕ) (value : X) →
+    P place value → ((n : ℕ) → n ≢ place → P n (f n)) → (n : ℕ) → P n (put_at f place value n)
+put_at_elim {X} P f place value here elsewhere n = step (n == place) refl
+  where
+    step : (same : Bool) → (n == place) ≡ same → P n (if same then value else f n)
+    step true e = subst (λ (k : ℕ). P k value) (sym (eqb-true n place e)) here
+    step false e = elsewhere n (eqb-false n place e)
 
 -- what is among two lists is among one of them
 pub is_among-append : (xs ys : List ℕ) (n : ℕ) → is_among (xs ++ ys) n ≡ (is_among xs n || is_among ys n)

@@ -13,12 +13,12 @@ use Rattle.tide_model.specs.State.{State, free}
 use Rattle.tide_model.specs.Applied.{slot_of, property_of, pair_of, is_array_full}
 use Rattle.tide_model.specs.Refused.{ShapeLists, table_class, refusal_of}
 
--- a free cell of the class
+-- the cell is free and of the class
 pub record IsFreeCellOf (layout : Layout) (state : State) (class cell : ℕ) : Type 0 where
   pub of_class : IsBlockOf layout class (block_of_cell cell)
   pub is_free : (state.cells cell).status ≡ free
 
--- a free array of the class
+-- the array is free and of the class
 pub record IsFreeArrayOf (layout : Layout) (state : State) (class array : ℕ) : Type 0 where
   pub of_class : IsBlockOf layout class (block_of_array layout array)
   pub is_free : state.arrays array ≡ free
@@ -32,7 +32,7 @@ abbrev pub IsTakenFor : Layout → State → ℕ → Option ℕ → Type 0
 IsTakenFor layout state cell (Some array) = (is_array_full (state.cells cell) ≡ true) × IsFreeArrayOf layout state (next_array_class state cell) array
 IsTakenFor layout state cell None = is_array_full (state.cells cell) ≡ false
 
--- for a cell that a register holds
+-- it holds of the cell that a value names, and there is one
 abbrev pub AtCell : Val → (ℕ → Type 0) → Type 0
 AtCell (Cell cell) holds = holds cell
 AtCell Empty holds = ⊥

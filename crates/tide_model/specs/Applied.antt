@@ -11,18 +11,18 @@ use Rattle.tide_model.specs.Layout.{capacity_of}
 use Rattle.tide_model.specs.Numbers.{put_at}
 use Rattle.tide_model.specs.State.{State, CellState, Status, live, spent, blank_cell}
 
--- a mutator's register has another value
+-- the state with another value in a mutator's register
 abbrev pub put_register : State → ℕ → ℕ → Val → State
 put_register state who register value =
     record state { registers = put_at state.registers who (put_at (state.registers who) register value) }
 
--- what a cell that a value names holds in a slot
+-- what the cell that a value names holds in a slot; empty where it names none
 abbrev pub slot_of : State → Val → ℕ → Val
 slot_of state (Cell cell) slot = (state.cells cell).slots slot
 slot_of state Empty slot = Empty
 slot_of state (Int n) slot = Empty
 
--- a cell that a value names has another value in a slot
+-- the state with another value in a slot of the cell that a value names; the same state where it names none
 abbrev pub put_slot : State → Val → ℕ → Val → State
 put_slot state (Cell cell) slot value =
     record state { cells = put_at state.cells cell (record (state.cells cell) { slots = put_at (state.cells cell).slots slot value }) }
@@ -35,11 +35,11 @@ at_cell state (Cell cell) change = change cell
 at_cell state Empty change = state
 at_cell state (Int n) change = state
 
--- a cell holds something else
+-- the state in which a cell holds something else
 abbrev pub put_cell : State → ℕ → CellState → State
 put_cell state cell held = record state { cells = put_at state.cells cell held }
 
--- a mutator's claims are others
+-- the state in which a mutator's claims are others
 abbrev pub put_claims : State → ℕ → List ℕ → State
 put_claims state who claims = record state { claims = put_at state.claims who claims }
 
@@ -99,7 +99,8 @@ abbrev pub put_pair : State → ℕ → ℕ → Option Val → State
 put_pair state table key held = put_cell state table
     (record (state.cells table) { pairs = put_at (state.cells table).pairs key held })
 
--- what a call leaves, by its operation and reply and the array that it took
+-- the state that a call leaves, by its operation, its reply and the array that it took; a refused call leaves it as it
+-- was
 abbrev pub after_call : State → ℕ → Op → Reply → Option ℕ → State
 after_call state who (Alloc dst class) (Born cell) took = put_register (put_cell state cell (blank_cell live)) who dst (Cell cell)
 after_call state who (Table dst) (Born cell) took = put_register (put_cell state cell (blank_cell live)) who dst (Cell cell)

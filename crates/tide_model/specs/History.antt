@@ -10,11 +10,11 @@ use Rattle.tide_model.specs.Numbers.{is_among}
 use Rattle.tide_model.specs.Applied.{after_call}
 use Rattle.tide_model.specs.State.{State, CellState, Status, free, live, spent, dead, is_dead, blank_cell, idle, marking, empty_state}
 
--- an entry that takes no array
+-- the event of an entry that takes no array
 abbrev pub plain : Entry → Event
 plain entry = record { entry = entry; took = None }
 
--- a value that names none of these cells
+-- the value, or empty where it names one of these cells
 abbrev pub without : List ℕ → Val → Val
 without cells Empty = Empty
 without cells (Int n) = Int n
@@ -30,7 +30,7 @@ abbrev pub is_array_of : State → List ℕ → ℕ → Bool
 is_array_of state [] array = false
 is_array_of state (cell ∷ cells) array = is_this_array (state.cells cell).array array || is_array_of state cells array
 
--- a spent array is dead once a cycle ends
+-- an array's status after a cycle's end: a spent one is dead
 abbrev pub unless_spent : Status → Status
 unless_spent free = free
 unless_spent live = live
@@ -50,11 +50,11 @@ after_end state freed = record state {
   phase = idle;
 }
 
--- what was dead is free and blank, where its block is swept
+-- the status after a sweep: what was dead is free, where its block is swept
 abbrev pub swept_status : Bool → Status → Status
 swept_status is_swept status = if is_swept && is_dead status then free else status
 
--- the cell after a sweep, which makes a dead one of a swept block free and blank
+-- the cell after a sweep: a dead one is blank and free, where its block is swept
 abbrev pub swept_cell : Bool → CellState → CellState
 swept_cell is_swept cell = if is_swept && is_dead cell.status then blank_cell free else cell
 
@@ -72,7 +72,7 @@ swept_all state = record state {
   arrays = λ array. swept_status true (state.arrays array);
 }
 
--- what an entry leaves
+-- the state that an entry leaves
 abbrev pub after_entry : Layout → State → Entry → Option ℕ → State
 after_entry layout state (Call who op reply) took = after_call state who op reply took
 after_entry layout state (Begin cycle) took = record state { phase = marking cycle }
@@ -95,7 +95,7 @@ state_from layout state (event ∷ events) = state_from layout (after_event layo
 abbrev pub state_after : Layout → List Event → State
 state_after layout history = state_from layout empty_state history
 
--- the state after the first so many events: the state at a moment
+-- the state after the first so many events of a history: the state at a moment
 abbrev pub state_at : Layout → List Event → ℕ → State
 state_at layout history moment = state_after layout (take moment history)
 
@@ -110,32 +110,17 @@ abbrev pub moment_after_last : (Event → Bool) → List Event → ℕ
 moment_after_last test [] = 0
 moment_after_last test (event ∷ events) = one_later (moment_after_last test events) (test event)
 
--- which entry an event is
+-- the entry begins a cycle
 abbrev pub is_begin : Entry → Bool
-is_begin (Call who op reply) = false
 is_begin (Begin cycle) = true
-is_begin (Pause visits) = false
-is_begin (Visits who visits) = false
-is_begin (End cycle freed) = false
-is_begin (Sweep block) = false
-is_begin (Open number run) = false
+is_begin _ = false
 
 -- the entry opens a running part, of which there are none today
 abbrev pub is_open : Entry → Bool
-is_open (Call who op reply) = false
-is_open (Begin cycle) = false
-is_open (Pause visits) = false
-is_open (Visits who visits) = false
-is_open (End cycle freed) = false
-is_open (Sweep block) = false
 is_open (Open number run) = true
+is_open _ = false
 
--- only a call is an entry of a mutator
+-- the entry is a call of the mutator: nothing else is a mutator's entry
 abbrev pub is_call_of : ℕ → Entry → Bool
 is_call_of mutator (Call who op reply) = who == mutator
-is_call_of mutator (Begin cycle) = false
-is_call_of mutator (Pause visits) = false
-is_call_of mutator (Visits who visits) = false
-is_call_of mutator (End cycle freed) = false
-is_call_of mutator (Sweep block) = false
-is_call_of mutator (Open number run) = false
+is_call_of mutator _ = false

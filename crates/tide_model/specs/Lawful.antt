@@ -1,5 +1,5 @@
 -- Which histories are lawful.
-use Rattle.std.specs.Prelude.{ℕ, ◌≡◌, ◌<◌, true, List, take, slice_get, Option, None, Some}
+use Rattle.std.specs.Prelude.{ℕ, ◌≡◌, ◌<◌, ◌^◌, true, List, take, slice_get, Option, None, Some}
 use Rattle.tide_model.specs.declared.op.Op.{Op}
 use Rattle.tide_model.specs.declared.op.Op.TheVariants.{Alloc, Table, Get, Put, Move, Set, Drop, Claim, Release, Unclaim, Add, GetProp, SetProp, StrongSet, StrongGet, WeakSet, WeakGet, PairSet, PairGet, PairDel, Group, Collect, Retire}
 use Rattle.tide_model.specs.declared.op.Reply.{Reply}
@@ -16,14 +16,14 @@ use Rattle.tide_model.specs.Cycle.{StandsBegin, StandsEnd, HasDead}
 use Rattle.tide_model.specs.Room.{StandsFull}
 
 -- the operands of an operation are those of the layout: registers of its mutator, handles, and a class of cells with
--- slots
+-- slots; a number that is set, or that names a group, has 32 bits
 abbrev pub FitsLayout : Layout → Op → Type 0
 FitsLayout layout (Alloc dst class) = (dst < layout.registers) × (class < 4)
 FitsLayout layout (Table dst) = dst < layout.registers
 FitsLayout layout (Get dst src slot) = (dst < layout.registers) × (src < layout.registers)
 FitsLayout layout (Put src slot val) = (src < layout.registers) × (val < layout.registers)
 FitsLayout layout (Move dst src) = (dst < layout.registers) × (src < layout.registers)
-FitsLayout layout (Set dst n) = dst < layout.registers
+FitsLayout layout (Set dst n) = (dst < layout.registers) × (n < 2 ^ 32)
 FitsLayout layout (Drop dst) = dst < layout.registers
 FitsLayout layout (Claim src) = src < layout.registers
 FitsLayout layout (Release src) = src < layout.registers
@@ -38,12 +38,12 @@ FitsLayout layout (WeakGet dst at) = (dst < layout.registers) × (at < layout.we
 FitsLayout layout (PairSet src key val) = (src < layout.registers) × (key < layout.registers) × (val < layout.registers)
 FitsLayout layout (PairGet dst src key) = (dst < layout.registers) × (src < layout.registers) × (key < layout.registers)
 FitsLayout layout (PairDel src key) = (src < layout.registers) × (key < layout.registers)
-FitsLayout layout (Group src n) = src < layout.registers
+FitsLayout layout (Group src n) = (src < layout.registers) × (n < 2 ^ 32)
 FitsLayout layout Collect = Unit {0}
 FitsLayout layout Retire = Unit {0}
 
--- a call stands where its mutator is active, its operands are there and the reply is an answer, and a refusal for
--- room where it may come
+-- when a call may stand: its mutator is one of the layout and active, its operands are those of the layout, the reply
+-- is an answer, and a refusal for room comes only where it may
 pub record StandsCall (layout : Layout) (shapes : ShapeLists) (before : List Event) (who : ℕ) (op : Op) (reply : Reply) (took : Option ℕ) : Type 0 where
   pub is_mutator : who < layout.mutators
   pub is_active : (state_after layout before).active who ≡ true
@@ -51,7 +51,7 @@ pub record StandsCall (layout : Layout) (shapes : ShapeLists) (before : List Eve
   pub answers : IsAnswer layout shapes (state_after layout before) who op reply took
   pub room : (class : ℕ) → reply ≡ Refused (Full class) → StandsFull layout before who class
 
--- an entry may stand right after a history; only a call takes an array
+-- when an entry may stand right after a history; only a call takes an array
 abbrev pub StandsEntry : Layout → ShapeLists → List Event → Entry → Option ℕ → Type 0
 StandsEntry layout shapes before (Call who op reply) took = StandsCall layout shapes before who op reply took
 StandsEntry layout shapes before (Begin cycle) took = (took ≡ None) × StandsBegin layout before cycle
@@ -65,7 +65,7 @@ StandsEntry layout shapes before (Open number run) took = took ≡ None
 abbrev pub Stands : Layout → ShapeLists → List Event → Event → Type 0
 Stands layout shapes before event = StandsEntry layout shapes before event.entry event.took
 
--- each event may stand right after those before it
+-- a history in which each event may stand right after those before it
 abbrev pub IsLawful : Layout → ShapeLists → List Event → Type 0
 IsLawful layout shapes history =
     (place : ℕ) (event : Event) → slice_get history place ≡ Some event → Stands layout shapes (take place history) event

@@ -2,7 +2,8 @@
 use Rattle.std.specs.Prelude.{ℕ, ◌+◌, ◌-◌, ◌*◌, ◌/◌, ◌<◌, ◌≤◌, ◌==◌, List, [], ◌∷◌, ◌++◌, take, sum, slice_index, nat_lt, nat_le, if◌then◌else◌}
 use Rattle.tide_model.specs.Numbers.{count_where}
 
--- a layout as its plain numbers
+-- how large a store is, as plain numbers: blocks of cells and of arrays by class, registers, handles, mutators and
+-- visitors
 pub record Layout : Type 0 where
   -- blocks of 64 cells of the classes 0 to 4, of which class 4 is the tables
   pub cell_blocks : List ℕ

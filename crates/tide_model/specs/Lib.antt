@@ -6,6 +6,7 @@ pub mod Cycle
 pub mod Graph
 pub mod History
 pub mod Lawful
+pub mod Laws
 pub mod Layout
 pub mod Numbers
 pub mod OperationRows

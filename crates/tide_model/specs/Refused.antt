@@ -12,11 +12,11 @@ use Rattle.tide_model.specs.Layout.{Layout, cell_count, class_of, slots_of}
 use Rattle.tide_model.specs.Numbers.{is_among, numbers_where, count_where}
 use Rattle.tide_model.specs.State.{State}
 
--- a shape table: the list of keys of each shape, by its number
+-- a shape table: the list of property keys of each shape, by its number
 abbrev pub ShapeLists : Type 0
 ShapeLists = List (List ℕ)
 
--- the table where no path is declared: the empty shape alone
+-- the shape table where no path is declared: the empty shape alone
 abbrev pub no_shapes : ShapeLists
 no_shapes = [] ∷ []
 
@@ -24,10 +24,11 @@ no_shapes = [] ∷ []
 abbrev pub is_shape : ShapeLists → List ℕ → Bool
 is_shape shapes keys = list_any (λ shape. bytes_eq shape keys) shapes
 
--- how many cells a mutator may claim, and how many pairs a table has
+-- how many cells a mutator may claim
 abbrev pub claims_most : ℕ
 claims_most = 8
 
+-- how many pairs a table may have
 abbrev pub pairs_most : ℕ
 pairs_most = 8
 
@@ -55,7 +56,8 @@ refusal_at (Int n) register refusal = Some (NotCell register)
 abbrev pub is_table : Layout → ℕ → Bool
 is_table layout cell = class_of layout cell == table_class
 
--- why a slot of the cell that a register holds can't be read or written, if it can't
+-- why a slot of what a register holds can't be read or written, if it can't: there is no cell, the cell is a table, or
+-- its class has no such slot, in this order
 abbrev pub slot_refusal : Layout → Val → ℕ → ℕ → Option Refusal
 slot_refusal layout (Cell cell) register slot =
     if class_of layout cell == 4 then Some IsTable
@@ -93,7 +95,8 @@ has_pair state table key = is_some ((state.cells table).pairs key)
 abbrev pub pair_count : Layout → State → ℕ → ℕ
 pair_count layout state table = count_where (λ key. has_pair state table key) (cell_count layout)
 
--- why a property of the cell that a register holds can't be read or written, if it can't
+-- why a property of what a register holds can't be read or written, if it can't: there is no cell, the cell is a
+-- table, it isn't claimed, or it has no such key, in this order
 abbrev pub property_refusal : Layout → State → ℕ → ℕ → ℕ → Option Refusal
 property_refusal layout state who register key =
     refusal_at (state.registers who register) register (λ cell. first_of (
@@ -101,7 +104,8 @@ property_refusal layout state who register key =
     ∷ refuse_if (not (holds state who cell)) NotHeld
     ∷ refuse_if (not (has_key state cell key)) Absent ∷ []))
 
--- what refuses an operation on the pair of a table and a key cell, which two registers hold
+-- what refuses an operation on the pair of a table and a key cell: a register without a cell, the table's first; no
+-- table; not claimed; and then what else refuses the pair
 abbrev pub pair_refusal : Layout → State → ℕ → ℕ → ℕ → (ℕ → ℕ → Option Refusal) → Option Refusal
 pair_refusal layout state who table_register key_register refusal =
     refusal_at (state.registers who table_register) table_register (λ table.

@@ -3,8 +3,8 @@ use Rattle.std.specs.Prelude.{ℕ, ◌≡◌, ◌≤◌, ◌==◌, ◌⊎◌, re
 use Rattle.std.proofs.Common.{arith, ap, inl, inr, subst, lit<}
 use Rattle.tide_model.specs.declared.val.Val.{Val}
 use Rattle.tide_model.specs.declared.val.Val.TheVariants.{Empty, Cell}
-use Rattle.tide_model.specs.declared.op.Op.TheVariants.{Alloc, Collect}
-use Rattle.tide_model.specs.declared.op.Reply.TheVariants.{Born, Asked, Refused}
+use Rattle.tide_model.specs.declared.op.Op.TheVariants.{Alloc, Set, Group, Collect}
+use Rattle.tide_model.specs.declared.op.Reply.TheVariants.{Done, Born, Asked, Refused}
 use Rattle.tide_model.specs.declared.op.Refusal.TheVariants.{Full}
 use Rattle.tide_model.specs.declared.entry.Entry.TheVariants.{Call, Begin, Pause, End}
 use Rattle.tide_model.specs.declared.entry.Event.{Event}
@@ -12,7 +12,8 @@ use Rattle.tide_model.specs.Graph.{IsRoot, in_register, claimed, in_handle, IsCl
 use Rattle.tide_model.specs.History.{plain, state_after, state_at}
 use Rattle.tide_model.specs.Cycle.{StandsEnd, cycle_span, live_count}
 use Rattle.tide_model.specs.Schedule.{Turn, StandsTurn, IsWholeCycle, asked, refused, retired}
-use Rattle.tide_model.specs.Lawful.{FitsLayout}
+use Rattle.tide_model.specs.Lawful.{FitsLayout, IsLawful}
+use Rattle.tide_model.specs.Refused.{no_shapes}
 use Rattle.tide_model.specs.Rows.{small, kept_then_freed}
 
 -- the history up to the second end: the mutator has retired, and nothing keeps cell 0
@@ -105,3 +106,16 @@ class_has_slots fits = omega (arith, fits.1)
 
 pub last_register_fits : FitsLayout small (Alloc 3 3)
 last_register_fits = (lit< tt, lit< tt)
+
+-- the largest number of 32 bits may be set and name a group, and larger ones may not
+pub last_number_fits : FitsLayout small (Set 3 4294967295) × FitsLayout small (Group 3 4294967295)
+last_number_fits = ((lit< tt, lit< tt), (lit< tt, lit< tt))
+
+pub next_number_does_not_fit : FitsLayout small (Set 3 4294967296) → ⊥
+next_number_does_not_fit fits = omega (arith, fits.1)
+
+pub large_group_does_not_fit : FitsLayout small (Group 3 4294967296) → ⊥
+large_group_does_not_fit fits = omega (arith, fits.1)
+
+pub large_number_is_not_set : IsLawful small no_shapes (plain (Call 0 (Set 0 1099511627776) Done) ∷ []) → ⊥
+large_number_is_not_set lawful = let below = (lawful 0 (plain (Call 0 (Set 0 1099511627776) Done)) refl).fits.1 in omega (arith, below)

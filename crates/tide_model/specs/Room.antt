@@ -16,7 +16,7 @@ abbrev pub window_start : ℕ → List Event → ℕ
 window_start who before =
     max (moment_after_last (λ event. is_call_of who event.entry) before) (moment_after_last (λ event. is_open event.entry) before)
 
--- each block of the class was full at some moment of the window
+-- when an allocation may be refused for room: each block of the class was full at some moment of the window
 abbrev pub StandsFull : Layout → List Event → ℕ → ℕ → Type 0
 StandsFull layout before who class =
     (block : ℕ) → IsBlockOf layout class block →

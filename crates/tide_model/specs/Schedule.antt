@@ -3,7 +3,7 @@ use Rattle.std.specs.Prelude.{ℕ, ◌≡◌, ◌≤◌, Bool, true, false, List
 use Rattle.tide_model.specs.declared.op.Op.{Op}
 use Rattle.tide_model.specs.declared.op.Op.TheVariants.{Retire}
 use Rattle.tide_model.specs.declared.op.Reply.{Reply}
-use Rattle.tide_model.specs.declared.op.Reply.TheVariants.{Done, Born, Seen, Asked, Refused}
+use Rattle.tide_model.specs.declared.op.Reply.TheVariants.{Asked, Refused}
 use Rattle.tide_model.specs.declared.op.Refusal.TheVariants.{Full}
 use Rattle.tide_model.specs.declared.entry.Entry.TheVariants.{Call, Begin, Pause, End, Sweep}
 use Rattle.tide_model.specs.declared.entry.Event.{Event}
@@ -16,7 +16,7 @@ use Rattle.tide_model.specs.Refused.{ShapeLists}
 use Rattle.tide_model.specs.Lawful.{IsLawful}
 use Rattle.tide_model.specs.Script.{calls_of, retry_after_all}
 
--- a mutator's call, and the entries of the cycle that follows it
+-- a mutator's call with the array that it took, if any, and the entries of the cycle that follows it
 pub record Turn : Type 0 where
   pub who : ℕ
   pub op : Op
@@ -31,11 +31,8 @@ call_event turn = record { entry = Call turn.who turn.op turn.reply; took = turn
 
 -- the reply is that a cycle was asked for
 abbrev pub is_asked : Reply → Bool
-is_asked Done = false
-is_asked (Born cell) = false
-is_asked (Seen value) = false
 is_asked Asked = true
-is_asked (Refused refusal) = false
+is_asked _ = false
 
 -- the operation is to retire
 abbrev pub is_retire : Op → Bool
@@ -63,7 +60,9 @@ pub record IsWholeCycle (layout : Layout) (before cycle : List Event) : Type 0 w
   pub swept : (block : ℕ) → HasDead layout (state_after layout (before ++ plain (Begin number) ∷ plain (Pause visits) ∷ plain (End number freed) ∷ [])) block →
       is_among blocks block ≡ true
 
--- a turn may stand right after a history
+-- When a turn may stand right after a history: a first refusal for room is tried again; a refusal for room comes only
+-- where nothing of the class is free right then; a whole cycle follows where the call asks for one, and nothing where
+-- it doesn't.
 pub record StandsTurn (layout : Layout) (before : List Event) (turn : Turn) : Type 0 where
   -- after a first refusal for room the same operation is tried again
   pub retries : (op : Op) → retry_of turn.who before ≡ Some op → turn.op ≡ op
@@ -72,13 +71,13 @@ pub record StandsTurn (layout : Layout) (before : List Event) (turn : Turn) : Ty
   pub runs : AsksForCycle before turn → IsWholeCycle layout (before ++ call_event turn ∷ []) turn.cycle
   pub rests : (AsksForCycle before turn → ⊥) → turn.cycle ≡ []
 
--- the history is turns, one after another
+-- a history that is turns, one after another
 pub data IsScheduled (layout : Layout) : List Event → Type 0 where
   no_turn : IsScheduled layout []
   one_more : (before : List Event) (turn : Turn) → IsScheduled layout before → StandsTurn layout before turn →
       IsScheduled layout (before ++ call_event turn ∷ turn.cycle)
 
--- the history is lawful and scheduled
+-- a history that is lawful and scheduled
 pub record IsLegal (layout : Layout) (shapes : ShapeLists) (history : List Event) : Type 0 where
   pub lawful : IsLawful layout shapes history
   pub scheduled : IsScheduled layout history

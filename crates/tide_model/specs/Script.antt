@@ -2,22 +2,17 @@
 use Rattle.std.specs.Prelude.{ℕ, ◌==◌, Bool, true, false, List, [], ◌∷◌, ◌++◌, if◌then◌else◌, Option, None, Some, is_some}
 use Rattle.tide_model.specs.declared.op.Op.{Op}
 use Rattle.tide_model.specs.declared.op.Reply.{Reply}
-use Rattle.tide_model.specs.declared.op.Reply.TheVariants.{Done, Born, Seen, Asked, Refused}
+use Rattle.tide_model.specs.declared.op.Reply.TheVariants.{Refused}
 use Rattle.tide_model.specs.declared.op.Refusal.{Refusal}
 use Rattle.tide_model.specs.declared.op.Refusal.TheVariants.{Full}
 use Rattle.tide_model.specs.declared.entry.Entry.{Entry}
-use Rattle.tide_model.specs.declared.entry.Entry.TheVariants.{Call, Begin, Pause, Visits, End, Sweep, Open}
+use Rattle.tide_model.specs.declared.entry.Entry.TheVariants.{Call}
 use Rattle.tide_model.specs.declared.entry.Event.{Event}
 
 -- the mutator's call that an entry is, if it is one
 abbrev pub own_calls : ℕ → Entry → List (Op × Reply)
 own_calls mutator (Call who op reply) = if who == mutator then (op, reply) ∷ [] else []
-own_calls mutator (Begin cycle) = []
-own_calls mutator (Pause visits) = []
-own_calls mutator (Visits who visits) = []
-own_calls mutator (End cycle freed) = []
-own_calls mutator (Sweep block) = []
-own_calls mutator (Open number run) = []
+own_calls mutator _ = []
 
 -- a mutator's calls with their replies, in order
 abbrev pub calls_of : ℕ → List Event → List (Op × Reply)
@@ -31,14 +26,11 @@ is_full_refusal _ = false
 
 -- the reply is a refusal for want of room
 abbrev pub is_full_reply : Reply → Bool
-is_full_reply Done = false
-is_full_reply (Born cell) = false
-is_full_reply (Seen value) = false
-is_full_reply Asked = false
 is_full_reply (Refused refusal) = is_full_refusal refusal
+is_full_reply _ = false
 
--- After a refusal for room the operation is tried once more. The operation that is to be tried again after a call,
--- if any, from the one that was to be tried at it: a refusal of a second try is no first one.
+-- The operation that is to be tried again after a call, if any, from the one that was to be tried at it: a first
+-- refusal for room is tried once more, and a refusal of that second try is no first one.
 abbrev pub retry_after : Option Op → Op × Reply → Option Op
 retry_after None call = if is_full_reply call.1 then Some call.0 else None
 retry_after (Some tried) call = None
@@ -54,6 +46,6 @@ script_from retry [] = []
 script_from retry (call ∷ calls) =
     (if is_some (retry_after retry call) then [] else call.0 ∷ []) ++ script_from (retry_after retry call) calls
 
--- a mutator's script: its operations in order, each once
+-- a mutator's script: its operations in order, each once, so without each first refusal for room
 abbrev pub script_of : ℕ → List Event → List Op
 script_of mutator history = script_from None (calls_of mutator history)

@@ -3,7 +3,7 @@ use Rattle.std.specs.Prelude.{ℕ, Bool, true, false, List, [], Option, None}
 use Rattle.tide_model.specs.declared.val.Val.{Val}
 use Rattle.tide_model.specs.declared.val.Val.TheVariants.{Empty}
 
--- what became of a cell or of an array: only an array is ever spent
+-- what became of a cell or of an array: free, live, spent or dead; only an array is ever spent
 pub data Status : Type 0 where
   free : Status
   live : Status
@@ -31,7 +31,8 @@ is_dead live = false
 is_dead spent = false
 is_dead dead = true
 
--- a cell; its properties stand in the order of its keys, and its pairs are a map from key cell to value
+-- what a cell holds: its status, keys, slots, properties, pairs, group and array; the properties stand in the order of
+-- the keys, and the pairs are a map from key cell to value
 pub record CellState : Type 0 where
   pub status : Status
   pub keys : List ℕ
@@ -59,7 +60,8 @@ pub data Phase : Type 0 where
   idle : Phase
   marking : ℕ → Phase
 
--- a store; what lies outside of its layout is never live
+-- what a store holds at one moment: who is active, registers, claims, handles, cells, arrays and the phase; what lies
+-- outside of its layout is never live
 pub record State : Type 0 where
   pub active : ℕ → Bool
   -- by mutator and register

@@ -1,3 +1,4 @@
+//! A history's entries: data that code passes about, whose meaning stands in `specs/`.
 ghost use Rattle.std.specs.Prelude.{◌≡◌, List, ℕ};
 
 use crate::op::{Op, Reply};

@@ -7,6 +7,7 @@
 #![tactic(auto)]
 
 mod entry;
+pub mod laws;
 mod op;
 mod turnstile;
 mod val;

@@ -1,3 +1,4 @@
+//! Operations, and what the store answers to them. They know no store.
 use crate::val::Val;
 
 /// An operation that a mutator may ask of the store.

@@ -1,3 +1,4 @@
+//! Where a test may hold a participant. A turnstile changes nothing of the store.
 use std::marker::Sync;
 
 /// A place in a call or a visit at which a turnstile is met.

@@ -1,3 +1,4 @@
+//! Values. They know no store.
 /// What a register, a slot, a property or a handle holds.
 #[derive(Clone, Copy, Debug, PartialEq, Eq)]
 pub enum Val {

@@ -1,11 +1,4 @@
-pub mod Collecting
-pub mod Contents
-pub mod Counting
-pub mod CountingExamples
-pub mod Marking
-pub mod Pairs
+pub mod Calls
 pub mod Properties
 pub mod Registers
 pub mod Store
-pub mod Stored
-pub mod Sweeping

@@ -1,13 +1,10 @@
 -- What was read decides whether it is run or refused.
 use Rattle.std.proofs.Common.{ℕ, zero, suc, ◌≡◌, ◌+◌, ◌≤◌, ◌<◌, refl, sym, ◌∙◌, ap, subst, arith, List, [], ◌∷◌, ◌++◌, length, take, inr, Option, None, Some, Result, Ok, Err}
 use Rattle.std.specs.Prelude.{◌⊎◌, IfSome, IsOk, IsErr}
-use Rattle.tide_workload.specs.declared.fault.Fault.{Fault}
-use Rattle.tide_workload.specs.declared.reading.TheConstants.{MAX_BYTES}
-use Rattle.tide_workload.specs.Reading.{reads_workload}
-use Rattle.tide_workload.specs.Work.{Work}
+use Rattle.tide_workload.specs.Words.{Fault, MAX_BYTES, reads_workload, Work}
 use Rattle.tide_run.specs.declared.program.Stop.{Stop}
 use Rattle.tide_run.specs.declared.program.Stop.TheVariants.{Usage, ReadFault, BadInput, Memory}
-use Rattle.tide_run.specs.Ran.{Ran}
+use Rattle.tide_run.specs.Runs.{Ran}
 use Rattle.tide_run.specs.Program.{input_of, Took, RefusedInput, RanInput, stop_status, stop_line, status_line}
 
 -- the first bytes of two parts, where the first part is that long or all there is

@@ -8,18 +8,22 @@ use Rattle.tide_model.specs.declared.entry.Entry.TheVariants.{Begin, Pause, End,
 use Rattle.tide_model.specs.declared.entry.Event.{Event}
 use Rattle.tide_model.specs.Layout.{Layout, cell_count}
 use Rattle.tide_model.specs.Numbers.{is_among, numbers_where}
+use Rattle.tide_model.specs.Lawful.{IsLawful}
 use Rattle.tide_model.specs.Refused.{ShapeLists}
 use Rattle.tide_model.specs.State.{State, CellState, Status, Phase, free, live, spent, dead, is_live, is_dead, idle, marking, blank_cell}
-use Rattle.tide_model.specs.Graph.{graph_of, IsRetained, no_cell, retained_more}
-use Rattle.tide_model.specs.History.{plain, state_from, state_after, after_event, after_end, swept_all, swept_cell, swept_status, is_this_array, is_array_of, unless_spent, moment_after_last, is_begin}
+use Rattle.tide_model.specs.Graph.{graph_of, IsRetained, is_further, no_cell, retained_more}
+use Rattle.tide_model.specs.History.{plain, state_from, state_after, after_event, after_end, swept_all, swept_cell, swept_status, is_this_array, is_array_of, unless_spent}
 use Rattle.tide_model.specs.Cycle.{HasDead, dead_cell, dead_array, StandsEnd, cycle_span, live_count}
 use Rattle.tide_model.specs.Schedule.{IsWholeCycle}
 use Rattle.tide_model.proofs.NumberLaws.{below_and_passes, passing_is_among, count_where-same}
-use Rattle.tide_model.proofs.Histories.{state_from-append, state_after-append, state_after-push, moment_after_last-le}
-use Rattle.tide_model.proofs.Cycles.{state_from-sweeps, phase_within, graph_in_span}
+use Rattle.tide_model.proofs.Histories.{state_from-append, state_after-append, state_after-push}
+use Rattle.tide_model.proofs.Cycles.{state_from-sweeps, phase_within}
+use Rattle.tide_model.proofs.LawfulReferences.{RefsAreLive-lawful}
 use Rattle.tide_model.proofs.ReferencesInCycles.{state_from-swept_in_layout}
+use Rattle.tide_model.proofs.Retained.{IsClosed-kept}
+use Rattle.tide_model.proofs.Spans.{graph_in_cycle_span}
 use Rattle.tide_layout.specs.Region.{block_count}
-use Rattle.tide_plain.specs.Collecting.{IsFreed, IsDeadWithin}
+use Rattle.tide_collect.specs.Collecting.{IsFreed, IsDeadWithin}
 use Rattle.tide_run.specs.declared.told.Record.{Record}
 use Rattle.tide_run.specs.declared.told.Record.TheVariants.{Began, Paused, Ended, Swept}
 use Rattle.tide_run.specs.Told.{events_of, Tells, sweeps_of, cycle_records}
@@ -124,25 +128,34 @@ kept_after_end layout state freed is_swept kept collected =
     (cell_count layout) (λ cell below. live_swept ((after_end state freed).cells cell))
 
 -- the end of the cycle may stand
-StandsEnd-freed : (layout : Layout) (state : State) (freed : List ℕ) (history : List Event) (cycle : ℕ) → IsFreed state freed →
-    state_after layout history ≡ record state { phase = marking cycle } → StandsEnd layout history cycle freed
-StandsEnd-freed layout state freed history cycle is_freed leaves = record {
+StandsEnd-freed : (layout : Layout) (shapes : ShapeLists) (state : State) (freed : List ℕ) (history : List Event) (cycle : ℕ) →
+    IsLawful layout shapes history → IsFreed state freed → state_after layout history ≡ record state { phase = marking cycle } → StandsEnd layout history cycle freed
+StandsEnd-freed layout shapes state freed history cycle lawful is_freed leaves = record {
   marks = ap (λ (s : State). s.phase) leaves;
   rising = is_freed.rising;
   were_live = λ cell among. ap (λ (s : State). (s.cells cell).status) leaves ∙ is_freed.were_live cell among;
-  frees = λ cell among kept. is_freed.frees cell among
-      (retained_more (graph_of marks) (graph_of state) no_cell (phase_within state (marking cycle)) cell
-      (subst (λ (s : State). IsRetained (graph_of s) no_cell cell) leaves kept));
+  frees = frees;
   keeps = λ cell alive unfreed.
-      let kept = is_freed.keeps cell (sym (ap (λ (s : State). (s.cells cell).status) leaves) ∙ alive) unfreed in
-      let marked = retained_more (graph_of state) (graph_of marks) no_cell (phase_within marks state.phase) cell kept in
-      let now = subst (λ (s : State). IsRetained (graph_of s) no_cell cell) (sym leaves) marked in
-      retained_more (graph_of (state_after layout history)) (cycle_span layout history) no_cell
-      (graph_in_span layout history (moment_after_last (λ event. is_begin event.entry) history) (moment_after_last-le (λ event. is_begin event.entry) history)) cell now;
+      retained_more (graph_of now) (cycle_span layout history) no_cell no_cell (graph_in_cycle_span layout history) is_further cell (keeps cell alive unfreed);
+  closed = IsClosed-kept now freed (RefsAreLive-lawful layout shapes history lawful) frees keeps;
 }
   where
+    now : State
+    now = state_after layout history
+
     marks : State
     marks = record state { phase = marking cycle }
+
+    frees : (cell : ℕ) → is_among freed cell ≡ true → IsRetained (graph_of now) no_cell cell → ⊥
+    frees cell among kept = is_freed.frees cell among
+        (retained_more (graph_of marks) (graph_of state) no_cell no_cell (phase_within state (marking cycle)) is_further cell
+        (subst (λ (s : State). IsRetained (graph_of s) no_cell cell) leaves kept))
+
+    keeps : (cell : ℕ) → (now.cells cell).status ≡ live → (is_among freed cell ≡ true → ⊥) → IsRetained (graph_of now) no_cell cell
+    keeps cell alive unfreed =
+        let kept = is_freed.keeps cell (sym (ap (λ (s : State). (s.cells cell).status) leaves) ∙ alive) unfreed in
+        subst (λ (s : State). IsRetained (graph_of s) no_cell cell) (sym leaves)
+        (retained_more (graph_of state) (graph_of marks) no_cell no_cell (phase_within marks state.phase) is_further cell kept)
 
 -- a block with something dead is one of those that were swept
 dead_is_swept : (layout : Layout) (state : State) (freed : List ℕ) (is_swept : ℕ → Bool) (kept block : ℕ) → IsCollected layout state freed is_swept kept →
@@ -174,7 +187,7 @@ Tells-cycle layout shapes state freed is_swept kept records begins calls collect
     ∙ ap (live_count layout) (sym (state_after-push layout (events_of records3) (plain (End number freed)) ∙ ap (λ (s : State). after_end s freed) paused.leaves ∙ leaves)) in
     let over = Tells-by layout shapes (records3 ++ Ended number freed kept ∷ []) (records3 ++ Ended number freed kept ∷ []) (after_end marks freed) ended (number + 0) number (calls ++ []) calls refl leaves (omega arith) (append-nil calls)
     (Tells-push layout shapes records3 marks number calls (Ended number freed kept) paused
-    (refl, StandsEnd-freed layout state freed (events_of records3) number collected.is_freed paused.leaves) counted) in
+    (refl, StandsEnd-freed layout shapes state freed (events_of records3) number paused.lawful collected.is_freed paused.leaves) counted) in
     let records4 = records3 ++ Ended number freed kept ∷ [] in
     let swept = Tells-sweeps layout shapes ended is_swept records4 number calls (λ block below is. (collected.swept block below).0 is) over (block_count layout) (omega arith) in
     let joined : records4 ++ sweeps_of blocks ≡ records ++ cycle_records number freed kept blocks =

@@ -1,3 +1,4 @@
+-- The lemmas of this crate.
 pub mod CallLaws
 pub mod Causes
 pub mod CycleLaws
@@ -5,7 +6,7 @@ pub mod Names
 pub mod Printed
 pub mod Releasing
 pub mod RunnerLaws
-pub mod Runs
+pub mod RunLaws
 pub mod Serving
 pub mod Telling
 pub mod Turns

@@ -12,9 +12,8 @@ use Rattle.tide_model.specs.History.{plain, state_after, after_event}
 use Rattle.tide_model.specs.Cycle.{live_count}
 use Rattle.tide_model.specs.Script.{calls_of}
 use Rattle.tide_model.proofs.Histories.{state_after-push}
-use Rattle.tide_workload.specs.Line.{cycle_line, mutator_line, live_line}
-use Rattle.tide_workload.specs.Text.{end_line, cycles_from, call_lines, mutators_text, text_of}
-use Rattle.tide_run.specs.declared.answered.Answered.{Answered}
+use Rattle.tide_workload.specs.Words.{cycle_line, mutator_line, live_line, end_line, cycles_from, call_lines, mutators_text, text_of}
+use Rattle.tide_run.specs.declared.told.Answered.{Answered}
 use Rattle.tide_run.specs.declared.told.Record.{Record}
 use Rattle.tide_run.specs.declared.told.Record.TheVariants.{Called, Began, Paused, Ended, Swept}
 use Rattle.tide_run.specs.Told.{event_of, events_of, IsCounted, AreCounted, pair_of}

@@ -17,8 +17,8 @@ use Rattle.tide_model.specs.History.{after_end, swept_all}
 use Rattle.tide_model.specs.Schedule.{is_retire}
 use Rattle.tide_model.specs.State.{State, empty_state, idle}
 use Rattle.tide_plain.specs.Store.{layout_of, shapes_of, state_of}
-use Rattle.tide_workload.specs.Line.{HasText}
-use Rattle.tide_run.specs.declared.answered.Answered.{Answered}
+use Rattle.tide_workload.specs.Words.{HasText}
+use Rattle.tide_run.specs.declared.told.Answered.{Answered}
 use Rattle.tide_run.specs.declared.runner.Runner.{Runner}
 use Rattle.tide_run.specs.declared.told.Record.{Record}
 use Rattle.tide_run.specs.declared.told.Record.TheVariants.{Called, Began, Paused, Ended}

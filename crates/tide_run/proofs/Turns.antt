@@ -21,7 +21,7 @@ use Rattle.tide_plain.specs.Store.{state_of}
 use Rattle.tide_run.specs.declared.runner.Runner.{Runner}
 use Rattle.tide_run.specs.Asking.{asks_for_cycle}
 use Rattle.tide_run.specs.Runner.{history_of, IsReady, IsUnderway, MadeCall, RanCycle, RanTurn}
-use Rattle.tide_run.proofs.CallLaws.{active_after-call}
+use Rattle.tide_model.proofs.ActiveLaws.{active_after-call}
 
 -- the tests tell which operation and reply it is
 retire_from_test : (op : Op) → is_retire op ≡ true → op ≡ Retire

@@ -4,12 +4,12 @@ use Rattle.tide_model.specs.History.{state_after}
 use Rattle.tide_model.specs.Layout.{Layout}
 use Rattle.tide_model.specs.Cycle.{live_count}
 use Rattle.tide_model.specs.Script.{calls_of}
-use Rattle.tide_workload.specs.Line.{HasText}
-use Rattle.tide_run.specs.declared.answered.Answered.{Answered}
+use Rattle.tide_workload.specs.Words.{HasText}
+use Rattle.tide_run.specs.declared.told.Answered.{Answered}
 use Rattle.tide_run.specs.declared.told.Record.{Record}
 use Rattle.tide_run.specs.declared.outcome.Kept.{Kept}
 use Rattle.tide_run.specs.declared.outcome.Kept.TheVariants.{Own}
-use Rattle.tide_run.specs.Ran.{Ran}
+use Rattle.tide_run.specs.Runs.{Ran}
 use Rattle.tide_run.specs.Told.{events_of, AreCounted, pair_of}
 
 -- the records of what was kept

@@ -2,34 +2,29 @@
 use Rattle.std.specs.Prelude.{ℕ, ◌≡◌, ◌+◌, ◌≤◌, ◌⊎◌, true, List, [], ◌∷◌, length, take, Option, Ok, Err, codes, ◌==◌, if◌then◌else◌}
 use Rattle.std.specs.Io.KnownBytes.{Consumes, Appends, IsAtEnd}
 use Rattle.tide_io.specs.Faults.{Rose, AppendsPart}
-use Rattle.tide_workload.specs.declared.fault.Fault.{Fault}
-use Rattle.tide_workload.specs.declared.reading.TheConstants.{MAX_BYTES}
-use Rattle.tide_workload.specs.FaultLine.{fault_line}
-use Rattle.tide_workload.specs.Reading.{reads_workload}
-use Rattle.tide_workload.specs.Work.{Work}
+use Rattle.tide_workload.specs.Words.{Fault, MAX_BYTES, fault_line, reads_workload, Work}
 use Rattle.tide_model.specs.Numbers.{is_among}
 use Rattle.tide_run.specs.declared.program.Stop.{Stop}
 use Rattle.tide_run.specs.declared.program.Stop.TheVariants.{Usage, ReadFault, BadInput, Memory}
-use Rattle.tide_run.specs.Ran.{Ran}
-use Rattle.tide_run.specs.Run.{IsRunOf}
+use Rattle.tide_run.specs.Runs.{IsRunOf, Ran}
 
--- of the bytes that are left, those that reading takes: all, or one more than a workload may have
+-- of the bytes that are left, those that reading takes: at most 4,194,305, one more than a workload may have
 abbrev pub input_of : List ℕ → List ℕ
 input_of bytes = take (MAX_BYTES + 1) bytes
 
--- these bytes were read, to the end of the source unless they are too many for a workload
+-- these bytes were read from the source, to its end unless they are too many for a workload
 pub record Took (old new : Option (List ℕ)) (bytes : List ℕ) : Type 0 where
   pub consumed : Consumes old new bytes
   pub few : length bytes ≤ MAX_BYTES + 1
   pub ended : length bytes ≤ MAX_BYTES → IsAtEnd new
 
--- a workload was read
+-- the bytes that were read are this workload
 pub record ReadWork (old new : Option (List ℕ)) (work : Work) : Type 0 where
   pub bytes : List ℕ
   pub took : Took old new bytes
   pub reads : reads_workload bytes ≡ Ok work
 
--- what was read is refused as a workload
+-- the bytes that were read are refused as a workload, for this fault
 pub record RefusedInput (old new : Option (List ℕ)) (fault : Fault) : Type 0 where
   pub bytes : List ℕ
   pub took : Took old new bytes
@@ -46,7 +41,7 @@ pub record ToldFault (old new : Option (List ℕ)) (held held' : Option (List �
   pub refused : RefusedInput old new fault
   pub told : TellsLine held held' before now (fault_line fault)
 
--- the run is of the workload that was read
+-- the run is one of the workload that was read
 pub record RanInput (old new : Option (List ℕ)) (ran : Ran) : Type 0 where
   pub work : Work
   pub reads : ReadWork old new work

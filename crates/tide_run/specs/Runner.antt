@@ -17,7 +17,7 @@ use Rattle.tide_model.specs.Room.{IsFullBlock}
 use Rattle.tide_model.specs.Schedule.{IsScheduled, IsWholeCycle, is_retire, retry_of}
 use Rattle.tide_model.specs.Script.{calls_of, script_of}
 use Rattle.tide_plain.specs.Store.{Plain, layout_of, shapes_of, state_of}
-use Rattle.tide_workload.specs.Line.{HasText}
+use Rattle.tide_workload.specs.Words.{HasText}
 use Rattle.tide_run.specs.declared.runner.Runner.{Runner}
 use Rattle.tide_run.specs.Told.{events_of, Tells, pair_of}
 
@@ -58,7 +58,7 @@ pub record IsAskable (layout : Layout) (keys : List (List ℕ)) (op : Op) : Type
   pub text : HasText keys op
   pub goes_on : is_retire op ≡ false
 
--- both are of one workload
+-- two runs so far are of one workload
 pub record IsSameRun (old new : Runner) : Type 0 where
   pub layout : new.layout ≡ old.layout
   pub names : new.names ≡ old.names

@@ -13,7 +13,7 @@ use Rattle.tide_model.specs.History.{plain, state_after}
 use Rattle.tide_model.specs.Cycle.{begin_count, live_count}
 use Rattle.tide_run.specs.declared.told.Record.{Record}
 use Rattle.tide_run.specs.declared.told.Record.TheVariants.{Called, Began, Paused, Ended, Swept}
-use Rattle.tide_run.specs.declared.answered.Answered.{Answered}
+use Rattle.tide_run.specs.declared.told.Answered.{Answered}
 
 -- the event that a record tells
 abbrev pub event_of : Record → Event

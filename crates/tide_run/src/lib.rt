@@ -5,18 +5,14 @@
 //! read.
 #![tactic(auto)]
 
-mod answered;
 mod outcome;
 mod printing;
 mod program;
 mod runner;
-mod running;
-#[cfg(test)]
-mod tests;
+mod runs;
 mod told;
 
-pub use answered::Answered;
 pub use outcome::{Kept, Outcome};
 pub use program::{Ended, riptide};
-pub use running::{plain, run};
-pub use told::Told;
+pub use runs::{plain, run};
+pub use told::{Answered, Told};

@@ -1,8 +1,7 @@
 //! The outcome of a run.
 ghost use Rattle.std.specs.Prelude.{◌≡◌, ◌<◌, ℕ, All, map};
 
-use crate::answered::Answered;
-use crate::told::{Record, Told};
+use crate::told::{Answered, Record, Told};
 use std::marker::Model;
 use tide_layout::Layout;
 
@@ -26,7 +25,7 @@ pub struct Outcome {
 
 impl Model for Outcome {
     ghost use Rattle.std.specs.Prelude.{map};
-    ghost use Rattle.tide_run.specs.Ran.{Ran};
+    ghost use Rattle.tide_run.specs.Runs.{Ran};
 
     ghost Value = { Ran };
 
@@ -42,7 +41,7 @@ impl Outcome {
     ghost use Rattle.tide_model.specs.Cycle.{live_count};
     ghost use Rattle.tide_model.specs.History.{state_after};
     ghost use Rattle.tide_model.specs.Script.{calls_of};
-    ghost use Rattle.tide_workload.specs.Line.{HasText};
+    ghost use Rattle.tide_workload.specs.Words.{HasText};
     ghost use Rattle.tide_run.specs.Told.{events_of, AreCounted, pair_of};
     ghost use Rattle.tide_run.specs.Outcome.{ran_of, IsOutcome};
 

@@ -3,15 +3,13 @@ ghost use Rattle.std.specs.Prelude.{◌≡◌, map, All, OnOk, OnErr};
 ghost use Rattle.std.specs.List.{flat_map};
 ghost use Rattle.std.specs.Io.KnownBytes.{Appends};
 ghost use Rattle.tide_io.specs.Faults.{AppendsPart, HasCause};
-ghost use Rattle.tide_workload.specs.Line.{HasText};
-ghost use Rattle.tide_workload.specs.Text.{call_lines, cycles_from, text_of};
+ghost use Rattle.tide_workload.specs.Words.{HasText, call_lines, cycles_from, text_of};
 ghost use Rattle.tide_model.specs.State.{empty_state};
 ghost use Rattle.tide_model.specs.Script.{calls_of};
 ghost use Rattle.tide_run.specs.Printing.{answered_line, record_line};
 
-use crate::answered::Answered;
 use crate::outcome::Outcome;
-use crate::told::Record;
+use crate::told::{Answered, Record};
 use tide_io::{Failed, Sink};
 use tide_workload::{Workload, write_call, write_cycle, write_live, write_mutator};
 

@@ -2,14 +2,12 @@
 ghost use Rattle.std.specs.Prelude.{◌≡◌, ◌≢◌, ◌↔◌, ◌<◌, ◌≤◌, ◌⊎◌, Some, None, length, IfOk, OnOk, IfErr, IsOk, IsErr, IfSome, IsSomeAnd};
 ghost use Rattle.std.specs.Io.KnownBytes.{Appends, Keeps};
 ghost use Rattle.tide_io.specs.Faults.{AppendsPart, Rose};
-ghost use Rattle.tide_workload.specs.declared.fault.Fault.{Fault as FaultValue};
-ghost use Rattle.tide_workload.specs.Reading.{reads_workload};
-ghost use Rattle.tide_workload.specs.Text.{text_of};
+ghost use Rattle.tide_workload.specs.Words.{Fault as FaultValue, reads_workload, text_of};
 ghost use Rattle.tide_run.specs.Program.{input_of, status_line, IsStatus, ReadWork, RefusedInput, RanInput, TellsLine, ToldFault};
 
 use crate::outcome::Outcome;
 use crate::printing::write_text;
-use crate::running::run;
+use crate::runs::run;
 use std::alloc::Global;
 use std::marker::Sync;
 use std::thread::Threads;

@@ -11,14 +11,13 @@ ghost use Rattle.tide_run.specs.Told.{sweeps_of};
 
 mod starting;
 
-use crate::answered::Answered;
 use crate::outcome::Outcome;
-use crate::told::Record;
+use crate::told::{Answered, Record};
 use starting::{layout_with, names_of, shapes_of};
 use std::alloc::Global;
+use tide_layout::Layout;
 use tide_model::{Ids, Memory, Op, Refusal, Reply};
 use tide_plain::PlainStore;
-use tide_layout::Layout;
 use tide_workload::Workload;
 
 fn is_asked(reply: Reply) -> bool
@@ -93,7 +92,7 @@ impl Runner {
     ghost use Rattle.tide_model.specs.declared.op.Reply.TheVariants.{Done};
     ghost use Rattle.tide_plain.specs.Store.{shapes_of, state_of};
     ghost use Rattle.tide_shape.specs.Shapes.{shapes_of as shapes_of_paths};
-    ghost use Rattle.tide_run.specs.Run.{layout_with};
+    ghost use Rattle.tide_run.specs.Runs.{layout_with};
     ghost use Rattle.tide_run.specs.Runner.{claim_count, history_of, keys_of, IsAskable, IsUnderway, IsReady, MayAsk, MadeCall, RanCycle, RanTurn, HasServed};
 
     /// Nothing was run yet.

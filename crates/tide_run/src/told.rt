@@ -1,4 +1,13 @@
+//! What is recorded of a run: each call with its reply, and each entry of its history.
+
 use tide_model::{Ids, Op, Reply};
+
+/// An operation that was asked for, and its reply.
+#[derive(Clone, Copy, Debug, PartialEq, Eq)]
+pub struct Answered {
+    pub op: Op,
+    pub reply: Reply,
+}
 
 /// One record of what was run.
 #[derive(Debug, Drop)]

@@ -5,4 +5,5 @@ pub mod PathLaws
 pub mod PositionLaws
 pub mod ShapesLaws
 pub mod TableLaws
+pub mod TableRows
 pub mod WalkLaws

@@ -1,19 +1,15 @@
 -- The shapes of paths are a table.
-use Rattle.std.proofs.Common.{ℕ, suc, ◌≡◌, ◌≢◌, ◌+◌, ◌*◌, ◌<◌, ◌≤◌, refl, sym, ◌∙◌, ap, subst, arith, Bool, true, false, List, [], ◌∷◌, ◌++◌, length, length-take, append-nil, get_or, take, Some, inl, inr}
-use Rattle.std.proofs.lemmas.Bool.{cases_Bool}
-use Rattle.std.proofs.lemmas.Bool.Decides.{not_from_Decides}
-use Rattle.std.proofs.lemmas.List.{get_or-take, take_all, take_more}
+use Rattle.std.proofs.Common.{ℕ, suc, ◌≡◌, ◌≢◌, ◌+◌, ◌*◌, ◌<◌, ◌≤◌, refl, sym, ◌∙◌, ap, subst, arith, Bool, true, false, List, [], ◌∷◌, ◌++◌, length, length-take, append-nil, get_or, take, Some}
+use Rattle.std.proofs.lemmas.List.{get_or-take, take_more}
 use Rattle.std.proofs.lemmas.List.Concat.{flat_map-append}
-use Rattle.std.proofs.lemmas.List.Elements.{All-push, All-head, All-tail, All-nil, All-cons, All-from_get_or, Contains-get_or}
-use Rattle.std.proofs.lemmas.List.Quantifiers.{all_pairs_push}
+use Rattle.std.proofs.lemmas.List.Elements.{All-push, All-head, All-tail, All-nil, All-cons, All-from_get_or}
 use Rattle.std.proofs.lemmas.List.Sums.{fold-append}
 use Rattle.std.proofs.lemmas.Option.{slice_get_within, get_or_from_slice_get}
 use Rattle.std.specs.List.{flat_map}
-use Rattle.std.specs.Prelude.{fold, slice_get, All, Contains, if◌then◌else◌}
+use Rattle.std.specs.Prelude.{fold, slice_get, All, if◌then◌else◌}
 use Rattle.tide_model.specs.Refused.{ShapeLists, no_shapes, is_shape}
 use Rattle.tide_shape.specs.ShapeTable.{IsShapeTable, IsDistinct}
 use Rattle.tide_shape.specs.Shapes.{add_if_new, beginnings, names_twice, shapes_of, IsPath}
-use Rattle.tide_shape.proofs.ShapesLaws.{is_shape-Decides, add_known, add_new}
 use Rattle.tide_shape.proofs.DoubleLaws.{IsDistinct-path}
 use Rattle.tide_shape.proofs.PathLaws.{length-beginnings, get_or-beginnings, length-add_if_new}
 
@@ -38,17 +34,14 @@ no_shapes-is_table = record {
   empty = refl;
   short = All-cons (λ keys. length keys ≤ 64) [] [] (omega arith) (All-nil (λ keys. length keys ≤ 64));
   distinct = All-cons IsDistinct [] [] (λ i j d before within. absurd (omega arith)) (All-nil IsDistinct);
-  apart = λ i j d before within. absurd (omega arith);
 }
 
 -- and stays one with another shape
-push-is_table : (shapes : ShapeLists) (keys : List ℕ) → IsGood keys → ¬ (Contains shapes keys) → IsShapeTable shapes → IsShapeTable (shapes ++ keys ∷ [])
-push-is_table shapes keys good fresh table = record {
+push-is_table : (shapes : ShapeLists) (keys : List ℕ) → IsGood keys → IsShapeTable shapes → IsShapeTable (shapes ++ keys ∷ [])
+push-is_table shapes keys good table = record {
   empty = first shapes table.empty;
   short = All-push (λ ks. length ks ≤ 64) shapes keys table.short good.short;
   distinct = All-push IsDistinct shapes keys table.distinct good.distinct;
-  apart = all_pairs_push (λ earlier later. earlier ≢ later) shapes keys table.apart
-      (λ k d within same. fresh (subst (λ ks. Contains shapes ks) same (Contains-get_or shapes k d within)));
 }
   where
     first : (xs : ShapeLists) → slice_get xs 0 ≡ Some [] → slice_get (xs ++ keys ∷ []) 0 ≡ Some []
@@ -56,12 +49,11 @@ push-is_table shapes keys good fresh table = record {
     first (x ∷ xs) is = is
 
 add_if_new-is_table : (shapes : ShapeLists) (keys : List ℕ) → IsGood keys → IsShapeTable shapes → IsShapeTable (add_if_new shapes keys)
-add_if_new-is_table shapes keys good table =
-    elim (cases_Bool (is_shape shapes keys)) [
-      | inl known ↦ subst IsShapeTable (sym (add_known shapes keys ((is_shape-Decides shapes keys).0 known))) table
-      | inr unknown ↦ let fresh = not_from_Decides (is_shape shapes keys) (is_shape-Decides shapes keys) unknown in
-          subst IsShapeTable (sym (add_new shapes keys fresh)) (push-is_table shapes keys good fresh table)
-    ]
+add_if_new-is_table shapes keys good table = step (is_shape shapes keys)
+  where
+    step : (known : Bool) → IsShapeTable (if known then shapes else shapes ++ keys ∷ [])
+    step true = table
+    step false = push-is_table shapes keys good table
 
 fold-is_table : (lists : List (List ℕ)) (shapes : ShapeLists) → All IsGood lists → IsShapeTable shapes → IsShapeTable (fold add_if_new shapes lists)
 fold-is_table [] shapes good table = table
@@ -135,6 +127,3 @@ HasPaths-more paths count path shapes grown sized is h grew = record {
 
     longer : take (count + 1) paths ≡ take count paths ++ path ∷ []
     longer = take_more paths count [] within ∙ ap (λ (p : List ℕ). take count paths ++ p ∷ []) here
-
-pub HasPaths-all : (paths : List (List ℕ)) (count : ℕ) (shapes : ShapeLists) → length paths ≤ count → HasPaths paths count shapes → shapes ≡ shapes_of paths
-HasPaths-all paths count shapes all h = h.added ∙ ap shapes_of (take_all count paths all)

@@ -11,10 +11,9 @@ keys_of shapes shape = slice_index_or shapes shape []
 abbrev pub IsDistinct : List ℕ → Type 0
 IsDistinct keys = AllPairs (λ earlier later. earlier ≢ later) keys
 
--- a table: its first shape is the empty one, each shape has at most 64 keys and none twice, and no two shapes are
--- the same
+-- a table: its first shape is the empty one, and each shape has at most 64 keys and none twice; two numbers may have the
+-- same keys
 pub record IsShapeTable (shapes : ShapeLists) : Type 0 where
   pub empty : slice_get shapes 0 ≡ Some []
   pub short : All (λ keys. length keys ≤ 64) shapes
   pub distinct : All IsDistinct shapes
-  pub apart : AllPairs (λ earlier later. earlier ≢ later) shapes

@@ -1,3 +1,4 @@
+//! The capacities of property arrays.
 ghost use Rattle.std.specs.Prelude.{◌≡◌, ◌≤◌};
 ghost use Rattle.tide_model.specs.Layout.{capacity_of};
 

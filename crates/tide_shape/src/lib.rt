@@ -10,8 +10,6 @@ mod paths;
 mod shape_table;
 mod shapes;
 mod shapes_refused;
-#[cfg(test)]
-mod tests;
 mod tree;
 
 pub use capacities::capacity;

@@ -1,3 +1,4 @@
+//! Declared paths, as they were declared: a path may still name a key twice.
 ghost use Rattle.std.specs.Prelude.{◌≡◌, ◌<◌, ◌≤◌, [], ◌∷◌, ◌++◌, Some, length, slice_get, OnErr, OnOk};
 
 use std::alloc::Global;

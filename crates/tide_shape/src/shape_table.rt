@@ -1,3 +1,4 @@
+//! What a store sees of shapes.
 ghost use Rattle.std.specs.Prelude.{◌≡◌, ◌<◌, ◌==◌, [], ◌∷◌, ◌++◌, Some, length, slice_get, position, Contains, IfSome, IfNone};
 ghost use Rattle.tide_shape.specs.ShapeTable.{keys_of, IsShapeTable};
 ghost use Rattle.tide_model.specs.Refused.{ShapeLists};

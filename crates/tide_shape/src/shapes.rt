@@ -1,3 +1,4 @@
+//! The shapes that declared paths have. How they are found stands in the tree.
 ghost use Rattle.std.specs.Prelude.{◌≡◌, ◌==◌, ◌↔◌, ◌<◌, ◌≤◌, ℕ, Some, position, length, All, IfOk, IfSome, Err};
 ghost use Rattle.tide_shape.specs.ShapeTable.{IsShapeTable};
 ghost use Rattle.tide_shape.specs.Shapes.{first_double, names_twice, shapes_of, IsPath};

@@ -1,3 +1,5 @@
+//! Why there are no shapes.
+
 /// Why `Shapes::new` made no shapes.
 #[derive(Clone, Copy, Debug, PartialEq, Eq)]
 pub enum ShapesRefused {

@@ -1,3 +1,4 @@
+//! The tree of shapes, in which each is found from the one with a key less.
 ghost use Rattle.std.specs.Prelude.{◌≡◌, ◌+◌, ◌^◌, ◌<◌, ◌≤◌, [], ◌∷◌, ◌++◌, fold, length, slice_get, Contains, IfOk, IfNone, IfSome, OnOk};
 ghost use Rattle.tide_model.specs.Refused.{no_shapes};
 ghost use Rattle.tide_shape.specs.ShapeTable.{keys_of};

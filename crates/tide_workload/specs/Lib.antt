@@ -1,16 +1,1 @@
-pub mod Chain
-pub mod Examples
-pub mod FaultLine
-pub mod Fields
-pub mod Line
-pub mod Names
-pub mod OpLimits
-pub mod OpText
-pub mod Reading
-pub mod Scripts
-pub mod Shapes
-pub mod Steps
-pub mod Text
 pub mod Words
-pub mod Work
-pub mod Worked

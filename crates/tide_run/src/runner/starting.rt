@@ -2,14 +2,14 @@
 ghost use Rattle.std.specs.Prelude.{◌≡◌, ◌≤◌, None, length, map, All, IfOk};
 ghost use Rattle.tide_shape.specs.Lists.{lists_of};
 ghost use Rattle.tide_shape.specs.Shapes.{first_double, shapes_of, IsPath};
-ghost use Rattle.tide_workload.specs.Work.{AreSettings};
-ghost use Rattle.tide_run.specs.Run.{layout_with};
+ghost use Rattle.tide_workload.specs.Words.{AreSettings};
+ghost use Rattle.tide_run.specs.Runs.{layout_with};
 
 use super::append;
 use std::alloc::Global;
+use tide_layout::Layout;
 use tide_model::Memory;
 use tide_shape::{Paths, Shapes, ShapesRefused};
-use tide_layout::Layout;
 use tide_workload::{Settings, Workload};
 
 /// The layout of a store with these settings, for one mutator and no visitor.

@@ -1,3 +1,4 @@
+-- Answers to the goals of writing::write_all.
 use Rattle.std.proofs.Common.{◌≡◌, ℕ, ◌-◌, ◌++◌, List, length, take, drop, Result, Ok, Err, OnErr, arith, sym, ap, ◌∙◌, subst, append_assoc, take-append-drop}
 use lib.Seq.{take-append_seam}
 use Rattle.std.proofs.lemmas.List.{take_rest}

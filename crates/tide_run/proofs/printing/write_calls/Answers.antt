@@ -1,7 +1,8 @@
+-- Answers to the goals of printing::write_calls.
 use Rattle.std.proofs.Common.{◌+◌, take, drop, subst}
 use Rattle.std.specs.List.{flat_map}
 use Rattle.tide_io.specs.Faults.{AppendsPart}
-use Rattle.tide_workload.specs.Chain.{AppendsPart-then, AppendsPart-grown, OnErr-from}
+use Rattle.tide_io.proofs.ChainLaws.{AppendsPart-then, AppendsPart-grown, OnErr-from}
 use Rattle.tide_run.specs.Printing.{answered_line}
 use Rattle.tide_run.proofs.Printed.{one_line_more, all_lines}
 use Rattle.tide_run.proofs.printing.write_calls.Goals as goal

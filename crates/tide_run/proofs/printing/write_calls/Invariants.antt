@@ -1,3 +1,4 @@
+-- What the loops of printing::write_calls keep.
 use Rattle.std.proofs.Common.{◌≤◌, take}
 use Rattle.std.specs.List.{flat_map}
 use Rattle.std.specs.Io.KnownBytes.{Appends}

@@ -1,3 +1,4 @@
+-- Answers to the goals of printing::write_cycles_of.
 use Rattle.std.proofs.Common.{ℕ, subst, List}
 use Rattle.std.specs.Prelude.{OnOk, OnErr}
 use Rattle.std.specs.Io.KnownBytes.{Appends}

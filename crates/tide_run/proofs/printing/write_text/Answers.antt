@@ -1,3 +1,4 @@
+-- Answers to the goals of printing::write_text.
 use Rattle.std.proofs.Common.{ℕ, ◌++◌, subst, List}
 use Rattle.std.specs.Prelude.{OnOk, OnErr}
 use Rattle.std.specs.Io.KnownBytes.{Appends}
@@ -6,9 +7,8 @@ use Rattle.tide_model.specs.State.{empty_state}
 use Rattle.tide_model.specs.Cycle.{live_count}
 use Rattle.tide_model.specs.History.{state_after}
 use Rattle.tide_model.specs.Script.{calls_of}
-use Rattle.tide_workload.specs.Line.{mutator_line, live_line}
-use Rattle.tide_workload.specs.Text.{call_lines, cycles_from}
-use Rattle.tide_workload.specs.Chain.{Appends-then, AppendsPart-then, AppendsPart-grown, OnErr-from, OnErr-then, OnOk-then}
+use Rattle.tide_workload.specs.Words.{mutator_line, live_line, call_lines, cycles_from}
+use Rattle.tide_io.proofs.ChainLaws.{Appends-then, AppendsPart-then, AppendsPart-grown, OnErr-from, OnErr-then, OnOk-then}
 use Rattle.tide_run.proofs.Printed.{text_parts}
 use Rattle.tide_run.proofs.printing.write_text.Goals as goal
 

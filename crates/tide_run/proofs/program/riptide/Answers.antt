@@ -1,3 +1,4 @@
+-- Answers to the goals of program::riptide.
 use Rattle.std.proofs.Common.{◌∙◌, ap, sym, subst, length, Err}
 use Rattle.tide_run.specs.Program.{stop_line, TellsLine}
 use Rattle.tide_run.proofs.Causes.{refuses-ran, accepts-stop, bad-stop, told-stop}

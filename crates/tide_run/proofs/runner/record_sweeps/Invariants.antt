@@ -1,3 +1,4 @@
+-- What the loops of runner::record_sweeps keep.
 use Rattle.std.proofs.Common.{◌≡◌, ◌++◌}
 use Rattle.tide_model.specs.Numbers.{numbers_where}
 use Rattle.tide_run.specs.Runner.{is_swept}

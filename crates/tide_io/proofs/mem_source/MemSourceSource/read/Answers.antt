@@ -1,3 +1,4 @@
+-- Answers to the goals of mem_source::MemSourceSource::read.
 use Rattle.std.proofs.Common.{◌≡◌, ℕ, ◌+◌, ◌<◌, min, List, [], ◌++◌, length, take, drop, arith, sym, ap, ◌∙◌, take-append-drop, length-drop, drop-drop}
 use Rattle.std.proofs.lemmas.List.{take_rest, drop_all}
 use Rattle.tide_io.proofs.mem_source.MemSourceSource.read.Goals as goal

@@ -1,3 +1,4 @@
+-- Answers to the goals of program::Stop::tell.
 use Rattle.tide_run.proofs.program.Stop.tell.Goals as goal
 
 pub returns-in-Usage : goal.returns-in-Usage

@@ -1,3 +1,4 @@
+-- Answers to the goals of runner::Runner::call.
 use Rattle.std.proofs.Common.{◌∙◌, ap, refl, sym, subst}
 use Rattle.tide_model.specs.Applied.{after_call}
 use Rattle.tide_model.specs.Answer.{IsAnswer}

@@ -1,3 +1,4 @@
+-- Answers to the goals of runner::Runner::cycle.
 use Rattle.std.proofs.Common.{ℕ, ◌+◌, ◌∙◌, ◌++◌, ◌∷◌, [], ap, refl, List}
 use Rattle.tide_model.specs.Cycle.{live_count}
 use Rattle.tide_model.specs.Layout.{Layout}

@@ -1,3 +1,4 @@
+-- Answers to the goals of runner::Runner::retire.
 use Rattle.tide_run.proofs.Releasing.{MayAsk-retire, HasServed-retire}
 use Rattle.tide_run.proofs.runner.Runner.retire.Goals as goal
 

@@ -1,3 +1,4 @@
+-- Answers to the goals of runner::Runner::serve.
 use Rattle.std.proofs.Common.{◌∙◌, sym}
 use Rattle.tide_run.proofs.RunnerLaws.{IsAskable-same, MayAsk-askable}
 use Rattle.tide_run.proofs.Serving.{retry_of-full, HasServed-once, HasServed-twice}

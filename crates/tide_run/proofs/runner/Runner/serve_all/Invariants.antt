@@ -1,3 +1,4 @@
+-- What the loops of runner::Runner::serve_all keep.
 use Rattle.std.proofs.Common.{◌≤◌, ◌*◌, take}
 use Rattle.tide_run.specs.Runner.{IsReady, HasServed}
 use Rattle.tide_run.proofs.runner.Runner.serve_all.Given as goal

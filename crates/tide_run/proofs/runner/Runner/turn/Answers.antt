@@ -1,3 +1,4 @@
+-- Answers to the goals of runner::Runner::turn.
 use Rattle.std.proofs.Common.{◌∙◌, sym}
 use Rattle.tide_run.proofs.Turns.{RanTurn-rest, RanTurn-cycle}
 use Rattle.tide_run.proofs.runner.Runner.turn.Goals as goal

@@ -1,3 +1,4 @@
+-- Answers to the goals of runner::Runner::unclaim.
 use Rattle.tide_run.proofs.Releasing.{MayAsk-unclaim, HasServed-unclaim, claim_count-unclaim}
 use Rattle.tide_run.proofs.runner.Runner.unclaim.Goals as goal
 

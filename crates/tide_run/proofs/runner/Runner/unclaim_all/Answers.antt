@@ -1,3 +1,4 @@
+-- Answers to the goals of runner::Runner::unclaim_all.
 use Rattle.std.proofs.Common.{◌∷◌, [], arith, replicate, subst}
 use Rattle.std.proofs.lemmas.List.{replicate_more}
 use Rattle.tide_model.specs.declared.op.Op.TheVariants.{Unclaim}

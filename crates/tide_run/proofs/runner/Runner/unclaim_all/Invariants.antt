@@ -1,3 +1,4 @@
+-- What the loops of runner::Runner::unclaim_all keep.
 use Rattle.std.proofs.Common.{◌≡◌, ◌+◌, ◌≤◌, replicate}
 use Rattle.tide_model.specs.declared.op.Op.TheVariants.{Unclaim}
 use Rattle.tide_run.specs.Runner.{claim_count, IsReady, HasServed}

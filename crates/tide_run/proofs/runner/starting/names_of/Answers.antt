@@ -1,3 +1,4 @@
+-- Answers to the goals of runner::starting::names_of.
 use Rattle.std.proofs.Common.{ℕ, ◌<◌, ◌∙◌, ap, arith, length, map, sym, Vec, Global, Some}
 use Rattle.tide_run.proofs.Names.{name_more}
 use Rattle.tide_run.proofs.runner.starting.names_of.Goals as goal

@@ -1,3 +1,4 @@
+-- What the loops of runner::starting::names_of keep.
 use Rattle.std.proofs.Common.{◌≡◌, map, take}
 use Rattle.tide_run.proofs.runner.starting.names_of.Given as goal
 

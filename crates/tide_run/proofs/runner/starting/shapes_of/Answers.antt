@@ -1,3 +1,4 @@
+-- Answers to the goals of runner::starting::shapes_of.
 use Rattle.std.proofs.Common.{◌≡◌, ◌∙◌, None, Some, ap, sym, Err}
 use Rattle.tide_run.proofs.runner.starting.shapes_of.Goals as goal
 

@@ -1,0 +1,115 @@
+//! A plain store whose callers may ask anything: what it can't be asked is refused here.
+ghost use Rattle.std.specs.Prelude.{◌≡◌};
+ghost use Rattle.tide_model.specs.Schedule.{is_retire};
+
+use std::alloc::{AllocError, Global};
+use std::marker::Model;
+use tide_layout::{Layout, fits};
+use tide_model::{Op, Reply};
+use tide_plain::PlainStore;
+use tide_shape::{Paths, Shapes};
+
+/// Whether an operation is to retire.
+fn is_retire(op: Op) -> bool
+    ensures { result ≡ is_retire op }
+{
+    matches!(op, Op::Retire)
+}
+
+/// The shapes of one path of 1 to 64 keys, or the empty shape alone where it isn't that.
+fn shapes(alloc: Global, path: &[u32]) -> Result<Shapes, AllocError> {
+    let mut paths = Paths::new(alloc);
+    if 1 <= path.len() && path.len() <= 64 && paths.push(path.to_vec(alloc)?).is_err() {
+        return Err(AllocError);
+    }
+    Shapes::new(alloc, &paths).map_err(|_| AllocError)
+}
+
+/// A plain store.
+#[derive(Drop)]
+pub struct Caller {
+    layout: Layout,
+    store: PlainStore,
+}
+
+impl Model for Caller {
+    ghost use Rattle.std.specs.Prelude.{◌≡◌};
+    ghost use Rattle.tide_plain.specs.Store.{layout_of};
+
+    ghost Value = { Unit {0} };
+
+    ghost view = { λ _. tt };
+
+    ghost invariant = { λ c. layout_of c.store ≡ c.layout };
+}
+
+impl Caller {
+    /// The empty store of a layout, whose shapes are those of one path of keys.
+    pub fn new(alloc: Global, layout: Layout, path: &[u32]) -> Result<Self, AllocError> {
+        let shapes = shapes(alloc, path)?;
+        match PlainStore::new(alloc, layout, shapes) {
+            Ok(store) => Ok(Caller { layout, store }),
+            Err(_) => Err(AllocError),
+        }
+    }
+
+    /// Makes a mutator's call, and tells what it is answered. What the layout has no operands for isn't called.
+    pub fn call(&mut self, who: u32, op: Op) -> Option<Reply> {
+        let is_active = who < u32::from(self.layout.mutators()) && self.store.is_active(who);
+        if !is_active || is_retire(op) || !fits(&self.layout, op) {
+            return None;
+        }
+        Some(self.store.call(who, op))
+    }
+
+    /// A mutator retires, if it claims nothing.
+    pub fn retire(&mut self, who: u32) -> Option<Reply> {
+        let is_active = who < u32::from(self.layout.mutators()) && self.store.is_active(who);
+        if !is_active || self.store.claims(who) > 0 {
+            return None;
+        }
+        Some(self.store.call(who, Op::Retire))
+    }
+
+    /// Frees the cells that nothing retains, and gives these in rising order.
+    pub fn collect(&mut self, alloc: Global) -> Result<Vec<u32>, AllocError> {
+        match self.store.collect(alloc) {
+            Ok(freed) => Ok(freed),
+            Err(_) => Err(AllocError),
+        }
+    }
+
+    /// The array that the last call took, if it took one.
+    pub fn taken(&self) -> Option<u32> {
+        self.store.taken()
+    }
+
+    /// How many cells are live.
+    pub fn live(&self) -> u32 {
+        self.store.live()
+    }
+
+    /// How many cells or arrays of a class of the ten are free.
+    pub fn free(&self, class: u8) -> Option<u32> {
+        if class >= 10 {
+            return None;
+        }
+        Some(self.store.free(class))
+    }
+
+    /// How many cells a mutator of the layout claims.
+    pub fn claims(&self, who: u32) -> Option<u32> {
+        if who >= u32::from(self.layout.mutators()) {
+            return None;
+        }
+        Some(self.store.claims(who))
+    }
+
+    /// Whether the last collection swept something of a block of the layout.
+    pub fn swept(&self, block: u8) -> Option<bool> {
+        if u32::from(block) >= self.layout.block_count() {
+            return None;
+        }
+        Some(self.store.swept(u32::from(block)))
+    }
+}

@@ -1,0 +1,196 @@
+//! The facts of a heap as text: a line that says what one or more of its words are.
+
+use crate::Heap;
+use crate::reading::{number, number_behind, pair_of_numbers};
+use crate::reply::value_text;
+use crate::rows::text;
+use std::alloc::{AllocError, Global};
+use tide_layout::Region;
+use tide_model::Val;
+use tide_words::{MAX_CELLS, pair_word, val_word, word_pair, word_val};
+
+/// The region of a name, if its words go by their number.
+pub fn region_of(name: &str) -> Option<Region> {
+    let region = match name {
+        "period" => Region::Period,
+        "phase" => Region::Phase,
+        "active" => Region::Active,
+        "call" => Region::Call,
+        "stopped" => Region::Stopped,
+        "registers" => Region::Registers,
+        "strong" => Region::Strong,
+        "weak" => Region::Weak,
+        "colour" => Region::Colour,
+        "structure" => Region::Structure,
+        "array" => Region::Array,
+        "claim" => Region::Claim,
+        "group" => Region::Group,
+        "free" => Region::Free,
+        "dead" => Region::Dead,
+        "grey_race" => Region::GreyRace,
+        "swept" => Region::Swept,
+        _ => return None,
+    };
+    Some(region)
+}
+
+/// The value that a word is: `-`, `#` and a cell, or `n` and a number.
+pub fn value_of(word: &str) -> Option<Val> {
+    if word == "-" {
+        return Some(Val::Empty);
+    }
+    match number_behind('#', word) {
+        Some(cell) => Some(Val::Cell(cell)),
+        None => number_behind('n', word).map(|n| Val::Int(n)),
+    }
+}
+
+/// The word of 64 bits that a word of text is: that of a value, `b` and the number of its one bit, or its number.
+pub fn word_of(word: &str) -> Option<u64> {
+    if let Some(value) = value_of(word) {
+        return Some(val_word(value));
+    }
+    match number_behind::<u32>('b', word) {
+        Some(bit) if bit < 64 => Some(1 << bit),
+        _ => number(word),
+    }
+}
+
+/// The text of a word: that of the value that it is the word of, as `word_of` reads it, or else its number.
+pub fn word_text(alloc: Global, word: u64) -> Result<String, AllocError> {
+    match word_val(word) {
+        Some(Val::Int(n)) => format!(in alloc; "n{n}"),
+        Some(value) => value_text(alloc, value),
+        None => format!(in alloc; "{word}"),
+    }
+}
+
+/// The text of a pair's word: the key and the value, `none` of 0, or else its number.
+pub fn pair_text(alloc: Global, word: u64) -> Result<String, AllocError> {
+    match word_pair(word) {
+        Some((key, value)) => {
+            let value = word_text(alloc, val_word(value))?;
+            format!(in alloc; "{key} {value}")
+        }
+        None if word == 0 => text(alloc, "none"),
+        None => format!(in alloc; "{word}"),
+    }
+}
+
+impl Heap {
+    /// The word of a colour of the running cycle.
+    fn colour_word(&mut self, part: u64) -> u64 {
+        let cycle = self.get(Region::Phase, 0) / 2;
+        cycle.wrapping_mul(4).wrapping_add(part)
+    }
+
+    /// Writes what holds of a cell, and answers whether there is such a thing.
+    fn say_of_cell(&mut self, what: &str, cell: u32) -> bool {
+        match what {
+            "live" => self.take_cell(cell),
+            "died" => self.kill_cell(cell),
+            "black" => {
+                let word = self.colour_word(0);
+                self.set(Region::Colour, cell, word);
+            }
+            "grey" => {
+                let word = self.colour_word(2);
+                self.set(Region::Colour, cell, word);
+            }
+            _ => return false,
+        }
+        true
+    }
+
+    /// Writes what holds of cells.
+    fn say_of_cells(&mut self, what: &str, cells: &[&str]) -> Option<()> {
+        for cell in cells {
+            if !self.say_of_cell(what, number(cell)?) {
+                return None;
+            }
+        }
+        Some(())
+    }
+
+    /// Writes a word, which is named by a slot, an element, a register or its number in a region.
+    fn say_word(&mut self, what: &str, at: &str, word: u64) -> Option<()> {
+        match what {
+            "slot" => {
+                let (cell, slot) = pair_of_numbers(at)?;
+                self.set_slot(cell, slot, word);
+            }
+            "element" => {
+                let (array, place) = pair_of_numbers(at)?;
+                self.set_element(array, place, word);
+            }
+            "register" => {
+                let (who, register) = pair_of_numbers(at)?;
+                self.set_register(who, register, word);
+            }
+            _ => self.set(region_of(what)?, number(at)?, word),
+        }
+        Some(())
+    }
+
+    /// Writes a pair of a table.
+    fn say_pair(&mut self, at: &str, key: u32, value: Val) -> Option<()> {
+        let (table, place) = pair_of_numbers(at)?;
+        if key >= MAX_CELLS {
+            return None;
+        }
+        self.set_slot(table, place, pair_word(key, value));
+        Some(())
+    }
+
+    /// Writes what the words of a line say: one of
+    ///
+    /// - `live CELLS`, `died CELLS`, `black CELLS`, `grey CELLS`, the colours being of the cycle of the phase word;
+    /// - `REGION NUMBER WORD`, `slot CELL.SLOT WORD`, `element ARRAY.PLACE WORD`, `register MUTATOR.REGISTER WORD`;
+    /// - `pair TABLE.PLACE KEY VALUE`;
+    /// - `properties CELL ARRAY COUNT`.
+    pub fn say(&mut self, words: &[&str]) -> Option<()> {
+        match words {
+            ["pair", at, key, value] => self.say_pair(at, number(key)?, value_of(value)?),
+            ["properties", cell, array, count] => {
+                self.set_properties(number(cell)?, number(array)?, number(count)?);
+                Some(())
+            }
+            [what @ ("live" | "died" | "black" | "grey"), cells @ ..] => self.say_of_cells(
+                what, cells,
+            ),
+            [what, at, word] => self.say_word(what, at, word_of(word)?),
+            _ => None,
+        }
+    }
+
+    /// The word that is named by a slot, an element, a register or its number in a region.
+    fn word(&mut self, what: &str, at: &str) -> Option<u64> {
+        match what {
+            "slot" | "pair" => {
+                let (cell, slot) = pair_of_numbers(at)?;
+                Some(self.slot(cell, slot))
+            }
+            "element" => {
+                let (array, place) = pair_of_numbers(at)?;
+                Some(self.element(array, place))
+            }
+            _ => Some(self.get(region_of(what)?, number(at)?)),
+        }
+    }
+
+    /// The text of a word that is named by a slot, an element or its number in a region, or of the pair at `TABLE.PLACE`.
+    pub fn word_text(
+        &mut self,
+        alloc: Global,
+        what: &str,
+        at: &str,
+    ) -> Result<Option<String>, AllocError> {
+        let Some(word) = self.word(what, at) else {
+            return Ok(None);
+        };
+        if what == "pair" {
+            return Ok(Some(pair_text(alloc, word)?));
+        }
+        Ok(Some(word_text(alloc, word)?))
+    }
+}

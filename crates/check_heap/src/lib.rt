@@ -1,0 +1,29 @@
+//! What the check programs share: the loop over the lines of their input and over the rows of a file, the text of
+//! layouts, numbers and replies, random numbers, a plain store whose callers may ask anything, and heaps in
+//! words that are written a fact at a time.
+//!
+//! A row of a file is a name and lines, each of which is something to do, with the answer that is expected of it. What
+//! does them is an `Answers`; it never sees what is expected. The library knows no check: those are the programs'.
+#![tactic(auto)]
+
+mod caller;
+mod draw;
+mod fact;
+mod heap;
+mod lines;
+mod places;
+mod reading;
+mod reply;
+mod rows;
+mod system;
+
+pub use caller::Caller;
+pub use draw::Draw;
+pub use fact::{pair_text, region_of, value_of, word_of, word_text};
+pub use heap::Heap;
+pub use lines::{Checks, check_lines, tell_line};
+pub use places::{place_of_element, place_of_slot, place_of_word};
+pub use reading::{layout_of, number, number_behind, numbers, pair_of_numbers, words_of};
+pub use reply::{reply_text, value_text};
+pub use rows::{Answers, check_rows, number_or_none, numbers_text, parts_of, tell_answer, text};
+pub use system::System;

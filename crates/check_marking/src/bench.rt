@@ -1,0 +1,250 @@
+//! A heap on the bench, over which single constraints run.
+//!
+//! The lines of a row: `layout ..`, the facts of `Heap::say`, and `listed CELL`, which gives the one cell that the list
+//! holds before a run. Then
+//!
+//! - `run CONSTRAINT` is answered with how many cells it marked, and with the list afterwards: the given cell first;
+//! - `volatility CONSTRAINT`, `clear weak` and `clear pairs` do what they say;
+//! - `mark CELL` and `mark named WORD` are answered with whether the cell was marked, and the list;
+//! - `marked` is answered with the cells that are, `is_live CELL` with true or false, `length` with the number of words, and `REGION NUMBER`, `slot CELL.SLOT` and
+//!   `pair TABLE.PLACE` with what is there.
+ghost use Rattle.std.specs.Prelude.{◌≡◌, ◌+◌, true, length, IfOk};
+ghost use Rattle.tide_model.specs.Layout.{cell_count};
+ghost use Rattle.tide_words.specs.marking.Colours.{is_marking, HasColours};
+ghost use Rattle.tide_words.specs.marking.Greyed.{HasRoom};
+ghost use Rattle.tide_words.specs.heap.Heap.{heap_of, Heap as HeapWords};
+
+use check_heap::{Answers, Heap, System, layout_of, number, numbers_text, text, word_of};
+use std::alloc::{AllocError, Global};
+use std::io;
+use tide_ephemeron::{Ephemerons, clear_pairs};
+use tide_groups::Groups;
+use tide_layout::{Layout, Region};
+use tide_roots::{Registers, Strong, clear_weak};
+use tide_words::{Constraint, GreyList, Volatility, Words, is_live, is_marked, mark, mark_named};
+
+/// A heap, once its layout is given, and the cell that is listed.
+#[derive(Drop)]
+pub struct Bench {
+    heap: Option<Heap>,
+    listed: u32,
+}
+
+/// A list that holds this cell alone, with room for all others of a layout.
+fn list_of(alloc: Global, layout: &Layout, listed: u32) -> Result<GreyList, AllocError>
+    ensures one { IfOk result (λ list. length list.cells ≡ 1) }
+    ensures cap { IfOk result (λ list. list.cap ≡ cell_count layout.now + 1) }
+    ensures room { IfOk result (λ list. (heap : HeapWords) → HasRoom layout.now heap list) }
+{
+    match GreyList::new(alloc, layout.cells() + 1) {
+        Ok(mut list) => {
+            list.push(listed);
+            Ok(list)
+        }
+        Err(_) => Err(AllocError),
+    }
+}
+
+/// The cells of a list, the first pushed first.
+fn cells_in(alloc: Global, list: &mut GreyList) -> Result<Vec<u32>, AllocError> {
+    let mut cells = Vec::new(alloc);
+    for _cell in 0..list.len() {
+        if let Some(cell) = list.pop() {
+            cells.push(cell)?;
+        }
+    }
+    cells.reverse();
+    Ok(cells)
+}
+
+/// The text of how many cells were marked, and of the list then.
+fn marked_text(
+    alloc: Global,
+    count: u32,
+    list: &mut GreyList,
+) -> Result<Option<String>, AllocError> {
+    let cells = cells_in(alloc, list)?;
+    let cells = numbers_text(alloc, cells.as_slice())?;
+    Ok(Some(format!(in alloc; "{count}: {cells}")?))
+}
+
+/// Whether a cycle marks in a heap, whose number leaves room for its colours.
+fn marks(heap: &mut Heap) -> bool
+    ensures layout { heap.new.layout ≡ heap.old.layout }
+    ensures words { heap.new.words ≡ heap.old.words }
+    ensures marking { result ≡ true → is_marking (heap_of heap.old.layout heap.old.words) ≡ true }
+    ensures colours { result ≡ true → HasColours (heap_of heap.old.layout heap.old.words) }
+{
+    let phase = heap.words.load(heap.layout.place(Region::Phase, 0));
+    phase % 2 == 1 && phase / 2 < 1 << 62
+}
+
+/// Runs a constraint once beside a list that holds one cell.
+fn run<C: Constraint>(
+    alloc: Global,
+    heap: &mut Heap,
+    listed: u32,
+    constraint: &C,
+) -> Result<Option<String>, AllocError> {
+    if !marks(heap) {
+        return Ok(None);
+    }
+    let mut list = list_of(alloc, &heap.layout, listed)?;
+    let count = constraint.run(&mut heap.words, &heap.layout, &mut list);
+    marked_text(alloc, count, &mut list)
+}
+
+/// Marks a cell, or the one that a word names, beside a list that holds one cell.
+fn mark_one(
+    alloc: Global,
+    heap: &mut Heap,
+    listed: u32,
+    cell: Option<u32>,
+    word: u64,
+) -> Result<Option<String>, AllocError> {
+    if !marks(heap) {
+        return Ok(None);
+    }
+    let mut list = list_of(alloc, &heap.layout, listed)?;
+    let is_new = match cell {
+        Some(cell) => mark(&mut heap.words, &heap.layout, cell, &mut list),
+        None => mark_named(&mut heap.words, &heap.layout, word, &mut list),
+    };
+    marked_text(alloc, u32::from(is_new), &mut list)
+}
+
+/// Whether a cell is one of the layout, and live.
+fn is_live_in(heap: &mut Heap, cell: u32) -> bool {
+    cell < heap.layout.cells() && is_live(&mut heap.words, &heap.layout, cell)
+}
+
+/// Whether a cell is one of the layout, and marked.
+fn is_marked_in(heap: &mut Heap, cell: u32) -> bool {
+    cell < heap.layout.cells() && is_marked(&mut heap.words, &heap.layout, cell)
+}
+
+/// The marked cells, in rising order.
+fn marked_cells(alloc: Global, heap: &mut Heap) -> Result<Vec<u32>, AllocError> {
+    let mut cells = Vec::new(alloc);
+    for cell in 0..heap.layout.cells() {
+        if is_marked_in(heap, cell) {
+            cells.push(cell)?;
+        }
+    }
+    Ok(cells)
+}
+
+/// Runs the constraint of a name.
+fn run_named(
+    alloc: Global,
+    heap: &mut Heap,
+    listed: u32,
+    name: &str,
+) -> Result<Option<String>, AllocError> {
+    match name {
+        "registers" => run(alloc, heap, listed, &Registers),
+        "strong" => run(alloc, heap, listed, &Strong),
+        "ephemerons" => run(alloc, heap, listed, &Ephemerons),
+        "groups" => run(alloc, heap, listed, &Groups),
+        _ => Ok(None),
+    }
+}
+
+/// When the constraint of a name may have something new to mark.
+fn volatility_of(name: &str) -> Option<Volatility> {
+    match name {
+        "registers" => Some(Registers.volatility()),
+        "strong" => Some(Strong.volatility()),
+        "ephemerons" => Some(Ephemerons.volatility()),
+        "groups" => Some(Groups.volatility()),
+        _ => None,
+    }
+}
+
+/// Does what a cycle's end does to handles or to pairs.
+fn clear(heap: &mut Heap, what: &str) -> bool {
+    match what {
+        "weak" => clear_weak(&mut heap.words, &heap.layout),
+        "pairs" => clear_pairs(&mut heap.words, &heap.layout),
+        _ => return false,
+    }
+    true
+}
+
+/// What is asked of a heap, or is done to it.
+fn asked(
+    alloc: Global,
+    heap: &mut Heap,
+    listed: u32,
+    words: &[&str],
+) -> Result<Option<String>, AllocError> {
+    match words {
+        ["run", name] => run_named(alloc, heap, listed, name),
+        ["mark", "named", word] => match word_of(word) {
+            Some(word) => mark_one(alloc, heap, listed, None, word),
+            None => Ok(None),
+        },
+        ["mark", cell] => mark_one(alloc, heap, listed, number(cell), 0),
+        ["length"] => Ok(Some(format!(in alloc; "{}", heap.words.len())?)),
+        ["marked"] => {
+            let cells = marked_cells(alloc, heap)?;
+            Ok(Some(numbers_text(alloc, cells.as_slice())?))
+        }
+        ["is_live", cell] => {
+            let is_live = number(cell).is_some_and(|cell| is_live_in(heap, cell));
+            Ok(Some(format!(in alloc; "{is_live}")?))
+        }
+        ["volatility", name] => match volatility_of(name) {
+            Some(volatility) => Ok(Some(format!(in alloc; "{volatility:?}")?)),
+            None => Ok(None),
+        },
+        ["clear", what] if clear(heap, what) => Ok(Some(text(alloc, "")?)),
+        [what, at] => heap.word_text(alloc, what, at),
+        _ => Ok(None),
+    }
+}
+
+impl Bench {
+    /// Does or answers what the words say, but for a layout and what is listed.
+    fn do_or_answer(
+        &mut self,
+        alloc: Global,
+        words: &[&str],
+    ) -> Result<Option<String>, AllocError> {
+        let listed = self.listed;
+        let Some(heap) = &mut self.heap else {
+            return Ok(None);
+        };
+        if heap.say(words).is_some() {
+            return Ok(Some(text(alloc, "")?));
+        }
+        asked(alloc, heap, listed, words)
+    }
+}
+
+impl<R: System> Answers<R> for Bench {
+    fn begin(_rt: &R) -> io::Result<Self> {
+        Ok(Bench {
+            heap: None,
+            listed: 0,
+        })
+    }
+
+    fn answer(&mut self, rt: &R, words: &[&str]) -> io::Result<Option<String>> {
+        let alloc = rt.alloc();
+        match words {
+            ["layout", layout @ ..] => {
+                let Some(layout) = layout_of(layout) else {
+                    return Ok(None);
+                };
+                self.heap = Some(Heap::new(alloc, layout)?);
+            }
+            ["listed", cell] => match number(cell) {
+                Some(cell) => self.listed = cell,
+                None => return Ok(None),
+            },
+            _ => return Ok(self.do_or_answer(alloc, words)?),
+        }
+        Ok(Some(text(alloc, "")?))
+    }
+}

@@ -1,0 +1,90 @@
+//! Heaps that are told by facts, and then marked.
+//!
+//! The lines of a row: `layout ..` and the facts of `Heap::say`; then `solve BUDGET` is answered with `converged` or `more`
+//! and the number of visits, and `black` and `grey` with the cells of that colour.
+
+use crate::marking::Marking;
+use check_heap::{Answers, Heap, System, layout_of, number, numbers_text, text};
+use std::alloc::{AllocError, Global};
+use std::io;
+use tide_solver::Solved;
+use tide_words::Colour;
+
+/// A heap until it is marked, and then its marking.
+#[derive(Drop)]
+pub struct Marked {
+    heap: Option<Heap>,
+    marking: Option<Marking>,
+}
+
+/// Marks within a budget, and tells how that ended.
+fn solve(alloc: Global, marking: &mut Marking, budget: u32) -> Result<String, AllocError> {
+    match marking.solve(budget) {
+        Solved::Converged { visits } => format!(in alloc; "converged {visits}"),
+        Solved::More { visits } => format!(in alloc; "more {visits}"),
+    }
+}
+
+/// What a marking tells.
+fn told(
+    alloc: Global,
+    marking: &mut Marking,
+    words: &[&str],
+) -> Result<Option<String>, AllocError> {
+    let cells = match words {
+        ["solve", budget] => match number(budget) {
+            Some(budget) => return Ok(Some(solve(alloc, marking, budget)?)),
+            None => return Ok(None),
+        },
+        ["black"] => marking.cells_of(alloc, Colour::Black)?,
+        ["grey"] => marking.cells_of(alloc, Colour::Grey)?,
+        _ => return Ok(None),
+    };
+    Ok(Some(numbers_text(alloc, cells.as_slice())?))
+}
+
+impl Marked {
+    /// Does what the words say to the heap: it is told a fact, or its marking begins.
+    fn tell(&mut self, alloc: Global, words: &[&str]) -> Result<Option<String>, AllocError> {
+        match words {
+            ["layout", layout @ ..] => {
+                let Some(layout) = layout_of(layout) else {
+                    return Ok(None);
+                };
+                self.heap = Some(Heap::new(alloc, layout)?);
+            }
+            ["solve", ..] => {
+                let Some(heap) = self.heap.take() else {
+                    return Ok(None);
+                };
+                let mut marking = Marking::begin(alloc, heap)?;
+                let answer = told(alloc, &mut marking, words)?;
+                self.marking = Some(marking);
+                return Ok(answer);
+            }
+            _ => {
+                let heap = self.heap.as_mut();
+                if heap.and_then(|heap| heap.say(words)).is_none() {
+                    return Ok(None);
+                }
+            }
+        }
+        Ok(Some(text(alloc, "")?))
+    }
+}
+
+impl<R: System> Answers<R> for Marked {
+    fn begin(_rt: &R) -> io::Result<Self> {
+        Ok(Marked {
+            heap: None,
+            marking: None,
+        })
+    }
+
+    fn answer(&mut self, rt: &R, words: &[&str]) -> io::Result<Option<String>> {
+        match &mut self.marking {
+            Some(marking) => Ok(told(rt.alloc(), marking, words)?),
+            None => Ok(self.tell(rt.alloc(), words)?),
+        }
+    }
+}

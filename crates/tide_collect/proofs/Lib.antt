@@ -1,0 +1,6 @@
+pub mod DeadBlocks
+pub mod Freed
+pub mod Growing
+pub mod Holding
+pub mod PairLaws
+pub mod Searching

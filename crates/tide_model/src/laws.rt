@@ -1,0 +1,20 @@
+//! What holds after every lawful history, as functions that only promise it.
+//!
+//! A law is about the definitions of `specs/` and about no store: a store that shows its history lawful has it.
+ghost use Rattle.tide_model.specs.Laws.{BeginningsAreLawful, NoCellIsClaimedTwice, NoReferenceDangles};
+
+/// No register of an active mutator, no handle, and no slot, property or pair of a live cell names a cell that isn't live.
+/// Each claimed cell is live, and each live cell's array is live and its own.
+pub fn no_reference_dangles()
+    ensures references { NoReferenceDangles }
+{}
+
+/// A cell is claimed once, by one mutator.
+pub fn no_cell_is_claimed_twice()
+    ensures claims { NoCellIsClaimedTwice }
+{}
+
+/// Each beginning of a lawful history is lawful.
+pub fn beginnings_are_lawful()
+    ensures beginnings { BeginningsAreLawful }
+{}

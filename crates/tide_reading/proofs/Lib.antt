@@ -1,0 +1,7 @@
+pub mod DocumentLemmas
+pub mod EachLemmas
+pub mod PathLemmas
+pub mod ScriptLemmas
+pub mod ShapeLemmas
+pub mod TableLemmas
+pub mod WorkLemmas

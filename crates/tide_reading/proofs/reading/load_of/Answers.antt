@@ -1,0 +1,17 @@
+use Rattle.std.proofs.Common.{map, arith, ℕ, List, Bor, Vec, Global}
+use Rattle.tide_work.specs.OpLimits.{limits_with}
+use Rattle.tide_reading.proofs.ScriptLemmas.{scripts_within}
+use Rattle.tide_reading.proofs.ScriptLemmas.{scripts_sized}
+use Rattle.tide_reading.proofs.reading.load_of.Goals as goal
+
+pub new-requires : goal.new-requires
+new-requires c =
+    let made = c.in_ok-scripts.ensures in
+    let read = rw c.new-limits.ensures at made.scripts in
+    record {
+      limits = c.requires.settings;
+      keys = c.requires.keys;
+      paths = c.requires.paths;
+      sized = scripts_sized c.in_ok-scripts.scripts.items (omega (arith, made.count, c.requires.some)) (omega (arith, made.count, c.requires.few)) made.short;
+      operations = scripts_within (limits_with c.args.settings c.args.keys) (map (λ (texts : Vec (Bor (List ℕ)) Global). map (λ (text : Bor (List ℕ)). text.now) texts.items) c.args.texts.now) (map (λ ops. ops.items) c.in_ok-scripts.scripts.items) read;
+    }

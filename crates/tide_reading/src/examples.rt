@@ -1,0 +1,17 @@
+//! Examples of what the definitions of reading say, as laws. It has no code.
+ghost use Rattle.tide_reading.specs.Examples.{Documents, Limits, PathTexts};
+
+/// How the keys of paths are numbered, and which texts are paths.
+fn path_texts()
+    ensures { PathTexts }
+{}
+
+/// What some documents read as.
+fn documents()
+    ensures { Documents }
+{}
+
+/// The limit that definitions call by name.
+fn limits()
+    ensures { Limits }
+{}

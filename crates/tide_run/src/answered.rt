@@ -1,8 +1,0 @@
-use tide_model::{Op, Reply};
-
-/// An operation that was asked for, and its reply.
-#[derive(Clone, Copy, Debug, PartialEq, Eq)]
-pub struct Answered {
-    pub op: Op,
-    pub reply: Reply,
-}

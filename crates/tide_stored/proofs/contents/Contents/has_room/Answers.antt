@@ -1,0 +1,40 @@
+use Rattle.std.proofs.Common.{◌≡◌, ◌<◌, ◌≤◌, ◌∙◌, refl, sym, ap, subst, arith, Bool, true, false, length, get_or, ℕ, List, Option, [], ◌∷◌, ◌++◌, None, Some}
+use Rattle.std.proofs.lemmas.Bool.{eq-eqb}
+use Rattle.std.proofs.lemmas.List.{length-set}
+use Rattle.std.specs.Prelude.{is_some, not, slice_set}
+use Rattle.tide_model.specs.declared.val.Val.TheVariants.{Empty}
+use Rattle.tide_model.specs.Applied.{put_cell, is_array_full, exchange_array}
+use Rattle.tide_model.specs.Layout.{array_count}
+use Rattle.tide_model.specs.Numbers.{is_among}
+use Rattle.tide_model.specs.References.{IsLive}
+use Rattle.tide_model.specs.Refused.{is_shape}
+use Rattle.tide_model.specs.State.{CellState, State, free}
+use Rattle.tide_shape.specs.ShapeTable.{keys_of}
+use Rattle.tide_stored.specs.declared.cells.Pair.{Pair}
+use Rattle.tide_stored.specs.declared.cells.StoredCell.{StoredCell}
+use Rattle.tide_stored.specs.Contents.{state_of, stored_at, IsStored}
+use Rattle.tide_stored.specs.Parts.{parts_of}
+use Rattle.tide_stored.specs.Properties.{IsOwnArray}
+use Rattle.tide_stored.specs.Stored.{Stored, no_elements, pairs_of, IsDistinctPairs}
+use Rattle.tide_stored.proofs.AdditionLaws.{array_below, fewer_keys-found, has_key-found, has_room-at, may_add-found, place_of-found, state_of-exchanged, IsOwnArray-taken}
+use Rattle.tide_stored.proofs.LayoutLaws.{IsWithinLayout-stored}
+use Rattle.tide_stored.proofs.ListsAsFunctions.{get_or-put}
+use Rattle.tide_stored.proofs.PairCells.{state_of-places, IsStored-places, pairs_are-stored, room_for-seat, full-seatless, state_of-pair}
+use Rattle.tide_stored.proofs.PairLaws.{IsDistinctPairs-set, IsSeat-position, lacks-position, pairs_of-lacks, pairs_of-found, pairs_of-put, pairs_of-removed}
+use Rattle.tide_stored.proofs.PropertyLaws.{array_in-range, keys_are-stored, keys_from-room, own_array, own-stored, own_is-stored, state_of-append, state_of-property}
+use Rattle.tide_stored.proofs.StoredLaws.{IsLive-at, IsSound-at, IsStored-cell, MayStand, MayStand-stored, stored_within}
+use Rattle.tide_stored.proofs.contents.Contents.has_room.Goals as goal
+
+pub returns-clause-own : goal.returns-clause-own
+returns-clause-own c = λ room.
+    let contents = parts_of c.self.inside in
+    let live = IsLive-at contents c.args.self.now c.args.cell c.self.view_is c.requires.live in
+    let sound = IsSound-at contents c.args.self.now c.self.view_is c.self.invariant c.requires.references in
+    let keys = keys_are-stored contents c.args.cell c.stored.result.now live c.stored.ensures in
+    let counted : c.count-count.result ≡ length ((state_of contents).cells c.args.cell).keys = c.count-count.ensures ∙ ap length keys in
+    let few : c.count-count.result < 64 = omega (arith, counted, ap (λ (s : Stored). length ((state_of s).cells c.args.cell).keys) c.self.view_is, c.requires.fewer) in
+    let differs : c.count-count.result ≡ c.capacity.result → ⊥ = λ e.
+    let same : not true ≡ true = sym (ap not (eq-eqb c.count-count.result c.capacity.result e)) ∙ room in cc in
+    rw (← c.self.view_is)
+    (own_array contents c.args.cell sound live (keys_from-room ((state_of contents).cells c.args.cell)
+    (has_room-at ((state_of contents).cells c.args.cell) c.count-count.result counted few (λ e. differs (e ∙ sym c.capacity.ensures)))))

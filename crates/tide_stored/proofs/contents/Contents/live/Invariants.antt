@@ -1,0 +1,14 @@
+use Rattle.std.proofs.Common.{◌≡◌, ◌≤◌}
+use Rattle.std.specs.Prelude.{◌==◌, ◌&&◌}
+use Rattle.tide_model.specs.Layout.{class_of, class_of_array}
+use Rattle.tide_model.specs.Numbers.{count_where}
+use Rattle.tide_model.specs.State.{is_free, is_live}
+use Rattle.tide_stored.specs.Contents.{state_of}
+use Rattle.tide_stored.specs.Parts.{parts_of}
+use Rattle.tide_stored.proofs.contents.Contents.live.Given as goal
+
+abbrev pub invariant-loop-cell : goal.invariant-loop-cell
+invariant-loop-cell l = record {
+  counted : l.count ≡ count_where (λ cell. is_live ((state_of (parts_of l.self-inside)).cells cell).status) l.cell;
+  small : l.count ≤ l.cell;
+}

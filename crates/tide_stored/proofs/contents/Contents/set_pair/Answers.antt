@@ -1,0 +1,70 @@
+use Rattle.std.proofs.Common.{◌≡◌, ◌<◌, ◌≤◌, ◌∙◌, refl, sym, ap, subst, arith, Bool, true, false, length, get_or, ℕ, List, Option, [], ◌∷◌, ◌++◌, None, Some}
+use Rattle.std.proofs.lemmas.Bool.{eq-eqb}
+use Rattle.std.proofs.lemmas.List.{length-set}
+use Rattle.std.specs.Prelude.{is_some, not, slice_set}
+use Rattle.tide_model.specs.declared.val.Val.TheVariants.{Empty}
+use Rattle.tide_model.specs.Applied.{put_cell, is_array_full, exchange_array}
+use Rattle.tide_model.specs.Layout.{array_count}
+use Rattle.tide_model.specs.Numbers.{is_among}
+use Rattle.tide_model.specs.References.{IsLive}
+use Rattle.tide_model.specs.Refused.{is_shape}
+use Rattle.tide_model.specs.State.{CellState, State, free}
+use Rattle.tide_shape.specs.ShapeTable.{keys_of}
+use Rattle.tide_stored.specs.declared.cells.Pair.{Pair}
+use Rattle.tide_stored.specs.declared.cells.StoredCell.{StoredCell}
+use Rattle.tide_stored.specs.Contents.{state_of, stored_at, IsStored}
+use Rattle.tide_stored.specs.Parts.{parts_of}
+use Rattle.tide_stored.specs.Properties.{IsOwnArray}
+use Rattle.tide_stored.specs.Stored.{Stored, no_elements, pairs_of, IsDistinctPairs}
+use Rattle.tide_stored.proofs.AdditionLaws.{array_below, fewer_keys-found, has_key-found, has_room-at, may_add-found, place_of-found, state_of-exchanged, IsOwnArray-taken}
+use Rattle.tide_stored.proofs.LayoutLaws.{IsWithinLayout-stored}
+use Rattle.tide_stored.proofs.ListsAsFunctions.{get_or-put}
+use Rattle.tide_stored.proofs.PairCells.{state_of-places, IsStored-places, pairs_are-stored, room_for-seat, full-seatless, state_of-pair}
+use Rattle.tide_stored.proofs.PairLaws.{IsDistinctPairs-set, IsSeat-position, lacks-position, pairs_of-lacks, pairs_of-found, pairs_of-put, pairs_of-removed}
+use Rattle.tide_stored.proofs.PropertyLaws.{array_in-range, keys_are-stored, keys_from-room, own_array, own-stored, own_is-stored, state_of-append, state_of-property}
+use Rattle.tide_stored.proofs.StoredLaws.{IsLive-at, IsSound-at, IsStored-cell, MayStand, MayStand-stored, stored_within}
+use Rattle.tide_stored.proofs.contents.Contents.set_pair.Goals as goal
+
+pub set_place-requires-clause-distinct : goal.set_place-requires-clause-distinct
+set_place-requires-clause-distinct c =
+    let now = c.args.self.now in
+    let ok = subst IsStored c.self.view_is c.self.invariant in
+    let stored = c.stored.result.now in
+    let is : stored ≡ stored_at now c.args.table = c.stored.ensures ∙ ap (λ (s : Stored). stored_at s c.args.table) c.self.view_is in
+    let distinct = subst (λ (s : StoredCell). IsDistinctPairs s.pairs) (sym is) (ok.pairs c.args.table c.requires.live) in
+    subst (λ (s : StoredCell). IsDistinctPairs (slice_set s.pairs c.in-Some.place (Some (record { key = c.args.key; value = c.args.value })))) is
+    (IsDistinctPairs-set stored.pairs c.in-Some.place c.args.key (Some (record { key = c.args.key; value = c.args.value })) distinct c.in-Some.ensures.seat
+    (λ pair same. let both : record { key = c.args.key; value = c.args.value } ≡ pair = cc (same) in sym (ap (λ (p : Pair). p.key) both)))
+
+pub returns-in-Some-clause-room : goal.returns-in-Some-clause-room
+returns-in-Some-clause-room c =
+    let now = c.args.self.now in
+    let ok = subst IsStored c.self.view_is c.self.invariant in
+    let stored = c.stored.result.now in
+    let is : stored ≡ stored_at now c.args.table = c.stored.ensures ∙ ap (λ (s : Stored). stored_at s c.args.table) c.self.view_is in
+    let eight : length stored.pairs ≡ 8 = omega arith in
+    sym (room_for-seat now c.args.table c.args.key c.in-Some.place stored (record { stored = ok; references = c.requires.references }) c.requires.live is eight c.in-Some.ensures.seat)
+
+pub returns-in-Some-clause-leaves : goal.returns-in-Some-clause-leaves
+returns-in-Some-clause-leaves c = λ yes.
+    let now = c.args.self.now in
+    let ok = subst IsStored c.self.view_is c.self.invariant in
+    let stored = c.stored.result.now in
+    let is : stored ≡ stored_at now c.args.table = c.stored.ensures ∙ ap (λ (s : Stored). stored_at s c.args.table) c.self.view_is in
+    record {
+      state = c.set_place.ensures.state
+          ∙ ap (λ (s : StoredCell). put_cell (state_of now) c.args.table (record ((state_of now).cells c.args.table) { pairs = pairs_of (slice_set s.pairs c.in-Some.place (Some (record { key = c.args.key; value = c.args.value }))) })) (sym is)
+          ∙ state_of-pair now c.args.table c.args.key stored (slice_set stored.pairs c.in-Some.place (Some (record { key = c.args.key; value = c.args.value }))) (Some c.args.value) c.requires.live is
+          (pairs_of-put stored.pairs c.in-Some.place c.args.key c.args.value c.in-Some.ensures.seat);
+      layout = c.set_place.ensures.layout;
+      shapes = c.set_place.ensures.shapes;
+    }
+
+pub returns-in-None-clause-room : goal.returns-in-None-clause-room
+returns-in-None-clause-room c =
+    let now = c.args.self.now in
+    let ok = subst IsStored c.self.view_is c.self.invariant in
+    let stored = c.stored.result.now in
+    let is : stored ≡ stored_at now c.args.table = c.stored.ensures ∙ ap (λ (s : Stored). stored_at s c.args.table) c.self.view_is in
+    let eight : length stored.pairs ≡ 8 = omega arith in
+    sym (full-seatless now c.args.table c.args.key stored (record { stored = ok; references = c.requires.references }) c.requires.live is eight c.in-None.ensures.absent c.in-None.ensures.full)

@@ -1,0 +1,18 @@
+-- What is stored, gathered from the parts that hold it.
+use Rattle.tide_shape.specs.Lists.{lists_of}
+use Rattle.tide_stored.specs.declared.contents.Contents.TheInside.{Inside}
+use Rattle.tide_stored.specs.Stored.{Stored}
+
+-- all that is stored
+abbrev pub parts_of : Inside → Stored
+parts_of contents = record {
+  layout = contents.layout;
+  shapes = lists_of contents.shapes;
+  mutators = contents.mutators.mutators.items;
+  strong = contents.handles.strong.items;
+  weak = contents.handles.weak.items;
+  are_live = contents.cells.are_live.items;
+  cells = contents.cells.cells.items;
+  statuses = contents.arrays.statuses.items;
+  elements = contents.arrays.elements.items;
+}

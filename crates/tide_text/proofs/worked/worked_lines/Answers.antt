@@ -1,0 +1,23 @@
+-- The definitions compute to these lines.
+use Rattle.std.proofs.Common.{refl}
+use Rattle.std.specs.Fmt.{digits}
+use Rattle.tide_text.specs.FaultLine.{fault_line, fault_text}
+use Rattle.tide_text.specs.Line.{call_line, counts_text, cycle_line, freed_cell_text, freed_text, live_line, mutator_line, refusal_text, reply_text, val_text}
+use Rattle.tide_text.specs.OpText.{op_text}
+use Rattle.tide_text.proofs.worked.worked_lines.Goals as goal
+
+pub returns-clause-calls : goal.returns-clause-calls
+unfolding digits call_line op_text reply_text refusal_text val_text
+returns-clause-calls c = (refl, refl, refl, refl, refl, refl, refl, refl, refl, refl, refl, refl, refl, refl, refl, refl, refl, refl, refl, refl, refl, refl, refl, refl, refl)
+
+pub returns-clause-refusals : goal.returns-clause-refusals
+unfolding digits call_line op_text reply_text refusal_text
+returns-clause-refusals c = (refl, refl, refl, refl, refl, refl, refl, refl, refl, refl, refl, refl, refl)
+
+pub returns-clause-frame : goal.returns-clause-frame
+unfolding digits mutator_line cycle_line counts_text freed_text freed_cell_text live_line
+returns-clause-frame c = (refl, refl, refl, refl, refl)
+
+pub returns-clause-faults : goal.returns-clause-faults
+unfolding digits fault_line fault_text
+returns-clause-faults c = (refl, refl, refl, refl, refl, refl, refl)

@@ -1,0 +1,6 @@
+pub mod FaultLine
+pub mod Line
+pub mod OpText
+pub mod ReadBack
+pub mod Text
+pub mod Worked

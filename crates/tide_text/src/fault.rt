@@ -1,0 +1,32 @@
+//! What is wrong with bytes that are no workload, in words.
+ghost use Rattle.std.specs.Prelude.{◌≡◌, ◌+◌, ◌≤◌, ◌++◌, length};
+ghost use Rattle.tide_text.specs.FaultLine.{fault_text};
+
+use crate::line::Line;
+use tide_work::Fault;
+
+/// A bound on the bytes of a fault.
+pub const LONGEST_FAULT: usize = 60;
+
+impl<const ROOM: usize> Line<ROOM> {
+    /// A fault in words.
+    #[tactic(auto, unfolding(crate::specs::FaultLine::fault_text))]
+    pub fn fault(self, fault: Fault) -> Self
+        requires { length self + LONGEST_FAULT ≤ ROOM }
+        ensures value { result ≡ self.entry ++ fault_text fault }
+        ensures grown { length result ≤ length self.entry + LONGEST_FAULT }
+    {
+        match fault {
+            Fault::NotToml => self.text("not TOML"),
+            Fault::TooLong => self.text("too long"),
+            Fault::Missing { field } => self.text("missing field ").text(field.name()),
+            Fault::Bad { field } => self.text("bad field ").text(field.name()),
+            Fault::BadOp { mutator, at } => self
+                .text("bad op")
+                .operand(at)
+                .text(" of mutator")
+                .operand(mutator),
+            Fault::Memory => self.text("no memory"),
+        }
+    }
+}

@@ -1,0 +1,132 @@
+//! Writing lines to a sink, each as one piece but for the line of a cycle. How a line is composed stands in `line`.
+ghost use Rattle.std.specs.Prelude.{◌≡◌, ◌+◌, ◌≤◌, ◌++◌, length, OnErr, OnOk};
+ghost use Rattle.std.specs.List.{flat_map};
+ghost use Rattle.std.specs.Io.KnownBytes.{Appends};
+ghost use Rattle.tide_io.specs.Faults.{AppendsPart, HasCause};
+ghost use Rattle.tide_text.specs.FaultLine.{fault_line};
+ghost use Rattle.tide_text.specs.Line.{call_line, counts_text, cycle_line, freed_cell_text, freed_text, live_line, mutator_line};
+ghost use Rattle.tide_text.specs.OpText.{HasText};
+
+use crate::line::{LONGEST_LINE, Line};
+use tide_io::{Failed, Sink, write_all};
+use tide_model::{Op, Reply};
+use tide_work::{Fault, Workload};
+
+/// A line of a run or of a fault.
+type RunLine = Line<LONGEST_LINE>;
+
+/// Writes the line above a mutator's calls, as one piece.
+#[tactic(auto, unfolding(crate::specs::Line::mutator_line))]
+pub fn write_mutator<K: Sink>(out: &mut K, m: u32) -> Result<(), Failed>
+    ensures whole { OnOk result (Appends (K.held out.old) (K.held out.new) (mutator_line m)) }
+    ensures part { OnErr result (AppendsPart (K.held out.old) (K.held out.new) (mutator_line m)) }
+    ensures cause { HasCause (K.faults out.old) (K.faults out.new) result }
+{
+    let line = RunLine::new().text("mutator").operand(m).text("\n");
+    write_all(out, line.as_bytes())
+}
+
+/// Writes the line of a call: what was asked, and what was answered. The operation's property key, where it has one, is
+/// a key of the workload.
+#[tactic(auto, unfolding(crate::specs::Line::call_line))]
+pub fn write_call<K: Sink>(out: &mut K, load: &Workload, op: Op, reply: Reply) -> Result<(), Failed>
+    requires { HasText load.now.keys op }
+    ensures whole { OnOk result (Appends (K.held out.old) (K.held out.new) (call_line load.now.keys op reply)) }
+    ensures part { OnErr result (AppendsPart (K.held out.old) (K.held out.new) (call_line load.now.keys op reply)) }
+    ensures cause { HasCause (K.faults out.old) (K.faults out.new) result }
+{
+    let line = RunLine::new()
+        .op(load.keys(), op)
+        .text(" = ")
+        .reply(reply)
+        .text("\n");
+    write_all(out, line.as_bytes())
+}
+
+/// Writes how many cells live at the end.
+#[tactic(auto, unfolding(crate::specs::Line::live_line))]
+pub fn write_live<K: Sink>(out: &mut K, live: u32) -> Result<(), Failed>
+    ensures whole { OnOk result (Appends (K.held out.old) (K.held out.new) (live_line live)) }
+    ensures part { OnErr result (AppendsPart (K.held out.old) (K.held out.new) (live_line live)) }
+    ensures cause { HasCause (K.faults out.old) (K.faults out.new) result }
+{
+    let line = RunLine::new().text("live").operand(live).text("\n");
+    write_all(out, line.as_bytes())
+}
+
+/// Writes the line that tells a fault, as one piece.
+#[tactic(auto, unfolding(crate::specs::FaultLine::fault_line))]
+pub fn write_fault_line<K: Sink>(out: &mut K, fault: Fault) -> Result<(), Failed>
+    ensures whole { OnOk result (Appends (K.held out.old) (K.held out.new) (fault_line fault)) }
+    ensures part { OnErr result (AppendsPart (K.held out.old) (K.held out.new) (fault_line fault)) }
+    ensures cause { HasCause (K.faults out.old) (K.faults out.new) result }
+{
+    let line = RunLine::new().text("riptide: ").fault(fault).text("\n");
+    write_all(out, line.as_bytes())
+}
+
+/// Writes the line of a cycle: how many cells lived after its end, and which it freed.
+pub fn write_cycle<K: Sink>(
+    out: &mut K,
+    number: u64,
+    kept: u32,
+    freed: &[u32],
+) -> Result<(), Failed>
+    ensures whole { OnOk result (Appends (K.held out.old) (K.held out.new) (cycle_line number kept freed.now)) }
+    ensures part { OnErr result (AppendsPart (K.held out.old) (K.held out.new) (cycle_line number kept freed.now)) }
+    ensures cause { HasCause (K.faults out.old) (K.faults out.new) result }
+{
+    write_counts(out, number, kept, freed.len())?;
+    write_freed(out, freed)?;
+    write_all(out, b"\n")
+}
+
+#[tactic(auto, unfolding(crate::specs::Line::counts_text))]
+fn write_counts<K: Sink>(out: &mut K, number: u64, kept: u32, freed: usize) -> Result<(), Failed>
+    ensures whole { OnOk result (Appends (K.held out.old) (K.held out.new) (counts_text number kept freed)) }
+    ensures part { OnErr result (AppendsPart (K.held out.old) (K.held out.new) (counts_text number kept freed)) }
+    ensures cause { HasCause (K.faults out.old) (K.faults out.new) result }
+{
+    let line = RunLine::new()
+        .text("cycle")
+        .operand(number)
+        .text(" kept")
+        .operand(kept);
+    let line = line.text(" freed").operand(freed);
+    write_all(out, line.as_bytes())
+}
+
+// The cells after a colon, if there are any.
+fn write_freed<K: Sink>(out: &mut K, freed: &[u32]) -> Result<(), Failed>
+    ensures whole { OnOk result (Appends (K.held out.old) (K.held out.new) (freed_text freed.now)) }
+    ensures part { OnErr result (AppendsPart (K.held out.old) (K.held out.new) (freed_text freed.now)) }
+    ensures cause { HasCause (K.faults out.old) (K.faults out.new) result }
+{
+    if freed.is_empty() {
+        return Ok(());
+    }
+    write_all(out, b":")?;
+    write_cells(out, freed)
+}
+
+// Each cell as a piece of its own.
+fn write_cells<K: Sink>(out: &mut K, cells: &[u32]) -> Result<(), Failed>
+    ensures whole { OnOk result (Appends (K.held out.old) (K.held out.new) (flat_map freed_cell_text cells.now)) }
+    ensures part { OnErr result (AppendsPart (K.held out.old) (K.held out.new) (flat_map freed_cell_text cells.now)) }
+    ensures cause { HasCause (K.faults out.old) (K.faults out.new) result }
+{
+    for id in cells {
+        write_cell(out, *id)?;
+    }
+    Ok(())
+}
+
+#[tactic(auto, unfolding(crate::specs::Line::freed_cell_text))]
+fn write_cell<K: Sink>(out: &mut K, id: u32) -> Result<(), Failed>
+    ensures whole { OnOk result (Appends (K.held out.old) (K.held out.new) (freed_cell_text id)) }
+    ensures part { OnErr result (AppendsPart (K.held out.old) (K.held out.new) (freed_cell_text id)) }
+    ensures cause { HasCause (K.faults out.old) (K.faults out.new) result }
+{
+    let line = RunLine::new().text(" ").cell(id);
+    write_all(out, line.as_bytes())
+}

@@ -1,0 +1,133 @@
+//! The words of a text and the numbers that they spell, whatever they stand for.
+ghost use Rattle.std.specs.Prelude.{◌≡◌, true, [], ◌∷◌, position, MatchOption, option_map};
+ghost use Rattle.std.specs.Char.{is_ascii_digit};
+ghost use Rattle.std.specs.List.{list_all};
+ghost use Rattle.std.specs.Str.Parse.{digits_value};
+ghost use Rattle.tide_work.specs.Words.{is_space, is_word_byte, is_trimmed, words_in, one_word, two_words, three_words, is_numeral, number_of, number_below};
+
+/// Whether a text neither begins nor ends with a space.
+pub fn is_trimmed(text: &[u8]) -> bool
+    ensures { result ≡ is_trimmed text.now }
+{
+    text.first() != Some(&b' ') && text.last() != Some(&b' ')
+}
+
+/// Where the first space of a text is.
+fn first_space(text: &[u8]) -> Option<usize>
+    ensures { result ≡ position is_space text.now }
+{
+    text.iter().position(|byte| *byte == b' ')
+}
+
+/// Where the first byte of a text is that is no space.
+fn first_word_byte(text: &[u8]) -> Option<usize>
+    ensures { result ≡ position is_word_byte text.now }
+{
+    text.iter().position(|byte| *byte != b' ')
+}
+
+/// The first word of a text, and the text after it.
+pub fn next_word(text: &[u8]) -> Option<(&[u8], &[u8])>
+    ensures { MatchOption result (words_in text.now ≡ [])
+        (λ parts. words_in text.now ≡ parts.0.now ∷ words_in parts.1.now) }
+{
+    let begin = first_word_byte(text)?;
+    let (_, text) = text.split_at(begin);
+    let end = first_space(text).unwrap_or(text.len());
+    Some(text.split_at(end))
+}
+
+/// The word of a text that has no other.
+pub fn one_word(text: &[u8]) -> Option<&[u8]>
+    ensures { option_map (λ word. word.now) result ≡ one_word (words_in text.now) }
+{
+    let (only, rest) = next_word(text)?;
+    match next_word(rest) {
+        Some(_) => None,
+        None => Some(only),
+    }
+}
+
+/// The words of a text that has no more than these two.
+pub fn two_words(text: &[u8]) -> Option<(&[u8], &[u8])>
+    ensures { option_map (λ words. (words.0.now, words.1.now)) result ≡ two_words (words_in text.now) }
+{
+    let (first, rest) = next_word(text)?;
+    let (second, rest) = next_word(rest)?;
+    match next_word(rest) {
+        Some(_) => None,
+        None => Some((first, second)),
+    }
+}
+
+/// The words of a text that has no more than these three.
+pub fn three_words(text: &[u8]) -> Option<(&[u8], &[u8], &[u8])>
+    ensures { option_map (λ words. (words.0.now, words.1.now, words.2.now)) result ≡ three_words (words_in text.now) }
+{
+    let (first, rest) = next_word(text)?;
+    let (second, third) = two_words(rest)?;
+    Some((first, second, third))
+}
+
+fn has_digits_only(word: &[u8]) -> bool
+    ensures { result ≡ list_all is_ascii_digit word.now }
+{
+    word.iter().all(|byte| byte.is_ascii_digit())
+}
+
+/// Whether a word has one to ten decimal digits and nothing else.
+fn is_numeral(word: &[u8]) -> bool
+    ensures { result ≡ is_numeral word.now }
+{
+    !word.is_empty() && word.len() <= MAX_DIGITS && has_digits_only(word)
+}
+
+/// What the digits of a numeral spell.
+fn numeral_value(word: &[u8]) -> u64
+    requires { is_numeral word.now ≡ true }
+    ensures { result ≡ digits_value 10 word.now }
+{
+    let mut value = 0u64;
+    for byte in word {
+        value = 10 * value + u64::from(*byte - b'0');
+    }
+    value
+}
+
+/// The number that a word spells.
+pub fn number_of(word: &[u8]) -> Option<u32>
+    ensures { result ≡ number_of word.now }
+{
+    if is_numeral(word) {
+        u32::try_from(numeral_value(word)).ok()
+    } else {
+        None
+    }
+}
+
+/// The number that a word spells, where it is below a limit.
+pub fn number_below(word: &[u8], limit: u8) -> Option<u8>
+    ensures { result ≡ number_below limit word.now }
+{
+    let number = number_of(word)?;
+    if number < u32::from(limit) {
+        Some(number as u8)
+    } else {
+        None
+    }
+}
+
+/// The handle that a word names: a number below how many there are.
+pub fn handle_below(word: &[u8], handles: u16) -> Option<u16>
+    ensures { result ≡ number_below handles word.now }
+{
+    let number = number_of(word)?;
+    if number < u32::from(handles) {
+        Some(number as u16)
+    } else {
+        None
+    }
+}
+
+/// How many digits a number may have.
+const MAX_DIGITS: usize = 10;

@@ -1,8 +1,0 @@
-use Rattle.std.proofs.Common.{◌≡◌, length, drop}
-use Rattle.tide_workload.specs.Scripts.{op_at}
-use Rattle.tide_workload.proofs.EachLemmas.{ReadsFrom}
-use Rattle.tide_workload.proofs.scripts.ops_of.Given as goal
-
-abbrev pub invariant-loop-at : goal.invariant-loop-at
-invariant-loop-at l =
-    (length l.ops.items ≡ l.at) × ReadsFrom (op_at l.limits l.mutator) (λ text. text.now) l.ops.items l.at (drop l.at l.texts) l.texts

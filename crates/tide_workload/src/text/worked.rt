@@ -1,9 +1,0 @@
-//! What the definitions of lines compute to, for lines of real runs.
-ghost use Rattle.tide_workload.specs.Worked.{WorkedCalls, WorkedFaults, WorkedFrame, WorkedRefusals};
-
-fn worked_lines()
-    ensures calls { WorkedCalls }
-    ensures refusals { WorkedRefusals }
-    ensures frame { WorkedFrame }
-    ensures faults { WorkedFaults }
-{}

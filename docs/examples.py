@@ -1,0 +1,112 @@
+#!/usr/bin/env python3
+"""Tells which examples of README.md and docs/WORKLOAD.md are no files that the program check_workloads runs.
+
+    python3 docs/examples.py         prints what differs, and ends with 1 where anything does
+
+- A block of ```toml is a workload of crates/check_workloads/data, without the comment at its head, and the block of
+  text behind it, if one follows before the next, is the text of that workload's run.
+- A table with the columns Operation, Printed and Why has one row for each call of the workload that the link before it
+  names, in order.
+- A printed call, as `drop r2 = ok`, and a printed count, as `live 1`, is a line of some workload's text.
+- A line on the error output, as `riptide: not TOML`, is one that a refused input or a run that fails is compared with.
+
+It also tells which links of the pages lead nowhere, and which files that they name below crates/ aren't there.
+"""
+import re
+import sys
+from pathlib import Path
+
+TOP = Path(__file__).resolve().parent.parent
+DATA = TOP / "crates" / "check_workloads" / "data"
+WITH_OPERANDS = """
+    alloc table get put move set drop claim release add getp setp strong sget weak wget pair pget pdel group
+""".split()
+PRINTED = re.compile(rf"`((?:(?:{'|'.join(WITH_OPERANDS)}) [^`=]+|unclaim|collect|retire) = [^`]*|live \d+)`")
+TABLE = re.compile(r"^(.*)\n\n\| Operation \| Printed \| Why \|\n\|[-|]*\|\n((?:\|.*\n)+)", re.M)
+TOLD = re.compile(r"`(riptide: [^`]*)`")
+# The forms that a table gives in place of numbers and names, and the one line that nothing brings about for sure.
+FORMS = {"riptide: bad op A of mutator M", "riptide: no memory"}
+
+
+def workloads():
+    """Each workload without the comment at its head, with the path of its file."""
+    found = {}
+    for path in sorted(DATA.rglob("*.toml")):
+        if path.with_suffix(".txt").exists():
+            found[re.sub(r"\A(?:#.*\n)+\n", "", path.read_text())] = path
+    return found
+
+
+def texts():
+    return [path.with_suffix(".txt").read_text() for path in workloads().values()]
+
+
+def blocks(page):
+    """The fenced blocks of a page: what stands behind the fence, and the text."""
+    return re.findall(r"^```(\w*)\n(.*?)^```$", page, re.S | re.M)
+
+
+def blocks_differ(name, page):
+    known, path = workloads(), None
+    for language, text in blocks(page):
+        if language == "toml":
+            path = known.get(text)
+            if path is None:
+                yield f"{name}: no workload is this one:\n{text}"
+        elif language == "" and path is not None:
+            if path.with_suffix(".txt").read_text() != text:
+                yield f"{name}: the text of {path.stem} isn't this one:\n{text}"
+            path = None
+
+
+def tables_differ(name, page):
+    for before, table in TABLE.findall(page):
+        stem = re.search(r"\((?:[^()]*/)?(\w+)\.toml\)", before).group(1)
+        path = next(path for path in workloads().values() if path.stem == stem)
+        calls = [line for line in path.with_suffix(".txt").read_text().splitlines() if " = " in line]
+        shown = [row.split("|")[2].strip().strip("`") for row in table.splitlines()]
+        asked = [row.split("|")[1].strip().strip("`") for row in table.splitlines()]
+        if shown != calls[: len(shown)] or [line.split(" = ")[0] for line in shown] != asked:
+            yield f"{name}: the table of {stem} isn't its text"
+
+
+def spans_differ(name, page):
+    lines = {line for text in texts() for line in text.splitlines()}
+    for span in PRINTED.findall(page):
+        if span not in lines and not re.search(r"\b[A-Z]\b|\br[A-Z]\b", span):
+            yield f"{name}: no workload prints {span}"
+    compared = [*DATA.glob("*.txt"), *(DATA.parent / "src").rglob("*.rt")]
+    told = "\n".join(path.read_text() for path in compared)
+    for span in TOLD.findall(page):
+        if span not in FORMS and not re.search(rf"{re.escape(span)}(?:\"|$)", told, re.M):
+            yield f"{name}: nothing that the gate runs is told {span}"
+
+
+def paths_differ():
+    """The links of all pages, and the files that they name by a crate's folder."""
+    folders = [TOP / "crates", *(TOP / "crates").iterdir()]
+    pages = [TOP / "README.md", *(TOP / "docs").glob("*.md"), *(TOP / "crates").glob("*/README.md")]
+    for page in sorted(pages):
+        text = page.read_text()
+        for link in re.findall(r"\]\(([^()#:]+)(?:#[^()]*)?\)", text):
+            if not (page.parent / link).exists():
+                yield f"{page.relative_to(TOP)}: no file {link}"
+        for path in re.findall(r"`((?:\w+/)?(?:src|specs|proofs|data)/[\w/]+\.\w+)`", text):
+            if "NAME" not in path and not any((folder / path).exists() for folder in folders):
+                yield f"{page.relative_to(TOP)}: no file {path} in crates/"
+
+
+def main():
+    differ = 0
+    for message in paths_differ():
+        differ = 1
+        print(message)
+    for name in ("README.md", "docs/WORKLOAD.md"):
+        page = (TOP / name).read_text()
+        for message in (*blocks_differ(name, page), *tables_differ(name, page), *spans_differ(name, page)):
+            differ = 1
+            print(message)
+    return differ
+
+
+sys.exit(main())

@@ -1,0 +1,340 @@
+#!/usr/bin/env python3
+"""Writes the lists that follow from the tree, or tells which of them isn't what the tree says.
+
+    python3 docs/lists.py            writes them
+    python3 docs/lists.py --check    tells what differs, and ends with 1 where anything does
+
+- docs/DEFINITIONS.md: docs/reading-order.md, then each definition of specs/ that has a comment above it: those that the
+  clauses of the top call `riptide` rest on, and then the others, crate by crate.
+- README.md, between `<!-- map -->` and `<!-- end of map -->`: the crates by layers, from crates.txt and the first
+  sentence of each crate's root file.
+- docs/GATE.md, between `<!-- sizes -->` and `<!-- end of sizes -->`: the size of each crate. The columns of seconds are
+  measured, written by hand and kept.
+
+It also refuses a crates.txt in which a crate stands above one that it stands on, a README.md of a crate that names
+others than crates.txt under "What it stands on", and a reading order that names a definition that the clauses of
+`riptide` don't rest on, or leaves out a fact (a name in CamelCase) that they do.
+"""
+import re
+import sys
+from collections import deque
+from dataclasses import dataclass
+from pathlib import Path
+
+TOP = Path(__file__).resolve().parent.parent
+TOP_CRATE, TOP_CALL = "tide_run", "riptide"
+NAME = re.compile(r"[^\W\d][\w'-]*|◌\S+◌")
+USE = re.compile(r"^(?:unfoldable )?(pub )?use (Rattle\.[\w.]+?)\.?\{([^}]*)\}", re.M)
+GHOST_USE = re.compile(r"ghost use (Rattle\.[\w.]+?)\.?\{([^}]*)\}")
+HEAD = re.compile(r"^((?:abbrev |unfoldable |inline |pub |record |data )*)([^\s:(){}]+)\s*(?=[:({]|$)")
+FUNCTION = re.compile(r"^\s*(?:pub(?:\(crate\))? )?(?:const )?fn ", re.M)
+UNKNOWN = "—"
+
+
+# crates.txt
+
+
+def layers():
+    """The layers of crates.txt: what each says, and its crates with those that each stands on."""
+    found, listed = [("crates", [])], []
+    for line in (TOP / "crates.txt").read_text().splitlines()[1:]:
+        if line.startswith("#"):
+            found.append((line.lstrip("# ").strip(), []))
+        elif ":" in line:
+            name, below = line.split(":")
+            name, below = name.split()[0], below.split()
+            for other in below:
+                if (TOP / "crates" / other).is_dir() and other not in listed:
+                    sys.exit(f"crates.txt: {name} stands on {other}, which is not above it")
+            listed.append(name)
+            found[-1][1].append((name, below))
+    return [layer for layer in found if layer[1]]
+
+
+def crates():
+    return [name for _, here in layers() for name, _ in here]
+
+
+def readmes_differ():
+    """The crates whose README.md names others, first thing under its last heading, than crates.txt has for them."""
+    here = [(name, below) for _, crates_of_layer in layers() for name, below in crates_of_layer]
+    known = {name for name, _ in here} | {other for _, below in here for other in below}
+    for name, below in here:
+        path = TOP / "crates" / name / "README.md"
+        text = path.read_text() if path.exists() else ""
+        said = re.search(r"## What it stands on\n\n(.*)", text)
+        if not said or set(re.findall(r"`(\w+)`", said.group(1))) & known != set(below):
+            yield name
+
+
+def files_of(crate, part):
+    """The files of a crate's src/, specs/ or proofs/."""
+    ending = "*.rt" if part == "src" else "*.antt"
+    return sorted((TOP / "crates" / crate / part).rglob(ending))
+
+
+# The definitions of specs/
+
+
+@dataclass
+class Definition:
+    name: str
+    comment: str
+    module: "Module"
+    body: list
+    is_pub: bool
+    is_law: bool
+
+
+class Module:
+    """A file of specs/: its definitions, and what the names that it takes stand for."""
+
+    def __init__(self, crate, path):
+        self.crate, self.path = crate, path
+        text = path.read_text()
+        self.definitions, self.names = {}, {}
+        for match in USE.finditer(text):
+            self.names.update(names_of(match.group(2), match.group(3)))
+        self.read(re.sub(USE, "", text).splitlines())
+
+    def read(self, lines):
+        comment, here = [], None
+        for line in lines:
+            if line.startswith("--"):
+                comment.append(line[2:].strip())
+                continue
+            head = HEAD.match(line)
+            if head and line.strip() and head.group(2) not in ("use", "mod", "module", *self.definitions):
+                words, name = head.groups()
+                is_law = not re.search("abbrev|unfoldable|record|data", words)
+                here = Definition(name, sentence(comment), self, [], "pub " in words, is_law)
+                self.definitions[name] = here
+            if here:
+                here.body.append(line.split("--")[0])
+            comment = []
+
+def shown(path):
+    return path.relative_to(TOP / "crates").as_posix()
+
+
+def is_rows(path):
+    """Whether a file holds theorems by which definitions are checked, by its name."""
+    return re.search(r"Rows$|Examples$|^Worked", path.stem) is not None
+
+
+def comment_at_head(text):
+    lines = []
+    for line in text.splitlines():
+        if not line.startswith("--"):
+            break
+        lines.append(line[2:].strip())
+    return lines
+
+
+def sentence(lines):
+    text = " ".join(lines).strip()
+    if not text:
+        return ""
+    text = text[0].upper() + text[1:]
+    return text if text.endswith((".", ":")) else text + "."
+
+
+def names_of(module, listed):
+    """What each name of a list in braces stands for: the module and its name there."""
+    found = {}
+    for item in filter(None, (item.strip() for item in listed.split(","))):
+        there, _, here = item.partition(" as ")
+        found[(here or there).strip()] = (module, there.strip())
+    return found
+
+
+def modules():
+    found = {}
+    for crate in crates():
+        for path in files_of(crate, "specs"):
+            if path.name != "Lib.antt":
+                inside = ".".join(path.relative_to(TOP / "crates" / crate / "specs").with_suffix("").parts)
+                found[f"Rattle.{crate}.specs.{inside}"] = Module(crate, path)
+    return found
+
+
+def resolve(found, module, name):
+    """The definition that a name stands for in a module, through modules that hand it on."""
+    for _ in range(5):
+        here = found.get(module)
+        if here is None:
+            return None
+        if name in here.definitions:
+            return here.definitions[name]
+        if name not in here.names:
+            return None
+        module, name = here.names[name]
+    return None
+
+
+def code_of(crate):
+    return [path.read_text() for path in files_of(crate, "src")]
+
+
+def reached(found):
+    """The definitions that the clauses of the top call rest on, the nearest first."""
+    for text in code_of(TOP_CRATE):
+        contract = re.search(rf"^pub fn {TOP_CALL}\b.*?^\{{", text, re.S | re.M)
+        if contract:
+            break
+    else:
+        sys.exit(f"no function {TOP_CALL} in {TOP_CRATE}")
+    names = {}
+    for use in GHOST_USE.finditer(text):
+        names.update(names_of(*use.groups()))
+    cited = [resolve(found, *names[name]) for name in NAME.findall(contract.group(0)) if name in names]
+    keys = {id(module): key for key, module in found.items()}
+    queue, order, seen = deque(filter(None, cited)), [], set()
+    while queue:
+        definition = queue.popleft()
+        if id(definition) in seen:
+            continue
+        seen.add(id(definition))
+        order.append(definition)
+        for name in NAME.findall("\n".join(definition.body)):
+            other = resolve(found, keys[id(definition.module)], name)
+            if other:
+                queue.append(other)
+    return order
+
+
+# docs/DEFINITIONS.md
+
+
+def reading_order(order):
+    """The part by hand, once each of its names is one that the main statement rests on and no fact is left out.
+
+    A sentence that begins with "No clause of" may name others."""
+    text = (TOP / "docs" / "reading-order.md").read_text().rstrip()
+    steps = "\n".join(line for line in text.splitlines() if re.match(r"\d+\. ", line))
+    steps = re.sub(r"No clause of [^.]*\.", "", steps)
+    named = {name for name in re.findall(r"`(\w+)`", steps) if "_" in name or name[0].isupper()}
+    types = set(re.findall(r"^pub (?:struct|enum) (\w+)", "\n".join(t for c in crates() for t in code_of(c)), re.M))
+    lost = sorted(named - {d.name for d in order} - types - set(crates()))
+    if lost:
+        sys.exit("docs/reading-order.md names what the main statement doesn't rest on: " + ", ".join(lost))
+    left_out = [d.name for d in order if d.name[0].isupper() and d.name not in named]
+    if left_out:
+        sys.exit("docs/reading-order.md leaves out what the main statement rests on: " + ", ".join(left_out))
+    return text.splitlines()
+
+
+def table(definitions):
+    rows = ["| Definition | Says | In |", "|---|---|---|"]
+    for d in definitions:
+        rows.append(f"| `{d.name}` | {d.comment} | `{shown(d.module.path)}` |".replace("||", "\\|\\|"))
+    return rows
+
+
+def definitions_page():
+    found = modules()
+    order = [d for d in reached(found) if d.comment and not d.is_law]
+    lines = reading_order(order)
+    lines += ["", f"## What the clauses of `{TOP_CALL}` rest on", ""]
+    lines += ["Each definition that these clauses cite, or that one of these cites, the nearest first.", ""]
+    lines += table(order)
+    told = {id(d) for d in order}
+    lines += ["", "## The others, crate by crate"]
+    for crate in crates():
+        here = [m for m in found.values() if m.crate == crate and not is_rows(m.path)]
+        others = [d for m in here for d in m.definitions.values() if d.is_pub and d.comment and id(d) not in told]
+        if others:
+            lines += ["", f"### `{crate}`", ""] + table(others)
+    lines += ["", "## Rows by which definitions are checked", ""]
+    for crate in crates():
+        for path in filter(is_rows, files_of(crate, "specs") + files_of(crate, "proofs")):
+            lines.append(f"- `{shown(path)}`: {sentence(comment_at_head(path.read_text()))}")
+    return "\n".join(lines) + "\n"
+
+
+# The map in README.md and the sizes in docs/GATE.md
+
+
+def first_sentence(crate):
+    for name in ("lib.rt", "main.rt"):
+        path = TOP / "crates" / crate / "src" / name
+        if path.exists():
+            said = []
+            for line in path.read_text().splitlines():
+                if not line.startswith("//!") or line.strip() == "//!":
+                    break
+                said.append(line[3:].strip())
+            return re.split(r"(?<=[.])\s", " ".join(said))[0]
+    return ""
+
+
+def map_of_crates(_):
+    lines = []
+    for says, here in layers():
+        lines += [f"**{says[0].upper()}{says[1:]}**", "", "| Crate | What it is | Stands on |", "|---|---|---|"]
+        for name, below in here:
+            lines.append(f"| [`{name}`](crates/{name}) | {first_sentence(name)} | {', '.join(below)} |")
+        lines.append("")
+    return "\n".join(lines).rstrip()
+
+
+def sizes(old):
+    """The size of each crate, with the measured columns as they stand."""
+    measured = {}
+    for line in old.splitlines():
+        cells = [cell.strip() for cell in line.strip().strip("|").split("|")]
+        if len(cells) == 8:
+            measured[cells[0]] = cells[5:]
+    lines = ["| Crate | Lines of code | Functions | Lines of specs and proofs | Edits | Proof | Tests | Edits |"]
+    lines.append("|---|---|---|---|---|---|---|---|")
+    for crate in crates():
+        code = code_of(crate)
+        proofs = [path.read_text() for path in files_of(crate, "specs") + files_of(crate, "proofs")]
+        row = [f"`{crate}`", sum(text.count("\n") for text in code), sum(len(FUNCTION.findall(text)) for text in code)]
+        row.append(sum(text.count("\n") for text in proofs))
+        row.append(len(list((TOP / "crates" / crate / "must-fail").glob("*.edit"))))
+        row += measured.get(row[0], [UNKNOWN] * 3)
+        lines.append("| " + " | ".join(str(cell) for cell in row) + " |")
+    return "\n".join(lines)
+
+
+def between(path, name, write):
+    """A page with what stands between two of its lines written anew."""
+    begin, end = f"<!-- {name} -->\n\n", f"\n\n<!-- end of {name} -->"
+    text = path.read_text()
+    if begin not in text or end not in text:
+        sys.exit(f"{path.name} has no place for {name}")
+    before, rest = text.split(begin, 1)
+    old, after = rest.split(end, 1)
+    return before + begin + write(old) + end + after
+
+
+def pages():
+    readme, gate = TOP / "README.md", TOP / "docs" / "GATE.md"
+    return {
+        TOP / "docs" / "DEFINITIONS.md": definitions_page(),
+        readme: between(readme, "map", map_of_crates),
+        gate: between(gate, "sizes", sizes),
+    }
+
+
+def main():
+    if sys.argv[1:] not in ([], ["--check"]):
+        sys.exit(__doc__)
+    differ = 0
+    for name in readmes_differ():
+        differ = 1
+        print(f"crates/{name}/README.md doesn't say what it stands on as crates.txt does")
+    for path, text in pages().items():
+        if path.exists() and path.read_text() == text:
+            continue
+        if sys.argv[1:]:
+            differ = 1
+            print(f"{path.name} isn't what docs/lists.py writes: run it and commit what it wrote")
+        else:
+            path.write_text(text)
+            print(f"wrote {path.name}")
+    return differ
+
+
+sys.exit(main())
