@@ -7,7 +7,6 @@
 #![tactic(auto)]
 
 mod caller;
-mod draw;
 mod fact;
 mod heap;
 mod lines;
@@ -18,7 +17,6 @@ mod rows;
 mod system;
 
 pub use caller::Caller;
-pub use draw::Draw;
 pub use fact::{pair_text, region_of, value_of, word_of, word_text};
 pub use heap::Heap;
 pub use lines::{Checks, check_lines, tell_line};

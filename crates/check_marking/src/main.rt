@@ -14,6 +14,7 @@
 
 mod bench;
 mod chains;
+mod draw;
 mod heaps;
 mod marking;
 mod random;
