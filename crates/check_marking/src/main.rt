@@ -1,6 +1,5 @@
 //! The program `check_marking`: marks heaps of words by `tide_solver::solve` with the four constraints of a collector, runs
-//! single constraints and what a cycle's end does, and asks for words, places and classes. It compares what comes with
-//! what is expected.
+//! single constraints and what a cycle's end does, and compares what comes with what is expected.
 //!
 //! Each line of its input is one check. A FILE lies in the folder that it is run in, and its rows are done one by one:
 //!
