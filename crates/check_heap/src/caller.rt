@@ -1,6 +1,4 @@
 //! A plain store whose callers may ask anything: what it can't be asked is refused here.
-ghost use Rattle.std.specs.Prelude.{◌≡◌};
-ghost use Rattle.tide_model.specs.Schedule.{is_retire};
 
 use std::alloc::{AllocError, Global};
 use std::marker::Model;
@@ -8,13 +6,6 @@ use tide_layout::{Layout, fits};
 use tide_model::{Op, Reply};
 use tide_plain::PlainStore;
 use tide_shape::{Paths, Shapes};
-
-/// Whether an operation is to retire.
-fn is_retire(op: Op) -> bool
-    ensures { result ≡ is_retire op }
-{
-    matches!(op, Op::Retire)
-}
 
 /// The shapes of one path of 1 to 64 keys, or the empty shape alone where it isn't that.
 fn shapes(alloc: Global, path: &[u32]) -> Result<Shapes, AllocError> {
@@ -53,22 +44,17 @@ impl Caller {
         }
     }
 
-    /// Makes a mutator's call, and tells what it is answered. What the layout has no operands for isn't called.
+    /// Makes a mutator's call, and tells what it is answered. Where the layout has no operands for it, where the mutator
+    /// has retired, or where it would retire with a claim, nothing is called.
     pub fn call(&mut self, who: u32, op: Op) -> Option<Reply> {
         let is_active = who < u32::from(self.layout.mutators()) && self.store.is_active(who);
-        if !is_active || is_retire(op) || !fits(&self.layout, op) {
+        if !is_active || !fits(&self.layout, op) {
+            return None;
+        }
+        if op == Op::Retire && self.store.claims(who) > 0 {
             return None;
         }
         Some(self.store.call(who, op))
-    }
-
-    /// A mutator retires, if it claims nothing.
-    pub fn retire(&mut self, who: u32) -> Option<Reply> {
-        let is_active = who < u32::from(self.layout.mutators()) && self.store.is_active(who);
-        if !is_active || self.store.claims(who) > 0 {
-            return None;
-        }
-        Some(self.store.call(who, Op::Retire))
     }
 
     /// Frees the cells that nothing retains, and gives these in rising order.

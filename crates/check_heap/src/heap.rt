@@ -14,7 +14,7 @@ use tide_words::{Structure, VecWords, Words, structure_word, word_pair, word_str
 pub struct Heap {
     pub layout: Layout,
     pub words: VecWords,
-    ghost all_words: { length words ≡ words_of layout },
+    ghost all_words: { length words ≡ word_count layout },
 }
 
 impl Heap {

@@ -1,5 +1,5 @@
 //! What the check programs share: the loop over the lines of their input and over the rows of a file, the text of
-//! layouts, numbers and replies, random numbers, a plain store whose callers may ask anything, and heaps in
+//! layouts, numbers and replies, a plain store whose callers may ask anything, and heaps in
 //! words that are written a fact at a time.
 //!
 //! A row of a file is a name and lines, each of which is something to do, with the answer that is expected of it. What
@@ -7,7 +7,6 @@
 #![tactic(auto)]
 
 mod caller;
-mod draw;
 mod fact;
 mod heap;
 mod lines;
@@ -18,7 +17,6 @@ mod rows;
 mod system;
 
 pub use caller::Caller;
-pub use draw::Draw;
 pub use fact::{pair_text, region_of, value_of, word_of, word_text};
 pub use heap::Heap;
 pub use lines::{Checks, check_lines, tell_line};

@@ -29,7 +29,7 @@ fn size(layout: &Layout, region: Region) -> u32
 
 /// The place of a region's word, where there is one.
 pub fn place_of_word(layout: &Layout, region: Region, index: u32) -> Option<usize>
-    ensures { IfSome result (λ at. at < words_of layout.now) }
+    ensures { IfSome result (λ at. at < word_count layout.now) }
 {
     if index >= size(layout, region) {
         return None;
@@ -39,7 +39,7 @@ pub fn place_of_word(layout: &Layout, region: Region, index: u32) -> Option<usiz
 
 /// The place of a slot of a cell, or of a pair of a table, where there is one.
 pub fn place_of_slot(layout: &Layout, cell: u32, slot: u8) -> Option<usize>
-    ensures { IfSome result (λ at. at < words_of layout.now) }
+    ensures { IfSome result (λ at. at < word_count layout.now) }
 {
     if cell >= layout.cells() || slot >= width(class_of(layout, cell)) {
         return None;
@@ -49,7 +49,7 @@ pub fn place_of_slot(layout: &Layout, cell: u32, slot: u8) -> Option<usize>
 
 /// The place of an element of an array, where there is one.
 pub fn place_of_element(layout: &Layout, array: u32, place: u8) -> Option<usize>
-    ensures { IfSome result (λ at. at < words_of layout.now) }
+    ensures { IfSome result (λ at. at < word_count layout.now) }
 {
     if array >= layout.arrays() || place >= width(class_of_array(layout, array)) {
         return None;

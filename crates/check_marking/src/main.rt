@@ -1,6 +1,5 @@
 //! The program `check_marking`: marks heaps of words by `tide_solver::solve` with the four constraints of a collector, runs
-//! single constraints and what a cycle's end does, and asks for words, places and classes. It compares what comes with
-//! what is expected.
+//! single constraints and what a cycle's end does, and compares what comes with what is expected.
 //!
 //! Each line of its input is one check. A FILE lies in the folder that it is run in, and its rows are done one by one:
 //!
@@ -14,6 +13,7 @@
 
 mod bench;
 mod chains;
+mod draw;
 mod heaps;
 mod marking;
 mod random;
@@ -21,7 +21,7 @@ mod twin;
 
 use bench::Bench;
 use chains::check_chains;
-use check_heap::{Checks, System, check_lines, check_rows, number, word_count};
+use check_heap::{Checks, System, check_lines, check_rows, number, words_of};
 use heaps::Marked;
 use random::check_random;
 use std::io;
@@ -36,7 +36,7 @@ struct Program<'a, R> {
 impl<R: System> Checks for Program<'_, R> {
     fn check(&self, line: &str) -> io::Result<bool> {
         let rt = self.rt;
-        match *word_count(rt.alloc(), line)? {
+        match *words_of(rt.alloc(), line)? {
             ["heaps", file] => check_rows::<R, Marked>(rt, file),
             ["constraints", file] => check_rows::<R, Bench>(rt, file),
             ["random", seed, count] => match (number(seed), number(count)) {

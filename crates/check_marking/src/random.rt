@@ -1,8 +1,9 @@
 //! Random heaps, which a plain store collects and the solver marks.
 ghost use Rattle.std.specs.Prelude.{◌<◌};
 
+use crate::draw::Draw;
 use crate::twin::Twin;
-use check_heap::{Draw, System};
+use check_heap::System;
 use std::alloc::{AllocError, Global};
 use std::io;
 use tide_model::Op;

@@ -57,7 +57,6 @@ fn call(
     words: &[&str],
 ) -> Result<Option<String>, AllocError> {
     let reply = match op_of(words) {
-        Some(Op::Retire) => store.retire(who),
         Some(op) => store.call(who, op),
         None => None,
     };

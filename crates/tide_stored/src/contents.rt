@@ -19,9 +19,9 @@ use crate::handles::Handles;
 use crate::mutators::Mutators;
 use std::alloc::Global;
 use std::marker::Model;
+use tide_layout::Layout;
 use tide_model::Memory;
 use tide_shape::Shapes;
-use tide_layout::Layout;
 
 /// All that the plain store holds. Contracts see its layout, its shapes, and its state by `state_of`.
 #[derive(Drop)]
