@@ -55,13 +55,6 @@ fn append<T: Drop>(list: &mut Vec<T>, item: T) -> Result<(), Memory>
     }
 }
 
-/// How many blocks there are: those of cells, and then those of arrays.
-fn block_count(layout: &Layout) -> u32
-    ensures { result ≡ block_count layout.now }
-{
-    layout.cells() / 64 + layout.arrays() / 64
-}
-
 /// Records which of the first `count` blocks the last collection swept.
 fn record_sweeps(records: &mut Vec<Record>, store: &PlainStore, count: u32) -> Result<(), Memory>
     requires { count ≤ block_count (layout_of store.now) }
@@ -145,7 +138,7 @@ impl Runner {
         append(&mut self.records, Record::Paused { visits: kept })?;
         let freed = Ids::new(freed);
         append(&mut self.records, Record::Ended { cycle, freed, kept })?;
-        record_sweeps(&mut self.records, &self.store, block_count(&self.layout))?;
+        record_sweeps(&mut self.records, &self.store, self.layout.block_count())?;
         Ok(())
     }
 
