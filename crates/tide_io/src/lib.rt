@@ -8,6 +8,7 @@
 #![tactic(auto)]
 
 mod calls;
+mod gathering;
 mod mem_sink;
 mod mem_source;
 mod reading;
@@ -17,6 +18,7 @@ mod sink;
 mod source;
 mod writing;
 
+pub use gathering::{Gathered, PIECE};
 pub use mem_sink::MemSink;
 pub use mem_source::MemSource;
 pub use reading::{ReadError, read_up_to};

@@ -1,5 +1,5 @@
 //! A sink in memory, which fails where it is told to.
-ghost use Rattle.std.specs.Prelude.{◌≡◌, ◌↔◌, ◌<◌, ◌≤◌, [], Some, length, IfOk, IsErr, OnErr};
+ghost use Rattle.std.specs.Prelude.{◌≡◌, ◌↔◌, ◌<◌, ◌≤◌, [], Some, length, IfOk, IsErr, IsOk, OnErr};
 ghost use Rattle.std.specs.Io.KnownBytes.{WriteAppends};
 ghost use Rattle.tide_io.specs.Faults.{HasCause};
 
@@ -63,6 +63,8 @@ impl Sink for MemSink {
 
     ghost held = { λ s. Some s.held };
 
+    ghost waiting = { λ _. 0 };
+
     ghost faults = { λ s. s.calls.faults };
 
     fn write(&mut self, piece: &[u8]) -> Result<usize, Failed>
@@ -85,5 +87,12 @@ impl Sink for MemSink {
         let count = self.step.min(piece.len()).min(self.cap - self.held.len());
         self.held.extend_from_slice(&piece[..count]).unwrap();
         Ok(count)
+    }
+
+    /// Nothing waits here.
+    fn flush(&mut self) -> Result<(), Failed>
+        ensures { IsOk result × (self.new ≡ self.old) }
+    {
+        Ok(())
     }
 }

@@ -1,5 +1,5 @@
 //! A sink over any writer of std.
-ghost use Rattle.std.specs.Prelude.{◌≡◌, ◌<◌, ◌≤◌, None, length, take, IfNone, IfOk, IfSome, OnErr, OnOk};
+ghost use Rattle.std.specs.Prelude.{◌≡◌, ◌<◌, ◌≤◌, None, length, take, IfNone, IfOk, IfSome, IsOk, OnErr, OnOk};
 ghost use Rattle.std.specs.Io.KnownBytes.{Appends};
 ghost use Rattle.tide_io.specs.CallLog.{one_more};
 ghost use Rattle.tide_io.specs.Faults.{AppendsPart, HasCause};
@@ -38,6 +38,8 @@ impl<W: Write> RealSink<W> {
 impl<W: Write> Sink for RealSink<W> {
     ghost held = { λ _. None };
 
+    ghost waiting = { λ _. 0 };
+
     ghost faults = { λ s. s.faults };
 
     fn write(&mut self, piece: &[u8]) -> Result<usize, Failed>
@@ -60,6 +62,13 @@ impl<W: Write> Sink for RealSink<W> {
                 Err(Failed)
             }
         }
+    }
+
+    /// Nothing waits here, since each write is flushed.
+    fn flush(&mut self) -> Result<(), Failed>
+        ensures { IsOk result × (self.new ≡ self.old) }
+    {
+        Ok(())
     }
 }
 
