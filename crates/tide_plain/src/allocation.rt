@@ -18,7 +18,8 @@ fn bear(contents: &mut Contents, who: u32, dst: u8, cell: u32)
     requires mutator { who < contents.old.layout.mutators }
     requires register { dst < contents.old.layout.registers }
     requires cell { cell < cell_count contents.old.layout }
-    ensures { Leaves contents.old contents.new (put_register (put_cell (state_of contents.old) cell (blank_cell live)) who dst (Val.Cell cell)) }
+    ensures { Leaves contents.old contents.new (put_register
+        (put_cell (state_of contents.old) cell (blank_cell live)) who dst (Val.Cell cell)) }
 {
     contents.bear(cell);
     contents.fill(who, dst, Val::Cell(cell));

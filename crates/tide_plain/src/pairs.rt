@@ -29,9 +29,11 @@ fn pair_cells(contents: &Contents, who: u32, src: u8, key: u8) -> Result<PairCel
     requires caller { MayCall contents.now who }
     requires table_register { src < contents.now.layout.registers }
     requires key_register { key < contents.now.layout.registers }
-    ensures refused { IfErr result (λ refusal. (further : ℕ → ℕ → Option TheRefusal) → pair_refusal contents.now.layout (state_of contents.now) who src key further ≡ Some refusal) }
+    ensures refused { IfErr result (λ refusal. (further : ℕ → ℕ → Option TheRefusal) →
+        pair_refusal contents.now.layout (state_of contents.now) who src key further ≡ Some refusal) }
     ensures granted { IfOk result (λ cells. (further : ℕ → ℕ → Option TheRefusal) →
-        pair_refusal contents.now.layout (state_of contents.now) who src key further ≡ first_of (further cells.table cells.key ∷ [])) }
+        pair_refusal contents.now.layout (state_of contents.now) who src key further ≡
+        first_of (further cells.table cells.key ∷ [])) }
     ensures table { IfOk result (λ cells. (state_of contents.now).registers who src ≡ Cell cells.table) }
     ensures key { IfOk result (λ cells. (state_of contents.now).registers who key ≡ Cell cells.key) }
     ensures live { IfOk result (λ cells. IsLive (state_of contents.now) cells.table) }

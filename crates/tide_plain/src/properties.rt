@@ -50,7 +50,8 @@ fn property_holder(contents: &Contents, who: u32, src: u8) -> Result<u32, Refusa
 fn find_property(contents: &Contents, who: u32, src: u8, key: u32) -> Result<Property, Refusal>
     requires caller { MayCall contents.now who }
     requires register { src < contents.now.layout.registers }
-    ensures refused { IfErr result (λ refusal. property_refusal contents.now.layout (state_of contents.now) who src key ≡ Some refusal) }
+    ensures refused { IfErr result (λ refusal.
+        property_refusal contents.now.layout (state_of contents.now) who src key ≡ Some refusal) }
     ensures granted { OnOk result (property_refusal contents.now.layout (state_of contents.now) who src key ≡ None) }
     ensures cell { IfOk result (λ at. (state_of contents.now).registers who src ≡ Cell at.cell) }
     ensures live { IfOk result (λ at. IsLive (state_of contents.now) at.cell) }
@@ -100,8 +101,11 @@ pub fn set_property(contents: &mut Contents, who: u32, src: u8, key: u32, val: u
 fn extensible(contents: &Contents, who: u32, src: u8, key: u32) -> Result<u32, Refusal>
     requires caller { MayCall contents.now who }
     requires register { src < contents.now.layout.registers }
-    ensures refused { IfErr result (λ refusal. (val : ℕ) → refusal_of contents.now.layout contents.now.shapes (state_of contents.now) who (Add src key val) ≡ Some refusal) }
-    ensures granted { OnOk result ((val : ℕ) → refusal_of contents.now.layout contents.now.shapes (state_of contents.now) who (Add src key val) ≡ None) }
+    ensures refused { IfErr result (λ refusal. (val : ℕ) →
+        refusal_of contents.now.layout contents.now.shapes (state_of contents.now) who (Add src key val) ≡
+        Some refusal) }
+    ensures granted { OnOk result ((val : ℕ) →
+        refusal_of contents.now.layout contents.now.shapes (state_of contents.now) who (Add src key val) ≡ None) }
     ensures cell { IfOk result (λ cell. (state_of contents.now).registers who src ≡ Cell cell) }
     ensures live { IfOk result (λ cell. IsLive (state_of contents.now) cell) }
     ensures may { IfOk result (λ cell. may_add contents.now.shapes (state_of contents.now) cell key ≡ true) }

@@ -17,8 +17,10 @@ use tide_stored::Contents;
 fn slot_holder(contents: &Contents, who: u32, src: u8, slot: u8) -> Result<u32, Refusal>
     requires caller { MayCall contents.now who }
     requires register { src < contents.now.layout.registers }
-    ensures refused { IfErr result (λ refusal. slot_refusal contents.now.layout ((state_of contents.now).registers who src) src slot ≡ Some refusal) }
-    ensures granted { OnOk result (slot_refusal contents.now.layout ((state_of contents.now).registers who src) src slot ≡ None) }
+    ensures refused { IfErr result (λ refusal.
+        slot_refusal contents.now.layout ((state_of contents.now).registers who src) src slot ≡ Some refusal) }
+    ensures granted { OnOk result (slot_refusal contents.now.layout
+        ((state_of contents.now).registers who src) src slot ≡ None) }
     ensures holder { IfOk result (λ cell. (state_of contents.now).registers who src ≡ Cell cell) }
     ensures live { IfOk result (λ cell. IsLive (state_of contents.now) cell) }
     ensures slot { OnOk result (slot < 16) }

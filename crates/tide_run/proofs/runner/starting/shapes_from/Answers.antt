@@ -1,6 +1,6 @@
--- Answers to the goals of runner::starting::shapes_of.
+-- Answers to the goals of runner::starting::shapes_from.
 use Rattle.std.proofs.Common.{◌≡◌, ◌∙◌, None, Some, ap, sym, Err}
-use Rattle.tide_run.proofs.runner.starting.shapes_of.Goals as goal
+use Rattle.tide_run.proofs.runner.starting.shapes_from.Goals as goal
 
 pub unreachable-requires : goal.unreachable-requires
 unreachable-requires c =

@@ -2,7 +2,7 @@
 use Rattle.std.proofs.Common.{◌≤◌, length}
 use Rattle.std.specs.Prelude.{All}
 use Rattle.tide_shape.specs.Shapes.{IsPath}
-use Rattle.check_plain.proofs.shapes.shapes_of.Given as goal
+use Rattle.check_plain.proofs.shapes.shapes_from.Given as goal
 
 abbrev pub invariant-loop-path : goal.invariant-loop-path
 invariant-loop-path l = record {
