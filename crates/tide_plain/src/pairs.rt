@@ -9,10 +9,10 @@ ghost use Rattle.tide_model.specs.declared.val.Val.TheVariants.{Cell};
 ghost use Rattle.tide_stored.specs.Contents.{state_of};
 ghost use Rattle.tide_plain.specs.Calls.{IsCall, MayCall};
 
-use crate::allocation::TABLES;
 use crate::claims::holds;
 use crate::registers::cell_in;
 use tide_block::class_of;
+use tide_layout::TABLE;
 use tide_model::{Refusal, Reply};
 use tide_stored::Contents;
 
@@ -40,7 +40,7 @@ fn pair_cells(contents: &Contents, who: u32, src: u8, key: u8) -> Result<PairCel
 {
     let table = cell_in(contents, who, src)?;
     let key = cell_in(contents, who, key)?;
-    if class_of(contents.layout(), table) != TABLES {
+    if class_of(contents.layout(), table) != TABLE {
         return Err(Refusal::NotTable);
     }
     if !holds(contents, who, table) {

@@ -11,10 +11,10 @@ ghost use Rattle.tide_stored.specs.Contents.{state_of};
 ghost use Rattle.tide_plain.specs.Calls.{IsCall, MayCall};
 ghost use Rattle.tide_plain.specs.Properties.{holder_refusal};
 
-use crate::allocation::TABLES;
 use crate::claims::holds;
 use crate::registers::cell_in;
 use tide_block::class_of;
+use tide_layout::TABLE;
 use tide_model::{Refusal, Reply};
 use tide_stored::Contents;
 
@@ -37,7 +37,7 @@ fn property_holder(contents: &Contents, who: u32, src: u8) -> Result<u32, Refusa
     ensures live { IfOk result (λ cell. IsLive (state_of contents.now) cell) }
 {
     let cell = cell_in(contents, who, src)?;
-    if class_of(contents.layout(), cell) == TABLES {
+    if class_of(contents.layout(), cell) == TABLE {
         return Err(Refusal::IsTable);
     }
     if !holds(contents, who, cell) {

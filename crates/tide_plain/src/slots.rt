@@ -7,9 +7,9 @@ ghost use Rattle.tide_model.specs.declared.val.Val.TheVariants.{Cell};
 ghost use Rattle.tide_stored.specs.Contents.{state_of};
 ghost use Rattle.tide_plain.specs.Calls.{IsCall, MayCall};
 
-use crate::allocation::TABLES;
 use crate::registers::cell_in;
 use tide_block::{class_of, slots};
+use tide_layout::TABLE;
 use tide_model::{Op, Refusal, Reply};
 use tide_stored::Contents;
 
@@ -27,7 +27,7 @@ fn slot_holder(contents: &Contents, who: u32, src: u8, slot: u8) -> Result<u32, 
 {
     let cell = cell_in(contents, who, src)?;
     let class = class_of(contents.layout(), cell);
-    if class == TABLES {
+    if class == TABLE {
         return Err(Refusal::IsTable);
     }
     if slot >= slots(class) {

@@ -1,17 +1,16 @@
 //! Pairs: what a table has under key cells, and their changes.
 ghost use Rattle.std.specs.Prelude.{◌≡◌, ◌<◌, ◌&&◌, Some, None, nat_le, not, true, false, slice_set};
 
-use crate::cells::Pair;
 use crate::contents::Contents;
-use crate::pairs::{place_of, seat, value_of};
 use tide_model::Val;
+use tide_parts::{Pair, place_of, seat, value_of};
 
 impl Contents {
     ghost use Rattle.tide_model.specs.Applied.{put_cell, put_pair};
     ghost use Rattle.tide_model.specs.References.{IsLive, RefsAreLive};
     ghost use Rattle.tide_model.specs.Refused.{has_pair, pair_count};
     ghost use Rattle.tide_stored.specs.Contents.{state_of, stored_at, Leaves};
-    ghost use Rattle.tide_stored.specs.Stored.{pairs_of, IsDistinctPairs};
+    ghost use Rattle.tide_parts.specs.Pairs.{pairs_of, IsDistinctPairs};
 
     /// What a live table has under a key.
     pub fn pair(&self, table: u32, key: u32) -> Option<Val>
