@@ -37,8 +37,10 @@ impl Contents {
     pub fn set_pair(&mut self, table: u32, key: u32, value: Val) -> bool
         requires references { RefsAreLive (state_of self.old) }
         requires live { IsLive (state_of self.old) table }
-        ensures room { not result ≡ (not (has_pair (state_of self.old) table key) && nat_le 8 (pair_count self.old.layout (state_of self.old) table)) }
-        ensures leaves { result ≡ true → Leaves self.old self.new (put_pair (state_of self.old) table key (Some value)) }
+        ensures room { not result ≡ (not (has_pair (state_of self.old) table key) && nat_le 8
+            (pair_count self.old.layout (state_of self.old) table)) }
+        ensures leaves { result ≡ true →
+            Leaves self.old self.new (put_pair (state_of self.old) table key (Some value)) }
         ensures unchanged { result ≡ false → self.new ≡ self.old }
     {
         match seat(&self.cells.stored(table).pairs, key) {

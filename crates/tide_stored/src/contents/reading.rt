@@ -27,7 +27,8 @@ impl Contents {
     /// What a mutator's registers hold.
     pub fn registers(&self, who: u32) -> &[Val]
         requires { who < self.now.layout.mutators }
-        ensures { (register : ℕ) → slice_index_or result.now register Empty ≡ (state_of self.now).registers who register }
+        ensures { (register : ℕ) → slice_index_or result.now register Empty ≡
+            (state_of self.now).registers who register }
     {
         &self.mutators.stored(who).registers
     }

@@ -19,8 +19,10 @@ impl Contents {
         requires { class < 5 }
         ensures free { IfSome result (λ cell. IsFreeCellOf self.now.layout (state_of self.now) class cell) }
         ensures within { IfSome result (λ cell. cell < cell_count self.now.layout) }
-        ensures lowest { IfSome result (λ cell. (other : ℕ) → IsFreeCellOf self.now.layout (state_of self.now) class other → cell ≤ other) }
-        ensures full { IfNone result ((block : ℕ) → IsBlockOf self.now.layout class block → IsFullBlock self.now.layout (state_of self.now) block) }
+        ensures lowest { IfSome result (λ cell. (other : ℕ) →
+            IsFreeCellOf self.now.layout (state_of self.now) class other → cell ≤ other) }
+        ensures full { IfNone result ((block : ℕ) → IsBlockOf self.now.layout class block →
+            IsFullBlock self.now.layout (state_of self.now) block) }
     {
         let first = first_of(&self.layout, class);
         let end = first + BLOCK_SIZE * u32::from(self.layout.blocks(class));
@@ -33,8 +35,10 @@ impl Contents {
         requires largest { class < 10 }
         ensures free { IfSome result (λ array. IsFreeArrayOf self.now.layout (state_of self.now) class array) }
         ensures within { IfSome result (λ array. array < array_count self.now.layout) }
-        ensures lowest { IfSome result (λ array. (other : ℕ) → IsFreeArrayOf self.now.layout (state_of self.now) class other → array ≤ other) }
-        ensures full { IfNone result ((block : ℕ) → IsBlockOf self.now.layout class block → IsFullBlock self.now.layout (state_of self.now) block) }
+        ensures lowest { IfSome result (λ array. (other : ℕ) →
+            IsFreeArrayOf self.now.layout (state_of self.now) class other → array ≤ other) }
+        ensures full { IfNone result ((block : ℕ) → IsBlockOf self.now.layout class block →
+            IsFullBlock self.now.layout (state_of self.now) block) }
     {
         let first = first_array_of(&self.layout, class);
         let end = first + BLOCK_SIZE * u32::from(self.layout.blocks(class));
