@@ -9,7 +9,7 @@
 - README.md, between `<!-- map -->` and `<!-- end of map -->`: the crates by layers, from crates.txt and the first
   sentence of each crate's root file.
 - docs/GATE.md, between `<!-- sizes -->` and `<!-- end of sizes -->`: the size of each crate. The columns of seconds are
-  measured, written by hand and kept.
+  those of docs/seconds.txt, which docs/seconds.py measures.
 
 It also refuses a crates.txt in which a crate stands above one that it stands on, a README.md of a crate that names
 others than crates.txt under "What it stands on", and a reading order that names a definition that the clauses of
@@ -278,14 +278,17 @@ def map_of_crates(_):
     return "\n".join(lines).rstrip()
 
 
-def sizes(old):
-    """The size of each crate, with the measured columns as they stand."""
-    measured = {}
-    for line in old.splitlines():
-        cells = [cell.strip() for cell in line.strip().strip("|").split("|")]
-        if len(cells) == 8:
-            measured[cells[0]] = cells[5:]
-    lines = ["| Crate | Lines of code | Functions | Lines of specs and proofs | Edits | Proof | Tests | Edits |"]
+def measured():
+    """The processor seconds of each crate, as docs/seconds.py wrote them."""
+    path = TOP / "docs" / "seconds.txt"
+    rows = [line.split() for line in path.read_text().splitlines() if not line.startswith("#")] if path.exists() else []
+    return {name: seconds for name, *seconds in rows if len(seconds) == 3}
+
+
+def sizes(_):
+    """The size of each crate, and what it took of the processor when that was last measured."""
+    seconds = measured()
+    lines = ["| Crate | Lines of code | Functions | Lines of specs and proofs | Edits | Proof | Running | Edits |"]
     lines.append("|---|---|---|---|---|---|---|---|")
     for crate in crates():
         code = code_of(crate)
@@ -293,7 +296,7 @@ def sizes(old):
         row = [f"`{crate}`", sum(text.count("\n") for text in code), sum(len(FUNCTION.findall(text)) for text in code)]
         row.append(sum(text.count("\n") for text in proofs))
         row.append(len(list((TOP / "crates" / crate / "must-fail").glob("*.edit"))))
-        row += measured.get(row[0], [UNKNOWN] * 3)
+        row += seconds.get(crate, [UNKNOWN] * 3)
         lines.append("| " + " | ".join(str(cell) for cell in row) + " |")
     return "\n".join(lines)
 

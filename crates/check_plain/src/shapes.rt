@@ -19,7 +19,7 @@ pub struct Declared {
 }
 
 /// The shapes of at most 64 paths of 1 to 64 keys, or why there are none.
-fn shapes_of(
+fn shapes_from(
     alloc: Global,
     declared: &[Vec<u32>],
 ) -> Result<Result<Shapes, ShapesRefused>, AllocError> {
@@ -112,7 +112,7 @@ fn capacity_text(alloc: Global, count: Option<u32>) -> Result<Option<String>, Al
 impl Declared {
     /// Makes the shapes of the declared paths.
     fn make(&mut self, alloc: Global) -> Result<String, AllocError> {
-        match shapes_of(alloc, self.paths.as_slice())? {
+        match shapes_from(alloc, self.paths.as_slice())? {
             Ok(shapes) => {
                 self.shapes = Some(shapes);
                 text(alloc, "made")

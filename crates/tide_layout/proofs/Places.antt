@@ -7,7 +7,7 @@ use Rattle.std.specs.Prelude.{◌==◌, ◌&&◌}
 use Rattle.tide_model.specs.Layout.{Layout}
 use Rattle.tide_layout.specs.declared.region.Region.{Region}
 use Rattle.tide_layout.specs.declared.region.Region.TheVariants.{Period, Phase, Active, Call, Stopped, Registers, Strong, Weak, Colour, Structure, Array, Claim, Group, Slots, Elements, Free, Dead, GreyShared, GreyMutator, GreyRace, Swept}
-use Rattle.tide_layout.specs.Region.{regions, tag, size_of, base_of, word_count, place_of}
+use Rattle.tide_layout.specs.Region.{regions, tag, size_of, base_of, word_count, place_in}
 
 -- a region stands at its tag among all regions
 pub get_or-regions : (region : Region) → get_or regions (tag region) Period ≡ region
@@ -85,20 +85,20 @@ base_of-later layout one later before =
     omega (arith, within, at_front, at_one)
 
 -- the place of a word, as a region's start and an index
-pub place_of-is : (layout : Layout) (region : Region) (index : ℕ) → place_of layout region index ≡ base_of layout region + index
-unfolding place_of
-place_of-is layout region index = refl
+pub place_in-is : (layout : Layout) (region : Region) (index : ℕ) → place_in layout region index ≡ base_of layout region + index
+unfolding place_in
+place_in-is layout region index = refl
 
 -- each word's place is below the number of words
-pub place_of-below : (layout : Layout) (region : Region) (index : ℕ) → index < size_of layout region → place_of layout region index < word_count layout
-unfolding place_of
-place_of-below layout region index within = let ends = base_of-end layout region in omega (arith, ends)
+pub place_in-below : (layout : Layout) (region : Region) (index : ℕ) → index < size_of layout region → place_in layout region index < word_count layout
+unfolding place_in
+place_in-below layout region index within = let ends = base_of-end layout region in omega (arith, ends)
 
 -- words of different regions have different places
-pub place_of-other_region : (layout : Layout) (one other : Region) (index at : ℕ) → (tag one == tag other) ≡ false →
-    index < size_of layout one → at < size_of layout other → place_of layout one index ≡ place_of layout other at → ⊥
-unfolding place_of
-place_of-other_region layout one other index at apart in_one in_other same =
+pub place_in-other_region : (layout : Layout) (one other : Region) (index at : ℕ) → (tag one == tag other) ≡ false →
+    index < size_of layout one → at < size_of layout other → place_in layout one index ≡ place_in layout other at → ⊥
+unfolding place_in
+place_in-other_region layout one other index at apart in_one in_other same =
     elim (cases_order (tag one) (tag other)) [
       | inl equal ↦ eqb-false (tag one) (tag other) apart equal
       | inr ordered ↦ elim ordered [
@@ -108,38 +108,38 @@ place_of-other_region layout one other index at apart in_one in_other same =
     ]
 
 -- words of different indices have different places
-pub place_of-other_index : (layout : Layout) (region : Region) (index at : ℕ) → place_of layout region index ≡ place_of layout region at → index ≡ at
-unfolding place_of
-place_of-other_index layout region index at same = omega arith
+pub place_in-other_index : (layout : Layout) (region : Region) (index at : ℕ) → place_in layout region index ≡ place_in layout region at → index ≡ at
+unfolding place_in
+place_in-other_index layout region index at same = omega arith
 
 -- no two words share a place
-pub place_of-alone : (layout : Layout) (one other : Region) (index at : ℕ) → index < size_of layout one → at < size_of layout other →
-    place_of layout other at ≡ place_of layout one index → (other ≡ one) × (at ≡ index)
-place_of-alone layout one other index at in_one in_other same = elim (cases_eq (tag other) (tag one)) [
+pub place_in-alone : (layout : Layout) (one other : Region) (index at : ℕ) → index < size_of layout one → at < size_of layout other →
+    place_in layout other at ≡ place_in layout one index → (other ≡ one) × (at ≡ index)
+place_in-alone layout one other index at in_one in_other same = elim (cases_eq (tag other) (tag one)) [
   | inl equal ↦
       let is_one : other ≡ one = tag-injective other one equal in
-      (is_one, place_of-other_index layout one at index (ap (λ (r : Region). place_of layout r at) (sym is_one) ∙ same))
-  | inr apart ↦ absurd (place_of-other_region layout other one at index (ne_eqb (tag other) (tag one) apart) in_other in_one same)
+      (is_one, place_in-other_index layout one at index (ap (λ (r : Region). place_in layout r at) (sym is_one) ∙ same))
+  | inr apart ↦ absurd (place_in-other_region layout other one at index (ne_eqb (tag other) (tag one) apart) in_other in_one same)
 ]
 
 -- two places are equal exactly where region and index are
-pub place_of-equal : (layout : Layout) (one other : Region) (index at : ℕ) → index < size_of layout one → at < size_of layout other →
-    (place_of layout one index == place_of layout other at) ≡ ((tag one == tag other) && (index == at))
-place_of-equal layout one other index at in_one in_other = elim (cases_eq (tag one) (tag other)) [
+pub place_in-equal : (layout : Layout) (one other : Region) (index at : ℕ) → index < size_of layout one → at < size_of layout other →
+    (place_in layout one index == place_in layout other at) ≡ ((tag one == tag other) && (index == at))
+place_in-equal layout one other index at in_one in_other = elim (cases_eq (tag one) (tag other)) [
   | inl regions_same ↦
       let is_one : one ≡ other = tag-injective one other regions_same in
       let same_tag = eq-eqb (tag one) (tag other) regions_same in
       elim (cases_eq index at) [
         | inl same ↦
-            eq-eqb (place_of layout one index) (place_of layout other at) (ap (λ (r : Region). place_of layout r index) is_one ∙ ap (place_of layout other) same)
+            eq-eqb (place_in layout one index) (place_in layout other at) (ap (λ (r : Region). place_in layout r index) is_one ∙ ap (place_in layout other) same)
             ∙ sym (and_from (tag one == tag other) (index == at) same_tag (eq-eqb index at same))
         | inr apart ↦
-            ne_eqb (place_of layout one index) (place_of layout other at)
-            (λ equal. apart (place_of-other_index layout other index at (ap (λ (r : Region). place_of layout r index) (sym is_one) ∙ equal)))
+            ne_eqb (place_in layout one index) (place_in layout other at)
+            (λ equal. apart (place_in-other_index layout other index at (ap (λ (r : Region). place_in layout r index) (sym is_one) ∙ equal)))
             ∙ sym (and_right (tag one == tag other) (index == at) (ne_eqb index at apart))
       ]
   | inr apart ↦
-      ne_eqb (place_of layout one index) (place_of layout other at)
-      (place_of-other_region layout one other index at (ne_eqb (tag one) (tag other) apart) in_one in_other)
+      ne_eqb (place_in layout one index) (place_in layout other at)
+      (place_in-other_region layout one other index at (ne_eqb (tag one) (tag other) apart) in_one in_other)
       ∙ sym (and_left (tag one == tag other) (index == at) (ne_eqb (tag one) (tag other) apart))
 ]

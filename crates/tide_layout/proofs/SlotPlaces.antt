@@ -8,7 +8,7 @@ use Rattle.tide_model.specs.Layout.{Layout, cell_count, array_count}
 use Rattle.tide_layout.specs.declared.region.Region.TheVariants.{Registers, Slots, Elements}
 use Rattle.tide_layout.specs.Region.{index_of_register, place_of_element, place_of_slot, size_of, word_count}
 use Rattle.tide_layout.specs.Slots.{total_below, width_of_cell, width_of_array, words_before_cell, words_before_array, index_of_slot, index_of_element, HasSlot, HasElement}
-use Rattle.tide_layout.proofs.Places.{place_of-below, place_of-other_index}
+use Rattle.tide_layout.proofs.Places.{place_in-below, place_in-other_index}
 
 -- what a number adds is in the sum below each later one
 pub total_below-later : (f : ℕ → ℕ) (one later : ℕ) → one < later → total_below f one + f one ≤ total_below f later
@@ -95,22 +95,22 @@ pub place_of_slot-alone : (layout : Layout) (cell other slot at : ℕ) → slot 
     place_of_slot layout other at ≡ place_of_slot layout cell slot → (other ≡ cell) × (at ≡ slot)
 place_of_slot-alone layout cell other slot at in_one in_other same =
     index_of_slot-alone layout cell other slot at in_one in_other
-    (place_of-other_index layout Slots (index_of_slot layout other at) (index_of_slot layout cell slot) same)
+    (place_in-other_index layout Slots (index_of_slot layout other at) (index_of_slot layout cell slot) same)
 
 -- no two elements share a place
 pub place_of_element-alone : (layout : Layout) (array other element at : ℕ) → element < width_of_array layout array → at < width_of_array layout other →
     place_of_element layout other at ≡ place_of_element layout array element → (other ≡ array) × (at ≡ element)
 place_of_element-alone layout array other element at in_one in_other same =
     index_of_element-alone layout array other element at in_one in_other
-    (place_of-other_index layout Elements (index_of_element layout other at) (index_of_element layout array element) same)
+    (place_in-other_index layout Elements (index_of_element layout other at) (index_of_element layout array element) same)
 
 -- each slot's place is below the number of words
 pub place_of_slot-below : (layout : Layout) (cell slot : ℕ) → HasSlot layout cell slot → place_of_slot layout cell slot < word_count layout
-place_of_slot-below layout cell slot has = place_of-below layout Slots (index_of_slot layout cell slot) (index_of_slot-below layout cell slot has)
+place_of_slot-below layout cell slot has = place_in-below layout Slots (index_of_slot layout cell slot) (index_of_slot-below layout cell slot has)
 
 -- each element's place is below the number of words
 pub place_of_element-below : (layout : Layout) (array element : ℕ) → HasElement layout array element → place_of_element layout array element < word_count layout
-place_of_element-below layout array element has = place_of-below layout Elements (index_of_element layout array element) (index_of_element-below layout array element has)
+place_of_element-below layout array element has = place_in-below layout Elements (index_of_element layout array element) (index_of_element-below layout array element has)
 
 -- two indices of slots are equal exactly where cell and slot are
 pub index_of_slot-equal : (layout : Layout) (cell other slot at : ℕ) → slot < width_of_cell layout cell → at < width_of_cell layout other →

@@ -75,16 +75,16 @@ unfoldable pub word_count : Layout → ℕ
 word_count layout = sum_by (size_of layout) regions
 
 -- the place of a region's word
-unfoldable pub place_of : Layout → Region → ℕ → ℕ
-place_of layout region index = base_of layout region + index
+unfoldable pub place_in : Layout → Region → ℕ → ℕ
+place_in layout region index = base_of layout region + index
 
 -- the place of a cell's slot, or of a table's pair
 abbrev pub place_of_slot : Layout → ℕ → ℕ → ℕ
-place_of_slot layout cell slot = place_of layout Slots (index_of_slot layout cell slot)
+place_of_slot layout cell slot = place_in layout Slots (index_of_slot layout cell slot)
 
 -- the place of an array's element
 abbrev pub place_of_element : Layout → ℕ → ℕ → ℕ
-place_of_element layout array element = place_of layout Elements (index_of_element layout array element)
+place_of_element layout array element = place_in layout Elements (index_of_element layout array element)
 
 -- where among the words of all registers a mutator's register lies
 abbrev pub index_of_register : Layout → ℕ → ℕ → ℕ

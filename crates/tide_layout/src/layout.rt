@@ -58,7 +58,7 @@ impl Layout {
     ghost use Rattle.std.specs.Prelude.{◌≡◌, ◌<◌, ◌≤◌, All, ℕ};
     ghost use Rattle.tide_model.specs.Layout.{array_count, blocks_of, cell_count};
     ghost use Rattle.tide_layout.specs.Limits.{IsWithinLimits};
-    ghost use Rattle.tide_layout.specs.Region.{block_count, place_of, place_of_element, place_of_slot, size_of, word_count};
+    ghost use Rattle.tide_layout.specs.Region.{block_count, place_in, place_of_element, place_of_slot, size_of, word_count};
     ghost use Rattle.tide_layout.specs.Slots.{index_of_element, index_of_slot, width_of_array, width_of_cell, HasElement, HasSlot};
     ghost use Rattle.tide_layout.specs.declared.region.Region.{Region};
 
@@ -198,10 +198,10 @@ impl Layout {
     /// The place of a region's word. No other word has it.
     pub fn place(&self, region: Region, index: u32) -> usize
         requires { index < size_of self.now region }
-        ensures place { result ≡ place_of self.now region index }
+        ensures place { result ≡ place_in self.now region index }
         ensures within { result < word_count self.now }
         ensures alone { (other : Region) (at : ℕ) → at < size_of self.now other →
-            place_of self.now other at ≡ result → (other ≡ region) × (at ≡ index) }
+            place_in self.now other at ≡ result → (other ≡ region) × (at ≡ index) }
     {
         self.starts[usize::from(region.tag())] as usize + index as usize
     }

@@ -7,18 +7,17 @@ ghost use Rattle.tide_model.specs.State.{blank_cell, live};
 ghost use Rattle.tide_stored.specs.Contents.{state_of, Leaves};
 ghost use Rattle.tide_plain.specs.Calls.{IsCall, MayCall};
 
+use tide_layout::TABLE;
 use tide_model::{Op, Refusal, Reply, Val};
 use tide_stored::Contents;
-
-/// The class of the tables.
-pub const TABLES: u8 = 4;
 
 /// A cell is born into a mutator's register.
 fn bear(contents: &mut Contents, who: u32, dst: u8, cell: u32)
     requires mutator { who < contents.old.layout.mutators }
     requires register { dst < contents.old.layout.registers }
     requires cell { cell < cell_count contents.old.layout }
-    ensures { Leaves contents.old contents.new (put_register (put_cell (state_of contents.old) cell (blank_cell live)) who dst (Val.Cell cell)) }
+    ensures { Leaves contents.old contents.new (put_register
+        (put_cell (state_of contents.old) cell (blank_cell live)) who dst (Val.Cell cell)) }
 {
     contents.bear(cell);
     contents.fill(who, dst, Val::Cell(cell));
@@ -45,11 +44,11 @@ pub fn table(contents: &mut Contents, who: u32, dst: u8) -> Reply
     requires served { FitsLayout contents.old.layout (Op.Table dst) }
     ensures { IsCall contents.old contents.new who (Op.Table dst) result None }
 {
-    match contents.free_cell_of(TABLES) {
+    match contents.free_cell_of(TABLE) {
         Some(cell) => {
             bear(contents, who, dst, cell);
             Reply::Born(cell)
         }
-        None => Reply::Refused(Refusal::Full { class: TABLES }),
+        None => Reply::Refused(Refusal::Full { class: TABLE }),
     }
 }

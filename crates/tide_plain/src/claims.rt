@@ -25,7 +25,8 @@ pub fn holds(contents: &Contents, who: u32, cell: u32) -> bool
 
 /// The first mutator that claims a cell, if one does.
 fn holder_of(contents: &Contents, cell: u32) -> Option<u32>
-    ensures first { IfSome result (λ who. held_by (holders_of contents.now.layout (state_of contents.now) cell) ≡ Some (Held who)) }
+    ensures first { IfSome result (λ who. held_by (holders_of contents.now.layout (state_of contents.now) cell) ≡
+        Some (Held who)) }
     ensures none { IfNone result (held_by (holders_of contents.now.layout (state_of contents.now) cell) ≡ None) }
 {
     for who in 0..u32::from(contents.layout().mutators()) {
@@ -40,8 +41,10 @@ fn holder_of(contents: &Contents, cell: u32) -> Option<u32>
 fn claimable(contents: &Contents, who: u32, src: u8) -> Result<u32, Refusal>
     requires caller { MayCall contents.now who }
     requires register { src < contents.now.layout.registers }
-    ensures refused { IfErr result (λ refusal. refusal_of contents.now.layout contents.now.shapes (state_of contents.now) who (Claim src) ≡ Some refusal) }
-    ensures granted { OnOk result (refusal_of contents.now.layout contents.now.shapes (state_of contents.now) who (Claim src) ≡ None) }
+    ensures refused { IfErr result (λ refusal.
+        refusal_of contents.now.layout contents.now.shapes (state_of contents.now) who (Claim src) ≡ Some refusal) }
+    ensures granted { OnOk result (refusal_of contents.now.layout contents.now.shapes (state_of contents.now) who
+        (Claim src) ≡ None) }
     ensures cell { IfOk result (λ cell. (state_of contents.now).registers who src ≡ Cell cell) }
     ensures room { OnOk result (length ((state_of contents.now).claims who) < claims_most) }
 {
@@ -74,8 +77,10 @@ pub fn claim(contents: &mut Contents, who: u32, src: u8) -> Reply
 fn held(contents: &Contents, who: u32, src: u8) -> Result<u32, Refusal>
     requires caller { MayCall contents.now who }
     requires register { src < contents.now.layout.registers }
-    ensures refused { IfErr result (λ refusal. refusal_of contents.now.layout contents.now.shapes (state_of contents.now) who (Release src) ≡ Some refusal) }
-    ensures granted { OnOk result (refusal_of contents.now.layout contents.now.shapes (state_of contents.now) who (Release src) ≡ None) }
+    ensures refused { IfErr result (λ refusal.
+        refusal_of contents.now.layout contents.now.shapes (state_of contents.now) who (Release src) ≡ Some refusal) }
+    ensures granted { OnOk result (refusal_of contents.now.layout contents.now.shapes (state_of contents.now) who
+        (Release src) ≡ None) }
     ensures cell { IfOk result (λ cell. (state_of contents.now).registers who src ≡ Cell cell) }
 {
     let cell = cell_in(contents, who, src)?;

@@ -9,10 +9,10 @@ ghost use Rattle.tide_model.specs.declared.val.Val.TheVariants.{Cell};
 ghost use Rattle.tide_stored.specs.Contents.{state_of};
 ghost use Rattle.tide_plain.specs.Calls.{IsCall, MayCall};
 
-use crate::allocation::TABLES;
 use crate::claims::holds;
 use crate::registers::cell_in;
 use tide_block::class_of;
+use tide_layout::TABLE;
 use tide_model::{Refusal, Reply};
 use tide_stored::Contents;
 
@@ -29,16 +29,18 @@ fn pair_cells(contents: &Contents, who: u32, src: u8, key: u8) -> Result<PairCel
     requires caller { MayCall contents.now who }
     requires table_register { src < contents.now.layout.registers }
     requires key_register { key < contents.now.layout.registers }
-    ensures refused { IfErr result (λ refusal. (further : ℕ → ℕ → Option TheRefusal) → pair_refusal contents.now.layout (state_of contents.now) who src key further ≡ Some refusal) }
+    ensures refused { IfErr result (λ refusal. (further : ℕ → ℕ → Option TheRefusal) →
+        pair_refusal contents.now.layout (state_of contents.now) who src key further ≡ Some refusal) }
     ensures granted { IfOk result (λ cells. (further : ℕ → ℕ → Option TheRefusal) →
-        pair_refusal contents.now.layout (state_of contents.now) who src key further ≡ first_of (further cells.table cells.key ∷ [])) }
+        pair_refusal contents.now.layout (state_of contents.now) who src key further ≡
+        first_of (further cells.table cells.key ∷ [])) }
     ensures table { IfOk result (λ cells. (state_of contents.now).registers who src ≡ Cell cells.table) }
     ensures key { IfOk result (λ cells. (state_of contents.now).registers who key ≡ Cell cells.key) }
     ensures live { IfOk result (λ cells. IsLive (state_of contents.now) cells.table) }
 {
     let table = cell_in(contents, who, src)?;
     let key = cell_in(contents, who, key)?;
-    if class_of(contents.layout(), table) != TABLES {
+    if class_of(contents.layout(), table) != TABLE {
         return Err(Refusal::NotTable);
     }
     if !holds(contents, who, table) {

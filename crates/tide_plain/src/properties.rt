@@ -11,10 +11,10 @@ ghost use Rattle.tide_stored.specs.Contents.{state_of};
 ghost use Rattle.tide_plain.specs.Calls.{IsCall, MayCall};
 ghost use Rattle.tide_plain.specs.Properties.{holder_refusal};
 
-use crate::allocation::TABLES;
 use crate::claims::holds;
 use crate::registers::cell_in;
 use tide_block::class_of;
+use tide_layout::TABLE;
 use tide_model::{Refusal, Reply};
 use tide_stored::Contents;
 
@@ -37,7 +37,7 @@ fn property_holder(contents: &Contents, who: u32, src: u8) -> Result<u32, Refusa
     ensures live { IfOk result (λ cell. IsLive (state_of contents.now) cell) }
 {
     let cell = cell_in(contents, who, src)?;
-    if class_of(contents.layout(), cell) == TABLES {
+    if class_of(contents.layout(), cell) == TABLE {
         return Err(Refusal::IsTable);
     }
     if !holds(contents, who, cell) {
@@ -50,7 +50,8 @@ fn property_holder(contents: &Contents, who: u32, src: u8) -> Result<u32, Refusa
 fn find_property(contents: &Contents, who: u32, src: u8, key: u32) -> Result<Property, Refusal>
     requires caller { MayCall contents.now who }
     requires register { src < contents.now.layout.registers }
-    ensures refused { IfErr result (λ refusal. property_refusal contents.now.layout (state_of contents.now) who src key ≡ Some refusal) }
+    ensures refused { IfErr result (λ refusal.
+        property_refusal contents.now.layout (state_of contents.now) who src key ≡ Some refusal) }
     ensures granted { OnOk result (property_refusal contents.now.layout (state_of contents.now) who src key ≡ None) }
     ensures cell { IfOk result (λ at. (state_of contents.now).registers who src ≡ Cell at.cell) }
     ensures live { IfOk result (λ at. IsLive (state_of contents.now) at.cell) }
@@ -100,8 +101,11 @@ pub fn set_property(contents: &mut Contents, who: u32, src: u8, key: u32, val: u
 fn extensible(contents: &Contents, who: u32, src: u8, key: u32) -> Result<u32, Refusal>
     requires caller { MayCall contents.now who }
     requires register { src < contents.now.layout.registers }
-    ensures refused { IfErr result (λ refusal. (val : ℕ) → refusal_of contents.now.layout contents.now.shapes (state_of contents.now) who (Add src key val) ≡ Some refusal) }
-    ensures granted { OnOk result ((val : ℕ) → refusal_of contents.now.layout contents.now.shapes (state_of contents.now) who (Add src key val) ≡ None) }
+    ensures refused { IfErr result (λ refusal. (val : ℕ) →
+        refusal_of contents.now.layout contents.now.shapes (state_of contents.now) who (Add src key val) ≡
+        Some refusal) }
+    ensures granted { OnOk result ((val : ℕ) →
+        refusal_of contents.now.layout contents.now.shapes (state_of contents.now) who (Add src key val) ≡ None) }
     ensures cell { IfOk result (λ cell. (state_of contents.now).registers who src ≡ Cell cell) }
     ensures live { IfOk result (λ cell. IsLive (state_of contents.now) cell) }
     ensures may { IfOk result (λ cell. may_add contents.now.shapes (state_of contents.now) cell key ≡ true) }

@@ -16,7 +16,8 @@ pub fn cell_in(contents: &Contents, who: u32, register: u8) -> Result<u32, Refus
     requires register { register < contents.now.layout.registers }
     ensures cell { IfOk result (λ cell. (state_of contents.now).registers who register ≡ Cell cell) }
     ensures live { IfOk result (λ cell. IsLive (state_of contents.now) cell) }
-    ensures none { IfErr result (λ refusal. not_cell ((state_of contents.now).registers who register) register ≡ Some refusal) }
+    ensures none { IfErr result (λ refusal. not_cell ((state_of contents.now).registers who register) register ≡
+        Some refusal) }
 {
     match contents.register(who, register) {
         Val::Cell(cell) => Ok(cell),

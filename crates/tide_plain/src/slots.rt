@@ -7,9 +7,9 @@ ghost use Rattle.tide_model.specs.declared.val.Val.TheVariants.{Cell};
 ghost use Rattle.tide_stored.specs.Contents.{state_of};
 ghost use Rattle.tide_plain.specs.Calls.{IsCall, MayCall};
 
-use crate::allocation::TABLES;
 use crate::registers::cell_in;
 use tide_block::{class_of, slots};
+use tide_layout::TABLE;
 use tide_model::{Op, Refusal, Reply};
 use tide_stored::Contents;
 
@@ -17,15 +17,17 @@ use tide_stored::Contents;
 fn slot_holder(contents: &Contents, who: u32, src: u8, slot: u8) -> Result<u32, Refusal>
     requires caller { MayCall contents.now who }
     requires register { src < contents.now.layout.registers }
-    ensures refused { IfErr result (λ refusal. slot_refusal contents.now.layout ((state_of contents.now).registers who src) src slot ≡ Some refusal) }
-    ensures granted { OnOk result (slot_refusal contents.now.layout ((state_of contents.now).registers who src) src slot ≡ None) }
+    ensures refused { IfErr result (λ refusal.
+        slot_refusal contents.now.layout ((state_of contents.now).registers who src) src slot ≡ Some refusal) }
+    ensures granted { OnOk result (slot_refusal contents.now.layout
+        ((state_of contents.now).registers who src) src slot ≡ None) }
     ensures holder { IfOk result (λ cell. (state_of contents.now).registers who src ≡ Cell cell) }
     ensures live { IfOk result (λ cell. IsLive (state_of contents.now) cell) }
     ensures slot { OnOk result (slot < 16) }
 {
     let cell = cell_in(contents, who, src)?;
     let class = class_of(contents.layout(), cell);
-    if class == TABLES {
+    if class == TABLE {
         return Err(Refusal::IsTable);
     }
     if slot >= slots(class) {

@@ -116,7 +116,8 @@ pub(crate) fn values_in(
     least: usize,
     most: usize,
 ) -> Result<&[Value], Fault>
-    ensures value { result_map_both (λ values. map view values.now) (λ fault. fault) result ≡ values_in field least most (view value.now) }
+    ensures value { result_map_both (λ values. map view values.now) (λ fault. fault) result ≡
+        values_in field least most (view value.now) }
     ensures within { IfOk result (λ values. (least ≤ length values.now) × (length values.now ≤ most)) }
 {
     values_within(value, least, most).ok_or(Fault::Bad { field })

@@ -22,7 +22,8 @@ fn table_in(value: &Value) -> Result<&Table, Fault>
 
 /// The tables of a document's mutators.
 pub(crate) fn mutators_of(alloc: Global, document: &Table) -> Result<Vec<&Table>, Fault>
-    ensures tables { Gives (λ tables. map (λ table. table_view table.now) tables.items) result (mutators_of (table_view document.now)) }
+    ensures tables { Gives (λ tables. map (λ table. table_view table.now) tables.items)
+        result (mutators_of (table_view document.now)) }
     ensures some { IfOk result (λ tables. 1 ≤ length tables.items) }
     ensures few { IfOk result (λ tables. length tables.items ≤ MAX_MUTATORS) }
 {

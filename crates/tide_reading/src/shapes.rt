@@ -62,7 +62,8 @@ fn is_path(text: &[u8], words: &[&[u8]]) -> bool
 
 /// The words of a path's text.
 fn path_words(alloc: Global, text: &[u8]) -> Result<Option<Vec<&[u8]>>, AllocError>
-    ensures words { IfOk result (λ found. option_map (λ words. map (λ word. word.now) words.items) found ≡ path_words text.now) }
+    ensures words { IfOk result (λ found.
+        option_map (λ words. map (λ word. word.now) words.items) found ≡ path_words text.now) }
     ensures keys { IfOk result (λ found. IfSome found (λ words. are_keys (map (λ word. word.now) words.items) ≡ true)) }
 {
     let words = first_words(alloc, text, MAX_PATH + 1)?;
@@ -87,9 +88,11 @@ fn path_in(alloc: Global, value: &Value) -> Result<Vec<&[u8]>, Fault>
 
 /// The words of each path that a value declares.
 fn paths_in(alloc: Global, value: &Value) -> Result<Vec<Vec<&[u8]>>, Fault>
-    ensures words { Gives (λ paths. map (λ words. map (λ word. word.now) words.items) paths.items) result (paths_in (view value.now)) }
+    ensures words { Gives (λ paths. map (λ words. map (λ word. word.now) words.items) paths.items)
+        result (paths_in (view value.now)) }
     ensures few { IfOk result (λ paths. length paths.items ≤ 64) }
-    ensures keys { IfOk result (λ paths. All (λ words. are_keys (map (λ word. word.now) words.items) ≡ true) paths.items) }
+    ensures keys { IfOk result (λ paths.
+        All (λ words. are_keys (map (λ word. word.now) words.items) ≡ true) paths.items) }
 {
     let values = values_in(Field::Shapes, value, 0, MAX_PATHS)?;
     let mut paths = Vec::with_capacity(alloc, values.len())?;
@@ -139,7 +142,8 @@ fn numbers_of(alloc: Global, keys: &Keys, words: &[&[u8]]) -> Result<Vec<u32>, A
 /// Paths as the numbers of their keys.
 fn paths_by_number(alloc: Global, keys: &Keys, paths: &[Vec<&[u8]>]) -> Result<Paths, Fault>
     requires { length paths.now ≤ 64 }
-    ensures { Gives (λ numbers. numbers) result (Ok (paths_by_number keys.now (map (λ words. map (λ word. word.now) words.items) paths.now))) }
+    ensures { Gives (λ numbers. numbers) result
+        (Ok (paths_by_number keys.now (map (λ words. map (λ word. word.now) words.items) paths.now))) }
 {
     let mut numbers = Paths::new(alloc);
     for words in paths {
@@ -165,7 +169,8 @@ fn words_of_paths(alloc: Global, document: &Table) -> Result<Vec<Vec<&[u8]>>, Fa
     ensures words { Gives (λ paths. map (λ words. map (λ word. word.now) words.items) paths.items) result
         (or_default [] paths_in (get_member (name_of Field.Shapes) (table_view document.now))) }
     ensures few { IfOk result (λ paths. length paths.items ≤ 64) }
-    ensures keys { IfOk result (λ paths. All (λ words. are_keys (map (λ word. word.now) words.items) ≡ true) paths.items) }
+    ensures keys { IfOk result (λ paths.
+        All (λ words. are_keys (map (λ word. word.now) words.items) ≡ true) paths.items) }
 {
     match value_of(document, Field::Shapes) {
         Some(value) => paths_in(alloc, value),

@@ -13,11 +13,11 @@ use Rattle.tide_model.specs.Schedule.{IsScheduled, no_turn}
 use Rattle.tide_model.specs.Script.{script_of}
 use Rattle.tide_model.specs.State.{State}
 use Rattle.tide_plain.specs.Store.{shapes_of, state_of}
-use Rattle.tide_shape.specs.Shapes.{shapes_of as shapes_of_paths}
+use Rattle.tide_shape.specs.Shapes.{shapes_of_paths}
 use Rattle.tide_workload.specs.Words.{Settings, limits_with, Work, IsOperation, limits_of}
 use Rattle.tide_run.specs.declared.runner.Runner.{Runner}
 use Rattle.tide_run.specs.Runs.{layout_of_work, layout_with, IsRunOf, IsWhole, Ran}
-use Rattle.tide_run.specs.Runner.{claim_count, history_of, keys_of, HasServed, IsAskable, IsUnderway}
+use Rattle.tide_run.specs.Runner.{claim_count, history_of, keys_of, HasServed, IsAskable, TellsItsRun}
 use Rattle.tide_run.proofs.Serving.{HasServed-then}
 
 -- where nothing was run, the schedule holds
@@ -76,7 +76,7 @@ longer [] ys = omega arith
 longer (x ∷ xs) ys = let more = longer xs ys in omega (arith, more)
 
 -- the mutator did all that it was to do, from what each part of its run served
-IsWhole-served : (layout : Layout) (served over : Runner) (ops : List Op) → served.layout ≡ layout → IsUnderway served → script_of 0 (history_of served) ≡ ops →
+IsWhole-served : (layout : Layout) (served over : Runner) (ops : List Op) → served.layout ≡ layout → TellsItsRun served → script_of 0 (history_of served) ≡ ops →
     HasServed served over (replicate (claim_count served) Unclaim ++ Retire ∷ []) → IsWhole layout (history_of over) 0 ops
 IsWhole-served layout served over ops same underway done all =
     let before = history_of served in
@@ -100,10 +100,10 @@ pub record Ended (work : Work) (start served released over : Runner) (ops : List
   pub start_keys : keys_of start ≡ work.keys
   pub nothing : history_of start ≡ []
   pub served_all : HasServed start served ops
-  pub underway_then : IsUnderway served
+  pub underway_then : TellsItsRun served
   pub released_all : HasServed served released (replicate (claim_count served) Unclaim)
   pub retired : HasServed released over (Retire ∷ [])
-  pub underway : IsUnderway over
+  pub underway : TellsItsRun over
   pub same_layout : ran.layout ≡ over.layout
   pub same_keys : ran.keys ≡ keys_of over
   pub same_history : ran.history ≡ history_of over

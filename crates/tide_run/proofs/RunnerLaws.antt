@@ -22,10 +22,11 @@ use Rattle.tide_run.specs.declared.told.Answered.{Answered}
 use Rattle.tide_run.specs.declared.runner.Runner.{Runner}
 use Rattle.tide_run.specs.declared.told.Record.{Record}
 use Rattle.tide_run.specs.declared.told.Record.TheVariants.{Called, Began, Paused, Ended}
-use Rattle.tide_run.specs.Runner.{history_of, is_swept, keys_of, IsAskable, IsSameRun, IsUnderway, MadeCall, MayAsk, RanCycle}
+use Rattle.tide_run.specs.Runner.{history_of, is_swept, keys_of, IsAskable, IsSameRun, TellsItsRun, MadeCall, MayAsk, RanCycle}
 use Rattle.tide_run.specs.Told.{event_of, events_of, Tells, pair_of, sweeps_of, cycle_records}
 use Rattle.tide_run.proofs.CycleLaws.{IsCollected, IsWholeCycle-recorded, Tells-cycle, swept_blocks}
-use Rattle.tide_run.proofs.Telling.{StandsFull-now, Tells-by, Tells-nothing, Tells-push}
+use Rattle.tide_model.proofs.Windows.{StandsFull-now}
+use Rattle.tide_run.proofs.Telling.{Tells-by, Tells-nothing, Tells-push}
 
 -- an operation that isn't to retire may be asked for where its operands are there
 pub MayAsk-askable : (runner : Runner) (op : Op) → IsAskable runner.layout (keys_of runner) op → MayAsk runner op
@@ -42,9 +43,9 @@ IsAskable-same old new op same askable =
     (subst (λ (keys : List (List ℕ)). IsAskable old.layout keys op) (sym (ap (λ names. map (λ name. name.items) names.items) same.names)) askable)
 
 -- the runner is underway before anything was run
-pub IsUnderway-nothing : (runner : Runner) → runner.records.items ≡ [] → runner.answered.items ≡ [] → runner.cycles ≡ 0 → state_of runner.store ≡ empty_state →
-    layout_of runner.store ≡ runner.layout → runner.layout.mutators ≡ 1 → IsUnderway runner
-IsUnderway-nothing runner no_records no_calls no_cycles is_empty layout one = record {
+pub TellsItsRun-nothing : (runner : Runner) → runner.records.items ≡ [] → runner.answered.items ≡ [] → runner.cycles ≡ 0 → state_of runner.store ≡ empty_state →
+    layout_of runner.store ≡ runner.layout → runner.layout.mutators ≡ 1 → TellsItsRun runner
+TellsItsRun-nothing runner no_records no_calls no_cycles is_empty layout one = record {
   tells = Tells-by runner.layout (shapes_of runner.store) [] runner.records.items empty_state (state_of runner.store) 0 runner.cycles [] (map pair_of runner.answered.items)
       (sym no_records) (sym is_empty) (sym no_cycles) (ap (map pair_of) (sym no_calls)) (Tells-nothing runner.layout (shapes_of runner.store));
   layout = layout;
@@ -67,7 +68,7 @@ pub record DidCall (old new : Runner) (op : Op) (reply : Reply) (took : Option �
   pub cycles : new.cycles ≡ old.cycles
 
 -- a call is told
-Tells-call : (old new : Runner) (op : Op) (reply : Reply) (took : Option ℕ) → IsUnderway old → (state_of old.store).active 0 ≡ true → FitsLayout old.layout op →
+Tells-call : (old new : Runner) (op : Op) (reply : Reply) (took : Option ℕ) → TellsItsRun old → (state_of old.store).active 0 ≡ true → FitsLayout old.layout op →
     IsAnswer old.layout (shapes_of old.store) (state_of old.store) 0 op reply took →
     ((class : ℕ) → reply ≡ Refused (Full class) → (block : ℕ) → IsBlockOf old.layout class block → IsFullBlock old.layout (state_of old.store) block) →
     DidCall old new op reply took →
@@ -89,7 +90,7 @@ Tells-call old new op reply took underway active fits answers room did =
           (λ block of_class. subst (λ (s : State). IsFullBlock old.layout s block) (sym told.leaves) (room class is block of_class));
     }) tt)
 
-pub MadeCall-did : (old new : Runner) (op : Op) (reply : Reply) (took : Option ℕ) → IsUnderway old → (state_of old.store).active 0 ≡ true → MayAsk old op →
+pub MadeCall-did : (old new : Runner) (op : Op) (reply : Reply) (took : Option ℕ) → TellsItsRun old → (state_of old.store).active 0 ≡ true → MayAsk old op →
     DidCall old new op reply took → MadeCall old new op reply
 MadeCall-did old new op reply took underway active may did =
     let answers : IsAnswer old.layout (shapes_of old.store) (state_of old.store) 0 op reply took =
@@ -142,7 +143,7 @@ pub record DidCycle (old new : Runner) (freed : List ℕ) (kept : ℕ) (r1 r2 r3
   pub names : new.names ≡ old.names
   pub cycles : new.cycles ≡ old.cycles + 1
 
-pub RanCycle-did : (old new : Runner) (freed : List ℕ) (kept : ℕ) (r1 r2 r3 : List Record) → IsUnderway old → (state_of old.store).phase ≡ idle →
+pub RanCycle-did : (old new : Runner) (freed : List ℕ) (kept : ℕ) (r1 r2 r3 : List Record) → TellsItsRun old → (state_of old.store).phase ≡ idle →
     DidCycle old new freed kept r1 r2 r3 → RanCycle old new
 RanCycle-did old new freed kept r1 r2 r3 underway is_idle did =
     let layout = old.layout in

@@ -11,11 +11,9 @@ use Rattle.tide_model.specs.State.{State, empty_state}
 use Rattle.tide_model.specs.History.{after_event, state_after, is_begin, is_open, is_call_of}
 use Rattle.tide_model.specs.Refused.{ShapeLists}
 use Rattle.tide_model.specs.Lawful.{IsLawful, Stands}
-use Rattle.tide_model.specs.Room.{IsFullBlock, StandsFull}
 use Rattle.tide_model.specs.Script.{calls_of, own_calls}
 use Rattle.tide_model.specs.Cycle.{begin_count}
 use Rattle.tide_model.proofs.Histories.{state_after-push, IsLawful-nil, IsLawful-push, calls_of-append, push_cases, moment_after_last-le}
-use Rattle.tide_model.proofs.Cycles.{take-all}
 use Rattle.tide_run.specs.declared.told.Record.{Record}
 use Rattle.tide_run.specs.Told.{event_of, events_of, AreCounted, IsCounted, Tells}
 
@@ -59,15 +57,3 @@ pub Tells-by : (layout : Layout) (shapes : ShapeLists) (records others : List Re
 Tells-by layout shapes records others state other_state begins other_begins calls other_calls e1 e2 e3 e4 told =
     subst (λ (r : List Record). Tells layout shapes r other_state other_begins other_calls) e1
     (record { lawful = told.lawful; leaves = told.leaves ∙ e2; begun = told.begun ∙ e3; counted = told.counted; called = told.called ∙ e4 })
-
--- each block of the class is full right now, which is a moment of the window
-pub StandsFull-now : (layout : Layout) (history : List Event) (who class : ℕ) →
-    ((block : ℕ) → IsBlockOf layout class block → IsFullBlock layout (state_after layout history) block) → StandsFull layout history who class
-StandsFull-now layout history who class full block of_class =
-    let calls = moment_after_last-le (λ event. is_call_of who event.entry) history in
-    let opens = moment_after_last-le (λ event. is_open event.entry) history in (
-      length history,
-      omega (arith, calls, opens),
-      omega arith,
-      subst (λ (h : List Event). IsFullBlock layout (state_after layout h) block) (sym (take-all history)) (full block of_class),
-    )

@@ -20,7 +20,7 @@ use Rattle.tide_model.specs.Applied.{after_call}
 use Rattle.tide_plain.specs.Store.{state_of}
 use Rattle.tide_run.specs.declared.runner.Runner.{Runner}
 use Rattle.tide_run.specs.Asking.{asks_for_cycle}
-use Rattle.tide_run.specs.Runner.{history_of, IsReady, IsUnderway, MadeCall, RanCycle, RanTurn}
+use Rattle.tide_run.specs.Runner.{history_of, IsReady, TellsItsRun, MadeCall, RanCycle, RanTurn}
 use Rattle.tide_model.proofs.ActiveLaws.{active_after-call}
 
 -- the tests tell which operation and reply it is
@@ -133,7 +133,7 @@ IsScheduled-cycle layout before op reply took is_retry cycle scheduled pending a
     same false e other is = let both : None ≡ Some other = sym e ∙ is in absurd (cc)
 
 -- the room of a call, as its history has it
-full_after : (old new : Runner) (op : Op) (reply : Reply) → IsUnderway old → MadeCall old new op reply →
+full_after : (old new : Runner) (op : Op) (reply : Reply) → TellsItsRun old → MadeCall old new op reply →
     (class : ℕ) → reply ≡ Refused (Full class) → (block : ℕ) → IsBlockOf old.layout class block → IsFullBlock old.layout (state_after old.layout (history_of old)) block
 full_after old new op reply underway made class is block of_class =
     subst (λ (s : State). IsFullBlock old.layout s block) (sym underway.tells.leaves) (made.room class is block of_class)

@@ -34,7 +34,7 @@ abbrev pub keys_of : Runner → List (List ℕ)
 keys_of runner = map (λ name. name.items) runner.names.items
 
 -- the records tell what was run, and the store stands as it was left
-pub record IsUnderway (runner : Runner) : Type 0 where
+pub record TellsItsRun (runner : Runner) : Type 0 where
   pub tells : Tells runner.layout (shapes_of runner.store) runner.records.items (state_of runner.store) runner.cycles (map pair_of runner.answered.items)
   pub layout : layout_of runner.store ≡ runner.layout
   pub one_mutator : runner.layout.mutators ≡ 1
@@ -43,7 +43,7 @@ pub record IsUnderway (runner : Runner) : Type 0 where
 
 -- the mutator may make a call
 pub record IsReady (runner : Runner) : Type 0 where
-  pub underway : IsUnderway runner
+  pub underway : TellsItsRun runner
   pub active : (state_of runner.store).active 0 ≡ true
 
 -- the operation may be asked for: its operands are there, and it has a text; there is no claim where it is to retire
@@ -66,7 +66,7 @@ pub record IsSameRun (old new : Runner) : Type 0 where
 
 -- a call was made
 pub record MadeCall (old new : Runner) (op : Op) (reply : Reply) : Type 0 where
-  pub underway : IsUnderway new
+  pub underway : TellsItsRun new
   pub took : Option ℕ
   pub answers : IsAnswer old.layout (shapes_of old.store) (state_of old.store) 0 op reply took
   pub leaves : state_of new.store ≡ after_call (state_of old.store) 0 op reply took
@@ -77,7 +77,7 @@ pub record MadeCall (old new : Runner) (op : Op) (reply : Reply) : Type 0 where
 
 -- a whole cycle was run
 pub record RanCycle (old new : Runner) : Type 0 where
-  pub underway : IsUnderway new
+  pub underway : TellsItsRun new
   pub cycle : List Event
   pub whole : IsWholeCycle old.layout (history_of old) cycle
   pub history : history_of new ≡ history_of old ++ cycle
@@ -88,7 +88,7 @@ pub record RanCycle (old new : Runner) : Type 0 where
 
 -- a call was made, and the cycle after it where it asked for one
 pub record RanTurn (old new : Runner) (op : Op) (reply : Reply) : Type 0 where
-  pub underway : IsUnderway new
+  pub underway : TellsItsRun new
   pub scheduled : IsScheduled new.layout (history_of new)
   pub calls : calls_of 0 (history_of new) ≡ calls_of 0 (history_of old) ++ (op, reply) ∷ []
   pub grown : IsPrefix (history_of old) (history_of new)

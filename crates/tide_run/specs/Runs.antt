@@ -7,7 +7,7 @@ use Rattle.tide_model.specs.History.{state_at}
 use Rattle.tide_model.specs.Layout.{Layout}
 use Rattle.tide_model.specs.Schedule.{IsLegal}
 use Rattle.tide_model.specs.Script.{script_of}
-use Rattle.tide_shape.specs.Shapes.{shapes_of}
+use Rattle.tide_shape.specs.Shapes.{shapes_of_paths}
 use Rattle.tide_workload.specs.Words.{Settings, Work}
 
 -- the layout of the store, the names of the property keys by number, the history, and whether a heap kept it
@@ -51,5 +51,5 @@ pub record IsWhole (layout : Layout) (history : List Event) (mutator : ℕ) (ops
 pub record IsRunOf (work : Work) (ran : Ran) : Type 0 where
   pub layout : ran.layout ≡ layout_of_work work
   pub keys : ran.keys ≡ work.keys
-  pub legal : IsLegal (layout_of_work work) (shapes_of work.paths) ran.history
+  pub legal : IsLegal (layout_of_work work) (shapes_of_paths work.paths) ran.history
   pub whole : (mutator : ℕ) (ops : List Op) → slice_get work.scripts mutator ≡ Some ops → IsWhole (layout_of_work work) ran.history mutator ops

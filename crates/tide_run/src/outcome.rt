@@ -53,8 +53,10 @@ impl Outcome {
         calls: Vec<Answered>,
         live: u32,
     ) -> Outcome
-        requires { IsOutcome layout (map (λ name. name.items) names.items) (Kept.Own (record { records = records })) calls.items live }
-        ensures { result ≡ ran_of layout (map (λ name. name.items) names.items) (Kept.Own (record { records = records })) }
+        requires { IsOutcome layout (map (λ name. name.items) names.items) (Kept.Own (record {
+            records = records })) calls.items live }
+        ensures { result ≡ ran_of layout (map (λ name. name.items) names.items) (Kept.Own (record {
+            records = records })) }
     {
         let kept = Kept::Own(Told { records });
         Outcome {

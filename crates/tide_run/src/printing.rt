@@ -16,8 +16,10 @@ use tide_workload::{Workload, write_call, write_cycle, write_live, write_mutator
 /// Writes the line of each call.
 fn write_calls<K: Sink>(out: &mut K, load: &Workload, calls: &[Answered]) -> Result<(), Failed>
     requires { All (λ call. HasText load.now.keys call.op) calls.now }
-    ensures whole { OnOk result (Appends (K.held out.old) (K.held out.new) (flat_map (answered_line load.now.keys) calls.now)) }
-    ensures part { OnErr result (AppendsPart (K.held out.old) (K.held out.new) (flat_map (answered_line load.now.keys) calls.now)) }
+    ensures whole { OnOk result (Appends (K.held out.old) (K.held out.new) (flat_map
+        (answered_line load.now.keys) calls.now)) }
+    ensures part { OnErr result (AppendsPart (K.held out.old) (K.held out.new) (flat_map
+        (answered_line load.now.keys) calls.now)) }
     ensures cause { HasCause (K.faults out.old) (K.faults out.new) result }
 {
     for call in calls {
@@ -54,8 +56,10 @@ fn write_cycles<K: Sink>(out: &mut K, records: &[Record]) -> Result<(), Failed>
 fn write_calls_of<K: Sink>(out: &mut K, load: &Workload, outcome: &Outcome) -> Result<(), Failed>
     requires mutators { outcome.now.layout.mutators ≡ 1 }
     requires keys { outcome.now.keys ≡ load.now.keys }
-    ensures whole { OnOk result (Appends (K.held out.old) (K.held out.new) (call_lines outcome.now.keys (calls_of 0 outcome.now.history))) }
-    ensures part { OnErr result (AppendsPart (K.held out.old) (K.held out.new) (call_lines outcome.now.keys (calls_of 0 outcome.now.history))) }
+    ensures whole { OnOk result (Appends (K.held out.old) (K.held out.new) (call_lines outcome.now.keys
+        (calls_of 0 outcome.now.history))) }
+    ensures part { OnErr result (AppendsPart (K.held out.old) (K.held out.new) (call_lines outcome.now.keys
+        (calls_of 0 outcome.now.history))) }
     ensures cause { HasCause (K.faults out.old) (K.faults out.new) result }
 {
     write_calls(out, load, outcome.calls(0))
@@ -63,8 +67,10 @@ fn write_calls_of<K: Sink>(out: &mut K, load: &Workload, outcome: &Outcome) -> R
 
 /// Writes the lines of the cycles.
 fn write_cycles_of<K: Sink>(out: &mut K, outcome: &Outcome) -> Result<(), Failed>
-    ensures whole { OnOk result (Appends (K.held out.old) (K.held out.new) (cycles_from outcome.now.layout empty_state outcome.now.history)) }
-    ensures part { OnErr result (AppendsPart (K.held out.old) (K.held out.new) (cycles_from outcome.now.layout empty_state outcome.now.history)) }
+    ensures whole { OnOk result (Appends (K.held out.old) (K.held out.new)
+        (cycles_from outcome.now.layout empty_state outcome.now.history)) }
+    ensures part { OnErr result (AppendsPart (K.held out.old) (K.held out.new)
+        (cycles_from outcome.now.layout empty_state outcome.now.history)) }
     ensures cause { HasCause (K.faults out.old) (K.faults out.new) result }
 {
     write_cycles(out, outcome.records())
@@ -74,8 +80,10 @@ fn write_cycles_of<K: Sink>(out: &mut K, outcome: &Outcome) -> Result<(), Failed
 pub fn write_text<K: Sink>(out: &mut K, load: &Workload, outcome: &Outcome) -> Result<(), Failed>
     requires mutators { outcome.now.layout.mutators ≡ 1 }
     requires keys { outcome.now.keys ≡ load.now.keys }
-    ensures whole { OnOk result (Appends (K.held out.old) (K.held out.new) (text_of outcome.now.keys outcome.now.layout outcome.now.history)) }
-    ensures part { OnErr result (AppendsPart (K.held out.old) (K.held out.new) (text_of outcome.now.keys outcome.now.layout outcome.now.history)) }
+    ensures whole { OnOk result (Appends (K.held out.old) (K.held out.new)
+        (text_of outcome.now.keys outcome.now.layout outcome.now.history)) }
+    ensures part { OnErr result (AppendsPart (K.held out.old) (K.held out.new)
+        (text_of outcome.now.keys outcome.now.layout outcome.now.history)) }
     ensures cause { HasCause (K.faults out.old) (K.faults out.new) result }
 {
     write_mutator(out, 0)?;

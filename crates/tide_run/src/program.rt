@@ -67,7 +67,8 @@ fn take_workload<S: Source>(alloc: Global, source: &mut S) -> Result<Workload, S
     ensures reads { IfOk result (λ work. ReadWork (S.left source.old) (S.left source.new) work) }
     ensures usage { result ≢ Err Stop.Usage }
     ensures read_fault { result ≡ Err Stop.ReadFault → Rose (S.faults source.old) (S.faults source.new) }
-    ensures bad_input { (fault : FaultValue) → result ≡ Err (Stop.BadInput fault) → RefusedInput (S.left source.old) (S.left source.new) fault }
+    ensures bad_input { (fault : FaultValue) → result ≡ Err (Stop.BadInput fault) →
+        RefusedInput (S.left source.old) (S.left source.new) fault }
     ensures later { S.faults source.old ≤ S.faults source.new }
 {
     let bytes = match read_up_to(alloc, source, MAX_BYTES + 1) {
@@ -98,7 +99,8 @@ fn attempt<R: Threads + Sync, S: Source, T: Turnstile>(
     ensures one_word { OnOk result (length words.now ≤ 1) }
     ensures unread { result ≡ Err Stop.Usage → Keeps (S.left source.old) (S.left source.new) }
     ensures read_fault { result ≡ Err Stop.ReadFault → Rose (S.faults source.old) (S.faults source.new) }
-    ensures bad_input { (fault : FaultValue) → result ≡ Err (Stop.BadInput fault) → RefusedInput (S.left source.old) (S.left source.new) fault }
+    ensures bad_input { (fault : FaultValue) → result ≡ Err (Stop.BadInput fault) →
+        RefusedInput (S.left source.old) (S.left source.new) fault }
     ensures later { S.faults source.old ≤ S.faults source.new }
 {
     if words.len() > 1 {
@@ -124,11 +126,14 @@ fn print<K: Sink, E: Sink>(out: &mut K, err: &mut E, load: &Workload, outcome: O
     requires keys { outcome.keys ≡ load.now.keys }
     ensures status { (result.status ≡ 0) ⊎ (result.status ≡ 5) }
     ensures outcome { result.outcome ≡ Some outcome }
-    ensures printed { result.status ≡ 0 → Appends (K.held out.old) (K.held out.new) (text_of outcome.keys outcome.layout outcome.history) }
-    ensures part { result.status ≡ 5 → AppendsPart (K.held out.old) (K.held out.new) (text_of outcome.keys outcome.layout outcome.history) }
+    ensures printed { result.status ≡ 0 →
+        Appends (K.held out.old) (K.held out.new) (text_of outcome.keys outcome.layout outcome.history) }
+    ensures part { result.status ≡ 5 →
+        AppendsPart (K.held out.old) (K.held out.new) (text_of outcome.keys outcome.layout outcome.history) }
     ensures write_fault { result.status ≡ 5 → Rose (K.faults out.old) (K.faults out.new) }
     ensures quiet { result.status ≡ 0 → Keeps (E.held err.old) (E.held err.new) }
-    ensures told { result.status ≢ 0 → TellsLine (E.held err.old) (E.held err.new) (E.faults err.old) (E.faults err.new) (status_line result.status) }
+    ensures told { result.status ≢ 0 →
+        TellsLine (E.held err.old) (E.held err.new) (E.faults err.old) (E.faults err.new) (status_line result.status) }
     ensures later_out { K.faults out.old ≤ K.faults out.new }
     ensures later_err { E.faults err.old ≤ E.faults err.new }
 {
@@ -164,9 +169,12 @@ pub fn riptide<R: Threads + Sync, S: Source, K: Sink, E: Sink, T: Turnstile>(
     ensures status { IsStatus result.status }
 
     // What was run is a legal history of the workload that was read, each operation once and in its order.
-    ensures ran { (result.status ≡ 0) ⊎ (result.status ≡ 5) → IsSomeAnd result.outcome (RanInput (S.left source.old) (S.left source.new)) }
-    ensures printed { result.status ≡ 0 → IsSomeAnd result.outcome (λ ran. Appends (K.held out.old) (K.held out.new) (text_of ran.keys ran.layout ran.history)) }
-    ensures printed_part { result.status ≡ 5 → IsSomeAnd result.outcome (λ ran. AppendsPart (K.held out.old) (K.held out.new) (text_of ran.keys ran.layout ran.history)) }
+    ensures ran { (result.status ≡ 0) ⊎ (result.status ≡ 5) →
+        IsSomeAnd result.outcome (RanInput (S.left source.old) (S.left source.new)) }
+    ensures printed { result.status ≡ 0 → IsSomeAnd result.outcome (λ ran.
+        Appends (K.held out.old) (K.held out.new) (text_of ran.keys ran.layout ran.history)) }
+    ensures printed_part { result.status ≡ 5 → IsSomeAnd result.outcome (λ ran.
+        AppendsPart (K.held out.old) (K.held out.new) (text_of ran.keys ran.layout ran.history)) }
 
     // Where nothing was run, nothing is printed.
     ensures no_outcome { result.status ≢ 0 → result.status ≢ 5 → result.outcome ≡ None }
@@ -175,18 +183,24 @@ pub fn riptide<R: Threads + Sync, S: Source, K: Sink, E: Sink, T: Turnstile>(
     // Each answer but want of memory has its cause.
     ensures usage { (result.status ≡ 2) ↔ (1 < length words.now) }
     ensures unread { result.status ≡ 2 → Keeps (S.left source.old) (S.left source.new) }
-    ensures bad_input { result.status ≡ 3 → ToldFault (S.left source.old) (S.left source.new) (E.held err.old) (E.held err.new) (E.faults err.old) (E.faults err.new) }
+    ensures bad_input { result.status ≡ 3 →
+        ToldFault (S.left source.old) (S.left source.new)
+            (E.held err.old) (E.held err.new) (E.faults err.old) (E.faults err.new) }
     ensures read_fault { result.status ≡ 4 → Rose (S.faults source.old) (S.faults source.new) }
     ensures write_fault { result.status ≡ 5 → Rose (K.faults out.old) (K.faults out.new) }
 
     // What is accepted is run, and what is refused is refused, unless something failed or memory ran out.
-    ensures accepts { IfSome (S.left source.old) (λ bytes. length words.now ≤ 1 → IsOk (reads_workload (input_of bytes)) →
-        ¬ Rose (S.faults source.old) (S.faults source.new) → ¬ Rose (K.faults out.old) (K.faults out.new) → (result.status ≡ 0) ⊎ (result.status ≡ 6)) }
-    ensures refuses { IfSome (S.left source.old) (λ bytes. length words.now ≤ 1 → IsErr (reads_workload (input_of bytes)) →
+    ensures accepts { IfSome (S.left source.old) (λ bytes.
+        length words.now ≤ 1 → IsOk (reads_workload (input_of bytes)) →
+        ¬ Rose (S.faults source.old) (S.faults source.new) → ¬ Rose (K.faults out.old) (K.faults out.new) →
+        (result.status ≡ 0) ⊎ (result.status ≡ 6)) }
+    ensures refuses { IfSome (S.left source.old) (λ bytes.
+        length words.now ≤ 1 → IsErr (reads_workload (input_of bytes)) →
         ¬ Rose (S.faults source.old) (S.faults source.new) → (result.status ≡ 3) ⊎ (result.status ≡ 6)) }
 
     ensures quiet { result.status ≡ 0 → Keeps (E.held err.old) (E.held err.new) }
-    ensures told { result.status ≢ 0 → result.status ≢ 3 → TellsLine (E.held err.old) (E.held err.new) (E.faults err.old) (E.faults err.new) (status_line result.status) }
+    ensures told { result.status ≢ 0 → result.status ≢ 3 →
+        TellsLine (E.held err.old) (E.held err.new) (E.faults err.old) (E.faults err.new) (status_line result.status) }
 
     ensures source_faults { S.faults source.old ≤ S.faults source.new }
     ensures out_faults { K.faults out.old ≤ K.faults out.new }

@@ -13,7 +13,7 @@ mod starting;
 
 use crate::outcome::Outcome;
 use crate::told::{Answered, Record};
-use starting::{layout_with, names_of, shapes_of};
+use starting::{layout_with, names_of, shapes_from};
 use std::alloc::Global;
 use tide_layout::Layout;
 use tide_model::{Ids, Memory, Op, Refusal, Reply};
@@ -58,7 +58,8 @@ fn append<T: Drop>(list: &mut Vec<T>, item: T) -> Result<(), Memory>
 /// Records which of the first `count` blocks the last collection swept.
 fn record_sweeps(records: &mut Vec<Record>, store: &PlainStore, count: u32) -> Result<(), Memory>
     requires { count ≤ block_count (layout_of store.now) }
-    ensures { OnOk result (records.new.items ≡ records.old.items ++ sweeps_of (numbers_where (is_swept store.now) count)) }
+    ensures { OnOk result (records.new.items ≡
+        records.old.items ++ sweeps_of (numbers_where (is_swept store.now) count)) }
 {
     for block in 0..count {
         if store.swept(block) {
@@ -84,9 +85,9 @@ impl Runner {
     ghost use Rattle.tide_model.specs.declared.op.Op.TheVariants.{Unclaim, Retire};
     ghost use Rattle.tide_model.specs.declared.op.Reply.TheVariants.{Done};
     ghost use Rattle.tide_plain.specs.Store.{shapes_of, state_of};
-    ghost use Rattle.tide_shape.specs.Shapes.{shapes_of as shapes_of_paths};
+    ghost use Rattle.tide_shape.specs.Shapes.{shapes_of_paths};
     ghost use Rattle.tide_run.specs.Runs.{layout_with};
-    ghost use Rattle.tide_run.specs.Runner.{claim_count, history_of, keys_of, IsAskable, IsUnderway, IsReady, MayAsk, MadeCall, RanCycle, RanTurn, HasServed};
+    ghost use Rattle.tide_run.specs.Runner.{claim_count, history_of, keys_of, IsAskable, TellsItsRun, IsReady, MayAsk, MadeCall, RanCycle, RanTurn, HasServed};
 
     /// Nothing was run yet.
     pub fn new(alloc: Global, load: &Workload) -> Result<Runner, Memory>
@@ -99,7 +100,7 @@ impl Runner {
     {
         let layout = layout_with(load.settings());
         let names = names_of(alloc, load)?;
-        let shapes = shapes_of(alloc, load.paths())?;
+        let shapes = shapes_from(alloc, load.paths())?;
         let store = PlainStore::new(alloc, layout, shapes)?;
         Ok(Runner {
             layout,
@@ -126,7 +127,7 @@ impl Runner {
 
     /// Runs a whole cycle and records it.
     fn cycle(&mut self, alloc: Global) -> Result<(), Memory>
-        requires underway { IsUnderway self.old }
+        requires underway { TellsItsRun self.old }
         requires room { self.old.cycles < 2 ^ 64 - 1 }
         ensures { OnOk result (RanCycle self.old self.new) }
     {
@@ -234,7 +235,7 @@ impl Runner {
         requires no_retry { retry_of 0 (history_of self.old) ≡ None }
         requires released { claim_count self.old ≡ 0 }
         requires room { self.old.cycles < 2 ^ 64 - 1 }
-        ensures underway { OnOk result (IsUnderway self.new) }
+        ensures underway { OnOk result (TellsItsRun self.new) }
         ensures served { OnOk result (HasServed self.old self.new (Retire ∷ [])) }
     {
         self.turn(alloc, Op::Retire, false)?;
@@ -243,7 +244,7 @@ impl Runner {
 
     /// The outcome of the run.
     pub fn finish(self) -> Outcome
-        requires { IsUnderway self }
+        requires { TellsItsRun self }
         ensures layout { result.layout ≡ self.layout }
         ensures keys { result.keys ≡ keys_of self }
         ensures history { result.history ≡ history_of self }

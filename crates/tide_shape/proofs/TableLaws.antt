@@ -9,7 +9,7 @@ use Rattle.std.specs.List.{flat_map}
 use Rattle.std.specs.Prelude.{fold, slice_get, All, if◌then◌else◌}
 use Rattle.tide_model.specs.Refused.{ShapeLists, no_shapes, is_shape}
 use Rattle.tide_shape.specs.ShapeTable.{IsShapeTable, IsDistinct}
-use Rattle.tide_shape.specs.Shapes.{add_if_new, beginnings, names_twice, shapes_of, IsPath}
+use Rattle.tide_shape.specs.Shapes.{add_if_new, beginnings, names_twice, shapes_of_paths, IsPath}
 use Rattle.tide_shape.proofs.DoubleLaws.{IsDistinct-path}
 use Rattle.tide_shape.proofs.PathLaws.{length-beginnings, get_or-beginnings, length-add_if_new}
 
@@ -75,13 +75,13 @@ paths-are_table (path ∷ paths) shapes good table =
     (fold-is_table (beginnings path) shapes (beginnings-are_good path (All-head IsGood path paths good)) table))
 
 -- the shapes of paths that name no key twice are a table
-pub shapes_of-is_table : (paths : List (List ℕ)) → All IsPath paths → All (λ path. names_twice path ≡ false) paths → IsShapeTable (shapes_of paths)
-shapes_of-is_table paths sized once =
+pub shapes_of_paths-is_table : (paths : List (List ℕ)) → All IsPath paths → All (λ path. names_twice path ≡ false) paths → IsShapeTable (shapes_of_paths paths)
+shapes_of_paths-is_table paths sized once =
     paths-are_table paths no_shapes (λ k d within. record { short = (sized k d within).short; distinct = IsDistinct-path (get_or paths k d) (once k d within) }) no_shapes-is_table
 
 -- one path more
-pub shapes_of-push : (paths : List (List ℕ)) (path : List ℕ) → shapes_of (paths ++ path ∷ []) ≡ fold add_if_new (shapes_of paths) (beginnings path)
-shapes_of-push paths path =
+pub shapes_of_paths-push : (paths : List (List ℕ)) (path : List ℕ) → shapes_of_paths (paths ++ path ∷ []) ≡ fold add_if_new (shapes_of_paths paths) (beginnings path)
+shapes_of_paths-push paths path =
     ap (λ (xs : List (List ℕ)). fold add_if_new no_shapes xs)
     (flat_map-append beginnings paths (path ∷ []) ∙ ap (λ (xs : List (List ℕ)). flat_map beginnings paths ++ xs) (append-nil (beginnings path)))
     ∙ fold-append add_if_new no_shapes (flat_map beginnings paths) (beginnings path)
@@ -103,14 +103,14 @@ length-fold (keys ∷ lists) shapes =
 
 -- the first so many paths have been added
 pub record HasPaths (paths : List (List ℕ)) (count : ℕ) (shapes : ShapeLists) : Type 0 where
-  pub added : shapes ≡ shapes_of (take count paths)
+  pub added : shapes ≡ shapes_of_paths (take count paths)
   pub few : length shapes ≤ 1 + 64 * count
   pub empty : slice_get shapes 0 ≡ Some []
 
 pub HasPaths-more : (paths : List (List ℕ)) (count : ℕ) (path : List ℕ) (shapes grown : ShapeLists) → All IsPath paths → slice_get paths count ≡ Some path →
     HasPaths paths count shapes → grown ≡ fold add_if_new shapes (beginnings path) → HasPaths paths (count + 1) grown
 HasPaths-more paths count path shapes grown sized is h grew = record {
-  added = grew ∙ ap (λ (xs : ShapeLists). fold add_if_new xs (beginnings path)) h.added ∙ sym (shapes_of-push (take count paths) path) ∙ ap shapes_of (sym longer);
+  added = grew ∙ ap (λ (xs : ShapeLists). fold add_if_new xs (beginnings path)) h.added ∙ sym (shapes_of_paths-push (take count paths) path) ∙ ap shapes_of_paths (sym longer);
   few =
       let had = h.few in
       let short : length path ≤ 64 = subst (λ (p : List ℕ). length p ≤ 64) here (sized count [] within).short in

@@ -15,8 +15,8 @@ add_if_new shapes keys = if is_shape shapes keys then shapes else shapes ++ keys
 
 -- the shapes of some paths: the empty one, and then each beginning of a path in the order in which the paths, from
 -- first to last and from their front, meet them new
-abbrev pub shapes_of : List (List ℕ) → ShapeLists
-shapes_of paths = fold add_if_new no_shapes (flat_map beginnings paths)
+abbrev pub shapes_of_paths : List (List ℕ) → ShapeLists
+shapes_of_paths paths = fold add_if_new no_shapes (flat_map beginnings paths)
 
 -- the path names a key twice
 abbrev pub names_twice : List ℕ → Bool

@@ -1,7 +1,7 @@
 //! The shapes that declared paths have. How they are found stands in the tree.
 ghost use Rattle.std.specs.Prelude.{◌≡◌, ◌==◌, ◌↔◌, ◌<◌, ◌≤◌, ℕ, Some, position, length, All, IfOk, IfSome, Err};
 ghost use Rattle.tide_shape.specs.ShapeTable.{IsShapeTable};
-ghost use Rattle.tide_shape.specs.Shapes.{first_double, names_twice, shapes_of, IsPath};
+ghost use Rattle.tide_shape.specs.Shapes.{first_double, names_twice, shapes_of_paths, IsPath};
 
 use crate::tree::Tree;
 use crate::{Paths, ShapeTable, ShapesRefused};
@@ -42,7 +42,7 @@ pub fn double_path(paths: &Paths) -> Option<u32>
 fn tree_of(alloc: Global, paths: &Paths) -> Result<Tree, AllocError>
     requires few { length paths.now ≤ 64 }
     requires sized { All IsPath paths.now }
-    ensures { IfOk result (λ tree. tree ≡ shapes_of paths.now) }
+    ensures { IfOk result (λ tree. tree ≡ shapes_of_paths paths.now) }
 {
     let mut tree = Tree::new(alloc)?;
     for path in 0..paths.len() {
@@ -67,8 +67,9 @@ impl Shapes {
     pub fn new(alloc: Global, paths: &Paths) -> Result<Shapes, ShapesRefused>
         requires few { length paths.now ≤ 64 }
         requires sized { All IsPath paths.now }
-        ensures shapes { IfOk result (λ shapes. lists_of shapes ≡ shapes_of paths.now) }
-        ensures double { (path : ℕ) → (result ≡ Err (ShapesRefused.DoubleKey path)) ↔ (first_double paths.now ≡ Some path) }
+        ensures shapes { IfOk result (λ shapes. lists_of shapes ≡ shapes_of_paths paths.now) }
+        ensures double { (path : ℕ) → (result ≡ Err (ShapesRefused.DoubleKey path)) ↔ (first_double paths.now ≡
+            Some path) }
     {
         if let Some(path) = double_path(paths) {
             return Err(ShapesRefused::DoubleKey { path });

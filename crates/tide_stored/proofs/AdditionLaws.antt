@@ -1,5 +1,5 @@
 -- What a look-up of a key tells, and what a cell that gets one more property goes through.
-use Rattle.std.proofs.Common.{ℕ, ◌≡◌, ◌≢◌, ◌<◌, ◌≤◌, refl, sym, ◌∙◌, ap, subst, arith, Bool, true, false, List, [], ◌∷◌, ◌++◌, length, get_or, length-append, Option, None, Some}
+use Rattle.std.proofs.Common.{ℕ, ◌≡◌, ◌<◌, ◌≤◌, refl, sym, ◌∙◌, ap, arith, Bool, true, false, List, [], ◌∷◌, ◌++◌, length, get_or, length-append, Option, None, Some}
 use Rattle.std.proofs.lemmas.Bool.{eq-eqb, ne_eqb, eqb-true, false_from_ne_true}
 use Rattle.std.proofs.lemmas.Option.{cond_some, slice_get_within, get_or_from_slice_get}
 use Rattle.std.specs.List.{position_or_len}
@@ -13,16 +13,16 @@ use Rattle.tide_model.specs.Refused.{ShapeLists, is_shape}
 use Rattle.tide_model.specs.References.{IsLive, RefsAreLive}
 use Rattle.tide_model.specs.State.{State, CellState, free, live}
 use Rattle.tide_model.proofs.NumberLaws.{among_from_contains, contains_from_among}
-use Rattle.tide_shape.specs.ShapeTable.{keys_of}
 use Rattle.tide_shape.proofs.ShapesLaws.{is_shape-Decides, Contains-slice_get}
-use Rattle.tide_stored.specs.declared.arrays.ArrayStatus.{ArrayStatus}
-use Rattle.tide_stored.specs.declared.cells.StoredCell.{StoredCell}
-use Rattle.tide_stored.specs.Changes.{elements_of}
-use Rattle.tide_stored.specs.Stored.{Stored, arrays_of, properties_of}
+use Rattle.tide_parts.specs.declared.arrays.ArrayStatus.{ArrayStatus}
+use Rattle.tide_parts.specs.declared.cells.StoredCell.{StoredCell}
+use Rattle.tide_parts.specs.Changes.{elements_of}
+use Rattle.tide_parts.specs.PartLists.{arrays_of}
+use Rattle.tide_stored.specs.Stored.{Stored, properties_of}
 use Rattle.tide_stored.specs.Contents.{state_of, stored_at, IsSound, IsStored}
 use Rattle.tide_stored.specs.Properties.{with_array, with_property, IsOwnArray}
 use Rattle.tide_stored.proofs.PropertyLaws.{own-stored, own_within, state_of-exchange}
-use Rattle.tide_stored.proofs.Copies.{get_or-copies}
+use Rattle.tide_parts.proofs.Copies.{get_or-copies}
 
 -- where a key stands, and that it stands nowhere
 pub place_of-position : (keys : List ℕ) (key place : ℕ) → Some place ≡ position (λ other. other == key) keys → place ≡ place_of keys key

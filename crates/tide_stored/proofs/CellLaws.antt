@@ -11,8 +11,9 @@ use Rattle.tide_model.specs.Refused.{ShapeLists}
 use Rattle.tide_model.specs.References.{IsLive}
 use Rattle.tide_model.specs.State.{CellState, live, free, blank_cell}
 use Rattle.tide_stored.specs.Stored.{Stored}
-use Rattle.tide_stored.specs.declared.cells.StoredCell.{StoredCell}
-use Rattle.tide_stored.specs.Stored.{blank_stored, live_cell, cells_of}
+use Rattle.tide_parts.specs.declared.cells.StoredCell.{StoredCell}
+use Rattle.tide_parts.specs.PartLists.{blank_stored}
+use Rattle.tide_stored.specs.Stored.{live_cell, cells_of}
 use Rattle.tide_stored.specs.Contents.{state_of, IsStored}
 
 -- a cell is live where it is so marked

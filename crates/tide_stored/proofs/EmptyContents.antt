@@ -9,12 +9,13 @@ use Rattle.tide_model.specs.State.{State, blank_cell, free, live, empty_state}
 use Rattle.tide_layout.specs.Limits.{IsWithinLimits}
 use Rattle.tide_shape.specs.ShapeTable.{IsShapeTable}
 use Rattle.tide_stored.specs.Stored.{Stored}
-use Rattle.tide_stored.specs.declared.mutators.StoredMutator.{StoredMutator}
-use Rattle.tide_stored.specs.declared.arrays.ArrayStatus.{ArrayStatus}
-use Rattle.tide_stored.specs.declared.arrays.ArrayStatus.TheVariants.{Free}
-use Rattle.tide_stored.specs.Stored.{blank_mutator, blank_stored, no_elements, mutator_at, status_of, live_cell}
+use Rattle.tide_parts.specs.declared.mutators.StoredMutator.{StoredMutator}
+use Rattle.tide_parts.specs.declared.arrays.ArrayStatus.{ArrayStatus}
+use Rattle.tide_parts.specs.declared.arrays.ArrayStatus.TheVariants.{Free}
+use Rattle.tide_parts.specs.PartLists.{blank_mutator, blank_stored, no_elements, mutator_at, status_of}
+use Rattle.tide_stored.specs.Stored.{live_cell}
 use Rattle.tide_stored.specs.Contents.{state_of, IsStored}
-use Rattle.tide_stored.proofs.Copies.{get_or-copies}
+use Rattle.tide_parts.proofs.Copies.{get_or-copies}
 
 -- every list is of copies of what is blank, as many as the layout says
 pub record IsBlank (contents : Stored) : Type 0 where

@@ -6,13 +6,14 @@ use Rattle.std.specs.Prelude.{if◌then◌else◌}
 use Rattle.tide_model.specs.declared.val.Val.TheVariants.{Empty}
 use Rattle.tide_model.specs.State.{CellState, free, dead, blank_cell}
 use Rattle.tide_shape.specs.ShapeTable.{keys_of}
-use Rattle.tide_stored.specs.declared.arrays.ArrayStatus.{ArrayStatus}
-use Rattle.tide_stored.specs.declared.arrays.ArrayStatus.TheVariants.{Free, Live, Spent}
-use Rattle.tide_stored.specs.declared.mutators.StoredMutator.{StoredMutator}
-use Rattle.tide_stored.specs.Stored.{Stored, blank_mutator, blank_stored, live_cell, mutator_at, status_of}
+use Rattle.tide_parts.specs.declared.arrays.ArrayStatus.{ArrayStatus}
+use Rattle.tide_parts.specs.declared.arrays.ArrayStatus.TheVariants.{Free, Live, Spent}
+use Rattle.tide_parts.specs.declared.mutators.StoredMutator.{StoredMutator}
+use Rattle.tide_parts.specs.PartLists.{blank_mutator, blank_stored, mutator_at, status_of}
+use Rattle.tide_stored.specs.Stored.{Stored, live_cell}
 use Rattle.tide_stored.specs.Contents.{state_of, stored_at, IsStored, IsWithinLayout}
 use Rattle.tide_stored.proofs.CellLaws.{live_below}
-use Rattle.tide_stored.proofs.Copies.{get_or-copies}
+use Rattle.tide_parts.proofs.Copies.{get_or-copies}
 use Rattle.tide_stored.proofs.StoredCellLaws.{live_is-stored}
 
 -- no stored status is dead

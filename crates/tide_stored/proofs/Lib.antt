@@ -1,14 +1,10 @@
 pub mod AdditionLaws
 pub mod CellLaws
 pub mod ClassLaws
-pub mod Copies
 pub mod EmptyContents
-pub mod FreedArrays
 pub mod LayoutLaws
-pub mod ListsAsFunctions
 pub mod MutatorLaws
 pub mod PairCells
-pub mod PairLaws
 pub mod PropertyLaws
 pub mod RoomLaws
 pub mod StoredCellLaws

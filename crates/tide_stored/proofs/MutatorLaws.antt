@@ -1,17 +1,16 @@
 -- What a mutator with another value in a register, or with other claims, leaves.
-use Rattle.std.proofs.Common.{ℕ, ◌≡◌, ◌<◌, false, refl, sym, ◌∙◌, ap, subst, Bool, List, [], ◌∷◌, length, get_or}
-use Rattle.std.specs.List.Retain.{RetainsInTurn}
-use Rattle.std.specs.Prelude.{cond, filter, slice_set}
+use Rattle.std.proofs.Common.{ℕ, ◌≡◌, ◌<◌, false, refl, sym, ◌∙◌, ap, List, length, get_or}
+use Rattle.std.specs.Prelude.{slice_set}
 use Rattle.tide_model.specs.declared.val.Val.{Val}
 use Rattle.tide_model.specs.declared.val.Val.TheVariants.{Empty}
 use Rattle.tide_model.specs.Numbers.{put_at}
 use Rattle.tide_model.specs.Applied.{put_claims, put_register}
 use Rattle.tide_stored.specs.Stored.{Stored}
-use Rattle.tide_stored.specs.declared.mutators.StoredMutator.{StoredMutator}
-use Rattle.tide_stored.specs.Changes.{filled, with_claims}
-use Rattle.tide_stored.specs.Stored.{blank_mutator, mutator_at}
+use Rattle.tide_parts.specs.declared.mutators.StoredMutator.{StoredMutator}
+use Rattle.tide_parts.specs.Changes.{filled, with_claims}
+use Rattle.tide_parts.specs.PartLists.{blank_mutator, mutator_at}
 use Rattle.tide_stored.specs.Contents.{state_of, IsStored}
-use Rattle.tide_stored.proofs.ListsAsFunctions.{get_or-kept, get_or-put, put_at-map, reads-put, reads-same}
+use Rattle.tide_parts.proofs.ListsAsFunctions.{get_or-kept, get_or-put, put_at-map, reads-put, reads-same}
 
 -- what the registers of a mutator hold
 abbrev held : StoredMutator → ℕ → Val
@@ -74,13 +73,3 @@ IsStored-mutators contents mutators as_many old = record {
   arrays = old.arrays;
   pairs = old.pairs;
 }
-
--- what is retained where the test stays as it is and changes no element
-pub filter_in_turns : {S X : Type 0} (R : S → X → Bool → S → X → Type 0) (test : X → Bool) (s : S) →
-    ((x : X) (b : Bool) (t : S) (y : X) → R s x b t y → (b ≡ test x) × (y ≡ x) × (t ≡ s)) →
-    (xs ys : List X) → RetainsInTurn R s xs ys → ys ≡ filter test xs
-filter_in_turns R test s each [] ys turns = turns
-filter_in_turns R test s each (x ∷ xs) ys turns =
-    let said = each x turns.0 turns.1 turns.2 turns.3 in
-    let rest = filter_in_turns R test s each xs turns.4 (subst (λ t. RetainsInTurn R t xs turns.4) said.2 turns.5) in
-    turns.6 ∙ (λ i. cond (said.0 i) (said.1 i ∷ rest i) (rest i))

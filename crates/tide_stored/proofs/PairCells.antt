@@ -1,23 +1,22 @@
 -- What a table is where one of its places has changed, and whether it has room.
-use Rattle.std.proofs.Common.{ℕ, ◌≡◌, ◌<◌, refl, sym, ◌∙◌, ap, subst, arith, Bool, true, false, List, [], ◌∷◌, length, get_or, Option, None, Some}
+use Rattle.std.proofs.Common.{ℕ, ◌≡◌, ◌<◌, refl, sym, ◌∙◌, ap, subst, arith, Bool, true, false, List, length, get_or, Option, None, Some}
 use Rattle.std.proofs.lemmas.Bool.{lt-leb, le-leb}
 use Rattle.std.specs.Prelude.{◌&&◌, nat_le, not, slice_set, is_some, All}
 use Rattle.tide_model.specs.declared.val.Val.{Val}
-use Rattle.tide_model.specs.declared.val.Val.TheVariants.{Empty, Int, Cell}
 use Rattle.tide_model.specs.Applied.{put_cell, put_pair}
 use Rattle.tide_model.specs.Layout.{cell_count}
 use Rattle.tide_model.specs.Numbers.{put_at, count_where}
 use Rattle.tide_model.specs.References.{IsLive}
 use Rattle.tide_model.specs.Refused.{has_pair, pair_count}
-use Rattle.tide_model.specs.State.{State, CellState}
+use Rattle.tide_model.specs.State.{CellState}
 use Rattle.tide_stored.specs.Stored.{Stored}
-use Rattle.tide_stored.specs.declared.cells.Pair.{Pair}
-use Rattle.tide_stored.specs.declared.cells.StoredCell.{StoredCell}
+use Rattle.tide_parts.specs.declared.cells.Pair.{Pair}
+use Rattle.tide_parts.specs.declared.cells.StoredCell.{StoredCell}
 use Rattle.tide_stored.specs.Contents.{state_of, stored_at, IsSound, IsStored}
-use Rattle.tide_stored.specs.Pairs.{IsSeat}
-use Rattle.tide_stored.specs.Stored.{pairs_of, IsDistinctPairs}
+use Rattle.tide_parts.specs.Pairs.{IsSeat}
+use Rattle.tide_parts.specs.Pairs.{pairs_of, IsDistinctPairs}
 use Rattle.tide_stored.proofs.CellLaws.{live_below}
-use Rattle.tide_stored.proofs.PairLaws.{occupied, occupied-full, occupied-room, pair_count-occupied, pairs_of-there}
+use Rattle.tide_parts.proofs.PairLaws.{occupied, occupied-full, occupied-room, pair_count-occupied, pairs_of-there}
 use Rattle.tide_stored.proofs.StoredCellLaws.{live_is-stored, state_of-cell}
 use Rattle.tide_stored.proofs.StoredLaws.{MayStand, MayStand-stored, IsStored-cell}
 

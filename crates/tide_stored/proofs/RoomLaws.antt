@@ -9,11 +9,12 @@ use Rattle.tide_model.specs.State.{CellState, blank_cell, free, live}
 use Rattle.tide_model.specs.Applied.{put_cell}
 use Rattle.tide_shape.specs.ShapeTable.{keys_of}
 use Rattle.tide_stored.specs.Stored.{Stored}
-use Rattle.tide_stored.specs.declared.cells.StoredCell.{StoredCell}
-use Rattle.tide_stored.specs.Stored.{blank_stored, live_cell, cells_of}
+use Rattle.tide_parts.specs.declared.cells.StoredCell.{StoredCell}
+use Rattle.tide_parts.specs.PartLists.{blank_stored}
+use Rattle.tide_stored.specs.Stored.{live_cell, cells_of}
 use Rattle.tide_stored.specs.Contents.{state_of, stored_at, IsStored}
-use Rattle.tide_stored.proofs.Copies.{get_or-copies}
-use Rattle.tide_stored.proofs.ListsAsFunctions.{get_or-put}
+use Rattle.tide_parts.proofs.Copies.{get_or-copies}
+use Rattle.tide_parts.proofs.ListsAsFunctions.{get_or-put}
 
 -- the first shape has no keys
 pub keys_of-empty : (shapes : ShapeLists) → slice_get shapes 0 ≡ Some [] → keys_of shapes 0 ≡ []

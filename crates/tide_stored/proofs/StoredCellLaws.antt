@@ -9,11 +9,12 @@ use Rattle.tide_model.specs.References.{IsLive}
 use Rattle.tide_model.specs.State.{CellState}
 use Rattle.tide_model.specs.Applied.{put_cell, put_slot, at_cell}
 use Rattle.tide_stored.specs.Stored.{Stored}
-use Rattle.tide_stored.specs.declared.cells.StoredCell.{StoredCell}
-use Rattle.tide_stored.specs.Stored.{blank_stored, live_cell}
+use Rattle.tide_parts.specs.declared.cells.StoredCell.{StoredCell}
+use Rattle.tide_parts.specs.PartLists.{blank_stored}
+use Rattle.tide_stored.specs.Stored.{live_cell}
 use Rattle.tide_stored.specs.Contents.{state_of, stored_at}
 use Rattle.tide_stored.proofs.CellLaws.{flag_from_live, cell_from_flag, cells_of-put}
-use Rattle.tide_stored.proofs.ListsAsFunctions.{reads-put}
+use Rattle.tide_parts.proofs.ListsAsFunctions.{reads-put}
 
 -- the flag of a live cell is set
 flag_of : (contents : Stored) (cell : ℕ) → IsLive (state_of contents) cell → get_or contents.are_live cell false ≡ true

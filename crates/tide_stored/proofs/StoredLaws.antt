@@ -9,12 +9,13 @@ use Rattle.tide_model.specs.References.{IsLive, RefsAreLive}
 use Rattle.tide_model.specs.State.{CellState}
 use Rattle.tide_shape.specs.ShapeTable.{keys_of}
 use Rattle.tide_stored.specs.Stored.{Stored}
-use Rattle.tide_stored.specs.declared.cells.StoredCell.{StoredCell}
-use Rattle.tide_stored.specs.declared.arrays.ArrayStatus.{ArrayStatus}
+use Rattle.tide_parts.specs.declared.cells.StoredCell.{StoredCell}
+use Rattle.tide_parts.specs.declared.arrays.ArrayStatus.{ArrayStatus}
 use Rattle.tide_stored.specs.Contents.{state_of, stored_at, IsSound, IsStored}
-use Rattle.tide_stored.specs.Stored.{blank_stored, IsDistinctPairs}
+use Rattle.tide_parts.specs.Pairs.{IsDistinctPairs}
+use Rattle.tide_parts.specs.PartLists.{blank_stored}
 use Rattle.tide_stored.proofs.CellLaws.{flag_from_live, cell_from_flag, live_below}
-use Rattle.tide_stored.proofs.Copies.{get_or-copies}
+use Rattle.tide_parts.proofs.Copies.{get_or-copies}
 
 -- what may be stored for a live cell
 pub record MayStand (contents : Stored) (stored : StoredCell) : Type 0 where

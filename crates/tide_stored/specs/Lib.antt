@@ -1,10 +1,7 @@
-pub mod Changes
 pub mod Contents
 pub mod Counting
 pub mod CountingExamples
-pub mod Pairs
 pub mod Parts
 pub mod Properties
 pub mod Stored
 pub mod Sweeping
-pub mod Swept

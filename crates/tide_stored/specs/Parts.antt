@@ -8,11 +8,11 @@ abbrev pub parts_of : Inside → Stored
 parts_of contents = record {
   layout = contents.layout;
   shapes = lists_of contents.shapes;
-  mutators = contents.mutators.mutators.items;
-  strong = contents.handles.strong.items;
-  weak = contents.handles.weak.items;
-  are_live = contents.cells.are_live.items;
-  cells = contents.cells.cells.items;
-  statuses = contents.arrays.statuses.items;
-  elements = contents.arrays.elements.items;
+  mutators = contents.mutators;
+  strong = contents.handles.strong;
+  weak = contents.handles.weak;
+  are_live = contents.cells.are_live;
+  cells = contents.cells.cells;
+  statuses = contents.arrays.statuses;
+  elements = contents.arrays.elements;
 }

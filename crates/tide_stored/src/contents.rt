@@ -13,14 +13,11 @@ mod reading;
 mod room;
 mod sweeping;
 
-use crate::arrays::Arrays;
-use crate::cells::Cells;
-use crate::handles::Handles;
-use crate::mutators::Mutators;
 use std::alloc::Global;
 use std::marker::Model;
 use tide_layout::Layout;
 use tide_model::Memory;
+use tide_parts::{Arrays, Cells, Handles, Mutators};
 use tide_shape::Shapes;
 
 /// All that the plain store holds. Contracts see its layout, its shapes, and its state by `state_of`.

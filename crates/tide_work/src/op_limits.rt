@@ -6,7 +6,7 @@ ghost use Rattle.tide_work.specs.Words.{words_in, number_of, number_below};
 
 use crate::keys::Keys;
 use crate::settings::Settings;
-use crate::words::{handle_below, number_below, number_of, one_word, three_words, two_words};
+use crate::words::{byte_below, number_below, number_of, one_word, three_words, two_words};
 use std::marker::Model;
 
 /// How many registers and handles there are, and the property keys.
@@ -44,7 +44,7 @@ impl<'a> OpLimits<'a> {
         ensures { result ≡ register_of self.now word.now }
     {
         match word {
-            [b'r', digits @ ..] => number_below(digits, self.registers),
+            [b'r', digits @ ..] => byte_below(digits, self.registers),
             _ => None,
         }
     }
@@ -60,14 +60,14 @@ impl<'a> OpLimits<'a> {
     fn strong(&self, word: &[u8]) -> Option<u16>
         ensures { result ≡ number_below self.now.strong word.now }
     {
-        handle_below(word, self.strong)
+        number_below(word, self.strong)
     }
 
     /// The weak handle that a word names.
     fn weak(&self, word: &[u8]) -> Option<u16>
         ensures { result ≡ number_below self.now.weak word.now }
     {
-        handle_below(word, self.weak)
+        number_below(word, self.weak)
     }
 
     /// `rA`
@@ -87,7 +87,8 @@ impl<'a> OpLimits<'a> {
 
     /// `rA rB rC`
     pub(crate) fn three_registers(&self, arguments: &[u8]) -> Option<(u8, u8, u8)>
-        ensures { result ≡ three (register_of self.now) (register_of self.now) (register_of self.now) (words_in arguments.now) }
+        ensures { result ≡ three (register_of self.now) (register_of self.now) (register_of self.now)
+            (words_in arguments.now) }
     {
         let (first, second, third) = three_words(arguments)?;
         Some((
@@ -102,7 +103,7 @@ impl<'a> OpLimits<'a> {
         ensures { result ≡ two (register_of self.now) (number_below 4) (words_in arguments.now) }
     {
         let (register, class) = two_words(arguments)?;
-        Some((self.register(register)?, number_below(class, CLASSES)?))
+        Some((self.register(register)?, byte_below(class, CLASSES)?))
     }
 
     /// `rA N`
@@ -115,31 +116,34 @@ impl<'a> OpLimits<'a> {
 
     /// `rA rB K`, with a slot
     pub(crate) fn two_registers_and_slot(&self, arguments: &[u8]) -> Option<(u8, u8, u8)>
-        ensures { result ≡ three (register_of self.now) (register_of self.now) (number_below 16) (words_in arguments.now) }
+        ensures { result ≡ three (register_of self.now) (register_of self.now) (number_below 16)
+            (words_in arguments.now) }
     {
         let (first, second, slot) = three_words(arguments)?;
         Some((
             self.register(first)?,
             self.register(second)?,
-            number_below(slot, SLOTS)?,
+            byte_below(slot, SLOTS)?,
         ))
     }
 
     /// `rA K rB`, with a slot
     pub(crate) fn slot_between_registers(&self, arguments: &[u8]) -> Option<(u8, u8, u8)>
-        ensures { result ≡ three (register_of self.now) (number_below 16) (register_of self.now) (words_in arguments.now) }
+        ensures { result ≡ three (register_of self.now) (number_below 16) (register_of self.now)
+            (words_in arguments.now) }
     {
         let (first, slot, second) = three_words(arguments)?;
         Some((
             self.register(first)?,
-            number_below(slot, SLOTS)?,
+            byte_below(slot, SLOTS)?,
             self.register(second)?,
         ))
     }
 
     /// `rA rB KEY`
     pub(crate) fn two_registers_and_key(&self, arguments: &[u8]) -> Option<(u8, u8, u32)>
-        ensures { result ≡ three (register_of self.now) (register_of self.now) (key_of self.now) (words_in arguments.now) }
+        ensures { result ≡ three (register_of self.now) (register_of self.now) (key_of self.now)
+            (words_in arguments.now) }
     {
         let (first, second, key) = three_words(arguments)?;
         Some((
@@ -151,7 +155,8 @@ impl<'a> OpLimits<'a> {
 
     /// `rA KEY rB`
     pub(crate) fn key_between_registers(&self, arguments: &[u8]) -> Option<(u8, u32, u8)>
-        ensures { result ≡ three (register_of self.now) (key_of self.now) (register_of self.now) (words_in arguments.now) }
+        ensures { result ≡ three (register_of self.now) (key_of self.now) (register_of self.now)
+            (words_in arguments.now) }
     {
         let (first, key, second) = three_words(arguments)?;
         Some((

@@ -106,27 +106,23 @@ pub fn number_of(word: &[u8]) -> Option<u32>
 }
 
 /// The number that a word spells, where it is below a limit.
-pub fn number_below(word: &[u8], limit: u8) -> Option<u8>
+pub fn number_below(word: &[u8], limit: u16) -> Option<u16>
     ensures { result ≡ number_below limit word.now }
 {
     let number = number_of(word)?;
     if number < u32::from(limit) {
-        Some(number as u8)
+        Some(number as u16)
     } else {
         None
     }
 }
 
-/// The handle that a word names: a number below how many there are.
-pub fn handle_below(word: &[u8], handles: u16) -> Option<u16>
-    ensures { result ≡ number_below handles word.now }
+/// The same of a limit that is a byte.
+pub fn byte_below(word: &[u8], limit: u8) -> Option<u8>
+    ensures { result ≡ number_below limit word.now }
 {
-    let number = number_of(word)?;
-    if number < u32::from(handles) {
-        Some(number as u16)
-    } else {
-        None
-    }
+    let number = number_below(word, u16::from(limit))?;
+    Some(number as u8)
 }
 
 /// How many digits a number may have.

@@ -27,9 +27,19 @@ impl Model for Workload {
 
     ghost Value = { Work };
 
-    ghost view = { λ w. record { settings = w.settings; keys = w.keys; paths = w.paths; scripts = map (λ v. v.items) w.scripts.items } };
+    ghost view = { λ w. record {
+      settings = w.settings;
+      keys = w.keys;
+      paths = w.paths;
+      scripts = map (λ v. v.items) w.scripts.items;
+    } };
 
-    ghost invariant = { λ w. IsWork (record { settings = w.settings; keys = w.keys; paths = w.paths; scripts = map (λ v. v.items) w.scripts.items }) };
+    ghost invariant = { λ w. IsWork (record {
+      settings = w.settings;
+      keys = w.keys;
+      paths = w.paths;
+      scripts = map (λ v. v.items) w.scripts.items;
+    }) };
 }
 
 impl Workload {

@@ -1,7 +1,7 @@
 //! What a run takes of its workload.
 ghost use Rattle.std.specs.Prelude.{◌≡◌, ◌≤◌, None, length, map, All, IfOk};
 ghost use Rattle.tide_shape.specs.Lists.{lists_of};
-ghost use Rattle.tide_shape.specs.Shapes.{first_double, shapes_of, IsPath};
+ghost use Rattle.tide_shape.specs.Shapes.{first_double, shapes_of_paths, IsPath};
 ghost use Rattle.tide_workload.specs.Words.{AreSettings};
 ghost use Rattle.tide_run.specs.Runs.{layout_with};
 
@@ -29,11 +29,11 @@ pub fn layout_with(settings: Settings) -> Layout
 }
 
 /// The shapes of declared paths, none of which names a key twice.
-pub fn shapes_of(alloc: Global, paths: &Paths) -> Result<Shapes, Memory>
+pub fn shapes_from(alloc: Global, paths: &Paths) -> Result<Shapes, Memory>
     requires few { length paths.now ≤ 64 }
     requires sized { All IsPath paths.now }
     requires distinct { first_double paths.now ≡ None }
-    ensures { IfOk result (λ shapes. lists_of shapes ≡ shapes_of paths.now) }
+    ensures { IfOk result (λ shapes. lists_of shapes ≡ shapes_of_paths paths.now) }
 {
     match Shapes::new(alloc, paths) {
         Ok(shapes) => Ok(shapes),

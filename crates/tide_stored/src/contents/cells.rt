@@ -34,7 +34,9 @@ impl Contents {
     /// A live cell is in a group, or in none where the number is 0.
     pub fn set_group(&mut self, cell: u32, group: u32)
         requires { IsLive (state_of self.old) cell }
-        ensures { Leaves self.old self.new (put_cell (state_of self.old) cell (record ((state_of self.old).cells cell) { group = group })) }
+        ensures { Leaves self.old self.new (put_cell (state_of self.old) cell (record ((state_of self.old).cells cell) {
+          group = group;
+        })) }
     {
         let mut stored = *self.cells.stored(cell);
         stored.group = group;

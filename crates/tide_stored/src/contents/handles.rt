@@ -11,7 +11,9 @@ impl Contents {
     /// A strong handle gets another value.
     pub fn set_strong(&mut self, at: u16, value: Val)
         requires { at < self.old.layout.strong }
-        ensures { Leaves self.old self.new (record (state_of self.old) { strong = put_at (state_of self.old).strong at value }) }
+        ensures { Leaves self.old self.new (record (state_of self.old) {
+          strong = put_at (state_of self.old).strong at value;
+        }) }
     {
         self.handles.set_strong(at, value);
     }
@@ -19,7 +21,9 @@ impl Contents {
     /// A weak handle gets another value.
     pub fn set_weak(&mut self, at: u16, value: Val)
         requires { at < self.old.layout.weak }
-        ensures { Leaves self.old self.new (record (state_of self.old) { weak = put_at (state_of self.old).weak at value }) }
+        ensures { Leaves self.old self.new (record (state_of self.old) {
+          weak = put_at (state_of self.old).weak at value;
+        }) }
     {
         self.handles.set_weak(at, value);
     }

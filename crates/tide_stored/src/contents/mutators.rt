@@ -23,7 +23,8 @@ impl Contents {
     pub fn claim(&mut self, who: u32, cell: u32)
         requires mutator { who < self.old.layout.mutators }
         requires room { length ((state_of self.old).claims who) < claims_most }
-        ensures { Leaves self.old self.new (put_claims (state_of self.old) who ((state_of self.old).claims who ++ cell ∷ [])) }
+        ensures { Leaves self.old self.new (put_claims (state_of self.old) who
+            ((state_of self.old).claims who ++ cell ∷ [])) }
     {
         self.mutators.claim(who, cell);
     }
@@ -41,7 +42,8 @@ impl Contents {
     pub fn unclaim(&mut self, who: u32)
         requires mutator { who < self.old.layout.mutators }
         requires some { 0 < length ((state_of self.old).claims who) }
-        ensures { Leaves self.old self.new (put_claims (state_of self.old) who (drop 1 ((state_of self.old).claims who))) }
+        ensures { Leaves self.old self.new (put_claims (state_of self.old) who (drop 1
+            ((state_of self.old).claims who))) }
     {
         self.mutators.unclaim(who);
     }
@@ -49,7 +51,9 @@ impl Contents {
     /// A mutator is active no more.
     pub fn retire(&mut self, who: u32)
         requires { who < self.old.layout.mutators }
-        ensures { Leaves self.old self.new (record (state_of self.old) { active = put_at (state_of self.old).active who false }) }
+        ensures { Leaves self.old self.new (record (state_of self.old) {
+          active = put_at (state_of self.old).active who false;
+        }) }
     {
         self.mutators.retire(who);
     }

@@ -1,17 +1,16 @@
 //! Pairs: what a table has under key cells, and their changes.
 ghost use Rattle.std.specs.Prelude.{◌≡◌, ◌<◌, ◌&&◌, Some, None, nat_le, not, true, false, slice_set};
 
-use crate::cells::Pair;
 use crate::contents::Contents;
-use crate::pairs::{place_of, seat, value_of};
 use tide_model::Val;
+use tide_parts::{Pair, place_of, seat, value_of};
 
 impl Contents {
     ghost use Rattle.tide_model.specs.Applied.{put_cell, put_pair};
     ghost use Rattle.tide_model.specs.References.{IsLive, RefsAreLive};
     ghost use Rattle.tide_model.specs.Refused.{has_pair, pair_count};
     ghost use Rattle.tide_stored.specs.Contents.{state_of, stored_at, Leaves};
-    ghost use Rattle.tide_stored.specs.Stored.{pairs_of, IsDistinctPairs};
+    ghost use Rattle.tide_parts.specs.Pairs.{pairs_of, IsDistinctPairs};
 
     /// What a live table has under a key.
     pub fn pair(&self, table: u32, key: u32) -> Option<Val>
@@ -38,8 +37,10 @@ impl Contents {
     pub fn set_pair(&mut self, table: u32, key: u32, value: Val) -> bool
         requires references { RefsAreLive (state_of self.old) }
         requires live { IsLive (state_of self.old) table }
-        ensures room { not result ≡ (not (has_pair (state_of self.old) table key) && nat_le 8 (pair_count self.old.layout (state_of self.old) table)) }
-        ensures leaves { result ≡ true → Leaves self.old self.new (put_pair (state_of self.old) table key (Some value)) }
+        ensures room { not result ≡ (not (has_pair (state_of self.old) table key) && nat_le 8
+            (pair_count self.old.layout (state_of self.old) table)) }
+        ensures leaves { result ≡ true →
+            Leaves self.old self.new (put_pair (state_of self.old) table key (Some value)) }
         ensures unchanged { result ≡ false → self.new ≡ self.old }
     {
         match seat(&self.cells.stored(table).pairs, key) {

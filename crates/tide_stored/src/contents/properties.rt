@@ -49,7 +49,8 @@ impl Contents {
     fn next_shape(&self, cell: u32, key: u32) -> Option<u32>
         requires { IsLive (state_of self.now) cell }
         ensures known { is_some result ≡ may_add self.now.shapes (state_of self.now) cell key }
-        ensures next { IfSome result (λ next. slice_get self.now.shapes next ≡ Some (((state_of self.now).cells cell).keys ++ key ∷ [])) }
+        ensures next { IfSome result (λ next. slice_get self.now.shapes next ≡
+            Some (((state_of self.now).cells cell).keys ++ key ∷ [])) }
         ensures fewer { IfSome result (λ next. length ((state_of self.now).cells cell).keys < 64) }
     {
         self.shapes.next(self.cells.stored(cell).shape, key)
@@ -93,7 +94,8 @@ impl Contents {
         requires live { IsLive (state_of self.now) cell }
         requires fewer { length ((state_of self.now).cells cell).keys < 64 }
         ensures room { not result ≡ is_array_full ((state_of self.now).cells cell) }
-        ensures own { result ≡ true → (array : ℕ) × (array < array_count self.now.layout) × IsOwnArray (state_of self.now) cell array }
+        ensures own { result ≡ true → (array : ℕ) × (array < array_count self.now.layout) ×
+            IsOwnArray (state_of self.now) cell array }
     {
         let count = self.shapes.count(self.cells.stored(cell).shape);
         count != capacity(count)
@@ -122,10 +124,12 @@ impl Contents {
         requires fewer { length ((state_of self.old).cells cell).keys < 64 }
         ensures taken { IfOk result (λ took. IsTakenFor self.old.layout (state_of self.old) cell took) }
         ensures leaves { IfOk result (λ took. Leaves self.old self.new (with_array (state_of self.old) cell took)) }
-        ensures own { OnOk result ((array : ℕ) × (array < array_count self.new.layout) × IsOwnArray (state_of self.new) cell array) }
+        ensures own { OnOk result ((array : ℕ) × (array < array_count self.new.layout) ×
+            IsOwnArray (state_of self.new) cell array) }
         ensures full { OnErr result (is_array_full ((state_of self.old).cells cell) ≡ true) }
         ensures class { IfErr result (λ class. class ≡ next_array_class (state_of self.old) cell) }
-        ensures room { IfErr result (λ class. (block : ℕ) → IsBlockOf self.old.layout class block → IsFullBlock self.old.layout (state_of self.old) block) }
+        ensures room { IfErr result (λ class. (block : ℕ) → IsBlockOf self.old.layout class block →
+            IsFullBlock self.old.layout (state_of self.old) block) }
         ensures unchanged { OnErr result (self.new ≡ self.old) }
     {
         if self.has_room(cell) {
@@ -146,7 +150,8 @@ impl Contents {
         requires own { (array : ℕ) × (array < array_count self.old.layout) × IsOwnArray (state_of self.old) cell array }
         requires shape { shape < length self.old.shapes }
         requires room { length ((state_of self.old).cells cell).keys < 64 }
-        ensures { Leaves self.old self.new (with_property (state_of self.old) cell (keys_of self.old.shapes shape) value) }
+        ensures { Leaves self.old self.new (with_property (state_of self.old) cell
+            (keys_of self.old.shapes shape) value) }
     {
         let mut stored = *self.cells.stored(cell);
         let place = self.shapes.count(stored.shape);
@@ -165,10 +170,12 @@ impl Contents {
         requires live { IsLive (state_of self.old) cell }
         requires may { may_add self.old.shapes (state_of self.old) cell key ≡ true }
         ensures taken { IfOk result (λ took. IsTakenFor self.old.layout (state_of self.old) cell took) }
-        ensures leaves { IfOk result (λ took. Leaves self.old self.new (add_property (state_of self.old) cell key value took)) }
+        ensures leaves { IfOk result (λ took.
+            Leaves self.old self.new (add_property (state_of self.old) cell key value took)) }
         ensures full { OnErr result (is_array_full ((state_of self.old).cells cell) ≡ true) }
         ensures class { IfErr result (λ class. class ≡ next_array_class (state_of self.old) cell) }
-        ensures room { IfErr result (λ class. (block : ℕ) → IsBlockOf self.old.layout class block → IsFullBlock self.old.layout (state_of self.old) block) }
+        ensures room { IfErr result (λ class. (block : ℕ) → IsBlockOf self.old.layout class block →
+            IsFullBlock self.old.layout (state_of self.old) block) }
         ensures unchanged { OnErr result (self.new ≡ self.old) }
     {
         let Some(shape) = self.next_shape(cell, key) else {

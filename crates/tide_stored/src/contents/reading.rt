@@ -3,10 +3,9 @@ ghost use Rattle.std.specs.Prelude.{◌≡◌, ◌<◌, ℕ, length};
 ghost use Rattle.std.specs.List.{slice_index_or};
 ghost use Rattle.tide_model.specs.declared.val.Val.TheVariants.{Empty};
 
-use crate::arrays::ArrayStatus;
-use crate::cells::Pair;
 use crate::contents::Contents;
 use tide_model::Val;
+use tide_parts::{ArrayStatus, Pair};
 use tide_shape::ShapeTable;
 
 impl Contents {
@@ -14,7 +13,8 @@ impl Contents {
     ghost use Rattle.tide_model.specs.References.{IsLive, RefsAreLive};
     ghost use Rattle.tide_model.specs.State.{is_live};
     ghost use Rattle.tide_stored.specs.Contents.{state_of};
-    ghost use Rattle.tide_stored.specs.Stored.{pairs_of, status_of, IsDistinctPairs};
+    ghost use Rattle.tide_parts.specs.Pairs.{pairs_of, IsDistinctPairs};
+    ghost use Rattle.tide_parts.specs.PartLists.{status_of};
 
     /// Whether a mutator is active.
     pub fn is_active(&self, who: u32) -> bool
@@ -27,7 +27,8 @@ impl Contents {
     /// What a mutator's registers hold.
     pub fn registers(&self, who: u32) -> &[Val]
         requires { who < self.now.layout.mutators }
-        ensures { (register : ℕ) → slice_index_or result.now register Empty ≡ (state_of self.now).registers who register }
+        ensures { (register : ℕ) → slice_index_or result.now register Empty ≡
+            (state_of self.now).registers who register }
     {
         &self.mutators.stored(who).registers
     }

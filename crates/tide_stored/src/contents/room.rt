@@ -1,12 +1,10 @@
 //! Room: the free cells and arrays of a class, and how many things are live and free.
 ghost use Rattle.std.specs.Prelude.{◌≡◌, ◌<◌, ◌≤◌, ℕ, IfSome, IfNone};
 
-use crate::arrays::ArrayStatus;
 use crate::contents::Contents;
 use tide_block::{class_of, class_of_array, first_array_of, first_of};
-
-/// How many cells or arrays a block has.
-const BLOCK: u32 = 64;
+use tide_layout::BLOCK_SIZE;
+use tide_parts::ArrayStatus;
 
 impl Contents {
     ghost use Rattle.tide_model.specs.Answer.{IsFreeArrayOf, IsFreeCellOf};
@@ -21,11 +19,13 @@ impl Contents {
         requires { class < 5 }
         ensures free { IfSome result (λ cell. IsFreeCellOf self.now.layout (state_of self.now) class cell) }
         ensures within { IfSome result (λ cell. cell < cell_count self.now.layout) }
-        ensures lowest { IfSome result (λ cell. (other : ℕ) → IsFreeCellOf self.now.layout (state_of self.now) class other → cell ≤ other) }
-        ensures full { IfNone result ((block : ℕ) → IsBlockOf self.now.layout class block → IsFullBlock self.now.layout (state_of self.now) block) }
+        ensures lowest { IfSome result (λ cell. (other : ℕ) →
+            IsFreeCellOf self.now.layout (state_of self.now) class other → cell ≤ other) }
+        ensures full { IfNone result ((block : ℕ) → IsBlockOf self.now.layout class block →
+            IsFullBlock self.now.layout (state_of self.now) block) }
     {
         let first = first_of(&self.layout, class);
-        let end = first + BLOCK * u32::from(self.layout.blocks(class));
+        let end = first + BLOCK_SIZE * u32::from(self.layout.blocks(class));
         self.cells.first_free(first, end)
     }
 
@@ -35,11 +35,13 @@ impl Contents {
         requires largest { class < 10 }
         ensures free { IfSome result (λ array. IsFreeArrayOf self.now.layout (state_of self.now) class array) }
         ensures within { IfSome result (λ array. array < array_count self.now.layout) }
-        ensures lowest { IfSome result (λ array. (other : ℕ) → IsFreeArrayOf self.now.layout (state_of self.now) class other → array ≤ other) }
-        ensures full { IfNone result ((block : ℕ) → IsBlockOf self.now.layout class block → IsFullBlock self.now.layout (state_of self.now) block) }
+        ensures lowest { IfSome result (λ array. (other : ℕ) →
+            IsFreeArrayOf self.now.layout (state_of self.now) class other → array ≤ other) }
+        ensures full { IfNone result ((block : ℕ) → IsBlockOf self.now.layout class block →
+            IsFullBlock self.now.layout (state_of self.now) block) }
     {
         let first = first_array_of(&self.layout, class);
-        let end = first + BLOCK * u32::from(self.layout.blocks(class));
+        let end = first + BLOCK_SIZE * u32::from(self.layout.blocks(class));
         self.arrays.first_free(first, end)
     }
 

@@ -6,11 +6,11 @@ use Rattle.std.proofs.lemmas.Grind.{get_or-set_at}
 use Rattle.tide_model.specs.Layout.{Layout}
 use Rattle.tide_layout.specs.declared.region.Region.{Region}
 use Rattle.tide_layout.specs.declared.region.Region.TheVariants.{Period, Phase, Active, Call, Stopped, Registers, Strong, Weak, Colour, Structure, Array, Claim, Group, Slots, Elements, Free, Dead, GreyShared, GreyMutator, GreyRace, Swept}
-use Rattle.tide_layout.specs.Region.{tag, size_of, word_count, place_of, block_count}
+use Rattle.tide_layout.specs.Region.{tag, size_of, word_count, place_in, block_count}
 use Rattle.tide_words.specs.heap.EmptyHeap.{empty_heap}
 use Rattle.tide_words.specs.heap.Filled.{IsFilledTo}
 use Rattle.tide_words.specs.heap.Heap.{Reads}
-use Rattle.tide_layout.proofs.Places.{place_of-below, place_of-other_index, place_of-other_region}
+use Rattle.tide_layout.proofs.Places.{place_in-below, place_in-other_index, place_in-other_region}
 
 -- nothing is filled yet
 pub IsFilledTo-none : (layout : Layout) (region : Region) (word : ℕ) (words : List ℕ) → IsFilledTo layout region word 0 words words
@@ -23,20 +23,20 @@ IsFilledTo-none layout region word words = record {
 -- one place more
 pub IsFilledTo-more : (layout : Layout) (region : Region) (word count : ℕ) (old new : List ℕ) →
     length old ≡ word_count layout → count < size_of layout region → IsFilledTo layout region word count old new →
-    IsFilledTo layout region word (count + 1) old (set new (place_of layout region count) word)
+    IsFilledTo layout region word (count + 1) old (set new (place_in layout region count) word)
 IsFilledTo-more layout region word count old new whole within before =
-    let place = place_of layout region count in
-    let below = place_of-below layout region count within in
+    let place = place_in layout region count in
+    let below = place_in-below layout region count within in
     record {
       len = length-set new place word ∙ before.len;
       filled = λ index h. elim (cases_eq index count) [
-        | inl same ↦ get_or-set_at new place (place_of layout region index) word 0 (ap (place_of layout region) same) (let len = before.len in omega (arith, below))
-        | inr apart ↦ get_or-set_other new place (place_of layout region index) word 0 (λ same. apart (place_of-other_index layout region index count same))
+        | inl same ↦ get_or-set_at new place (place_in layout region index) word 0 (ap (place_in layout region) same) (let len = before.len in omega (arith, below))
+        | inr apart ↦ get_or-set_other new place (place_in layout region index) word 0 (λ same. apart (place_in-other_index layout region index count same))
             ∙ before.filled index (omega arith)
       ];
       others = λ other index in_other apart.
-          get_or-set_other new place (place_of layout other index) word 0
-          (λ same. place_of-other_region layout other region index count apart in_other within same)
+          get_or-set_other new place (place_in layout other index) word 0
+          (λ same. place_in-other_region layout other region index count apart in_other within same)
           ∙ before.others other index in_other apart;
     }
 
@@ -44,18 +44,18 @@ IsFilledTo-more layout region word count old new whole within before =
 module _ (layout : Layout) (zeros active words : List ℕ) (all_zero : zeros ≡ replicate (word_count layout) 0)
     (first : IsFilledTo layout Active 1 layout.mutators zeros active)
     (second : IsFilledTo layout Free (2 ^ 64 - 1) (block_count layout) active words) where
-  zero : (region : Region) (index : ℕ) → index < size_of layout region → get_or zeros (place_of layout region index) 0 ≡ 0
+  zero : (region : Region) (index : ℕ) → index < size_of layout region → get_or zeros (place_in layout region index) 0 ≡ 0
   zero region index within =
-      ap (λ xs. get_or xs (place_of layout region index) 0) all_zero
-      ∙ get_or-replicate (word_count layout) (place_of layout region index) 0 0 (place_of-below layout region index within)
+      ap (λ xs. get_or xs (place_in layout region index) 0) all_zero
+      ∙ get_or-replicate (word_count layout) (place_in layout region index) 0 0 (place_in-below layout region index within)
 
   -- a region that was filled neither way
   left_zero : (region : Region) (index : ℕ) → index < size_of layout region → (tag region == tag Active) ≡ false → (tag region == tag Free) ≡ false
-      → get_or words (place_of layout region index) 0 ≡ 0
+      → get_or words (place_in layout region index) 0 ≡ 0
   left_zero region index within no_active no_free =
       second.others region index within no_free ∙ first.others region index within no_active ∙ zero region index within
 
-  holds : (region : Region) (index : ℕ) → index < size_of layout region → get_or words (place_of layout region index) 0 ≡ empty_heap region index
+  holds : (region : Region) (index : ℕ) → index < size_of layout region → get_or words (place_in layout region index) 0 ≡ empty_heap region index
   holds Period index within = left_zero Period index within refl refl
   holds Phase index within = left_zero Phase index within refl refl
   holds Active index within = second.others Active index within refl ∙ first.filled index within

@@ -12,7 +12,7 @@ use Rattle.tide_layout.specs.declared.region.Region.TheVariants.{Claim, Free, De
 use Rattle.tide_words.specs.heap.Heap.{Heap, Reads, SameIn, write, heap_of}
 use Rattle.std.specs.Int.{bit_at}
 use Rattle.tide_words.specs.heap.Reading.{AreArraysRead, AreClaimsRead, BitsAreApart, IsValueOf, IsPairOf, IsStructureOf, status_by, array_status, ReadsAs}
-use Rattle.tide_layout.specs.Region.{tag, size_of, place_of, word_count}
+use Rattle.tide_layout.specs.Region.{tag, size_of, place_in, word_count}
 use Rattle.tide_layout.specs.Slots.{HasSlot}
 use Rattle.tide_layout.proofs.ClassWidths.{slots_of-width}
 use Rattle.tide_words.proofs.heap_laws.HeapLaws.{Reads-heap_of, reads_write, write-other_region}
@@ -109,8 +109,8 @@ live_within layout shapes heap state cell reads alive = elim (cases_lt cell (cel
 
 -- what words read as after one was stored is what they read as, with that word written
 pub heap_of-stored : (layout : Layout) (words : List ℕ) (region : Region) (index word : ℕ) → length words ≡ word_count layout → index < size_of layout region →
-    (other : Region) → SameIn layout other (write (heap_of layout words) region index word) (heap_of layout (slice_set words (place_of layout region index) word))
+    (other : Region) → SameIn layout other (write (heap_of layout words) region index word) (heap_of layout (slice_set words (place_in layout region index) word))
 heap_of-stored layout words region index word all within =
     let stored = reads_write layout words (heap_of layout words) region index word (Reads-heap_of layout words all) within in
-    SameIn-reads layout (slice_set words (place_of layout region index) word) (write (heap_of layout words) region index word)
-    (heap_of layout (slice_set words (place_of layout region index) word)) stored (Reads-heap_of layout (slice_set words (place_of layout region index) word) stored.all_words)
+    SameIn-reads layout (slice_set words (place_in layout region index) word) (write (heap_of layout words) region index word)
+    (heap_of layout (slice_set words (place_in layout region index) word)) stored (Reads-heap_of layout (slice_set words (place_in layout region index) word) stored.all_words)

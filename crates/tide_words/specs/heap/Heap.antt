@@ -2,7 +2,7 @@
 use Rattle.std.specs.Prelude.{ℕ, ◌≡◌, ◌<◌, ◌==◌, ◌&&◌, List, length, slice_index, if◌then◌else◌}
 use Rattle.tide_model.specs.Layout.{Layout}
 use Rattle.tide_layout.specs.declared.region.Region.{Region}
-use Rattle.tide_layout.specs.Region.{tag, size_of, word_count, place_of}
+use Rattle.tide_layout.specs.Region.{tag, size_of, word_count, place_in}
 
 -- the word at each index of each region
 abbrev pub Heap : Type 0
@@ -15,11 +15,11 @@ write heap region index word other at = if (tag other == tag region) && (at == i
 -- the list holds, at the place of each word of the layout, what the heap says
 pub record Reads (layout : Layout) (words : List ℕ) (heap : Heap) : Type 0 where
   pub all_words : length words ≡ word_count layout
-  pub each : (region : Region) (index : ℕ) → index < size_of layout region → slice_index words (place_of layout region index) ≡ heap region index
+  pub each : (region : Region) (index : ℕ) → index < size_of layout region → slice_index words (place_in layout region index) ≡ heap region index
 
 -- the heap that a list of words reads as
 abbrev pub heap_of : Layout → List ℕ → Heap
-heap_of layout words region index = slice_index words (place_of layout region index)
+heap_of layout words region index = slice_index words (place_in layout region index)
 
 -- two heaps have the same words in a region
 abbrev pub SameIn : Layout → Region → Heap → Heap → Type 0

@@ -1,9 +1,10 @@
-use Rattle.std.proofs.Common.{◌≡◌, ◌<◌, ◌∙◌, refl, sym, ap, subst, arith, length, true, false}
+use Rattle.std.proofs.Common.{◌<◌, refl, ap, arith, length, true, false}
 use Rattle.std.proofs.lemmas.List.{length-set, get_or-set_other}
 use Rattle.std.specs.Prelude.{slice_set}
 use Rattle.tide_model.specs.Layout.{cell_count}
 use Rattle.tide_stored.specs.Parts.{parts_of}
-use Rattle.tide_stored.specs.Stored.{Stored, blank_stored}
+use Rattle.tide_parts.specs.PartLists.{blank_stored}
+use Rattle.tide_stored.specs.Stored.{Stored}
 use Rattle.tide_stored.proofs.RoomLaws.{state_of-born}
 use Rattle.tide_stored.proofs.StoredLaws.{MayStand-blank, IsStored-cell}
 use Rattle.tide_stored.proofs.contents.Contents.bear.Goals as goal

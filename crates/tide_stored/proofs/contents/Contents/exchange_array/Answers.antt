@@ -1,27 +1,12 @@
-use Rattle.std.proofs.Common.{◌≡◌, ◌<◌, ◌≤◌, ◌∙◌, refl, sym, ap, subst, arith, Bool, true, false, length, get_or, ℕ, List, Option, [], ◌∷◌, ◌++◌, None, Some}
-use Rattle.std.proofs.lemmas.Bool.{eq-eqb}
+use Rattle.std.proofs.Common.{◌<◌, ◌∙◌, refl, sym, ap, subst, arith, length, Some}
 use Rattle.std.proofs.lemmas.List.{length-set}
-use Rattle.std.specs.Prelude.{is_some, not, slice_set}
-use Rattle.tide_model.specs.declared.val.Val.TheVariants.{Empty}
-use Rattle.tide_model.specs.Applied.{put_cell, is_array_full, exchange_array}
 use Rattle.tide_model.specs.Layout.{array_count}
-use Rattle.tide_model.specs.Numbers.{is_among}
-use Rattle.tide_model.specs.References.{IsLive}
-use Rattle.tide_model.specs.Refused.{is_shape}
-use Rattle.tide_model.specs.State.{CellState, State, free}
-use Rattle.tide_shape.specs.ShapeTable.{keys_of}
-use Rattle.tide_stored.specs.declared.cells.Pair.{Pair}
-use Rattle.tide_stored.specs.declared.cells.StoredCell.{StoredCell}
-use Rattle.tide_stored.specs.Contents.{state_of, stored_at, IsStored}
+use Rattle.tide_model.specs.State.{State}
+use Rattle.tide_stored.specs.Contents.{state_of}
 use Rattle.tide_stored.specs.Parts.{parts_of}
 use Rattle.tide_stored.specs.Properties.{IsOwnArray}
-use Rattle.tide_stored.specs.Stored.{Stored, no_elements, pairs_of, IsDistinctPairs}
-use Rattle.tide_stored.proofs.AdditionLaws.{array_below, fewer_keys-found, has_key-found, has_room-at, may_add-found, place_of-found, state_of-exchanged, IsOwnArray-taken}
-use Rattle.tide_stored.proofs.LayoutLaws.{IsWithinLayout-stored}
-use Rattle.tide_stored.proofs.ListsAsFunctions.{get_or-put}
-use Rattle.tide_stored.proofs.PairCells.{state_of-places, IsStored-places, pairs_are-stored, room_for-seat, full-seatless, state_of-pair}
-use Rattle.tide_stored.proofs.PairLaws.{IsDistinctPairs-set, IsSeat-position, lacks-position, pairs_of-lacks, pairs_of-found, pairs_of-put, pairs_of-removed}
-use Rattle.tide_stored.proofs.PropertyLaws.{array_in-range, keys_are-stored, keys_from-room, own_array, own-stored, own_is-stored, state_of-append, state_of-property}
+use Rattle.tide_stored.specs.Stored.{Stored}
+use Rattle.tide_stored.proofs.AdditionLaws.{array_below, state_of-exchanged, IsOwnArray-taken}
 use Rattle.tide_stored.proofs.StoredLaws.{IsLive-at, IsSound-at, IsStored-cell, MayStand, MayStand-stored, stored_within}
 use Rattle.tide_stored.proofs.contents.Contents.exchange_array.Goals as goal
 
@@ -42,8 +27,8 @@ returns-clause-leaves c =
     let in_elements : c.args.taken < length contents.elements = omega (arith, c.requires.within, counted, c.self.invariant.all_elements) in
     rw (← c.self.view_is, c.store.ensures)
     (record {
-      state = state_of-exchanged contents c.args.cell c.args.taken c.stored-stored.result.now c.exchange.new.self.statuses.items c.exchange.new.self.elements.items sound live c.stored-stored.ensures
-          within in_elements (ap (λ (s : Stored). (state_of s).arrays c.args.taken) c.self.view_is ∙ c.requires.free) (ap (λ v. v.items) c.exchange.ensures.elements) c.exchange.ensures.statuses;
+      state = state_of-exchanged contents c.args.cell c.args.taken c.stored-stored.result.now c.exchange.new.self.statuses c.exchange.new.self.elements sound live c.stored-stored.ensures
+          within in_elements (ap (λ (s : Stored). (state_of s).arrays c.args.taken) c.self.view_is ∙ c.requires.free) (c.exchange.ensures.elements) c.exchange.ensures.statuses;
       layout = refl;
       shapes = refl;
     })
@@ -60,6 +45,6 @@ invariant_of-self c =
     let within = stored_within contents c.args.cell c.self.invariant live in
     let may = subst (MayStand contents) (sym c.stored-stored.ensures) (MayStand-stored contents c.args.cell c.self.invariant live) in
     rw c.store.ensures
-    (IsStored-cell contents c.args.cell (record c.stored-stored.result.now { array = Some c.args.taken }) contents.are_live c.exchange.new.self.statuses.items c.exchange.new.self.elements.items within refl
-    c.exchange.ensures.as_many (ap (λ v. length v.items) c.exchange.ensures.elements ∙ length-set contents.elements c.args.taken _) (λ other away. refl)
+    (IsStored-cell contents c.args.cell (record c.stored-stored.result.now { array = Some c.args.taken }) contents.are_live c.exchange.new.self.statuses c.exchange.new.self.elements within refl
+    c.exchange.ensures.as_many (ap length c.exchange.ensures.elements ∙ length-set contents.elements c.args.taken _) (λ other away. refl)
     (record { shape = may.shape; array = λ some. refl; pairs = may.pairs }) c.self.invariant)

@@ -1,12 +1,10 @@
-use Rattle.std.proofs.Common.{◌≢◌, sym, ◌∙◌, ap, subst, arith, List, get_or}
+use Rattle.std.proofs.Common.{ap, arith}
 use Rattle.std.proofs.lemmas.Option.{IfSome_then}
 use Rattle.tide_layout.proofs.LimitLaws.{few_arrays}
 use Rattle.tide_model.specs.Layout.{array_count}
 use Rattle.tide_stored.specs.Stored.{Stored}
 use Rattle.tide_stored.specs.Parts.{parts_of}
 use Rattle.tide_stored.proofs.ClassLaws.{IfNone_then, arrays_of_class-end, arrays_of_class-full, IsFreeArrayOf-stored, lowest_free_array}
-use Rattle.tide_stored.specs.declared.arrays.ArrayStatus.{ArrayStatus}
-use Rattle.tide_stored.specs.declared.arrays.ArrayStatus.TheVariants.{Free}
 use Rattle.tide_stored.proofs.contents.Contents.free_array_of.Goals as goal
 
 pub overflow_add-end : goal.overflow_add-end

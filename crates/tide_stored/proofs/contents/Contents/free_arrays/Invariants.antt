@@ -1,8 +1,8 @@
 use Rattle.std.proofs.Common.{◌≡◌, ◌≤◌}
 use Rattle.std.specs.Prelude.{◌==◌, ◌&&◌}
-use Rattle.tide_model.specs.Layout.{class_of, class_of_array}
+use Rattle.tide_model.specs.Layout.{class_of_array}
 use Rattle.tide_model.specs.Numbers.{count_where}
-use Rattle.tide_model.specs.State.{is_free, is_live}
+use Rattle.tide_model.specs.State.{is_free}
 use Rattle.tide_stored.specs.Contents.{state_of}
 use Rattle.tide_stored.specs.Parts.{parts_of}
 use Rattle.tide_stored.proofs.contents.Contents.free_arrays.Given as goal

@@ -1,4 +1,4 @@
-use Rattle.std.proofs.Common.{sym, ◌∙◌, ap, arith, Bool, false, List, get_or}
+use Rattle.std.proofs.Common.{ap, arith}
 use Rattle.std.proofs.lemmas.Option.{IfSome_then}
 use Rattle.tide_layout.proofs.LimitLaws.{few_cells}
 use Rattle.tide_model.specs.Layout.{cell_count}

@@ -1,6 +1,6 @@
 use Rattle.std.proofs.Common.{◌≡◌, ◌∙◌, ap, arith, ℕ}
 use Rattle.std.specs.Prelude.{◌==◌, ◌&&◌}
-use Rattle.tide_model.specs.Layout.{cell_count, array_count, class_of, class_of_array}
+use Rattle.tide_model.specs.Layout.{cell_count, class_of}
 use Rattle.tide_model.specs.Numbers.{count_where}
 use Rattle.tide_model.specs.State.{is_free}
 use Rattle.tide_stored.specs.Contents.{state_of}

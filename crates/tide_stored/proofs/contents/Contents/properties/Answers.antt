@@ -1,6 +1,6 @@
 use Rattle.std.proofs.Common.{◌∙◌, sym, ap, subst}
 use Rattle.tide_model.specs.References.{IsLive, RefsAreLive}
-use Rattle.tide_stored.specs.declared.cells.StoredCell.{StoredCell}
+use Rattle.tide_parts.specs.declared.cells.StoredCell.{StoredCell}
 use Rattle.tide_stored.specs.Contents.{state_of}
 use Rattle.tide_stored.specs.Parts.{parts_of}
 use Rattle.tide_stored.specs.Stored.{Stored}

@@ -1,10 +1,7 @@
-use Rattle.std.proofs.Common.{◌≡◌, ◌<◌, ◌∙◌, refl, sym, ap, subst, arith, length, true, false}
+use Rattle.std.proofs.Common.{refl, sym, ap}
 use Rattle.tide_model.specs.declared.val.Val.TheVariants.{Cell}
-use Rattle.tide_model.specs.References.{IsLive}
-use Rattle.tide_stored.specs.declared.cells.StoredCell.{StoredCell}
+use Rattle.tide_parts.specs.declared.cells.StoredCell.{StoredCell}
 use Rattle.tide_stored.specs.Parts.{parts_of}
-use Rattle.tide_stored.specs.Contents.{state_of, stored_at}
-use Rattle.tide_stored.specs.Stored.{Stored}
 use Rattle.tide_stored.proofs.StoredLaws.{IsLive-at, IsStored-kept, stored_within}
 use Rattle.tide_stored.proofs.StoredCellLaws.{state_of-group}
 use Rattle.tide_stored.proofs.contents.Contents.set_group.Goals as goal

@@ -1,7 +1,7 @@
-use Rattle.std.proofs.Common.{◌≡◌, ◌<◌, refl, ap, arith, length}
+use Rattle.std.proofs.Common.{◌<◌, refl, ap, arith, length}
 use Rattle.std.proofs.lemmas.List.{length-set}
 use Rattle.tide_stored.specs.Parts.{parts_of}
-use Rattle.tide_stored.specs.Stored.{Stored, mutator_at}
+use Rattle.tide_stored.specs.Stored.{Stored}
 use Rattle.tide_stored.proofs.MutatorLaws.{state_of-claims, IsStored-mutators}
 use Rattle.tide_stored.proofs.contents.Contents.unclaim.Goals as goal
 

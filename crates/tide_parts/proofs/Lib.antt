@@ -1,0 +1,5 @@
+pub mod Copies
+pub mod FreedArrays
+pub mod ListsAsFunctions
+pub mod PairLaws
+pub mod Retaining
