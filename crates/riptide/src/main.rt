@@ -7,7 +7,7 @@
 use std::alloc::AllocError;
 use std::process::ExitCode;
 use std::{env, io};
-use tide_io::{RealSink, RealSource, write_all};
+use tide_io::{Gathered, RealSink, RealSource, write_all};
 use tide_model::FreePass;
 use tide_run::riptide;
 
@@ -31,7 +31,7 @@ fn command_words(rt: &HostRuntime) -> Result<Vec<String>, AllocError> {
 fn main(rt: HostRuntime) -> ExitCode {
     let alloc = rt.alloc();
     let mut source = RealSource::new(rt.stdin());
-    let mut out = RealSink::new(rt.stdout());
+    let mut out = Gathered::new(RealSink::new(rt.stdout()));
     let mut err = RealSink::new(rt.stderr());
     let Ok(words) = command_words(&rt) else {
         let _ = write_all(&mut err, b"riptide: no memory\n");

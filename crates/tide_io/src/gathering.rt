@@ -27,8 +27,11 @@ impl<K: Sink> Model for Gathered<K> {
     ghost Value = { GatherState };
 
     ghost view = { λ g. record {
-        handed_on = K.held g.out; waiting = drop g.sent g.bytes.items;
-        room = 4096 - length g.bytes.items; faults = K.faults g.out } };
+      handed_on = K.held g.out;
+      waiting = drop g.sent g.bytes.items;
+      room = 4096 - length g.bytes.items;
+      faults = K.faults g.out;
+    } };
 
     ghost invariant = { λ g. (g.sent ≤ length g.bytes.items) × (length g.bytes.items ≤ 4096) };
 }

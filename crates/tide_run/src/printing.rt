@@ -77,7 +77,7 @@ fn write_cycles_of<K: Sink>(out: &mut K, outcome: &Outcome) -> Result<(), Failed
 }
 
 /// Writes the text of a run.
-pub fn write_text<K: Sink>(out: &mut K, load: &Workload, outcome: &Outcome) -> Result<(), Failed>
+fn write_text<K: Sink>(out: &mut K, load: &Workload, outcome: &Outcome) -> Result<(), Failed>
     requires mutators { outcome.now.layout.mutators ≡ 1 }
     requires keys { outcome.now.keys ≡ load.now.keys }
     ensures whole { OnOk result (Appends (K.held out.old) (K.held out.new)
@@ -90,4 +90,19 @@ pub fn write_text<K: Sink>(out: &mut K, load: &Workload, outcome: &Outcome) -> R
     write_calls_of(out, load, outcome)?;
     write_cycles_of(out, outcome)?;
     write_live(out, outcome.live())
+}
+
+/// Writes the text of a run, and has the sink hand on all of it.
+pub fn print_text<K: Sink>(out: &mut K, load: &Workload, outcome: &Outcome) -> Result<(), Failed>
+    requires mutators { outcome.now.layout.mutators ≡ 1 }
+    requires keys { outcome.now.keys ≡ load.now.keys }
+    ensures whole { OnOk result (Appends (K.held out.old) (K.held out.new)
+        (text_of outcome.now.keys outcome.now.layout outcome.now.history)) }
+    ensures part { OnErr result (AppendsPart (K.held out.old) (K.held out.new)
+        (text_of outcome.now.keys outcome.now.layout outcome.now.history)) }
+    ensures handed_on { OnOk result (K.waiting out.new ≡ 0) }
+    ensures cause { HasCause (K.faults out.old) (K.faults out.new) result }
+{
+    write_text(out, load, outcome)?;
+    out.flush()
 }

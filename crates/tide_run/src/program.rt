@@ -6,7 +6,7 @@ ghost use Rattle.tide_workload.specs.Words.{Fault as FaultValue, reads_workload,
 ghost use Rattle.tide_run.specs.Program.{input_of, status_line, IsStatus, ReadWork, RefusedInput, RanInput, TellsLine, ToldFault};
 
 use crate::outcome::Outcome;
-use crate::printing::write_text;
+use crate::printing::print_text;
 use crate::runs::run;
 use std::alloc::Global;
 use std::marker::Sync;
@@ -130,6 +130,7 @@ fn print<K: Sink, E: Sink>(out: &mut K, err: &mut E, load: &Workload, outcome: O
         Appends (K.held out.old) (K.held out.new) (text_of outcome.keys outcome.layout outcome.history) }
     ensures part { result.status ≡ 5 →
         AppendsPart (K.held out.old) (K.held out.new) (text_of outcome.keys outcome.layout outcome.history) }
+    ensures handed_on { result.status ≡ 0 → K.waiting out.new ≡ 0 }
     ensures write_fault { result.status ≡ 5 → Rose (K.faults out.old) (K.faults out.new) }
     ensures quiet { result.status ≡ 0 → Keeps (E.held err.old) (E.held err.new) }
     ensures told { result.status ≢ 0 →
@@ -137,7 +138,7 @@ fn print<K: Sink, E: Sink>(out: &mut K, err: &mut E, load: &Workload, outcome: O
     ensures later_out { K.faults out.old ≤ K.faults out.new }
     ensures later_err { E.faults err.old ≤ E.faults err.new }
 {
-    match write_text(out, load, &outcome) {
+    match print_text(out, load, &outcome) {
         Ok(()) => Ended {
             status: 0,
             outcome: Some(outcome),
@@ -175,6 +176,9 @@ pub fn riptide<R: Threads + Sync, S: Source, K: Sink, E: Sink, T: Turnstile>(
         Appends (K.held out.old) (K.held out.new) (text_of ran.keys ran.layout ran.history)) }
     ensures printed_part { result.status ≡ 5 → IsSomeAnd result.outcome (λ ran.
         AppendsPart (K.held out.old) (K.held out.new) (text_of ran.keys ran.layout ran.history)) }
+
+    // What was printed waits in no buffer.
+    ensures handed_on { result.status ≡ 0 → K.waiting out.new ≡ 0 }
 
     // Where nothing was run, nothing is printed.
     ensures no_outcome { result.status ≢ 0 → result.status ≢ 5 → result.outcome ≡ None }
