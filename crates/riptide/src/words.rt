@@ -1,0 +1,24 @@
+//! The words of the command line.
+ghost use Rattle.std.specs.Prelude.{◌≡◌, ◌<◌, length, IfOk, IsErr};
+
+use std::alloc::{AllocError, Global};
+use std::env::Args;
+use std::io;
+
+/// The words of the command line, of which the first is the program's name. Where they aren't all text they are a faulty
+/// command line, as is one word too many.
+pub fn words_of(alloc: Global, args: io::Result<Args>) -> Result<Vec<String>, AllocError>
+    ensures refused { IsErr args → IfOk result (λ words. 1 < length words.items) }
+{
+    match args {
+        Ok(words) => words.collect(alloc),
+        Err(error) if error.kind() == io::ErrorKind::OutOfMemory => Err(AllocError),
+        Err(_) => {
+            let mut words = Vec::new(alloc);
+            for word in ["riptide", "?"] {
+                words.push(String::from_str(alloc, word)?)?;
+            }
+            Ok(words)
+        }
+    }
+}
