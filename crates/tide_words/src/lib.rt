@@ -17,6 +17,6 @@ pub use forms::{
 };
 pub use heap::{Fields, VecWords, Words, array_of, is_live, is_vacant};
 pub use marking::{
-    Constraint, GreyList, Ranked, Volatility, blacken, is_marked, mark, mark_named, running_cycle,
+    Constraint, GreyList, Volatility, blacken, is_marked, mark, mark_named, running_cycle,
 };
 pub use tide_layout::{Layout, Region};
