@@ -6,6 +6,6 @@ mod vec_words;
 mod words;
 
 pub use fields::{Fields, array_of};
-pub use live::is_live;
+pub use live::{is_live, is_vacant};
 pub use vec_words::VecWords;
 pub use words::Words;
