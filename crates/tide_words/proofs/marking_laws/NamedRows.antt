@@ -1,10 +1,10 @@
 -- Which cells the words of a small heap name, and a word that names none.
 use Rattle.std.proofs.Common.{ℕ, ◌≡◌, ◌+◌, ◌*◌, ◌==◌, refl, arith, Bool, true, false}
 use Rattle.std.specs.Prelude.{if◌then◌else◌}
-use Rattle.tide_layout.specs.declared.region.Region.TheVariants.{Claim, Registers}
+use Rattle.tide_layout.specs.declared.region.Region.TheVariants.{Registers}
 use Rattle.tide_layout.specs.Region.{index_of_register}
 use Rattle.tide_words.specs.heap.EmptyHeap.{empty_heap}
-use Rattle.tide_words.specs.heap.Heap.{Heap, write}
+use Rattle.tide_words.specs.heap.Heap.{write}
 use Rattle.tide_words.specs.marking.Named.{IsNamedByMutator, of_register, of_claim}
 use Rattle.tide_words.proofs.marking_laws.ReadingRows.{small}
 
