@@ -3,6 +3,7 @@ pub mod CellLaw
 pub mod CellReading
 pub mod EmptyReading
 pub mod FieldLaws
+mod FieldRows
 pub mod Filling
 pub mod FormReading
 pub mod Frames

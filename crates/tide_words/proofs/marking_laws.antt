@@ -5,6 +5,7 @@ pub mod EmptyMarking
 pub mod MarkedLaws
 pub mod MarkingLaws
 pub mod NamedLaws
+mod NamedRows
 pub mod ReadingRows
 pub mod RowLaws
 pub mod RuleLaws

@@ -3,7 +3,7 @@ use Rattle.std.proofs.Common.{◌≡◌, refl, arith, true, false, Some, None}
 use Rattle.tide_model.specs.declared.val.Val.TheVariants.{Empty, Int, Cell}
 use Rattle.tide_model.specs.State.{idle, marking}
 use Rattle.tide_words.specs.declared.forms.colours.Colour.TheVariants.{White, Grey}
-use Rattle.tide_words.specs.forms.ColourWord.{colour_word, colour_of, is_marked_in, phase_word, phase_of}
+use Rattle.tide_words.specs.forms.ColourWord.{colour_word, colour_of, is_black_in, is_grey_in, is_marked_in, phase_word, phase_of}
 use Rattle.tide_words.specs.forms.PairWord.{pair_word}
 use Rattle.tide_words.specs.forms.Reference.{array_word, claim_word}
 use Rattle.tide_words.specs.forms.StructureWord.{structure_word}
@@ -40,6 +40,18 @@ grey = refl
 
 grey_is_marked : is_marked_in 2 10 ≡ true
 grey_is_marked = refl
+
+black_reads_as_black : is_black_in 2 8 ≡ true
+black_reads_as_black = refl
+
+grey_does_not_read_as_black : is_black_in 2 10 ≡ false
+grey_does_not_read_as_black = refl
+
+older_black_does_not_read_as_black : is_black_in 2 4 ≡ false
+older_black_does_not_read_as_black = refl
+
+later_grey_reads_as_grey : is_grey_in 2 14 ≡ true
+later_grey_reads_as_grey = refl
 
 older_grey_is_white : colour_of 6 2 ≡ White
 older_grey_is_white = refl
