@@ -37,7 +37,7 @@ pub fn answer<R: Threads + Sync, S: Source, K: Sink, E: Sink>(
     ensures unread { result ≡ 2 → Keeps (S.left source.old) (S.left source.new) }
     ensures bad_input { result ≡ 3 →
         ToldFault (S.left source.old) (S.left source.new)
-            (E.held err.old) (E.held err.new) (E.faults err.old) (E.faults err.new) }
+        (E.held err.old) (E.held err.new) (E.faults err.old) (E.faults err.new) }
     ensures read_fault { result ≡ 4 → Rose (S.faults source.old) (S.faults source.new) }
     ensures write_fault { result ≡ 5 → Rose (K.faults out.old) (K.faults out.new) }
 

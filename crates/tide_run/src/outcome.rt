@@ -54,9 +54,11 @@ impl Outcome {
         live: u32,
     ) -> Outcome
         requires { IsOutcome layout (map (λ name. name.items) names.items) (Kept.Own (record {
-            records = records })) calls.items live }
+          records = records;
+        })) calls.items live }
         ensures { result ≡ ran_of layout (map (λ name. name.items) names.items) (Kept.Own (record {
-            records = records })) }
+          records = records;
+        })) }
     {
         let kept = Kept::Own(Told { records });
         Outcome {

@@ -189,7 +189,7 @@ pub fn riptide<R: Threads + Sync, S: Source, K: Sink, E: Sink, T: Turnstile>(
     ensures unread { result.status ≡ 2 → Keeps (S.left source.old) (S.left source.new) }
     ensures bad_input { result.status ≡ 3 →
         ToldFault (S.left source.old) (S.left source.new)
-            (E.held err.old) (E.held err.new) (E.faults err.old) (E.faults err.new) }
+        (E.held err.old) (E.held err.new) (E.faults err.old) (E.faults err.new) }
     ensures read_fault { result.status ≡ 4 → Rose (S.faults source.old) (S.faults source.new) }
     ensures write_fault { result.status ≡ 5 → Rose (K.faults out.old) (K.faults out.new) }
 
