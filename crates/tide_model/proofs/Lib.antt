@@ -6,6 +6,7 @@ pub mod DanglingRows
 pub mod Histories
 pub mod LawfulReferences
 pub mod NumberLaws
+pub mod PositionLaws
 pub mod ReferenceLaws
 pub mod ReferenceSteps
 pub mod ReferencesInCycles

@@ -48,11 +48,18 @@ among_push_last xs x = is_among-append xs (x ∷ []) x ∙ or_right (is_among xs
 pub among_push_old : (xs : List ℕ) (x n : ℕ) → is_among xs n ≡ true → is_among (xs ++ x ∷ []) n ≡ true
 among_push_old xs x n h = is_among-append xs (x ∷ []) n ∙ ap (λ (b : Bool). b || is_among (x ∷ []) n) h
 
+-- the first of a list is among it, and so is what is among the others
+pub among_first : (x : ℕ) (xs : List ℕ) → is_among (x ∷ xs) x ≡ true
+among_first x xs = ap (λ (b : Bool). b || is_among xs x) (eq-eqb x x refl)
+
+pub among_rest : (x : ℕ) (xs : List ℕ) (n : ℕ) → is_among xs n ≡ true → is_among (x ∷ xs) n ≡ true
+among_rest x xs n h = or_right (n == x) (is_among xs n) h
+
 -- an element is among its list
 pub among_get_or : (xs : List ℕ) (k : ℕ) → k < length xs → is_among xs (get_or xs k 0) ≡ true
 among_get_or [] k h = absurd (omega arith)
-among_get_or (x ∷ xs) zero h = ap (λ (b : Bool). b || is_among xs x) (eq-eqb x x refl)
-among_get_or (x ∷ xs) (suc k) h = or_right (get_or xs k 0 == x) (is_among xs (get_or xs k 0)) (among_get_or xs k (omega arith))
+among_get_or (x ∷ xs) zero h = among_first x xs
+among_get_or (x ∷ xs) (suc k) h = among_rest x xs (get_or xs k 0) (among_get_or xs k (omega arith))
 
 -- what each of some numbers below a bound is
 pub below_and_passes : (test : ℕ → Bool) (bound n : ℕ) → is_among (numbers_where test bound) n ≡ true → (n < bound) × (test n ≡ true)

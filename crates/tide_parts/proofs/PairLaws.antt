@@ -9,7 +9,7 @@ use Rattle.std.proofs.lemmas.List.Recursion.{found_at}
 use Rattle.std.specs.Prelude.{◌==◌, if◌then◌else◌, slice_set, is_some, not, cond, position, All, IfNone, IfSome}
 use Rattle.tide_model.specs.declared.val.Val.{Val}
 use Rattle.tide_model.specs.Numbers.{put_at, count_where}
-use Rattle.tide_shape.proofs.PositionLaws.{All-position}
+use Rattle.tide_model.proofs.PositionLaws.{All-position}
 use Rattle.tide_model.proofs.NumberLaws.{count_where-same}
 use Rattle.tide_parts.specs.declared.cells.Pair.{Pair}
 use Rattle.tide_parts.specs.Pairs.{is_of, IsSeat}

@@ -1,5 +1,5 @@
 //! Operations that take a free cell.
-ghost use Rattle.std.specs.Prelude.{◌≡◌, ◌<◌, None};
+ghost use Rattle.std.specs.Prelude.{◌<◌, None};
 ghost use Rattle.tide_model.specs.Applied.{put_cell, put_register};
 ghost use Rattle.tide_model.specs.Lawful.{FitsLayout};
 ghost use Rattle.tide_model.specs.Layout.{cell_count};

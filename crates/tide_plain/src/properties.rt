@@ -1,5 +1,5 @@
 //! Operations on properties: why one is refused, and else a property read, written or added.
-ghost use Rattle.std.specs.Prelude.{◌≡◌, ◌<◌, ◌∷◌, [], ℕ, List, Option, None, Some, true, length, IfErr, IfOk, OnOk};
+ghost use Rattle.std.specs.Prelude.{◌≡◌, ◌<◌, ℕ, List, Option, None, Some, true, length, IfErr, IfOk, OnOk};
 ghost use Rattle.tide_model.specs.Applied.{place_of};
 ghost use Rattle.tide_model.specs.Lawful.{FitsLayout};
 ghost use Rattle.tide_model.specs.References.{IsLive};

@@ -2,7 +2,6 @@ pub mod DoubleLaws
 pub mod GrowthLaws
 pub mod LinkLaws
 pub mod PathLaws
-pub mod PositionLaws
 pub mod ShapesLaws
 pub mod TableLaws
 pub mod TableRows

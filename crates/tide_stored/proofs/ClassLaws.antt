@@ -1,11 +1,12 @@
 -- Which cells and arrays are those of a class, and when its blocks are full.
-use Rattle.std.proofs.Common.{ℕ, ◌≡◌, ◌≢◌, ◌+◌, ◌*◌, ◌<◌, ◌≤◌, refl, ap, arith, Bool, true, false, get_or, inl, inr, Option, None, Some}
+use Rattle.std.proofs.Common.{ℕ, ◌≡◌, ◌≢◌, ◌+◌, ◌*◌, ◌<◌, ◌≤◌, refl, sym, ◌∙◌, ap, arith, Bool, true, false, get_or, inl, inr, Option, None, Some}
 use Rattle.std.proofs.lemmas.Bool.{cases_lt}
 use Rattle.std.specs.Prelude.{if◌then◌else◌, IfSome, IfNone}
+use Rattle.std.specs.Option.{MatchOption}
 use Rattle.tide_model.specs.Layout.{Layout, IsBlockOf, first_block_of, blocks_of, cell_count, array_count, block_of_array}
-use Rattle.tide_model.specs.Answer.{IsFreeArrayOf}
+use Rattle.tide_model.specs.Answer.{IsFreeArrayOf, IsFreeCellOf}
 use Rattle.tide_model.specs.Room.{IsFullBlock}
-use Rattle.tide_model.specs.State.{blank_cell, free, is_free}
+use Rattle.tide_model.specs.State.{blank_cell, free, is_free, live}
 use Rattle.tide_layout.specs.Limits.{IsWithinLimits}
 use Rattle.tide_block.specs.Places.{first_cell_of, first_array_of}
 use Rattle.tide_block.proofs.RisingLaws.{rising-le}
@@ -19,10 +20,31 @@ use Rattle.tide_parts.specs.PartLists.{status_of}
 use Rattle.tide_stored.specs.Stored.{live_cell}
 use Rattle.tide_stored.specs.Contents.{state_of, stored_at, IsStored}
 
--- what follows from what holds where there is no value
-pub IfNone_then : {X : Type 0} (found : Option X) {P Q : Type 0} → IfNone found P → (P → Q) → IfNone found Q
-IfNone_then None holds follows = follows holds
-IfNone_then (Some x) holds follows = tt
+-- what a search through the numbers from `first` on and below `end` answers: the first that passes, or none where all fail
+abbrev pub IsFirstFound : (ℕ → Type 0) → (ℕ → Type 0) → ℕ → ℕ → Option ℕ → Type 0
+IsFirstFound Passes Fails first end found =
+    MatchOption found ((n : ℕ) → first ≤ n → n < end → Fails n) (λ i. (first ≤ i) × (i < end) × Passes i × ((n : ℕ) → first ≤ n → n < i → Fails n))
+
+-- what holds of each number that passes holds of the one that is found
+pub found-holds : (Passes Fails Q : ℕ → Type 0) (first end : ℕ) (found : Option ℕ) → IsFirstFound Passes Fails first end found →
+    ((n : ℕ) → first ≤ n → n < end → Passes n → Q n) → IfSome found Q
+found-holds Passes Fails Q first end None is each = tt
+found-holds Passes Fails Q first end (Some i) is each = each i is.0 is.1 is.2
+
+-- it is the lowest of those that don't fail
+pub found-lowest : (Passes Fails Q : ℕ → Type 0) (first end : ℕ) (found : Option ℕ) → IsFirstFound Passes Fails first end found →
+    ((n : ℕ) → Q n → (first ≤ n) × (Fails n → ⊥)) → IfSome found (λ i. (other : ℕ) → Q other → i ≤ other)
+found-lowest Passes Fails Q first end None is each = tt
+found-lowest Passes Fails Q first end (Some i) is each = λ other holds. elim (cases_lt other i) [
+  | inl before ↦ absurd ((each other holds).1 (is.3 other (each other holds).0 before))
+  | inr after ↦ after
+]
+
+-- where none is found all fail
+pub found-none : (Passes Fails : ℕ → Type 0) (P : Type 0) (first end : ℕ) (found : Option ℕ) → IsFirstFound Passes Fails first end found →
+    (((n : ℕ) → first ≤ n → n < end → Fails n) → P) → IfNone found P
+found-none Passes Fails P first end None is follows = follows is
+found-none Passes Fails P first end (Some i) is follows = tt
 
 -- behind the last cell of a class
 abbrev pub last_cell_of : Layout → ℕ → ℕ
@@ -93,26 +115,29 @@ arrays_of_class-full contents class stored large few all block of =
           (all array (omega (arith, begins, of.from, in_block)) (omega (arith, begins, of.below, in_block)));
     }
 
--- an array of a class that is stored as free is a free array of the class
-pub IsFreeArrayOf-stored : (contents : Stored) (class : ℕ) (found : Option ℕ) → IsStored contents → 5 ≤ class →
-    IfSome found (λ array. first_array_of contents.layout class ≤ array) → IfSome found (λ array. array < last_array_of contents.layout class) →
-    IfSome found (λ array. get_or contents.statuses array Free ≡ Free) →
-    IfSome found (λ array. IsFreeArrayOf contents.layout (state_of contents) class array)
-IsFreeArrayOf-stored contents class None stored large from below is_free = tt
-IsFreeArrayOf-stored contents class (Some array) stored large from below is_free =
+-- an array of a class that is stored as free is a free array of the class, and no other is
+pub IsFreeArrayOf-stored : (contents : Stored) (class array : ℕ) → IsStored contents → 5 ≤ class →
+    first_array_of contents.layout class ≤ array → array < last_array_of contents.layout class → get_or contents.statuses array Free ≡ Free →
+    IsFreeArrayOf contents.layout (state_of contents) class array
+IsFreeArrayOf-stored contents class array stored large from below is_free =
     let begins = first_block_of-arrays contents.layout class stored.limits.five_cell_classes large in
     record {
       of_class = record { from = omega (arith, begins, from); below = omega (arith, begins, below) };
       is_free = ap status_of is_free;
     }
 
--- it is the lowest where those of the class before it aren't free
-pub lowest_free_array : (contents : Stored) (class array other : ℕ) → IsStored contents → 5 ≤ class →
-    ((lower : ℕ) → first_array_of contents.layout class ≤ lower → lower < array → get_or contents.statuses lower Free ≢ Free) →
-    IsFreeArrayOf contents.layout (state_of contents) class other → array ≤ other
-lowest_free_array contents class array other stored large lower is_free = elim (cases_lt other array) [
-  | inl before ↦
-      let between = array_of_class-between contents.layout class other stored.limits large is_free.of_class in
-      absurd (lower other between.0 before (stored_as_free (get_or contents.statuses other Free) is_free.is_free))
-  | inr after ↦ after
-]
+pub array_is-free : (contents : Stored) (class array : ℕ) → IsStored contents → 5 ≤ class → IsFreeArrayOf contents.layout (state_of contents) class array →
+    (first_array_of contents.layout class ≤ array) × (get_or contents.statuses array Free ≢ Free → ⊥)
+array_is-free contents class array stored large is = (
+  let between = array_of_class-between contents.layout class array stored.limits large is.of_class in between.0,
+  λ other. other (stored_as_free (get_or contents.statuses array Free) is.is_free),
+)
+
+-- a free cell of a class isn't stored as live
+pub cell_is-free : (contents : Stored) (class cell : ℕ) → IsFreeCellOf contents.layout (state_of contents) class cell →
+    (first_cell_of contents.layout class ≤ cell) × (get_or contents.are_live cell false ≡ true → ⊥)
+cell_is-free contents class cell is = (
+  omega (arith, is.of_class.from),
+  λ is_live. let clash : live ≡ free =
+      ap (λ (flag : Bool). (if flag then live_cell contents.shapes contents.elements (stored_at contents cell) else blank_cell free).status) (sym is_live) ∙ is.is_free in cc,
+)

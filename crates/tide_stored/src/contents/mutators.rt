@@ -1,5 +1,5 @@
 //! Changes of a mutator: a register, the claims, and its end.
-ghost use Rattle.std.specs.Prelude.{◌≡◌, ◌<◌, ◌==◌, ◌++◌, ◌∷◌, [], drop, false, filter, length, not};
+ghost use Rattle.std.specs.Prelude.{◌<◌, ◌==◌, ◌++◌, ◌∷◌, [], drop, false, filter, length, not};
 
 use crate::contents::Contents;
 use tide_model::Val;

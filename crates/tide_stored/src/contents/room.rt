@@ -26,7 +26,7 @@ impl Contents {
     {
         let first = first_of(&self.layout, class);
         let end = first + BLOCK_SIZE * u32::from(self.layout.blocks(class));
-        self.cells.first_free(first, end)
+        (first..end).find(|cell| !self.cells.is_live(*cell))
     }
 
     /// The free array of a class from 5 to 9 with the lowest id.
@@ -42,7 +42,7 @@ impl Contents {
     {
         let first = first_array_of(&self.layout, class);
         let end = first + BLOCK_SIZE * u32::from(self.layout.blocks(class));
-        self.arrays.first_free(first, end)
+        (first..end).find(|array| self.arrays.status(*array) == ArrayStatus::Free)
     }
 
     /// How many cells are live.

@@ -2,7 +2,7 @@
 use Rattle.std.proofs.Common.{◌≡◌, length, [], get_or, arith, sym, ◌∙◌, ap, below_more}
 use Rattle.std.proofs.lemmas.Option.{slice_get_within, get_or_from_slice_get}
 use Rattle.tide_shape.specs.Shapes.{names_twice}
-use Rattle.tide_shape.proofs.PositionLaws.{position_at, position_nowhere}
+use Rattle.tide_model.proofs.PositionLaws.{position_at, position_nowhere}
 use Rattle.tide_shape.proofs.shapes.double_path.Goals as goal
 
 pub returns-then-has_double : goal.returns-then-has_double

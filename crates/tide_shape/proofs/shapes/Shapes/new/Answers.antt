@@ -2,7 +2,7 @@
 use Rattle.std.proofs.Common.{sym, subst}
 use Rattle.tide_shape.specs.ShapeTable.{IsShapeTable}
 use Rattle.tide_shape.specs.Shapes.{names_twice}
-use Rattle.tide_shape.proofs.PositionLaws.{All-position}
+use Rattle.tide_model.proofs.PositionLaws.{All-position}
 use Rattle.tide_shape.proofs.TableLaws.{shapes_of_paths-is_table}
 use Rattle.tide_shape.proofs.shapes.Shapes.new.Goals as goal
 

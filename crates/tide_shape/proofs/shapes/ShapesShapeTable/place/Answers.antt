@@ -2,7 +2,7 @@
 use Rattle.std.proofs.Common.{ℕ, ◌≡◌, ◌==◌, List, Option, None, Some, sym, subst}
 use Rattle.std.specs.Prelude.{position, Contains, IfNone}
 use Rattle.tide_shape.specs.ShapeTable.{keys_of}
-use Rattle.tide_shape.proofs.PositionLaws.{slice_get-position, absent-position}
+use Rattle.tide_model.proofs.PositionLaws.{slice_get-position, absent-position}
 use Rattle.tide_shape.proofs.shapes.ShapesShapeTable.place.Goals as goal
 
 pub returns-in_err-place-clause-none : goal.returns-in_err-place-clause-none
