@@ -4,7 +4,7 @@ use Rattle.std.specs.List.{flat_map}
 use Rattle.tide_model.specs.declared.op.Op.{Op}
 use Rattle.tide_model.specs.declared.op.Reply.{Reply}
 use Rattle.tide_model.specs.declared.entry.Entry.{Entry}
-use Rattle.tide_model.specs.declared.entry.Entry.TheVariants.{Call, Begin, Pause, Visits, End, Sweep, Open}
+use Rattle.tide_model.specs.declared.entry.Entry.TheVariants.{End}
 use Rattle.tide_model.specs.declared.entry.Event.{Event}
 use Rattle.tide_model.specs.Layout.{Layout}
 use Rattle.tide_model.specs.State.{State, empty_state}
@@ -28,13 +28,8 @@ mutators_text keys (suc mutator) history = mutators_text keys mutator history ++
 
 -- the line of an entry that ends a cycle, after which so many cells live
 abbrev pub end_line : Entry → ℕ → List ℕ
-end_line (Call who op reply) kept = []
-end_line (Begin cycle) kept = []
-end_line (Pause visits) kept = []
-end_line (Visits who visits) kept = []
 end_line (End cycle freed) kept = cycle_line cycle kept freed
-end_line (Sweep block) kept = []
-end_line (Open number run) kept = []
+end_line _ kept = []
 
 -- the lines of the cycles that end in some events, which stand from a state on
 abbrev pub cycles_from : Layout → State → List Event → List ℕ
