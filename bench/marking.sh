@@ -1,39 +1,71 @@
 #!/usr/bin/env bash
-# Times the built program check_marking on chains of one layout after another, and prints a table.
+# Times chains of cells, marked in words by check_marking and collected in the plain store by riptide, and prints a table.
 #
-#   bash bench/marking.sh [PROGRAM]
+#   bash bench/marking.sh [CHECK_MARKING [RIPTIDE]]
 #
-# PROGRAM is crates/check_marking/out/check_marking where it isn't given; `cd crates/check_marking && rt run < stdin`
-# builds it. It needs bash. Seconds are the least of five runs, from the program's start to its end: of one check, and
-# of a hundred of the same.
+# The programs are crates/check_marking/out/check_marking and crates/riptide/out/riptide where they aren't given; in each
+# of the two folders `rt run < stdin` builds it. The columns of a program that isn't there are left empty. It needs bash
+# and awk. Seconds are the least user time of three runs, from the program's start to its end.
 set -u
 
 here=$(cd "$(dirname "$0")" && pwd)
-program=${1:-$here/../crates/check_marking/out/check_marking}
-if [ ! -x "$program" ]; then
-    echo "no program at $program: build it by 'cd crates/check_marking && rt run < stdin'" >&2
-    exit 2
-fi
-TIMEFORMAT=%R
+words=${1:-$here/../crates/check_marking/out/check_marking}
+plain=${2:-$here/../crates/riptide/out/riptide}
+folder=$(mktemp -d)
+trap 'rm -rf "$folder"' EXIT
+TIMEFORMAT=%U
 
-# So many lines that ask for the check of the same chain.
-lines() { # BLOCKS COUNT
-    for ((i = 0; i < $2; i++)); do echo "chains $1"; done
+# A workload whose cells are those of so many blocks in each class. Each cell with slots holds the one before it: by a
+# slot, or with KIND turns by a slot and by a group in turn. Each table is held by a slot of a cell or, with KIND tables,
+# by a pair of the next table under the first cell. It collects while registers keep all, and again when none does.
+workload() { # KIND BLOCKS
+    awk -v kind="$1" -v blocks="$2" 'BEGIN {
+        tables = 64 * blocks
+        print "registers = 6\nblocks = [" blocks ", " blocks ", " blocks ", " blocks ", " blocks "]"
+        print "period = 16\nheadroom = 32\n\n[[mutator]]\nops = ["
+        for (i = 0; i < 4 * tables; i++) {
+            new = "r" i % 2; old = "r" (i + 1) % 2
+            print "  \"alloc " new " " i % 4 "\","
+            if (i == 0) print "  \"move r2 r0\","
+            else if (kind == "turns" && i % 2 == 0) print "  \"group " new " " i "\", \"group " old " " i "\","
+            else print "  \"put " new " 0 " old "\","
+            if (kind != "tables" && i < tables) print "  \"table r4\", \"put " new " 1 r4\","
+        }
+        for (t = 0; kind == "tables" && t < tables; t++) {
+            new = "r" 4 + t % 2; old = "r" 4 + (t + 1) % 2
+            print "  \"table " new "\","
+            if (t > 0) print "  \"claim " new "\", \"pair " new " r2 " old "\", \"release " new "\","
+        }
+        print "  \"drop r0\", \"drop r2\", \"drop r4\", \"collect\", \"drop r1\", \"drop r5\", \"collect\","
+        print "]"
+    }'
 }
 
-# The least of the seconds of five runs.
-least() { # BLOCKS COUNT
-    local input
-    input=$(lines "$1" "$2")
-    for _ in 1 2 3 4 5; do { time "$program" <<< "$input" > /dev/null; } 2>&1; done | sort -n | head -n 1
+# The least of the seconds of three runs.
+least() { # PROGRAM FILE
+    for _ in 1 2 3; do { time "$1" < "$2" > "$folder/text"; } 2>&1; done | sort -n | head -n 1
 }
 
-echo "| Blocks of each class | Cells | Seconds of one check | Seconds of a hundred |"
+# The seconds of a chain in words.
+of_words() { # KIND BLOCKS
+    echo "chain $1 $2" > "$folder/line"
+    [ -x "$words" ] || return
+    if [ "$("$words" < "$folder/line")" = "chain $1 $2: as expected" ]; then least "$words" "$folder/line"; else echo "not as expected"; fi
+}
+
+# The seconds of a chain in the plain store.
+of_plain() { # KIND BLOCKS
+    local cells=$((320 * $2))
+    [ -x "$plain" ] || return
+    workload "$1" "$2" > "$folder/load.toml"
+    if "$plain" < "$folder/load.toml" > "$folder/text" && grep -q "^cycle 1 kept $cells freed 0\$" "$folder/text" &&
+        grep -q "^cycle 2 kept 0 freed $cells: " "$folder/text"; then least "$plain" "$folder/load.toml"; else echo "not as expected"; fi
+}
+
+echo "| Chain | Cells | Words, seconds | Plain store, seconds |"
 echo "|---|---|---|---|"
-for blocks in 1 2 4 8 16 32 64; do
-    if [ "$("$program" <<< "chains $blocks")" = "chains $blocks: as expected" ]; then
-        echo "| $blocks | $((320 * blocks)) | $(least "$blocks" 1) | $(least "$blocks" 100) |"
-    else
-        echo "| $blocks | $((320 * blocks)) | not as expected | |"
-    fi
+for kind in links turns tables; do
+    for blocks in 4 16 64; do
+        echo "| $kind | $((320 * blocks)) | $(of_words $kind $blocks) | $(of_plain $kind $blocks) |"
+    done
 done

@@ -4,10 +4,22 @@ ghost use Rattle.std.specs.Prelude.{◌≡◌, ◌*◌, ◌≤◌};
 use crate::marking::Marking;
 use check_heap::Heap;
 use std::alloc::{AllocError, Global};
-use tide_layout::Layout;
+use tide_layout::{Layout, Region};
 use tide_model::Val;
 use tide_solver::Solved;
-use tide_words::{Colour, val_word};
+use tide_words::{Colour, pair_word, val_word};
+
+/// By what each cell of a chain holds the next one.
+#[derive(Clone, Copy, Debug, PartialEq, Eq)]
+pub enum Chain {
+    /// Each cell that has slots by a slot.
+    Links,
+    /// By a slot and by a group in turn, so that each round of the solver finds one cell.
+    Turns,
+    /// As `Links`, and each table is held by a pair of the next table alone: they are gone through from the first on, and
+    /// so each round finds one.
+    Tables,
+}
 
 /// How many cells a class of so many blocks has.
 fn class_size(blocks: u8) -> u32
@@ -16,36 +28,68 @@ fn class_size(blocks: u8) -> u32
     64 * u32::from(blocks)
 }
 
-/// A heap in which a register holds the first of all cells that have slots, and each of them the next one by slot 0 and
-/// one of the tables by slot 1.
-fn chain(alloc: Global, blocks: u8) -> Result<Heap, AllocError>
+/// The word of a cell as a value.
+fn cell_word(cell: u32) -> u64 {
+    val_word(Val::Cell(cell))
+}
+
+/// Lets a cell hold the one behind it.
+fn hold_next(heap: &mut Heap, chain: Chain, cell: u32)
+    requires { cell ≤ 20479 }
+{
+    let next = cell + 1;
+    if chain == Chain::Turns && cell % 2 == 1 {
+        heap.set(Region::Group, cell, u64::from(next));
+        heap.set(Region::Group, next, u64::from(next));
+    } else {
+        heap.set_slot(cell, 0, cell_word(next));
+    }
+}
+
+/// Lets so many tables, of which this is the first, be held by a slot of a cell each, or by a pair of the next one under
+/// the cell 0 and the last one by a register.
+fn hold_tables(heap: &mut Heap, chain: Chain, first: u32, tables: u32)
+    requires few { first ≤ 16384 }
+    requires more { tables ≤ 4096 }
+{
+    for at in 0..tables {
+        let table = first + at;
+        if chain != Chain::Tables {
+            heap.set_slot(at, 1, cell_word(table));
+        } else if at + 1 < tables {
+            heap.set_slot(table + 1, 0, pair_word(0, Val::Cell(table)));
+        } else {
+            heap.set_register(0, 1, cell_word(table));
+        }
+    }
+}
+
+/// A heap in which a register holds the first of all cells that have slots, each of them holds the next one, and each
+/// table is held.
+fn heap_of(alloc: Global, chain: Chain, blocks: u8) -> Result<Heap, AllocError>
     requires { blocks ≤ 64 }
 {
-    let layout = Layout::new([blocks; 5], [0; 5], 1, 0, 0, 1, 0);
+    let layout = Layout::new([blocks; 5], [0; 5], 2, 0, 0, 1, 0);
     let tables = class_size(blocks);
     let first_table = 4 * tables;
     let mut heap = Heap::new(alloc, layout)?;
     for cell in 0..5 * tables {
         heap.take_cell(cell);
     }
-    heap.set_register(0, 0, val_word(Val::Cell(0)));
-    for cell in 0..first_table {
-        let next = cell + 1;
-        if next < first_table {
-            heap.set_slot(cell, 0, val_word(Val::Cell(next)));
-        }
-        let table = first_table + cell % tables;
-        heap.set_slot(cell, 1, val_word(Val::Cell(table)));
+    heap.set_register(0, 0, cell_word(0));
+    for cell in 1..first_table {
+        hold_next(&mut heap, chain, cell - 1);
     }
+    hold_tables(&mut heap, chain, first_table, tables);
     Ok(heap)
 }
 
 /// Marks the chain of a layout with so many blocks in each class of cells, all of which is retained, and answers whether
 /// all of it is marked.
-pub fn check_chains(alloc: Global, blocks: u8) -> Result<bool, AllocError>
+pub fn check_chain(alloc: Global, chain: Chain, blocks: u8) -> Result<bool, AllocError>
     requires { blocks ≤ 64 }
 {
-    let heap = chain(alloc, blocks)?;
+    let heap = heap_of(alloc, chain, blocks)?;
     let mut marking = Marking::begin(alloc, heap)?;
     let visits = marking.cells();
     let solved = marking.solve(visits);

@@ -7,8 +7,9 @@
 //! - `constraints FILE`: one run of a constraint, and what is marked then (`bench.rt`).
 //! - `random SEED COUNT`: so many heaps of random operations that follow from the seed, beside a plain store that collects
 //!   the same.
-//! - `chains BLOCKS`: long chains in a layout of so many blocks of each class of cells, 1 to 64, all of whose cells are
-//!   marked.
+//! - `chain KIND BLOCKS`: a long chain in a layout of so many blocks of each class of cells, 1 to 64, all of whose cells
+//!   are marked. A cell holds the next one by `links`, or by a link and a group in `turns`; and with `tables` each table is
+//!   held by a pair of the next one.
 #![tactic(auto)]
 
 mod bench;
@@ -20,12 +21,22 @@ mod random;
 mod twin;
 
 use bench::Bench;
-use chains::check_chains;
+use chains::{Chain, check_chain};
 use check_heap::{Checks, System, check_lines, check_rows, number, words_of};
 use heaps::Marked;
 use random::check_random;
 use std::io;
 use std::process::ExitCode;
+
+/// The chain of a name.
+fn chain_of(kind: &str) -> Option<Chain> {
+    match kind {
+        "links" => Some(Chain::Links),
+        "turns" => Some(Chain::Turns),
+        "tables" => Some(Chain::Tables),
+        _ => None,
+    }
+}
 
 /// The checks of this program.
 #[derive(Clone, Copy)]
@@ -43,9 +54,10 @@ impl<R: System> Checks for Program<'_, R> {
                 (Some(seed), Some(count)) => check_random(rt, seed, count),
                 _ => Ok(false),
             },
-            ["chains", blocks] => match number(blocks) {
-                Some(blocks) if 1 <= blocks && blocks <= 64 => Ok(check_chains(
+            ["chain", kind, blocks] => match (chain_of(kind), number(blocks)) {
+                (Some(chain), Some(blocks)) if 1 <= blocks && blocks <= 64 => Ok(check_chain(
                     rt.alloc(),
+                    chain,
                     blocks,
                 )?),
                 _ => Ok(false),
