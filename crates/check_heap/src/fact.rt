@@ -7,7 +7,7 @@ use crate::rows::text;
 use std::alloc::{AllocError, Global};
 use tide_layout::Region;
 use tide_model::Val;
-use tide_words::{MAX_CELLS, pair_word, val_word, word_pair, word_val};
+use tide_words::{MAX_CELLS, pair_word, val_word, word_pair, word_phase, word_val};
 
 /// The region of a name, if its words go by their number.
 pub fn region_of(name: &str) -> Option<Region> {
@@ -80,7 +80,7 @@ pub fn pair_text(alloc: Global, word: u64) -> Result<String, AllocError> {
 impl Heap {
     /// The word of a colour of the running cycle.
     fn colour_word(&mut self, part: u64) -> u64 {
-        let cycle = self.get(Region::Phase, 0) / 2;
+        let (cycle, _) = word_phase(self.get(Region::Phase, 0));
         cycle.wrapping_mul(4).wrapping_add(part)
     }
 

@@ -10,7 +10,7 @@
 //!   `pair TABLE.PLACE` with what is there.
 ghost use Rattle.std.specs.Prelude.{◌≡◌, ◌+◌, true, length, IfOk};
 ghost use Rattle.tide_model.specs.Layout.{cell_count};
-ghost use Rattle.tide_words.specs.marking.Colours.{is_marking, HasColours};
+ghost use Rattle.tide_words.specs.marking.Colours.{is_marking};
 ghost use Rattle.tide_words.specs.marking.Greyed.{HasRoom};
 ghost use Rattle.tide_words.specs.heap.Heap.{heap_of, Heap as HeapWords};
 
@@ -21,7 +21,9 @@ use tide_ephemeron::{Ephemerons, clear_pairs};
 use tide_groups::Groups;
 use tide_layout::{Layout, Region};
 use tide_roots::{Registers, Strong, clear_weak};
-use tide_words::{Constraint, GreyList, Volatility, Words, is_live, is_marked, mark, mark_named};
+use tide_words::{
+    Constraint, GreyList, Volatility, Words, is_live, is_marked, mark, mark_named, word_phase,
+};
 
 /// A heap, once its layout is given, and the cell that is listed.
 #[derive(Drop)]
@@ -68,15 +70,14 @@ fn marked_text(
     Ok(Some(format!(in alloc; "{count}: {cells}")?))
 }
 
-/// Whether a cycle marks in a heap, whose number leaves room for its colours.
+/// Whether a cycle marks in a heap.
 fn marks(heap: &mut Heap) -> bool
     ensures layout { heap.new.layout ≡ heap.old.layout }
     ensures words { heap.new.words ≡ heap.old.words }
     ensures marking { result ≡ true → is_marking (heap_of heap.old.layout heap.old.words) ≡ true }
-    ensures colours { result ≡ true → HasColours (heap_of heap.old.layout heap.old.words) }
 {
-    let phase = heap.words.load(heap.layout.place(Region::Phase, 0));
-    phase % 2 == 1 && phase / 2 < 1 << 62
+    let (_, marks) = word_phase(heap.words.load(heap.layout.place(Region::Phase, 0)));
+    marks
 }
 
 /// Runs a constraint once beside a list that holds one cell.

@@ -10,13 +10,10 @@ use tide_groups::Groups;
 use tide_layout::{Layout, Region};
 use tide_roots::{Registers, Strong};
 use tide_solver::{ConstraintSet, Solved, solve};
-use tide_words::{Colour, GreyList, VecWords, Words, colour, is_live, is_marked};
+use tide_words::{Colour, GreyList, VecWords, Words, colour, is_live, is_marked, phase_word};
 
 /// The cycle that marks.
 const CYCLE: u64 = 1;
-
-/// The phase word while it does.
-const PHASE: u64 = 2 * CYCLE + 1;
 
 /// What marks beyond the links of marked cells.
 const CONSTRAINTS: ConstraintSet<Registers, Strong, Ephemerons, Groups> = ConstraintSet {
@@ -48,7 +45,7 @@ impl Marking {
     /// Begins to mark: no cell is grey yet.
     pub fn begin(alloc: Global, heap: Heap) -> Result<Self, AllocError> {
         let Heap { layout, mut words } = heap;
-        words.store(layout.place(Region::Phase, 0), PHASE);
+        words.store(layout.place(Region::Phase, 0), phase_word(CYCLE, true));
         match GreyList::new(alloc, layout.cells()) {
             Ok(list) => Ok(Marking {
                 layout,

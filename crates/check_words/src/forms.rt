@@ -1,15 +1,16 @@
 //! The words of values, structures, pairs and colours, the sizes of classes, and bits.
 //!
 //! What is answered: `word of VALUE`, `value of WORD`, `word of pair KEY VALUE`, `pair of WORD`, `word of structure SHAPE
-//! COUNT`, with `nuked` behind it where it is, `structure of WORD`, `colour of WORD in CYCLE`, `lowest WORD`, `after WORD
-//! BIT`, `slots CLASS` and `capacity CLASS`.
+//! COUNT`, with `nuked` behind it where it is, `structure of WORD`, `word of claim MUTATOR`, `claim of WORD`, `word of array
+//! ARRAY`, `array of WORD`, `word of phase CYCLE`, with `marks` behind it where the cycle does, `phase of WORD`, `colour of
+//! WORD in CYCLE`, `lowest WORD`, `after WORD BIT`, `slots CLASS` and `capacity CLASS`.
 
 use check_heap::{number, number_or_none, pair_text, text, value_of, word_of, word_text};
 use std::alloc::{AllocError, Global};
 use tide_block::{after, array_capacity, lowest, slots};
 use tide_words::{
-    MAX_CELLS, Structure, colour, pair_word, structure_word, val_word, word_pair, word_structure,
-    word_val,
+    MAX_CELLS, Structure, array_word, claim_word, colour, pair_word, phase_word, structure_word,
+    val_word, word_array, word_claim, word_pair, word_phase, word_structure, word_val,
 };
 
 /// The word of what is told of a structure.
@@ -35,12 +36,24 @@ fn word_of_pair(key: &str, value: &str) -> Option<u64> {
     Some(pair_word(key, value))
 }
 
-/// The word of a value, a pair or a structure.
+/// The word of a phase.
+fn word_of_phase(cycle: &str, marks: bool) -> Option<u64> {
+    let cycle: u32 = number(cycle)?;
+    Some(phase_word(u64::from(cycle), marks))
+}
+
+/// The word of a value, a pair, a structure, a claim, an array or a phase.
 fn word_of_form(form: &[&str]) -> Option<u64> {
     match form {
         ["pair", key, value] => word_of_pair(key, value),
         ["structure", shape, count] => word_of_structure(shape, count, false),
         ["structure", shape, count, "nuked"] => word_of_structure(shape, count, true),
+        ["claim", "none"] => Some(claim_word(None)),
+        ["claim", mutator] => Some(claim_word(Some(number(mutator)?))),
+        ["array", "none"] => Some(array_word(None)),
+        ["array", array] => Some(array_word(Some(number(array)?))),
+        ["phase", cycle] => word_of_phase(cycle, false),
+        ["phase", cycle, "marks"] => word_of_phase(cycle, true),
         [value] => Some(val_word(value_of(value)?)),
         _ => None,
     }
@@ -52,6 +65,14 @@ fn structure_text(alloc: Global, word: u64) -> Result<String, AllocError> {
         Some(it) if it.nuked => format!(in alloc; "{} {} nuked", it.shape, it.count),
         Some(it) => format!(in alloc; "{} {}", it.shape, it.count),
         None => text(alloc, "none"),
+    }
+}
+
+/// The phase that a word says.
+fn phase_text(alloc: Global, word: u64) -> Result<String, AllocError> {
+    match word_phase(word) {
+        (cycle, true) => format!(in alloc; "{cycle} marks"),
+        (cycle, false) => format!(in alloc; "{cycle}"),
     }
 }
 
@@ -67,6 +88,9 @@ fn form_text(alloc: Global, what: &str, word: u64) -> Result<Option<String>, All
             None => text(alloc, "none")?,
         },
         "structure" => structure_text(alloc, word)?,
+        "claim" => number_or_none(alloc, word_claim(word))?,
+        "array" => number_or_none(alloc, word_array(word))?,
+        "phase" => phase_text(alloc, word)?,
         _ => return Ok(None),
     };
     Ok(Some(form))

@@ -8,7 +8,7 @@ use Rattle.std.specs.Bool.{Decides}
 use Rattle.std.specs.List.{list_any}
 use Rattle.std.specs.Prelude.{Contains, ◌==◌, ◌||◌}
 use Rattle.tide_model.specs.Numbers.{is_among}
-use Rattle.tide_shape.specs.ShapeTable.{IsDistinct}
+use Rattle.tide_shape.specs.ShapeTable.{HasNoKeyTwice}
 use Rattle.tide_shape.specs.Shapes.{names_twice}
 
 -- the test says whether the number is one of them, and so does std's
@@ -25,14 +25,14 @@ list_any-is_among xs n =
     (is_among-Decides xs n)
 
 -- a path that names no key twice is distinct
-pub IsDistinct-path : (path : List ℕ) → names_twice path ≡ false → IsDistinct path
-IsDistinct-path [] once i j d before within = absurd (omega arith)
-IsDistinct-path (key ∷ keys) once i zero d before within = absurd (omega arith)
-IsDistinct-path (key ∷ keys) once zero (suc j) d before within =
+pub HasNoKeyTwice-path : (path : List ℕ) → names_twice path ≡ false → HasNoKeyTwice path
+HasNoKeyTwice-path [] once i j d before within = absurd (omega arith)
+HasNoKeyTwice-path (key ∷ keys) once i zero d before within = absurd (omega arith)
+HasNoKeyTwice-path (key ∷ keys) once zero (suc j) d before within =
     λ same. not_from_Decides (is_among keys key) (is_among-Decides keys key) (or_parts (is_among keys key) (names_twice keys) once).0
     (subst (λ k. Contains keys k) (sym same) (Contains-get_or keys j d (omega arith)))
-IsDistinct-path (key ∷ keys) once (suc i) (suc j) d before within =
-    IsDistinct-path keys (or_parts (is_among keys key) (names_twice keys) once).1 i j d (omega arith) (omega arith)
+HasNoKeyTwice-path (key ∷ keys) once (suc i) (suc j) d before within =
+    HasNoKeyTwice-path keys (or_parts (is_among keys key) (names_twice keys) once).1 i j d (omega arith) (omega arith)
 
 -- whether the rest names a key twice, once it is known whether its first key stands again behind
 pub names_twice-rest : (path : List ℕ) (at : ℕ) (again : Bool) → at < length path → names_twice (drop at path) ≡ names_twice path →

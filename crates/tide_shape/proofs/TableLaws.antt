@@ -8,15 +8,15 @@ use Rattle.std.proofs.lemmas.Option.{slice_get_within, get_or_from_slice_get}
 use Rattle.std.specs.List.{flat_map}
 use Rattle.std.specs.Prelude.{fold, slice_get, All, if◌then◌else◌}
 use Rattle.tide_model.specs.Refused.{ShapeLists, no_shapes, is_shape}
-use Rattle.tide_shape.specs.ShapeTable.{IsShapeTable, IsDistinct}
+use Rattle.tide_shape.specs.ShapeTable.{IsShapeTable, HasNoKeyTwice}
 use Rattle.tide_shape.specs.Shapes.{add_if_new, beginnings, names_twice, shapes_of_paths, IsPath}
-use Rattle.tide_shape.proofs.DoubleLaws.{IsDistinct-path}
+use Rattle.tide_shape.proofs.DoubleLaws.{HasNoKeyTwice-path}
 use Rattle.tide_shape.proofs.PathLaws.{length-beginnings, get_or-beginnings, length-add_if_new}
 
 -- keys that a shape may have
 record IsGood (keys : List ℕ) : Type 0 where
   pub short : length keys ≤ 64
-  pub distinct : IsDistinct keys
+  pub distinct : HasNoKeyTwice keys
 
 IsGood-take : (n : ℕ) (keys : List ℕ) → IsGood keys → IsGood (take n keys)
 IsGood-take n keys good = record {
@@ -33,7 +33,7 @@ no_shapes-is_table : IsShapeTable no_shapes
 no_shapes-is_table = record {
   empty = refl;
   short = All-cons (λ keys. length keys ≤ 64) [] [] (omega arith) (All-nil (λ keys. length keys ≤ 64));
-  distinct = All-cons IsDistinct [] [] (λ i j d before within. absurd (omega arith)) (All-nil IsDistinct);
+  distinct = All-cons HasNoKeyTwice [] [] (λ i j d before within. absurd (omega arith)) (All-nil HasNoKeyTwice);
 }
 
 -- and stays one with another shape
@@ -41,7 +41,7 @@ push-is_table : (shapes : ShapeLists) (keys : List ℕ) → IsGood keys → IsSh
 push-is_table shapes keys good table = record {
   empty = first shapes table.empty;
   short = All-push (λ ks. length ks ≤ 64) shapes keys table.short good.short;
-  distinct = All-push IsDistinct shapes keys table.distinct good.distinct;
+  distinct = All-push HasNoKeyTwice shapes keys table.distinct good.distinct;
 }
   where
     first : (xs : ShapeLists) → slice_get xs 0 ≡ Some [] → slice_get (xs ++ keys ∷ []) 0 ≡ Some []
@@ -77,7 +77,7 @@ paths-are_table (path ∷ paths) shapes good table =
 -- the shapes of paths that name no key twice are a table
 pub shapes_of_paths-is_table : (paths : List (List ℕ)) → All IsPath paths → All (λ path. names_twice path ≡ false) paths → IsShapeTable (shapes_of_paths paths)
 shapes_of_paths-is_table paths sized once =
-    paths-are_table paths no_shapes (λ k d within. record { short = (sized k d within).short; distinct = IsDistinct-path (get_or paths k d) (once k d within) }) no_shapes-is_table
+    paths-are_table paths no_shapes (λ k d within. record { short = (sized k d within).short; distinct = HasNoKeyTwice-path (get_or paths k d) (once k d within) }) no_shapes-is_table
 
 -- one path more
 pub shapes_of_paths-push : (paths : List (List ℕ)) (path : List ℕ) → shapes_of_paths (paths ++ path ∷ []) ≡ fold add_if_new (shapes_of_paths paths) (beginnings path)

@@ -3,7 +3,7 @@ use Rattle.std.proofs.Common.{◌≡◌, ◌≤◌, refl, arith, lit<, length, L
 use Rattle.std.proofs.lemmas.List.Elements.{All-cons, All-nil}
 use Rattle.std.specs.Prelude.{slice_get, All}
 use Rattle.tide_model.specs.Refused.{ShapeLists}
-use Rattle.tide_shape.specs.ShapeTable.{IsShapeTable, IsDistinct}
+use Rattle.tide_shape.specs.ShapeTable.{IsShapeTable, HasNoKeyTwice}
 
 -- the number 2 has no keys of its own, like the empty shape's
 abbrev gapped : ShapeLists
@@ -14,7 +14,7 @@ pub gap_is_allowed : IsShapeTable gapped
 gap_is_allowed = record {
   empty = refl;
   short = each (λ keys. length keys ≤ 64) (omega arith) (omega arith);
-  distinct = each IsDistinct (λ i j d before within. absurd (omega arith)) (λ i j d before within. absurd (omega arith));
+  distinct = each HasNoKeyTwice (λ i j d before within. absurd (omega arith)) (λ i j d before within. absurd (omega arith));
 }
   where
     each : (P : List ℕ → Type 0) → P [] → P (0 ∷ []) → All P gapped

@@ -40,6 +40,7 @@ pub record OpTexts : Type 0 where
   pub no_such_key : op_of few (codes "add r1 b r2") ≡ None
   pub no_slot_sixteen : op_of few (codes "get r1 r2 16") ≡ None
   pub too_large_to_set : op_of few (codes "set r1 4294967296") ≡ None
+  pub too_large_a_group : op_of few (codes "group r1 4294967296") ≡ None
   pub put_in_the_order_of_get : op_of few (codes "put r1 r2 0") ≡ None
   pub several_spaces : op_of few (codes "alloc   r1  2") ≡ Some (Alloc 1 2)
   pub leading_zeros : op_of few (codes "alloc r00 0000000001") ≡ Some (Alloc 0 1)
