@@ -53,10 +53,10 @@ of_words() { # KIND BLOCKS
     if [ "$("$words" < "$folder/line")" = "chain $1 $2: as expected" ]; then least "$words" "$folder/line"; else echo "not as expected"; fi
 }
 
-# The seconds of a chain in the plain store.
+# The seconds of a chain in the plain store. It has no leaps, whose tables no register reaches in that order.
 of_plain() { # KIND BLOCKS
     local cells=$((320 * $2))
-    [ -x "$plain" ] || return
+    [ -x "$plain" ] && [ "$1" != leaps ] || return
     workload "$1" "$2" > "$folder/load.toml"
     if "$plain" < "$folder/load.toml" > "$folder/text" && grep -q "^cycle 1 kept $cells freed 0\$" "$folder/text" &&
         grep -q "^cycle 2 kept 0 freed $cells: " "$folder/text"; then least "$plain" "$folder/load.toml"; else echo "not as expected"; fi
@@ -64,7 +64,7 @@ of_plain() { # KIND BLOCKS
 
 echo "| Chain | Cells | Words, seconds | Plain store, seconds |"
 echo "|---|---|---|---|"
-for kind in links turns tables; do
+for kind in links turns tables leaps; do
     for blocks in 4 16 64; do
         echo "| $kind | $((320 * blocks)) | $(of_words $kind $blocks) | $(of_plain $kind $blocks) |"
     done

@@ -1,5 +1,5 @@
 //! Long chains.
-ghost use Rattle.std.specs.Prelude.{◌≡◌, ◌*◌, ◌≤◌};
+ghost use Rattle.std.specs.Prelude.{◌≡◌, ◌*◌, ◌<◌, ◌≤◌};
 
 use crate::marking::Marking;
 use check_heap::Heap;
@@ -16,9 +16,11 @@ pub enum Chain {
     Links,
     /// By a slot and by a group in turn, so that each round of the solver finds one cell.
     Turns,
-    /// As `Links`, and each table is held by a pair of the next table alone: they are gone through from the first on, and
-    /// so each round finds one.
+    /// As `Links`, and each table is held by a pair of the next table alone: they are gone through from the first on, so
+    /// that one pass over them would find one.
     Tables,
+    /// As `Tables`, but the last table holds the first, that one the last but one, and so on to the middle.
+    Leaps,
 }
 
 /// How many cells a class of so many blocks has.
@@ -46,20 +48,35 @@ fn hold_next(heap: &mut Heap, chain: Chain, cell: u32)
     }
 }
 
-/// Lets so many tables, of which this is the first, be held by a slot of a cell each, or by a pair of the next one under
-/// the cell 0 and the last one by a register.
+/// Which of so many tables stands at this place of a chain, from the one that is found first.
+fn table_at(chain: Chain, tables: u32, at: u32) -> u32
+    requires { at < tables }
+    ensures { result < tables }
+{
+    if chain == Chain::Leaps && at % 2 == 1 {
+        at / 2
+    } else if chain == Chain::Leaps {
+        tables - 1 - at / 2
+    } else {
+        tables - 1 - at
+    }
+}
+
+/// Lets so many tables, of which this is the first, be held by a slot of a cell each, or each by a pair of the one before
+/// it in a chain, under the cell 0, and the first of these by a register.
 fn hold_tables(heap: &mut Heap, chain: Chain, first: u32, tables: u32)
     requires few { first ≤ 16384 }
     requires more { tables ≤ 4096 }
 {
     for at in 0..tables {
-        let table = first + at;
-        if chain != Chain::Tables {
+        let table = first + table_at(chain, tables, at);
+        if chain == Chain::Links || chain == Chain::Turns {
             heap.set_slot(at, 1, cell_word(table));
-        } else if at + 1 < tables {
-            heap.set_slot(table + 1, 0, pair_word(0, Val::Cell(table)));
-        } else {
+        } else if at == 0 {
             heap.set_register(0, 1, cell_word(table));
+        } else {
+            let holder = first + table_at(chain, tables, at - 1);
+            heap.set_slot(holder, 0, pair_word(0, Val::Cell(table)));
         }
     }
 }

@@ -9,7 +9,7 @@
 //!   the same.
 //! - `chain KIND BLOCKS`: a long chain in a layout of so many blocks of each class of cells, 1 to 64, all of whose cells
 //!   are marked. A cell holds the next one by `links`, or by a link and a group in `turns`; and with `tables` each table is
-//!   held by a pair of the next one.
+//!   held by a pair of the next one, or with `leaps` by one at the other end.
 #![tactic(auto)]
 
 mod bench;
@@ -34,6 +34,7 @@ fn chain_of(kind: &str) -> Option<Chain> {
         "links" => Some(Chain::Links),
         "turns" => Some(Chain::Turns),
         "tables" => Some(Chain::Tables),
+        "leaps" => Some(Chain::Leaps),
         _ => None,
     }
 }
