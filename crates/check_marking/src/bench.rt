@@ -3,7 +3,8 @@
 //! The lines of a row: `layout ..`, the facts of `Heap::say`, and `listed CELL`, which gives the one cell that the list
 //! holds before a run. Then
 //!
-//! - `run CONSTRAINT` is answered with how many cells it marked, and with the list afterwards: the given cell first;
+//! - `run CONSTRAINT` is answered with how many cells it marked, and with the list afterwards: the given cell first. Each
+//!   list but the first has the room for an order of the one before, with what was left there;
 //! - `volatility CONSTRAINT`, `clear weak` and `clear pairs` do what they say;
 //! - `mark CELL` and `mark named WORD` are answered with whether the cell was marked, and the list;
 //! - `marked` is answered with the cells that are, `is_live CELL` with true or false, `length` with the number of words, and `REGION NUMBER`, `slot CELL.SLOT` and
@@ -25,11 +26,12 @@ use tide_words::{
     Constraint, GreyList, Volatility, Words, is_live, is_marked, mark, mark_named, word_phase,
 };
 
-/// A heap, once its layout is given, and the cell that is listed.
+/// A heap, once its layout is given, the cell that is listed, and the room for an order that the last list had.
 #[derive(Drop)]
 pub struct Bench {
     heap: Option<Heap>,
     listed: u32,
+    order: Option<Vec<u64>>,
 }
 
 /// A list that holds this cell alone, with room for all others of a layout.
@@ -80,18 +82,23 @@ fn marks(heap: &mut Heap) -> bool
     marks
 }
 
-/// Runs a constraint once beside a list that holds one cell.
+/// Runs a constraint once beside a list that holds one cell, and that has the room for an order of the list before it.
 fn run<C: Constraint>(
     alloc: Global,
     heap: &mut Heap,
     listed: u32,
+    order: &mut Option<Vec<u64>>,
     constraint: &C,
 ) -> Result<Option<String>, AllocError> {
     if !marks(heap) {
         return Ok(None);
     }
     let mut list = list_of(alloc, &heap.layout, listed)?;
+    if let Some(left) = order.take() {
+        list.give_order(left);
+    }
     let count = constraint.run(&mut heap.words, &heap.layout, &mut list);
+    *order = list.take_order();
     marked_text(alloc, count, &mut list)
 }
 
@@ -140,13 +147,14 @@ fn run_named(
     alloc: Global,
     heap: &mut Heap,
     listed: u32,
+    order: &mut Option<Vec<u64>>,
     name: &str,
 ) -> Result<Option<String>, AllocError> {
     match name {
-        "registers" => run(alloc, heap, listed, &Registers),
-        "strong" => run(alloc, heap, listed, &Strong),
-        "ephemerons" => run(alloc, heap, listed, &Ephemerons),
-        "groups" => run(alloc, heap, listed, &Groups),
+        "registers" => run(alloc, heap, listed, order, &Registers),
+        "strong" => run(alloc, heap, listed, order, &Strong),
+        "ephemerons" => run(alloc, heap, listed, order, &Ephemerons),
+        "groups" => run(alloc, heap, listed, order, &Groups),
         _ => Ok(None),
     }
 }
@@ -177,10 +185,11 @@ fn asked(
     alloc: Global,
     heap: &mut Heap,
     listed: u32,
+    order: &mut Option<Vec<u64>>,
     words: &[&str],
 ) -> Result<Option<String>, AllocError> {
     match words {
-        ["run", name] => run_named(alloc, heap, listed, name),
+        ["run", name] => run_named(alloc, heap, listed, order, name),
         ["mark", "named", word] => match word_of(word) {
             Some(word) => mark_one(alloc, heap, listed, None, word),
             None => Ok(None),
@@ -219,7 +228,7 @@ impl Bench {
         if heap.say(words).is_some() {
             return Ok(Some(text(alloc, "")?));
         }
-        asked(alloc, heap, listed, words)
+        asked(alloc, heap, listed, &mut self.order, words)
     }
 }
 
@@ -228,6 +237,7 @@ impl<R: System> Answers<R> for Bench {
         Ok(Bench {
             heap: None,
             listed: 0,
+            order: None,
         })
     }
 
