@@ -3,6 +3,7 @@ pub mod Colours
 pub mod Greyed
 pub mod Greys
 pub mod Marked
+pub mod Kept
 pub mod Marking
 pub mod Named
 pub mod Rules

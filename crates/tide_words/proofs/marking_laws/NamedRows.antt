@@ -19,4 +19,4 @@ three_names_none cell (of_register who register in_mutators in_registers active 
     by_place : (here : Bool) → (if here then 3 else 0) ≡ 4 * cell + 2 → ⊥
     by_place true word = omega (arith, word)
     by_place false word = omega (arith, word)
-three_names_none cell (of_claim who in_mutators is) = omega (arith, is)
+three_names_none cell (of_claim who in_mutators within occupied is) = omega (arith, is)
