@@ -5,7 +5,8 @@
 #
 # The programs are crates/check_marking/out/check_marking and crates/riptide/out/riptide where they aren't given; in each
 # of the two folders `rt run < stdin` builds it. The columns of a program that isn't there are left empty. It needs bash
-# and awk. Seconds are the least user time of three runs, from the program's start to its end.
+# and awk. Seconds are user time, from the program's start to its end, the least of three times: of one run each or, where
+# that takes less than 0.2 seconds, the mean of twenty.
 set -u
 
 here=$(cd "$(dirname "$0")" && pwd)
@@ -41,9 +42,16 @@ workload() { # KIND BLOCKS
     }'
 }
 
-# The least of the seconds of three runs.
+# The user seconds of one run: of so many runs, by their number.
+seconds() { # PROGRAM FILE COUNT
+    { time for ((i = 0; i < $3; i++)); do "$1" < "$2" > "$folder/text"; done; } 2>&1 | awk -v count="$3" '{ printf "%.4f\n", $1 / count }'
+}
+
+# The least of three times, each of one run or, where that is short, of twenty.
 least() { # PROGRAM FILE
-    for _ in 1 2 3; do { time "$1" < "$2" > "$folder/text"; } 2>&1; done | sort -n | head -n 1
+    local count=1
+    if seconds "$1" "$2" 1 | awk '{ exit !($1 < 0.2) }'; then count=20; fi
+    for _ in 1 2 3; do seconds "$1" "$2" "$count"; done | sort -n | head -n 1
 }
 
 # The seconds of a chain in words.
