@@ -11,7 +11,7 @@ pub invariant_of-result : goal.invariant_of-result
 invariant_of-result c =
     let layout = c.args.heap.layout in
     let words = c.args.heap.words in
-    let stored = c.store.ensures.stored ∙ ap (λ (place : ℕ). slice_set words place 3) c.place.ensures.place in
+    let stored = c.store.ensures.stored ∙ ap (slice_set words c.place.result) c.phase_word.ensures ∙ ap (λ (place : ℕ). slice_set words place 3) c.place.ensures.place in
     let list : c.in-Ok.list ≡ _ = c.in-Ok.ensures ∙ ap {B = Greys} (λ (cap : ℕ). record { cells = []; cap = cap }) c.cells.ensures.count in
     subst (λ (ws : List ℕ). IsUnderway layout ws c.in-Ok.list) (sym stored)
     (subst (λ (greys : Greys). IsUnderway layout (slice_set words (place_in layout Phase 0) 3) greys) (sym list) (IsUnderway-first layout words c.args.heap.all_words))
