@@ -15,9 +15,8 @@ pub fn words_of(alloc: Global, args: io::Result<Args>) -> Result<Vec<String>, Al
         Err(error) if error.kind() == io::ErrorKind::OutOfMemory => Err(AllocError),
         Err(_) => {
             let mut words = Vec::new(alloc);
-            for word in ["riptide", "?"] {
-                words.push(String::from_str(alloc, word)?)?;
-            }
+            words.push(String::from_str(alloc, "riptide")?)?;
+            words.push(String::from_str(alloc, "?")?)?;
             Ok(words)
         }
     }
