@@ -1,10 +1,12 @@
 //! A row: what it has asked so far that later lines speak of.
 //!
 //! `list` makes an empty list of grey cells with room for eight, which `push CELL`, `pop`, `len` and `is_empty` are about;
-//! `layout ..` gives the layout that `places.rt` is about.
+//! `layout ..` gives the layout that `places.rt` is about. `label LABEL beside CELL` is answered with the label that is
+//! beside the words of its empty heap after a call looked at the cell in them.
 ghost use Rattle.std.specs.Prelude.{◌≡◌};
 
 use crate::forms::told_of_forms;
+use crate::labelled::told_of_label;
 use crate::places::told_of_places;
 use check_heap::{Answers, System, layout_of, number, number_or_none, text};
 use std::alloc::{AllocError, Global};
@@ -74,7 +76,10 @@ impl Asked {
             }
         }
         match &self.layout {
-            Some(layout) => told_of_places(alloc, layout, words),
+            Some(layout) => match told_of_label(alloc, layout, words) {
+                Some(label) => Ok(Some(format!(in alloc; "{label}")?)),
+                None => told_of_places(alloc, layout, words),
+            },
             None => Ok(None),
         }
     }

@@ -2,11 +2,12 @@
 //! what comes with what is expected.
 //!
 //! Each line of its input is the name of a file in the folder that it is run in, whose rows are done one by one. What the
-//! lines of a row ask stands in `forms.rt`, `places.rt` and `asked.rt`.
+//! lines of a row ask stands in `forms.rt`, `places.rt`, `labelled.rt` and `asked.rt`.
 #![tactic(auto)]
 
 mod asked;
 mod forms;
+mod labelled;
 mod places;
 
 use asked::Asked;
