@@ -1,5 +1,5 @@
 -- How marking begins.
-use Rattle.std.proofs.Common.{ℕ, ◌≡◌, ◌<◌, ◌/◌, ◌%◌, ◌^◌, ◌==◌, sym, ap, subst, arith, List, [], length, Contains}
+use Rattle.std.proofs.Common.{ℕ, ◌≡◌, ◌%◌, ◌==◌, ap, arith, List, [], length, Contains}
 use Rattle.std.specs.List.{IsDistinct}
 use Rattle.std.specs.Prelude.{slice_set}
 use Rattle.tide_model.specs.Layout.{Layout, cell_count}

@@ -87,7 +87,7 @@ other_slot cell slot within apart =
     (λ same. (let both = index_of_slot-alone small 0 cell 0 slot (omega arith) within same in elim apart [ inl other ↦ other both.0 | inr other ↦ other both.1 ]))
 
 -- the first slot of cell 0
-first_slot : slot_word small worked 0 0 ≡ 6
+pub first_slot : slot_word small worked 0 0 ≡ 6
 first_slot = write-same (write (write (write empty_heap Phase 0 5) Registers 0 2) Free 0 (2 ^ 64 - 2 ^ 2)) Slots (index_of_slot small 0 0) 6
 
 -- what the slots of the first cell hold
