@@ -50,7 +50,8 @@ def place_of(words, folder, known):
         return None
     if "/rt-edit-" in folder:
         return crate, EDITS
-    return crate, PROOF if "check" in words[:3] else RUN
+    # a library is proved as it is built, and a program before it is: what was proved is handed to its compilers
+    return crate, PROOF if named and "--crate-checked" not in words else RUN
 
 
 class Watch:
