@@ -9,7 +9,7 @@ use arrayvec::ArrayVec;
 use std::marker::Model;
 
 /// How many bytes are gathered before they are handed on.
-pub const PIECE: usize = 4096;
+pub const PIECE: usize = 32_768;
 
 /// A sink that gathers what it takes, and hands it on to another in pieces of `PIECE` bytes. What is left at the end goes
 /// there by `flush`, and is lost without it.
@@ -29,17 +29,17 @@ impl<K: Sink> Model for Gathered<K> {
     ghost view = { λ g. record {
       handed_on = K.held g.out;
       waiting = drop g.sent g.bytes.items;
-      room = 4096 - length g.bytes.items;
+      room = 32768 - length g.bytes.items;
       faults = K.faults g.out;
     } };
 
-    ghost invariant = { λ g. (g.sent ≤ length g.bytes.items) × (length g.bytes.items ≤ 4096) };
+    ghost invariant = { λ g. (g.sent ≤ length g.bytes.items) × (length g.bytes.items ≤ 32768) };
 }
 
 impl<K: Sink> Gathered<K> {
     /// A sink that gathers for `out`.
     pub fn new(out: K) -> Self
-        ensures { result ≡ record { handed_on = K.held out; waiting = []; room = 4096; faults = K.faults out } }
+        ensures { result ≡ record { handed_on = K.held out; waiting = []; room = 32768; faults = K.faults out } }
     {
         Gathered {
             out,

@@ -25,19 +25,21 @@ pub fn plain(alloc: Global, load: &Workload) -> Result<Outcome, Memory>
     Ok(runner.finish())
 }
 
-/// Runs a workload with up to 8 visitors. There are no visitors and no threads yet, so neither they nor the
-/// turnstile are met.
+/// Runs a workload with up to 8 visitors. No visitor is started and no thread yet, so the number says nothing of the run,
+/// and the turnstile is met by nobody: the run is that of `plain`.
 pub fn run<R: Threads + Sync, T: Turnstile>(
-    _rt: &R,
+    rt: &R,
     alloc: Global,
     load: &Workload,
     visitors: u8,
-    _gate: &T,
+    gate: &T,
 ) -> Result<Outcome, Memory>
     requires { visitors ≤ 8 }
     ensures run { IfOk result (IsRunOf load.now) }
     ensures one_mutator { IfOk result (λ outcome. outcome.layout.mutators ≡ 1) }
 {
+    let _ = rt;
     let _ = visitors;
+    let _ = gate;
     plain(alloc, load)
 }
