@@ -1,5 +1,6 @@
 //! The words of the command line.
 ghost use Rattle.std.specs.Prelude.{◌≡◌, ◌<◌, length, IfOk, IsErr};
+ghost use Rattle.std.specs.Vec.Iter.{into_iter_len};
 
 use std::alloc::{AllocError, Global};
 use std::env::Args;
@@ -8,10 +9,17 @@ use std::io;
 /// The words of the command line, of which the first is the program's name. Where they aren't all text they are a faulty
 /// command line, as is one word too many.
 pub fn words_of(alloc: Global, args: io::Result<Args>) -> Result<Vec<String>, AllocError>
+    ensures count { IfOk args (λ given. IfOk result (λ words. length words.items ≡ into_iter_len given)) }
     ensures refused { IsErr args → IfOk result (λ words. 1 < length words.items) }
 {
     match args {
-        Ok(words) => words.collect(alloc),
+        Ok(given) => {
+            let mut words = Vec::new(alloc);
+            for word in given {
+                words.push(word)?;
+            }
+            Ok(words)
+        }
         Err(error) if error.kind() == io::ErrorKind::OutOfMemory => Err(AllocError),
         Err(_) => {
             let mut words = Vec::new(alloc);
