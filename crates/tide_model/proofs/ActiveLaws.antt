@@ -1,14 +1,14 @@
 -- What a call leaves of who is active.
-use Rattle.std.proofs.Common.{ℕ, ◌≡◌, refl, ap, Bool, true, false, List, [], ◌∷◌}
+use Rattle.std.proofs.Common.{ℕ, ◌≡◌, refl, ap, false, [], ◌∷◌}
 use Rattle.std.specs.Prelude.{◌==◌, ◌++◌, filter, not, Option, None, Some}
 use Rattle.tide_model.specs.declared.val.Val.{Val}
 use Rattle.tide_model.specs.declared.val.Val.TheVariants.{Empty, Int, Cell}
 use Rattle.tide_model.specs.declared.op.Op.{Op}
-use Rattle.tide_model.specs.declared.op.Op.TheVariants.{Alloc, Table, Get, Put, Move, Set, Drop, Claim, Release, Unclaim, Add, GetProp, SetProp, StrongSet, StrongGet, WeakSet, WeakGet, PairSet, PairGet, PairDel, Group, Collect, Retire}
+use Rattle.tide_model.specs.declared.op.Op.TheVariants.{Put, Claim, Release, Add, SetProp, PairSet, PairDel, Group, Retire}
 use Rattle.tide_model.specs.declared.op.Reply.{Reply}
-use Rattle.tide_model.specs.declared.op.Reply.TheVariants.{Done, Born, Seen, Asked, Refused}
+use Rattle.tide_model.specs.declared.op.Reply.TheVariants.{Done, Refused}
 use Rattle.tide_model.specs.Applied.{after_call, at_cell, add_property, put_cell, put_claims, put_pair, put_property, put_slot}
-use Rattle.tide_model.specs.Schedule.{is_retire}
+use Rattle.tide_model.specs.Script.{is_retire}
 use Rattle.tide_model.specs.State.{State}
 use Rattle.tide_model.proofs.ReferenceLaws.{after_call-refused}
 

@@ -6,6 +6,8 @@ pub mod DanglingRows
 pub mod Histories
 pub mod LawfulReferences
 pub mod NumberLaws
+pub mod PeriodLaws
+pub mod PeriodRows
 pub mod PositionLaws
 pub mod ReferenceLaws
 pub mod ReferenceSteps

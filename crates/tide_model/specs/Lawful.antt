@@ -1,5 +1,5 @@
 -- Which histories are lawful.
-use Rattle.std.specs.Prelude.{ℕ, ◌≡◌, ◌<◌, ◌^◌, true, List, take, slice_get, Option, None, Some}
+use Rattle.std.specs.Prelude.{ℕ, ◌≡◌, ◌<◌, ◌^◌, true, List, Option, None}
 use Rattle.tide_model.specs.declared.op.Op.{Op}
 use Rattle.tide_model.specs.declared.op.Op.TheVariants.{Alloc, Table, Get, Put, Move, Set, Drop, Claim, Release, Unclaim, Add, GetProp, SetProp, StrongSet, StrongGet, WeakSet, WeakGet, PairSet, PairGet, PairDel, Group, Collect, Retire}
 use Rattle.tide_model.specs.declared.op.Reply.{Reply}
@@ -8,6 +8,7 @@ use Rattle.tide_model.specs.declared.op.Refusal.TheVariants.{Full}
 use Rattle.tide_model.specs.declared.entry.Entry.{Entry}
 use Rattle.tide_model.specs.declared.entry.Entry.TheVariants.{Call, Begin, Pause, Visits, End, Sweep, Open}
 use Rattle.tide_model.specs.declared.entry.Event.{Event}
+use Rattle.tide_model.specs.Each.{Each}
 use Rattle.tide_model.specs.Layout.{Layout}
 use Rattle.tide_model.specs.History.{state_after}
 use Rattle.tide_model.specs.Refused.{ShapeLists}
@@ -67,5 +68,4 @@ Stands layout shapes before event = StandsEntry layout shapes before event.entry
 
 -- a history in which each event may stand right after those before it
 abbrev pub IsLawful : Layout → ShapeLists → List Event → Type 0
-IsLawful layout shapes history =
-    (place : ℕ) (event : Event) → slice_get history place ≡ Some event → Stands layout shapes (take place history) event
+IsLawful layout shapes history = Each (Stands layout shapes) history

@@ -3,6 +3,8 @@ pub mod Applied
 pub mod BusyRows
 pub mod Caller
 pub mod Cycle
+pub mod Each
+pub mod Freeze
 pub mod Graph
 pub mod History
 pub mod Lawful
@@ -10,12 +12,15 @@ pub mod Laws
 pub mod Layout
 pub mod Numbers
 pub mod OperationRows
+pub mod Pace
+pub mod Periods
 pub mod Prefix
 pub mod References
 pub mod Refused
 pub mod RefusedRows
 pub mod Room
 pub mod Rows
-pub mod Schedule
 pub mod Script
+pub mod Share
+pub mod Since
 pub mod State

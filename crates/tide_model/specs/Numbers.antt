@@ -19,3 +19,8 @@ numbers_where test (suc n) = numbers_where test n ++ (if test n then n ∷ [] el
 abbrev pub count_where : (ℕ → Bool) → ℕ → ℕ
 count_where test zero = 0
 count_where test (suc n) = count_where test n + (if test n then 1 else 0)
+
+-- some number below a bound passes a test
+abbrev pub any_below : (ℕ → Bool) → ℕ → Bool
+any_below test zero = false
+any_below test (suc n) = any_below test n || test n

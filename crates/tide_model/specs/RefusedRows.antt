@@ -1,17 +1,15 @@
 -- Small histories that the definitions refuse, each next to one that they accept.
-use Rattle.std.specs.Prelude.{ℕ, ◌≡◌, ◌≤◌, ◌==◌, ◌⊎◌, refl, Bool, true, false, List, [], ◌∷◌, ◌++◌, take, None, if◌then◌else◌}
-use Rattle.std.proofs.Common.{arith, ap, inl, inr, subst, lit<}
+use Rattle.std.specs.Prelude.{ℕ, ◌≡◌, ◌≤◌, ◌==◌, ◌⊎◌, refl, Bool, true, false, List, [], ◌∷◌, take, if◌then◌else◌}
+use Rattle.std.proofs.Common.{arith, inl, inr, subst, lit<}
 use Rattle.tide_model.specs.declared.val.Val.{Val}
 use Rattle.tide_model.specs.declared.val.Val.TheVariants.{Empty, Cell}
-use Rattle.tide_model.specs.declared.op.Op.TheVariants.{Alloc, Set, Group, Collect}
-use Rattle.tide_model.specs.declared.op.Reply.TheVariants.{Done, Born, Asked, Refused}
-use Rattle.tide_model.specs.declared.op.Refusal.TheVariants.{Full}
-use Rattle.tide_model.specs.declared.entry.Entry.TheVariants.{Call, Begin, Pause, End}
+use Rattle.tide_model.specs.declared.op.Op.TheVariants.{Alloc, Set, Group}
+use Rattle.tide_model.specs.declared.op.Reply.TheVariants.{Done}
+use Rattle.tide_model.specs.declared.entry.Entry.TheVariants.{Call}
 use Rattle.tide_model.specs.declared.entry.Event.{Event}
 use Rattle.tide_model.specs.Graph.{IsRoot, in_register, claimed, in_handle, IsClosed, retained_in_closed, no_cell}
-use Rattle.tide_model.specs.History.{plain, state_after, state_at}
-use Rattle.tide_model.specs.Cycle.{StandsEnd, cycle_span, live_count}
-use Rattle.tide_model.specs.Schedule.{Turn, StandsTurn, IsWholeCycle, asked, refused, retired}
+use Rattle.tide_model.specs.History.{plain, state_at}
+use Rattle.tide_model.specs.Cycle.{StandsEnd, cycle_span}
 use Rattle.tide_model.specs.Lawful.{FitsLayout, IsLawful}
 use Rattle.tide_model.specs.Refused.{no_shapes}
 use Rattle.tide_model.specs.Rows.{small, kept_then_freed}
@@ -62,40 +60,6 @@ garbage_is_not_kept stands =
       pairs = λ table key cell kept_table kept_key triple. kept_table;
       twins = λ one other kept twin. kept;
     }
-
--- a turn of mutator 0
-abbrev collects : List Event → Turn
-collects cycle = record { who = 0; op = Collect; reply = Asked; took = None; cycle = cycle }
-
--- a cycle has to follow a call that asked for it, and none may follow another call
-pub asked_cycle_has_to_run : StandsTurn small [] (collects []) → ⊥
-asked_cycle_has_to_run stands = let e = (stands.runs (asked refl)).parts in cc
-
-abbrev allocates : List Event → Turn
-allocates cycle = record { who = 0; op = Alloc 0 0; reply = Born 0; took = None; cycle = cycle }
-
-pub no_cycle_follows_alloc : StandsTurn small [] (allocates (plain (Begin 1) ∷ plain (Pause 1) ∷ plain (End 1 []) ∷ [])) → ⊥
-no_cycle_follows_alloc stands = let e = stands.rests (λ asks. elim asks [ asked is ↦ cc | refused class is first ↦ cc | retired is ↦ cc ]) in cc
-
--- a pause may not report fewer cells than the end keeps
-pub pause_reports_too_few : IsWholeCycle small (take 2 kept_then_freed) (plain (Begin 1) ∷ plain (Pause 0) ∷ plain (End 1 []) ∷ []) → ⊥
-pause_reports_too_few whole =
-    let parts = whole.parts in
-    let pause : plain (Pause 0) ≡ plain (Pause whole.visits) = cc in
-    let end : plain (End 1 []) ≡ plain (End whole.number whole.freed) = cc in
-    let visits : Pause 0 ≡ Pause whole.visits = ap (λ (event : Event). event.entry) pause in
-    let freed : End 1 [] ≡ End whole.number whole.freed = ap (λ (event : Event). event.entry) end in
-    let no_visits : 0 ≡ whole.visits = cc in
-    let none_freed : whole.freed ≡ [] = cc in
-    let Keeps : List ℕ → Type 0 = λ freed. live_count small (state_after small
-    (take 2 kept_then_freed ++ plain (Begin whole.number) ∷ plain (Pause whole.visits) ∷ plain (End whole.number freed) ∷ [])) ≤ whole.visits in
-    let one : 1 ≤ whole.visits = subst Keeps none_freed whole.kept in
-    omega (arith, no_visits, one)
-
--- after a first refusal for room another operation may not come
-pub retry_is_not_skipped :
-    StandsTurn small (plain (Call 0 (Alloc 0 1) (Refused (Full 1))) ∷ plain (Begin 1) ∷ plain (Pause 0) ∷ plain (End 1 []) ∷ []) (allocates []) → ⊥
-retry_is_not_skipped stands = let e = stands.retries (Alloc 0 1) refl in cc
 
 -- a fifth register, and a class without slots
 pub register_is_there : FitsLayout small (Alloc 4 0) → ⊥

@@ -11,11 +11,10 @@ use Rattle.tide_model.specs.State.{live, dead, free, idle, marking}
 use Rattle.tide_model.specs.Graph.{is_root, in_register}
 use Rattle.tide_model.specs.History.{plain, state_after, state_at, moment_after_last, is_begin}
 use Rattle.tide_model.specs.Cycle.{begin_count, StandsEnd, live_count}
-use Rattle.tide_model.specs.Script.{script_of}
+use Rattle.tide_model.specs.Script.{retry_of, script_of}
 use Rattle.tide_model.specs.Answer.{IsAnswer}
 use Rattle.tide_model.specs.Refused.{refusal_of, no_shapes}
 use Rattle.tide_model.specs.Room.{window_start}
-use Rattle.tide_model.specs.Schedule.{retry_of}
 
 -- one block of cells with two slots, one of tables, and two of arrays
 abbrev pub small : Layout

@@ -1,6 +1,7 @@
 -- What a mutator asked for, as its own list of operations has it.
 use Rattle.std.specs.Prelude.{ℕ, ◌==◌, Bool, true, false, List, [], ◌∷◌, ◌++◌, if◌then◌else◌, Option, None, Some, is_some}
 use Rattle.tide_model.specs.declared.op.Op.{Op}
+use Rattle.tide_model.specs.declared.op.Op.TheVariants.{Retire}
 use Rattle.tide_model.specs.declared.op.Reply.{Reply}
 use Rattle.tide_model.specs.declared.op.Reply.TheVariants.{Refused}
 use Rattle.tide_model.specs.declared.op.Refusal.{Refusal}
@@ -29,6 +30,11 @@ abbrev pub is_full_reply : Reply → Bool
 is_full_reply (Refused refusal) = is_full_refusal refusal
 is_full_reply _ = false
 
+-- the operation is to retire
+abbrev pub is_retire : Op → Bool
+is_retire Retire = true
+is_retire _ = false
+
 -- The operation that is to be tried again after a call, if any, from the one that was to be tried at it: a first
 -- refusal for room is tried once more, and a refusal of that second try is no first one.
 abbrev pub retry_after : Option Op → Op × Reply → Option Op
@@ -39,6 +45,10 @@ retry_after (Some tried) call = None
 abbrev pub retry_after_all : Option Op → List (Op × Reply) → Option Op
 retry_after_all retry [] = retry
 retry_after_all retry (call ∷ calls) = retry_after_all (retry_after retry call) calls
+
+-- the operation that the mutator has to try again after a history, if any
+abbrev pub retry_of : ℕ → List Event → Option Op
+retry_of who history = retry_after_all None (calls_of who history)
 
 -- the operations of some calls, without each first refusal for room
 abbrev pub script_from : Option Op → List (Op × Reply) → List Op
