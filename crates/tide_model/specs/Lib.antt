@@ -24,3 +24,4 @@ pub mod Script
 pub mod Share
 pub mod Since
 pub mod State
+pub mod Whole

@@ -1,0 +1,197 @@
+-- What a call keeps: the phase, that nothing is dead, and that no mutator has more than 8 claims.
+use Rattle.std.proofs.Common.{ℕ, suc, ◌≡◌, ◌<◌, ◌≤◌, refl, sym, ap, subst, arith, Bool, true, false, List, [], ◌∷◌, ◌++◌, length, drop}
+use Rattle.std.proofs.lemmas.Bool.{leb-false}
+use Rattle.std.proofs.lemmas.List.{length-append, length-drop}
+use Rattle.std.specs.Prelude.{Option, None, Some, filter, not, nat_le, ◌==◌, if◌then◌else◌}
+use Rattle.tide_model.specs.declared.val.Val.{Val}
+use Rattle.tide_model.specs.declared.val.Val.TheVariants.{Empty, Int, Cell}
+use Rattle.tide_model.specs.declared.op.Op.{Op}
+use Rattle.tide_model.specs.declared.op.Op.TheVariants.{Alloc, Table, Put, Claim, Release, Unclaim, Add, SetProp, PairSet, PairDel, Group, Retire}
+use Rattle.tide_model.specs.declared.op.Reply.{Reply}
+use Rattle.tide_model.specs.declared.op.Reply.TheVariants.{Done, Born, Refused}
+use Rattle.tide_model.specs.declared.op.Refusal.{Refusal}
+use Rattle.tide_model.specs.declared.op.Refusal.TheVariants.{ClaimsFull}
+use Rattle.tide_model.specs.Answer.{IsAnswer, IsAnswerUnless}
+use Rattle.tide_model.specs.Applied.{after_call, at_cell, add_property, array_after, exchange_array, place_of, put_cell, put_claims, put_pair, put_property, put_slot, spend}
+use Rattle.tide_model.specs.Layout.{Layout}
+use Rattle.tide_model.specs.Numbers.{put_at}
+use Rattle.tide_model.specs.Refused.{ShapeLists, claims_most, first_of, held_by, holders_of, refusal_at, refusal_of, refuse_if}
+use Rattle.tide_model.specs.State.{State, CellState, Status, blank_cell, dead, live, spent}
+use Rattle.tide_model.proofs.ReferenceLaws.{after_call-refused, put_at_elim}
+
+-- what a change at a cell keeps
+pub at_cell_keeps : (P : State → Type 0) (state : State) (value : Val) (change : ℕ → State) → P state → ((cell : ℕ) → P (change cell)) → P (at_cell state value change)
+at_cell_keeps P state Empty change holds each = holds
+at_cell_keeps P state (Int n) change holds each = holds
+at_cell_keeps P state (Cell cell) change holds each = each cell
+
+put_slot_keeps : (P : State → Type 0) (state : State) (source : Val) (slot : ℕ) (value : Val) → P state → ((cell : ℕ) → P (put_slot state (Cell cell) slot value)) → P (put_slot state source slot value)
+put_slot_keeps P state Empty slot value holds each = holds
+put_slot_keeps P state (Int n) slot value holds each = holds
+put_slot_keeps P state (Cell cell) slot value holds each = each cell
+
+-- a call leaves the phase
+pub phase_after-call : (state : State) (who : ℕ) (op : Op) (reply : Reply) (took : Option ℕ) → (after_call state who op reply took).phase ≡ state.phase
+phase_after-call state who Retire Done took = refl
+phase_after-call state who op (Refused refusal) took = ap (λ (s : State). s.phase) (after_call-refused state who op refusal took)
+phase_after-call state who (Put src slot val) Done took =
+    put_slot_keeps (λ s. s.phase ≡ state.phase) state (state.registers who src) slot (state.registers who val) refl (λ cell. refl)
+phase_after-call state who (Claim src) Done took =
+    at_cell_keeps (λ s. s.phase ≡ state.phase) state (state.registers who src) (λ cell. put_claims state who (state.claims who ++ cell ∷ [])) refl (λ cell. refl)
+phase_after-call state who (Release src) Done took =
+    at_cell_keeps (λ s. s.phase ≡ state.phase) state (state.registers who src) (λ cell. put_claims state who (filter (λ claimed. not (claimed == cell)) (state.claims who))) refl (λ cell. refl)
+phase_after-call state who (Add src key val) Done took =
+    at_cell_keeps (λ s. s.phase ≡ state.phase) state (state.registers who src) (λ cell. add_property state cell key (state.registers who val) took) refl (λ cell. refl)
+phase_after-call state who (SetProp src key val) Done took =
+    at_cell_keeps (λ s. s.phase ≡ state.phase) state (state.registers who src) (λ cell. put_property state cell key (state.registers who val)) refl (λ cell. refl)
+phase_after-call state who (PairSet src key val) Done took =
+    at_cell_keeps (λ s. s.phase ≡ state.phase) state (state.registers who src) (λ table. at_cell state (state.registers who key) (λ cell. put_pair state table cell (Some (state.registers who val)))) refl
+    (λ table. at_cell_keeps (λ s. s.phase ≡ state.phase) state (state.registers who key) (λ cell. put_pair state table cell (Some (state.registers who val))) refl (λ cell. refl))
+phase_after-call state who (PairDel src key) Done took =
+    at_cell_keeps (λ s. s.phase ≡ state.phase) state (state.registers who src) (λ table. at_cell state (state.registers who key) (λ cell. put_pair state table cell None)) refl
+    (λ table. at_cell_keeps (λ s. s.phase ≡ state.phase) state (state.registers who key) (λ cell. put_pair state table cell None) refl (λ cell. refl))
+phase_after-call state who (Group src n) Done took =
+    at_cell_keeps (λ s. s.phase ≡ state.phase) state (state.registers who src) (λ cell. put_cell state cell (record (state.cells cell) { group = n })) refl (λ cell. refl)
+phase_after-call state who op reply took = refl
+
+-- what is dead in the one was dead in the other
+pub record HasNoNewDead (one other : State) : Type 0 where
+  pub cells : (cell : ℕ) → (other.cells cell).status ≡ dead → (one.cells cell).status ≡ dead
+  pub arrays : (array : ℕ) → other.arrays array ≡ dead → one.arrays array ≡ dead
+
+pub same_dead : (state : State) → HasNoNewDead state state
+same_dead state = record { cells = λ cell is. is; arrays = λ array is. is }
+
+-- a cell that holds something else, and is as live as it was
+put_dead : (state : State) (at : ℕ) (held : CellState) → (held.status ≡ dead → (state.cells at).status ≡ dead) →
+    (cell : ℕ) → (put_at state.cells at held cell).status ≡ dead → (state.cells cell).status ≡ dead
+put_dead state at held same = put_at_elim (λ n (c : CellState). c.status ≡ dead → (state.cells n).status ≡ dead) state.cells at held same (λ n apart is. is)
+
+exchanged_dead : (arrays : ℕ → Status) (old took : Option ℕ) (array : ℕ) → exchange_array arrays old took array ≡ dead → arrays array ≡ dead
+exchanged_dead arrays old None array = λ is. is
+exchanged_dead arrays old (Some taken) array =
+    put_at_elim (λ n (s : Status). s ≡ dead → arrays n ≡ dead) (spend arrays old) taken live (λ is. absurd (cc)) (λ n apart. spent_dead old n) array
+  where
+    spent_dead : (o : Option ℕ) (n : ℕ) → spend arrays o n ≡ dead → arrays n ≡ dead
+    spent_dead None n = λ is. is
+    spent_dead (Some own) n = put_at_elim (λ m (s : Status). s ≡ dead → arrays m ≡ dead) arrays own spent (λ is. absurd (cc)) (λ m apart is. is) n
+
+-- a call makes nothing dead
+pub HasNoNewDead-call : (state : State) (who : ℕ) (op : Op) (reply : Reply) (took : Option ℕ) → HasNoNewDead state (after_call state who op reply took)
+HasNoNewDead-call state who (Alloc dst class) (Born cell) took =
+    record { cells = put_dead state cell (blank_cell live) (λ is. absurd (cc)); arrays = λ array is. is }
+HasNoNewDead-call state who (Table dst) (Born cell) took =
+    record { cells = put_dead state cell (blank_cell live) (λ is. absurd (cc)); arrays = λ array is. is }
+HasNoNewDead-call state who op (Refused refusal) took = subst (HasNoNewDead state) (sym (after_call-refused state who op refusal took)) (same_dead state)
+HasNoNewDead-call state who (Put src slot val) Done took =
+    put_slot_keeps (HasNoNewDead state) state (state.registers who src) slot (state.registers who val) (same_dead state)
+    (λ cell. record { cells = put_dead state cell (record (state.cells cell) { slots = put_at (state.cells cell).slots slot (state.registers who val) }) (λ is. is); arrays = λ array is. is })
+HasNoNewDead-call state who (Claim src) Done took =
+    at_cell_keeps (HasNoNewDead state) state (state.registers who src) (λ cell. put_claims state who (state.claims who ++ cell ∷ [])) (same_dead state)
+    (λ cell. record { cells = λ c is. is; arrays = λ array is. is })
+HasNoNewDead-call state who (Release src) Done took =
+    at_cell_keeps (HasNoNewDead state) state (state.registers who src) (λ cell. put_claims state who (filter (λ claimed. not (claimed == cell)) (state.claims who))) (same_dead state)
+    (λ cell. record { cells = λ c is. is; arrays = λ array is. is })
+HasNoNewDead-call state who (Add src key val) Done took =
+    at_cell_keeps (HasNoNewDead state) state (state.registers who src) (λ cell. add_property state cell key (state.registers who val) took) (same_dead state)
+    (λ cell. record {
+      cells = put_dead state cell (record (state.cells cell) {
+        keys = (state.cells cell).keys ++ key ∷ [];
+        properties = put_at (state.cells cell).properties (length (state.cells cell).keys) (state.registers who val);
+        array = array_after (state.cells cell).array took;
+      }) (λ is. is);
+      arrays = λ array. exchanged_dead state.arrays (state.cells cell).array took array;
+    })
+HasNoNewDead-call state who (SetProp src key val) Done took =
+    at_cell_keeps (HasNoNewDead state) state (state.registers who src) (λ cell. put_property state cell key (state.registers who val)) (same_dead state)
+    (λ cell. record {
+      cells = put_dead state cell (record (state.cells cell) { properties = put_at (state.cells cell).properties (place_of (state.cells cell).keys key) (state.registers who val) }) (λ is. is);
+      arrays = λ array is. is;
+    })
+HasNoNewDead-call state who (PairSet src key val) Done took =
+    at_cell_keeps (HasNoNewDead state) state (state.registers who src) (λ table. at_cell state (state.registers who key) (λ cell. put_pair state table cell (Some (state.registers who val)))) (same_dead state)
+    (λ table. at_cell_keeps (HasNoNewDead state) state (state.registers who key) (λ cell. put_pair state table cell (Some (state.registers who val))) (same_dead state)
+    (λ cell. record { cells = put_dead state table (record (state.cells table) { pairs = put_at (state.cells table).pairs cell (Some (state.registers who val)) }) (λ is. is); arrays = λ array is. is }))
+HasNoNewDead-call state who (PairDel src key) Done took =
+    at_cell_keeps (HasNoNewDead state) state (state.registers who src) (λ table. at_cell state (state.registers who key) (λ cell. put_pair state table cell None)) (same_dead state)
+    (λ table. at_cell_keeps (HasNoNewDead state) state (state.registers who key) (λ cell. put_pair state table cell None) (same_dead state)
+    (λ cell. record { cells = put_dead state table (record (state.cells table) { pairs = put_at (state.cells table).pairs cell None }) (λ is. is); arrays = λ array is. is }))
+HasNoNewDead-call state who (Group src n) Done took =
+    at_cell_keeps (HasNoNewDead state) state (state.registers who src) (λ cell. put_cell state cell (record (state.cells cell) { group = n })) (same_dead state)
+    (λ cell. record { cells = put_dead state cell (record (state.cells cell) { group = n }) (λ is. is); arrays = λ array is. is })
+HasNoNewDead-call state who op reply took = record { cells = λ cell is. is; arrays = λ array is. is }
+
+-- a claim is granted only to one with fewer than the most
+claimed_few : (layout : Layout) (state : State) (who src : ℕ) (value : Val) →
+    refusal_at value src (λ cell. first_of (held_by (holders_of layout state cell) ∷ refuse_if (nat_le claims_most (length (state.claims who))) ClaimsFull ∷ [])) ≡ None →
+    (cell : ℕ) → value ≡ Cell cell → length (state.claims who) < 8
+claimed_few layout state who src (Cell c) none cell is = step (nat_le claims_most (length (state.claims who))) refl (holders_of layout state c) none
+  where
+    step : (full : Bool) → nat_le claims_most (length (state.claims who)) ≡ full → (holders : List ℕ) →
+        first_of (held_by holders ∷ refuse_if full ClaimsFull ∷ []) ≡ None → length (state.claims who) < 8
+    step true e [] none' = absurd (cc)
+    step true e (h ∷ hs) none' = absurd (cc)
+    step false e [] none' = (let less = leb-false 8 (length (state.claims who)) e in omega (arith, less))
+    step false e (h ∷ hs) none' = absurd (cc)
+claimed_few layout state who src Empty none cell is = absurd (cc)
+claimed_few layout state who src (Int n) none cell is = absurd (cc)
+
+length-filter_le : (test : ℕ → Bool) (xs : List ℕ) → length (filter test xs) ≤ length xs
+length-filter_le test [] = omega arith
+length-filter_le test (x ∷ xs) = step (test x) (length-filter_le test xs)
+  where
+    step : (passes : Bool) → length (filter test xs) ≤ length xs → length (if passes then x ∷ filter test xs else filter test xs) ≤ suc (length xs)
+    step true le = omega (arith, le)
+    step false le = omega (arith, le)
+
+at_cell_keeps_at : (P : State → Type 0) (state : State) (value : Val) (change : ℕ → State) → P state → ((cell : ℕ) → value ≡ Cell cell → P (change cell)) → P (at_cell state value change)
+at_cell_keeps_at P state Empty change holds each = holds
+at_cell_keeps_at P state (Int n) change holds each = holds
+at_cell_keeps_at P state (Cell cell) change holds each = each cell refl
+
+-- no mutator has more than the most claims
+abbrev pub HasFewClaims : State → Type 0
+HasFewClaims state = (who : ℕ) → length (state.claims who) ≤ 8
+
+few_put : (state : State) (who : ℕ) (claims : List ℕ) → HasFewClaims state → length claims ≤ 8 → HasFewClaims (put_claims state who claims)
+few_put state who claims few short = put_at_elim (λ n (c : List ℕ). length c ≤ 8) state.claims who claims short (λ n apart. few n)
+
+few_granted : (layout : Layout) (shapes : ShapeLists) (state : State) (who : ℕ) (op : Op) (reply : Reply) (took : Option ℕ) → HasFewClaims state →
+    refusal_of layout shapes state who op ≡ None → HasFewClaims (after_call state who op reply took)
+few_granted layout shapes state who Retire Done took few none = few
+few_granted layout shapes state who op (Refused refusal) took few none = subst HasFewClaims (sym (after_call-refused state who op refusal took)) few
+few_granted layout shapes state who (Put src slot val) Done took few none =
+    put_slot_keeps HasFewClaims state (state.registers who src) slot (state.registers who val) few (λ cell. few)
+few_granted layout shapes state who (Claim src) Done took few none =
+    at_cell_keeps_at HasFewClaims state (state.registers who src) (λ cell. put_claims state who (state.claims who ++ cell ∷ [])) few
+    (λ cell is. few_put state who (state.claims who ++ cell ∷ []) few
+    (let less = claimed_few layout state who src (state.registers who src) none cell is in let longer = length-append (state.claims who) (cell ∷ []) in omega (arith, less, longer)))
+few_granted layout shapes state who (Release src) Done took few none =
+    at_cell_keeps HasFewClaims state (state.registers who src) (λ cell. put_claims state who (filter (λ claimed. not (claimed == cell)) (state.claims who))) few
+    (λ cell. few_put state who (filter (λ claimed. not (claimed == cell)) (state.claims who)) few
+    (let shorter = length-filter_le (λ claimed. not (claimed == cell)) (state.claims who) in let had = few who in omega (arith, shorter, had)))
+few_granted layout shapes state who Unclaim Done took few none =
+    few_put state who (drop 1 (state.claims who)) few (let shorter = length-drop 1 (state.claims who) in let had = few who in omega (arith, shorter, had))
+few_granted layout shapes state who (Add src key val) Done took few none =
+    at_cell_keeps HasFewClaims state (state.registers who src) (λ cell. add_property state cell key (state.registers who val) took) few (λ cell. few)
+few_granted layout shapes state who (SetProp src key val) Done took few none =
+    at_cell_keeps HasFewClaims state (state.registers who src) (λ cell. put_property state cell key (state.registers who val)) few (λ cell. few)
+few_granted layout shapes state who (PairSet src key val) Done took few none =
+    at_cell_keeps HasFewClaims state (state.registers who src) (λ table. at_cell state (state.registers who key) (λ cell. put_pair state table cell (Some (state.registers who val)))) few
+    (λ table. at_cell_keeps HasFewClaims state (state.registers who key) (λ cell. put_pair state table cell (Some (state.registers who val))) few (λ cell. few))
+few_granted layout shapes state who (PairDel src key) Done took few none =
+    at_cell_keeps HasFewClaims state (state.registers who src) (λ table. at_cell state (state.registers who key) (λ cell. put_pair state table cell None)) few
+    (λ table. at_cell_keeps HasFewClaims state (state.registers who key) (λ cell. put_pair state table cell None) few (λ cell. few))
+few_granted layout shapes state who (Group src n) Done took few none =
+    at_cell_keeps HasFewClaims state (state.registers who src) (λ cell. put_cell state cell (record (state.cells cell) { group = n })) few (λ cell. few)
+few_granted layout shapes state who op reply took few none = few
+
+-- nor after a call
+pub HasFewClaims-call : (layout : Layout) (shapes : ShapeLists) (state : State) (who : ℕ) (op : Op) (reply : Reply) (took : Option ℕ) → HasFewClaims state →
+    IsAnswer layout shapes state who op reply took → HasFewClaims (after_call state who op reply took)
+HasFewClaims-call layout shapes state who op reply took few answers = step (refusal_of layout shapes state who op) refl answers
+  where
+    step : (refused : Option Refusal) → refusal_of layout shapes state who op ≡ refused → IsAnswerUnless refused layout state who op reply took → HasFewClaims (after_call state who op reply took)
+    step None none granted = few_granted layout shapes state who op reply took few none
+    step (Some refusal) is answer =
+        subst (λ (r : Reply). HasFewClaims (after_call state who op r took)) (sym answer.1) (subst HasFewClaims (sym (after_call-refused state who op refusal took)) few)

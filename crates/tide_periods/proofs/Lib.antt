@@ -1,0 +1,11 @@
+pub mod CallKeeps
+pub mod CallLaws
+pub mod CallerLaws
+pub mod CycleLaws
+pub mod Freezing
+pub mod LeftLaws
+pub mod Parting
+pub mod RecordedLaws
+pub mod Running
+pub mod Sharing
+pub mod Starting

@@ -1,0 +1,130 @@
+-- How what a recorder knows grows by one entry.
+use Rattle.std.proofs.Common.{ℕ, ◌≡◌, ◌+◌, refl, sym, ◌∙◌, ap, subst, arith, Bool, List, [], ◌∷◌, ◌++◌, length, add-zero, zero-add}
+use Rattle.std.proofs.lemmas.List.{map-append}
+use Rattle.std.proofs.lemmas.List.Sums.{sum_by-append}
+use Rattle.std.specs.Prelude.{Option, count_by, if◌then◌else◌}
+use Rattle.tide_model.specs.declared.op.Op.{Op}
+use Rattle.tide_model.specs.declared.op.Reply.{Reply}
+use Rattle.tide_model.specs.declared.op.Reply.TheVariants.{Refused}
+use Rattle.tide_model.specs.declared.op.Refusal.TheVariants.{Full}
+use Rattle.tide_model.specs.declared.entry.Entry.TheVariants.{Open}
+use Rattle.tide_model.specs.declared.entry.Event.{Event}
+use Rattle.tide_model.specs.Answer.{IsAnswer}
+use Rattle.tide_model.specs.Applied.{after_call}
+use Rattle.tide_model.specs.Cycle.{HasDead, dead_cell, dead_array, begin_count}
+use Rattle.tide_model.specs.History.{after_event, is_begin, is_call_of, is_open, plain, state_after}
+use Rattle.tide_model.specs.Lawful.{IsLawful, Stands}
+use Rattle.tide_model.specs.Layout.{Layout, IsBlockOf}
+use Rattle.tide_model.specs.Periods.{EndsInTime, open_count}
+use Rattle.tide_model.specs.Room.{IsFullBlock, StandsFull}
+use Rattle.tide_model.specs.Each.{Each}
+use Rattle.tide_model.specs.State.{State, idle}
+use Rattle.tide_model.proofs.Cycles.{take-all}
+use Rattle.tide_model.proofs.Histories.{IsLawful-push, moment_after_last-le, push_cases, state_after-push}
+use Rattle.tide_periods.specs.declared.told.Told.{Told}
+use Rattle.tide_periods.specs.Store.{Setting, blocks_in}
+use Rattle.tide_periods.specs.Told.{AreCounted, IsCounted, events_of, uncounted}
+use Rattle.tide_periods.specs.Recorded.{IsAtRest, MadeCall, MayAsk, OpenedPart, Recorded}
+use Rattle.tide_periods.proofs.CallKeeps.{HasFewClaims, HasFewClaims-call, HasNoNewDead, HasNoNewDead-call, phase_after-call, same_dead}
+use Rattle.tide_periods.proofs.CallerLaws.{called}
+
+-- each block of the class is full right now, which is a moment of the window
+StandsFull-now : (layout : Layout) (history : List Event) (who class : ℕ) →
+    ((block : ℕ) → IsBlockOf layout class block → IsFullBlock layout (state_after layout history) block) → StandsFull layout history who class
+StandsFull-now layout history who class full block of_class =
+    let calls = moment_after_last-le (λ event. is_call_of who event.entry) history in
+    let opens = moment_after_last-le (λ event. is_open event.entry) history in (
+      length history,
+      omega (arith, calls, opens),
+      omega arith,
+      subst (λ (h : List Event). IsFullBlock layout (state_after layout h) block) (sym (take-all history)) (full block of_class),
+    )
+
+-- what passes a test is one more where the new one passes
+pub count-push : (test : Event → Bool) (history : List Event) (event : Event) → count_by test (history ++ event ∷ []) ≡ count_by test history + (if test event then 1 else 0)
+count-push test history event =
+    sum_by-append (λ e. if test e then 1 else 0) history (event ∷ [])
+    ∙ (let more = zero-add (if test event then 1 else 0) in ap (λ (n : ℕ). count_by test history + n) more)
+
+-- nothing is dead where nothing dead is new
+IsSwept-grown : (layout : Layout) (one other : State) → HasNoNewDead one other → ((block : ℕ) → HasDead layout one block → ⊥) → (block : ℕ) → HasDead layout other block → ⊥
+IsSwept-grown layout one other none clean block (dead_cell cell within at is) = clean block (dead_cell cell within at (none.cells cell is))
+IsSwept-grown layout one other none clean block (dead_array array within at is) = clean block (dead_array array within at (none.arrays array is))
+
+-- one entry more, after which the store is at rest and swept
+pub IsAtRest-event : (old new : Recorded) (one : Told) → IsAtRest old → new.setting ≡ old.setting → new.history ≡ old.history ++ one.event ∷ [] →
+    new.told ≡ old.told ++ one ∷ [] → IsCounted old.setting.layout old.history one →
+    new.state ≡ after_event old.setting.layout old.state one.event → new.cycles ≡ old.cycles + (if is_begin one.event.entry then 1 else 0) → new.parts ≡ old.parts + (if is_open one.event.entry then 1 else 0) →
+    new.blocks ≡ old.blocks → Stands old.setting.layout old.setting.shapes old.history one.event → EndsInTime old.setting.layout old.history one.event → new.state.phase ≡ idle →
+    HasNoNewDead old.state new.state → HasFewClaims new.state → IsAtRest new
+IsAtRest-event old new one recorded same history told counted state cycles parts blocks stands ends rests dead few = record {
+  tells = ap events_of told ∙ map-append (λ t. t.event) old.told (one ∷ []) ∙ ap (λ (h : List Event). h ++ one.event ∷ []) recorded.tells ∙ sym history;
+  counted = subst (λ (s : Setting). AreCounted s.layout new.told) (sym same) (subst (AreCounted layout) (sym told)
+      (push_cases (λ before t. IsCounted layout (events_of before) t) old.told one recorded.counted
+      (subst (λ (h : List Event). IsCounted layout h one) (sym recorded.tells) counted)));
+  lawful = subst (λ (s : Setting). IsLawful s.layout s.shapes new.history) (sym same)
+      (subst (IsLawful layout old.setting.shapes) (sym history) (IsLawful-push layout old.setting.shapes old.history event recorded.lawful stands));
+  ends = subst (λ (s : Setting). Each (EndsInTime s.layout) new.history) (sym same)
+      (subst (Each (EndsInTime layout)) (sym history) (push_cases (EndsInTime layout) old.history event recorded.ends ends));
+  leaves = leaves;
+  begun = ap begin_count history ∙ count-push (λ e. is_begin e.entry) old.history event ∙ ap (λ (n : ℕ). n + (if is_begin event.entry then 1 else 0)) recorded.begun ∙ sym cycles;
+  opens = ap open_count history ∙ count-push (λ e. is_open e.entry) old.history event ∙ ap (λ (n : ℕ). n + (if is_open event.entry then 1 else 0)) recorded.opens ∙ sym parts;
+  rests = rests;
+  swept = subst (λ (s : Setting). (block : ℕ) → HasDead s.layout (state_after s.layout new.history) block → ⊥) (sym same)
+      (subst (λ (s : State). (block : ℕ) → HasDead layout s block → ⊥) (sym leaves_here)
+      (IsSwept-grown layout old.state new.state dead (subst (λ (s : State). (block : ℕ) → HasDead layout s block → ⊥) recorded.leaves recorded.swept)));
+  few = few;
+  blocks = blocks ∙ recorded.blocks ∙ ap blocks_in (sym same);
+}
+  where
+    layout : Layout
+    layout = old.setting.layout
+
+    event : Event
+    event = one.event
+
+    leaves_here : state_after layout new.history ≡ new.state
+    leaves_here = ap (state_after layout) history ∙ state_after-push layout old.history event ∙ ap (λ (s : State). after_event layout s event) recorded.leaves ∙ sym state
+
+    leaves : state_after new.setting.layout new.history ≡ new.state
+    leaves = ap (λ (s : Setting). state_after s.layout new.history) same ∙ leaves_here
+
+-- a call was made and recorded
+pub MadeCall-did : (old new : Recorded) (who : ℕ) (op : Op) (reply : Reply) (took : Option ℕ) → IsAtRest old → MayAsk old who op →
+    IsAnswer old.setting.layout old.setting.shapes old.state who op reply took → new.state ≡ after_call old.state who op reply took →
+    ((class : ℕ) → reply ≡ Refused (Full class) → (block : ℕ) → IsBlockOf old.setting.layout class block → IsFullBlock old.setting.layout old.state block) →
+    new.setting ≡ old.setting → new.history ≡ old.history ++ called who op reply took ∷ [] → new.told ≡ old.told ++ uncounted (called who op reply took) ∷ [] → new.cycles ≡ old.cycles → new.parts ≡ old.parts → new.blocks ≡ old.blocks →
+    MadeCall old new who op reply
+MadeCall-did old new who op reply took recorded may answers state room same history told cycles parts blocks = record {
+  at_rest = IsAtRest-event old new (uncounted (called who op reply took)) recorded same history told (λ cycle freed is. absurd (cc)) state (cycles ∙ sym (add-zero old.cycles)) (parts ∙ sym (add-zero old.parts)) blocks (record {
+    is_mutator = may.is_mutator;
+    is_active = ap (λ (s : State). s.active who) recorded.leaves ∙ may.is_active;
+    fits = may.fits;
+    answers = subst (λ (s : State). IsAnswer old.setting.layout old.setting.shapes s who op reply took) (sym recorded.leaves) answers;
+    room = λ class is. StandsFull-now old.setting.layout old.history who class
+        (λ block of_class. subst (λ (s : State). IsFullBlock old.setting.layout s block) (sym recorded.leaves) (room class is block of_class));
+  })
+      (record { kept = λ cycle freed is. absurd (cc); swept = λ cycle freed is. absurd (cc) })
+      (ap (λ (s : State). s.phase) state ∙ phase_after-call old.state who op reply took ∙ recorded.rests)
+      (subst (HasNoNewDead old.state) (sym state) (HasNoNewDead-call old.state who op reply took))
+      (subst HasFewClaims (sym state) (HasFewClaims-call old.setting.layout old.setting.shapes old.state who op reply took recorded.few answers));
+  same = same;
+  counts = record { cycles = cycles; parts = parts };
+  took = took;
+  answers = answers;
+  history = history;
+}
+
+-- a part was opened and recorded
+pub OpenedPart-did : (old new : Recorded) (run number : ℕ) → IsAtRest old → number ≡ old.parts + 1 → new.state ≡ old.state → new.setting ≡ old.setting →
+    new.history ≡ old.history ++ plain (Open number run) ∷ [] → new.told ≡ old.told ++ uncounted (plain (Open number run)) ∷ [] → new.cycles ≡ old.cycles → new.parts ≡ old.parts + 1 → new.blocks ≡ old.blocks → OpenedPart old new run
+OpenedPart-did old new run number recorded numbered state same history told cycles parts blocks = record {
+  at_rest = IsAtRest-event old new (uncounted (plain (Open number run))) recorded same history told (λ cycle freed is. absurd (cc)) state (cycles ∙ sym (add-zero old.cycles)) parts blocks refl
+      (record { kept = λ cycle freed is. absurd (cc); swept = λ cycle freed is. absurd (cc) })
+      (ap (λ (s : State). s.phase) state ∙ recorded.rests) (subst (HasNoNewDead old.state) (sym state) (same_dead old.state)) (subst HasFewClaims (sym state) recorded.few);
+  same = same;
+  state = state;
+  cycles = cycles;
+  parts = parts;
+  history = history ∙ ap (λ (n : ℕ). old.history ++ plain (Open n run) ∷ []) (numbered ∙ ap (λ (n : ℕ). n + 1) (sym recorded.opens));
+}

@@ -1,0 +1,104 @@
+-- The run over periods.
+use Rattle.std.proofs.Common.{ℕ, zero, suc, ◌≡◌, refl, sym, ◌∙◌, ap, subst, Bool, true, List, [], ◌∷◌, ◌++◌, length, take, append_assoc, take_all, replicate, All, arith}
+use Rattle.std.proofs.lemmas.List.{length-map}
+use Rattle.std.proofs.lemmas.List.Elements.{All-get_or}
+use Rattle.std.proofs.lemmas.List.Sums.{AllPass-from_list_all}
+use Rattle.std.proofs.lemmas.Option.{slice_get_within, get_or_from_slice_get}
+use Rattle.std.specs.Prelude.{Some, map, slice_get, if◌then◌else◌}
+use Rattle.std.specs.List.{list_all}
+use Rattle.tide_model.specs.declared.op.Op.{Op}
+use Rattle.tide_model.specs.declared.op.Op.TheVariants.{Unclaim, Retire}
+use Rattle.tide_model.specs.declared.entry.Event.{Event}
+use Rattle.tide_model.specs.Cycle.{live_count}
+use Rattle.tide_model.specs.History.{state_after}
+use Rattle.tide_model.specs.Pace.{Pace}
+use Rattle.tide_model.specs.Periods.{ArePeriods, IsLegal, one_more}
+use Rattle.tide_model.specs.Script.{calls_of}
+use Rattle.tide_model.specs.Whole.{IsWhole}
+use Rattle.tide_periods.specs.declared.caller.Caller.{Caller}
+use Rattle.tide_periods.specs.declared.told.Answered.{Answered}
+use Rattle.tide_periods.specs.declared.told.Told.{Told}
+use Rattle.tide_periods.specs.Asking.{IsAskedBy, claims_after, scripts_of}
+use Rattle.tide_periods.specs.Part.{AreCallers}
+use Rattle.tide_periods.specs.Periods.{RanAll, RanPeriod}
+use Rattle.tide_periods.specs.Run.{HasRun}
+use Rattle.tide_periods.specs.Store.{Setting}
+use Rattle.tide_periods.specs.Told.{AreCounted, events_of, pair_of}
+use Rattle.tide_periods.specs.Recorded.{IsAtRest, Recorded}
+use Rattle.tide_periods.proofs.Freezing.{is_over-callers}
+
+-- one more period
+pub ArePeriods-ran : (old new : Recorded) (pace : Pace) → RanPeriod old new pace → ArePeriods pace old.setting.layout old.history → ArePeriods pace new.setting.layout new.history
+ArePeriods-ran old new pace ran periods =
+    subst (λ (s : Setting). ArePeriods pace s.layout new.history) (sym ran.same)
+    (subst (ArePeriods pace old.setting.layout) (sym ran.history) (one_more old.history ran.period periods ran.stands))
+
+-- all mutators have retired
+pub RanAll-over : (recorded : Recorded) (pace : Pace) (callers : List Caller) → IsAtRest recorded → AreCallers recorded callers → ArePeriods pace recorded.setting.layout recorded.history →
+    list_all (λ caller. caller.retired) callers ≡ true → RanAll recorded pace callers
+RanAll-over recorded pace callers at_rest are periods all = record {
+  at_rest = at_rest;
+  callers' = are;
+  scheduled = record { periods = periods; ends = at_rest.ends; over = sym (is_over-callers recorded callers are) ∙ all };
+  scripts = scripts;
+}
+  where
+    scripts : (who : ℕ) (caller : Caller) → slice_get callers who ≡ Some caller → IsWhole recorded.setting.layout recorded.history who caller.ops.items
+    scripts who caller found =
+        let known = are.each who caller found in
+        let here = known.1 in
+        let at = here.at in
+        let within = slice_get_within callers who caller found in
+        let retired : caller.retired ≡ true = subst (λ (c : Caller). c.retired ≡ true) (get_or_from_slice_get callers who caller caller found)
+        (All-get_or (λ (c : Caller). c.retired ≡ true) callers who caller within (AllPass-from_list_all (λ (c : Caller). c.retired) callers all)) in
+        let done = at.at_end retired in
+        let was = here.was_done done in
+        let unclaims : at.unclaims ≡ claims_after recorded.setting.layout (take here.moment recorded.history) caller.who =
+        (let given = at.given done in let none = at.released retired in let total = was.claims in omega (arith, given, none, total)) in
+        subst (λ (w : ℕ). IsWhole recorded.setting.layout recorded.history w caller.ops.items) known.0 (record {
+          moment = here.moment;
+          within = here.in_history;
+          done = was.script;
+          script = at.is_script
+              ∙ ap (λ (r : Bool). (take caller.done caller.ops.items ++ replicate at.unclaims Unclaim) ++ (if r then Retire ∷ [] else [])) retired
+              ∙ ap (λ (ops : List Op). (ops ++ replicate at.unclaims Unclaim) ++ Retire ∷ [])
+              (ap (λ (n : ℕ). take n caller.ops.items) done ∙ take_all (length caller.ops.items) caller.ops.items (omega arith))
+              ∙ append_assoc caller.ops.items (replicate at.unclaims Unclaim) (Retire ∷ [])
+              ∙ ap (λ (n : ℕ). caller.ops.items ++ (replicate n Unclaim ++ Retire ∷ [])) unclaims;
+        })
+
+-- what stands at a place of a list that was mapped, before it was
+found_before : {X Y : Type 0} (f : X → Y) (xs : List X) (place : ℕ) (y : Y) → slice_get (map f xs) place ≡ Some y →
+    (x : X) × (slice_get xs place ≡ Some x) × (f x ≡ y)
+found_before f [] place y is = absurd (cc)
+found_before f (x ∷ xs) zero y is = (x, refl, (let same : Some (f x) ≡ Some y = is in cc))
+found_before f (x ∷ xs) (suc place) y is = found_before f xs place y is
+
+-- what a run leaves, from the mutators when all have retired
+pub HasRun-over : (setting : Setting) (pace : Pace) (scripts : List (List Op)) (recorded : Recorded) (callers : List Caller) (told : List Told) (calls : List (List Answered)) (live : ℕ) →
+    RanAll recorded pace callers → recorded.setting ≡ setting → scripts_of callers ≡ scripts → told ≡ recorded.told → calls ≡ map (λ caller. caller.calls.items) callers →
+    live ≡ live_count recorded.setting.layout recorded.state → HasRun setting pace scripts told calls live
+HasRun-over setting pace scripts recorded callers told calls live ran same own_scripts is_told are living =
+    subst (λ (s : Setting). HasRun s pace scripts told calls live) same (record {
+      legal = subst (IsLegal pace recorded.setting.layout recorded.setting.shapes) (sym history) (record { lawful = ran.at_rest.lawful; scheduled = ran.scheduled });
+      counted = subst (AreCounted recorded.setting.layout) (sym is_told) ran.at_rest.counted;
+      whole = λ who ops found.
+          let one = found_before (λ (c : Caller). c.ops.items) callers who ops (ap (λ (lists : List (List Op)). slice_get lists who) own_scripts ∙ found) in
+          subst (λ (h : List Event). IsWhole recorded.setting.layout h who ops) (sym history)
+          (subst (IsWhole recorded.setting.layout recorded.history who) one.2 (ran.scripts who one.0 one.1));
+      one_each = ap length are ∙ length-map callers (λ (c : Caller). c.calls.items) ∙ ran.callers'.one_each;
+      calls_are = λ who own found.
+          let one = found_before (λ (c : Caller). c.calls.items) callers who own (ap (λ (lists : List (List Answered)). slice_get lists who) (sym are) ∙ found) in
+          let known = ran.callers'.each who one.0 one.1 in
+          ap (map pair_of) (sym one.2) ∙ sym known.1.are ∙ ap (λ (w : ℕ). calls_of w recorded.history) known.0 ∙ ap (calls_of who) (sym history);
+      asked = λ who ops found.
+          let one = found_before (λ (c : Caller). c.ops.items) callers who ops (ap (λ (lists : List (List Op)). slice_get lists who) own_scripts ∙ found) in
+          let known = ran.callers'.each who one.0 one.1 in
+          subst (λ (o : List Op). All (λ call. IsAskedBy o call.0) (calls_of who (events_of told))) one.2
+          (subst (All (λ call. IsAskedBy one.0.ops.items call.0))
+          (sym known.1.are ∙ ap (λ (w : ℕ). calls_of w recorded.history) known.0 ∙ ap (calls_of who) (sym history)) known.1.asked);
+      living = living ∙ ap (live_count recorded.setting.layout) (sym ran.at_rest.leaves) ∙ ap (λ (h : List Event). live_count recorded.setting.layout (state_after recorded.setting.layout h)) (sym history);
+    })
+  where
+    history : events_of told ≡ recorded.history
+    history = ap events_of is_told ∙ ran.at_rest.tells

@@ -1,0 +1,128 @@
+-- How one mutator's share of a part grows by a call.
+use Rattle.std.proofs.Common.{ℕ, ◌≡◌, ◌+◌, ◌<◌, refl, sym, ◌∙◌, ap, subst, arith, Bool, true, false, List, [], ◌∷◌, ◌++◌, length, append_assoc, append-nil, inl, inr, eq-eqb, zero, suc}
+use Rattle.std.proofs.lemmas.List.{length-append, map-append}
+use Rattle.std.proofs.lemmas.List.Elements.{All-nil, All-push}
+use Rattle.std.specs.Prelude.{Option, None, is_some, not, ◌&&◌, ◌||◌, map}
+use Rattle.tide_model.specs.declared.op.Op.{Op}
+use Rattle.tide_model.specs.declared.op.Reply.{Reply}
+use Rattle.tide_model.specs.declared.entry.Event.{Event}
+use Rattle.tide_model.specs.History.{is_call_of, state_after}
+use Rattle.tide_model.specs.Script.{calls_of, is_full_reply, retry_after_all, retry_of}
+use Rattle.tide_model.specs.Share.{MayCall, ends_share, has_ended, is_asked}
+use Rattle.tide_model.specs.Each.{Each}
+use Rattle.tide_model.proofs.Histories.{calls_of-append, push_cases, retry_after_all-append}
+use Rattle.tide_model.proofs.PeriodLaws.{has_ended-push}
+use Rattle.tide_periods.specs.declared.caller.Caller.{Caller}
+use Rattle.tide_periods.specs.Told.{pair_of}
+use Rattle.tide_periods.specs.Asking.{IsCaller, IsMutatorAt, Standing, TookReply, after_reply, next_of, op_or_leave, standing_of}
+use Rattle.tide_periods.specs.Part.{IsSharing, RanShare}
+use Rattle.tide_periods.specs.Recorded.{IsAtRest, MadeCall, Recorded}
+use Rattle.tide_periods.proofs.CallerLaws.{IsMutatorAt-called, called, calls_of-push, retry_after-flag, is_some-flag}
+
+Each-nil : {X : Type 0} (stands : List X → X → Type 0) → Each stands []
+Each-nil stands zero x is = absurd (cc)
+Each-nil stands (suc place) x is = absurd (cc)
+
+-- no call was made yet
+pub IsSharing-nothing : (old : Recorded) (run who : ℕ) → IsAtRest old → IsSharing old old run who 0 false
+IsSharing-nothing old run who at_rest = record {
+  at_rest = at_rest;
+  same = refl;
+  counts = record { cycles = refl; parts = refl };
+  events = [];
+  history = sym (append-nil old.history);
+  own = All-nil (λ event. is_call_of who event.entry ≡ true);
+  each = Each-nil (MayCall run (retry_of who old.history));
+  count = refl;
+  stops = refl;
+}
+
+-- what a mutator has to try again, in the midst of its share
+pub retry_of-events : (who : ℕ) (before events : List Event) → retry_of who (before ++ events) ≡ retry_after_all (retry_of who before) (calls_of who events)
+retry_of-events who before events = ap (retry_after_all None) (calls_of-append who before events) ∙ retry_after_all-append None (calls_of who before) (calls_of who events)
+
+-- one call more, by its mutator's standing
+pub IsSharing-called : (old now new : Recorded) (run who made : ℕ) (ops : List Op) (standing : Standing) (calls : List (Op × Reply)) (claims : ℕ) (op : Op) (reply : Reply) →
+    IsSharing old now run who made false → made < run → IsMutatorAt now who ops standing calls → op ≡ next_of ops standing claims → MadeCall now new who op reply →
+    IsSharing old new run who (made + 1) (is_asked reply || (not standing.retry && is_full_reply reply))
+IsSharing-called old now new run who made ops standing calls claims op reply sharing below at is call = record {
+  at_rest = call.at_rest;
+  same = call.same ∙ sharing.same;
+  counts = record { cycles = call.counts.cycles ∙ sharing.counts.cycles; parts = call.counts.parts ∙ sharing.counts.parts };
+  events = sharing.events ++ event ∷ [];
+  history = call.history ∙ ap (λ (h : List Event). h ++ event ∷ []) sharing.history ∙ append_assoc old.history sharing.events (event ∷ []);
+  own = All-push (λ e. is_call_of who e.entry ≡ true) sharing.events event sharing.own (eq-eqb who who refl);
+  each = subst (Each (MayCall run retry)) (sym grown)
+      (push_cases (MayCall run retry) own (op, reply) sharing.each (record {
+        left = let count = sharing.count in omega (arith, count, below);
+        goes_on = sharing.stops;
+        retries = λ o pending. is ∙ ap (λ (x : Option Op). op_or_leave x claims) (at.retries o (still ∙ pending));
+      }));
+  count = ap length grown ∙ length-append own ((op, reply) ∷ []) ∙ ap (λ (n : ℕ). n + 1) sharing.count;
+  stops = ap (has_ended retry) grown ∙ has_ended-push false retry own (op, reply)
+      ∙ ap (λ (o : Option Op). ends_share o (op, reply)) (sym still)
+      ∙ ap (λ (o : Option Op). is_asked reply || is_some o) (retry_after-flag (retry_of who now.history) standing.retry op reply at.retry)
+      ∙ ap (λ (b : Bool). is_asked reply || b) (is_some-flag (not standing.retry && is_full_reply reply) op);
+}
+  where
+    event : Event
+    event = called who op reply call.took
+
+    retry : Option Op
+    retry = retry_of who old.history
+
+    own : List (Op × Reply)
+    own = calls_of who sharing.events
+
+    grown : calls_of who (sharing.events ++ event ∷ []) ≡ own ++ (op, reply) ∷ []
+    grown = calls_of-push who sharing.events op reply call.took
+
+    still : retry_of who now.history ≡ retry_after_all retry own
+    still = ap (retry_of who) sharing.history ∙ retry_of-events who old.history sharing.events
+
+-- all calls were made, or the mutator has retired
+pub RanShare-over : (old new : Recorded) (run who made : ℕ) → IsSharing old new run who made false →
+    (made < run → (state_after new.setting.layout new.history).active who ≡ false) → RanShare old new run who false
+RanShare-over old new run who made sharing fewer = record {
+  at_rest = sharing.at_rest;
+  same = sharing.same;
+  counts = sharing.counts;
+  events = sharing.events;
+  history = sharing.history;
+  own = sharing.own;
+  share = record { each = sharing.each; fewer = λ few. inl (fewer (let count = sharing.count in omega (arith, count, few))) };
+  stops = sym sharing.stops;
+}
+
+-- the last call ended the share
+pub RanShare-stops : (old new : Recorded) (run who made : ℕ) → IsSharing old new run who made true → RanShare old new run who true
+RanShare-stops old new run who made sharing = record {
+  at_rest = sharing.at_rest;
+  same = sharing.same;
+  counts = sharing.counts;
+  events = sharing.events;
+  history = sharing.history;
+  own = sharing.own;
+  share = record { each = sharing.each; fewer = λ few. inr sharing.stops };
+  stops = sym sharing.stops;
+}
+
+-- the same of equal things
+IsMutatorAt-by : (recorded : Recorded) (who who' : ℕ) (ops ops' : List Op) (standing standing' : Standing) (calls calls' : List (Op × Reply)) →
+    who ≡ who' → ops ≡ ops' → standing ≡ standing' → calls ≡ calls' → IsMutatorAt recorded who ops standing calls → IsMutatorAt recorded who' ops' standing' calls'
+IsMutatorAt-by recorded who who' ops ops' standing standing' calls calls' e1 e2 e3 e4 at =
+    subst (λ (w : ℕ). IsMutatorAt recorded w ops' standing' calls') e1
+    (subst (λ (o : List Op). IsMutatorAt recorded who o standing' calls') e2
+    (subst (λ (s : Standing). IsMutatorAt recorded who ops s calls') e3
+    (subst (IsMutatorAt recorded who ops standing) e4 at)))
+
+-- a caller that recorded the reply to its call
+pub IsCaller-took : (old new : Recorded) (caller took : Caller) (op : Op) (reply : Reply) → IsAtRest old → IsCaller old caller → caller.retired ≡ false →
+    op ≡ next_of caller.ops.items (standing_of caller) (length (old.state.claims caller.who)) → MadeCall old new caller.who op reply → TookReply caller took op reply →
+    IsCaller new took
+IsCaller-took old new caller took op reply recorded at stays is made record' =
+    IsMutatorAt-by new caller.who took.who caller.ops.items took.ops.items (after_reply caller.ops.items (standing_of caller) op reply) (standing_of took)
+    (map pair_of caller.calls.items ++ (op, reply) ∷ []) (map pair_of took.calls.items)
+    (sym record'.who) (ap (λ ops. ops.items) (sym record'.ops)) (sym record'.standing)
+    (sym (ap (map pair_of) record'.calls ∙ map-append pair_of caller.calls.items (record { op = op; reply = reply } ∷ [])))
+    (IsMutatorAt-called old new caller.who caller.ops.items (standing_of caller) (map pair_of caller.calls.items) op reply recorded at stays is made)

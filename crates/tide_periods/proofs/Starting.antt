@@ -1,0 +1,105 @@
+-- Before anything was run.
+use Rattle.std.proofs.Common.{ℕ, zero, suc, ◌≡◌, ◌<◌, ◌≤◌, ◌*◌, ◌-◌, ◌⊎◌, refl, sym, ◌∙◌, ap, subst, arith, Bool, true, false, List, [], ◌∷◌, ◌++◌, length, map, inl, inr, All}
+use Rattle.std.proofs.lemmas.List.{map-append}
+use Rattle.std.proofs.lemmas.List.Elements.{All-nil, All-get_or, All-head, All-tail}
+use Rattle.std.proofs.lemmas.Option.{slice_get-map, slice_get_within, get_or_from_slice_get}
+use Rattle.std.specs.Prelude.{Some, option_map, slice_get, nat_lt}
+use Rattle.tide_model.specs.declared.op.Op.{Op}
+use Rattle.tide_model.specs.declared.entry.Event.{Event}
+use Rattle.tide_periods.specs.declared.caller.Caller.{Caller}
+use Rattle.tide_periods.specs.Told.{pair_of}
+use Rattle.tide_periods.specs.Asking.{AreNew, IsAskable, IsMutatorAt, IsNew, Standing, standing_of, IsAskedBy}
+use Rattle.tide_periods.specs.Left.{left_by, left_of, total_by}
+use Rattle.tide_periods.specs.Part.{AreCallers}
+use Rattle.tide_periods.specs.Recorded.{Recorded}
+
+slice_get-push : {X : Type 0} (xs : List X) (x : X) (k : ℕ) (y : X) → slice_get (xs ++ x ∷ []) k ≡ Some y → (slice_get xs k ≡ Some y) ⊎ ((k ≡ length xs) × (x ≡ y))
+slice_get-push [] x zero y is = inr (refl, cc)
+slice_get-push [] x (suc k) y is = absurd (cc)
+slice_get-push (first ∷ xs) x zero y is = inl is
+slice_get-push (first ∷ xs) x (suc k) y is = elim (slice_get-push xs x k y is) [
+  | inl old ↦ inl old
+  | inr new ↦ inr (ap suc new.0, new.1)
+]
+
+-- one mutator more
+pub AreNew-push : (callers : List Caller) (scripts : List (List Op)) (caller : Caller) (ops : List Op) → AreNew callers scripts → IsNew (length callers) caller → caller.ops.items ≡ ops →
+    AreNew (callers ++ caller ∷ []) (scripts ++ ops ∷ [])
+AreNew-push callers scripts caller ops are new is = record {
+  scripts_are = map-append (λ (c : Caller). c.ops.items) callers (caller ∷ []) ∙ ap (λ (s : List (List Op)). s ++ caller.ops.items ∷ []) are.scripts_are
+      ∙ ap (λ (o : List Op). scripts ++ o ∷ []) is;
+  each = λ who other found. elim (slice_get-push callers caller who other found) [
+    | inl old ↦ are.each who other old
+    | inr last ↦ subst (λ (n : ℕ). IsNew n other) (sym last.0) (subst (IsNew (length callers)) last.1 new)
+  ];
+}
+
+-- a mutator that has made no call, before anything was run
+IsMutatorAt-nothing : (recorded : Recorded) (who : ℕ) (ops : List Op) → recorded.history ≡ [] → who < recorded.setting.layout.mutators → All (IsAskable recorded.setting.layout) ops →
+    IsMutatorAt recorded who ops (record { done = 0; retry = false; retired = false }) []
+IsMutatorAt-nothing recorded who ops nothing below askable =
+    subst (λ (h : List Event). IsMutatorAt (record recorded { history = h }) who ops (record { done = 0; retry = false; retired = false }) []) (sym nothing) (record {
+      is_mutator = below;
+      askable = askable;
+      total = 0;
+      moment = 0;
+      in_history = omega arith;
+      was_done = λ none. record { script = no_ops ops none; claims = refl };
+      at = record {
+        within = omega arith;
+        unclaims = 0;
+        none_yet = λ _. refl;
+        is_script = refl;
+        at_end = λ clash. absurd (cc);
+        given = λ _. refl;
+        released = λ clash. absurd (cc);
+      };
+      retry = refl;
+      retries = λ op clash. absurd (cc);
+      active = refl;
+      are = refl;
+      asked = All-nil (λ call. IsAskedBy ops call.0);
+    })
+  where
+    no_ops : (o : List Op) → 0 ≡ length o → [] ≡ o
+    no_ops [] none = refl
+    no_ops (x ∷ xs) none = absurd (omega arith)
+
+-- the callers before anything was run
+pub AreCallers-nothing : (recorded : Recorded) (callers : List Caller) (scripts : List (List Op)) → recorded.history ≡ [] → AreNew callers scripts → length callers ≡ recorded.setting.layout.mutators →
+    All (All (IsAskable recorded.setting.layout)) scripts → AreCallers recorded callers
+AreCallers-nothing recorded callers scripts nothing are one_each askable = record {
+  one_each = one_each;
+  each = λ who caller found.
+      let new = are.each who caller found in
+      let within = slice_get_within callers who caller found in
+      let lists = map (λ (c : Caller). c.ops.items) callers in
+      let at = slice_get-map (λ (c : Caller). c.ops.items) callers who ∙ ap (option_map (λ (c : Caller). c.ops.items)) found in
+      let all = subst (All (All (IsAskable recorded.setting.layout))) (sym are.scripts_are) askable in
+      let ops = subst (All (IsAskable recorded.setting.layout)) (get_or_from_slice_get lists who caller.ops.items caller.ops.items at)
+      (All-get_or (All (IsAskable recorded.setting.layout)) lists who caller.ops.items (slice_get_within lists who caller.ops.items at) all) in (
+        new.number,
+        subst (IsMutatorAt recorded caller.who caller.ops.items (standing_of caller)) (ap (map pair_of) (sym new.no_calls))
+            (subst (λ (s : Standing). IsMutatorAt recorded caller.who caller.ops.items s []) (sym new.standing)
+            (IsMutatorAt-nothing recorded caller.who caller.ops.items nothing (let n = new.number in omega (arith, n, within, one_each)) ops)),
+      );
+}
+
+left-few : (claims : ℕ → List ℕ) (caller : Caller) → ((who : ℕ) → length (claims who) ≤ 8) → length caller.ops.items ≤ 65536 → left_of claims caller ≤ 131081
+left-few claims caller few short =
+    step caller.retired (nat_lt caller.done (length caller.ops.items)) caller.retry (length caller.ops.items - caller.done) (length (claims caller.who)) (few caller.who) (omega (arith, short))
+  where
+    step : (retired within retry : Bool) (more held : ℕ) → held ≤ 8 → more ≤ 65536 → left_by retired within retry more held ≤ 131081
+    step true within retry more held few' short' = omega arith
+    step false true true more held few' short' = omega (arith, short')
+    step false true false more held few' short' = omega (arith, short')
+    step false false retry more held few' short' = omega (arith, few')
+
+-- so few calls can be left
+pub total-few : (claims : ℕ → List ℕ) (callers : List Caller) → ((who : ℕ) → length (claims who) ≤ 8) → All (λ (ops : List Op). length ops ≤ 65536) (map (λ (c : Caller). c.ops.items) callers) →
+    total_by claims callers ≤ length callers * 131081
+total-few claims [] few short = omega arith
+total-few claims (caller ∷ callers) few short =
+    let here = left-few claims caller few (All-head (λ (ops : List Op). length ops ≤ 65536) caller.ops.items (map (λ (c : Caller). c.ops.items) callers) short) in
+    let later = total-few claims callers few (All-tail (λ (ops : List Op). length ops ≤ 65536) caller.ops.items (map (λ (c : Caller). c.ops.items) callers) short) in
+    omega (arith, here, later)

@@ -1,0 +1,14 @@
+use Rattle.std.proofs.Common.{sym, subst}
+use Rattle.tide_periods.specs.Periods.{RanFreeze}
+use Rattle.tide_periods.proofs.Freezing.{RanFreeze-cycle, RanFreeze-rest}
+use Rattle.tide_periods.proofs.periods.freeze.Goals as goal
+
+pub returns-in_ok-cycle : goal.returns-in_ok-cycle
+returns-in_ok-cycle g c =
+    subst (RanFreeze (g.T.Recorder.recorded c.args.recorder.now) (g.T.Recorder.recorded c.cycle.new.self)) (sym c.if-is_must.true)
+    (RanFreeze-cycle (g.T.Recorder.recorded c.args.recorder.now) (g.T.Recorder.recorded c.cycle.new.self) c.requires.at_rest c.in_ok-cycle.ensures)
+
+pub returns-else-is_must : goal.returns-else-is_must
+returns-else-is_must g c =
+    subst (RanFreeze (g.T.Recorder.recorded c.args.recorder.now) (g.T.Recorder.recorded c.args.recorder.now)) (sym c.if-is_must.false)
+    (RanFreeze-rest (g.T.Recorder.recorded c.args.recorder.now) c.requires.at_rest)

@@ -1,0 +1,49 @@
+use Rattle.std.proofs.Common.{◌∙◌, refl, sym, arith, subst}
+use Rattle.tide_model.specs.Periods.{ArePeriods, no_period}
+use Rattle.tide_periods.specs.Periods.{pace_of}
+use Rattle.tide_periods.proofs.Freezing.{is_over-callers}
+use Rattle.tide_periods.proofs.Running.{ArePeriods-ran, RanAll-over}
+use Rattle.tide_periods.proofs.periods.run_periods.Goals as goal
+
+pub loop-pacing-init : goal.loop-pacing-init
+loop-pacing-init g c = record {
+  at_rest = c.requires.at_rest;
+  same = refl;
+  scripts = refl;
+  callers = c.requires.callers;
+  periods = subst (ArePeriods (pace_of c.args.pacing) (g.T.Recorder.recorded c.args.recorder.now).setting.layout) (sym c.requires.nothing) no_period;
+  cycles = omega arith;
+  left = omega arith;
+}
+
+pub run_period-requires-clause-goes_on : goal.run_period-requires-clause-goes_on
+run_period-requires-clause-goes_on g c =
+    sym (is_over-callers (g.T.Recorder.recorded c.loop-pacing.recorder) c.loop-pacing.callers c.loop-pacing.invariant.callers) ∙ sym c.are_all_retired.ensures ∙ c.loop-pacing-test.true
+
+pub loop-pacing-preserved : goal.loop-pacing-preserved
+loop-pacing-preserved g c =
+    let old = g.T.Recorder.recorded c.loop-pacing.recorder in
+    let new = g.T.Recorder.recorded c.run_period.new.recorder in
+    let ran = c.in_ok-run_period.ensures.ran in
+    let fewer = c.in_ok-run_period.ensures.left in
+    let cycles = ran.cycles in
+    let parts = ran.parts in
+    let had = c.loop-pacing.invariant.cycles in
+    let left = c.loop-pacing.invariant.left in
+    record {
+      at_rest = ran.at_rest;
+      same = ran.same ∙ c.loop-pacing.invariant.same;
+      scripts = c.in_ok-run_period.ensures.scripts ∙ c.loop-pacing.invariant.scripts;
+      callers = c.in_ok-run_period.ensures.callers;
+      periods = ArePeriods-ran old new (pace_of c.args.pacing) ran c.loop-pacing.invariant.periods;
+      cycles = omega (arith, cycles, parts, had);
+      left = omega (arith, parts, left, fewer);
+    }
+
+pub returns : goal.returns
+returns g c = record {
+  same = c.loop-pacing.invariant.same;
+  scripts = c.loop-pacing.invariant.scripts;
+  ran = RanAll-over (g.T.Recorder.recorded c.loop-pacing.recorder) (pace_of c.args.pacing) c.loop-pacing.callers c.loop-pacing.invariant.at_rest c.loop-pacing.invariant.callers
+      c.loop-pacing.invariant.periods (sym c.are_all_retired.ensures ∙ c.loop-pacing-test.false);
+}

@@ -1,0 +1,8 @@
+pub mod Asking
+pub mod Left
+pub mod Part
+pub mod Periods
+pub mod Recorded
+pub mod Run
+pub mod Store
+pub mod Told

@@ -1,0 +1,142 @@
+//! A store, and what was run on it, told event by event.
+ghost use Rattle.std.specs.Prelude.{◌≡◌, ◌++◌, ◌∷◌, [], false, map, slice_index_or, OnOk};
+ghost use Rattle.tide_model.specs.declared.entry.Entry.TheVariants.{Sweep};
+ghost use Rattle.tide_model.specs.Cycle.{live_count};
+ghost use Rattle.tide_model.specs.History.{plain};
+ghost use Rattle.tide_model.specs.Numbers.{numbers_where};
+ghost use Rattle.tide_model.specs.State.{empty_state};
+ghost use Rattle.tide_periods.specs.Recorded.{IsAtRest};
+ghost use Rattle.tide_periods.specs.Store.{blocks_in};
+ghost use Rattle.tide_periods.specs.Told.{events_of, uncounted};
+
+use crate::recorder::{Recorder, append};
+use crate::store::Store;
+use crate::told::Told;
+use std::alloc::Global;
+use tide_model::{Entry, Event, Ids, Memory, Op, Reply};
+
+/// A store, and what was run on it.
+#[derive(Drop)]
+pub(crate) struct Recording<S: Store> {
+    pub(crate) store: S,
+    pub(crate) told: Vec<Told>,
+    /// How many cycles began.
+    pub(crate) cycles: u64,
+    /// How many parts were opened.
+    pub(crate) parts: u32,
+    /// How many blocks the store has.
+    pub(crate) blocks: u32,
+}
+
+/// Tells an entry that took no array, beside which no number stands.
+fn tell(told: &mut Vec<Told>, entry: Entry) -> Result<(), Memory>
+    ensures { OnOk result (told.new.items ≡ told.old.items ++ uncounted (plain entry) ∷ []) }
+{
+    let event = Event { entry, took: None };
+    append(told, Told { event, kept: 0 })
+}
+
+/// Tells the sweeps of the last collection.
+fn tell_sweeps<S: Store>(told: &mut Vec<Told>, store: &S, blocks: u32) -> Result<(), Memory>
+    requires { blocks ≡ blocks_in (S.setting store.now) }
+    ensures { OnOk result (told.new.items ≡ told.old.items ++ map (λ block. uncounted (plain (Sweep block)))
+        (numbers_where (λ block. slice_index_or (S.sweeps store.now) block false) blocks)) }
+{
+    for block in 0..blocks {
+        if store.swept(block) {
+            tell(told, Entry::Sweep { block })?;
+        }
+    }
+    Ok(())
+}
+
+impl<S: Store> Recorder for Recording<S> {
+    ghost recorded = { λ s. record {
+      setting = S.setting s.store;
+      state = S.state s.store;
+      told = s.told.items;
+      history = events_of s.told.items;
+      cycles = s.cycles;
+      parts = s.parts;
+      blocks = s.blocks;
+    } };
+
+    fn call(&mut self, who: u32, op: Op) -> Result<Reply, Memory> {
+        let reply = self.store.call(who, op);
+        let took = self.store.taken();
+        let entry = Entry::Call { who, op, reply };
+        let event = Event { entry, took };
+        append(&mut self.told, Told { event, kept: 0 })?;
+        Ok(reply)
+    }
+
+    fn claims(&self, who: u32) -> u32 {
+        self.store.claims(who)
+    }
+
+    fn open(&mut self, run: u32) -> Result<(), Memory> {
+        self.parts += 1;
+        let number = self.parts;
+        tell(&mut self.told, Entry::Open { number, run })?;
+        Ok(())
+    }
+
+    fn cycle(&mut self, alloc: Global) -> Result<(), Memory> {
+        let freed = self.store.collect(alloc)?;
+        let kept = self.store.live();
+        self.cycles += 1;
+        let cycle = self.cycles;
+        tell(&mut self.told, Entry::Begin { cycle })?;
+        tell(&mut self.told, Entry::Pause { visits: kept })?;
+        let freed = Ids::new(freed);
+        let entry = Entry::End { cycle, freed };
+        let event = Event { entry, took: None };
+        append(&mut self.told, Told { event, kept })?;
+        tell_sweeps(&mut self.told, &self.store, self.blocks)?;
+        Ok(())
+    }
+}
+
+impl<S: Store> Recording<S> {
+    /// A store on which nothing was run yet, which has so many blocks.
+    pub(crate) fn new(alloc: Global, store: S, blocks: u32) -> Recording<S>
+        requires empty { S.state store ≡ empty_state }
+        requires blocks { blocks ≡ blocks_in (S.setting store) }
+        ensures at_rest { IsAtRest (⟦<Recording<S> as Recorder>⟧.recorded result) }
+        ensures nothing { (⟦<Recording<S> as Recorder>⟧.recorded result).history ≡ [] }
+        ensures setting { (⟦<Recording<S> as Recorder>⟧.recorded result).setting ≡ S.setting store }
+        ensures cycles { (⟦<Recording<S> as Recorder>⟧.recorded result).cycles ≡ 0 }
+        ensures parts { (⟦<Recording<S> as Recorder>⟧.recorded result).parts ≡ 0 }
+    {
+        Recording {
+            store,
+            told: Vec::new(alloc),
+            cycles: 0,
+            parts: 0,
+            blocks,
+        }
+    }
+
+    /// How many cells live.
+    pub(crate) fn live(&self) -> u32
+        ensures { result ≡ live_count (S.setting self.now.store).layout (S.state self.now.store) }
+    {
+        self.store.live()
+    }
+}
+
+impl<S: Store + Drop> Recording<S> {
+    /// What was told.
+    pub(crate) fn into_told(self) -> Vec<Told>
+        ensures { result ≡ self.told }
+    {
+        let Recording {
+            store: _,
+            told,
+            cycles: _,
+            parts: _,
+            blocks: _,
+        } = self;
+        told
+    }
+}
