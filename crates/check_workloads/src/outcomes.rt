@@ -1,6 +1,4 @@
 //! The outcomes of runs, by `plain` and by `run`.
-ghost use Rattle.std.specs.Prelude.{◌<◌};
-
 use crate::machine::Machine;
 use check_heap::reply_text;
 use std::alloc::{AllocError, Global};
@@ -8,15 +6,15 @@ use tide_model::FreePass;
 use tide_run::{Outcome, plain, run};
 use tide_workload::read;
 
-/// The calls of the mutator with their replies, how many cells live then, and how many races were met.
-fn outcome_text(alloc: Global, outcome: &Outcome) -> Result<String, AllocError>
-    requires { 0 < outcome.now.layout.mutators }
-{
+/// The calls of each mutator with their replies, how many cells live then, and how many races were met.
+fn outcome_text(alloc: Global, outcome: &Outcome) -> Result<String, AllocError> {
     let mut all = String::new(alloc);
-    for call in outcome.calls(0) {
-        let reply = reply_text(alloc, call.reply)?;
-        let one = format!(in alloc; "{:?} {reply}, ", call.op)?;
-        all.push_str(one.as_str())?;
+    for m in 0..outcome.mutators() {
+        for call in outcome.calls(m) {
+            let reply = reply_text(alloc, call.reply)?;
+            let one = format!(in alloc; "{:?} {reply}, ", call.op)?;
+            all.push_str(one.as_str())?;
+        }
     }
     let (live, deferred) = (outcome.live(), outcome.deferred());
     format!(in alloc; "{all}live {live}, deferred {deferred}")

@@ -10,7 +10,11 @@ use crate::recorder::Recorder;
 use tide_model::Memory;
 
 /// Makes a mutator's calls of a part: `run`, or fewer where it retires or stops. Answers whether it stopped.
-pub(crate) fn run_share<T: Recorder>(recorder: &mut T, caller: &mut Caller, run: u32) -> Result<bool, Memory>
+pub(crate) fn run_share<T: Recorder>(
+    recorder: &mut T,
+    caller: &mut Caller,
+    run: u32,
+) -> Result<bool, Memory>
     requires at_rest { IsAtRest (T.recorded recorder.old) }
     requires caller { IsCaller (T.recorded recorder.old) caller.old }
     ensures ran { IfOk result (RanShare (T.recorded recorder.old) (T.recorded recorder.new) run caller.old.who) }
@@ -34,7 +38,11 @@ pub(crate) fn run_share<T: Recorder>(recorder: &mut T, caller: &mut Caller, run:
 }
 
 /// Runs a part: each mutator in turn makes its calls. Answers whether one of them stopped.
-pub(crate) fn run_part<T: Recorder>(recorder: &mut T, callers: &mut [Caller], run: u32) -> Result<bool, Memory>
+pub(crate) fn run_part<T: Recorder>(
+    recorder: &mut T,
+    callers: &mut [Caller],
+    run: u32,
+) -> Result<bool, Memory>
     requires at_rest { IsAtRest (T.recorded recorder.old) }
     requires callers { AreCallers (T.recorded recorder.old) callers.old }
     ensures ran { IfOk result (RanPart (T.recorded recorder.old) (T.recorded recorder.new) run) }

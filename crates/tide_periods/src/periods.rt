@@ -27,7 +27,11 @@ fn are_all_retired(callers: &[Caller]) -> bool
 }
 
 /// The freeze after a part: one whole cycle where it is a must, and else nothing.
-pub(crate) fn freeze<T: Recorder>(recorder: &mut T, is_must: bool, alloc: Global) -> Result<(), Memory>
+pub(crate) fn freeze<T: Recorder>(
+    recorder: &mut T,
+    is_must: bool,
+    alloc: Global,
+) -> Result<(), Memory>
     requires at_rest { IsAtRest (T.recorded recorder.old) }
     requires room { (T.recorded recorder.old).cycles < 2 ^ 64 - 1 }
     ensures { OnOk result (RanFreeze (T.recorded recorder.old) (T.recorded recorder.new) is_must) }

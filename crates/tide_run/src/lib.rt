@@ -8,11 +8,10 @@
 mod outcome;
 mod printing;
 mod program;
-mod runner;
 mod runs;
-mod told;
+mod starting;
 
 pub use outcome::{Kept, Outcome};
 pub use program::{Ended, riptide};
 pub use runs::{plain, run};
-pub use told::{Answered, Told};
+pub use tide_periods::{Answered, Told};

@@ -1,15 +1,15 @@
 //! The outcome of a run.
 ghost use Rattle.std.specs.Prelude.{◌≡◌, ◌<◌, ℕ, All, map};
 
-use crate::told::{Answered, Record, Told};
 use std::marker::Model;
 use tide_layout::Layout;
+use tide_periods::{Answered, Ran, Told};
 
 /// Where a run's history was kept.
 #[derive(Debug, Drop)]
 pub enum Kept {
-    /// By the run's own records.
-    Own(Told),
+    /// By the run itself, event by event.
+    Own(Vec<Told>),
 }
 
 /// A run's history, its replies and what lives at its end.
@@ -19,7 +19,8 @@ pub struct Outcome {
     /// The names of the property keys by number.
     names: Vec<Vec<u8>>,
     kept: Kept,
-    calls: Vec<Answered>,
+    /// Each mutator's calls.
+    calls: Vec<Vec<Answered>>,
     live: u32,
 }
 
@@ -33,7 +34,8 @@ impl Model for Outcome {
 
     ghost view = { λ o. ran_of o.layout (map (λ name. name.items) o.names.items) o.kept };
 
-    ghost invariant = { λ o. IsOutcome o.layout (map (λ name. name.items) o.names.items) o.kept o.calls.items o.live };
+    ghost invariant = { λ o. IsOutcome o.layout (map (λ name. name.items) o.names.items) o.kept
+        (map (λ own. own.items) o.calls.items) o.live };
 }
 
 impl Outcome {
@@ -41,33 +43,31 @@ impl Outcome {
     ghost use Rattle.tide_model.specs.Cycle.{live_count};
     ghost use Rattle.tide_model.specs.History.{state_after};
     ghost use Rattle.tide_model.specs.Script.{calls_of};
+    ghost use Rattle.tide_periods.specs.Told.{events_of, AreCounted, pair_of};
     ghost use Rattle.tide_workload.specs.Words.{HasText};
-    ghost use Rattle.tide_run.specs.Told.{events_of, AreCounted, pair_of};
     ghost use Rattle.tide_run.specs.Outcome.{ran_of, IsOutcome};
 
-    /// The outcome of a run with these records.
-    pub(crate) fn new(
-        layout: Layout,
-        names: Vec<Vec<u8>>,
-        records: Vec<Record>,
-        calls: Vec<Answered>,
-        live: u32,
-    ) -> Outcome
-        requires { IsOutcome layout (map (λ name. name.items) names.items) (Kept.Own (record {
-          records = records;
-        })) calls.items live }
-        ensures { result ≡ ran_of layout (map (λ name. name.items) names.items) (Kept.Own (record {
-          records = records;
-        })) }
+    /// The outcome of a run that left this.
+    pub(crate) fn new(layout: Layout, names: Vec<Vec<u8>>, ran: Ran) -> Outcome
+        requires { IsOutcome layout (map (λ name. name.items) names.items) (Kept.Own ran.told)
+            (map (λ own. own.items) ran.calls.items) ran.live }
+        ensures { result ≡ ran_of layout (map (λ name. name.items) names.items) (Kept.Own ran.told) }
     {
-        let kept = Kept::Own(Told { records });
+        let Ran { told, calls, live } = ran;
         Outcome {
             layout,
             names,
-            kept,
+            kept: Kept::Own(told),
             calls,
             live,
         }
+    }
+
+    /// How many mutators ran.
+    pub fn mutators(&self) -> u32
+        ensures { result ≡ self.now.layout.mutators }
+    {
+        u32::from(self.layout.mutators())
     }
 
     /// What a mutator asked for and was answered, in order.
@@ -76,8 +76,7 @@ impl Outcome {
         ensures calls { map pair_of result.now ≡ calls_of m self.now.history }
         ensures texts { All (λ call. HasText self.now.keys call.op) result.now }
     {
-        let _ = m;
-        self.calls.as_slice()
+        self.calls[m as usize].as_slice()
     }
 
     /// How many cells live at the end.
@@ -94,13 +93,13 @@ impl Outcome {
         0
     }
 
-    /// What was run, record by record.
-    pub(crate) fn records(&self) -> &[Record]
+    /// What was run, event by event.
+    pub(crate) fn told(&self) -> &[Told]
         ensures told { events_of result.now ≡ self.now.history }
         ensures counted { AreCounted self.now.layout result.now }
     {
         match &self.kept {
-            Kept::Own(told) => told.records.as_slice(),
+            Kept::Own(told) => told.as_slice(),
         }
     }
 }

@@ -1,16 +1,16 @@
 //! Printing a run.
-ghost use Rattle.std.specs.Prelude.{◌≡◌, map, All, OnOk, OnErr};
+ghost use Rattle.std.specs.Prelude.{◌≡◌, ◌<◌, All, OnOk, OnErr};
 ghost use Rattle.std.specs.List.{flat_map};
 ghost use Rattle.std.specs.Io.KnownBytes.{Appends};
 ghost use Rattle.tide_io.specs.Faults.{AppendsPart, HasCause};
-ghost use Rattle.tide_workload.specs.Words.{HasText, call_lines, cycles_from, text_of};
+ghost use Rattle.tide_workload.specs.Words.{HasText, call_lines, cycles_from, mutator_text, mutators_text, text_of};
 ghost use Rattle.tide_model.specs.State.{empty_state};
-ghost use Rattle.tide_model.specs.Script.{calls_of};
-ghost use Rattle.tide_run.specs.Printing.{answered_line, record_line};
+ghost use Rattle.tide_run.specs.Printing.{answered_line, told_line};
 
 use crate::outcome::Outcome;
-use crate::told::{Answered, Record};
 use tide_io::{Failed, Sink};
+use tide_model::Entry;
+use tide_periods::{Answered, Told};
 use tide_workload::{Workload, write_call, write_cycle, write_live, write_mutator};
 
 /// Writes the line of each call.
@@ -28,41 +28,62 @@ fn write_calls<K: Sink>(out: &mut K, load: &Workload, calls: &[Answered]) -> Res
     Ok(())
 }
 
-/// Writes the line of a record that ended a cycle, and nothing of another.
-fn write_record<K: Sink>(out: &mut K, told: &Record) -> Result<(), Failed>
-    ensures whole { OnOk result (Appends (K.held out.old) (K.held out.new) (record_line told.now)) }
-    ensures part { OnErr result (AppendsPart (K.held out.old) (K.held out.new) (record_line told.now)) }
+/// Writes the line of an event that ended a cycle, and nothing of another.
+fn write_told<K: Sink>(out: &mut K, told: &Told) -> Result<(), Failed>
+    ensures whole { OnOk result (Appends (K.held out.old) (K.held out.new) (told_line told.now)) }
+    ensures part { OnErr result (AppendsPart (K.held out.old) (K.held out.new) (told_line told.now)) }
     ensures cause { HasCause (K.faults out.old) (K.faults out.new) result }
 {
-    match told {
-        Record::Ended { cycle, freed, kept } => write_cycle(out, *cycle, *kept, freed.as_slice()),
+    match &told.event.entry {
+        Entry::End { cycle, freed } => write_cycle(out, *cycle, told.kept, freed.as_slice()),
         _ => Ok(()),
     }
 }
 
 /// Writes the line of each cycle.
-fn write_cycles<K: Sink>(out: &mut K, records: &[Record]) -> Result<(), Failed>
-    ensures whole { OnOk result (Appends (K.held out.old) (K.held out.new) (flat_map record_line records.now)) }
-    ensures part { OnErr result (AppendsPart (K.held out.old) (K.held out.new) (flat_map record_line records.now)) }
+fn write_cycles<K: Sink>(out: &mut K, told: &[Told]) -> Result<(), Failed>
+    ensures whole { OnOk result (Appends (K.held out.old) (K.held out.new) (flat_map told_line told.now)) }
+    ensures part { OnErr result (AppendsPart (K.held out.old) (K.held out.new) (flat_map told_line told.now)) }
     ensures cause { HasCause (K.faults out.old) (K.faults out.new) result }
 {
-    for record in records {
-        write_record(out, record)?;
+    for one in told {
+        write_told(out, one)?;
     }
     Ok(())
 }
 
-/// Writes the lines of mutator 0's calls.
-fn write_calls_of<K: Sink>(out: &mut K, load: &Workload, outcome: &Outcome) -> Result<(), Failed>
-    requires mutators { outcome.now.layout.mutators ≡ 1 }
+/// Writes a mutator's line and those of its calls.
+fn write_calls_of<K: Sink>(
+    out: &mut K,
+    load: &Workload,
+    outcome: &Outcome,
+    m: u32,
+) -> Result<(), Failed>
+    requires mutator { m < outcome.now.layout.mutators }
     requires keys { outcome.now.keys ≡ load.now.keys }
-    ensures whole { OnOk result (Appends (K.held out.old) (K.held out.new) (call_lines outcome.now.keys
-        (calls_of 0 outcome.now.history))) }
-    ensures part { OnErr result (AppendsPart (K.held out.old) (K.held out.new) (call_lines outcome.now.keys
-        (calls_of 0 outcome.now.history))) }
+    ensures whole { OnOk result (Appends (K.held out.old) (K.held out.new)
+        (mutator_text outcome.now.keys m outcome.now.history)) }
+    ensures part { OnErr result (AppendsPart (K.held out.old) (K.held out.new)
+        (mutator_text outcome.now.keys m outcome.now.history)) }
     ensures cause { HasCause (K.faults out.old) (K.faults out.new) result }
 {
-    write_calls(out, load, outcome.calls(0))
+    write_mutator(out, m)?;
+    write_calls(out, load, outcome.calls(m))
+}
+
+/// Writes the lines of each mutator.
+fn write_mutators<K: Sink>(out: &mut K, load: &Workload, outcome: &Outcome) -> Result<(), Failed>
+    requires keys { outcome.now.keys ≡ load.now.keys }
+    ensures whole { OnOk result (Appends (K.held out.old) (K.held out.new)
+        (mutators_text outcome.now.keys outcome.now.layout.mutators outcome.now.history)) }
+    ensures part { OnErr result (AppendsPart (K.held out.old) (K.held out.new)
+        (mutators_text outcome.now.keys outcome.now.layout.mutators outcome.now.history)) }
+    ensures cause { HasCause (K.faults out.old) (K.faults out.new) result }
+{
+    for m in 0..outcome.mutators() {
+        write_calls_of(out, load, outcome, m)?;
+    }
+    Ok(())
 }
 
 /// Writes the lines of the cycles.
@@ -73,12 +94,11 @@ fn write_cycles_of<K: Sink>(out: &mut K, outcome: &Outcome) -> Result<(), Failed
         (cycles_from outcome.now.layout empty_state outcome.now.history)) }
     ensures cause { HasCause (K.faults out.old) (K.faults out.new) result }
 {
-    write_cycles(out, outcome.records())
+    write_cycles(out, outcome.told())
 }
 
 /// Writes the text of a run.
 fn write_text<K: Sink>(out: &mut K, load: &Workload, outcome: &Outcome) -> Result<(), Failed>
-    requires mutators { outcome.now.layout.mutators ≡ 1 }
     requires keys { outcome.now.keys ≡ load.now.keys }
     ensures whole { OnOk result (Appends (K.held out.old) (K.held out.new)
         (text_of outcome.now.keys outcome.now.layout outcome.now.history)) }
@@ -86,15 +106,13 @@ fn write_text<K: Sink>(out: &mut K, load: &Workload, outcome: &Outcome) -> Resul
         (text_of outcome.now.keys outcome.now.layout outcome.now.history)) }
     ensures cause { HasCause (K.faults out.old) (K.faults out.new) result }
 {
-    write_mutator(out, 0)?;
-    write_calls_of(out, load, outcome)?;
+    write_mutators(out, load, outcome)?;
     write_cycles_of(out, outcome)?;
     write_live(out, outcome.live())
 }
 
 /// Writes the text of a run, and has the sink hand on all of it.
 pub fn print_text<K: Sink>(out: &mut K, load: &Workload, outcome: &Outcome) -> Result<(), Failed>
-    requires mutators { outcome.now.layout.mutators ≡ 1 }
     requires keys { outcome.now.keys ≡ load.now.keys }
     ensures whole { OnOk result (Appends (K.held out.old) (K.held out.new)
         (text_of outcome.now.keys outcome.now.layout outcome.now.history)) }

@@ -92,7 +92,6 @@ fn attempt<R: Threads + Sync, S: Source, T: Turnstile>(
     gate: &T,
 ) -> Result<(Workload, Outcome), Stop>
     ensures ran { IfOk result (λ both. RanInput (S.left source.old) (S.left source.new) both.1) }
-    ensures one_mutator { IfOk result (λ both. both.1.layout.mutators ≡ 1) }
     ensures keys { IfOk result (λ both. both.1.keys ≡ both.0.keys) }
     ensures usage { result ≡ Err Stop.Usage → 1 < length words.now }
     ensures words { IfErr result (λ stop. 1 < length words.now → stop ≡ Stop.Usage) }
@@ -122,7 +121,6 @@ fn tell<E: Sink>(err: &mut E, line: &str)
 
 /// Prints a run.
 fn print<K: Sink, E: Sink>(out: &mut K, err: &mut E, load: &Workload, outcome: Outcome) -> Ended
-    requires mutators { outcome.layout.mutators ≡ 1 }
     requires keys { outcome.keys ≡ load.now.keys }
     ensures status { (result.status ≡ 0) ⊎ (result.status ≡ 5) }
     ensures outcome { result.outcome ≡ Some outcome }

@@ -1,28 +1,34 @@
 //! Running a workload.
-ghost use Rattle.std.specs.Prelude.{◌≡◌, ◌≤◌, IfOk};
+ghost use Rattle.std.specs.Prelude.{◌≤◌, IfOk};
 ghost use Rattle.tide_run.specs.Runs.{IsRunOf};
 
 use crate::outcome::Outcome;
-use crate::runner::Runner;
+use crate::starting::{layout_with, names_of, scripts_of, shapes_from};
 use std::alloc::Global;
 use std::marker::Sync;
 use std::thread::Threads;
 use tide_model::{Memory, Turnstile};
+use tide_periods::{Pacing, run_on};
+use tide_plain::PlainStore;
 use tide_workload::Workload;
 
-/// Runs a workload on the plain store, one operation after another, then one unclaim for each claim that is left, and
-/// then retires.
+/// Runs a workload on the plain store, in periods: in each running part mutator 0 makes its calls first, then mutator 1, and
+/// so on. No cycle begins by itself.
 pub fn plain(alloc: Global, load: &Workload) -> Result<Outcome, Memory>
     ensures run { IfOk result (IsRunOf load.now) }
-    ensures one_mutator { IfOk result (λ outcome. outcome.layout.mutators ≡ 1) }
 {
-    let mutators = load.mutators();
-    prove!(mutators == 1);
-    let mut runner = Runner::new(alloc, load)?;
-    runner.serve_all(alloc, load.ops(0))?;
-    runner.unclaim_all(alloc)?;
-    runner.retire(alloc)?;
-    Ok(runner.finish())
+    let settings = load.settings();
+    let layout = layout_with(settings, load.mutators());
+    let names = names_of(alloc, load)?;
+    let shapes = shapes_from(alloc, load.paths())?;
+    let scripts = scripts_of(alloc, load)?;
+    let store = PlainStore::new(alloc, layout, shapes)?;
+    let pacing = Pacing {
+        period: settings.period,
+        headroom: settings.headroom,
+    };
+    let ran = run_on(alloc, store, layout.block_count(), scripts, pacing)?;
+    Ok(Outcome::new(layout, names, ran))
 }
 
 /// Runs a workload with up to 8 visitors. No visitor is started and no thread yet, so the number says nothing of the run,
@@ -36,7 +42,6 @@ pub fn run<R: Threads + Sync, T: Turnstile>(
 ) -> Result<Outcome, Memory>
     requires { visitors ≤ 8 }
     ensures run { IfOk result (IsRunOf load.now) }
-    ensures one_mutator { IfOk result (λ outcome. outcome.layout.mutators ≡ 1) }
 {
     let _ = rt;
     let _ = visitors;

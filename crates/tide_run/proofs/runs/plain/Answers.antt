@@ -1,32 +1,54 @@
 -- Answers to the goals of runs::plain.
-use Rattle.std.proofs.Common.{arith}
-use Rattle.tide_run.proofs.RunLaws.{All-askable, IsScheduled-nothing, IsRunOf-ended}
-use Rattle.tide_run.specs.Runner.{history_of}
+use Rattle.std.proofs.Common.{◌≡◌, ◌∙◌, sym, ap, length, map, Vec, Global}
+use Rattle.std.proofs.lemmas.List.{length-map}
+use Rattle.tide_layout.specs.Region.{block_count}
+use Rattle.tide_model.specs.declared.op.Op.{Op}
+use Rattle.tide_model.specs.Layout.{Layout}
+use Rattle.tide_model.specs.Pace.{Pace}
+use Rattle.tide_plain.specs.declared.store.PlainStore.{PlainStore}
+use Rattle.tide_plain.specs.Store.{layout_of, shapes_of}
+use Rattle.tide_periods.specs.Store.{Setting}
+use Rattle.tide_shape.specs.Shapes.{shapes_of_paths}
+use Rattle.tide_workload.specs.Words.{Settings}
+use Rattle.tide_run.specs.Runs.{Ran, layout_of_work, layout_with}
+use Rattle.tide_run.proofs.RunLaws.{IsOutcome-ran, IsRunOf-ran}
 use Rattle.tide_run.proofs.runs.plain.Goals as goal
 
-pub serve_all-requires-clause-scheduled : goal.serve_all-requires-clause-scheduled
-serve_all-requires-clause-scheduled c = IsScheduled-nothing c.in_ok-runner.runner.layout (history_of c.in_ok-runner.runner) c.in_ok-runner.ensures.nothing
+-- what the store of the run never changes
+abbrev setting_of : PlainStore → Setting
+setting_of store = record { layout = layout_of store; shapes = shapes_of store }
 
-pub serve_all-requires-clause-operations : goal.serve_all-requires-clause-operations
-serve_all-requires-clause-operations c =
-    All-askable c.args.load.now c.in_ok-runner.runner c.ops.result.now c.in_ok-runner.ensures.layout c.in_ok-runner.ensures.keys c.ops.ensures.within
+-- the numbers that a run takes of the settings
+abbrev pace_with : Settings → Pace
+pace_with settings = record { period = settings.period; headroom = settings.headroom; trigger = 0 }
 
-pub returns-clause-run : goal.returns-clause-run
-returns-clause-run c =
-    IsRunOf-ended c.args.load.now c.in_ok-runner.runner c.serve_all.new.self c.unclaim_all.new.self c.retire.new.self c.ops.result.now c.finish.result
-    (record {
-      one = omega (arith, c.mutators-mutators.ensures.count, c.mutators-mutators.ensures.some, c.mutators-mutators.ensures.few);
-      is_script = c.ops.ensures.script;
-      start_layout = c.in_ok-runner.ensures.layout;
-      start_shapes = c.in_ok-runner.ensures.shapes;
-      start_keys = c.in_ok-runner.ensures.keys;
-      nothing = c.in_ok-runner.ensures.nothing;
-      served_all = c.in_ok-serve_all.ensures.served;
-      underway_then = c.in_ok-serve_all.ensures.ready.underway;
-      released_all = c.in_ok-unclaim_all.ensures.served;
-      retired = c.in_ok-retire.ensures.served;
-      underway = c.in_ok-retire.ensures.underway;
-      same_layout = c.finish.ensures.layout;
-      same_keys = c.finish.ensures.keys;
-      same_history = c.finish.ensures.history;
-    })
+pub run_on-requires-clause-blocks : goal.run_on-requires-clause-blocks
+run_on-requires-clause-blocks c = c.block_count.ensures.count ∙ ap block_count (sym c.in_ok-store.ensures.layout)
+
+pub run_on-requires-clause-mutators : goal.run_on-requires-clause-mutators
+run_on-requires-clause-mutators c =
+    sym (length-map c.in_ok-scripts.scripts.items (λ (ops : Vec Op Global). ops.items)) ∙ ap length c.in_ok-scripts.ensures.copied ∙ sym c.mutators.ensures.count
+    ∙ ap (λ (l : Layout). l.mutators) (sym (c.in_ok-store.ensures.layout ∙ c.layout_with-layout.ensures))
+
+pub new-requires-2 : goal.new-requires-2
+new-requires-2 c =
+    let ran = c.in_ok-ran.ran in
+    let scripts = map (λ (ops : Vec Op Global). ops.items) c.in_ok-scripts.scripts.items in
+    let as_many : length scripts ≡ c.layout_with-layout.result.mutators =
+    ap length c.in_ok-scripts.ensures.copied ∙ sym c.mutators.ensures.count ∙ ap (λ (l : Layout). l.mutators) (sym c.layout_with-layout.ensures) in
+    IsOutcome-ran c.args.load.now c.layout_with-layout.result (map (λ name. name.items) c.in_ok-names.names.items) (setting_of c.in_ok-store.store)
+    (pace_with c.settings-settings.result) scripts ran.told (map (λ own. own.items) ran.calls.items) ran.live c.in_ok-ran.ensures c.in_ok-store.ensures.layout
+    c.in_ok-names.ensures as_many c.in_ok-scripts.ensures.within
+
+pub returns : goal.returns
+returns c =
+    let work = c.args.load.now in
+    let ran = c.in_ok-ran.ran in
+    let layout : c.layout_with-layout.result ≡ layout_of_work work = c.layout_with-layout.ensures ∙ ap (λ (s : Settings). layout_with s c.mutators.result) c.settings-settings.ensures.value
+    ∙ ap (layout_with work.settings) c.mutators.ensures.count in
+    record {
+      run = IsRunOf-ran work c.new-2.result (setting_of c.in_ok-store.store) (pace_with c.settings-settings.result) (map (λ (ops : Vec Op Global). ops.items) c.in_ok-scripts.scripts.items)
+          ran.told.items (map (λ own. own.items) ran.calls.items) ran.live c.in_ok-ran.ensures (ap pace_with c.settings-settings.ensures.value) (c.in_ok-store.ensures.layout ∙ layout)
+          (c.in_ok-store.ensures.shapes ∙ c.in_ok-shapes.ensures ∙ ap shapes_of_paths c.paths.ensures.paths) c.in_ok-scripts.ensures.copied
+          (ap (λ (r : Ran). r.layout) c.new-2.ensures ∙ layout) (ap (λ (r : Ran). r.keys) c.new-2.ensures ∙ c.in_ok-names.ensures) (ap (λ (r : Ran). r.history) c.new-2.ensures);
+    }

@@ -1,21 +1,28 @@
 //! What a run takes of its workload.
-ghost use Rattle.std.specs.Prelude.{◌≡◌, ◌≤◌, None, length, map, All, IfOk};
+ghost use Rattle.std.specs.Prelude.{◌≡◌, ◌≤◌, ◌++◌, ◌∷◌, [], None, length, map, All, IfOk, OnOk};
 ghost use Rattle.tide_shape.specs.Lists.{lists_of};
 ghost use Rattle.tide_shape.specs.Shapes.{first_double, shapes_of_paths, IsPath};
-ghost use Rattle.tide_workload.specs.Words.{AreSettings};
+ghost use Rattle.tide_workload.specs.Words.{AreSettings, IsOperation, MAX_OPS, limits_of};
 ghost use Rattle.tide_run.specs.Runs.{layout_with};
 
-use super::append;
 use std::alloc::Global;
 use tide_layout::Layout;
-use tide_model::Memory;
+use tide_model::{Memory, Op};
 use tide_shape::{Paths, Shapes, ShapesRefused};
 use tide_workload::{Settings, Workload};
 
-/// The layout of a store with these settings, for one mutator and no visitor.
-pub fn layout_with(settings: Settings) -> Layout
-    requires { AreSettings settings }
-    ensures { result ≡ layout_with settings 1 }
+/// One more at the end of a list.
+fn append<T: Drop>(list: &mut Vec<T>, item: T) -> Result<(), Memory>
+    ensures { OnOk result (list.new.items ≡ list.old.items ++ item ∷ []) }
+{
+    list.push(item).map_err(|_| Memory)
+}
+
+/// The layout of a store with these settings, for so many mutators and no visitor.
+pub fn layout_with(settings: Settings, mutators: u32) -> Layout
+    requires settings { AreSettings settings }
+    requires mutators { mutators ≤ 16 }
+    ensures { result ≡ layout_with settings mutators }
 {
     Layout::new(
         settings.blocks,
@@ -23,7 +30,7 @@ pub fn layout_with(settings: Settings) -> Layout
         settings.registers,
         settings.strong,
         settings.weak,
-        1,
+        mutators as u8,
         0,
     )
 }
@@ -59,4 +66,26 @@ pub fn names_of(alloc: Global, load: &Workload) -> Result<Vec<Vec<u8>>, Memory>
         append(&mut names, name)?;
     }
     Ok(names)
+}
+
+/// A copy of some operations.
+fn copied_ops(alloc: Global, ops: &[Op]) -> Result<Vec<Op>, Memory>
+    ensures { IfOk result (λ copy. copy.items ≡ ops.now) }
+{
+    ops.to_vec(alloc).map_err(|_| Memory)
+}
+
+/// A copy of each mutator's operations.
+pub fn scripts_of(alloc: Global, load: &Workload) -> Result<Vec<Vec<Op>>, Memory>
+    ensures copied { IfOk result (λ scripts. map (λ ops. ops.items) scripts.items ≡ load.now.scripts) }
+    ensures short { IfOk result (λ scripts. All (λ ops. length ops ≤ MAX_OPS) (map (λ ops. ops.items) scripts.items)) }
+    ensures within { IfOk result (λ scripts.
+        All (All (IsOperation (limits_of load.now))) (map (λ ops. ops.items) scripts.items)) }
+{
+    let mut scripts = Vec::new(alloc);
+    for m in 0..load.mutators() {
+        let ops = copied_ops(alloc, load.ops(m))?;
+        append(&mut scripts, ops)?;
+    }
+    Ok(scripts)
 }
