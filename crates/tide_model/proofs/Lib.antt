@@ -3,6 +3,7 @@ pub mod CallerRows
 pub mod ClaimLaws
 pub mod Cycles
 pub mod DanglingRows
+pub mod ExactEnds
 pub mod FreezeRows
 pub mod Histories
 pub mod LawfulReferences
@@ -10,7 +11,9 @@ pub mod NumberLaws
 pub mod PeriodLaws
 pub mod PeriodRows
 pub mod PeriodTests
+pub mod PhaseLaws
 pub mod PositionLaws
+pub mod QuietEnds
 pub mod ReferenceLaws
 pub mod ReferenceSteps
 pub mod ReferencesInCycles
