@@ -176,7 +176,8 @@ quiet_span layout shapes =
         none_older = record {
           roots = λ cell found. absurd (let early = found.1 in let late = found.2 in omega (arith, early, late));
           links = λ source cell found. absurd (let early = found.1 in let late = found.2 in omega (arith, early, late));
-          triples = λ table key cell found. absurd (let early = found.1 in let late = found.2 in omega (arith, early, late));
+          triples = λ table key cell found.
+              absurd (let early = found.1 in let late = found.2 in omega (arith, early, late));
           twins = λ one other found. absurd (let early = found.1 in let late = found.2 in omega (arith, early, late));
         }
 
