@@ -1,12 +1,12 @@
 -- Functions with another value at one place, membership, lists of numbers below a bound, and their number.
 use Rattle.std.proofs.Common.{ℕ, zero, suc, ◌≡◌, ◌+◌, ◌<◌, refl, sym, ◌∙◌, ap, subst, arith, Bool, true, false, List, [], ◌∷◌, ◌++◌, length, append-nil, get_or, inl, inr, eq-eqb, length-append, ◌≢◌, true≢false}
-use Rattle.std.proofs.lemmas.Bool.{eqb-true, eqb-false}
+use Rattle.std.proofs.lemmas.Bool.{eqb-true, eqb-false, or_parts}
 use Rattle.std.proofs.Math.ListN.{get_or-append}
 use Rattle.std.proofs.Math.Seq.{get_or-append_seam}
 use Rattle.std.proofs.lemmas.List.{get_or_default}
 use Rattle.std.specs.Prelude.{◌==◌, ◌||◌, if◌then◌else◌, ◌⊎◌, Contains}
 use Rattle.std.specs.List.Sorted.{IsStrictlyIncreasing}
-use Rattle.tide_model.specs.Numbers.{put_at, is_among, numbers_where, count_where}
+use Rattle.tide_model.specs.Numbers.{put_at, is_among, numbers_where, count_where, any_below}
 
 -- what holds of the new value at its place, and of the old ones elsewhere, holds of all
 pub put_at_elim : {X : Type 0} (P : ℕ → X → Type 0) (f : ℕ → X) (place : ℕ) (value : X) →
@@ -170,3 +170,26 @@ numbers_where-one test (suc bound) n below passes alone =
         ap (λ (xs : List ℕ). xs ++ bound ∷ []) (numbers_where-none test bound (λ m under. fails (sym same) m under (test m) refl))
         ∙ ap (λ (k : ℕ). k ∷ []) same
     step false e before = append-nil (numbers_where test bound) ∙ before (let differs : n ≢ bound = λ same. true≢false (sym passes ∙ ap test same ∙ e) in omega (arith, below, differs))
+
+-- where no number below a bound passes a test, each fails it
+pub any_below-false : (test : ℕ → Bool) (bound n : ℕ) → any_below test bound ≡ false → n < bound → test n ≡ false
+any_below-false test zero n none below = absurd (omega arith)
+any_below-false test (suc bound) n none below =
+    let (earlier, last) = or_parts (any_below test bound) (test bound) none in
+    step (n == bound) refl last (λ less. any_below-false test bound n earlier less)
+  where
+    step : (same : Bool) → (n == bound) ≡ same → test bound ≡ false → (n < bound → test n ≡ false) → test n ≡ false
+    step true at last rest = ap test (eqb-true n bound at) ∙ last
+    step false at last rest = let other = eqb-false n bound at in rest (omega (arith, below, other))
+
+-- as many numbers as pass
+pub length-numbers_where : (test : ℕ → Bool) (bound : ℕ) → length (numbers_where test bound) ≡ count_where test bound
+length-numbers_where test zero = refl
+length-numbers_where test (suc bound) =
+    length-append (numbers_where test bound) (if test bound then bound ∷ [] else [])
+    ∙ ap (λ (n : ℕ). n + length (if test bound then bound ∷ [] else [])) (length-numbers_where test bound)
+    ∙ ap (λ (n : ℕ). count_where test bound + n) (last (test bound))
+  where
+    last : (passes : Bool) → length (if passes then bound ∷ [] else []) ≡ (if passes then 1 else 0)
+    last true = refl
+    last false = refl

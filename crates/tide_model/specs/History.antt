@@ -115,7 +115,7 @@ abbrev pub is_begin : Entry → Bool
 is_begin (Begin cycle) = true
 is_begin _ = false
 
--- the entry opens a running part, of which there are none today
+-- the entry opens a running part
 abbrev pub is_open : Entry → Bool
 is_open (Open number run) = true
 is_open _ = false

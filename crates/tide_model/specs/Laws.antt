@@ -1,11 +1,17 @@
--- What holds after every lawful history.
-use Rattle.std.specs.Prelude.{List}
+-- What holds after every lawful history, and in every legal one.
+use Rattle.std.specs.Prelude.{ℕ, ◌≡◌, ◌↔◌, true, List}
+use Rattle.tide_model.specs.declared.entry.Entry.TheVariants.{End}
 use Rattle.tide_model.specs.declared.entry.Event.{Event}
+use Rattle.tide_model.specs.Each.{Each}
+use Rattle.tide_model.specs.Graph.{IsRetained, graph_of, no_cell}
 use Rattle.tide_model.specs.Layout.{Layout}
 use Rattle.tide_model.specs.History.{state_after}
 use Rattle.tide_model.specs.Lawful.{IsLawful}
+use Rattle.tide_model.specs.Numbers.{is_among}
+use Rattle.tide_model.specs.Pace.{Pace}
+use Rattle.tide_model.specs.Periods.{IsLegal}
 use Rattle.tide_model.specs.Prefix.{IsPrefix}
-use Rattle.tide_model.specs.References.{ClaimsAreOwn, RefsAreLive}
+use Rattle.tide_model.specs.References.{ClaimsAreOwn, IsLive, RefsAreLive}
 use Rattle.tide_model.specs.Refused.{ShapeLists}
 
 -- in every lawful history no reference names a cell that isn't live
@@ -25,3 +31,17 @@ abbrev pub BeginningsAreLawful : Type 0
 BeginningsAreLawful =
     (layout : Layout) (shapes : ShapeLists) (before history : List Event) → IsPrefix before history →
     IsLawful layout shapes history → IsLawful layout shapes before
+
+-- where the event ends a cycle, it frees just the live cells that nothing retains right before it
+abbrev pub FreesTheUnretained : Layout → List Event → Event → Type 0
+FreesTheUnretained layout before event =
+    (cycle : ℕ) (freed : List ℕ) → event.entry ≡ End cycle freed → (cell : ℕ) →
+    (is_among freed cell ≡ true)
+    ↔ (IsLive (state_after layout before) cell × (IsRetained (graph_of (state_after layout before)) no_cell cell → ⊥))
+
+-- in every legal history in which no cycle begins by itself, each cycle frees just the live cells that nothing retains
+-- at its end
+abbrev pub CyclesAreExact : Type 0
+CyclesAreExact =
+    (pace : Pace) (layout : Layout) (shapes : ShapeLists) (history : List Event) → IsLegal pace layout shapes history →
+    pace.trigger ≡ 0 → Each (FreesTheUnretained layout) history

@@ -1,7 +1,12 @@
-//! What holds after every lawful history, as functions that only promise it.
+//! What holds after every lawful history, and in every legal one, as functions that only promise it.
 //!
 //! A law is about the definitions of `specs/` and about no store: a store that shows its history lawful has it.
-ghost use Rattle.tide_model.specs.Laws.{BeginningsAreLawful, NoCellIsClaimedTwice, NoReferenceDangles};
+ghost use Rattle.tide_model.specs.Laws.{
+  BeginningsAreLawful,
+  CyclesAreExact,
+  NoCellIsClaimedTwice,
+  NoReferenceDangles,
+};
 
 /// No register of an active mutator, no handle, and no slot, property or pair of a live cell names a cell that isn't live.
 /// Each claimed cell is live, and each live cell's array is live and its own.
@@ -17,4 +22,10 @@ pub fn no_cell_is_claimed_twice()
 /// Each beginning of a lawful history is lawful.
 pub fn beginnings_are_lawful()
     ensures beginnings { BeginningsAreLawful }
+{}
+
+/// With a trigger of 0, each cycle of a legal history frees just the live cells that nothing retains at its end: it
+/// begins and ends in one freeze, however many mutators and visitors there are.
+pub fn cycles_are_exact()
+    ensures exact { CyclesAreExact }
 {}

@@ -1,8 +1,8 @@
 -- Examples that tell what documents read as, and how the keys of paths are numbered.
-use Rattle.std.specs.Prelude.{◌≡◌, [], ◌∷◌, codes, Some, None, Ok, Err}
+use Rattle.std.specs.Prelude.{ℕ, zero, suc, ◌≡◌, List, [], ◌∷◌, ◌++◌, replicate, codes, Some, None, Ok, Err}
 use Rattle.tide_model.specs.declared.op.Op.TheVariants.{Alloc, Collect}
 use Rattle.tide_work.specs.declared.fault.Fault.TheVariants.{NotToml, Missing, Bad, BadOp}
-use Rattle.tide_work.specs.declared.field.Field.TheVariants.{Registers, Strong, Shapes, Other}
+use Rattle.tide_work.specs.declared.field.Field.TheVariants.{Registers, Strong, Shapes, Mutator, Other}
 use Rattle.tide_reading.specs.declared.reading.TheConstants.{MAX_BYTES}
 use Rattle.tide_reading.specs.Reading.{reads_workload}
 use Rattle.tide_reading.specs.Shapes.{declared_by, key_names, path_words}
@@ -33,6 +33,26 @@ pub record Documents : Type 0 where
   pub other_before_operations : reads_workload (codes "registers=1\nblocks=[0,0,0,0,0]\nperiod=4\nheadroom=1\na=1\nmutator=[{}]\n") ≡ Err (Bad Other)
   pub operations_last : reads_workload (codes "registers=1\nblocks=[0,0,0,0,0]\nperiod=4\nheadroom=1\nmutator=[{ops=['drop r0','drop r1']}]\n") ≡ Err (BadOp 0 1)
   pub other_before_bad_operation : reads_workload (codes "registers=1\nblocks=[0,0,0,0,0]\nperiod=4\nheadroom=1\nmutator=[{ops=['drop r1'],a=1}]\n") ≡ Err (Bad Other)
+
+-- the bytes of so many mutators that ask for nothing
+abbrev pub idle_mutators : ℕ → List ℕ
+idle_mutators zero = []
+idle_mutators (suc count) = codes "{ops=[]}," ++ idle_mutators count
+
+-- a document of the smallest settings and so many mutators that ask for nothing
+abbrev pub idle_document : ℕ → List ℕ
+idle_document count = codes "registers=1\nblocks=[0,0,0,0,0]\nperiod=4\nheadroom=1\nmutator=[" ++ idle_mutators count ++ codes "]\n"
+
+-- how many mutators a document may have
+pub record MutatorCounts : Type 0 where
+  pub none : reads_workload (idle_document 0) ≡ Err (Bad Mutator)
+  pub sixteen : reads_workload (idle_document 16) ≡ Ok (record {
+    settings = record { registers = 1; strong = 0; weak = 0; blocks = replicate 5 0; arrays = replicate 5 0; period = 4; headroom = 1; trigger = 0 };
+    keys = [];
+    paths = [];
+    scripts = replicate 16 [];
+  })
+  pub seventeen : reads_workload (idle_document 17) ≡ Err (Bad Mutator)
 
 -- the limit that definitions call by name
 pub record Limits : Type 0 where

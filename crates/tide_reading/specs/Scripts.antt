@@ -15,7 +15,7 @@ use Rattle.tide_reading.specs.Steps.{◌>>=◌, each, each_from, good}
 abbrev pub table_in : Data → Result Members Fault
 table_in value = good Mutator (as_table value)
 
--- the tables of a document's mutators, of which there is one today
+-- the tables of a document's mutators, of which there are 1 to 16
 abbrev pub mutators_of : Members → Result (List Members) Fault
 mutators_of document = do
   value ← required Mutator document

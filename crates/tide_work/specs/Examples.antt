@@ -74,5 +74,5 @@ pub record KeyNames : Type 0 where
 
 -- the limits that definitions call by name
 pub record Limits : Type 0 where
-  pub mutators : MAX_MUTATORS ≡ 1
+  pub mutators : MAX_MUTATORS ≡ 16
   pub ops : MAX_OPS ≡ 65536

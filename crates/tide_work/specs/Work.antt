@@ -36,7 +36,7 @@ pub record AreSettings (settings : Settings) : Type 0 where
   pub headroom : IsBetween 1 1000000 settings.headroom
   pub trigger : settings.trigger ≤ 1000000
 
--- there are mutators, as many as are read today at most, and each has at most 65,536 operations
+-- there are mutators, at most sixteen of them, and each has at most 65,536 operations
 pub record IsSized (scripts : List (List Op)) : Type 0 where
   pub some : 1 ≤ length scripts
   pub few : length scripts ≤ MAX_MUTATORS

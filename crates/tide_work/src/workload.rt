@@ -5,8 +5,8 @@ use std::marker::Model;
 use tide_model::Op;
 use tide_shape::Paths;
 
-/// How many mutators a workload may have today.
-pub const MAX_MUTATORS: usize = 1;
+/// How many mutators a workload may have.
+pub const MAX_MUTATORS: usize = 16;
 
 /// How many operations a mutator may have.
 pub const MAX_OPS: usize = 65_536;
