@@ -1,5 +1,7 @@
 pub mod ActiveLaws
 pub mod CallerRows
+pub mod CallKeeps
+pub mod CallLaws
 pub mod ClaimLaws
 pub mod Cycles
 pub mod DanglingRows

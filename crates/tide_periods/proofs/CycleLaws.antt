@@ -16,9 +16,8 @@ use Rattle.tide_model.specs.Graph.{graph_of, IsRetained, is_further, no_cell, re
 use Rattle.tide_model.specs.History.{plain, state_from, state_after, after_event, after_end, swept_all, swept_cell, swept_status, is_this_array, is_array_of, unless_spent, is_begin, is_open}
 use Rattle.tide_model.specs.Cycle.{HasDead, dead_cell, dead_array, StandsEnd, begin_count, cycle_span, live_count}
 use Rattle.tide_model.proofs.NumberLaws.{below_and_passes, passing_is_among, count_where-same}
-use Rattle.tide_model.proofs.Histories.{IsLawful-push, push_cases, state_from-append, state_after-push}
+use Rattle.tide_model.proofs.Histories.{IsLawful-push, push_cases, state_from-append, state_after-push, moment_after_last-push}
 use Rattle.tide_model.proofs.LawfulReferences.{RefsAreLive-lawful}
-use Rattle.tide_model.proofs.PeriodLaws.{moment_after_last-push}
 use Rattle.tide_model.proofs.Retained.{IsClosed-kept}
 use Rattle.tide_model.proofs.Spans.{graph_in_cycle_span}
 use Rattle.tide_model.proofs.Cycles.{state_from-sweeps, phase_within}

@@ -28,7 +28,7 @@ use Rattle.tide_periods.specs.Left.{left_at, left_by, left_of, total_by}
 use Rattle.tide_periods.specs.Part.{RanShare}
 use Rattle.tide_periods.specs.Store.{Setting}
 use Rattle.tide_periods.specs.Recorded.{IsAtRest, MadeCall, Recorded}
-use Rattle.tide_periods.proofs.CallLaws.{length_without_first}
+use Rattle.tide_model.proofs.CallLaws.{length_without_first}
 use Rattle.tide_periods.proofs.CallerLaws.{IsNext, an_operation, unclaims, retires, called, next_cases, not_first, not_full_past}
 
 claims_at-cell : (state : State) (who : ℕ) (value : Val) (change : ℕ → State) → ((cell : ℕ) → (change cell).claims who ≡ state.claims who) → (at_cell state value change).claims who ≡ state.claims who

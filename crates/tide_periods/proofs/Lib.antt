@@ -1,5 +1,4 @@
-pub mod CallKeeps
-pub mod CallLaws
+-- The lemmas of this crate.
 pub mod CallerLaws
 pub mod CycleLaws
 pub mod Freezing

@@ -29,7 +29,7 @@ use Rattle.tide_periods.specs.Asking.{IsAskable, IsAt, IsCaller, IsMutatorAt, St
 use Rattle.tide_periods.specs.Part.{AreCallers, IsPartway, RanShare}
 use Rattle.tide_periods.specs.Store.{Setting}
 use Rattle.tide_periods.specs.Recorded.{IsAtRest, Recorded}
-use Rattle.tide_periods.proofs.CallLaws.{active_after-call}
+use Rattle.tide_model.proofs.CallLaws.{active_after-call}
 use Rattle.tide_periods.proofs.LeftLaws.{claims_after-others}
 use Rattle.tide_periods.proofs.Sharing.{retry_of-events}
 

@@ -25,7 +25,8 @@ use Rattle.tide_periods.specs.declared.told.Told.{Told}
 use Rattle.tide_periods.specs.Store.{Setting, blocks_in}
 use Rattle.tide_periods.specs.Told.{AreCounted, IsCounted, events_of, uncounted}
 use Rattle.tide_periods.specs.Recorded.{IsAtRest, MadeCall, MayAsk, OpenedPart, Recorded}
-use Rattle.tide_periods.proofs.CallKeeps.{HasFewClaims, HasFewClaims-call, HasNoNewDead, HasNoNewDead-call, phase_after-call, same_dead}
+use Rattle.tide_model.proofs.PhaseLaws.{phase_after-call}
+use Rattle.tide_model.proofs.CallKeeps.{HasFewClaims, HasFewClaims-call, HasNoNewDead, HasNoNewDead-call, same_dead}
 use Rattle.tide_periods.proofs.CallerLaws.{called}
 
 -- each block of the class is full right now, which is a moment of the window

@@ -1,5 +1,5 @@
 -- How one mutator's share of a part grows by a call.
-use Rattle.std.proofs.Common.{ℕ, ◌≡◌, ◌+◌, ◌<◌, refl, sym, ◌∙◌, ap, subst, arith, Bool, true, false, List, [], ◌∷◌, ◌++◌, length, append_assoc, append-nil, inl, inr, eq-eqb, zero, suc}
+use Rattle.std.proofs.Common.{ℕ, ◌≡◌, ◌+◌, ◌<◌, refl, sym, ◌∙◌, ap, subst, arith, Bool, true, false, List, [], ◌∷◌, ◌++◌, length, append_assoc, append-nil, inl, inr, eq-eqb}
 use Rattle.std.proofs.lemmas.List.{length-append, map-append}
 use Rattle.std.proofs.lemmas.List.Elements.{All-nil, All-push}
 use Rattle.std.specs.Prelude.{Option, None, is_some, not, ◌&&◌, ◌||◌, map}
@@ -17,11 +17,8 @@ use Rattle.tide_periods.specs.Told.{pair_of}
 use Rattle.tide_periods.specs.Asking.{IsCaller, IsMutatorAt, Standing, TookReply, after_reply, next_of, op_or_leave, standing_of}
 use Rattle.tide_periods.specs.Part.{IsSharing, RanShare}
 use Rattle.tide_periods.specs.Recorded.{IsAtRest, MadeCall, Recorded}
+use Rattle.tide_model.proofs.PeriodLaws.{Each-nil}
 use Rattle.tide_periods.proofs.CallerLaws.{IsMutatorAt-called, called, calls_of-push, retry_after-flag, is_some-flag}
-
-Each-nil : {X : Type 0} (stands : List X → X → Type 0) → Each stands []
-Each-nil stands zero x is = absurd (cc)
-Each-nil stands (suc place) x is = absurd (cc)
 
 -- no call was made yet
 pub IsSharing-nothing : (old : Recorded) (run who : ℕ) → IsAtRest old → IsSharing old old run who 0 false

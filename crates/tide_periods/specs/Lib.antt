@@ -1,3 +1,4 @@
+-- The definitions of this crate.
 pub mod Asking
 pub mod Left
 pub mod Part

@@ -1,8 +1,8 @@
 //! A run of mutators in periods, over any store: running parts, and the freezes between them in which cycles run.
 //!
-//! It knows no workload and no text. What it is handed are scripts, a store and the numbers of a period; what it gives back
-//! is the history, told event by event, and each mutator's calls. `Store` is what a run asks of a store, and the plain store
-//! is the first that meets it.
+//! It knows no workload and no text. What it is handed are scripts, a store and the numbers of a period; what it gives
+//! back is the history, told event by event, and each mutator's calls. `Store` is what a run asks of a store, and the
+//! plain store is the first that meets it.
 #![tactic(auto)]
 
 mod caller;

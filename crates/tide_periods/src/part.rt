@@ -1,3 +1,4 @@
+//! A running part: each mutator in turn makes its share of calls. It knows no cycle.
 ghost use Rattle.std.specs.Prelude.{◌≡◌, ◌<◌, ◌≤◌, false, IfOk};
 ghost use Rattle.std.specs.List.{list_all};
 ghost use Rattle.tide_periods.specs.Asking.{scripts_of, IsCaller};
@@ -21,8 +22,11 @@ pub(crate) fn run_share<T: Recorder>(
     ensures caller { IfOk result (λ ended. IsCaller (T.recorded recorder.new) caller.new) }
     ensures who { IfOk result (λ ended. caller.new.who ≡ caller.old.who) }
     ensures ops { IfOk result (λ ended. caller.new.ops ≡ caller.old.ops) }
-    ensures left { IfOk result (λ ended. left_of (T.recorded recorder.new).state.claims caller.new ≤ left_of (T.recorded recorder.old).state.claims caller.old) }
-    ensures fewer { IfOk result (λ ended. 0 < run → caller.old.retired ≡ false → left_of (T.recorded recorder.new).state.claims caller.new < left_of (T.recorded recorder.old).state.claims caller.old) }
+    ensures left { IfOk result (λ ended. left_of (T.recorded recorder.new).state.claims caller.new
+        ≤ left_of (T.recorded recorder.old).state.claims caller.old) }
+    ensures fewer { IfOk result (λ ended. 0 < run → caller.old.retired ≡ false →
+        left_of (T.recorded recorder.new).state.claims caller.new
+        < left_of (T.recorded recorder.old).state.claims caller.old) }
 {
     for _made in 0..run {
         if caller.retired {
@@ -48,7 +52,8 @@ pub(crate) fn run_part<T: Recorder>(
     ensures ran { IfOk result (RanPart (T.recorded recorder.old) (T.recorded recorder.new) run) }
     ensures callers { IfOk result (λ ended. AreCallers (T.recorded recorder.new) callers.new) }
     ensures scripts { IfOk result (λ ended. scripts_of callers.new ≡ scripts_of callers.old) }
-    ensures left { IfOk result (λ ended. total_left (T.recorded recorder.new) callers.new ≤ total_left (T.recorded recorder.old) callers.old) }
+    ensures left { IfOk result (λ ended.
+        total_left (T.recorded recorder.new) callers.new ≤ total_left (T.recorded recorder.old) callers.old) }
     ensures fewer { IfOk result (λ ended. 0 < run → list_all (λ caller. caller.retired) callers.old ≡ false →
         total_left (T.recorded recorder.new) callers.new < total_left (T.recorded recorder.old) callers.old) }
 {

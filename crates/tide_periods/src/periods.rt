@@ -1,3 +1,4 @@
+//! Periods: a part is opened and run, a freeze follows, until each mutator has retired.
 ghost use Rattle.std.specs.Prelude.{◌≡◌, ◌+◌, ◌-◌, ◌<◌, ◌≤◌, ◌^◌, false, [], length, sum_by, IfOk, OnOk};
 ghost use Rattle.std.specs.List.{list_all};
 ghost use Rattle.tide_model.specs.Periods.{is_over};
@@ -56,7 +57,8 @@ pub(crate) fn run_period<T: Recorder>(
     requires few { (T.recorded recorder.old).parts < 2 ^ 32 - 1 }
     requires pacing { 0 < pacing.period }
     ensures ran { OnOk result (RanPeriod (T.recorded recorder.old) (T.recorded recorder.new) (pace_of pacing)) }
-    ensures left { OnOk result (total_left (T.recorded recorder.new) callers.new < total_left (T.recorded recorder.old) callers.old) }
+    ensures left { OnOk result
+        (total_left (T.recorded recorder.new) callers.new < total_left (T.recorded recorder.old) callers.old) }
     ensures callers { OnOk result (AreCallers (T.recorded recorder.new) callers.new) }
     ensures scripts { OnOk result (scripts_of callers.new ≡ scripts_of callers.old) }
 {

@@ -28,7 +28,8 @@ pub struct Ran {
 
 /// Each caller's calls.
 fn calls_of(alloc: Global, callers: Vec<Caller>) -> Result<Vec<Vec<Answered>>, Memory>
-    ensures { IfOk result (λ calls. map (λ own. own.items) calls.items ≡ map (λ caller. caller.calls.items) callers.items) }
+    ensures { IfOk result (λ calls.
+        map (λ own. own.items) calls.items ≡ map (λ caller. caller.calls.items) callers.items) }
 {
     let mut calls = Vec::new(alloc);
     for caller in callers {
@@ -39,8 +40,8 @@ fn calls_of(alloc: Global, callers: Vec<Caller>) -> Result<Vec<Vec<Answered>>, M
 
 /// Runs these scripts, one for each mutator, on a store of so many blocks on which nothing was run yet.
 ///
-/// Mutators make their calls of a part one after another, and a cycle is run whole in the freeze after a part in which a
-/// mutator asked for one, was refused for room or, as the last, retired. No cycle begins by itself.
+/// Mutators make their calls of a part one after another, and a cycle is run whole in the freeze after a part in which
+/// a mutator asked for one, was first refused for room or, as the last, retired. No cycle begins by itself.
 pub fn run_on<S: Store + Drop>(
     alloc: Global,
     store: S,

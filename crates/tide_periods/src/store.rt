@@ -1,3 +1,4 @@
+//! What a run asks of the store that it stands on.
 ghost use Rattle.std.specs.Prelude.{◌≡◌, ◌↔◌, ℕ, ◌<◌, Bool, Option, List, true, false, [], Some, None, length, slice_index_or, IfOk, OnErr};
 ghost use Rattle.tide_model.specs.Answer.{IsAnswer};
 ghost use Rattle.tide_model.specs.Applied.{after_call};
@@ -32,9 +33,11 @@ pub trait Store {
         requires active { (state self.old).active who ≡ true }
         requires fits { FitsLayout (setting self.old).layout op }
         requires released { op ≡ Op.Retire → (state self.old).claims who ≡ [] }
-        ensures answers { IsAnswer (setting self.old).layout (setting self.old).shapes (state self.old) who op result (took self.new) }
+        ensures answers { IsAnswer (setting self.old).layout (setting self.old).shapes (state self.old)
+            who op result (took self.new) }
         ensures leaves { state self.new ≡ after_call (state self.old) who op result (took self.new) }
-        ensures room { (class : ℕ) → result ≡ Reply.Refused (Refusal.Full class) → (block : ℕ) → IsBlockOf (setting self.old).layout class block →
+        ensures room { (class : ℕ) → result ≡ Reply.Refused (Refusal.Full class) →
+            (block : ℕ) → IsBlockOf (setting self.old).layout class block →
             IsFullBlock (setting self.old).layout (state self.old) block }
         ensures setting { setting self.new ≡ setting self.old };
 
@@ -47,8 +50,10 @@ pub trait Store {
         ensures freed { IfOk result (λ freed. IsFreed (state self.old) freed.items) }
         ensures leaves { IfOk result (λ freed. state self.new ≡ swept_all (after_end (state self.old) freed.items)) }
         ensures swept { IfOk result (λ freed. (block : ℕ) → block < blocks_in (setting self.old) →
-            (slice_index_or (sweeps self.new) block false ≡ true) ↔ HasDead (setting self.old).layout (after_end (state self.old) freed.items) block) }
-        ensures within { IfOk result (λ freed. IsDeadWithin (setting self.old).layout (after_end (state self.old) freed.items)) }
+            (slice_index_or (sweeps self.new) block false ≡ true)
+            ↔ HasDead (setting self.old).layout (after_end (state self.old) freed.items) block) }
+        ensures within { IfOk result (λ freed.
+            IsDeadWithin (setting self.old).layout (after_end (state self.old) freed.items)) }
         ensures setting { setting self.new ≡ setting self.old };
 
     /// How many cells are live.

@@ -9,7 +9,8 @@ pub struct Answered {
     pub reply: Reply,
 }
 
-/// An event of a run. Beside the end of a cycle, `kept` is the number of cells that live after it; else it says nothing.
+/// An event of a run. Beside the end of a cycle, `kept` is the number of cells that live after it; beside another it is
+/// 0 and says nothing.
 #[derive(Debug, Drop)]
 pub struct Told {
     pub event: Event,

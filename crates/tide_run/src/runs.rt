@@ -12,8 +12,8 @@ use tide_periods::{Pacing, run_on};
 use tide_plain::PlainStore;
 use tide_workload::Workload;
 
-/// Runs a workload on the plain store, in periods: in each running part mutator 0 makes its calls first, then mutator 1, and
-/// so on. No cycle begins by itself.
+/// Runs a workload on the plain store, in periods: in each running part mutator 0 makes its calls first, then mutator 1,
+/// and so on. No cycle begins by itself.
 pub fn plain(alloc: Global, load: &Workload) -> Result<Outcome, Memory>
     ensures run { IfOk result (IsRunOf load.now) }
 {
@@ -31,8 +31,8 @@ pub fn plain(alloc: Global, load: &Workload) -> Result<Outcome, Memory>
     Ok(Outcome::new(layout, names, ran))
 }
 
-/// Runs a workload with up to 8 visitors. No visitor is started and no thread yet, so the number says nothing of the run,
-/// and the turnstile is met by nobody: the run is that of `plain`.
+/// Runs a workload with up to 8 visitors. No visitor is started and no thread yet, so the number says nothing of the
+/// run, and the turnstile is met by nobody: the run is that of `plain`.
 pub fn run<R: Threads + Sync, T: Turnstile>(
     rt: &R,
     alloc: Global,

@@ -1,3 +1,4 @@
+-- Answers to the goals of caller::callers_of.
 use Rattle.std.proofs.Common.{◌+◌, ◌∙◌, refl, sym, ap, arith, subst, length, map, List, [], ◌∷◌, ◌++◌}
 use Rattle.std.proofs.lemmas.List.{length-append, map-append}
 use Rattle.tide_periods.specs.declared.caller.Caller.{Caller}

@@ -1,3 +1,4 @@
+-- What the loop of caller::callers_of keeps.
 use Rattle.std.proofs.Common.{◌≡◌, length, map}
 use Rattle.tide_periods.specs.Asking.{AreNew}
 use Rattle.tide_periods.proofs.caller.callers_of.Given as goal

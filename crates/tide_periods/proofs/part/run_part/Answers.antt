@@ -1,3 +1,4 @@
+-- Answers to the goals of part::run_part.
 use Rattle.std.proofs.Common.{ℕ, ◌≡◌, ◌<◌, ◌+◌, ◌∙◌, refl, sym, ap, arith, subst, suc, get_or, length, ◌⊎◌, inl, inr, Bool, true, false, add-one}
 use Rattle.std.proofs.lemmas.Bool.{eqb-true, eqb-false}
 use Rattle.std.proofs.lemmas.Option.{slice_get-get_or, slice_get_within}

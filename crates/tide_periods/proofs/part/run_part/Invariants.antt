@@ -1,3 +1,4 @@
+-- What the loop of part::run_part keeps.
 use Rattle.std.proofs.Common.{ℕ, ◌≡◌, ◌<◌, ◌≤◌, false}
 use Rattle.std.specs.Prelude.{Some, slice_get}
 use Rattle.tide_periods.specs.declared.caller.Caller.{Caller}

@@ -1,3 +1,4 @@
+-- Answers to the goals of part::run_share.
 use Rattle.std.proofs.Common.{◌∙◌, arith, ap, sym, subst, ◌≡◌, ◌+◌, length}
 use Rattle.std.specs.Prelude.{map}
 use Rattle.tide_periods.specs.Told.{pair_of}

@@ -1,3 +1,4 @@
+-- What the loop of part::run_share keeps.
 use Rattle.std.proofs.Common.{◌≡◌, ◌+◌, ◌≤◌, false}
 use Rattle.tide_periods.specs.Asking.{IsCaller}
 use Rattle.tide_periods.specs.Left.{left_of}

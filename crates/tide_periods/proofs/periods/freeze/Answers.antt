@@ -1,3 +1,4 @@
+-- Answers to the goals of periods::freeze.
 use Rattle.std.proofs.Common.{sym, subst}
 use Rattle.tide_periods.specs.Periods.{RanFreeze}
 use Rattle.tide_periods.proofs.Freezing.{RanFreeze-cycle, RanFreeze-rest}

@@ -1,3 +1,4 @@
+-- Answers to the goals of periods::run_period.
 use Rattle.std.proofs.Common.{ℕ, ◌≡◌, ◌∙◌, ◌+◌, refl, sym, ap, arith, Bool, List, [], ◌∷◌}
 use Rattle.std.specs.Prelude.{◌||◌}
 use Rattle.tide_model.specs.declared.entry.Entry.TheVariants.{Open}

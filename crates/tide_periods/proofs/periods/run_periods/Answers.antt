@@ -1,3 +1,4 @@
+-- Answers to the goals of periods::run_periods.
 use Rattle.std.proofs.Common.{◌∙◌, refl, sym, arith, subst}
 use Rattle.tide_model.specs.Periods.{ArePeriods, no_period}
 use Rattle.tide_periods.specs.Periods.{pace_of}

@@ -1,3 +1,4 @@
+-- What the loop of periods::run_periods keeps.
 use Rattle.std.proofs.Common.{◌≡◌, ◌+◌, ◌≤◌}
 use Rattle.tide_model.specs.Periods.{ArePeriods}
 use Rattle.tide_periods.specs.Asking.{scripts_of}

@@ -1,3 +1,4 @@
+-- Answers to the goals of run::run_on.
 use Rattle.std.proofs.Common.{◌≡◌, ◌<◌, ◌≤◌, ◌∙◌, sym, ap, arith, subst, length, map, List, All}
 use Rattle.std.proofs.lemmas.List.{length-map, with_items_is}
 use Rattle.tide_model.specs.declared.op.Op.{Op}

@@ -1,4 +1,4 @@
--- What a call keeps: the phase, that nothing is dead, and that no mutator has more than 8 claims.
+-- What a call keeps: that nothing is dead, and that no mutator has more than 8 claims.
 use Rattle.std.proofs.Common.{ℕ, suc, ◌≡◌, ◌<◌, ◌≤◌, refl, sym, ap, subst, arith, Bool, true, false, List, [], ◌∷◌, ◌++◌, length, drop}
 use Rattle.std.proofs.lemmas.Bool.{leb-false}
 use Rattle.std.proofs.lemmas.List.{length-append, length-drop}
@@ -17,42 +17,8 @@ use Rattle.tide_model.specs.Layout.{Layout}
 use Rattle.tide_model.specs.Numbers.{put_at}
 use Rattle.tide_model.specs.Refused.{ShapeLists, claims_most, first_of, held_by, holders_of, refusal_at, refusal_of, refuse_if}
 use Rattle.tide_model.specs.State.{State, CellState, Status, blank_cell, dead, live, spent}
+use Rattle.tide_model.proofs.PhaseLaws.{at_cell_keeps, put_slot_keeps}
 use Rattle.tide_model.proofs.ReferenceLaws.{after_call-refused, put_at_elim}
-
--- what a change at a cell keeps
-pub at_cell_keeps : (P : State → Type 0) (state : State) (value : Val) (change : ℕ → State) → P state → ((cell : ℕ) → P (change cell)) → P (at_cell state value change)
-at_cell_keeps P state Empty change holds each = holds
-at_cell_keeps P state (Int n) change holds each = holds
-at_cell_keeps P state (Cell cell) change holds each = each cell
-
-put_slot_keeps : (P : State → Type 0) (state : State) (source : Val) (slot : ℕ) (value : Val) → P state → ((cell : ℕ) → P (put_slot state (Cell cell) slot value)) → P (put_slot state source slot value)
-put_slot_keeps P state Empty slot value holds each = holds
-put_slot_keeps P state (Int n) slot value holds each = holds
-put_slot_keeps P state (Cell cell) slot value holds each = each cell
-
--- a call leaves the phase
-pub phase_after-call : (state : State) (who : ℕ) (op : Op) (reply : Reply) (took : Option ℕ) → (after_call state who op reply took).phase ≡ state.phase
-phase_after-call state who Retire Done took = refl
-phase_after-call state who op (Refused refusal) took = ap (λ (s : State). s.phase) (after_call-refused state who op refusal took)
-phase_after-call state who (Put src slot val) Done took =
-    put_slot_keeps (λ s. s.phase ≡ state.phase) state (state.registers who src) slot (state.registers who val) refl (λ cell. refl)
-phase_after-call state who (Claim src) Done took =
-    at_cell_keeps (λ s. s.phase ≡ state.phase) state (state.registers who src) (λ cell. put_claims state who (state.claims who ++ cell ∷ [])) refl (λ cell. refl)
-phase_after-call state who (Release src) Done took =
-    at_cell_keeps (λ s. s.phase ≡ state.phase) state (state.registers who src) (λ cell. put_claims state who (filter (λ claimed. not (claimed == cell)) (state.claims who))) refl (λ cell. refl)
-phase_after-call state who (Add src key val) Done took =
-    at_cell_keeps (λ s. s.phase ≡ state.phase) state (state.registers who src) (λ cell. add_property state cell key (state.registers who val) took) refl (λ cell. refl)
-phase_after-call state who (SetProp src key val) Done took =
-    at_cell_keeps (λ s. s.phase ≡ state.phase) state (state.registers who src) (λ cell. put_property state cell key (state.registers who val)) refl (λ cell. refl)
-phase_after-call state who (PairSet src key val) Done took =
-    at_cell_keeps (λ s. s.phase ≡ state.phase) state (state.registers who src) (λ table. at_cell state (state.registers who key) (λ cell. put_pair state table cell (Some (state.registers who val)))) refl
-    (λ table. at_cell_keeps (λ s. s.phase ≡ state.phase) state (state.registers who key) (λ cell. put_pair state table cell (Some (state.registers who val))) refl (λ cell. refl))
-phase_after-call state who (PairDel src key) Done took =
-    at_cell_keeps (λ s. s.phase ≡ state.phase) state (state.registers who src) (λ table. at_cell state (state.registers who key) (λ cell. put_pair state table cell None)) refl
-    (λ table. at_cell_keeps (λ s. s.phase ≡ state.phase) state (state.registers who key) (λ cell. put_pair state table cell None) refl (λ cell. refl))
-phase_after-call state who (Group src n) Done took =
-    at_cell_keeps (λ s. s.phase ≡ state.phase) state (state.registers who src) (λ cell. put_cell state cell (record (state.cells cell) { group = n })) refl (λ cell. refl)
-phase_after-call state who op reply took = refl
 
 -- what is dead in the one was dead in the other
 pub record HasNoNewDead (one other : State) : Type 0 where
