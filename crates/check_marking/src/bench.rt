@@ -8,8 +8,8 @@
 //!   any;
 //! - `volatility CONSTRAINT`, `clear weak` and `clear pairs` do what they say;
 //! - `mark CELL` and `mark named WORD` are answered with whether the cell was marked, and the list;
-//! - `marked` is answered with the cells that are, `is_live CELL` with true or false, `length` with the number of words, and `REGION NUMBER`, `slot CELL.SLOT` and
-//!   `pair TABLE.PLACE` with what is there.
+//! - `marked` is answered with the cells that are, `is_live CELL` with true or false, `length` with the number of words, and
+//!   `REGION NUMBER`, `slot CELL.SLOT` and `pair TABLE.PLACE` with what is there.
 ghost use Rattle.std.specs.Prelude.{◌≡◌, ◌+◌, true, length, IfOk};
 ghost use Rattle.tide_model.specs.Layout.{cell_count};
 ghost use Rattle.tide_words.specs.marking.Colours.{is_marking};
