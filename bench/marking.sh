@@ -93,7 +93,7 @@ echo
 echo "| Groups of cells | Marked | Groups, order new | Groups, order left | Ephemerons | Times as long, at most |"
 echo "|---|---|---|---|---|---|"
 for groups in alone together beside apart drawn; do
-    for marked in nothing half cells all; do
+    for marked in nothing few half cells all; do
         [ -x "$words" ] && of_runs $groups $marked
     done
 done

@@ -11,8 +11,9 @@
 //!   are marked. A cell holds the next one by `links`, or by a link and a group in `turns`; and with `tables` each table is
 //!   held by a pair of the next one, or with `leaps` by one at the other end.
 //! - `runs GROUPS MARKED TIMES`: so many runs of `Groups` and of `Ephemerons` over the largest layout, whose cells are in
-//!   groups `alone`, all `together`, or two and two, `beside`, `apart` or `drawn`, and of which `nothing`, `half`, `cells`
-//!   (half, but no table) or `all` is marked. What the quickest took goes to the error output, in nanoseconds.
+//!   groups `alone`, all `together`, or two and two, `beside`, `apart` or `drawn`, and of which `nothing`, `few` (one of
+//!   130), `half`, `cells` (half, but no table) or `all` is marked. What the quickest took goes to the error output, in
+//!   nanoseconds.
 #![tactic(auto)]
 
 mod bench;
@@ -60,6 +61,7 @@ fn grouping_of(kind: &str) -> Option<Grouping> {
 fn marks_of(kind: &str) -> Option<Marks> {
     match kind {
         "nothing" => Some(Marks::Nothing),
+        "few" => Some(Marks::Few),
         "half" => Some(Marks::Half),
         "cells" => Some(Marks::HalfButTables),
         "all" => Some(Marks::All),

@@ -41,6 +41,8 @@ pub enum Grouping {
 #[derive(Clone, Copy, Debug, PartialEq, Eq)]
 pub enum Marks {
     Nothing,
+    /// One of each 130.
+    Few,
     /// One of each two.
     Half,
     /// One of each two that is no table.
@@ -88,6 +90,7 @@ fn is_marked_at(cells: &[u32], at: usize, marks: Marks) -> bool
 {
     match marks {
         Marks::Nothing => false,
+        Marks::Few => at % 130 == 0,
         Marks::Half => at % 2 == 0,
         Marks::HalfButTables => { cells[at] < TABLES && (at % 2 == 0 || cells[at - 1] >= TABLES) }
         Marks::All => true,
