@@ -1,12 +1,14 @@
 #!/usr/bin/env bash
-# Times chains of cells, marked in words by check_marking and collected in the plain store by riptide, and prints a table.
+# Times chains of cells, marked in words by check_marking and collected in the plain store by riptide, and single runs of two
+# constraints over the largest layout, and prints a table of each.
 #
 #   bash bench/marking.sh [CHECK_MARKING [RIPTIDE]]
 #
 # The programs are crates/check_marking/out/check_marking and crates/riptide/out/riptide where they aren't given; in each
 # of the two folders `rt run < stdin` builds it. The columns of a program that isn't there are left empty. It needs bash
 # and awk. Seconds are user time, from the program's start to its end, the least of three times: of one run each or, where
-# that takes less than 0.2 seconds, the mean of twenty.
+# that takes less than 0.2 seconds, the mean of twenty. Microseconds are those of the program's own clock around one run of
+# a constraint, the least of 400.
 set -u
 
 here=$(cd "$(dirname "$0")" && pwd)
@@ -75,5 +77,23 @@ echo "|---|---|---|---|"
 for kind in links turns tables leaps; do
     for blocks in 4 16 64; do
         echo "| $kind | $((320 * blocks)) | $(of_words $kind $blocks) | $(of_plain $kind $blocks) |"
+    done
+done
+
+# A row of what a run of Groups takes, with an order that is new and with one that is left, and a run of Ephemerons.
+of_runs() { # GROUPS MARKED
+    echo "runs $1 $2 400" > "$folder/line"
+    "$words" < "$folder/line" 2> "$folder/times" > "$folder/text" || return
+    awk -v groups="$1" -v marked="$2" '{
+        printf "| %s | %s | %.1f | %.1f | %.1f | %.1f |\n", groups, marked, $3 / 1000, $4 / 1000, $5 / 1000, ($3 > $4 ? $3 : $4) / $5
+    }' "$folder/times"
+}
+
+echo
+echo "| Groups of cells | Marked | Groups, order new | Groups, order left | Ephemerons | Times as long, at most |"
+echo "|---|---|---|---|---|---|"
+for groups in alone together beside apart drawn; do
+    for marked in nothing few half cells all; do
+        [ -x "$words" ] && of_runs $groups $marked
     done
 done

@@ -4,11 +4,12 @@
 //! holds before a run. Then
 //!
 //! - `run CONSTRAINT` is answered with how many cells it marked, and with the list afterwards: the given cell first. Each
-//!   list but the first has the room for an order of the one before, with what was left there;
+//!   list but the first has the room for an order of the one before, with what was left there; after `no room` none has
+//!   any;
 //! - `volatility CONSTRAINT`, `clear weak` and `clear pairs` do what they say;
 //! - `mark CELL` and `mark named WORD` are answered with whether the cell was marked, and the list;
-//! - `marked` is answered with the cells that are, `is_live CELL` with true or false, `length` with the number of words, and `REGION NUMBER`, `slot CELL.SLOT` and
-//!   `pair TABLE.PLACE` with what is there.
+//! - `marked` is answered with the cells that are, `is_live CELL` with true or false, `length` with the number of words, and
+//!   `REGION NUMBER`, `slot CELL.SLOT` and `pair TABLE.PLACE` with what is there.
 ghost use Rattle.std.specs.Prelude.{◌≡◌, ◌+◌, true, length, IfOk};
 ghost use Rattle.tide_model.specs.Layout.{cell_count};
 ghost use Rattle.tide_words.specs.marking.Colours.{is_marking};
@@ -26,16 +27,23 @@ use tide_words::{
     Constraint, GreyList, Volatility, Words, is_live, is_marked, mark, mark_named, word_phase,
 };
 
-/// A heap, once its layout is given, the cell that is listed, and the room for an order that the last list had.
+/// The room for an order that the next list has: what the one before it left, or its own, or none.
+#[derive(Drop)]
+struct Room {
+    left: Option<Vec<u64>>,
+    is_wanting: bool,
+}
+
+/// A heap, once its layout is given, the cell that is listed, and the room for an order that the next list has.
 #[derive(Drop)]
 pub struct Bench {
     heap: Option<Heap>,
     listed: u32,
-    order: Option<Vec<u64>>,
+    room: Room,
 }
 
 /// A list that holds this cell alone, with room for all others of a layout.
-fn list_of(alloc: Global, layout: &Layout, listed: u32) -> Result<GreyList, AllocError>
+pub fn list_of(alloc: Global, layout: &Layout, listed: u32) -> Result<GreyList, AllocError>
     ensures one { IfOk result (λ list. length list.cells ≡ 1) }
     ensures cap { IfOk result (λ list. list.cap ≡ cell_count layout.now + 1) }
     ensures room { IfOk result (λ list. (heap : HeapWords) → HasRoom layout.now heap list) }
@@ -73,7 +81,7 @@ fn marked_text(
 }
 
 /// Whether a cycle marks in a heap.
-fn marks(heap: &mut Heap) -> bool
+pub fn cycle_marks(heap: &mut Heap) -> bool
     ensures layout { heap.new.layout ≡ heap.old.layout }
     ensures words { heap.new.words ≡ heap.old.words }
     ensures marking { result ≡ true → is_marking (heap_of heap.old.layout heap.old.words) ≡ true }
@@ -82,23 +90,25 @@ fn marks(heap: &mut Heap) -> bool
     marks
 }
 
-/// Runs a constraint once beside a list that holds one cell, and that has the room for an order of the list before it.
+/// Runs a constraint once beside a list that holds one cell, and that has this room for an order.
 fn run<C: Constraint>(
     alloc: Global,
     heap: &mut Heap,
     listed: u32,
-    order: &mut Option<Vec<u64>>,
+    room: &mut Room,
     constraint: &C,
 ) -> Result<Option<String>, AllocError> {
-    if !marks(heap) {
+    if !cycle_marks(heap) {
         return Ok(None);
     }
     let mut list = list_of(alloc, &heap.layout, listed)?;
-    if let Some(left) = order.take() {
+    if room.is_wanting {
+        list.take_order();
+    } else if let Some(left) = room.left.take() {
         list.give_order(left);
     }
     let count = constraint.run(&mut heap.words, &heap.layout, &mut list);
-    *order = list.take_order();
+    room.left = list.take_order();
     marked_text(alloc, count, &mut list)
 }
 
@@ -110,7 +120,7 @@ fn mark_one(
     cell: Option<u32>,
     word: u64,
 ) -> Result<Option<String>, AllocError> {
-    if !marks(heap) {
+    if !cycle_marks(heap) {
         return Ok(None);
     }
     let mut list = list_of(alloc, &heap.layout, listed)?;
@@ -147,14 +157,14 @@ fn run_named(
     alloc: Global,
     heap: &mut Heap,
     listed: u32,
-    order: &mut Option<Vec<u64>>,
+    room: &mut Room,
     name: &str,
 ) -> Result<Option<String>, AllocError> {
     match name {
-        "registers" => run(alloc, heap, listed, order, &Registers),
-        "strong" => run(alloc, heap, listed, order, &Strong),
-        "ephemerons" => run(alloc, heap, listed, order, &Ephemerons),
-        "groups" => run(alloc, heap, listed, order, &Groups),
+        "registers" => run(alloc, heap, listed, room, &Registers),
+        "strong" => run(alloc, heap, listed, room, &Strong),
+        "ephemerons" => run(alloc, heap, listed, room, &Ephemerons),
+        "groups" => run(alloc, heap, listed, room, &Groups),
         _ => Ok(None),
     }
 }
@@ -185,11 +195,11 @@ fn asked(
     alloc: Global,
     heap: &mut Heap,
     listed: u32,
-    order: &mut Option<Vec<u64>>,
+    room: &mut Room,
     words: &[&str],
 ) -> Result<Option<String>, AllocError> {
     match words {
-        ["run", name] => run_named(alloc, heap, listed, order, name),
+        ["run", name] => run_named(alloc, heap, listed, room, name),
         ["mark", "named", word] => match word_of(word) {
             Some(word) => mark_one(alloc, heap, listed, None, word),
             None => Ok(None),
@@ -228,7 +238,7 @@ impl Bench {
         if heap.say(words).is_some() {
             return Ok(Some(text(alloc, "")?));
         }
-        asked(alloc, heap, listed, &mut self.order, words)
+        asked(alloc, heap, listed, &mut self.room, words)
     }
 }
 
@@ -237,7 +247,10 @@ impl<R: System> Answers<R> for Bench {
         Ok(Bench {
             heap: None,
             listed: 0,
-            order: None,
+            room: Room {
+                left: None,
+                is_wanting: false,
+            },
         })
     }
 
@@ -254,6 +267,7 @@ impl<R: System> Answers<R> for Bench {
                 Some(cell) => self.listed = cell,
                 None => return Ok(None),
             },
+            ["no", "room"] => self.room.is_wanting = true,
             _ => return Ok(self.do_or_answer(alloc, words)?),
         }
         Ok(Some(text(alloc, "")?))

@@ -10,6 +10,10 @@
 //! - `chain KIND BLOCKS`: a long chain in a layout of so many blocks of each class of cells, 1 to 64, all of whose cells
 //!   are marked. A cell holds the next one by `links`, or by a link and a group in `turns`; and with `tables` each table is
 //!   held by a pair of the next one, or with `leaps` by one at the other end.
+//! - `runs GROUPS MARKED TIMES`: so many runs of `Groups` and of `Ephemerons` over the largest layout, whose cells are in
+//!   groups `alone`, all `together`, or two and two, `beside`, `apart` or `drawn`, and of which `nothing`, `few` (one of
+//!   130), `half`, `cells` (half, but no table) or `all` is marked. What the quickest took goes to the error output, in
+//!   nanoseconds.
 #![tactic(auto)]
 
 mod bench;
@@ -18,6 +22,7 @@ mod draw;
 mod heaps;
 mod marking;
 mod random;
+mod runs;
 mod twin;
 
 use bench::Bench;
@@ -25,6 +30,7 @@ use chains::{Chain, check_chain};
 use check_heap::{Checks, System, check_lines, check_rows, number, words_of};
 use heaps::Marked;
 use random::check_random;
+use runs::{Grouping, Marks, time_runs};
 use std::io;
 use std::process::ExitCode;
 
@@ -35,6 +41,30 @@ fn chain_of(kind: &str) -> Option<Chain> {
         "turns" => Some(Chain::Turns),
         "tables" => Some(Chain::Tables),
         "leaps" => Some(Chain::Leaps),
+        _ => None,
+    }
+}
+
+/// The groups of a name.
+fn grouping_of(kind: &str) -> Option<Grouping> {
+    match kind {
+        "alone" => Some(Grouping::Alone),
+        "together" => Some(Grouping::Together),
+        "beside" => Some(Grouping::Beside),
+        "apart" => Some(Grouping::Apart),
+        "drawn" => Some(Grouping::Drawn),
+        _ => None,
+    }
+}
+
+/// The marks of a name.
+fn marks_of(kind: &str) -> Option<Marks> {
+    match kind {
+        "nothing" => Some(Marks::Nothing),
+        "few" => Some(Marks::Few),
+        "half" => Some(Marks::Half),
+        "cells" => Some(Marks::HalfButTables),
+        "all" => Some(Marks::All),
         _ => None,
     }
 }
@@ -63,6 +93,14 @@ impl<R: System> Checks for Program<'_, R> {
                 )?),
                 _ => Ok(false),
             },
+            ["runs", kind, marked, times] => {
+                match (grouping_of(kind), marks_of(marked), number(times)) {
+                    (Some(grouping), Some(marks), Some(times)) => {
+                        time_runs(rt, grouping, marks, times)
+                    }
+                    _ => Ok(false),
+                }
+            }
             _ => Ok(false),
         }
     }

@@ -1,0 +1,219 @@
+//! What one run of a constraint over the largest layout takes: of `Groups` and of `Ephemerons`, over the same words.
+//!
+//! All cells are live, a fifth of them tables without pairs. The times go to the error output, since no two are the same.
+ghost use Rattle.std.specs.Prelude.{◌<◌, length};
+
+use crate::bench::{cycle_marks, list_of};
+use crate::draw::Draw;
+use check_heap::{Heap, System};
+use std::alloc::{AllocError, Global};
+use std::io;
+use std::time::{Duration, Instant};
+use tide_ephemeron::Ephemerons;
+use tide_groups::Groups;
+use tide_layout::{Layout, Region};
+use tide_words::{Colour, Constraint, colour_word, phase_word};
+
+/// The cycle that marks.
+const CYCLE: u64 = 1;
+
+/// How many cells the largest layout has, and the first of them that is a table.
+const CELLS: u32 = 20_480;
+
+const TABLES: u32 = 16_384;
+
+/// Which cells are in groups together.
+#[derive(Clone, Copy, Debug, PartialEq, Eq)]
+pub enum Grouping {
+    /// None.
+    Alone,
+    /// All.
+    Together,
+    /// Each cell with the one beside it.
+    Beside,
+    /// Each cell with one half the heap away.
+    Apart,
+    /// Each cell with one that was drawn.
+    Drawn,
+}
+
+/// Which cells are marked before a run.
+#[derive(Clone, Copy, Debug, PartialEq, Eq)]
+pub enum Marks {
+    Nothing,
+    /// One of each 130.
+    Few,
+    /// One of each two.
+    Half,
+    /// One of each two that is no table.
+    HalfButTables,
+    All,
+}
+
+/// A heap, its cells in the order in which two and two are in groups together, and which are marked before a run.
+#[derive(Drop)]
+struct Runs {
+    heap: Heap,
+    cells: Vec<u32>,
+    grouping: Grouping,
+    marks: Marks,
+}
+
+/// The cells in the order of their numbers, or for groups of cells far apart one of each half in turn.
+fn cells_in_turn(alloc: Global, grouping: Grouping) -> Result<Vec<u32>, AllocError> {
+    let mut cells = Vec::new(alloc);
+    for at in 0..CELLS {
+        let is_behind = (at / 2 + at) % 2 == 1;
+        cells.push(match grouping {
+            Grouping::Apart if is_behind => at / 2 + CELLS / 2,
+            Grouping::Apart => at / 2,
+            _ => at,
+        })?;
+    }
+    Ok(cells)
+}
+
+/// Puts cells into an order that is drawn.
+fn shuffle(cells: &mut [u32]) {
+    let mut draw = Draw::new(1);
+    for at in 0..cells.len() {
+        let other = draw.below(CELLS) as usize;
+        if other < cells.len() {
+            cells.swap(at, other);
+        }
+    }
+}
+
+/// Whether the cell at a place is marked before a run.
+fn is_marked_at(cells: &[u32], at: usize, marks: Marks) -> bool
+    requires { at < length cells.now }
+{
+    match marks {
+        Marks::Nothing => false,
+        Marks::Few => at % 130 == 0,
+        Marks::Half => at % 2 == 0,
+        Marks::HalfButTables => { cells[at] < TABLES && (at % 2 == 0 || cells[at - 1] >= TABLES) }
+        Marks::All => true,
+    }
+}
+
+/// Marks the cells that are marked before a run, and no others, and answers how many these are.
+fn set_marks(heap: &mut Heap, cells: &[u32], marks: Marks) -> usize {
+    let mut count = 0;
+    for at in 0..cells.len() {
+        let mut word = 0;
+        if is_marked_at(cells, at, marks) {
+            word = colour_word(CYCLE, Colour::Grey);
+            count += 1;
+        }
+        heap.set(Region::Colour, cells[at], word);
+    }
+    count
+}
+
+impl Runs {
+    /// A heap whose cells are all live, in these groups.
+    fn new(alloc: Global, grouping: Grouping, marks: Marks) -> Result<Self, AllocError> {
+        let layout = Layout::new([64; 5], [0; 5], 0, 0, 0, 1, 0);
+        let mut heap = Heap::new(alloc, layout)?;
+        heap.set(Region::Phase, 0, phase_word(CYCLE, true));
+        let mut cells = cells_in_turn(alloc, grouping)?;
+        if grouping == Grouping::Drawn {
+            shuffle(cells.as_mut_slice());
+        }
+        for at in 0..cells.len() {
+            let cell = cells[at];
+            let number = match grouping {
+                Grouping::Alone => 0,
+                Grouping::Together => 1,
+                _ => at as u64 / 2 + 1,
+            };
+            heap.take_cell(cell);
+            heap.set(Region::Group, cell, number);
+        }
+        Ok(Runs {
+            heap,
+            cells,
+            grouping,
+            marks,
+        })
+    }
+
+    /// How many twins of so many marked cells are to be marked.
+    fn unmarked_twins(&self, count: usize) -> usize {
+        match (self.grouping, self.marks) {
+            (Grouping::Alone, _) | (_, Marks::Nothing | Marks::All) => 0,
+            (Grouping::Together, _) => self.cells.len().saturating_sub(count),
+            _ => count,
+        }
+    }
+}
+
+/// Runs a constraint once beside a list that holds one cell, and that has the room for an order of the list before it.
+/// Answers how many cells it marked and how long it took.
+fn time_run<R: System, C: Constraint>(
+    rt: &R,
+    heap: &mut Heap,
+    order: &mut Option<Vec<u64>>,
+    constraint: &C,
+) -> io::Result<Option<(u32, Duration)>> {
+    if !cycle_marks(heap) {
+        return Ok(None);
+    }
+    let mut list = list_of(rt.alloc(), &heap.layout, 0)?;
+    if let Some(left) = order.take() {
+        list.give_order(left);
+    }
+    let start = Instant::now(rt)?;
+    let count = constraint.run(&mut heap.words, &heap.layout, &mut list);
+    let took = start.elapsed(rt)?;
+    *order = list.take_order();
+    Ok(Some((count, took)))
+}
+
+/// The least time that a constraint took in so many runs, each of which marks so many cells, or `None` where one doesn't.
+/// Each run puts the cells in order anew, or finds the order that the one before it left.
+fn least_time<R: System, C: Constraint>(
+    rt: &R,
+    runs: &mut Runs,
+    is_new: bool,
+    times: u32,
+    constraint: &C,
+    finds: usize,
+) -> io::Result<Option<Duration>> {
+    let mut order = None;
+    let mut least = Duration::MAX;
+    for _time in 0..times {
+        set_marks(&mut runs.heap, runs.cells.as_slice(), runs.marks);
+        if is_new {
+            order = None;
+        }
+        match time_run(rt, &mut runs.heap, &mut order, constraint)? {
+            Some((count, took)) if count as usize == finds => least = least.min(took),
+            _ => return Ok(None),
+        }
+    }
+    Ok(Some(least))
+}
+
+/// Tells the least time of so many runs of `Groups`, with an order that is new and with one that is left, and of
+/// `Ephemerons`, over the same words. Answers whether each marked as many cells as it should.
+pub fn time_runs<R: System>(
+    rt: &R,
+    grouping: Grouping,
+    marks: Marks,
+    times: u32,
+) -> io::Result<bool> {
+    let mut runs = Runs::new(rt.alloc(), grouping, marks)?;
+    let count = set_marks(&mut runs.heap, runs.cells.as_slice(), runs.marks);
+    let twins = runs.unmarked_twins(count);
+    let new = least_time(rt, &mut runs, true, times, &Groups, twins)?;
+    let left = least_time(rt, &mut runs, false, times, &Groups, twins)?;
+    let pairs = least_time(rt, &mut runs, true, times, &Ephemerons, 0)?;
+    let (Some(new), Some(left), Some(pairs)) = (new, left, pairs) else {
+        return Ok(false);
+    };
+    let (new, left, pairs) = (new.as_nanos(), left.as_nanos(), pairs.as_nanos());
+    eprintln!(rt; "{grouping:?} {marks:?} {new} {left} {pairs}")?;
+    Ok(true)
+}
