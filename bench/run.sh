@@ -4,8 +4,8 @@
 #   bash bench/run.sh [PROGRAM]
 #
 # PROGRAM is crates/riptide/out/riptide where it isn't given; `cd crates/riptide && rt run < stdin` builds it.
-# It needs bash, awk and Linux's /proc. Seconds are the least of three runs, from the program's start to its end,
-# with its text written to a file. Memory is the most that the program held by its first line: it takes none once
+# It needs bash, awk and Linux's /proc. Seconds are the processor's, user and system, the least of three runs, with the
+# text written to a file. Memory is the most that the program held by its first line: it takes none once
 # it prints.
 set -u
 
@@ -17,7 +17,7 @@ if [ ! -x "$program" ]; then
 fi
 folder=$(mktemp -d)
 trap 'rm -rf "$folder"' EXIT
-TIMEFORMAT=%R
+TIMEFORMAT='%U %S'
 
 # A workload of COUNT operations: of EVERY, the last is a collection, and the others allocate in turn in the four
 # registers and classes.
@@ -87,9 +87,9 @@ tables() {
     }'
 }
 
-# The seconds of one run.
+# The processor's seconds of one run.
 seconds() { # FILE
-    { time "$program" < "$1" > "$folder/text"; } 2>&1
+    { time "$program" < "$1" > "$folder/text"; } 2>&1 | awk '{ printf "%.3f\n", $1 + $2 }'
 }
 
 # The least of the seconds of three runs.

@@ -105,7 +105,7 @@ impl<W: Write> Sink for RealSink<W> {
         ensures bytes { IfOk result (λ count. Appends self.old.known self.new.known (take count piece.now)) }
         ensures part { OnErr result (AppendsPart self.old.known self.new.known piece.now) }
 
-        // Each of its failures is counted, and a call makes no more than so many.
+        // A call adds no more than so many faults to the count.
         ensures few { self.new.faults ≤ self.old.faults + 200 }
     {
         let count = self.pass_on(piece)?;

@@ -57,7 +57,7 @@ impl<R: Read> Source for RealSource<R> {
         // The bytes are the reader's.
         ensures bytes { ReadConsumes self.old.known self.new.known result buf.new }
 
-        // Each of its failures is counted, and a call makes no more than so many.
+        // A call adds no more than so many faults to the count.
         ensures few { self.new.faults ≤ self.old.faults + 100 }
     {
         let mut tries = 0;

@@ -1,13 +1,18 @@
--- What is stored of one mutator or one array where something has changed.
+-- What is stored of one mutator, one cell or one array where something has changed.
 use Rattle.std.specs.Prelude.{ℕ, List, Option, None, Some, slice_set}
 use Rattle.std.specs.List.{slice_index_or}
 use Rattle.tide_model.specs.declared.val.Val.{Val}
+use Rattle.tide_parts.specs.declared.cells.StoredCell.{StoredCell}
 use Rattle.tide_parts.specs.declared.mutators.StoredMutator.{StoredMutator}
 use Rattle.tide_parts.specs.PartLists.{no_elements}
 
 -- a mutator with another value in a register
 abbrev pub filled : StoredMutator → ℕ → Val → StoredMutator
 filled mutator register value = record mutator { registers = slice_set mutator.registers register value }
+
+-- a cell with another value in a slot
+abbrev pub with_slot : StoredCell → ℕ → Val → StoredCell
+with_slot stored slot value = record stored { slots = slice_set stored.slots slot value }
 
 -- a mutator with other claims
 abbrev pub with_claims : StoredMutator → List ℕ → StoredMutator

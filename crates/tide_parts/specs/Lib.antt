@@ -2,3 +2,4 @@ pub mod Changes
 pub mod Pairs
 pub mod PartLists
 pub mod Swept
+pub mod Taken

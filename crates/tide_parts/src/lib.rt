@@ -11,6 +11,7 @@ mod handles;
 mod mutators;
 mod pairs;
 mod sweeping;
+mod taken;
 
 pub use arrays::{ArrayStatus, Arrays, Elements};
 pub use cells::{Cells, Pair, StoredCell};

@@ -25,6 +25,12 @@ abbrev pub IsFirstFound : (ℕ → Type 0) → (ℕ → Type 0) → ℕ → ℕ 
 IsFirstFound Passes Fails first end found =
     MatchOption found ((n : ℕ) → first ≤ n → n < end → Fails n) (λ i. (first ≤ i) × (i < end) × Passes i × ((n : ℕ) → first ≤ n → n < i → Fails n))
 
+-- such an answer, from what is told of it
+pub found-told : (Passes Fails : ℕ → Type 0) (first end : ℕ) (found : Option ℕ) → IfSome found (λ i. first ≤ i) → IfSome found (λ i. i < end) → IfSome found Passes →
+    IfSome found (λ i. (n : ℕ) → first ≤ n → n < i → Fails n) → IfNone found ((n : ℕ) → first ≤ n → n < end → Fails n) → IsFirstFound Passes Fails first end found
+found-told Passes Fails first end None from below passes lowest full = full
+found-told Passes Fails first end (Some i) from below passes lowest full = (from, below, passes, lowest)
+
 -- what holds of each number that passes holds of the one that is found
 pub found-holds : (Passes Fails Q : ℕ → Type 0) (first end : ℕ) (found : Option ℕ) → IsFirstFound Passes Fails first end found →
     ((n : ℕ) → first ≤ n → n < end → Passes n → Q n) → IfSome found Q

@@ -26,9 +26,7 @@ impl Contents {
         requires slot { slot < 16 }
         ensures { Leaves self.old self.new (put_slot (state_of self.old) (Cell cell) slot value) }
     {
-        let mut stored = *self.cells.stored(cell);
-        stored.set_slot(slot, value);
-        self.cells.store(cell, stored);
+        self.cells.set_slot(cell, slot, value);
     }
 
     /// A live cell is in a group, or in none where the number is 0.

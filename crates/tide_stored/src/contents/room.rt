@@ -26,7 +26,7 @@ impl Contents {
     {
         let first = first_of(&self.layout, class);
         let end = first + BLOCK_SIZE * u32::from(self.layout.blocks(class));
-        (first..end).find(|cell| !self.cells.is_live(*cell))
+        self.cells.lowest_free(first, end)
     }
 
     /// The free array of a class from 5 to 9 with the lowest id.
