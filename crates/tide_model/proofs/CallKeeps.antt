@@ -1,5 +1,5 @@
 -- What a call keeps: that nothing is dead, and that no mutator has more than 8 claims.
-use Rattle.std.proofs.Common.{ℕ, suc, ◌≡◌, ◌<◌, ◌≤◌, refl, sym, ap, subst, arith, Bool, true, false, List, [], ◌∷◌, ◌++◌, length, drop}
+use Rattle.std.proofs.Common.{ℕ, suc, ◌≡◌, ◌<◌, ◌≤◌, refl, sym, subst, arith, Bool, true, false, List, [], ◌∷◌, ◌++◌, length, drop}
 use Rattle.std.proofs.lemmas.Bool.{leb-false}
 use Rattle.std.proofs.lemmas.List.{length-append, length-drop}
 use Rattle.std.specs.Prelude.{Option, None, Some, filter, not, nat_le, ◌==◌, if◌then◌else◌}
@@ -12,7 +12,7 @@ use Rattle.tide_model.specs.declared.op.Reply.TheVariants.{Done, Born, Refused}
 use Rattle.tide_model.specs.declared.op.Refusal.{Refusal}
 use Rattle.tide_model.specs.declared.op.Refusal.TheVariants.{ClaimsFull}
 use Rattle.tide_model.specs.Answer.{IsAnswer, IsAnswerUnless}
-use Rattle.tide_model.specs.Applied.{after_call, at_cell, add_property, array_after, exchange_array, place_of, put_cell, put_claims, put_pair, put_property, put_slot, spend}
+use Rattle.tide_model.specs.Applied.{after_call, at_cell, add_property, array_after, exchange_array, place_of, put_cell, put_claims, put_pair, put_property, spend}
 use Rattle.tide_model.specs.Layout.{Layout}
 use Rattle.tide_model.specs.Numbers.{put_at}
 use Rattle.tide_model.specs.Refused.{ShapeLists, claims_most, first_of, held_by, holders_of, refusal_at, refusal_of, refuse_if}

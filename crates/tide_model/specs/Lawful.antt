@@ -11,7 +11,7 @@ use Rattle.tide_model.specs.declared.entry.Event.{Event}
 use Rattle.tide_model.specs.Each.{Each}
 use Rattle.tide_model.specs.Layout.{Layout}
 use Rattle.tide_model.specs.History.{state_after}
-use Rattle.tide_model.specs.Refused.{ShapeLists}
+use Rattle.tide_model.specs.Refused.{ShapeLists, table_class}
 use Rattle.tide_model.specs.Answer.{IsAnswer}
 use Rattle.tide_model.specs.Cycle.{StandsBegin, StandsEnd, HasDead}
 use Rattle.tide_model.specs.Room.{StandsFull}
@@ -19,7 +19,7 @@ use Rattle.tide_model.specs.Room.{StandsFull}
 -- the operands of an operation are those of the layout: registers of its mutator, handles, and a class of cells with
 -- slots; a number that is set, or that names a group, has 32 bits
 abbrev pub FitsLayout : Layout → Op → Type 0
-FitsLayout layout (Alloc dst class) = (dst < layout.registers) × (class < 4)
+FitsLayout layout (Alloc dst class) = (dst < layout.registers) × (class < table_class)
 FitsLayout layout (Table dst) = dst < layout.registers
 FitsLayout layout (Get dst src slot) = (dst < layout.registers) × (src < layout.registers)
 FitsLayout layout (Put src slot val) = (src < layout.registers) × (val < layout.registers)

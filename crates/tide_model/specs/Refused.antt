@@ -60,7 +60,7 @@ is_table layout cell = class_of layout cell == table_class
 -- its class has no such slot, in this order
 abbrev pub slot_refusal : Layout → Val → ℕ → ℕ → Option Refusal
 slot_refusal layout (Cell cell) register slot =
-    if class_of layout cell == 4 then Some IsTable
+    if is_table layout cell then Some IsTable
     else if nat_lt slot (slots_of (class_of layout cell)) then None
     else Some (NoSlot slot)
 slot_refusal layout Empty register slot = Some (NotCell register)
