@@ -1,13 +1,13 @@
-//! The program `check_workloads`: runs workloads by `tide_run::riptide`, over files and bytes in memory, sources and sinks
-//! that fail where they are told to, and compares how each run ends with what stands in a file.
+//! The program `check_workloads`: runs workloads by `tide_run::riptide`, over files and bytes in memory and over sources
+//! and sinks that fail where they are told to, and compares how each run ends with what stands in a file.
 //!
 //! Each line of its input is one check. Files lie in the folder that it is run in:
 //!
 //! - `runs FILE`: rows of runs whose source and sinks fail where they are told to (`runs.rt`).
 //! - `ends FILE`: rows of sources and sinks alone (`ends.rt`).
 //!
-//! It prints what ended otherwise than expected, and then a line for each check. Where one was not as expected, the status
-//! is 1. The workloads and the refused documents of its folder `data` are run by `.ci/workloads`, over the built program.
+//! It prints what ended otherwise than expected, and then a line for each check. Where one was not as expected, the
+//! status is 1. The workloads and the refused documents of its folder `data` are run by `.ci/workloads`.
 #![tactic(auto)]
 
 mod ending;
