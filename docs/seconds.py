@@ -43,6 +43,9 @@ def processes():
 
 def place_of(words, folder, known):
     """The crate and the column that a process works for, or None."""
+    if not words[0]:
+        # it is about to end: its words went with its memory, which takes a while to free where it was large
+        return None
     named = words[words.index("--crate-name") + 1] if "--crate-name" in words[:-1] else ""
     below = re.search(r"/crates/(\w+)", folder)
     crate = named or (below[1] if below else "")

@@ -1,9 +1,9 @@
 //! The facts of a heap as text: a line that says what one or more of its words are.
 
 use crate::Heap;
-use crate::reading::{number, number_behind, pair_of_numbers};
+use crate::reading::{behind, large_number, number, pair_of_numbers};
 use crate::reply::value_text;
-use crate::rows::text;
+use crate::texts::{joined, number_between, number_text, text};
 use std::alloc::{AllocError, Global};
 use tide_layout::Region;
 use tide_model::Val;
@@ -39,10 +39,10 @@ pub fn value_of(word: &str) -> Option<Val> {
     if word == "-" {
         return Some(Val::Empty);
     }
-    match number_behind('#', word) {
-        Some(cell) => Some(Val::Cell(cell)),
-        None => number_behind('n', word).map(|n| Val::Int(n)),
+    if let Some(cell) = behind("#", word) {
+        return Some(Val::Cell(number(cell)?));
     }
+    Some(Val::Int(number(behind("n", word)?)?))
 }
 
 /// The word of 64 bits that a word of text is: that of a value, `b` and the number of its one bit, or its number.
@@ -50,18 +50,19 @@ pub fn word_of(word: &str) -> Option<u64> {
     if let Some(value) = value_of(word) {
         return Some(val_word(value));
     }
-    match number_behind::<u32>('b', word) {
-        Some(bit) if bit < 64 => Some(1 << bit),
-        _ => number(word),
-    }
+    let Some(bit) = behind("b", word) else {
+        return large_number(word);
+    };
+    let bit = number(bit)?;
+    if bit < 64 { Some(1 << bit) } else { None }
 }
 
 /// The text of a word: that of the value that it is the word of, as `word_of` reads it, or else its number.
 pub fn word_text(alloc: Global, word: u64) -> Result<String, AllocError> {
     match word_val(word) {
-        Some(Val::Int(n)) => format!(in alloc; "n{n}"),
+        Some(Val::Int(n)) => number_between(alloc, "n", u64::from(n), ""),
         Some(value) => value_text(alloc, value),
-        None => format!(in alloc; "{word}"),
+        None => number_text(alloc, word),
     }
 }
 
@@ -69,11 +70,12 @@ pub fn word_text(alloc: Global, word: u64) -> Result<String, AllocError> {
 pub fn pair_text(alloc: Global, word: u64) -> Result<String, AllocError> {
     match word_pair(word) {
         Some((key, value)) => {
+            let key = number_between(alloc, "", u64::from(key), " ")?;
             let value = word_text(alloc, val_word(value))?;
-            format!(in alloc; "{key} {value}")
+            joined(alloc, &[key.as_str(), value.as_str()])
         }
         None if word == 0 => text(alloc, "none"),
-        None => format!(in alloc; "{word}"),
+        None => number_text(alloc, word),
     }
 }
 

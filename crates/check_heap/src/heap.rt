@@ -6,8 +6,7 @@ use crate::places::{place_of_element, place_of_slot, place_of_word};
 use std::alloc::{AllocError, Global};
 use tide_block::{bit_of, block_of_array, block_of_cell};
 use tide_layout::{Layout, Region};
-use tide_model::Val;
-use tide_words::{Structure, VecWords, Words, structure_word, word_pair, word_structure, word_val};
+use tide_words::{Structure, VecWords, Words, structure_word};
 
 /// The words of a heap, and where they lie.
 #[derive(Drop)]
@@ -72,24 +71,18 @@ impl Heap {
     }
 
     /// The number of a mutator's register in their region, which is past its end where there is none.
-    fn index_of_register(&self, who: u8, register: u8) -> u32 {
+    fn index_of_register(&self, who: u32, register: u8) -> u32 {
         let registers = self.layout.registers();
-        if who >= self.layout.mutators() || register >= registers {
+        if who >= u32::from(self.layout.mutators()) || register >= registers {
             return u32::MAX;
         }
-        u32::from(who) * u32::from(registers) + u32::from(register)
+        who * u32::from(registers) + u32::from(register)
     }
 
     /// Puts a word into a register of a mutator.
-    pub fn set_register(&mut self, who: u8, register: u8, word: u64) {
+    pub fn set_register(&mut self, who: u32, register: u8, word: u64) {
         let index = self.index_of_register(who, register);
         self.set(Region::Registers, index, word);
-    }
-
-    /// The value in a register of a mutator.
-    pub fn register(&mut self, who: u8, register: u8) -> Val {
-        let index = self.index_of_register(who, register);
-        word_val(self.get(Region::Registers, index)).unwrap_or(Val::Empty)
     }
 
     /// Takes a bit out of the free word of a block.
@@ -131,22 +124,5 @@ impl Heap {
         };
         self.set(Region::Structure, cell, structure_word(structure));
         self.set(Region::Array, cell, u64::from(array) + 1);
-    }
-
-    /// How many properties a cell has.
-    pub fn count(&mut self, cell: u32) -> u32 {
-        let word = self.get(Region::Structure, cell);
-        word_structure(word).map_or(0, |structure| structure.count)
-    }
-
-    /// The array of a cell, where it has one.
-    pub fn array(&mut self, cell: u32) -> Option<u32> {
-        let word = self.get(Region::Array, cell);
-        u32::try_from(word.checked_sub(1)?).ok()
-    }
-
-    /// The key of the pair at a place of a table, where there is a pair.
-    pub fn key(&mut self, table: u32, place: u8) -> Option<u32> {
-        word_pair(self.slot(table, place)).map(|(key, _)| key)
     }
 }

@@ -1,12 +1,10 @@
 //! What the check programs share: the loop over the lines of their input and over the rows of a file, the text of
-//! layouts, numbers and replies, a plain store whose callers may ask anything, and heaps in
-//! words that are written a fact at a time.
+//! layouts, numbers and replies, and heaps in words that are written a fact at a time.
 //!
 //! A row of a file is a name and lines, each of which is something to do, with the answer that is expected of it. What
 //! does them is an `Answers`; it never sees what is expected. The library knows no check: those are the programs'.
 #![tactic(auto)]
 
-mod caller;
 mod fact;
 mod heap;
 mod lines;
@@ -15,13 +13,17 @@ mod reading;
 mod reply;
 mod rows;
 mod system;
+mod texts;
 
-pub use caller::Caller;
 pub use fact::{pair_text, region_of, value_of, word_of, word_text};
 pub use heap::Heap;
 pub use lines::{Checks, check_lines, tell_line};
 pub use places::{place_of_element, place_of_slot, place_of_word};
-pub use reading::{layout_of, number, number_behind, numbers, pair_of_numbers, words_of};
+pub use reading::{
+    behind, large_number, layout_of, number, numbers, pair_of_numbers, short_number, small_number,
+    words_of,
+};
 pub use reply::{reply_text, value_text};
-pub use rows::{Answers, check_rows, number_or_none, numbers_text, parts_of, tell_answer, text};
+pub use rows::{Answers, check_rows, parts_of, tell_answer};
 pub use system::System;
+pub use texts::{joined, number_between, number_or_none, number_text, numbers_text, tell, text};

@@ -1,6 +1,7 @@
 //! The loop over the lines of a check program's input.
 
 use crate::System;
+use crate::texts::tell;
 use std::io;
 use std::process::ExitCode;
 
@@ -17,7 +18,7 @@ pub fn tell_line<R: System>(rt: &R, line: &str, ended: io::Result<bool>) -> io::
         Ok(false) => (false, "not as expected"),
         Err(_) => (false, "a file or memory is wanting"),
     };
-    println!(rt; "{line}: {end}")?;
+    tell(rt, &[line, ": ", end])?;
     Ok(is_so)
 }
 

@@ -2,7 +2,6 @@
 ghost use Rattle.std.specs.Prelude.{◌≤◌, All, IfSome};
 
 use std::alloc::{AllocError, Global};
-use std::str::FromStr;
 use tide_layout::Layout;
 
 /// The words of a line.
@@ -10,24 +9,50 @@ pub fn words_of<'a>(alloc: Global, line: &'a str) -> Result<Vec<&'a str>, AllocE
     line.split_whitespace().collect(alloc)
 }
 
-/// The number that a word is.
-pub fn number<N: FromStr<Err: Drop>>(word: &str) -> Option<N> {
+/// The number of 64 bits that a word is.
+pub fn large_number(word: &str) -> Option<u64> {
     word.parse().ok()
 }
 
-/// The number behind the letter or sign that a word begins with.
-pub fn number_behind<N: FromStr<Err: Drop>>(sign: char, word: &str) -> Option<N> {
-    number(word.strip_prefix(sign)?)
+/// The number of 32 bits that a word is.
+pub fn number(word: &str) -> Option<u32> {
+    let number = large_number(word)?;
+    if number <= 4_294_967_295 {
+        Some(number as u32)
+    } else {
+        None
+    }
+}
+
+/// The number of 16 bits that a word is.
+pub fn short_number(word: &str) -> Option<u16> {
+    let number = large_number(word)?;
+    if number <= 65_535 {
+        Some(number as u16)
+    } else {
+        None
+    }
+}
+
+/// The number of 8 bits that a word is.
+pub fn small_number(word: &str) -> Option<u8> {
+    let number = large_number(word)?;
+    if number <= 255 {
+        Some(number as u8)
+    } else {
+        None
+    }
+}
+
+/// What stands in a word behind the sign that it begins with.
+pub fn behind<'a>(sign: &str, word: &'a str) -> Option<&'a str> {
+    word.strip_prefix(sign)
 }
 
 /// The two numbers of a word `A.B`.
-pub fn pair_of_numbers<A: FromStr<Err: Drop>, B: FromStr<Err: Drop>>(word: &str) -> Option<(A, B)>
-where
-    A: Drop,
-    B: Drop,
-{
-    let (a, b) = word.split_once('.')?;
-    Some((number(a)?, number(b)?))
+pub fn pair_of_numbers(word: &str) -> Option<(u32, u8)> {
+    let (a, b) = word.split_once(".")?;
+    Some((number(a)?, small_number(b)?))
 }
 
 /// The numbers that words are.
@@ -46,49 +71,64 @@ pub fn numbers(alloc: Global, words: &[&str]) -> Result<Option<Vec<u32>>, AllocE
 fn at_most(most: u16, word: &str) -> Option<u16>
     ensures { IfSome result (λ count. count ≤ most) }
 {
-    let count = number(word)?;
-    (count <= most).then_some(count)
+    let count = short_number(word)?;
+    if count <= most { Some(count) } else { None }
 }
 
 /// A number that is at most so large, and 255.
 fn byte_at_most(most: u8, word: &str) -> Option<u8>
     ensures { IfSome result (λ count. count ≤ most) }
 {
-    let count = number(word)?;
-    (count <= most).then_some(count)
+    let count = small_number(word)?;
+    if count <= most { Some(count) } else { None }
 }
 
 /// How many blocks each of five classes has.
-fn five(words: &[&str]) -> Option<[u8; 5]>
+fn five(words: [&str; 5]) -> Option<[u8; 5]>
     ensures { IfSome result (All (λ count. count ≤ 64)) }
 {
-    match words {
-        [a, b, c, d, e] => Some([
-            byte_at_most(64, a)?,
-            byte_at_most(64, b)?,
-            byte_at_most(64, c)?,
-            byte_at_most(64, d)?,
-            byte_at_most(64, e)?,
-        ]),
-        _ => None,
-    }
+    let [a, b, c, d, e] = words;
+    Some([
+        byte_at_most(64, a)?,
+        byte_at_most(64, b)?,
+        byte_at_most(64, c)?,
+        byte_at_most(64, d)?,
+        byte_at_most(64, e)?,
+    ])
 }
 
 /// The layout of words: five blocks of cells, `+`, five of arrays, and then how many `registers`, `strong` and `weak` handles,
 /// `mutators` and, if they are told, `visitors` there are: as `1 0 0 0 1 + 1 0 0 0 0 4 2 2 1`.
 pub fn layout_of(words: &[&str]) -> Option<Layout> {
-    let (blocks, rest) = words.split_at_checked(5)?;
-    let (arrays, rest) = rest.strip_prefix(&["+"])?.split_at_checked(5)?;
-    let (registers, strong, weak, mutators, visitors) = match rest {
-        [registers, strong, weak, mutators] => (registers, strong, weak, mutators, &"0"),
-        [registers, strong, weak, mutators, visitors] => {
-            (registers, strong, weak, mutators, visitors)
-        }
+    let [
+        a,
+        b,
+        c,
+        d,
+        e,
+        "+",
+        f,
+        g,
+        h,
+        i,
+        j,
+        registers,
+        strong,
+        weak,
+        mutators,
+        rest @ ..,
+    ] = words
+    else {
+        return None;
+    };
+    let visitors = match rest {
+        [] => "0",
+        [visitors] => visitors,
         _ => return None,
     };
     Some(Layout::new(
-        five(blocks)?,
-        five(arrays)?,
+        five([a, b, c, d, e])?,
+        five([f, g, h, i, j])?,
         byte_at_most(16, registers)?,
         at_most(256, strong)?,
         at_most(256, weak)?,

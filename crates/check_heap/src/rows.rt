@@ -2,7 +2,7 @@
 
 use crate::System;
 use crate::reading::words_of;
-use std::alloc::{AllocError, Global};
+use crate::texts::{tell, text};
 use std::{fs, io};
 
 /// What does the lines of a row and answers them.
@@ -13,32 +13,6 @@ pub trait Answers<R: System>: Drop {
     /// Does what the words of a line say, and answers it, where there is something to answer. `None` where the words say
     /// nothing that is known.
     fn answer(&mut self, rt: &R, words: &[&str]) -> io::Result<Option<String>>;
-}
-
-/// A text of its own.
-pub fn text(alloc: Global, text: &str) -> Result<String, AllocError> {
-    String::from_str(alloc, text)
-}
-
-/// Some numbers with spaces between, and `none` where there are none.
-pub fn numbers_text(alloc: Global, numbers: &[u32]) -> Result<String, AllocError> {
-    let mut all = String::new(alloc);
-    for number in numbers {
-        let one = format!(in alloc; " {number}")?;
-        all.push_str(one.as_str())?;
-    }
-    match all.as_str().strip_prefix(' ') {
-        Some(rest) => text(alloc, rest),
-        None => text(alloc, "none"),
-    }
-}
-
-/// The number, and `none` where there is none.
-pub fn number_or_none(alloc: Global, number: Option<u32>) -> Result<String, AllocError> {
-    match number {
-        Some(number) => format!(in alloc; "{number}"),
-        None => text(alloc, "none"),
-    }
 }
 
 /// The two parts of a line: what it does, and the answer that is expected.
@@ -57,11 +31,15 @@ pub fn tell_answer<R: System>(
     match answer {
         Some(answer) if answer.as_str() == expected => Ok(true),
         Some(answer) => {
-            println!(rt; "{row}: {said} = {answer}, and not {expected}")?;
+            let answer = answer.as_str();
+            tell(
+                rt,
+                &[row, ": ", said, " = ", answer, ", and not ", expected],
+            )?;
             Ok(false)
         }
         None => {
-            println!(rt; "{row}: {line}: nothing that is known")?;
+            tell(rt, &[row, ": ", line, ": nothing that is known"])?;
             Ok(false)
         }
     }
@@ -97,7 +75,7 @@ fn are_lines_so<R: System, A: Answers<R>>(
 
 /// Does a row, after the lines that each row of its file begins with.
 fn is_row_so<R: System, A: Answers<R>>(rt: &R, first: &str, row: &str) -> io::Result<bool> {
-    let (name, lines) = row.split_once('\n').unwrap_or((row, ""));
+    let (name, lines) = row.split_once("\n").unwrap_or((row, ""));
     let mut answers = A::begin(rt)?;
     Ok(are_lines_so(rt, &mut answers, name, first)? && are_lines_so(rt, &mut answers, name, lines)?)
 }

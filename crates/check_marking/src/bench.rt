@@ -16,7 +16,10 @@ ghost use Rattle.tide_words.specs.marking.Colours.{is_marking};
 ghost use Rattle.tide_words.specs.marking.Greyed.{HasRoom};
 ghost use Rattle.tide_words.specs.heap.Heap.{heap_of, Heap as HeapWords};
 
-use check_heap::{Answers, Heap, System, layout_of, number, numbers_text, text, word_of};
+use check_heap::{
+    Answers, Heap, System, joined, layout_of, number, number_between, number_text, numbers_text,
+    text, word_of,
+};
 use std::alloc::{AllocError, Global};
 use std::io;
 use tide_ephemeron::{Ephemerons, clear_pairs};
@@ -77,7 +80,8 @@ fn marked_text(
 ) -> Result<Option<String>, AllocError> {
     let cells = cells_in(alloc, list)?;
     let cells = numbers_text(alloc, cells.as_slice())?;
-    Ok(Some(format!(in alloc; "{count}: {cells}")?))
+    let count = number_between(alloc, "", u64::from(count), ": ")?;
+    Ok(Some(joined(alloc, &[count.as_str(), cells.as_str()])?))
 }
 
 /// Whether a cycle marks in a heap.
@@ -180,6 +184,15 @@ fn volatility_of(name: &str) -> Option<Volatility> {
     }
 }
 
+/// The name of when a constraint may have something new to mark.
+fn name_of(volatility: Volatility) -> &'static str {
+    match volatility {
+        Volatility::SeldomGreyed => "SeldomGreyed",
+        Volatility::GreyedByExecution => "GreyedByExecution",
+        Volatility::GreyedByMarking => "GreyedByMarking",
+    }
+}
+
 /// Does what a cycle's end does to handles or to pairs.
 fn clear(heap: &mut Heap, what: &str) -> bool {
     match what {
@@ -205,17 +218,17 @@ fn asked(
             None => Ok(None),
         },
         ["mark", cell] => mark_one(alloc, heap, listed, number(cell), 0),
-        ["length"] => Ok(Some(format!(in alloc; "{}", heap.words.len())?)),
+        ["length"] => Ok(Some(number_text(alloc, heap.words.len() as u64)?)),
         ["marked"] => {
             let cells = marked_cells(alloc, heap)?;
             Ok(Some(numbers_text(alloc, cells.as_slice())?))
         }
-        ["is_live", cell] => {
-            let is_live = number(cell).is_some_and(|cell| is_live_in(heap, cell));
-            Ok(Some(format!(in alloc; "{is_live}")?))
-        }
+        ["is_live", cell] => match number(cell) {
+            Some(cell) if is_live_in(heap, cell) => Ok(Some(text(alloc, "true")?)),
+            _ => Ok(Some(text(alloc, "false")?)),
+        },
         ["volatility", name] => match volatility_of(name) {
-            Some(volatility) => Ok(Some(format!(in alloc; "{volatility:?}")?)),
+            Some(volatility) => Ok(Some(text(alloc, name_of(volatility))?)),
             None => Ok(None),
         },
         ["clear", what] if clear(heap, what) => Ok(Some(text(alloc, "")?)),

@@ -21,11 +21,4 @@ impl Draw {
         self.state = next.wrapping_add(1_442_695_040_888_963_407);
         ((self.state >> 33) % u64::from(bound)) as u32
     }
-
-    /// Whether it comes to be, once in so many times.
-    pub fn is_one_of(&mut self, count: u32) -> bool
-        requires { 0 < count }
-    {
-        self.below(count) == 0
-    }
 }

@@ -4,7 +4,7 @@
 //! and the number of visits, and `black` and `grey` with the cells of that colour.
 
 use crate::marking::Marking;
-use check_heap::{Answers, Heap, System, layout_of, number, numbers_text, text};
+use check_heap::{Answers, Heap, System, layout_of, number, number_between, numbers_text, text};
 use std::alloc::{AllocError, Global};
 use std::io;
 use tide_solver::Solved;
@@ -20,8 +20,8 @@ pub struct Marked {
 /// Marks within a budget, and tells how that ended.
 fn solve(alloc: Global, marking: &mut Marking, budget: u32) -> Result<String, AllocError> {
     match marking.solve(budget) {
-        Solved::Converged { visits } => format!(in alloc; "converged {visits}"),
-        Solved::More { visits } => format!(in alloc; "more {visits}"),
+        Solved::Converged { visits } => number_between(alloc, "converged ", u64::from(visits), ""),
+        Solved::More { visits } => number_between(alloc, "more ", u64::from(visits), ""),
     }
 }
 
@@ -63,8 +63,10 @@ impl Marked {
                 return Ok(answer);
             }
             _ => {
-                let heap = self.heap.as_mut();
-                if heap.and_then(|heap| heap.say(words)).is_none() {
+                let Some(heap) = &mut self.heap else {
+                    return Ok(None);
+                };
+                if heap.say(words).is_none() {
                     return Ok(None);
                 }
             }

@@ -5,8 +5,6 @@
 //!
 //! - `heaps FILE`: heaps that are marked, wholly or within a budget (`heaps.rt` tells what a line of a row says).
 //! - `constraints FILE`: one run of a constraint, and what is marked then (`bench.rt`).
-//! - `random SEED COUNT`: so many heaps of random operations that follow from the seed, beside a plain store that collects
-//!   the same.
 //! - `chain KIND BLOCKS`: a long chain in a layout of so many blocks of each class of cells, 1 to 64, all of whose cells
 //!   are marked. A cell holds the next one by `links`, or by a link and a group in `turns`; and with `tables` each table is
 //!   held by a pair of the next one, or with `leaps` by one at the other end.
@@ -21,15 +19,12 @@ mod chains;
 mod draw;
 mod heaps;
 mod marking;
-mod random;
 mod runs;
-mod twin;
 
 use bench::Bench;
 use chains::{Chain, check_chain};
-use check_heap::{Checks, System, check_lines, check_rows, number, words_of};
+use check_heap::{Checks, System, check_lines, check_rows, number, small_number, words_of};
 use heaps::Marked;
-use random::check_random;
 use runs::{Grouping, Marks, time_runs};
 use std::io;
 use std::process::ExitCode;
@@ -81,11 +76,7 @@ impl<R: System> Checks for Program<'_, R> {
         match *words_of(rt.alloc(), line)? {
             ["heaps", file] => check_rows::<R, Marked>(rt, file),
             ["constraints", file] => check_rows::<R, Bench>(rt, file),
-            ["random", seed, count] => match (number(seed), number(count)) {
-                (Some(seed), Some(count)) => check_random(rt, seed, count),
-                _ => Ok(false),
-            },
-            ["chain", kind, blocks] => match (chain_of(kind), number(blocks)) {
+            ["chain", kind, blocks] => match (chain_of(kind), small_number(blocks)) {
                 (Some(chain), Some(blocks)) if 1 <= blocks && blocks <= 64 => Ok(check_chain(
                     rt.alloc(),
                     chain,

@@ -10,7 +10,7 @@ use tide_groups::Groups;
 use tide_layout::{Layout, Region};
 use tide_roots::{Registers, Strong};
 use tide_solver::{ConstraintSet, Solved, solve};
-use tide_words::{Colour, GreyList, VecWords, Words, colour, is_live, is_marked, phase_word};
+use tide_words::{Colour, GreyList, VecWords, Words, colour, is_marked, phase_word};
 
 /// The cycle that marks.
 const CYCLE: u64 = 1;
@@ -86,22 +86,6 @@ impl Marking {
         let mut cells = Vec::new(alloc);
         for cell in 0..self.cells() {
             if self.colour(cell) == colour {
-                cells.push(cell)?;
-            }
-        }
-        Ok(cells)
-    }
-
-    /// Whether a cell is live, and one of the layout.
-    fn is_live(&mut self, cell: u32) -> bool {
-        cell < self.layout.cells() && is_live(&mut self.words, &self.layout, cell)
-    }
-
-    /// The live cells, in rising order.
-    pub fn live_cells(&mut self, alloc: Global) -> Result<Vec<u32>, AllocError> {
-        let mut cells = Vec::new(alloc);
-        for cell in 0..self.cells() {
-            if self.is_live(cell) {
                 cells.push(cell)?;
             }
         }

@@ -7,6 +7,7 @@
 //! - `shapes FILE`: the shapes of declared paths (`shapes.rt`).
 #![tactic(auto)]
 
+mod caller;
 mod op;
 mod shapes;
 mod trial;

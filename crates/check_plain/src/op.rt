@@ -1,16 +1,16 @@
 //! The text of an operation: that of a workload, with `k` and its number for a property key.
 
-use check_heap::{number, number_behind};
+use check_heap::{behind, number, short_number, small_number};
 use tide_model::Op;
 
 /// The register that a word `rN` names.
 fn register(word: &str) -> Option<u8> {
-    number_behind('r', word)
+    small_number(behind("r", word)?)
 }
 
 /// The number of the property key that a word `kN` names.
 fn key(word: &str) -> Option<u32> {
-    number_behind('k', word)
+    number(behind("k", word)?)
 }
 
 /// An operation on slots, properties or groups.
@@ -19,11 +19,11 @@ fn op_on_cell(words: &[&str]) -> Option<Op> {
         ["get", dst, src, slot] => Op::Get {
             dst: register(dst)?,
             src: register(src)?,
-            slot: number(slot)?,
+            slot: small_number(slot)?,
         },
         ["put", src, slot, val] => Op::Put {
             src: register(src)?,
-            slot: number(slot)?,
+            slot: small_number(slot)?,
             val: register(val)?,
         },
         ["add", src, name, val] => Op::Add {
@@ -54,20 +54,20 @@ fn op_on_cell(words: &[&str]) -> Option<Op> {
 fn op_on_handle_or_pair(words: &[&str]) -> Option<Op> {
     let op = match words {
         ["strong", at, val] => Op::StrongSet {
-            at: number(at)?,
+            at: short_number(at)?,
             val: register(val)?,
         },
         ["sget", dst, at] => Op::StrongGet {
             dst: register(dst)?,
-            at: number(at)?,
+            at: short_number(at)?,
         },
         ["weak", at, val] => Op::WeakSet {
-            at: number(at)?,
+            at: short_number(at)?,
             val: register(val)?,
         },
         ["wget", dst, at] => Op::WeakGet {
             dst: register(dst)?,
-            at: number(at)?,
+            at: short_number(at)?,
         },
         ["pair", src, name, val] => Op::PairSet {
             src: register(src)?,
@@ -93,7 +93,7 @@ fn op_on_register(words: &[&str]) -> Option<Op> {
     let op = match words {
         ["alloc", dst, class] => Op::Alloc {
             dst: register(dst)?,
-            class: number(class)?,
+            class: small_number(class)?,
         },
         ["table", dst] => Op::Table {
             dst: register(dst)?,

@@ -6,7 +6,10 @@
 //! `capacity COUNT` is answered with the capacity of the array that so many properties take.
 ghost use Rattle.std.specs.Prelude.{◌≡◌, ◌<◌, length, IfSome};
 
-use check_heap::{Answers, System, number, number_or_none, numbers, numbers_text, text};
+use check_heap::{
+    Answers, System, number, number_between, number_or_none, number_text, numbers, numbers_text,
+    text,
+};
 use std::alloc::{AllocError, Global};
 use std::io;
 use tide_shape::{Paths, ShapeTable, Shapes, ShapesRefused, capacity};
@@ -104,7 +107,7 @@ fn told(alloc: Global, shapes: &Shapes, words: &[&str]) -> Result<Option<String>
 /// The text of the capacity of so many properties, 64 at most.
 fn capacity_text(alloc: Global, count: Option<u32>) -> Result<Option<String>, AllocError> {
     match count {
-        Some(count) if count <= 64 => Ok(Some(format!(in alloc; "{}", capacity(count))?)),
+        Some(count) if count <= 64 => Ok(Some(number_text(alloc, u64::from(capacity(count)))?)),
         _ => Ok(None),
     }
 }
@@ -117,7 +120,12 @@ impl Declared {
                 self.shapes = Some(shapes);
                 text(alloc, "made")
             }
-            Err(ShapesRefused::DoubleKey { path }) => format!(in alloc; "double key in {path}"),
+            Err(ShapesRefused::DoubleKey { path }) => number_between(
+                alloc,
+                "double key in ",
+                path as u64,
+                "",
+            ),
             Err(ShapesRefused::Memory) => Err(AllocError),
         }
     }

@@ -7,10 +7,11 @@
 //! - `collect` is answered with the cells that a collection frees;
 //! - `free CLASS`, `claims MUTATOR`, `live`, `taken` and `swept BLOCK` with what the store tells.
 
+use crate::caller::Caller;
 use crate::op::op_of;
 use check_heap::{
-    Answers, Caller, System, layout_of, number, number_behind, number_or_none, numbers,
-    numbers_text, reply_text, text,
+    Answers, System, behind, layout_of, number, number_or_none, number_text, numbers, numbers_text,
+    reply_text, small_number, text,
 };
 use std::alloc::{AllocError, Global};
 use std::io;
@@ -23,29 +24,34 @@ pub struct Trial {
     store: Option<Caller>,
 }
 
-/// The text of a yes or a no.
-fn yes_or_no(alloc: Global, is_so: bool) -> Result<String, AllocError> {
-    text(alloc, if is_so { "yes" } else { "no" })
+/// A number that the store tells of itself.
+fn count(store: &Caller, words: &[&str]) -> Option<u32> {
+    match words {
+        ["live"] => Some(store.live()),
+        ["free", class] => store.free(small_number(class)?),
+        ["claims", who] => store.claims(number(who)?),
+        _ => None,
+    }
+}
+
+/// Whether the last collection swept something of a block.
+fn swept(store: &Caller, block: &str) -> Option<bool> {
+    store.swept(small_number(block)?)
 }
 
 /// What the store tells of itself, where the words ask for it.
 fn told(alloc: Global, store: &Caller, words: &[&str]) -> Result<Option<String>, AllocError> {
-    let told = match words {
-        ["live"] => Some(store.live()),
-        ["free", class] => number(class).and_then(|class| store.free(class)),
-        ["claims", who] => number(who).and_then(|who| store.claims(who)),
-        ["taken"] => return Ok(Some(number_or_none(alloc, store.taken())?)),
-        ["swept", block] => {
-            return match number(block).and_then(|block| store.swept(block)) {
-                Some(swept) => Ok(Some(yes_or_no(alloc, swept)?)),
-                None => Ok(None),
-            };
-        }
-        _ => None,
-    };
-    match told {
-        Some(count) => Ok(Some(format!(in alloc; "{count}")?)),
-        None => Ok(None),
+    match words {
+        ["taken"] => Ok(Some(number_or_none(alloc, store.taken())?)),
+        ["swept", block] => match swept(store, block) {
+            Some(true) => Ok(Some(text(alloc, "yes")?)),
+            Some(false) => Ok(Some(text(alloc, "no")?)),
+            None => Ok(None),
+        },
+        _ => match count(store, words) {
+            Some(count) => Ok(Some(number_text(alloc, u64::from(count))?)),
+            None => Ok(None),
+        },
     }
 }
 
@@ -66,6 +72,11 @@ fn call(
     }
 }
 
+/// The mutator that a word `mM` names.
+fn mutator_of(word: &str) -> Option<u32> {
+    number(behind("m", word)?)
+}
+
 /// Does what the words say to a store.
 fn ask(alloc: Global, store: &mut Caller, words: &[&str]) -> Result<Option<String>, AllocError> {
     match words {
@@ -73,7 +84,7 @@ fn ask(alloc: Global, store: &mut Caller, words: &[&str]) -> Result<Option<Strin
             let freed = store.collect(alloc)?;
             Ok(Some(numbers_text(alloc, freed.as_slice())?))
         }
-        [mutator, op @ ..] => match number_behind('m', mutator) {
+        [mutator, op @ ..] => match mutator_of(mutator) {
             Some(who) => call(alloc, store, who, op),
             None => told(alloc, store, words),
         },

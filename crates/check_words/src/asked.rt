@@ -8,7 +8,7 @@ ghost use Rattle.std.specs.Prelude.{◌≡◌};
 use crate::forms::told_of_forms;
 use crate::labelled::told_of_label;
 use crate::places::told_of_places;
-use check_heap::{Answers, System, layout_of, number, number_or_none, text};
+use check_heap::{Answers, System, layout_of, number, number_or_none, number_text, text};
 use std::alloc::{AllocError, Global};
 use std::io;
 use tide_layout::Layout;
@@ -52,8 +52,15 @@ impl Eight {
                 _ => return Ok(None),
             },
             ["pop"] => number_or_none(alloc, self.pop())?,
-            ["len"] => format!(in alloc; "{}", self.list.len())?,
-            ["is_empty"] => format!(in alloc; "{}", self.list.is_empty())?,
+            ["len"] => number_text(alloc, self.list.len() as u64)?,
+            ["is_empty"] => text(
+                alloc,
+                if self.list.is_empty() {
+                    "true"
+                } else {
+                    "false"
+                },
+            )?,
             _ => return Ok(None),
         };
         Ok(Some(answer))
@@ -77,7 +84,7 @@ impl Asked {
         }
         match &self.layout {
             Some(layout) => match told_of_label(alloc, layout, words) {
-                Some(label) => Ok(Some(format!(in alloc; "{label}")?)),
+                Some(label) => Ok(Some(number_text(alloc, u64::from(label))?)),
                 None => told_of_places(alloc, layout, words),
             },
             None => Ok(None),

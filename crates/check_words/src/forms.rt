@@ -5,12 +5,16 @@
 //! ARRAY`, `array of WORD`, `word of phase CYCLE`, with `marks` behind it where the cycle does, `phase of WORD`, `colour of
 //! WORD in CYCLE`, `lowest WORD`, `after WORD BIT`, `slots CLASS` and `capacity CLASS`.
 
-use check_heap::{number, number_or_none, pair_text, text, value_of, word_of, word_text};
+use check_heap::{
+    joined, large_number, number, number_between, number_or_none, number_text, numbers_text,
+    pair_text, small_number, text, value_of, word_of, word_text,
+};
 use std::alloc::{AllocError, Global};
 use tide_block::{after, array_capacity, lowest, slots};
 use tide_words::{
-    MAX_CELLS, Structure, array_word, claim_word, colour, pair_word, phase_word, structure_word,
-    val_word, word_array, word_claim, word_pair, word_phase, word_structure, word_val,
+    Colour, MAX_CELLS, Structure, array_word, claim_word, colour, pair_word, phase_word,
+    structure_word, val_word, word_array, word_claim, word_pair, word_phase, word_structure,
+    word_val,
 };
 
 /// The word of what is told of a structure.
@@ -62,17 +66,31 @@ fn word_of_form(form: &[&str]) -> Option<u64> {
 /// The structure that a word says.
 fn structure_text(alloc: Global, word: u64) -> Result<String, AllocError> {
     match word_structure(word) {
-        Some(it) if it.nuked => format!(in alloc; "{} {} nuked", it.shape, it.count),
-        Some(it) => format!(in alloc; "{} {}", it.shape, it.count),
+        Some(it) => {
+            let numbers = numbers_text(alloc, &[it.shape, it.count])?;
+            joined(alloc, &[numbers.as_str(), nuked_text(it.nuked)])
+        }
         None => text(alloc, "none"),
     }
 }
 
+/// What stands behind a structure.
+fn nuked_text(nuked: bool) -> &'static str {
+    if nuked { " nuked" } else { "" }
+}
+
 /// The phase that a word says.
 fn phase_text(alloc: Global, word: u64) -> Result<String, AllocError> {
-    match word_phase(word) {
-        (cycle, true) => format!(in alloc; "{cycle} marks"),
-        (cycle, false) => format!(in alloc; "{cycle}"),
+    let (cycle, marks) = word_phase(word);
+    number_between(alloc, "", cycle, if marks { " marks" } else { "" })
+}
+
+/// The name of a colour.
+fn colour_name(colour: Colour) -> &'static str {
+    match colour {
+        Colour::White => "White",
+        Colour::Grey => "Grey",
+        Colour::Black => "Black",
     }
 }
 
@@ -108,14 +126,14 @@ fn told_of_numbers(words: &[&str]) -> Option<Option<u32>> {
             Some(after(word_of(word)?, bit))
         }
         ["slots", class] => {
-            let class = number(class)?;
+            let class = small_number(class)?;
             if class >= 5 {
                 return None;
             }
             Some(Some(u32::from(slots(class))))
         }
         ["capacity", class] => {
-            let class = number(class)?;
+            let class = small_number(class)?;
             if class < 5 || class > 9 {
                 return None;
             }
@@ -129,17 +147,14 @@ fn told_of_numbers(words: &[&str]) -> Option<Option<u32>> {
 pub fn told_of_forms(alloc: Global, words: &[&str]) -> Result<Option<String>, AllocError> {
     match words {
         ["word", "of", form @ ..] => match word_of_form(form) {
-            Some(word) => Ok(Some(format!(in alloc; "{word}")?)),
+            Some(word) => Ok(Some(number_text(alloc, word)?)),
             None => Ok(None),
         },
-        ["colour", "of", word, "in", cycle] => match (number(word), number(cycle)) {
-            (Some(word), Some(cycle)) => {
-                let colour = colour(word, cycle);
-                Ok(Some(format!(in alloc; "{colour:?}")?))
-            }
+        ["colour", "of", word, "in", cycle] => match (large_number(word), large_number(cycle)) {
+            (Some(word), Some(cycle)) => Ok(Some(text(alloc, colour_name(colour(word, cycle)))?)),
             _ => Ok(None),
         },
-        [what, "of", word] => match number(word) {
+        [what, "of", word] => match large_number(word) {
             Some(word) => form_text(alloc, what, word),
             None => Ok(None),
         },

@@ -6,7 +6,8 @@
 //! of CLASS`.
 
 use check_heap::{
-    number, pair_of_numbers, place_of_element, place_of_slot, place_of_word, region_of,
+    number, number_text, numbers_text, pair_of_numbers, place_of_element, place_of_slot,
+    place_of_word, region_of, small_number,
 };
 use std::alloc::{AllocError, Global};
 use tide_block::{
@@ -45,15 +46,15 @@ fn number_of(layout: &Layout, words: &[&str]) -> Option<u32> {
     match words {
         [what] => count_of(layout, what),
         ["blocks", class] => {
-            let class = number(class)?;
+            let class = small_number(class)?;
             if class >= 10 {
                 return None;
             }
             Some(u32::from(layout.blocks(class)))
         }
-        ["first", "of", class] => first(layout, number(class)?),
+        ["first", "of", class] => first(layout, small_number(class)?),
         ["first", "block", "of", class] => {
-            let class = number(class)?;
+            let class = small_number(class)?;
             if class >= 10 {
                 return None;
             }
@@ -85,7 +86,7 @@ fn cell_text(alloc: Global, layout: &Layout, cell: u32) -> Result<Option<String>
     }
     let class = class_of(layout, cell);
     let (block, bit) = (block_of_cell(cell), bit_of(cell));
-    Ok(Some(format!(in alloc; "{class} {block} {bit}")?))
+    Ok(Some(numbers_text(alloc, &[u32::from(class), block, bit])?))
 }
 
 /// Where an array lies: its class and its block.
@@ -95,7 +96,7 @@ fn array_text(alloc: Global, layout: &Layout, array: u32) -> Result<Option<Strin
     }
     let class = class_of_array(layout, array);
     let block = block_of_array(layout, array);
-    Ok(Some(format!(in alloc; "{class} {block}")?))
+    Ok(Some(numbers_text(alloc, &[u32::from(class), block])?))
 }
 
 /// What a layout answers.
@@ -105,14 +106,20 @@ pub fn told_of_places(
     words: &[&str],
 ) -> Result<Option<String>, AllocError> {
     match words {
-        ["cell", cell] => cell_text(alloc, layout, number(cell).unwrap_or(u32::MAX)),
-        ["array", array] => array_text(alloc, layout, number(array).unwrap_or(u32::MAX)),
+        ["cell", cell] => match number(cell) {
+            Some(cell) => cell_text(alloc, layout, cell),
+            None => Ok(None),
+        },
+        ["array", array] => match number(array) {
+            Some(array) => array_text(alloc, layout, array),
+            None => Ok(None),
+        },
         ["place", "of", what, at] => match place_of(layout, what, at) {
-            Some(place) => Ok(Some(format!(in alloc; "{place}")?)),
+            Some(place) => Ok(Some(number_text(alloc, place as u64)?)),
             None => Ok(None),
         },
         _ => match number_of(layout, words) {
-            Some(number) => Ok(Some(format!(in alloc; "{number}")?)),
+            Some(number) => Ok(Some(number_text(alloc, u64::from(number))?)),
             None => Ok(None),
         },
     }

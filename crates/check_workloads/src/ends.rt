@@ -11,7 +11,7 @@
 //! - what `real.rt` answers.
 
 use crate::real::on_real_end;
-use check_heap::{Answers, System, number, text};
+use check_heap::{Answers, System, joined, large_number, number_between, number_text, text};
 use std::alloc::{AllocError, Global};
 use std::io;
 use tide_io::{MemSink, MemSource, ReadError, Sink, Source, read_up_to, write_all};
@@ -32,11 +32,19 @@ pub fn text_of(alloc: Global, bytes: &[u8]) -> Result<String, AllocError> {
 fn numbers(alloc: Global, words: &[&str]) -> Result<Vec<u64>, AllocError> {
     let mut all = Vec::new(alloc);
     for word in words {
-        if let Some(one) = number(word) {
+        if let Some(one) = large_number(word) {
             all.push(one)?;
         }
     }
     Ok(all)
+}
+
+/// The size that a word is, and 0 where it is none.
+fn size_of(word: &str) -> usize {
+    match large_number(word) {
+        Some(size) => size as usize,
+        None => 0,
+    }
 }
 
 /// One read, into a buffer of so many bytes.
@@ -47,8 +55,9 @@ fn read(alloc: Global, source: &mut MemSource, size: usize) -> Result<String, Al
     }
     match source.read(buf.as_mut_slice()) {
         Ok(count) => {
+            let count = number_between(alloc, "", count as u64, " ")?;
             let bytes = text_of(alloc, buf.as_slice())?;
-            format!(in alloc; "{count} {bytes}")
+            joined(alloc, &[count.as_str(), bytes.as_str()])
         }
         Err(_) => text(alloc, "failed"),
     }
@@ -74,12 +83,12 @@ fn on_source(
     words: &[&str],
 ) -> Result<Option<String>, AllocError> {
     let answer = match words {
-        ["read", size] => read(alloc, source, number(size).unwrap_or(0))?,
+        ["read", size] => read(alloc, source, size_of(size))?,
         [what, "up", "to", limit] => {
-            match read_all(alloc, source, number(limit).unwrap_or(0))? {
+            match read_all(alloc, source, size_of(limit))? {
                 None => text(alloc, "failed")?,
                 Some(bytes) if *what == "read" => text_of(alloc, bytes.as_slice())?,
-                Some(bytes) => format!(in alloc; "{}", bytes.len())?,
+                Some(bytes) => number_text(alloc, bytes.len() as u64)?,
             }
         }
         _ => return Ok(None),
@@ -93,7 +102,7 @@ pub fn write<K: Sink>(alloc: Global, sink: &mut K, piece: &str) -> Result<String
         return text(alloc, "");
     }
     match sink.write(piece.as_bytes()) {
-        Ok(count) => format!(in alloc; "{count}"),
+        Ok(count) => number_text(alloc, count as u64),
         Err(_) => text(alloc, "failed"),
     }
 }
@@ -126,7 +135,7 @@ fn on_sink(
 fn source_of(alloc: Global, words: &[&str]) -> Result<Option<MemSource>, AllocError> {
     let (bytes, step, fails) = match words {
         ["of", count, "x", step] => {
-            let bytes = vec![in alloc; b'x'; number(count).unwrap_or(0)]?;
+            let bytes = vec![in alloc; b'x'; size_of(count)]?;
             (bytes, step, Vec::new(alloc))
         }
         [bytes, step, fails @ ..] => (
@@ -136,10 +145,11 @@ fn source_of(alloc: Global, words: &[&str]) -> Result<Option<MemSource>, AllocEr
         ),
         _ => return Ok(None),
     };
-    match number(step) {
-        Some(step) if 1 <= step => Ok(Some(MemSource::new(bytes, step, fails))),
-        _ => Ok(None),
+    let step = size_of(step);
+    if step == 0 {
+        return Ok(None);
     }
+    Ok(Some(MemSource::new(bytes, step, fails)))
 }
 
 /// The sink that words make.
@@ -148,12 +158,13 @@ fn sink_of(alloc: Global, words: &[&str]) -> Result<Option<MemSink>, AllocError>
         return Ok(None);
     };
     let fails = numbers(alloc, fails)?;
-    match (number(room), number(step)) {
-        (Some(room), Some(step)) if 1 <= step => match MemSink::new(alloc, room, step, fails) {
-            Ok(sink) => Ok(Some(sink)),
-            Err(_) => Err(AllocError),
-        },
-        _ => Ok(None),
+    let step = size_of(step);
+    if step == 0 {
+        return Ok(None);
+    }
+    match MemSink::new(alloc, size_of(room), step, fails) {
+        Ok(sink) => Ok(Some(sink)),
+        Err(_) => Err(AllocError),
     }
 }
 

@@ -5,7 +5,7 @@
 //! fails, a writer that can't be flushed, and one without room.
 
 use crate::ends::{text_of, write};
-use check_heap::text;
+use check_heap::{number_text, text};
 use std::alloc::{AllocError, Global};
 use std::io;
 use std::io::{Read, Write};
@@ -57,7 +57,7 @@ fn write_real(alloc: Global, first: &str, second: &str) -> Result<String, AllocE
 /// What is read from a reader that fails.
 fn read_broken(alloc: Global) -> Result<String, AllocError> {
     match RealSource::new(Broken).read(&mut [0; 4]) {
-        Ok(count) => format!(in alloc; "{count}"),
+        Ok(count) => number_text(alloc, count as u64),
         Err(_) => text(alloc, "failed"),
     }
 }

@@ -10,12 +10,12 @@
 //!   line on the error output, and `, cut off` where it has no end; `left` with how many bytes weren't read, or `all`;
 //! - `plain` and `in threads` run the workload by `plain` and by `run`, and are answered with its calls and what lives then.
 
-use crate::checks::file_of;
 use crate::ending::Ending;
 use crate::machine::Machine;
 use crate::outcomes::{in_threads, in_turn};
-use crate::wanted::Wanted;
-use check_heap::{number, parts_of, tell_answer, text, words_of};
+use check_heap::{
+    joined, large_number, number_between, number_text, parts_of, tell_answer, text, words_of,
+};
 use std::alloc::{AllocError, Global};
 use std::{fs, io};
 use tide_io::{MemSink, MemSource, read_up_to};
@@ -50,7 +50,7 @@ pub struct Trial {
 fn numbers(alloc: Global, words: &[&str]) -> Result<Option<Vec<u64>>, AllocError> {
     let mut all = Vec::new(alloc);
     for word in words {
-        match number(word) {
+        match large_number(word) {
             Some(one) => all.push(one)?,
             None => return Ok(None),
         }
@@ -74,8 +74,8 @@ impl Trial {
         let alloc = rt.alloc();
         match words {
             ["workload", name] => {
-                self.document = fs::read(rt, file_of(alloc, name, "toml")?)?;
-                self.printed = fs::read(rt, file_of(alloc, name, "txt")?)?;
+                self.document = fs::read(rt, joined(alloc, &["workloads/", name, ".toml"])?)?;
+                self.printed = fs::read(rt, joined(alloc, &["workloads/", name, ".txt"])?)?;
             }
             ["document", line @ ..] => {
                 for word in line {
@@ -102,8 +102,8 @@ impl Trial {
                     _ => return Ok(None),
                 }
             }
-            ["room", room] => match number(room) {
-                Some(room) => self.room = room,
+            ["room", room] => match large_number(room) {
+                Some(room) => self.room = room as usize,
                 None => return Ok(None),
             },
             ["words", words @ ..] => self.words = command_line(alloc, words)?,
@@ -121,7 +121,10 @@ impl Trial {
         let out = sink(alloc, room, self.faults.prints.as_slice())?;
         let err = sink(alloc, TOLD, self.faults.tells.as_slice())?;
         let ended = Ending::over(rt, self.words.as_slice(), &mut source, out, err);
-        let left = read_up_to(alloc, &mut source, MAX_BYTES).map_or(0, |rest| rest.len());
+        let left = match read_up_to(alloc, &mut source, MAX_BYTES) {
+            Ok(rest) => rest.len(),
+            Err(_) => 0,
+        };
         Ok((ended, left))
     }
 
@@ -139,13 +142,8 @@ impl Trial {
     fn run_short_of_room<R: Machine>(&self, rt: &R) -> Result<String, AllocError> {
         for room in 0..self.printed.len() {
             let (ended, _) = self.run(rt, room)?;
-            let wanted = Wanted {
-                status: 5,
-                line: "riptide: write fault",
-                out: Some(&self.printed[..room]),
-            };
-            if !ended.is(wanted) {
-                return format!(in rt.alloc(); "otherwise at {room}");
+            if !ended.is_write_fault(&self.printed[..room]) {
+                return number_between(rt.alloc(), "otherwise at ", room as u64, "");
             }
         }
         text(rt.alloc(), "write faults")
@@ -192,7 +190,7 @@ impl Trial {
             )?)),
             (["told"], Some(ended)) => Ok(Some(ended.told_text(alloc)?)),
             (["left"], _) if self.left == self.document.len() => Ok(Some(text(alloc, "all")?)),
-            (["left"], _) => Ok(Some(format!(in alloc; "{}", self.left)?)),
+            (["left"], _) => Ok(Some(number_text(alloc, self.left as u64)?)),
             _ => Ok(None),
         }
     }
@@ -200,7 +198,7 @@ impl Trial {
 
 /// Does the lines of a row, up to the first that is answered otherwise than expected.
 fn is_row_so<R: Machine>(rt: &R, row: &str) -> io::Result<bool> {
-    let (name, lines) = row.split_once('\n').unwrap_or((row, ""));
+    let (name, lines) = row.split_once("\n").unwrap_or((row, ""));
     let mut trial = Trial::begin(rt.alloc())?;
     for line in lines.lines() {
         let words = words_of(rt.alloc(), parts_of(line).0)?;

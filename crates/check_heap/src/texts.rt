@@ -1,0 +1,63 @@
+//! Texts that are put together, and the one place where they are printed. A check program uses these alone: each kind
+//! of formatting or parsing that a crate uses for the first time is costly to prove there.
+
+use crate::System;
+use std::alloc::{AllocError, Global};
+use std::io;
+
+/// A text of its own.
+pub fn text(alloc: Global, text: &str) -> Result<String, AllocError> {
+    String::from_str(alloc, text)
+}
+
+/// Texts one behind the other.
+pub fn joined(alloc: Global, parts: &[&str]) -> Result<String, AllocError> {
+    let mut all = String::new(alloc);
+    for part in parts {
+        all.push_str(part)?;
+    }
+    Ok(all)
+}
+
+/// A number with a text before it and one behind it.
+pub fn number_between(
+    alloc: Global,
+    before: &str,
+    number: u64,
+    behind: &str,
+) -> Result<String, AllocError> {
+    format!(in alloc; "{before}{number}{behind}")
+}
+
+/// A number.
+pub fn number_text(alloc: Global, number: u64) -> Result<String, AllocError> {
+    number_between(alloc, "", number, "")
+}
+
+/// Some numbers with spaces between, and `none` where there are none.
+pub fn numbers_text(alloc: Global, numbers: &[u32]) -> Result<String, AllocError> {
+    let mut all = String::new(alloc);
+    for number in numbers {
+        let space = if all.as_str().is_empty() { "" } else { " " };
+        let one = number_between(alloc, space, u64::from(*number), "")?;
+        all.push_str(one.as_str())?;
+    }
+    if all.as_str().is_empty() {
+        all.push_str("none")?;
+    }
+    Ok(all)
+}
+
+/// The number, and `none` where there is none.
+pub fn number_or_none(alloc: Global, number: Option<u32>) -> Result<String, AllocError> {
+    match number {
+        Some(number) => number_text(alloc, u64::from(number)),
+        None => text(alloc, "none"),
+    }
+}
+
+/// Prints a line of these texts.
+pub fn tell<R: System>(rt: &R, parts: &[&str]) -> io::Result<()> {
+    let line = joined(rt.alloc(), parts)?;
+    println!(rt; "{line}")
+}
