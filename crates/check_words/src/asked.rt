@@ -8,6 +8,7 @@ ghost use Rattle.std.specs.Prelude.{◌≡◌};
 use crate::forms::told_of_forms;
 use crate::labelled::told_of_label;
 use crate::places::told_of_places;
+use crate::schedule::told_of_schedule;
 use check_heap::{Answers, System, layout_of, number, number_or_none, number_text, text};
 use std::alloc::{AllocError, Global};
 use std::io;
@@ -106,7 +107,10 @@ impl<R: System> Answers<R> for Asked {
             ["list"] => self.list = Some(Eight::new(alloc)?),
             ["layout", layout @ ..] => self.layout = layout_of(layout),
             _ => {
-                return match told_of_forms(alloc, words)? {
+                if let Some(answer) = told_of_forms(alloc, words)? {
+                    return Ok(Some(answer));
+                }
+                return match told_of_schedule(alloc, words)? {
                     Some(answer) => Ok(Some(answer)),
                     None => Ok(self.told(alloc, words)?),
                 };

@@ -1,14 +1,16 @@
-//! The program `check_words`: asks for the words of values, the places of a layout, classes, blocks and bits, and compares
-//! what comes with what is expected.
+//! The program `check_words`: asks for the words of values, the places of a layout, classes, blocks and bits, and how a
+//! period is parted, and compares what comes with what is expected.
 //!
 //! Each line of its input is the name of a file in the folder that it is run in, whose rows are done one by one. What the
-//! lines of a row ask stands in `forms.rt`, `places.rt`, `labelled.rt` and `asked.rt`.
+//! lines of a row ask stands in `forms.rt`, `places.rt`, `labelled.rt`, `schedule.rt` and
+//! `asked.rt`.
 #![tactic(auto)]
 
 mod asked;
 mod forms;
 mod labelled;
 mod places;
+mod schedule;
 
 use asked::Asked;
 use check_heap::{Checks, System, check_lines, check_rows};

@@ -21,7 +21,7 @@ abbrev pub is_over : Layout → List Event → Bool
 is_over layout history = not (any_below (λ who. (state_after layout history).active who) layout.mutators)
 
 -- The freeze after a part is a must: some mutator's last call in the part ended its share, or no mutator is active.
--- `before` is the history before the part.
+-- `before` is the history before the part's first call, so with its Open or without: an Open is no call.
 abbrev pub is_must : Layout → List Event → List Event → Bool
 is_must layout before part =
     any_below (λ who. has_ended (retry_of who before) (calls_of who part)) layout.mutators || is_over layout (before ++ part)

@@ -11,15 +11,17 @@ use Rattle.tide_model.specs.History.{moment_after_last}
 abbrev pub since : (Entry → Bool) → List Event → List Event
 since test history = drop (moment_after_last (λ event. test event.entry) history) history
 
--- which entry an event is
+-- the entry ends a cycle
 abbrev pub is_end : Entry → Bool
 is_end (End cycle freed) = true
 is_end _ = false
 
+-- the entry sweeps a block
 abbrev pub is_sweep : Entry → Bool
 is_sweep (Sweep block) = true
 is_sweep _ = false
 
+-- the entry is a mutator's call
 abbrev pub is_call : Entry → Bool
 is_call (Call who op reply) = true
 is_call _ = false

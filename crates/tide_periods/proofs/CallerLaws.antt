@@ -25,7 +25,8 @@ use Rattle.tide_model.proofs.Cycles.{take-all}
 use Rattle.tide_periods.specs.Asking.{IsAskable, IsAt, IsMutatorAt, Standing, WasDone, claims_after, after_reply, next_of, op_or_leave, IsAskedBy, of_script, asks_unclaim, asks_retire}
 use Rattle.tide_periods.specs.Store.{Setting}
 use Rattle.tide_periods.specs.Recorded.{IsAtRest, MadeCall, MayAsk, Recorded}
-use Rattle.tide_model.proofs.CallLaws.{active_after-call, unclaim_is_done, retire_is_done, length_without_first, nothing_of_no_length}
+use Rattle.tide_model.proofs.ActiveLaws.{active_after-call}
+use Rattle.tide_model.proofs.CallLaws.{unclaim_is_done, retire_is_done, length_without_first, nothing_of_no_length}
 
 -- the event of a call
 abbrev pub called : ℕ → Op → Reply → Option ℕ → Event

@@ -4,6 +4,7 @@ pub mod CycleLaws
 pub mod Freezing
 pub mod LeftLaws
 pub mod Parting
+pub mod PartLoops
 pub mod RecordedLaws
 pub mod Running
 pub mod Sharing

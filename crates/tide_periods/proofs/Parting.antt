@@ -26,10 +26,11 @@ use Rattle.tide_model.proofs.Histories.{calls_of-append, state_after-append, tak
 use Rattle.tide_periods.specs.declared.caller.Caller.{Caller}
 use Rattle.tide_periods.specs.Told.{pair_of}
 use Rattle.tide_periods.specs.Asking.{IsAskable, IsAt, IsCaller, IsMutatorAt, Standing, claims_after, standing_of}
-use Rattle.tide_periods.specs.Part.{AreCallers, IsPartway, RanShare}
+use Rattle.tide_periods.proofs.PartLoops.{IsPartway}
+use Rattle.tide_periods.specs.Part.{AreCallers, RanShare}
 use Rattle.tide_periods.specs.Store.{Setting}
 use Rattle.tide_periods.specs.Recorded.{IsAtRest, Recorded}
-use Rattle.tide_model.proofs.CallLaws.{active_after-call}
+use Rattle.tide_model.proofs.ActiveLaws.{active_after-call}
 use Rattle.tide_periods.proofs.LeftLaws.{claims_after-others}
 use Rattle.tide_periods.proofs.Sharing.{retry_of-events}
 

@@ -15,7 +15,8 @@ use Rattle.tide_model.proofs.PeriodLaws.{has_ended-push}
 use Rattle.tide_periods.specs.declared.caller.Caller.{Caller}
 use Rattle.tide_periods.specs.Told.{pair_of}
 use Rattle.tide_periods.specs.Asking.{IsCaller, IsMutatorAt, Standing, TookReply, after_reply, next_of, op_or_leave, standing_of}
-use Rattle.tide_periods.specs.Part.{IsSharing, RanShare}
+use Rattle.tide_periods.proofs.PartLoops.{IsSharing}
+use Rattle.tide_periods.specs.Part.{RanShare}
 use Rattle.tide_periods.specs.Recorded.{IsAtRest, MadeCall, Recorded}
 use Rattle.tide_model.proofs.PeriodLaws.{Each-nil}
 use Rattle.tide_periods.proofs.CallerLaws.{IsMutatorAt-called, called, calls_of-push, retry_after-flag, is_some-flag}

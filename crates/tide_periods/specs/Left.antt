@@ -9,6 +9,7 @@ use Rattle.tide_periods.specs.Recorded.{Recorded}
 abbrev pub left_by : Bool → Bool → Bool → ℕ → ℕ → ℕ
 left_by retired within retry more claims = if retired then 0 else (if within then (2 * more - (if retry then 1 else 0)) + 9 else claims + 1)
 
+-- the same, by how far a mutator is in its operations
 abbrev pub left_at : List Op → Standing → ℕ → ℕ
 left_at ops standing claims = left_by standing.retired (nat_lt standing.done (length ops)) standing.retry (length ops - standing.done) claims
 
@@ -16,9 +17,11 @@ left_at ops standing claims = left_by standing.retired (nat_lt standing.done (le
 abbrev pub left_of : (ℕ → List ℕ) → Caller → ℕ
 left_of claims caller = left_at caller.ops.items (standing_of caller) (length (claims caller.who))
 
+-- all callers' together
 abbrev pub total_by : (ℕ → List ℕ) → List Caller → ℕ
 total_by claims [] = 0
 total_by claims (caller ∷ callers) = left_of claims caller + total_by claims callers
 
+-- all callers' together, after what was recorded
 abbrev pub total_left : Recorded → List Caller → ℕ
 total_left recorded callers = total_by recorded.state.claims callers

@@ -28,7 +28,7 @@ pub record AreCallers (recorded : Recorded) (callers : List Caller) : Type 0 whe
   pub one_each : length callers ≡ recorded.setting.layout.mutators
   pub each : (who : ℕ) (caller : Caller) → slice_get callers who ≡ Some caller → (caller.who ≡ who) × IsCaller recorded caller
 
--- each mutator made its calls of a part, one after another
+-- each mutator made its share of the calls of a part
 pub record RanPart (old new : Recorded) (run : ℕ) (ended : Bool) : Type 0 where
   pub at_rest : IsAtRest new
   pub same : new.setting ≡ old.setting
@@ -39,28 +39,3 @@ pub record RanPart (old new : Recorded) (run : ℕ) (ended : Bool) : Type 0 wher
   pub shares : (who : ℕ) → who < old.setting.layout.mutators →
       IsShare run (retry_of who old.history) ((state_after new.setting.layout new.history).active who) (calls_of who part)
   pub stops : ended ≡ any_below (λ who. has_ended (retry_of who old.history) (calls_of who part)) old.setting.layout.mutators
-
--- the calls that a mutator made so far in a part, the last of which ended its share or not
-pub record IsSharing (old now : Recorded) (run who made : ℕ) (ended : Bool) : Type 0 where
-  pub at_rest : IsAtRest now
-  pub same : now.setting ≡ old.setting
-  pub counts : HasSameCounts old now
-  pub events : List Event
-  pub history : now.history ≡ old.history ++ events
-  pub own : AllPass (λ event. is_call_of who event.entry) events
-  pub each : Each (MayCall run (retry_of who old.history)) (calls_of who events)
-  pub count : length (calls_of who events) ≡ made
-  pub stops : has_ended (retry_of who old.history) (calls_of who events) ≡ ended
-
--- the first mutators made their calls of a part, one after another, and the others none
-pub record IsPartway (old now : Recorded) (run count : ℕ) (ended : Bool) : Type 0 where
-  pub at_rest : IsAtRest now
-  pub same : now.setting ≡ old.setting
-  pub counts : HasSameCounts old now
-  pub part : List Event
-  pub history : now.history ≡ old.history ++ part
-  pub calls : AllPass (λ event. is_call event.entry) part
-  pub shares : (who : ℕ) → who < count →
-      IsShare run (retry_of who old.history) ((state_after now.setting.layout now.history).active who) (calls_of who part)
-  pub none : (who : ℕ) → count ≤ who → calls_of who part ≡ []
-  pub stops : ended ≡ any_below (λ who. has_ended (retry_of who old.history) (calls_of who part)) count

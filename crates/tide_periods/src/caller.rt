@@ -1,5 +1,5 @@
 //! What one mutator asks for, by its own calls alone. It knows no store.
-ghost use Rattle.std.specs.Prelude.{◌≡◌, ◌≤◌, ◌<◌, ◌+◌, ℕ, true, false, length, ◌||◌, ◌&&◌, not, map, IfOk};
+ghost use Rattle.std.specs.Prelude.{◌≡◌, ◌≤◌, ◌<◌, ◌+◌, false, length, ◌||◌, ◌&&◌, not, map, IfOk};
 ghost use Rattle.tide_model.specs.Script.{is_full_reply};
 ghost use Rattle.tide_model.specs.Script.{is_retire};
 ghost use Rattle.tide_model.specs.Share.{is_asked};

@@ -16,6 +16,6 @@ mod store;
 mod told;
 
 pub use periods::Pacing;
-pub use run::{Ran, run_on};
+pub use run::{Finished, run_on};
 pub use store::Store;
 pub use told::{Answered, Told};

@@ -1,5 +1,5 @@
 //! Periods: a part is opened and run, a freeze follows, until each mutator has retired.
-ghost use Rattle.std.specs.Prelude.{◌≡◌, ◌+◌, ◌-◌, ◌<◌, ◌≤◌, ◌^◌, false, [], length, sum_by, IfOk, OnOk};
+ghost use Rattle.std.specs.Prelude.{◌≡◌, ◌-◌, ◌<◌, ◌^◌, false, [], length, OnOk};
 ghost use Rattle.std.specs.List.{list_all};
 ghost use Rattle.tide_model.specs.Periods.{is_over};
 ghost use Rattle.tide_periods.specs.Asking.{scripts_of};

@@ -17,7 +17,7 @@ use tide_model::{Memory, Op};
 
 /// What a run leaves.
 #[derive(Debug, Drop)]
-pub struct Ran {
+pub struct Finished {
     /// Each event in order.
     pub told: Vec<Told>,
     /// Each mutator's calls, in the order of the mutators.
@@ -27,7 +27,7 @@ pub struct Ran {
 }
 
 /// Each caller's calls.
-fn calls_of(alloc: Global, callers: Vec<Caller>) -> Result<Vec<Vec<Answered>>, Memory>
+fn calls_of_each(alloc: Global, callers: Vec<Caller>) -> Result<Vec<Vec<Answered>>, Memory>
     ensures { IfOk result (λ calls.
         map (λ own. own.items) calls.items ≡ map (λ caller. caller.calls.items) callers.items) }
 {
@@ -48,7 +48,7 @@ pub fn run_on<S: Store + Drop>(
     blocks: u32,
     scripts: Vec<Vec<Op>>,
     pacing: Pacing,
-) -> Result<Ran, Memory>
+) -> Result<Finished, Memory>
     requires empty { S.state store ≡ empty_state }
     requires blocks { blocks ≡ blocks_in (S.setting store) }
     requires mutators { length scripts.items ≡ (S.setting store).layout.mutators }
@@ -57,14 +57,14 @@ pub fn run_on<S: Store + Drop>(
     requires short { All (λ ops. length ops ≤ 65536) (map (λ ops. ops.items) scripts.items) }
     requires askable { All (All (IsAskable (S.setting store).layout)) (map (λ ops. ops.items) scripts.items) }
     requires pacing { 0 < pacing.period }
-    ensures { IfOk result (λ ran. HasRun (S.setting store) (pace_of pacing) (map (λ ops. ops.items) scripts.items)
-        ran.told.items (map (λ own. own.items) ran.calls.items) ran.live) }
+    ensures { IfOk result (λ finished. HasRun (S.setting store) (pace_of pacing) (map (λ ops. ops.items) scripts.items)
+        finished.told.items (map (λ own. own.items) finished.calls.items) finished.live) }
 {
     let mut callers = callers_of(alloc, scripts)?;
     let mut recording = Recording::new(alloc, store, blocks);
     run_periods(&mut recording, callers.as_mut_slice(), pacing, alloc)?;
     let live = recording.live();
     let told = recording.into_told();
-    let calls = calls_of(alloc, callers)?;
-    Ok(Ran { told, calls, live })
+    let calls = calls_of_each(alloc, callers)?;
+    Ok(Finished { told, calls, live })
 }

@@ -1,5 +1,5 @@
 //! What a run asks of the store that it stands on.
-ghost use Rattle.std.specs.Prelude.{◌≡◌, ◌↔◌, ℕ, ◌<◌, Bool, Option, List, true, false, [], Some, None, length, slice_index_or, IfOk, OnErr};
+ghost use Rattle.std.specs.Prelude.{◌≡◌, ◌↔◌, ℕ, ◌<◌, Bool, Option, List, true, false, [], length, slice_index_or, IfOk};
 ghost use Rattle.tide_model.specs.Answer.{IsAnswer};
 ghost use Rattle.tide_model.specs.Applied.{after_call};
 ghost use Rattle.tide_model.specs.Cycle.{live_count, HasDead};

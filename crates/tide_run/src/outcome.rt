@@ -3,7 +3,7 @@ ghost use Rattle.std.specs.Prelude.{◌≡◌, ◌<◌, ℕ, All, map};
 
 use std::marker::Model;
 use tide_layout::Layout;
-use tide_periods::{Answered, Ran, Told};
+use tide_periods::{Answered, Finished, Told};
 
 /// Where a run's history was kept.
 #[derive(Debug, Drop)]
@@ -48,12 +48,12 @@ impl Outcome {
     ghost use Rattle.tide_run.specs.Outcome.{ran_of, IsOutcome};
 
     /// The outcome of a run that left this.
-    pub(crate) fn new(layout: Layout, names: Vec<Vec<u8>>, ran: Ran) -> Outcome
+    pub(crate) fn new(layout: Layout, names: Vec<Vec<u8>>, ran: Finished) -> Outcome
         requires { IsOutcome layout (map (λ name. name.items) names.items) (Kept.Own ran.told)
             (map (λ own. own.items) ran.calls.items) ran.live }
         ensures { result ≡ ran_of layout (map (λ name. name.items) names.items) (Kept.Own ran.told) }
     {
-        let Ran { told, calls, live } = ran;
+        let Finished { told, calls, live } = ran;
         Outcome {
             layout,
             names,

@@ -3,7 +3,7 @@ ghost use Rattle.std.specs.Prelude.{◌≡◌, ◌<◌, All, OnOk, OnErr};
 ghost use Rattle.std.specs.List.{flat_map};
 ghost use Rattle.std.specs.Io.KnownBytes.{Appends};
 ghost use Rattle.tide_io.specs.Faults.{AppendsPart, HasCause};
-ghost use Rattle.tide_workload.specs.Words.{HasText, call_lines, cycles_from, mutator_text, mutators_text, text_of};
+ghost use Rattle.tide_workload.specs.Words.{HasText, cycles_from, mutator_text, mutators_text, text_of};
 ghost use Rattle.tide_model.specs.State.{empty_state};
 ghost use Rattle.tide_run.specs.Printing.{answered_line, told_line};
 

@@ -3,7 +3,7 @@ ghost use Rattle.std.specs.Prelude.{◌≤◌, IfOk};
 ghost use Rattle.tide_run.specs.Runs.{IsRunOf};
 
 use crate::outcome::Outcome;
-use crate::starting::{layout_with, names_of, scripts_of, shapes_from};
+use crate::starting::{copied_scripts, layout_with, names_of, shapes_from};
 use std::alloc::Global;
 use std::marker::Sync;
 use std::thread::Threads;
@@ -21,7 +21,7 @@ pub fn plain(alloc: Global, load: &Workload) -> Result<Outcome, Memory>
     let layout = layout_with(settings, load.mutators());
     let names = names_of(alloc, load)?;
     let shapes = shapes_from(alloc, load.paths())?;
-    let scripts = scripts_of(alloc, load)?;
+    let scripts = copied_scripts(alloc, load)?;
     let store = PlainStore::new(alloc, layout, shapes)?;
     let pacing = Pacing {
         period: settings.period,

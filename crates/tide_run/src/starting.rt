@@ -76,7 +76,7 @@ fn copied_ops(alloc: Global, ops: &[Op]) -> Result<Vec<Op>, Memory>
 }
 
 /// A copy of each mutator's operations.
-pub fn scripts_of(alloc: Global, load: &Workload) -> Result<Vec<Vec<Op>>, Memory>
+pub fn copied_scripts(alloc: Global, load: &Workload) -> Result<Vec<Vec<Op>>, Memory>
     ensures copied { IfOk result (λ scripts. map (λ ops. ops.items) scripts.items ≡ load.now.scripts) }
     ensures short { IfOk result (λ scripts. All (λ ops. length ops ≤ MAX_OPS) (map (λ ops. ops.items) scripts.items)) }
     ensures within { IfOk result (λ scripts.

@@ -5,7 +5,8 @@ use Rattle.std.proofs.lemmas.Option.{slice_get-get_or, slice_get_within}
 use Rattle.std.proofs.Math.Seq.{map-set_same}
 use Rattle.std.specs.Prelude.{◌||◌, ◌==◌, Some, slice_get}
 use Rattle.tide_periods.specs.declared.caller.Caller.{Caller}
-use Rattle.tide_periods.specs.Part.{IsPartway, RanShare}
+use Rattle.tide_periods.proofs.PartLoops.{IsPartway}
+use Rattle.tide_periods.specs.Part.{RanShare}
 use Rattle.tide_periods.proofs.Freezing.{one_fails}
 use Rattle.tide_periods.proofs.LeftLaws.{claims_after-share, slice_get-set_other, total_by-share}
 use Rattle.tide_periods.proofs.Parting.{AreCallers-share, IsPartway-share}

@@ -4,7 +4,8 @@ use Rattle.std.specs.Prelude.{Some, slice_get}
 use Rattle.tide_periods.specs.declared.caller.Caller.{Caller}
 use Rattle.tide_periods.specs.Asking.{scripts_of}
 use Rattle.tide_periods.specs.Left.{total_left}
-use Rattle.tide_periods.specs.Part.{AreCallers, IsPartway}
+use Rattle.tide_periods.proofs.PartLoops.{IsPartway}
+use Rattle.tide_periods.specs.Part.{AreCallers}
 use Rattle.tide_periods.proofs.part.run_part.Given as goal
 
 abbrev pub invariant-loop-caller : goal.invariant-loop-caller

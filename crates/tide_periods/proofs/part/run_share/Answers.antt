@@ -3,7 +3,7 @@ use Rattle.std.proofs.Common.{◌∙◌, arith, ap, sym, subst, ◌≡◌, ◌+�
 use Rattle.std.specs.Prelude.{map}
 use Rattle.tide_periods.specs.Told.{pair_of}
 use Rattle.tide_periods.specs.Asking.{next_of, standing_of, IsMutatorAt}
-use Rattle.tide_periods.specs.Part.{IsSharing}
+use Rattle.tide_periods.proofs.PartLoops.{IsSharing}
 use Rattle.tide_periods.specs.Recorded.{MadeCall, MayAsk}
 use Rattle.tide_periods.proofs.CallerLaws.{MayAsk-next}
 use Rattle.tide_periods.proofs.LeftLaws.{left-none, left-some, left-took}

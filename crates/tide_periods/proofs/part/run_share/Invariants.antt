@@ -2,7 +2,7 @@
 use Rattle.std.proofs.Common.{◌≡◌, ◌+◌, ◌≤◌, false}
 use Rattle.tide_periods.specs.Asking.{IsCaller}
 use Rattle.tide_periods.specs.Left.{left_of}
-use Rattle.tide_periods.specs.Part.{IsSharing}
+use Rattle.tide_periods.proofs.PartLoops.{IsSharing}
 use Rattle.tide_periods.proofs.part.run_share.Given as goal
 
 abbrev pub invariant-loop-made : goal.invariant-loop-made

@@ -1,8 +1,8 @@
--- What the loop of starting::scripts_of keeps.
+-- What the loop of starting::copied_scripts keeps.
 use Rattle.std.proofs.Common.{◌≡◌, ◌≤◌, length, map, take}
 use Rattle.std.specs.Prelude.{All}
 use Rattle.tide_workload.specs.Words.{IsOperation, limits_of}
-use Rattle.tide_run.proofs.starting.scripts_of.Given as goal
+use Rattle.tide_run.proofs.starting.copied_scripts.Given as goal
 
 abbrev pub invariant-loop-m : goal.invariant-loop-m
 invariant-loop-m l = record {

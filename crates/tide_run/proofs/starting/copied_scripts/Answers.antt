@@ -1,10 +1,10 @@
--- Answers to the goals of starting::scripts_of.
+-- Answers to the goals of starting::copied_scripts.
 use Rattle.std.proofs.Common.{◌<◌, ◌≤◌, ◌∙◌, ap, arith, length, map, subst, sym, List, Vec, Global, Some}
 use Rattle.std.specs.Prelude.{All}
 use Rattle.tide_model.specs.declared.op.Op.{Op}
 use Rattle.tide_workload.specs.Words.{IsOperation, limits_of}
 use Rattle.tide_run.proofs.Copies.{All-copied, copy_more}
-use Rattle.tide_run.proofs.starting.scripts_of.Goals as goal
+use Rattle.tide_run.proofs.starting.copied_scripts.Goals as goal
 
 pub loop-m-preserved : goal.loop-m-preserved
 loop-m-preserved c =
