@@ -2,4 +2,5 @@
 pub mod Causes
 pub mod Copies
 pub mod Printed
+pub mod Reported
 pub mod RunLaws

@@ -3,22 +3,23 @@ use Rattle.std.proofs.Common.{◌≡◌, ℕ, zero, suc, ◌+◌, ◌<◌, ◌�
 use Rattle.std.proofs.lemmas.Bool.{eqb-true, eqb-false}
 use Rattle.std.proofs.lemmas.List.{take_more}
 use Rattle.std.proofs.lemmas.List.Concat.{flat_map-append}
-use Rattle.std.specs.Prelude.{◌==◌, slice_get, Some}
+use Rattle.std.specs.Prelude.{◌==◌}
 use Rattle.std.specs.List.{flat_map}
 use Rattle.tide_model.specs.declared.entry.Entry.{Entry}
 use Rattle.tide_model.specs.declared.entry.Entry.TheVariants.{Call, Begin, Pause, Visits, End, Sweep, Open}
 use Rattle.tide_model.specs.declared.entry.Event.{Event}
 use Rattle.tide_model.specs.Layout.{Layout}
 use Rattle.tide_model.specs.State.{State, empty_state}
-use Rattle.tide_model.specs.History.{state_after, after_event}
+use Rattle.tide_model.specs.History.{after_event}
 use Rattle.tide_model.specs.Cycle.{live_count}
 use Rattle.tide_model.specs.Script.{calls_of}
-use Rattle.tide_model.proofs.Histories.{state_after-push}
 use Rattle.tide_periods.specs.declared.told.Answered.{Answered}
 use Rattle.tide_periods.specs.declared.told.Told.{Told}
-use Rattle.tide_periods.specs.Told.{events_of, IsCounted, AreCounted, pair_of}
-use Rattle.tide_workload.specs.Words.{end_line, cycles_from, call_lines, mutator_text, mutators_text}
+use Rattle.tide_periods.specs.Told.{events_of, AreCounted, pair_of}
+use Rattle.tide_workload.specs.Words.{cycle_line, end_line, cycles_from, call_lines, mutator_text, mutators_text}
 use Rattle.tide_run.specs.Printing.{answered_line, told_line}
+use Rattle.tide_run.specs.Report.{CycleEnd, entry_end, ends_from, told_end}
+use Rattle.tide_run.proofs.Reported.{ends_told}
 
 -- one line more
 pub one_line_more : {X : Type 0} (line : X → List ℕ) (xs : List X) (i : ℕ) (d : X) → i < length xs →
@@ -32,44 +33,43 @@ one_line_more line xs i d within =
 pub all_lines : {X : Type 0} (line : X → List ℕ) (xs : List X) (n : ℕ) → flat_map line (take n xs) ++ flat_map line (drop n xs) ≡ flat_map line xs
 all_lines line xs n = sym (flat_map-append line (take n xs) (drop n xs)) ∙ ap (flat_map line) (take-append-drop n xs)
 
--- what is told of an event prints what its event prints, after the events before it
-told_prints : (layout : Layout) (before : List Event) (told : Told) → IsCounted layout before told →
-    end_line told.event.entry (live_count layout (after_event layout (state_after layout before) told.event)) ≡ told_line told
-told_prints layout before told counted = step told.event.entry refl
-  where
-    after : ℕ
-    after = live_count layout (after_event layout (state_after layout before) told.event)
+-- the line of a cycle's end
+abbrev line_of : CycleEnd → List ℕ
+line_of ended = cycle_line ended.number ended.kept ended.freed
 
-    Same : Entry → Type 0
-    Same entry = end_line entry after ≡ end_line entry told.kept
+-- an entry prints the line of the end that it is
+entry_prints : (entry : Entry) (kept : ℕ) → end_line entry kept ≡ flat_map line_of (entry_end entry kept)
+entry_prints (Call who op reply) kept = refl
+entry_prints (Begin cycle) kept = refl
+entry_prints (Pause visits) kept = refl
+entry_prints (Visits who visits) kept = refl
+entry_prints (End cycle freed) kept = sym (append-nil (cycle_line cycle kept freed))
+entry_prints (Sweep block) kept = refl
+entry_prints (Open number run) kept = refl
 
-    step : (entry : Entry) → told.event.entry ≡ entry → end_line told.event.entry after ≡ end_line told.event.entry told.kept
-    step (Call who op reply) is = subst Same (sym is) refl
-    step (Begin cycle) is = subst Same (sym is) refl
-    step (Pause visits) is = subst Same (sym is) refl
-    step (Visits who visits) is = subst Same (sym is) refl
-    step (End cycle freed) is = ap (end_line told.event.entry) (ap (live_count layout) (sym (state_after-push layout before told.event)) ∙ sym (counted cycle freed is))
-    step (Sweep block) is = subst Same (sym is) refl
-    step (Open number run) is = subst Same (sym is) refl
+-- the lines of cycles are those of their ends
+cycles_print : (layout : Layout) (state : State) (events : List Event) → cycles_from layout state events ≡ flat_map line_of (ends_from layout state events)
+cycles_print layout state [] = refl
+cycles_print layout state (event ∷ events) =
+    let next = after_event layout state event in
+    let own = entry_end event.entry (live_count layout next) in
+    ap (λ (line : List ℕ). line ++ cycles_from layout next events) (entry_prints event.entry (live_count layout next))
+    ∙ ap (λ (rest : List ℕ). flat_map line_of own ++ rest) (cycles_print layout next events)
+    ∙ sym (flat_map-append line_of own (ends_from layout next events))
 
--- the cycles of what was told after some events
-cycles_after : (layout : Layout) (before : List Event) (told : List Told) →
-    ((place : ℕ) (one : Told) → slice_get told place ≡ Some one → IsCounted layout (before ++ events_of (take place told)) one) →
-    cycles_from layout (state_after layout before) (events_of told) ≡ flat_map told_line told
-cycles_after layout before [] counted = refl
-cycles_after layout before (one ∷ told) counted =
-    let first : IsCounted layout before one = subst (λ (h : List Event). IsCounted layout h one) (append-nil before) (counted 0 one refl) in
-    let pushed = state_after-push layout before one.event in
-    ap (λ (line : List ℕ). line ++ cycles_from layout (after_event layout (state_after layout before) one.event) (events_of told)) (told_prints layout before one first)
-    ∙ ap (λ (s : State). told_line one ++ cycles_from layout s (events_of told)) (sym pushed)
-    ∙ ap (λ (rest : List ℕ). told_line one ++ rest)
-    (cycles_after layout (before ++ one.event ∷ []) told
-    (λ place other is. subst (λ (h : List Event). IsCounted layout h other) (sym (append_assoc before (one.event ∷ []) (events_of (take place told)))) (counted (suc place) other is)))
+-- the lines of what was told are those of the ends that were told
+told_prints : (told : List Told) → flat_map told_line told ≡ flat_map line_of (flat_map told_end told)
+told_prints [] = refl
+told_prints (one ∷ told) =
+    ap (λ (line : List ℕ). line ++ flat_map told_line told) (entry_prints one.event.entry one.kept)
+    ∙ ap (λ (rest : List ℕ). flat_map line_of (told_end one) ++ rest) (told_prints told)
+    ∙ sym (flat_map-append line_of (told_end one) (flat_map told_end told))
 
 -- what was told prints the cycles of its history
 pub cycles_text : (layout : Layout) (history : List Event) (told : List Told) → events_of told ≡ history → AreCounted layout told →
     flat_map told_line told ≡ cycles_from layout empty_state history
-cycles_text layout history told is counted = sym (cycles_after layout [] told counted) ∙ ap (cycles_from layout empty_state) is
+cycles_text layout history told is counted =
+    told_prints told ∙ ap (flat_map line_of) (ends_told layout told counted) ∙ sym (cycles_print layout empty_state (events_of told)) ∙ ap (cycles_from layout empty_state) is
 
 -- the calls print their lines
 calls_printed : (keys : List (List ℕ)) (calls : List Answered) → call_lines keys (map pair_of calls) ≡ flat_map (answered_line keys) calls

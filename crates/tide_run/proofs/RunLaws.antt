@@ -2,6 +2,7 @@
 use Rattle.std.proofs.Common.{ℕ, ◌≡◌, ◌<◌, refl, sym, ◌∙◌, ap, subst, arith, List, [], ◌∷◌, length, get_or, Vec, Global}
 use Rattle.std.proofs.lemmas.List.Elements.{All-cons, All-get_or, All-head, All-nil, All-tail, All-weaker}
 use Rattle.std.proofs.lemmas.Option.{slice_get_within, slice_get-get_or}
+use Rattle.std.specs.List.{flat_map}
 use Rattle.std.specs.Prelude.{All, map, slice_get, Some}
 use Rattle.tide_model.specs.declared.op.Op.{Op}
 use Rattle.tide_model.specs.declared.op.Op.TheVariants.{Alloc, Table, Get, Put, Move, Set, Drop, Claim, Release, Unclaim, Add, GetProp, SetProp, StrongSet, StrongGet, WeakSet, WeakGet, PairSet, PairGet, PairDel, Group, Collect, Retire}
@@ -21,7 +22,9 @@ use Rattle.tide_shape.specs.Shapes.{shapes_of_paths}
 use Rattle.tide_workload.specs.Words.{HasText, IsOperation, Settings, Work, limits_of, limits_with}
 use Rattle.tide_run.specs.declared.outcome.Kept.TheVariants.{Own}
 use Rattle.tide_run.specs.Outcome.{IsOutcome}
+use Rattle.tide_run.specs.Report.{Reported, ends_of, told_end}
 use Rattle.tide_run.specs.Runs.{IsRunOf, Ran, layout_of_work, layout_with, pace_of_work}
+use Rattle.tide_run.proofs.Reported.{ends_told}
 
 -- a workload's operation may be asked for
 IsAskable-operation : (settings : Settings) (keys : List (List ℕ)) (mutators : ℕ) (op : Op) → IsOperation (limits_with settings keys) op → IsAskable (layout_with settings mutators) op
@@ -99,10 +102,10 @@ All-before f P (x ∷ xs) all = All-cons (λ y. P (f y)) x xs (All-head P (f x) 
 
 -- what a run left is an outcome
 pub IsOutcome-ran : (work : Work) (layout : Layout) (keys : List (List ℕ)) (setting : Setting) (pace : Pace) (scripts : List (List Op)) (told : Vec Told Global)
-    (calls : List (List Answered)) (live : ℕ) → HasRun setting pace scripts told.items calls live → setting.layout ≡ layout → keys ≡ work.keys →
-    length scripts ≡ layout.mutators → All (All (IsOperation (limits_of work))) scripts → IsOutcome layout keys (Own told) calls live
-IsOutcome-ran work layout keys setting pace scripts told calls live ran same names one_each within =
-    subst (λ (l : Layout). IsOutcome l keys (Own told) calls live) same (record {
+    (calls : List (List Answered)) (live : ℕ) (report : Reported) → HasRun setting pace scripts told.items calls live → setting.layout ≡ layout → keys ≡ work.keys →
+    length scripts ≡ layout.mutators → All (All (IsOperation (limits_of work))) scripts → ends_of report ≡ flat_map told_end told.items → IsOutcome layout keys (Own told) calls live report
+IsOutcome-ran work layout keys setting pace scripts told calls live report ran same names one_each within reported =
+    subst (λ (l : Layout). IsOutcome l keys (Own told) calls live report) same (record {
       one_each = ran.one_each;
       calls_are = ran.calls_are;
       texts = λ who own found.
@@ -119,6 +122,7 @@ IsOutcome-ran work layout keys setting pace scripts told calls live ran same nam
           (All-before pair_of (λ call. IsAskedBy ops call.0) own asked);
       counted = ran.counted;
       living = ran.living;
+      reports = reported ∙ ends_told setting.layout told.items ran.counted;
     })
 
 -- what a run left is a run of the workload

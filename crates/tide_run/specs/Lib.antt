@@ -2,4 +2,6 @@
 pub mod Outcome
 pub mod Printing
 pub mod Program
+pub mod Report
+pub mod ReportRows
 pub mod Runs

@@ -8,10 +8,12 @@
 mod outcome;
 mod printing;
 mod program;
+mod report;
 mod runs;
 mod starting;
 
 pub use outcome::{Kept, Outcome};
 pub use program::{Ended, riptide};
+pub use report::{CycleLine, Report};
 pub use runs::{plain, run};
 pub use tide_periods::{Answered, Told};

@@ -1,6 +1,7 @@
 //! The outcome of a run.
 ghost use Rattle.std.specs.Prelude.{◌≡◌, ◌<◌, ℕ, All, map};
 
+use crate::report::Report;
 use std::marker::Model;
 use tide_layout::Layout;
 use tide_periods::{Answered, Finished, Told};
@@ -12,7 +13,7 @@ pub enum Kept {
     Own(Vec<Told>),
 }
 
-/// A run's history, its replies and what lives at its end.
+/// A run's history, its replies, its cycles and what lives at its end.
 #[derive(Debug, Drop)]
 pub struct Outcome {
     layout: Layout,
@@ -22,6 +23,7 @@ pub struct Outcome {
     /// Each mutator's calls.
     calls: Vec<Vec<Answered>>,
     live: u32,
+    report: Report,
 }
 
 impl Model for Outcome {
@@ -35,7 +37,7 @@ impl Model for Outcome {
     ghost view = { λ o. ran_of o.layout (map (λ name. name.items) o.names.items) o.kept };
 
     ghost invariant = { λ o. IsOutcome o.layout (map (λ name. name.items) o.names.items) o.kept
-        (map (λ own. own.items) o.calls.items) o.live };
+        (map (λ own. own.items) o.calls.items) o.live o.report };
 }
 
 impl Outcome {
@@ -46,11 +48,12 @@ impl Outcome {
     ghost use Rattle.tide_periods.specs.Told.{events_of, AreCounted, pair_of};
     ghost use Rattle.tide_workload.specs.Words.{HasText};
     ghost use Rattle.tide_run.specs.Outcome.{ran_of, IsOutcome};
+    ghost use Rattle.tide_run.specs.Report.{ends_in, ends_of};
 
     /// The outcome of a run that left this.
-    pub(crate) fn new(layout: Layout, names: Vec<Vec<u8>>, ran: Finished) -> Outcome
+    pub(crate) fn new(layout: Layout, names: Vec<Vec<u8>>, ran: Finished, report: Report) -> Outcome
         requires { IsOutcome layout (map (λ name. name.items) names.items) (Kept.Own ran.told)
-            (map (λ own. own.items) ran.calls.items) ran.live }
+            (map (λ own. own.items) ran.calls.items) ran.live report }
         ensures { result ≡ ran_of layout (map (λ name. name.items) names.items) (Kept.Own ran.told) }
     {
         let Finished { told, calls, live } = ran;
@@ -60,6 +63,7 @@ impl Outcome {
             kept: Kept::Own(told),
             calls,
             live,
+            report,
         }
     }
 
@@ -84,6 +88,13 @@ impl Outcome {
         ensures { result ≡ live_count self.now.layout (state_after self.now.layout self.now.history) }
     {
         self.live
+    }
+
+    /// The cycles that ended, and the cells that each freed.
+    pub fn report(&self) -> &Report
+        ensures { ends_of result.now ≡ ends_in self.now.layout self.now.history }
+    {
+        &self.report
     }
 
     /// How many races visitors met: none, since there are no visitors yet.

@@ -3,6 +3,7 @@ ghost use Rattle.std.specs.Prelude.{◌≤◌, IfOk};
 ghost use Rattle.tide_run.specs.Runs.{IsRunOf};
 
 use crate::outcome::Outcome;
+use crate::report::report_of;
 use crate::starting::{copied_scripts, layout_with, names_of, shapes_from};
 use std::alloc::Global;
 use std::marker::Sync;
@@ -28,7 +29,8 @@ pub fn plain(alloc: Global, load: &Workload) -> Result<Outcome, Memory>
         headroom: settings.headroom,
     };
     let ran = run_on(alloc, store, layout.block_count(), scripts, pacing)?;
-    Ok(Outcome::new(layout, names, ran))
+    let report = report_of(alloc, ran.told.as_slice())?;
+    Ok(Outcome::new(layout, names, ran, report))
 }
 
 /// Runs a workload with up to 8 visitors. No visitor is started and no thread yet, so the number says nothing of the
