@@ -31,18 +31,20 @@ next_of ops standing claims = op_or_leave (slice_get ops standing.done) claims
 -- how far a mutator is after a reply
 abbrev pub after_reply : List Op → Standing → Op → Reply → Standing
 after_reply ops standing op reply = record {
-  done = if not (not standing.retry && is_full_reply reply) && nat_lt standing.done (length ops) then standing.done + 1 else standing.done;
+  done = if not (not standing.retry && is_full_reply reply) && nat_lt standing.done (length ops) then standing.done + 1
+      else standing.done;
   retry = not standing.retry && is_full_reply reply;
   retired = is_retire op;
 }
 
--- A mutator's script so far is a first part of its operations, then some unclaims, and then to retire. It holds so many claims, and
--- held `total` of them when its operations were done.
+-- A mutator's script so far is a first part of its operations, then some unclaims, and then to retire. It holds so many
+-- claims, and held `total` of them when its operations were done.
 pub record IsAt (ops : List Op) (standing : Standing) (script : List Op) (total held : ℕ) : Type 0 where
   pub within : standing.done ≤ length ops
   pub unclaims : ℕ
   pub none_yet : standing.done < length ops → unclaims ≡ 0
-  pub is_script : script ≡ (take standing.done ops ++ replicate unclaims Unclaim) ++ (if standing.retired then Retire ∷ [] else [])
+  pub is_script : script ≡
+      (take standing.done ops ++ replicate unclaims Unclaim) ++ (if standing.retired then Retire ∷ [] else [])
   pub at_end : standing.retired ≡ true → standing.done ≡ length ops
   pub given : standing.done ≡ length ops → unclaims + held ≡ total
   pub released : standing.retired ≡ true → held ≡ 0
@@ -72,14 +74,16 @@ abbrev pub standing_of : Caller → Standing
 standing_of caller = record { done = caller.done; retry = caller.retry; retired = caller.retired }
 
 -- a mutator is so far in a history, with these calls
-pub record IsMutatorAt (recorded : Recorded) (who : ℕ) (ops : List Op) (standing : Standing) (calls : List (Op × Reply)) : Type 0 where
+pub record IsMutatorAt (recorded : Recorded) (who : ℕ) (ops : List Op) (standing : Standing)
+    (calls : List (Op × Reply)) : Type 0 where
   pub is_mutator : who < recorded.setting.layout.mutators
   pub askable : All (IsAskable recorded.setting.layout) ops
   pub total : ℕ
   pub moment : ℕ
   pub in_history : moment ≤ length recorded.history
   pub was_done : standing.done ≡ length ops → WasDone recorded.setting.layout recorded.history who ops moment total
-  pub at : IsAt ops standing (script_of who recorded.history) total (claims_after recorded.setting.layout recorded.history who)
+  pub at : IsAt ops standing (script_of who recorded.history) total
+      (claims_after recorded.setting.layout recorded.history who)
   pub retry : standing.retry ≡ is_some (retry_of who recorded.history)
   pub retries : (op : Op) → retry_of who recorded.history ≡ Some op → slice_get ops standing.done ≡ Some op
   pub active : (state_after recorded.setting.layout recorded.history).active who ≡ not standing.retired
@@ -88,7 +92,8 @@ pub record IsMutatorAt (recorded : Recorded) (who : ℕ) (ops : List Op) (standi
 
 -- what a caller has of its mutator's calls is what the history has
 abbrev pub IsCaller : Recorded → Caller → Type 0
-IsCaller recorded caller = IsMutatorAt recorded caller.who caller.ops.items (standing_of caller) (map pair_of caller.calls.items)
+IsCaller recorded caller =
+    IsMutatorAt recorded caller.who caller.ops.items (standing_of caller) (map pair_of caller.calls.items)
 
 -- a caller recorded a reply
 pub record TookReply (old new : Caller) (op : Op) (reply : Reply) : Type 0 where

@@ -7,11 +7,13 @@ use Rattle.tide_periods.specs.Recorded.{Recorded}
 
 -- two for each operation that is left, one less where it is tried again; then one for each claim, and one to retire
 abbrev pub left_by : Bool → Bool → Bool → ℕ → ℕ → ℕ
-left_by retired within retry more claims = if retired then 0 else (if within then (2 * more - (if retry then 1 else 0)) + 9 else claims + 1)
+left_by retired within retry more claims =
+    if retired then 0 else (if within then (2 * more - (if retry then 1 else 0)) + 9 else claims + 1)
 
 -- the same, by how far a mutator is in its operations
 abbrev pub left_at : List Op → Standing → ℕ → ℕ
-left_at ops standing claims = left_by standing.retired (nat_lt standing.done (length ops)) standing.retry (length ops - standing.done) claims
+left_at ops standing claims =
+    left_by standing.retired (nat_lt standing.done (length ops)) standing.retry (length ops - standing.done) claims
 
 -- a caller's, where the mutators claim these cells
 abbrev pub left_of : (ℕ → List ℕ) → Caller → ℕ

@@ -20,13 +20,15 @@ pub record RanShare (old new : Recorded) (run who : ℕ) (ended : Bool) : Type 0
   pub events : List Event
   pub history : new.history ≡ old.history ++ events
   pub own : AllPass (λ event. is_call_of who event.entry) events
-  pub share : IsShare run (retry_of who old.history) ((state_after new.setting.layout new.history).active who) (calls_of who events)
+  pub share : IsShare run (retry_of who old.history)
+      ((state_after new.setting.layout new.history).active who) (calls_of who events)
   pub stops : ended ≡ has_ended (retry_of who old.history) (calls_of who events)
 
 -- the callers are those of the mutators in order
 pub record AreCallers (recorded : Recorded) (callers : List Caller) : Type 0 where
   pub one_each : length callers ≡ recorded.setting.layout.mutators
-  pub each : (who : ℕ) (caller : Caller) → slice_get callers who ≡ Some caller → (caller.who ≡ who) × IsCaller recorded caller
+  pub each : (who : ℕ) (caller : Caller) → slice_get callers who ≡ Some caller →
+      (caller.who ≡ who) × IsCaller recorded caller
 
 -- each mutator made its share of the calls of a part
 pub record RanPart (old new : Recorded) (run : ℕ) (ended : Bool) : Type 0 where
@@ -37,5 +39,7 @@ pub record RanPart (old new : Recorded) (run : ℕ) (ended : Bool) : Type 0 wher
   pub history : new.history ≡ old.history ++ part
   pub calls : AllPass (λ event. is_call event.entry) part
   pub shares : (who : ℕ) → who < old.setting.layout.mutators →
-      IsShare run (retry_of who old.history) ((state_after new.setting.layout new.history).active who) (calls_of who part)
-  pub stops : ended ≡ any_below (λ who. has_ended (retry_of who old.history) (calls_of who part)) old.setting.layout.mutators
+      IsShare run (retry_of who old.history)
+      ((state_after new.setting.layout new.history).active who) (calls_of who part)
+  pub stops : ended ≡
+      any_below (λ who. has_ended (retry_of who old.history) (calls_of who part)) old.setting.layout.mutators

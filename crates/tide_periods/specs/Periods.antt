@@ -26,7 +26,8 @@ pub record RanFreeze (old new : Recorded) (is_must : Bool) : Type 0 where
   pub quiet : (who : ℕ) → calls_of who freeze ≡ []
   pub active : new.state.active ≡ old.state.active
   pub claims : new.state.claims ≡ old.state.claims
-  pub is_freeze : (pace : Pace) (run : ℕ) → pace.trigger ≡ 0 → IsFreeze pace old.setting.layout old.history run is_must (marks_of freeze)
+  pub is_freeze : (pace : Pace) (run : ℕ) → pace.trigger ≡ 0 →
+      IsFreeze pace old.setting.layout old.history run is_must (marks_of freeze)
 
 -- a part was opened and run, and frozen after
 pub record RanPeriod (old new : Recorded) (pace : Pace) : Type 0 where
@@ -43,4 +44,5 @@ pub record RanAll (recorded : Recorded) (pace : Pace) (callers : List Caller) : 
   pub at_rest : IsAtRest recorded
   pub callers' : AreCallers recorded callers
   pub scheduled : IsScheduled pace recorded.setting.layout recorded.history
-  pub scripts : (who : ℕ) (caller : Caller) → slice_get callers who ≡ Some caller → IsWhole recorded.setting.layout recorded.history who caller.ops.items
+  pub scripts : (who : ℕ) (caller : Caller) → slice_get callers who ≡ Some caller →
+      IsWhole recorded.setting.layout recorded.history who caller.ops.items

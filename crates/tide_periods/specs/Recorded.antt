@@ -79,7 +79,8 @@ pub record RanCycle (old new : Recorded) : Type 0 where
   pub visits : ℕ
   pub freed : List ℕ
   pub blocks : List ℕ
-  pub history : new.history ≡ old.history ++ ((plain (Begin (begin_count old.history + 1)) ∷ plain (Pause visits) ∷ plain (End (begin_count old.history + 1) freed) ∷ [])
+  pub history : new.history ≡ old.history
+      ++ ((plain (Begin (begin_count old.history + 1)) ∷ plain (Pause visits) ∷ plain (End (begin_count old.history + 1) freed) ∷ [])
       ++ map (λ block. plain (Sweep block)) blocks)
   pub active : new.state.active ≡ old.state.active
   pub claims : new.state.claims ≡ old.state.claims

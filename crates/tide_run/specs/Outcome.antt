@@ -21,10 +21,13 @@ told_of (Own told) = told.items
 abbrev pub ran_of : Layout → List (List ℕ) → Kept → Ran
 ran_of layout keys kept = record { layout = layout; keys = keys; history = events_of (told_of kept); is_heap = false }
 
--- the calls are those of the mutators, each of them has a text, and the numbers of live cells and the reported cycles are those of the history
-pub record IsOutcome (layout : Layout) (keys : List (List ℕ)) (kept : Kept) (calls : List (List Answered)) (live : ℕ) (report : Reported) : Type 0 where
+-- the calls are those of the mutators, each of them has a text, and the numbers of live cells and the reported cycles
+-- are those of the history
+pub record IsOutcome (layout : Layout) (keys : List (List ℕ)) (kept : Kept) (calls : List (List Answered))
+    (live : ℕ) (report : Reported) : Type 0 where
   pub one_each : length calls ≡ layout.mutators
-  pub calls_are : (who : ℕ) (own : List Answered) → slice_get calls who ≡ Some own → map pair_of own ≡ calls_of who (events_of (told_of kept))
+  pub calls_are : (who : ℕ) (own : List Answered) → slice_get calls who ≡ Some own →
+      map pair_of own ≡ calls_of who (events_of (told_of kept))
   pub texts : (who : ℕ) (own : List Answered) → slice_get calls who ≡ Some own → All (λ call. HasText keys call.op) own
   pub counted : AreCounted layout (told_of kept)
   pub living : live ≡ live_count layout (state_after layout (events_of (told_of kept)))

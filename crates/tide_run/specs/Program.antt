@@ -35,7 +35,8 @@ pub record TellsLine (old new : Option (List ℕ)) (before now : ℕ) (line : Li
   pub later : before ≤ now
   pub line_or_part : Appends old new line ⊎ (Rose before now × AppendsPart old new line)
 
--- what was read is refused as a workload, and the line that was told, or a first part of it where the sink failed, is that of its first fault
+-- what was read is refused as a workload, and the line that was told, or a first part of it where the sink failed, is
+-- that of its first fault
 pub record ToldFault (old new : Option (List ℕ)) (held held' : Option (List ℕ)) (before now : ℕ) : Type 0 where
   pub fault : Fault
   pub refused : RefusedInput old new fault
@@ -61,7 +62,8 @@ stop_line ReadFault = codes "riptide: read fault\n"
 stop_line (BadInput fault) = fault_line fault
 stop_line Memory = codes "riptide: no memory\n"
 
--- the line of a status that has one and the same each time: neither 0, which has none, nor 3, which has that of the fault
+-- the line of a status that has one and the same each time: neither 0, which has none, nor 3, which has that of the
+-- fault
 abbrev pub status_line : ℕ → List ℕ
 status_line status =
     if status == 2 then codes "riptide: usage: riptide\n"

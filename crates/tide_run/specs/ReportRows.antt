@@ -33,7 +33,8 @@ abbrev pub first_line : CycleLine
 first_line = record { number = 1; kept = 2; first = 0; freed = 1 }
 
 -- the second line's range follows the first one's
-pub told_by_report : ends_of (report_from (first_line ∷ record { number = 2; kept = 0; first = 1; freed = 2 } ∷ [])) ≡ its_ends
+pub told_by_report :
+    ends_of (report_from (first_line ∷ record { number = 2; kept = 0; first = 1; freed = 2 } ∷ [])) ≡ its_ends
 told_by_report = refl
 
 -- where it begins at the front again, other cells are told

@@ -42,4 +42,5 @@ pub record IsRunOf (work : Work) (ran : Ran) : Type 0 where
   pub layout : ran.layout ≡ layout_of_work work
   pub keys : ran.keys ≡ work.keys
   pub legal : IsLegal (pace_of_work work) (layout_of_work work) (shapes_of_paths work.paths) ran.history
-  pub whole : (mutator : ℕ) (ops : List Op) → slice_get work.scripts mutator ≡ Some ops → IsWhole (layout_of_work work) ran.history mutator ops
+  pub whole : (mutator : ℕ) (ops : List Op) → slice_get work.scripts mutator ≡ Some ops →
+      IsWhole (layout_of_work work) ran.history mutator ops

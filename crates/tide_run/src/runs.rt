@@ -13,8 +13,8 @@ use tide_periods::{Pacing, run_on};
 use tide_plain::PlainStore;
 use tide_workload::Workload;
 
-/// Runs a workload on the plain store, in periods: in each running part the mutators make their calls one after another,
-/// in the order of their numbers. No cycle begins by itself.
+/// Runs a workload on the plain store, in periods: in each running part the mutators make their calls one after
+/// another, in the order of their numbers. No cycle begins by itself.
 pub fn plain(alloc: Global, load: &Workload) -> Result<Outcome, Memory>
     ensures run { IfOk result (IsRunOf load.now) }
 {
