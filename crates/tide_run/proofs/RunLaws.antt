@@ -22,7 +22,7 @@ use Rattle.tide_shape.specs.Shapes.{shapes_of_paths}
 use Rattle.tide_workload.specs.Words.{HasText, IsOperation, Settings, Work, limits_of, limits_with}
 use Rattle.tide_run.specs.declared.outcome.Kept.TheVariants.{Own}
 use Rattle.tide_run.specs.Outcome.{IsOutcome}
-use Rattle.tide_run.specs.Report.{Reported, ends_of, told_end}
+use Rattle.tide_run.specs.Report.{Reported, ends_of, freed_in, told_end}
 use Rattle.tide_run.specs.Runs.{IsRunOf, Ran, layout_of_work, layout_with, pace_of_work}
 use Rattle.tide_run.proofs.Reported.{ends_told}
 
@@ -103,8 +103,9 @@ All-before f P (x ∷ xs) all = All-cons (λ y. P (f y)) x xs (All-head P (f x) 
 -- what a run left is an outcome
 pub IsOutcome-ran : (work : Work) (layout : Layout) (keys : List (List ℕ)) (setting : Setting) (pace : Pace) (scripts : List (List Op)) (told : Vec Told Global)
     (calls : List (List Answered)) (live : ℕ) (report : Reported) → HasRun setting pace scripts told.items calls live → setting.layout ≡ layout → keys ≡ work.keys →
-    length scripts ≡ layout.mutators → All (All (IsOperation (limits_of work))) scripts → ends_of report ≡ flat_map told_end told.items → IsOutcome layout keys (Own told) calls live report
-IsOutcome-ran work layout keys setting pace scripts told calls live report ran same names one_each within reported =
+    length scripts ≡ layout.mutators → All (All (IsOperation (limits_of work))) scripts → ends_of report ≡ flat_map told_end told.items →
+    report.ids ≡ freed_in (flat_map told_end told.items) → IsOutcome layout keys (Own told) calls live report
+IsOutcome-ran work layout keys setting pace scripts told calls live report ran same names one_each within reported ids =
     subst (λ (l : Layout). IsOutcome l keys (Own told) calls live report) same (record {
       one_each = ran.one_each;
       calls_are = ran.calls_are;
@@ -123,6 +124,7 @@ IsOutcome-ran work layout keys setting pace scripts told calls live report ran s
       counted = ran.counted;
       living = ran.living;
       reports = reported ∙ ends_told setting.layout told.items ran.counted;
+      reported_ids = ids ∙ ap freed_in (ends_told setting.layout told.items ran.counted);
     })
 
 -- what a run left is a run of the workload

@@ -10,7 +10,7 @@ use Rattle.tide_periods.specs.Told.{AreCounted, events_of, pair_of}
 use Rattle.tide_workload.specs.Words.{HasText}
 use Rattle.tide_run.specs.declared.outcome.Kept.{Kept}
 use Rattle.tide_run.specs.declared.outcome.Kept.TheVariants.{Own}
-use Rattle.tide_run.specs.Report.{Reported, ends_in, ends_of}
+use Rattle.tide_run.specs.Report.{Reported, ends_in, ends_of, freed_in}
 use Rattle.tide_run.specs.Runs.{Ran}
 
 -- what was told, and kept
@@ -32,3 +32,4 @@ pub record IsOutcome (layout : Layout) (keys : List (List ℕ)) (kept : Kept) (c
   pub counted : AreCounted layout (told_of kept)
   pub living : live ≡ live_count layout (state_after layout (events_of (told_of kept)))
   pub reports : ends_of report ≡ ends_in layout (events_of (told_of kept))
+  pub reported_ids : report.ids ≡ freed_in (ends_in layout (events_of (told_of kept)))

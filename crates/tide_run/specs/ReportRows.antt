@@ -7,7 +7,7 @@ use Rattle.tide_model.specs.declared.entry.Event.{Event}
 use Rattle.tide_model.specs.History.{plain}
 use Rattle.tide_model.specs.Rows.{small}
 use Rattle.tide_run.specs.declared.report.CycleLine.{CycleLine}
-use Rattle.tide_run.specs.Report.{CycleEnd, Reported, ends_in, ends_of}
+use Rattle.tide_run.specs.Report.{CycleEnd, Reported, ends_in, ends_of, freed_in}
 
 -- of three cells the first is dropped and freed, and the others are freed once their mutator has retired
 abbrev pub one_then_two : List Event
@@ -41,3 +41,7 @@ told_by_report = refl
 pub other_cells : ends_of (report_from (first_line ∷ record { number = 2; kept = 0; first = 0; freed = 2 } ∷ []))
     ≡ record { number = 1; kept = 2; freed = 0 ∷ [] } ∷ record { number = 2; kept = 0; freed = 0 ∷ 1 ∷ [] } ∷ []
 other_cells = refl
+
+-- the ids are the cells that the cycles freed, one cycle after another
+pub ids_of_one_then_two : freed_in (ends_in small one_then_two) ≡ 0 ∷ 1 ∷ 2 ∷ []
+ids_of_one_then_two = refl

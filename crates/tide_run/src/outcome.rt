@@ -48,7 +48,7 @@ impl Outcome {
     ghost use Rattle.tide_periods.specs.Told.{events_of, AreCounted, pair_of};
     ghost use Rattle.tide_workload.specs.Words.{HasText};
     ghost use Rattle.tide_run.specs.Outcome.{ran_of, IsOutcome};
-    ghost use Rattle.tide_run.specs.Report.{ends_in, ends_of};
+    ghost use Rattle.tide_run.specs.Report.{ends_in, ends_of, freed_in};
 
     /// The outcome of a run that left this.
     pub(crate) fn new(layout: Layout, names: Vec<Vec<u8>>, ran: Finished, report: Report) -> Outcome
@@ -92,7 +92,8 @@ impl Outcome {
 
     /// The cycles that ended, and the cells that each freed.
     pub fn report(&self) -> &Report
-        ensures { ends_of result.now ≡ ends_in self.now.layout self.now.history }
+        ensures ends { ends_of result.now ≡ ends_in self.now.layout self.now.history }
+        ensures ids { result.now.ids ≡ freed_in (ends_in self.now.layout self.now.history) }
     {
         &self.report
     }

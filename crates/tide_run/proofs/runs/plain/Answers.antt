@@ -1,17 +1,18 @@
 -- Answers to the goals of runs::plain.
-use Rattle.std.proofs.Common.{◌≡◌, ◌∙◌, sym, ap, length, map, Vec, Global}
+use Rattle.std.proofs.Common.{List, ◌≡◌, ◌∙◌, sym, ap, length, map, Vec, Global}
 use Rattle.std.proofs.lemmas.List.{length-map}
 use Rattle.std.specs.List.{flat_map}
 use Rattle.tide_layout.specs.Region.{block_count}
 use Rattle.tide_model.specs.declared.op.Op.{Op}
 use Rattle.tide_model.specs.Layout.{Layout}
 use Rattle.tide_model.specs.Pace.{Pace}
+use Rattle.tide_periods.specs.declared.told.Told.{Told}
 use Rattle.tide_plain.specs.declared.store.PlainStore.{PlainStore}
 use Rattle.tide_plain.specs.Store.{layout_of, shapes_of}
 use Rattle.tide_periods.specs.Store.{Setting}
 use Rattle.tide_shape.specs.Shapes.{shapes_of_paths}
 use Rattle.tide_workload.specs.Words.{Settings}
-use Rattle.tide_run.specs.Report.{told_end}
+use Rattle.tide_run.specs.Report.{freed_in, told_end}
 use Rattle.tide_run.specs.Runs.{Ran, layout_of_work, layout_with}
 use Rattle.tide_run.proofs.RunLaws.{IsOutcome-ran, IsRunOf-ran}
 use Rattle.tide_run.proofs.runs.plain.Goals as goal
@@ -40,7 +41,8 @@ new-requires-2 c =
     ap length c.in_ok-scripts.ensures.copied ∙ sym c.mutators.ensures.count ∙ ap (λ (l : Layout). l.mutators) (sym c.layout_with-layout.ensures) in
     IsOutcome-ran c.args.load.now c.layout_with-layout.result (map (λ name. name.items) c.in_ok-names.names.items) (setting_of c.in_ok-store.store)
     (pace_with c.settings-settings.result) scripts ran.told (map (λ own. own.items) ran.calls.items) ran.live c.in_ok-report.report c.in_ok-ran.ensures c.in_ok-store.ensures.layout
-    c.in_ok-names.ensures as_many c.in_ok-scripts.ensures.within (c.in_ok-report.ensures ∙ ap (flat_map told_end) c.as_slice.ensures.value)
+    c.in_ok-names.ensures as_many c.in_ok-scripts.ensures.within (c.in_ok-report.ensures.ends ∙ ap (flat_map told_end) c.as_slice.ensures.value)
+    (c.in_ok-report.ensures.ids ∙ ap (λ (told : List Told). freed_in (flat_map told_end told)) c.as_slice.ensures.value)
 
 pub returns : goal.returns
 returns c =
