@@ -1,12 +1,28 @@
 //! The outcomes of runs, by `plain` and by `run`.
 use crate::machine::Machine;
-use check_heap::reply_text;
+use check_heap::{number_between, numbers_text, reply_text};
 use std::alloc::{AllocError, Global};
 use tide_model::FreePass;
-use tide_run::{Outcome, plain, run};
+use tide_run::{Outcome, Report, plain, run};
 use tide_workload::read;
 
-/// The calls of each mutator with their replies, how many cells live then, and how many races were met.
+/// The cycles of a run, and after them the cells that they freed.
+fn report_text(alloc: Global, report: &Report) -> Result<String, AllocError> {
+    let mut all = String::new(alloc);
+    for line in report.cycles() {
+        let number = number_between(alloc, "cycle ", line.number, " ")?;
+        let kept = number_between(alloc, "kept ", u64::from(line.kept), " ")?;
+        let freed = number_between(alloc, "freed ", u64::from(line.freed), ", ")?;
+        all.push_str(number.as_str())?;
+        all.push_str(kept.as_str())?;
+        all.push_str(freed.as_str())?;
+    }
+    let ids = numbers_text(alloc, report.ids())?;
+    all.push_str(ids.as_str())?;
+    Ok(all)
+}
+
+/// The calls of each mutator with their replies, the cycles, how many cells live then, and how many races were met.
 fn outcome_text(alloc: Global, outcome: &Outcome) -> Result<String, AllocError> {
     let mut all = String::new(alloc);
     for m in 0..outcome.mutators() {
@@ -16,8 +32,9 @@ fn outcome_text(alloc: Global, outcome: &Outcome) -> Result<String, AllocError> 
             all.push_str(one.as_str())?;
         }
     }
+    let cycles = report_text(alloc, outcome.report())?;
     let (live, deferred) = (outcome.live(), outcome.deferred());
-    format!(in alloc; "{all}live {live}, deferred {deferred}")
+    format!(in alloc; "{all}{cycles}, live {live}, deferred {deferred}")
 }
 
 /// The outcome of a workload's run by `plain`. None where the bytes are no workload.
