@@ -1,5 +1,5 @@
 -- What the loops of a part keep.
-use Rattle.std.specs.Prelude.{ℕ, ◌≡◌, ◌<◌, ◌≤◌, ◌++◌, Bool, List, [], slice_get, Some, length}
+use Rattle.std.specs.Prelude.{ℕ, ◌≡◌, ◌<◌, ◌≤◌, ◌++◌, Bool, List, [], length}
 use Rattle.std.specs.List.{AllPass}
 use Rattle.tide_model.specs.declared.entry.Event.{Event}
 use Rattle.tide_model.specs.History.{is_call_of, state_after}
@@ -8,8 +8,6 @@ use Rattle.tide_model.specs.Script.{calls_of, retry_of}
 use Rattle.tide_model.specs.Share.{IsShare, MayCall, has_ended}
 use Rattle.tide_model.specs.Each.{Each}
 use Rattle.tide_model.specs.Since.{is_call}
-use Rattle.tide_periods.specs.declared.caller.Caller.{Caller}
-use Rattle.tide_periods.specs.Asking.{IsCaller}
 use Rattle.tide_periods.specs.Recorded.{HasSameCounts, IsAtRest, Recorded}
 
 -- the calls that a mutator made so far in a part, the last of which ended its share or not

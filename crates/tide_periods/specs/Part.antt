@@ -1,12 +1,11 @@
 -- What a running part did.
-use Rattle.std.specs.Prelude.{ℕ, ◌≡◌, ◌<◌, ◌≤◌, ◌++◌, Bool, List, [], slice_get, Some, length}
+use Rattle.std.specs.Prelude.{ℕ, ◌≡◌, ◌<◌, ◌++◌, Bool, List, slice_get, Some, length}
 use Rattle.std.specs.List.{AllPass}
 use Rattle.tide_model.specs.declared.entry.Event.{Event}
 use Rattle.tide_model.specs.History.{is_call_of, state_after}
 use Rattle.tide_model.specs.Numbers.{any_below}
 use Rattle.tide_model.specs.Script.{calls_of, retry_of}
-use Rattle.tide_model.specs.Share.{IsShare, MayCall, has_ended}
-use Rattle.tide_model.specs.Each.{Each}
+use Rattle.tide_model.specs.Share.{IsShare, has_ended}
 use Rattle.tide_model.specs.Since.{is_call}
 use Rattle.tide_periods.specs.declared.caller.Caller.{Caller}
 use Rattle.tide_periods.specs.Asking.{IsCaller}

@@ -5,7 +5,7 @@ ghost use Rattle.tide_model.specs.Script.{is_retire};
 ghost use Rattle.tide_model.specs.Share.{is_asked};
 ghost use Rattle.tide_periods.specs.Asking.{next_of, standing_of, AreNew, TookReply};
 
-use crate::recorder::append;
+use crate::recorder::{append, with_room};
 use crate::told::Answered;
 use std::alloc::Global;
 use tide_model::{Memory, Op, Refusal, Reply};
@@ -91,6 +91,7 @@ pub(crate) fn callers_of(alloc: Global, scripts: Vec<Vec<Op>>) -> Result<Vec<Cal
     let mut callers = Vec::new(alloc);
     let mut who = 0;
     for ops in scripts {
+        let calls = with_room(alloc, ops.len())?;
         append(
             &mut callers,
             Caller {
@@ -99,7 +100,7 @@ pub(crate) fn callers_of(alloc: Global, scripts: Vec<Vec<Op>>) -> Result<Vec<Cal
                 done: 0,
                 retry: false,
                 retired: false,
-                calls: Vec::new(alloc),
+                calls,
             },
         )?;
         who += 1;

@@ -5,6 +5,16 @@ ghost use Rattle.tide_periods.specs.Recorded.{IsAtRest, MadeCall, MayAsk, Opened
 use std::alloc::Global;
 use tide_model::{Memory, Op, Reply};
 
+/// An empty list with room for so many.
+pub(crate) fn with_room<T>(alloc: Global, room: usize) -> Result<Vec<T>, Memory>
+    ensures { IfOk result (λ list. list.items ≡ []) }
+{
+    match Vec::with_capacity(alloc, room) {
+        Ok(list) => Ok(list),
+        Err(_) => Err(Memory),
+    }
+}
+
 /// One more at the end of a list.
 pub(crate) fn append<T: Drop>(list: &mut Vec<T>, item: T) -> Result<(), Memory>
     ensures { OnOk result (list.new.items ≡ list.old.items ++ item ∷ []) }

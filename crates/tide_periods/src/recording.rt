@@ -1,5 +1,5 @@
 //! A store, and what was run on it, told event by event.
-ghost use Rattle.std.specs.Prelude.{◌≡◌, ◌++◌, ◌∷◌, [], false, map, slice_index_or, OnOk};
+ghost use Rattle.std.specs.Prelude.{◌≡◌, ◌++◌, ◌∷◌, [], false, map, slice_index_or, IfOk, OnOk};
 ghost use Rattle.tide_model.specs.declared.entry.Entry.TheVariants.{Sweep};
 ghost use Rattle.tide_model.specs.Cycle.{live_count};
 ghost use Rattle.tide_model.specs.History.{plain};
@@ -9,7 +9,7 @@ ghost use Rattle.tide_periods.specs.Recorded.{IsAtRest};
 ghost use Rattle.tide_periods.specs.Store.{blocks_in};
 ghost use Rattle.tide_periods.specs.Told.{events_of, uncounted};
 
-use crate::recorder::{Recorder, append};
+use crate::recorder::{Recorder, append, with_room};
 use crate::store::Store;
 use crate::told::Told;
 use std::alloc::Global;
@@ -98,25 +98,6 @@ impl<S: Store> Recorder for Recording<S> {
 }
 
 impl<S: Store> Recording<S> {
-    /// A store on which nothing was run yet, which has so many blocks.
-    pub(crate) fn new(alloc: Global, store: S, blocks: u32) -> Recording<S>
-        requires empty { S.state store ≡ empty_state }
-        requires blocks { blocks ≡ blocks_in (S.setting store) }
-        ensures at_rest { IsAtRest (⟦<Recording<S> as Recorder>⟧.recorded result) }
-        ensures nothing { (⟦<Recording<S> as Recorder>⟧.recorded result).history ≡ [] }
-        ensures setting { (⟦<Recording<S> as Recorder>⟧.recorded result).setting ≡ S.setting store }
-        ensures cycles { (⟦<Recording<S> as Recorder>⟧.recorded result).cycles ≡ 0 }
-        ensures parts { (⟦<Recording<S> as Recorder>⟧.recorded result).parts ≡ 0 }
-    {
-        Recording {
-            store,
-            told: Vec::new(alloc),
-            cycles: 0,
-            parts: 0,
-            blocks,
-        }
-    }
-
     /// How many cells live.
     pub(crate) fn live(&self) -> u32
         ensures { result ≡ live_count (S.setting self.now.store).layout (S.state self.now.store) }
@@ -126,6 +107,31 @@ impl<S: Store> Recording<S> {
 }
 
 impl<S: Store + Drop> Recording<S> {
+    /// A store on which nothing was run yet, which has so many blocks, with room for so many events.
+    pub(crate) fn new(
+        alloc: Global,
+        store: S,
+        blocks: u32,
+        room: usize,
+    ) -> Result<Recording<S>, Memory>
+        requires empty { S.state store ≡ empty_state }
+        requires blocks { blocks ≡ blocks_in (S.setting store) }
+        ensures at_rest { IfOk result (λ new. IsAtRest (⟦<Recording<S> as Recorder>⟧.recorded new)) }
+        ensures nothing { IfOk result (λ new. (⟦<Recording<S> as Recorder>⟧.recorded new).history ≡ []) }
+        ensures setting { IfOk result (λ new. (⟦<Recording<S> as Recorder>⟧.recorded new).setting ≡ S.setting store) }
+        ensures cycles { IfOk result (λ new. (⟦<Recording<S> as Recorder>⟧.recorded new).cycles ≡ 0) }
+        ensures parts { IfOk result (λ new. (⟦<Recording<S> as Recorder>⟧.recorded new).parts ≡ 0) }
+    {
+        let told = with_room(alloc, room)?;
+        Ok(Recording {
+            store,
+            told,
+            cycles: 0,
+            parts: 0,
+            blocks,
+        })
+    }
+
     /// What was told.
     pub(crate) fn into_told(self) -> Vec<Told>
         ensures { result ≡ self.told }

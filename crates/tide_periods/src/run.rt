@@ -26,6 +26,15 @@ pub struct Finished {
     pub live: u32,
 }
 
+/// How many operations there are, and so about how many events: the least room that a run of them needs.
+fn operations_in(scripts: &[Vec<Op>]) -> usize {
+    let mut count = 0usize;
+    for ops in scripts {
+        count = count.saturating_add(ops.len());
+    }
+    count
+}
+
 /// Each caller's calls.
 fn calls_of_each(alloc: Global, callers: Vec<Caller>) -> Result<Vec<Vec<Answered>>, Memory>
     ensures { IfOk result (λ calls.
@@ -60,8 +69,9 @@ pub fn run_on<S: Store + Drop>(
     ensures { IfOk result (λ finished. HasRun (S.setting store) (pace_of pacing) (map (λ ops. ops.items) scripts.items)
         finished.told.items (map (λ own. own.items) finished.calls.items) finished.live) }
 {
+    let room = operations_in(scripts.as_slice());
     let mut callers = callers_of(alloc, scripts)?;
-    let mut recording = Recording::new(alloc, store, blocks);
+    let mut recording = Recording::new(alloc, store, blocks, room)?;
     run_periods(&mut recording, callers.as_mut_slice(), pacing, alloc)?;
     let live = recording.live();
     let told = recording.into_told();

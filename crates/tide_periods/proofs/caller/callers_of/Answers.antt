@@ -14,7 +14,7 @@ loop-ops-preserved c =
       are = subst (AreNew c.append.new.list.items) (sym (map-append (λ ops. ops.items) c.loop-ops.yielded (c.in-Some.ops ∷ [])))
           (subst (λ (cs : List Caller). AreNew cs (map (λ ops. ops.items) c.loop-ops.yielded ++ c.in-Some.ops.items ∷ [])) (sym c.in_ok-append.ensures)
           (AreNew-push c.loop-ops.callers.items (map (λ ops. ops.items) c.loop-ops.yielded) _ c.in-Some.ops.items so.are
-          (record { number = so.who ∙ sym so.count; standing = refl; no_calls = c.new.ensures.items }) refl));
+          (record { number = so.who ∙ sym so.count; standing = refl; no_calls = c.in_ok-calls.ensures }) refl));
       who = (let w = so.who in omega (arith, w, longer));
       count = ap length c.in_ok-append.ensures ∙ length-append c.loop-ops.callers.items _ ∙ ap (λ n. n + 1) so.count ∙ sym longer;
     }

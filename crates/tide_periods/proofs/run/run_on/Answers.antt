@@ -16,27 +16,27 @@ use Rattle.tide_periods.proofs.run.run_on.Goals as goal
 
 pub run_periods-requires-clause-callers : goal.run_periods-requires-clause-callers
 run_periods-requires-clause-callers g c =
-    let made = c.new-recording.result in
+    let made = c.in_ok-recording.recording in
     let recorded : Recorded = record { setting = g.S.Store.setting made.store; state = g.S.Store.state made.store; told = made.told.items; history = events_of made.told.items; cycles = made.cycles; parts = made.parts; blocks = made.blocks } in
     let scripts = map (λ ops. ops.items) c.args.scripts.items in
     let callers = c.in_ok-callers.callers.items in
     let new = c.in_ok-callers.ensures in
-    let setting : recorded.setting ≡ g.S.Store.setting c.args.store = c.new-recording.ensures.setting in
+    let setting : recorded.setting ≡ g.S.Store.setting c.args.store = c.in_ok-recording.ensures.setting in
     let count : length callers ≡ recorded.setting.layout.mutators =
     sym (length-map callers (λ (c' : Caller). c'.ops.items)) ∙ ap length new.scripts_are ∙ length-map c.args.scripts.items (λ ops. ops.items) ∙ c.requires.mutators
     ∙ ap (λ (s : Setting). s.layout.mutators) (sym setting) in
     subst (AreCallers recorded) (sym c.as_mut_slice.ensures.value)
-    (AreCallers-nothing recorded callers scripts c.new-recording.ensures.nothing new count
+    (AreCallers-nothing recorded callers scripts c.in_ok-recording.ensures.nothing new count
     (subst (λ (s : Setting). All (All (IsAskable s.layout)) scripts) (sym setting) c.requires.askable))
 
 pub run_periods-requires-clause-room : goal.run_periods-requires-clause-room
 run_periods-requires-clause-room g c =
     let callers = c.in_ok-callers.callers.items in
     let new = c.in_ok-callers.ensures in
-    let claims = (g.S.Store.state c.new-recording.result.store).claims in
+    let claims = (g.S.Store.state c.in_ok-recording.recording.store).claims in
     let count : length callers ≡ length c.args.scripts.items =
     sym (length-map callers (λ (c' : Caller). c'.ops.items)) ∙ ap length new.scripts_are ∙ length-map c.args.scripts.items (λ ops. ops.items) in
-    let total = total-few claims callers c.new-recording.ensures.at_rest.few (subst (All (λ (ops : List Op). length ops ≤ 65536)) (sym new.scripts_are) c.requires.short) in
+    let total = total-few claims callers c.in_ok-recording.ensures.at_rest.few (subst (All (λ (ops : List Op). length ops ≤ 65536)) (sym new.scripts_are) c.requires.short) in
     let few = c.requires.few in
     subst (λ (cs : List Caller). total_by claims cs < 4294967295) (sym c.as_mut_slice.ensures.value) (omega (arith, total, count, few))
 
@@ -60,6 +60,6 @@ returns g c =
     let whole = with_items_is callers new (omega (arith, as_many, c.as_mut_slice.ensures.len)) in
     HasRun-over (g.S.Store.setting c.args.store) (pace_of c.args.pacing) (map (λ ops. ops.items) c.args.scripts.items) recorded c.run_periods.new.callers
     c.into_told-told.result.items (map (λ own. own.items) c.in_ok-calls.calls.items) c.live-live.result
-    ran.ran (ran.same ∙ c.new-recording.ensures.setting)
+    ran.ran (ran.same ∙ c.in_ok-recording.ensures.setting)
     (ran.scripts ∙ ap scripts_of c.as_mut_slice.ensures.value ∙ c.in_ok-callers.ensures.scripts_are)
     (ap (λ told. told.items) c.into_told-told.ensures) (c.in_ok-calls.ensures ∙ ap (map (λ (x : Caller). x.calls.items)) whole) c.live-live.ensures
