@@ -74,21 +74,29 @@ claims-others state who other (Group src n) Done took apart =
     claims_at-cell state who (state.registers other src) (λ cell. put_cell state cell (record (state.cells cell) { group = n })) (λ cell. refl)
 claims-others state who other op reply took apart = refl
 
-claims_from-others : (layout : Layout) (state : State) (who other : ℕ) (events : List Event) → who ≢ other → All (λ event. is_call_of other event.entry ≡ true) events →
-    (state_from layout state events).claims who ≡ state.claims who
-claims_from-others layout state who other [] apart all = refl
-claims_from-others layout state who other (event ∷ events) apart all =
-    claims_from-others layout (after_event layout state event) who other events apart (All-tail (λ e. is_call_of other e.entry ≡ true) event events all)
+-- another mutator's calls leave a part of the state that each of them leaves
+pub from-others : {X : Type 0} (part : State → X) (layout : Layout) (state : State) (events : List Event) (other : ℕ) →
+    ((before : State) (w : ℕ) (op : Op) (reply : Reply) (took : Option ℕ) → w ≡ other → part (after_call before w op reply took) ≡ part before) →
+    All (λ event. is_call_of other event.entry ≡ true) events → part (state_from layout state events) ≡ part state
+from-others {X} part layout state [] other keeps all = refl
+from-others {X} part layout state (event ∷ events) other keeps all =
+    from-others part layout (after_event layout state event) events other keeps (All-tail (λ e. is_call_of other e.entry ≡ true) event events all)
     ∙ one event.entry (All-head (λ e. is_call_of other e.entry ≡ true) event events all)
   where
-    one : (entry : Entry) → is_call_of other entry ≡ true → (after_entry layout state entry event.took).claims who ≡ state.claims who
-    one (Call w op reply) of = claims-others state who w op reply event.took (λ same. apart (same ∙ eqb-true w other of))
-    one (Begin cycle) of = refl
-    one (Pause visits) of = refl
-    one (Visits w visits) of = refl
-    one (End cycle freed) of = refl
+    one : (entry : Entry) → is_call_of other entry ≡ true → part (after_entry layout state entry event.took) ≡ part state
+    one (Call w op reply) of = keeps state w op reply event.took (eqb-true w other of)
+    one (Begin cycle) of = absurd (cc)
+    one (Pause visits) of = absurd (cc)
+    one (Visits w visits) of = absurd (cc)
+    one (End cycle freed) of = absurd (cc)
     one (Sweep block) of = absurd (cc)
-    one (Open number run) of = refl
+    one (Open number run) of = absurd (cc)
+
+claims_from-others : (layout : Layout) (state : State) (who other : ℕ) (events : List Event) → who ≢ other → All (λ event. is_call_of other event.entry ≡ true) events →
+    (state_from layout state events).claims who ≡ state.claims who
+claims_from-others layout state who other events apart all =
+    from-others (λ (s : State). s.claims who) layout state events other
+    (λ before w op reply took same. claims-others before who w op reply took (λ is. apart (is ∙ same))) all
 
 pub claims_after-others : (layout : Layout) (history events : List Event) (who other : ℕ) → who ≢ other → All (λ event. is_call_of other event.entry ≡ true) events →
     (state_after layout (history ++ events)).claims who ≡ (state_after layout history).claims who

@@ -31,7 +31,7 @@ use Rattle.tide_periods.specs.Part.{AreCallers, RanShare}
 use Rattle.tide_periods.specs.Store.{Setting}
 use Rattle.tide_periods.specs.Recorded.{IsAtRest, Recorded}
 use Rattle.tide_model.proofs.ActiveLaws.{active_after-call}
-use Rattle.tide_periods.proofs.LeftLaws.{claims_after-others}
+use Rattle.tide_periods.proofs.LeftLaws.{from-others, claims_after-others}
 use Rattle.tide_periods.proofs.Sharing.{retry_of-events}
 
 -- an entry of another mutator is no call of this one
@@ -78,27 +78,13 @@ active-others state who other op reply took apart = step (is_retire op) refl
     step true e = ap (λ (o : Op). (after_call state other o reply took).active who) (retire_from_test op e) ∙ retiring reply
     step false e = ap (λ (a : ℕ → Bool). a who) (active_after-call state other op reply took e)
 
-active_from-others : (layout : Layout) (state : State) (who other : ℕ) (events : List Event) → who ≢ other → All (λ event. is_call_of other event.entry ≡ true) events →
-    (state_from layout state events).active who ≡ state.active who
-active_from-others layout state who other [] apart all = refl
-active_from-others layout state who other (event ∷ events) apart all =
-    active_from-others layout (after_event layout state event) who other events apart (All-tail (λ e. is_call_of other e.entry ≡ true) event events all)
-    ∙ one event.entry (All-head (λ e. is_call_of other e.entry ≡ true) event events all)
-  where
-    one : (entry : Entry) → is_call_of other entry ≡ true → (after_entry layout state entry event.took).active who ≡ state.active who
-    one (Call w op reply) of = active-others state who w op reply event.took (λ same. apart (same ∙ eqb-true w other of))
-    one (Begin cycle) of = refl
-    one (Pause visits) of = refl
-    one (Visits w visits) of = refl
-    one (End cycle freed) of = refl
-    one (Sweep block) of = absurd (cc)
-    one (Open number run) of = refl
-
 -- another mutator's calls leave whether this one is active
 pub active_after-others : (layout : Layout) (history events : List Event) (who other : ℕ) → who ≢ other → All (λ event. is_call_of other event.entry ≡ true) events →
     (state_after layout (history ++ events)).active who ≡ (state_after layout history).active who
 active_after-others layout history events who other apart all =
-    ap (λ (s : State). s.active who) (state_after-append layout history events) ∙ active_from-others layout (state_after layout history) who other events apart all
+    ap (λ (s : State). s.active who) (state_after-append layout history events)
+    ∙ from-others (λ (s : State). s.active who) layout (state_after layout history) events other
+    (λ before w op reply took same. active-others before who w op reply took (λ is. apart (is ∙ same))) all
 
 -- what is called of one's own is a call
 is_call-own : (who : ℕ) (entry : Entry) → is_call_of who entry ≡ true → is_call entry ≡ true

@@ -26,20 +26,21 @@ use Rattle.tide_periods.specs.Store.{Setting, blocks_in}
 use Rattle.tide_periods.specs.Told.{AreCounted, IsCounted, events_of, uncounted}
 use Rattle.tide_periods.specs.Recorded.{IsAtRest, MadeCall, MayAsk, OpenedPart, Recorded}
 use Rattle.tide_model.proofs.PhaseLaws.{phase_after-call}
+use Rattle.tide_model.proofs.Windows.{StandsFull-now}
 use Rattle.tide_model.proofs.CallKeeps.{HasFewClaims, HasFewClaims-call, HasNoNewDead, HasNoNewDead-call, same_dead}
 use Rattle.tide_periods.proofs.CallerLaws.{called}
 
--- each block of the class is full right now, which is a moment of the window
-StandsFull-now : (layout : Layout) (history : List Event) (who class : ℕ) →
-    ((block : ℕ) → IsBlockOf layout class block → IsFullBlock layout (state_after layout history) block) → StandsFull layout history who class
-StandsFull-now layout history who class full block of_class =
-    let calls = moment_after_last-le (λ event. is_call_of who event.entry) history in
-    let opens = moment_after_last-le (λ event. is_open event.entry) history in (
-      length history,
-      omega (arith, calls, opens),
-      omega arith,
-      subst (λ (h : List Event). IsFullBlock layout (state_after layout h) block) (sym (take-all history)) (full block of_class),
-    )
+-- what contracts see of a store and of what was told of it
+abbrev pub recorded_of : Setting → State → List Told → ℕ → ℕ → ℕ → Recorded
+recorded_of setting state told cycles parts blocks = record {
+  setting = setting;
+  state = state;
+  told = told;
+  history = events_of told;
+  cycles = cycles;
+  parts = parts;
+  blocks = blocks;
+}
 
 -- what passes a test is one more where the new one passes
 pub count-push : (test : Event → Bool) (history : List Event) (event : Event) → count_by test (history ++ event ∷ []) ≡ count_by test history + (if test event then 1 else 0)

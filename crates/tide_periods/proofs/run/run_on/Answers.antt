@@ -10,6 +10,7 @@ use Rattle.tide_periods.specs.Periods.{pace_of}
 use Rattle.tide_periods.specs.Store.{Setting}
 use Rattle.tide_periods.specs.Recorded.{Recorded}
 use Rattle.tide_periods.specs.Told.{events_of}
+use Rattle.tide_periods.proofs.RecordedLaws.{recorded_of}
 use Rattle.tide_periods.proofs.Running.{HasRun-over}
 use Rattle.tide_periods.proofs.Starting.{AreCallers-nothing, total-few}
 use Rattle.tide_periods.proofs.run.run_on.Goals as goal
@@ -17,7 +18,7 @@ use Rattle.tide_periods.proofs.run.run_on.Goals as goal
 pub run_periods-requires-clause-callers : goal.run_periods-requires-clause-callers
 run_periods-requires-clause-callers g c =
     let made = c.in_ok-recording.recording in
-    let recorded : Recorded = record { setting = g.S.Store.setting made.store; state = g.S.Store.state made.store; told = made.told.items; history = events_of made.told.items; cycles = made.cycles; parts = made.parts; blocks = made.blocks } in
+    let recorded : Recorded = recorded_of (g.S.Store.setting made.store) (g.S.Store.state made.store) made.told.items made.cycles made.parts made.blocks in
     let scripts = map (λ ops. ops.items) c.args.scripts.items in
     let callers = c.in_ok-callers.callers.items in
     let new = c.in_ok-callers.ensures in
@@ -43,15 +44,7 @@ run_periods-requires-clause-room g c =
 pub returns : goal.returns
 returns g c =
     let after = c.run_periods.new.recorder in
-    let recorded : Recorded = record {
-      setting = g.S.Store.setting after.store;
-      state = g.S.Store.state after.store;
-      told = after.told.items;
-      history = events_of after.told.items;
-      cycles = after.cycles;
-      parts = after.parts;
-      blocks = after.blocks;
-    } in
+    let recorded : Recorded = recorded_of (g.S.Store.setting after.store) (g.S.Store.state after.store) after.told.items after.cycles after.parts after.blocks in
     let ran = c.in_ok-run_periods.ensures in
     let callers = c.in_ok-callers.callers in
     let new = c.run_periods.new.callers in

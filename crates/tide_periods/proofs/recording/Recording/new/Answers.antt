@@ -3,20 +3,13 @@ use Rattle.std.proofs.Common.{ap, sym, subst, List}
 use Rattle.tide_periods.specs.declared.told.Told.{Told}
 use Rattle.tide_periods.specs.Recorded.{IsAtRest}
 use Rattle.tide_periods.specs.Told.{events_of}
+use Rattle.tide_periods.proofs.RecordedLaws.{recorded_of}
 use Rattle.tide_periods.proofs.Starting.{IsAtRest-nothing}
 use Rattle.tide_periods.proofs.recording.Recording.new.Goals as goal
 
 pub returns-clause-at_rest : goal.returns-clause-at_rest
 returns-clause-at_rest g c =
-    subst (λ (told : List Told). IsAtRest (record {
-      setting = g.S.Store.setting c.args.store;
-      state = g.S.Store.state c.args.store;
-      told = told;
-      history = events_of told;
-      cycles = 0;
-      parts = 0;
-      blocks = c.args.blocks;
-    })) (sym c.in_ok-told.ensures)
+    subst (λ (told : List Told). IsAtRest (recorded_of (g.S.Store.setting c.args.store) (g.S.Store.state c.args.store) told 0 0 c.args.blocks)) (sym c.in_ok-told.ensures)
     (IsAtRest-nothing (g.S.Store.setting c.args.store) (g.S.Store.state c.args.store) c.args.blocks c.requires.empty c.requires.blocks)
 
 pub returns-clause-nothing : goal.returns-clause-nothing

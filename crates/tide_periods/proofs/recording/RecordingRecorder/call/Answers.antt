@@ -6,31 +6,15 @@ use Rattle.tide_model.specs.Applied.{after_call}
 use Rattle.tide_periods.specs.Recorded.{Recorded}
 use Rattle.tide_periods.specs.Told.{events_of, uncounted}
 use Rattle.tide_periods.proofs.CallerLaws.{called}
-use Rattle.tide_periods.proofs.RecordedLaws.{MadeCall-did}
+use Rattle.tide_periods.proofs.RecordedLaws.{MadeCall-did, recorded_of}
 use Rattle.tide_periods.proofs.recording.RecordingRecorder.call.Goals as goal
 
 pub returns : goal.returns
 returns g c =
     let self = c.args.self.now in
     let store = c.call-reply.new.self in
-    let old : Recorded = record {
-      setting = g.S.Store.setting self.store;
-      state = g.S.Store.state self.store;
-      told = self.told.items;
-      history = events_of self.told.items;
-      cycles = self.cycles;
-      parts = self.parts;
-      blocks = self.blocks;
-    } in
-    let new : Recorded = record {
-      setting = g.S.Store.setting store;
-      state = g.S.Store.state store;
-      told = c.append.new.list.items;
-      history = events_of c.append.new.list.items;
-      cycles = self.cycles;
-      parts = self.parts;
-      blocks = self.blocks;
-    } in
+    let old : Recorded = recorded_of (g.S.Store.setting self.store) (g.S.Store.state self.store) self.told.items self.cycles self.parts self.blocks in
+    let new : Recorded = recorded_of (g.S.Store.setting store) (g.S.Store.state store) c.append.new.list.items self.cycles self.parts self.blocks in
     let did = c.call-reply.ensures in
     MadeCall-did old new c.args.who c.args.op c.call-reply.result c.taken-took.result c.requires.at_rest c.requires.asks
     (subst (IsAnswer old.setting.layout old.setting.shapes old.state c.args.who c.args.op c.call-reply.result) (sym c.taken-took.ensures) did.answers)

@@ -9,6 +9,7 @@ use Rattle.tide_periods.specs.declared.told.Told.{Told}
 use Rattle.tide_periods.specs.Recorded.{Recorded}
 use Rattle.tide_periods.specs.Store.{Setting, blocks_in}
 use Rattle.tide_periods.specs.Told.{events_of, uncounted}
+use Rattle.tide_periods.proofs.RecordedLaws.{recorded_of}
 use Rattle.tide_periods.proofs.CycleLaws.{IsCollected, RanCycle-did}
 use Rattle.tide_periods.proofs.recording.RecordingRecorder.cycle.Goals as goal
 
@@ -16,24 +17,8 @@ pub returns : goal.returns
 returns g c =
     let self = c.args.self.now in
     let store = c.collect.new.self in
-    let old : Recorded = record {
-      setting = g.S.Store.setting self.store;
-      state = g.S.Store.state self.store;
-      told = self.told.items;
-      history = events_of self.told.items;
-      cycles = self.cycles;
-      parts = self.parts;
-      blocks = self.blocks;
-    } in
-    let new : Recorded = record {
-      setting = g.S.Store.setting store;
-      state = g.S.Store.state store;
-      told = c.tell_sweeps.new.told.items;
-      history = events_of c.tell_sweeps.new.told.items;
-      cycles = self.cycles + 1;
-      parts = self.parts;
-      blocks = self.blocks;
-    } in
+    let old : Recorded = recorded_of (g.S.Store.setting self.store) (g.S.Store.state self.store) self.told.items self.cycles self.parts self.blocks in
+    let new : Recorded = recorded_of (g.S.Store.setting store) (g.S.Store.state store) c.tell_sweeps.new.told.items (self.cycles + 1) self.parts self.blocks in
     let freed : List ℕ = c.in_ok-freed.freed.items in
     let kept = c.live-kept.result in
     let is_swept : ℕ → Bool = λ (block : ℕ). slice_index_or (g.S.Store.sweeps store) block false in

@@ -5,30 +5,14 @@ use Rattle.tide_model.specs.declared.entry.Entry.TheVariants.{Open}
 use Rattle.tide_model.specs.History.{plain}
 use Rattle.tide_periods.specs.Recorded.{Recorded}
 use Rattle.tide_periods.specs.Told.{events_of, uncounted}
-use Rattle.tide_periods.proofs.RecordedLaws.{OpenedPart-did}
+use Rattle.tide_periods.proofs.RecordedLaws.{OpenedPart-did, recorded_of}
 use Rattle.tide_periods.proofs.recording.RecordingRecorder.open.Goals as goal
 
 pub returns : goal.returns
 returns g c =
     let self = c.args.self.now in
-    let old : Recorded = record {
-      setting = g.S.Store.setting self.store;
-      state = g.S.Store.state self.store;
-      told = self.told.items;
-      history = events_of self.told.items;
-      cycles = self.cycles;
-      parts = self.parts;
-      blocks = self.blocks;
-    } in
-    let new : Recorded = record {
-      setting = g.S.Store.setting self.store;
-      state = g.S.Store.state self.store;
-      told = c.tell.new.told.items;
-      history = events_of c.tell.new.told.items;
-      cycles = self.cycles;
-      parts = self.parts + 1;
-      blocks = self.blocks;
-    } in
+    let old : Recorded = recorded_of (g.S.Store.setting self.store) (g.S.Store.state self.store) self.told.items self.cycles self.parts self.blocks in
+    let new : Recorded = recorded_of (g.S.Store.setting self.store) (g.S.Store.state self.store) c.tell.new.told.items self.cycles (self.parts + 1) self.blocks in
     OpenedPart-did old new c.args.run (self.parts + 1) c.requires.at_rest refl refl refl
     (ap events_of c.in_ok-tell.ensures ∙ map-append (λ t. t.event) self.told.items (uncounted (plain (Open (self.parts + 1) c.args.run)) ∷ []))
     c.in_ok-tell.ensures refl refl refl
