@@ -1,12 +1,14 @@
--- How the set bits of a word move and where the lowest stands.
-use Rattle.std.proofs.Common.{ℕ, zero, suc, ◌≡◌, ◌+◌, ◌-◌, ◌/◌, ◌%◌, ◌^◌, ◌<◌, refl, sym, ◌∙◌, ap, arith, ◌⊎◌, inl, inr, w64}
+-- How the bits of a word move and change, and where the lowest set one stands.
+use Rattle.std.proofs.Common.{ℕ, zero, suc, ◌≡◌, ◌≢◌, ◌+◌, ◌-◌, ◌*◌, ◌/◌, ◌%◌, ◌^◌, ◌<◌, refl, sym, ◌∙◌, ap, arith, Bool, ◌⊎◌, inl, inr, w64}
 use Rattle.std.proofs.lemmas.Nat.{shr_split}
-use Rattle.std.proofs.lemmas.Nat.Bits.{bit_at-zero, bit_at-lt, bit_at_above, bit_at_cat_high, bit_at-trailing_zeros}
-use Rattle.std.proofs.lemmas.Bool.{cases_lt}
+use Rattle.std.proofs.lemmas.Nat.Bits.{bit_at-zero, bit_at-lt, bit_at_above, bit_at_cat_high, bit_at_clear_other, bit_at_clear_same, bit_at_set_other, bit_at_set_same, bit_at-trailing_zeros}
+use Rattle.std.proofs.lemmas.Bool.{cases_lt, eq-eqb, ne_eqb}
+use Rattle.std.proofs.lemmas.Bool.Decides.{eqb_tells}
 use Rattle.std.proofs.Math.Pow.{pow_pos}
 use Rattle.std.proofs.Math.Nat.{mod-lt}
-use Rattle.std.specs.Int.{bit_at, trailing_zeros}
-use Rattle.tide_block.specs.Bits.{IsSet, IsClear, IsClearFrom, IsLowestFrom}
+use Rattle.std.specs.Int.{bit_at, bit_not, trailing_zeros}
+use Rattle.std.specs.Prelude.{bit_and, bit_or, if◌then◌else◌}
+use Rattle.tide_block.specs.Bits.{IsSet, IsClear, IsClearFrom, IsLowestFrom, IsWithBit}
 
 -- a bit is set or clear
 pub set_or_clear : (word bit : ℕ) → IsSet word bit ⊎ IsClear word bit
@@ -60,3 +62,47 @@ clear-shifted word k h bit from _ =
 -- where there is a lowest set bit, the bits from there on are not all clear
 pub lowest-not_clear : (word from bit : ℕ) → IsLowestFrom word from bit → ¬ IsClearFrom word from
 lowest-not_clear word from bit h clear = let zero_at = clear bit h.not_below h.inside in omega (arith, zero_at, h.set)
+
+-- a bit that is set by its mask
+pub with_bit-is : (word bit : ℕ) → bit < 64 → IsWithBit word (bit_or word (1 * 2 ^ bit % 2 ^ 64)) bit 1
+with_bit-is word bit inside other below = elim (eqb_tells other bit) [
+  | inl same ↦
+      ap (bit_at (bit_or word (1 * 2 ^ bit % 2 ^ 64))) same.1 ∙ bit_at_set_same w64 word bit inside
+      ∙ sym (ap (λ (b : Bool). if b then 1 else bit_at word other) same.0)
+  | inr apart ↦ bit_at_set_other w64 word bit inside other apart.1 ∙ sym (ap (λ (b : Bool). if b then 1 else bit_at word other) apart.0)
+]
+
+-- and one that is cleared by it
+pub without_bit-is : (word bit : ℕ) → bit < 64 → IsWithBit word (bit_and word (bit_not w64 (1 * 2 ^ bit % 2 ^ 64))) bit 0
+without_bit-is word bit inside other below = elim (eqb_tells other bit) [
+  | inl same ↦
+      ap (bit_at (bit_and word (bit_not w64 (1 * 2 ^ bit % 2 ^ 64)))) same.1 ∙ bit_at_clear_same w64 word bit inside
+      ∙ sym (ap (λ (b : Bool). if b then 0 else bit_at word other) same.0)
+  | inr apart ↦ bit_at_clear_other w64 word bit inside other below apart.1 ∙ sym (ap (λ (b : Bool). if b then 0 else bit_at word other) apart.0)
+]
+
+-- the bit that was changed
+pub with_bit-here : (old new bit value : ℕ) → bit < 64 → IsWithBit old new bit value → bit_at new bit ≡ value
+with_bit-here old new bit value inside changed = changed bit inside ∙ ap (λ (b : Bool). if b then value else bit_at old bit) (eq-eqb bit bit refl)
+
+-- each other bit
+pub with_bit-other : (old new bit value other : ℕ) → other < 64 → other ≢ bit → IsWithBit old new bit value → bit_at new other ≡ bit_at old other
+with_bit-other old new bit value other inside apart changed =
+    changed other inside ∙ ap (λ (b : Bool). if b then value else bit_at old other) (ne_eqb other bit apart)
+
+-- a set bit up to the lowest one from some bit on is that one or below where it was looked for from
+pub set-next : (word from next bit : ℕ) → IsLowestFrom word from next → bit < next + 1 → IsSet word bit → (bit < from) ⊎ (bit ≡ next)
+set-next word from next bit lowest below set = elim (cases_lt bit from) [
+  | inl earlier ↦ inl earlier
+  | inr later ↦ elim (cases_lt bit next) [
+    | inl before ↦ (let clear = lowest.lowest bit later before in absurd (omega (arith, set, clear)))
+    | inr last ↦ inr (omega (arith, below, last))
+  ]
+]
+
+-- where no bit from one on is set, a set bit is below it
+pub set-below : (word from bit : ℕ) → IsClearFrom word from → bit < 64 → IsSet word bit → bit < from
+set-below word from bit clear inside set = elim (cases_lt bit from) [
+  | inl below ↦ below
+  | inr later ↦ (let is = clear bit later inside in absurd (omega (arith, set, is)))
+]

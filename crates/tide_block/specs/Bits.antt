@@ -1,5 +1,5 @@
--- The set bits of a word.
-use Rattle.std.specs.Prelude.{ℕ, ◌≡◌, ◌<◌, ◌≤◌}
+-- The bits of a word.
+use Rattle.std.specs.Prelude.{ℕ, ◌≡◌, ◌<◌, ◌≤◌, ◌==◌, if◌then◌else◌}
 use Rattle.std.specs.Int.{bit_at}
 
 -- the bit of the word is set
@@ -20,3 +20,7 @@ pub record IsLowestFrom (word from bit : ℕ) : Type 0 where
   pub not_below : from ≤ bit
   pub set : IsSet word bit
   pub lowest : (other : ℕ) → from ≤ other → other < bit → IsClear word other
+
+-- the new word has this value at the bit, and that of the old word at each other one
+abbrev pub IsWithBit : ℕ → ℕ → ℕ → ℕ → Type 0
+IsWithBit old new bit value = (other : ℕ) → other < 64 → bit_at new other ≡ (if other == bit then value else bit_at old other)

@@ -12,3 +12,4 @@ pub mod LiveLaws
 pub mod Parts
 pub mod ReadGraph
 pub mod ReadingLaws
+pub mod WriteLaws

@@ -5,3 +5,4 @@ pub mod Filled
 pub mod Heap
 pub mod Live
 pub mod Reading
+pub mod Written

@@ -2,6 +2,7 @@
 pub mod Colours
 pub mod Greyed
 pub mod Greys
+pub mod GreyWords
 pub mod Marked
 pub mod Kept
 pub mod Marking

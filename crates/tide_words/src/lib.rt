@@ -15,8 +15,10 @@ pub use forms::{
     phase_word, structure_word, val_word, word_array, word_claim, word_pair, word_phase,
     word_structure, word_val,
 };
-pub use heap::{Fields, VecWords, Words, array_of, is_live, is_vacant};
+pub use heap::{
+    Fields, VecWords, Words, array_of, clear_bit, is_live, is_vacant, set_bit, store_word,
+};
 pub use marking::{
-    Constraint, GreyList, Volatility, blacken, is_marked, mark, mark_named, running_cycle,
+    Constraint, GreyList, Volatility, blacken, is_grey, is_marked, mark, mark_named, running_cycle,
 };
 pub use tide_layout::{Layout, Region};

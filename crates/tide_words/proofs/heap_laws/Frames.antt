@@ -1,12 +1,14 @@
 -- Which words of a cell a write leaves.
 use Rattle.std.proofs.Common.{ℕ, ◌≡◌, ◌≢◌, ◌%◌, ◌<◌, refl, ◌∙◌, ap, subst, arith, Bool, true, false, Some, length}
 use Rattle.std.proofs.lemmas.Bool.{or_left, or_right}
-use Rattle.std.specs.Prelude.{◌||◌}
+use Rattle.std.specs.Prelude.{◌==◌, ◌||◌}
 use Rattle.tide_model.specs.Layout.{Layout, block_of_cell}
 use Rattle.tide_model.specs.Refused.{ShapeLists}
-use Rattle.tide_model.specs.State.{CellState, State, live}
+use Rattle.tide_model.specs.State.{CellState, Phase as CyclePhase, State, live}
 use Rattle.tide_layout.specs.declared.region.Region.{Region}
 use Rattle.tide_layout.specs.declared.region.Region.TheVariants.{Period, Phase, Active, Call, Stopped, Registers, Strong, Weak, Colour, Structure, Array, Claim, Group, Slots, Elements, Free, Dead, GreyShared, GreyMutator, GreyRace, Swept}
+use Rattle.tide_layout.specs.Region.{tag}
+use Rattle.tide_words.specs.forms.ColourWord.{phase_of}
 use Rattle.tide_words.specs.heap.Heap.{Heap, SameIn, write}
 use Rattle.tide_words.specs.heap.Reading.{PartsRead, ReadsAs, cell_status, status_by}
 use Rattle.tide_layout.specs.Slots.{index_of_element, index_of_slot, width_of_array, width_of_cell}
@@ -14,7 +16,7 @@ use Rattle.tide_words.proofs.heap_laws.HeapLaws.{write-other_index}
 use Rattle.tide_words.proofs.heap_laws.ReadingLaws.{SameIn-write, tags-apart}
 use Rattle.tide_layout.proofs.SlotPlaces.{index_of_element-alone, index_of_element-below, index_of_slot-alone, index_of_slot-below}
 use Rattle.tide_words.proofs.heap_laws.CellReading.{SameCellWords}
-use Rattle.tide_words.proofs.heap_laws.Parts.{PartsRead-same, RootsRead-same, SameParts, is_root_region}
+use Rattle.tide_words.proofs.heap_laws.Parts.{PartsRead-same, RootsRead-phase, RootsRead-same, SameParts, is_root_region}
 
 -- a region that tells cells, arrays or claims
 abbrev pub is_part_region : Region → Bool
@@ -74,6 +76,15 @@ pub ReadsAs-same : (layout : Layout) (shapes : ShapeLists) (old new : Heap) (sta
 ReadsAs-same layout shapes old new state same reads = record {
   roots = RootsRead-same layout old new state (λ region is. same region (or_left (is_root_region region) (is_part_region region) is)) reads.roots;
   parts = PartsRead-regions layout shapes old new state (λ region is. same region (or_right (is_root_region region) (is_part_region region) is)) reads.parts;
+}
+
+-- a heap with the same words but that of the phase reads as the state in that phase
+pub ReadsAs-phase : (layout : Layout) (shapes : ShapeLists) (old new : Heap) (state : State) (phase : CyclePhase) →
+    ((region : Region) → (tag region == tag Phase) ≡ false → SameIn layout region old new) → phase_of (new Phase 0) ≡ phase →
+    ReadsAs layout shapes old state → ReadsAs layout shapes new (record state { phase = phase })
+ReadsAs-phase layout shapes old new state phase same is reads = record {
+  roots = RootsRead-phase layout old new state phase (λ region root apart. same region apart) is reads.roots;
+  parts = PartsRead-regions layout shapes old new state (λ region part. same region (tags-apart is_part_region Phase region refl part)) reads.parts;
 }
 
 -- a write to a region that isn't read leaves the reading
