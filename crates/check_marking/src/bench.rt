@@ -9,13 +9,16 @@
 //! - `volatility CONSTRAINT`, `clear weak` and `clear pairs` do what they say;
 //! - `mark CELL` and `mark named WORD` are answered with whether the cell was marked, and the list;
 //! - `marked` is answered with the cells that are, `is_live CELL` with true or false, `length` with the number of words, and
-//!   `REGION NUMBER`, `slot CELL.SLOT` and `pair TABLE.PLACE` with what is there.
+//!   `REGION NUMBER`, `slot CELL.SLOT` and `pair TABLE.PLACE` with what is there;
+//! - `label LABEL beside CELL` is answered with the label that is beside the words of an empty heap after a call looked at
+//!   the cell in them.
 ghost use Rattle.std.specs.Prelude.{◌≡◌, ◌+◌, true, length, IfOk};
 ghost use Rattle.tide_model.specs.Layout.{cell_count};
 ghost use Rattle.tide_words.specs.marking.Colours.{is_marking};
 ghost use Rattle.tide_words.specs.marking.Greyed.{HasRoom};
 ghost use Rattle.tide_words.specs.heap.Heap.{heap_of, Heap as HeapWords};
 
+use crate::labelled::label_beside;
 use check_heap::{
     Answers, Heap, System, joined, layout_of, number, number_between, number_text, numbers_text,
     text, word_of,
@@ -193,6 +196,22 @@ fn name_of(volatility: Volatility) -> &'static str {
     }
 }
 
+/// The label beside the words of an empty heap after a call that looked at a cell in them.
+fn label_text(
+    alloc: Global,
+    heap: &Heap,
+    label: &str,
+    cell: &str,
+) -> Result<Option<String>, AllocError> {
+    let (Some(label), Some(cell)) = (number(label), number(cell)) else {
+        return Ok(None);
+    };
+    match label_beside(alloc, &heap.layout, label, cell) {
+        Some(left) => Ok(Some(number_text(alloc, u64::from(left))?)),
+        None => Ok(None),
+    }
+}
+
 /// Does what a cycle's end does to handles or to pairs.
 fn clear(heap: &mut Heap, what: &str) -> bool {
     match what {
@@ -232,6 +251,7 @@ fn asked(
             None => Ok(None),
         },
         ["clear", what] if clear(heap, what) => Ok(Some(text(alloc, "")?)),
+        ["label", label, "beside", cell] => label_text(alloc, heap, label, cell),
         [what, at] => heap.word_text(alloc, what, at),
         _ => Ok(None),
     }

@@ -18,6 +18,7 @@ mod bench;
 mod chains;
 mod draw;
 mod heaps;
+mod labelled;
 mod marking;
 mod runs;
 

@@ -1,5 +1,6 @@
 pub mod ArrayLaws
 pub mod BitLaws
+mod BitRows
 pub mod BlockLaws
 pub mod PlaceLaws
 pub mod RisingLaws

@@ -2,6 +2,7 @@
 pub mod ColourLaws
 pub mod ConstraintLaws
 pub mod EmptyMarking
+mod ListRows
 pub mod MarkedLaws
 pub mod MarkingLaws
 pub mod NamedLaws

@@ -1,7 +1,6 @@
 //! A list of words with something beside it, which no call over words may change.
 ghost use Rattle.std.specs.Prelude.{◌≡◌, ℕ, ◌<◌, List, length, slice_index, slice_set, IfSome};
 
-use check_heap::number;
 use std::alloc::Global;
 use tide_layout::Layout;
 use tide_words::{VecWords, Words, is_live};
@@ -34,7 +33,7 @@ impl Words for Labelled {
 }
 
 /// The label beside the empty heap of a layout, after a call over its words that looked whether a cell is live: as it was.
-fn label_beside(alloc: Global, layout: &Layout, label: u32, cell: u32) -> Option<u32>
+pub fn label_beside(alloc: Global, layout: &Layout, label: u32, cell: u32) -> Option<u32>
     ensures label { IfSome result (λ left. left ≡ label) }
 {
     if cell >= layout.cells() {
@@ -44,14 +43,4 @@ fn label_beside(alloc: Global, layout: &Layout, label: u32, cell: u32) -> Option
     let mut labelled = Labelled { words, label };
     let _ = is_live(&mut labelled, layout, cell);
     Some(labelled.label)
-}
-
-/// What `label LABEL beside CELL` answers.
-pub fn told_of_label(alloc: Global, layout: &Layout, words: &[&str]) -> Option<u32> {
-    match words {
-        ["label", label, "beside", cell] => {
-            label_beside(alloc, layout, number(label)?, number(cell)?)
-        }
-        _ => None,
-    }
 }
