@@ -16,11 +16,12 @@ pub const LONGEST_REPLY: usize = 24;
 impl<const ROOM: usize> Line<ROOM> {
     /// An operation, as a workload with these keys writes it.
     #[tactic(auto, unfolding(crate::specs::OpText::op_text))]
-    pub fn op(self, keys: &Keys, op: Op) -> Self
+    pub fn op(&mut self, keys: &Keys, op: Op) -> &mut Self
         requires text { HasText keys.now op }
-        requires room { length self + LONGEST_OP ≤ ROOM }
-        ensures value { result ≡ self.entry ++ op_text keys.now op }
-        ensures grown { length result ≤ length self.entry + LONGEST_OP }
+        requires room { length self.old + LONGEST_OP ≤ ROOM }
+        ensures same_reference { result.ghost_name ≡ self.entry.ghost_name }
+        ensures value { result.now ≡ self.old ++ op_text keys.now op }
+        ensures grown { length result.now ≤ length self.old + LONGEST_OP }
     {
         match op {
             Op::Alloc { dst, class } => self.text("alloc").register(dst).operand(class),
@@ -57,10 +58,11 @@ impl<const ROOM: usize> Line<ROOM> {
 
     /// What an operation was answered.
     #[tactic(auto, unfolding(crate::specs::Line::reply_text))]
-    pub fn reply(self, reply: Reply) -> Self
-        requires { length self + LONGEST_REPLY ≤ ROOM }
-        ensures value { result ≡ self.entry ++ reply_text reply }
-        ensures grown { length result ≤ length self.entry + LONGEST_REPLY }
+    pub fn reply(&mut self, reply: Reply) -> &mut Self
+        requires { length self.old + LONGEST_REPLY ≤ ROOM }
+        ensures same_reference { result.ghost_name ≡ self.entry.ghost_name }
+        ensures value { result.now ≡ self.old ++ reply_text reply }
+        ensures grown { length result.now ≤ length self.old + LONGEST_REPLY }
     {
         match reply {
             Reply::Done => self.text("ok"),
@@ -73,10 +75,11 @@ impl<const ROOM: usize> Line<ROOM> {
 
     /// A value that was read.
     #[tactic(auto, unfolding(crate::specs::Line::val_text))]
-    pub fn val(self, val: Val) -> Self
-        requires { length self + LONGEST_ID ≤ ROOM }
-        ensures value { result ≡ self.entry ++ val_text val }
-        ensures grown { length result ≤ length self.entry + LONGEST_ID }
+    pub fn val(&mut self, val: Val) -> &mut Self
+        requires { length self.old + LONGEST_ID ≤ ROOM }
+        ensures same_reference { result.ghost_name ≡ self.entry.ghost_name }
+        ensures value { result.now ≡ self.old ++ val_text val }
+        ensures grown { length result.now ≤ length self.old + LONGEST_ID }
     {
         match val {
             Val::Empty => self.text("-"),
@@ -87,10 +90,11 @@ impl<const ROOM: usize> Line<ROOM> {
 
     /// Why an operation was refused.
     #[tactic(auto, unfolding(crate::specs::Line::refusal_text))]
-    fn refusal(self, refusal: Refusal) -> Self
-        requires { length self + LONGEST_REPLY ≤ ROOM }
-        ensures value { result ≡ self.entry ++ refusal_text refusal }
-        ensures grown { length result ≤ length self.entry + LONGEST_REPLY }
+    fn refusal(&mut self, refusal: Refusal) -> &mut Self
+        requires { length self.old + LONGEST_REPLY ≤ ROOM }
+        ensures same_reference { result.ghost_name ≡ self.entry.ghost_name }
+        ensures value { result.now ≡ self.old ++ refusal_text refusal }
+        ensures grown { length result.now ≤ length self.old + LONGEST_REPLY }
     {
         match refusal {
             Refusal::NotCell { reg } => self.text("r").number(reg).text(" is no cell"),

@@ -11,10 +11,11 @@ pub const LONGEST_FAULT: usize = 60;
 impl<const ROOM: usize> Line<ROOM> {
     /// A fault in words.
     #[tactic(auto, unfolding(crate::specs::FaultLine::fault_text))]
-    pub fn fault(self, fault: Fault) -> Self
-        requires { length self + LONGEST_FAULT ≤ ROOM }
-        ensures value { result ≡ self.entry ++ fault_text fault }
-        ensures grown { length result ≤ length self.entry + LONGEST_FAULT }
+    pub fn fault(&mut self, fault: Fault) -> &mut Self
+        requires { length self.old + LONGEST_FAULT ≤ ROOM }
+        ensures same_reference { result.ghost_name ≡ self.entry.ghost_name }
+        ensures value { result.now ≡ self.old ++ fault_text fault }
+        ensures grown { length result.now ≤ length self.old + LONGEST_FAULT }
     {
         match fault {
             Fault::NotToml => self.text("not TOML"),

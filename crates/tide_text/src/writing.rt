@@ -22,7 +22,8 @@ pub fn write_mutator<K: Sink>(out: &mut K, m: u32) -> Result<(), Failed>
     ensures part { OnErr result (AppendsPart (K.held out.old) (K.held out.new) (mutator_line m)) }
     ensures cause { HasCause (K.faults out.old) (K.faults out.new) result }
 {
-    let line = RunLine::new().text("mutator").operand(m).text("\n");
+    let mut line = RunLine::new();
+    line.text("mutator").operand(m).text("\n");
     write_all(out, line.as_bytes())
 }
 
@@ -35,11 +36,8 @@ pub fn write_call<K: Sink>(out: &mut K, load: &Workload, op: Op, reply: Reply) -
     ensures part { OnErr result (AppendsPart (K.held out.old) (K.held out.new) (call_line load.now.keys op reply)) }
     ensures cause { HasCause (K.faults out.old) (K.faults out.new) result }
 {
-    let line = RunLine::new()
-        .op(load.keys(), op)
-        .text(" = ")
-        .reply(reply)
-        .text("\n");
+    let mut line = RunLine::new();
+    line.op(load.keys(), op).text(" = ").reply(reply).text("\n");
     write_all(out, line.as_bytes())
 }
 
@@ -50,7 +48,8 @@ pub fn write_live<K: Sink>(out: &mut K, live: u32) -> Result<(), Failed>
     ensures part { OnErr result (AppendsPart (K.held out.old) (K.held out.new) (live_line live)) }
     ensures cause { HasCause (K.faults out.old) (K.faults out.new) result }
 {
-    let line = RunLine::new().text("live").operand(live).text("\n");
+    let mut line = RunLine::new();
+    line.text("live").operand(live).text("\n");
     write_all(out, line.as_bytes())
 }
 
@@ -61,7 +60,8 @@ pub fn write_fault_line<K: Sink>(out: &mut K, fault: Fault) -> Result<(), Failed
     ensures part { OnErr result (AppendsPart (K.held out.old) (K.held out.new) (fault_line fault)) }
     ensures cause { HasCause (K.faults out.old) (K.faults out.new) result }
 {
-    let line = RunLine::new().text("riptide: ").fault(fault).text("\n");
+    let mut line = RunLine::new();
+    line.text("riptide: ").fault(fault).text("\n");
     write_all(out, line.as_bytes())
 }
 
@@ -87,12 +87,10 @@ fn write_counts<K: Sink>(out: &mut K, number: u64, kept: u32, freed: usize) -> R
     ensures part { OnErr result (AppendsPart (K.held out.old) (K.held out.new) (counts_text number kept freed)) }
     ensures cause { HasCause (K.faults out.old) (K.faults out.new) result }
 {
-    let line = RunLine::new()
-        .text("cycle")
-        .operand(number)
-        .text(" kept")
-        .operand(kept);
-    let line = line.text(" freed").operand(freed);
+    let mut line = RunLine::new();
+    line.text("cycle").operand(number);
+    line.text(" kept").operand(kept);
+    line.text(" freed").operand(freed);
     write_all(out, line.as_bytes())
 }
 
@@ -127,6 +125,7 @@ fn write_cell<K: Sink>(out: &mut K, id: u32) -> Result<(), Failed>
     ensures part { OnErr result (AppendsPart (K.held out.old) (K.held out.new) (freed_cell_text id)) }
     ensures cause { HasCause (K.faults out.old) (K.faults out.new) result }
 {
-    let line = RunLine::new().text(" ").cell(id);
+    let mut line = RunLine::new();
+    line.text(" ").cell(id);
     write_all(out, line.as_bytes())
 }

@@ -8,7 +8,7 @@ pub returns-in-Missing-clause-value : goal.returns-in-Missing-clause-value
 unfolding fault_text
 returns-in-Missing-clause-value g c =
     rw (c.in-Missing.is, c.text-in-Missing-2.ensures.value, c.text-in-Missing.ensures.value, c.name.ensures.value)
-    (append_assoc c.args.self (codes "missing field ") (name_of c.in-Missing.field))
+    (append_assoc c.args.self.now (codes "missing field ") (name_of c.in-Missing.field))
 
 -- a text and a number, twice, after what stands there
 two_numbers : (before first n second m : List ℕ) →
@@ -23,4 +23,4 @@ pub returns-in-BadOp-clause-value : goal.returns-in-BadOp-clause-value
 unfolding fault_text
 returns-in-BadOp-clause-value g c =
     rw (c.in-BadOp.is, c.operand-in-BadOp.ensures.value, c.text-in-BadOp-2.ensures.value, c.operand.ensures.value, c.text-in-BadOp.ensures.value)
-    (two_numbers c.args.self (codes "bad op") (decimal c.in-BadOp.at) (codes " of mutator") (decimal c.in-BadOp.mutator))
+    (two_numbers c.args.self.now (codes "bad op") (decimal c.in-BadOp.at) (codes " of mutator") (decimal c.in-BadOp.mutator))
