@@ -28,7 +28,7 @@ use Rattle.tide_periods.specs.Store.{Setting, blocks_in}
 use Rattle.tide_periods.specs.declared.told.Told.{Told}
 use Rattle.tide_periods.specs.Recorded.{IsAtRest, RanCycle, Recorded}
 use Rattle.tide_periods.specs.Told.{AreCounted, IsCounted, events_of, uncounted}
-use Rattle.tide_periods.proofs.RecordedLaws.{count-push}
+use Rattle.tide_model.proofs.SinceLaws.{count-push}
 
 -- what the end of a cycle leaves doesn't depend on the phase
 pub after_end-phase : (state : State) (phase : Phase) (freed : List ℕ) → after_end (record state { phase = phase }) freed ≡ after_end state freed

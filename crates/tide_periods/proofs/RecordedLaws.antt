@@ -1,8 +1,7 @@
 -- How what a recorder knows grows by one entry.
-use Rattle.std.proofs.Common.{ℕ, ◌≡◌, ◌+◌, refl, sym, ◌∙◌, ap, subst, arith, Bool, List, [], ◌∷◌, ◌++◌, length, add-zero, zero-add}
+use Rattle.std.proofs.Common.{ℕ, ◌≡◌, ◌+◌, refl, sym, ◌∙◌, ap, subst, List, [], ◌∷◌, ◌++◌, add-zero}
 use Rattle.std.proofs.lemmas.List.{map-append}
-use Rattle.std.proofs.lemmas.List.Sums.{sum_by-append}
-use Rattle.std.specs.Prelude.{Option, count_by, if◌then◌else◌}
+use Rattle.std.specs.Prelude.{Option, if◌then◌else◌}
 use Rattle.tide_model.specs.declared.op.Op.{Op}
 use Rattle.tide_model.specs.declared.op.Reply.{Reply}
 use Rattle.tide_model.specs.declared.op.Reply.TheVariants.{Refused}
@@ -12,15 +11,15 @@ use Rattle.tide_model.specs.declared.entry.Event.{Event}
 use Rattle.tide_model.specs.Answer.{IsAnswer}
 use Rattle.tide_model.specs.Applied.{after_call}
 use Rattle.tide_model.specs.Cycle.{HasDead, dead_cell, dead_array, begin_count}
-use Rattle.tide_model.specs.History.{after_event, is_begin, is_call_of, is_open, plain, state_after}
+use Rattle.tide_model.specs.History.{after_event, is_begin, is_open, plain, state_after}
 use Rattle.tide_model.specs.Lawful.{IsLawful, Stands}
 use Rattle.tide_model.specs.Layout.{Layout, IsBlockOf}
 use Rattle.tide_model.specs.Periods.{EndsInTime, open_count}
-use Rattle.tide_model.specs.Room.{IsFullBlock, StandsFull}
+use Rattle.tide_model.specs.Room.{IsFullBlock}
 use Rattle.tide_model.specs.Each.{Each}
 use Rattle.tide_model.specs.State.{State, idle}
-use Rattle.tide_model.proofs.Cycles.{take-all}
-use Rattle.tide_model.proofs.Histories.{IsLawful-push, moment_after_last-le, push_cases, state_after-push}
+use Rattle.tide_model.proofs.Histories.{IsLawful-push, push_cases, state_after-push}
+use Rattle.tide_model.proofs.SinceLaws.{count-push}
 use Rattle.tide_periods.specs.declared.told.Told.{Told}
 use Rattle.tide_periods.specs.Store.{Setting, blocks_in}
 use Rattle.tide_periods.specs.Told.{AreCounted, IsCounted, events_of, uncounted}
@@ -41,12 +40,6 @@ recorded_of setting state told cycles parts blocks = record {
   parts = parts;
   blocks = blocks;
 }
-
--- what passes a test is one more where the new one passes
-pub count-push : (test : Event → Bool) (history : List Event) (event : Event) → count_by test (history ++ event ∷ []) ≡ count_by test history + (if test event then 1 else 0)
-count-push test history event =
-    sum_by-append (λ e. if test e then 1 else 0) history (event ∷ [])
-    ∙ (let more = zero-add (if test event then 1 else 0) in ap (λ (n : ℕ). count_by test history + n) more)
 
 -- nothing is dead where nothing dead is new
 IsSwept-grown : (layout : Layout) (one other : State) → HasNoNewDead one other → ((block : ℕ) → HasDead layout one block → ⊥) → (block : ℕ) → HasDead layout other block → ⊥

@@ -1,7 +1,9 @@
 -- The laws of colours, greys, marking and constraints.
+pub mod BarrierLaws
 pub mod ColourLaws
 pub mod ConstraintLaws
 pub mod EmptyMarking
+pub mod LinkLaws
 mod ListRows
 pub mod MarkedLaws
 pub mod MarkingLaws

@@ -1,0 +1,4 @@
+pub mod EndLaws
+pub mod EntryLaws
+pub mod PointLaws
+mod WaveRows

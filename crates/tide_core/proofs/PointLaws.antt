@@ -1,0 +1,95 @@
+-- How the points of the wave that speak of a cycle are kept by an entry that begins none and is no birth.
+use Rattle.std.proofs.Common.{ℕ, ◌≡◌, ◌+◌, ◌<◌, refl, sym, ◌∙◌, ap, arith, Bool, true, false, List, [], ◌∷◌, ◌++◌}
+use Rattle.std.proofs.lemmas.List.Folds.{list_any-append}
+use Rattle.std.specs.List.{list_any}
+use Rattle.std.specs.Prelude.{◌&&◌, ◌||◌, not}
+use Rattle.tide_layout.specs.declared.region.Region.TheVariants.{Colour, Phase}
+use Rattle.tide_model.specs.declared.entry.Event.{Event}
+use Rattle.tide_model.specs.Cycle.{cycle_span}
+use Rattle.tide_model.specs.Graph.{IsRetained, graph_of, no_cell, retained_more}
+use Rattle.tide_model.specs.History.{is_begin, state_after}
+use Rattle.tide_model.specs.Layout.{Layout, cell_count}
+use Rattle.tide_model.specs.Since.{since, visits_in}
+use Rattle.tide_model.proofs.CountLaws.{count_where-wider}
+use Rattle.tide_model.proofs.NumberLaws.{count_where-same}
+use Rattle.tide_model.proofs.SinceLaws.{since-push, visits_since-push}
+use Rattle.tide_model.proofs.Spans.{cycle_span-push, graph_in_cycle_span}
+use Rattle.tide_words.specs.heap.Heap.{Heap, SameIn}
+use Rattle.tide_words.specs.marking.Colours.{IsBlack, IsMarked, IsMarkedWithin, black_count, is_black}
+use Rattle.tide_words.proofs.marking_laws.ColourLaws.{is_black-same, is_marked-same}
+use Rattle.tide_solver.specs.Traced.{IsReached}
+use Rattle.tide_core.specs.FrozenWave.{BlackIsCounted, BornIsMarked, MarkedIsRetained, is_birth_of, is_born_in_cycle}
+
+-- the event begins no cycle, and no cell is born at it
+pub record IsQuiet (event : Event) : Type 0 where
+  pub goes_on : is_begin event.entry ≡ false
+  pub no_birth : (cell : ℕ) → is_birth_of cell event.entry ≡ false
+
+-- from one heap to the next no cell loses its mark, and so many more are black
+pub record MarksGrow (layout : Layout) (old new : Heap) (visits : ℕ) : Type 0 where
+  pub stays_marked : (cell : ℕ) → cell < cell_count layout → IsMarked old cell → IsMarked new cell
+  pub stays_black : (cell : ℕ) → cell < cell_count layout → IsBlack old cell → IsBlack new cell
+  pub blackened : black_count layout new ≡ black_count layout old + visits
+
+-- so it is where the colours are the same
+pub MarksGrow-same : (layout : Layout) (old new : Heap) → SameIn layout Phase old new → SameIn layout Colour old new →
+    MarksGrow layout old new 0
+MarksGrow-same layout old new phase colour = record {
+  stays_marked = λ cell within marked. is_marked-same layout old new cell phase colour within ∙ marked;
+  stays_black = λ cell within black. is_black-same layout old new cell phase colour within ∙ black;
+  blackened =
+      let same = count_where-same (is_black new) (is_black old) (cell_count layout)
+      (λ cell within. is_black-same layout old new cell phase colour within) in
+      omega (arith, same);
+}
+
+-- What the state reaches from marked cells, the cycle retains.
+pub reached-retained : (layout : Layout) (heap : Heap) (history : List Event) → MarkedIsRetained layout heap history →
+    (cell : ℕ) → IsReached layout heap (state_after layout history) cell →
+    IsRetained (cycle_span layout history) no_cell cell
+reached-retained layout heap history retained =
+    retained_more (graph_of (state_after layout history)) (cycle_span layout history)
+    (IsMarkedWithin layout heap) no_cell
+    (graph_in_cycle_span layout history) (λ cell marked. retained cell marked.0 marked.1)
+
+-- what the cycle retained it still retains
+pub retained-push : (layout : Layout) (history : List Event) (event : Event) → is_begin event.entry ≡ false →
+    (cell : ℕ) → IsRetained (cycle_span layout history) no_cell cell →
+    IsRetained (cycle_span layout (history ++ event ∷ [])) no_cell cell
+retained-push layout history event goes_on =
+    retained_more (cycle_span layout history) (cycle_span layout (history ++ event ∷ [])) no_cell no_cell
+    (cycle_span-push layout history event goes_on) (λ cell none. absurd none)
+
+-- the same cells were born in the cycle
+pub born-push : (history : List Event) (event : Event) → IsQuiet event → (cell : ℕ) →
+    is_born_in_cycle (history ++ event ∷ []) cell ≡ is_born_in_cycle history cell
+born-push history event quiet cell =
+    ap (list_any (λ e. is_birth_of cell e.entry)) (since-push is_begin history event quiet.goes_on)
+    ∙ list_any-append (λ e. is_birth_of cell e.entry) (since is_begin history) (event ∷ [])
+    ∙ ap (λ (born : Bool). is_born_in_cycle history cell || (born || false)) (quiet.no_birth cell)
+    ∙ or_false (is_born_in_cycle history cell)
+  where
+    or_false : (b : Bool) → (b || false) ≡ b
+    or_false true = refl
+    or_false false = refl
+
+-- each cell that was born in the cycle is still marked
+pub BornIsMarked-push : (layout : Layout) (old new : Heap) (history : List Event) (event : Event) → IsQuiet event →
+    MarksGrow layout old new (visits_in event.entry) → BornIsMarked layout old history →
+    BornIsMarked layout new (history ++ event ∷ [])
+BornIsMarked-push layout old new history event quiet grow marked cell within born =
+    grow.stays_marked cell within (marked cell within (sym (born-push history event quiet cell) ∙ born))
+
+-- and what was made black is counted by the entry
+pub BlackIsCounted-push : (layout : Layout) (old new : Heap) (history : List Event) (event : Event) → IsQuiet event →
+    MarksGrow layout old new (visits_in event.entry) → BlackIsCounted layout old history →
+    BlackIsCounted layout new (history ++ event ∷ [])
+BlackIsCounted-push layout old new history event quiet grow counted =
+    let wider = count_where-wider (is_black old) (is_black new) (λ cell. not (is_born_in_cycle history cell))
+    (cell_count layout) grow.stays_black in
+    let blackened = grow.blackened in
+    let same = count_where-same (λ cell. is_black new cell && not (is_born_in_cycle (history ++ event ∷ []) cell))
+    (λ cell. is_black new cell && not (is_born_in_cycle history cell)) (cell_count layout)
+    (λ cell within. ap (λ (born : Bool). is_black new cell && not born) (born-push history event quiet cell)) in
+    let visits = visits_since-push is_begin history event quiet.goes_on in
+    omega (arith, counted, wider, blackened, same, visits)
