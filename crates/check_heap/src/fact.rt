@@ -27,6 +27,8 @@ pub fn region_of(name: &str) -> Option<Region> {
         "group" => Region::Group,
         "free" => Region::Free,
         "dead" => Region::Dead,
+        "grey_shared" => Region::GreyShared,
+        "grey_mutator" => Region::GreyMutator,
         "grey_race" => Region::GreyRace,
         "swept" => Region::Swept,
         _ => return None,

@@ -17,9 +17,9 @@ pub struct Marked {
     marking: Option<Marking>,
 }
 
-/// Marks within a budget, and tells how that ended.
-fn solve(alloc: Global, marking: &mut Marking, budget: u32) -> Result<String, AllocError> {
-    match marking.solve(budget) {
+/// How marking ended.
+pub fn solved_text(alloc: Global, solved: Solved) -> Result<String, AllocError> {
+    match solved {
         Solved::Converged { visits } => number_between(alloc, "converged ", u64::from(visits), ""),
         Solved::More { visits } => number_between(alloc, "more ", u64::from(visits), ""),
     }
@@ -33,7 +33,7 @@ fn told(
 ) -> Result<Option<String>, AllocError> {
     let cells = match words {
         ["solve", budget] => match number(budget) {
-            Some(budget) => return Ok(Some(solve(alloc, marking, budget)?)),
+            Some(budget) => return Ok(Some(solved_text(alloc, marking.solve(budget))?)),
             None => return Ok(None),
         },
         ["black"] => marking.cells_of(alloc, Colour::Black)?,

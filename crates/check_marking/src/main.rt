@@ -1,5 +1,5 @@
 //! The program `check_marking`: marks heaps of words by `tide_solver::solve` with the four constraints of a collector, runs
-//! single constraints and what a cycle's end does, and compares what comes with what is expected.
+//! single constraints, collects heaps by whole cycles, and compares what comes with what is expected.
 //!
 //! Each line of its input is one check. A FILE lies in the folder that it is run in, and its rows are done one by one:
 //!
@@ -12,10 +12,13 @@
 //!   groups `alone`, all `together`, or two and two, `beside`, `apart` or `drawn`, and of which `nothing`, `few` (one of
 //!   130), `half`, `cells` (half, but no table) or `all` is marked. What the quickest took goes to the error output, in
 //!   nanoseconds.
+//! - `cycles FILE`: heaps that are collected, step by step or a whole cycle at a time (`cycles.rt`).
 #![tactic(auto)]
 
 mod bench;
 mod chains;
+mod collecting;
+mod cycles;
 mod draw;
 mod heaps;
 mod labelled;
@@ -25,6 +28,7 @@ mod runs;
 use bench::Bench;
 use chains::{Chain, check_chain};
 use check_heap::{Checks, System, check_lines, check_rows, number, small_number, words_of};
+use cycles::Cycles;
 use heaps::Marked;
 use runs::{Grouping, Marks, time_runs};
 use std::io;
@@ -77,6 +81,7 @@ impl<R: System> Checks for Program<'_, R> {
         match *words_of(rt.alloc(), line)? {
             ["heaps", file] => check_rows::<R, Marked>(rt, file),
             ["constraints", file] => check_rows::<R, Bench>(rt, file),
+            ["cycles", file] => check_rows::<R, Cycles>(rt, file),
             ["chain", kind, blocks] => match (chain_of(kind), small_number(blocks)) {
                 (Some(chain), Some(blocks)) if 1 <= blocks && blocks <= 64 => Ok(check_chain(
                     rt.alloc(),

@@ -1,0 +1,100 @@
+//! The steps of a cycle over a heap of words, each done where its conditions hold, and all of them.
+ghost use Rattle.std.specs.Prelude.{◌≡◌, ◌≤◌, []};
+
+use crate::bench::cycle_marks;
+use check_heap::Heap;
+use std::alloc::{AllocError, Global};
+use tide_cycle::{Report, begin, end, pause};
+use tide_solver::Solved;
+use tide_sweep::{has_dead, sweep};
+use tide_words::{GreyList, MAX_CELLS, Region, Words, word_phase};
+
+/// No cycle begins from this one on.
+const LAST_CYCLE: u64 = 1 << 60;
+
+/// What cycles use: the list of grey cells, which is empty between pauses, and the report.
+#[derive(Drop)]
+pub struct Room {
+    pub list: GreyList,
+    pub report: Report,
+    ghost empty: { list.cells ≡ [] },
+    ghost room: { list.cap ≡ 20480 },
+}
+
+impl Room {
+    /// Room for so many cycles of any heap, which free so many cells.
+    pub fn new(alloc: Global, cycles: u32, freed: u32) -> Result<Self, AllocError> {
+        let list = GreyList::new(alloc, MAX_CELLS).map_err(|_| AllocError)?;
+        let report = Report::new(alloc, cycles, freed).map_err(|_| AllocError)?;
+        Ok(Room { list, report })
+    }
+}
+
+/// Begins a cycle where none marks, and answers whether it did.
+pub fn begin_in(heap: &mut Heap) -> bool {
+    let (cycle, marks) = word_phase(heap.words.load(heap.layout.place(Region::Phase, 0)));
+    if marks || cycle >= LAST_CYCLE {
+        return false;
+    }
+    begin(&mut heap.words, &heap.layout);
+    true
+}
+
+/// Pauses where a cycle marks, and tells how that ended.
+pub fn pause_in(heap: &mut Heap, list: &mut GreyList, budget: u32) -> Option<Solved>
+    requires empty { list.old.cells ≡ [] }
+    requires room { 20480 ≤ list.old.cap }
+    ensures { list.new ≡ list.old }
+{
+    if !cycle_marks(heap) {
+        return None;
+    }
+    let cells = heap.layout.cells();
+    prove!(cells <= MAX_CELLS);
+    Some(pause(&mut heap.words, &heap.layout, list, budget))
+}
+
+/// Ends the cycle where one marks and the report has room, and tells how many cells it freed.
+pub fn end_in(heap: &mut Heap, report: &mut Report) -> Option<u32> {
+    if !cycle_marks(heap) || !report.has_room(&heap.layout) {
+        return None;
+    }
+    Some(end(&mut heap.words, &heap.layout, report))
+}
+
+/// Sweeps each block in which something is dead, and answers which these are.
+pub fn sweep_all(alloc: Global, heap: &mut Heap) -> Result<Vec<u32>, AllocError> {
+    let mut blocks = Vec::new(alloc);
+    for block in 0..heap.layout.block_count() {
+        if has_dead(&mut heap.words, &heap.layout, block) {
+            sweep(&mut heap.words, &heap.layout, block);
+            blocks.push(block)?;
+        }
+    }
+    Ok(blocks)
+}
+
+/// Runs a whole cycle, whose pauses have this budget and of which the last one converges. Answers whether it did.
+pub fn collect(
+    alloc: Global,
+    heap: &mut Heap,
+    room: &mut Room,
+    budget: u32,
+) -> Result<bool, AllocError> {
+    if !begin_in(heap) {
+        return Ok(false);
+    }
+    let mut solved = pause_in(heap, &mut room.list, budget);
+    for _pause in 0..heap.layout.cells() {
+        let Some(Solved::More { visits: _ }) = solved else {
+            break;
+        };
+        solved = pause_in(heap, &mut room.list, budget);
+    }
+    let Some(Solved::Converged { visits: _ }) = solved else {
+        return Ok(false);
+    };
+    let is_ended = end_in(heap, &mut room.report).is_some();
+    sweep_all(alloc, heap)?;
+    Ok(is_ended)
+}

@@ -1,0 +1,161 @@
+//! Heaps that are told by facts and then collected, step by step or a whole cycle at a time.
+//!
+//! The lines of a row: `layout ..`, and the facts of `Heap::say`, which may come between cycles too. Then
+//!
+//! - `begin`; `pause BUDGET` is answered with `converged` or `more` and the number of visits, `end` with how many cells it
+//!   freed, and `sweep` with the blocks in which something was dead;
+//! - `cycle BUDGET` does all of that, with pauses of this budget until one converges, and is answered with what it `kept`
+//!   and the cells that it `freed`;
+//! - `report` is answered with that of all cycles, and `shared` with the cells that have their bit in a shared grey word;
+//! - `REGION NUMBER`, `slot CELL.SLOT` and `pair TABLE.PLACE` are answered with what is there.
+ghost use Rattle.std.specs.Prelude.{◌+◌, ◌≤◌, length};
+
+use crate::collecting::{Room, begin_in, collect, end_in, pause_in, sweep_all};
+use crate::heaps::solved_text;
+use check_heap::{
+    Answers, Heap, System, joined, layout_of, number, number_between, number_text, numbers_text,
+    text,
+};
+use std::alloc::{AllocError, Global};
+use std::io;
+use tide_block::{bit_of, block_of_cell, has_bit};
+use tide_cycle::{CycleLine, Report};
+use tide_layout::Region;
+
+/// A heap, once its layout is given, and room for as many cycles as a row has.
+#[derive(Drop)]
+pub struct Cycles {
+    heap: Option<Heap>,
+    room: Room,
+}
+
+/// What a cycle kept and freed.
+fn line_text(alloc: Global, report: &Report, line: CycleLine) -> Result<String, AllocError>
+    requires { line.first + line.freed ≤ length report.now.ids }
+{
+    let kept = number_between(alloc, "kept ", u64::from(line.kept), " freed ")?;
+    let freed = numbers_text(alloc, report.ids_of(line))?;
+    joined(alloc, &[kept.as_str(), freed.as_str()])
+}
+
+/// What the last cycle kept and freed.
+fn last_text(alloc: Global, report: &Report) -> Result<Option<String>, AllocError> {
+    match report.cycles().last() {
+        Some(line) => Ok(Some(line_text(alloc, report, *line)?)),
+        None => Ok(None),
+    }
+}
+
+/// What all cycles kept and freed, each behind its number.
+fn report_text(alloc: Global, report: &Report) -> Result<String, AllocError> {
+    let mut all = String::new(alloc);
+    for line in report.cycles() {
+        let before = if all.as_str().is_empty() { "" } else { ", " };
+        let number = number_between(alloc, before, line.number, ": ")?;
+        let told = line_text(alloc, report, *line)?;
+        all.push_str(number.as_str())?;
+        all.push_str(told.as_str())?;
+    }
+    Ok(all)
+}
+
+/// The cells that have their bit in a shared grey word.
+fn shared_text(alloc: Global, heap: &mut Heap) -> Result<String, AllocError> {
+    let mut cells = Vec::new(alloc);
+    for cell in 0..heap.layout.cells() {
+        let word = heap.get(Region::GreyShared, block_of_cell(cell));
+        if has_bit(word, bit_of(cell)) {
+            cells.push(cell)?;
+        }
+    }
+    numbers_text(alloc, cells.as_slice())
+}
+
+/// Does what has a budget, and answers it.
+fn answer_within(
+    alloc: Global,
+    heap: &mut Heap,
+    room: &mut Room,
+    what: &str,
+    budget: u32,
+) -> Result<Option<String>, AllocError> {
+    if what == "cycle" {
+        return if collect(alloc, heap, room, budget)? {
+            last_text(alloc, &room.report)
+        } else {
+            Ok(None)
+        };
+    }
+    match pause_in(heap, &mut room.list, budget) {
+        Some(solved) => Ok(Some(solved_text(alloc, solved)?)),
+        None => Ok(None),
+    }
+}
+
+/// Does a step of a cycle, or tells of cycles.
+fn answer_step(
+    alloc: Global,
+    heap: &mut Heap,
+    room: &mut Room,
+    what: &str,
+) -> Result<Option<String>, AllocError> {
+    match what {
+        "begin" if begin_in(heap) => Ok(Some(text(alloc, "")?)),
+        "end" => match end_in(heap, &mut room.report) {
+            Some(freed) => Ok(Some(number_text(alloc, u64::from(freed))?)),
+            None => Ok(None),
+        },
+        "sweep" => {
+            let blocks = sweep_all(alloc, heap)?;
+            Ok(Some(numbers_text(alloc, blocks.as_slice())?))
+        }
+        "report" => Ok(Some(report_text(alloc, &room.report)?)),
+        "shared" => Ok(Some(shared_text(alloc, heap)?)),
+        _ => Ok(None),
+    }
+}
+
+impl Cycles {
+    /// Does or answers what the words say.
+    fn do_or_answer(
+        &mut self,
+        alloc: Global,
+        words: &[&str],
+    ) -> Result<Option<String>, AllocError> {
+        if let ["layout", layout @ ..] = words {
+            let Some(layout) = layout_of(layout) else {
+                return Ok(None);
+            };
+            self.heap = Some(Heap::new(alloc, layout)?);
+            return Ok(Some(text(alloc, "")?));
+        }
+        let Some(heap) = &mut self.heap else {
+            return Ok(None);
+        };
+        if heap.say(words).is_some() {
+            return Ok(Some(text(alloc, "")?));
+        }
+        match words {
+            [what] => answer_step(alloc, heap, &mut self.room, what),
+            [what @ ("pause" | "cycle"), budget] => match number(budget) {
+                Some(budget) => answer_within(alloc, heap, &mut self.room, what, budget),
+                None => Ok(None),
+            },
+            [what, at] => heap.word_text(alloc, what, at),
+            _ => Ok(None),
+        }
+    }
+}
+
+impl<R: System> Answers<R> for Cycles {
+    fn begin(rt: &R) -> io::Result<Self> {
+        Ok(Cycles {
+            heap: None,
+            room: Room::new(rt.alloc(), 4_096, 1_310_720)?,
+        })
+    }
+
+    fn answer(&mut self, rt: &R, words: &[&str]) -> io::Result<Option<String>> {
+        Ok(self.do_or_answer(rt.alloc(), words)?)
+    }
+}
