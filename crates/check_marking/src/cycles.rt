@@ -2,11 +2,11 @@
 //!
 //! The lines of a row: `layout ..`, and the facts of `Heap::say`, which may come between cycles too. Then
 //!
-//! - `begin`; `pause BUDGET` is answered with `converged` or `more` and the number of visits, `end` with how many cells it
-//!   freed, and `sweep` with the blocks in which something was dead;
-//! - `cycle BUDGET` does all of that, with pauses of this budget until one converges, and is answered with what it `kept`
-//!   and the cells that it `freed`;
-//! - `report` is answered with that of all cycles, and `shared` with the cells that have their bit in a shared grey word;
+//! - `begin`; `pause BUDGET` is answered with `converged` or `more` and the number of visits, `end` with how many cells
+//!   it freed, and `sweep` with the blocks in which something was dead;
+//! - `cycle BUDGET` does all of that, with pauses of this budget until one converges, and is answered with what it
+//!   `kept` and the cells that it `freed`;
+//! - `report` tells that of all cycles, and `shared` the cells that have their bit in a shared grey word;
 //! - `REGION NUMBER`, `slot CELL.SLOT` and `pair TABLE.PLACE` are answered with what is there.
 ghost use Rattle.std.specs.Prelude.{◌+◌, ◌≤◌, length};
 
