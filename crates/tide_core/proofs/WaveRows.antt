@@ -5,7 +5,7 @@ use Rattle.std.proofs.lemmas.Nat.Bits.{bit_at-zero, bit_at_mask_inside}
 use Rattle.std.specs.Int.{bit_at}
 use Rattle.std.specs.Prelude.{◌⊎◌, if◌then◌else◌}
 use Rattle.tide_layout.specs.Region.{index_of_register}
-use Rattle.tide_layout.specs.declared.region.Region.TheVariants.{Dead, Free, Period, Phase, Registers}
+use Rattle.tide_layout.specs.declared.region.Region.TheVariants.{Call as CallRegion, Dead, Free, Period, Phase, Registers}
 use Rattle.tide_model.specs.declared.entry.Entry.TheVariants.{Begin, Call, Pause}
 use Rattle.tide_model.specs.declared.entry.Event.{Event}
 use Rattle.tide_model.specs.declared.op.Op.TheVariants.{Alloc, Drop}
@@ -39,7 +39,7 @@ use Rattle.tide_words.proofs.marking_laws.MarkingLaws.{Marking-blackened, Markin
 use Rattle.tide_words.proofs.marking_laws.ReadingRows.{small}
 use Rattle.tide_cycle.specs.Converged.{HasConverged}
 use Rattle.tide_cycle.specs.Reports.{kept_count}
-use Rattle.tide_core.specs.FrozenWave.{FrozenWave}
+use Rattle.tide_core.specs.FrozenWave.{FrozenWave, call_count}
 use Rattle.tide_core.proofs.EndLaws.{StandsEnd-converged}
 
 -- cell 0 is live, the register has it, and the first cycle marks
@@ -52,7 +52,7 @@ one_cell = record empty_state {
 
 -- its words with no cell marked
 abbrev unmarked : Heap
-unmarked = write (write (write empty_heap Phase 0 3) Registers 0 2) Free 0 (2 ^ 64 - 2 ^ 1)
+unmarked = write (write (write (write empty_heap Phase 0 3) CallRegion 0 1) Registers 0 2) Free 0 (2 ^ 64 - 2 ^ 1)
 
 -- and once a visit made the cell black
 abbrev visited : Heap
@@ -202,6 +202,7 @@ visited_cell_has_wave = record {
   marking = marking_visited;
   cycle = refl;
   period = refl;
+  calls = λ who within. (let first : who ≡ 0 = omega (arith, within) in subst (λ (n : ℕ). visited CallRegion n ≡ call_count n born_before % 2 ^ 64) (sym first) refl);
   retained = λ marks cell within marked. subst (IsRetained (cycle_span small born_before) no_cell)
       (sym (marked_is_first cell marked))
       (is_root 0 (2, omega arith, omega arith, in_register 0 0 refl refl));
@@ -215,6 +216,7 @@ born_cell_has_wave = record {
   marking = marking_visited;
   cycle = refl;
   period = refl;
+  calls = λ who within. (let first : who ≡ 0 = omega (arith, within) in subst (λ (n : ℕ). visited CallRegion n ≡ call_count n born_after % 2 ^ 64) (sym first) refl);
   retained = λ marks cell within marked. subst (IsRetained (cycle_span small born_after) no_cell)
       (sym (marked_is_first cell marked))
       (is_root 0 (2, omega arith, omega arith, in_register 0 0 refl refl));
