@@ -7,6 +7,7 @@
 
 mod fact;
 mod heap;
+mod labelled;
 mod lines;
 mod places;
 mod reading;
@@ -17,11 +18,12 @@ mod texts;
 
 pub use fact::{pair_text, region_of, value_of, word_of, word_text};
 pub use heap::Heap;
+pub use labelled::label_text;
 pub use lines::{Checks, check_lines, tell_line};
 pub use places::{place_of_element, place_of_slot, place_of_word};
 pub use reading::{
-    behind, large_number, layout_of, number, numbers, pair_of_numbers, short_number, small_number,
-    words_of,
+    behind, large_number, large_numbers, layout_of, number, numbers, pair_of_numbers, short_number,
+    small_number, words_of,
 };
 pub use reply::{reply_text, value_text};
 pub use rows::{Answers, check_rows, parts_of, tell_answer};

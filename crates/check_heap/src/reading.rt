@@ -67,6 +67,18 @@ pub fn numbers(alloc: Global, words: &[&str]) -> Result<Option<Vec<u32>>, AllocE
     Ok(Some(all))
 }
 
+/// The numbers of 64 bits that words are.
+pub fn large_numbers(alloc: Global, words: &[&str]) -> Result<Option<Vec<u64>>, AllocError> {
+    let mut all = Vec::new(alloc);
+    for word in words {
+        match large_number(word) {
+            Some(one) => all.push(one)?,
+            None => return Ok(None),
+        }
+    }
+    Ok(Some(all))
+}
+
 /// A number that is at most so large.
 fn at_most(most: u16, word: &str) -> Option<u16>
     ensures { IfSome result (λ count. count ≤ most) }

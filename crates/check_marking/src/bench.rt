@@ -18,10 +18,9 @@ ghost use Rattle.tide_words.specs.marking.Colours.{is_marking};
 ghost use Rattle.tide_words.specs.marking.Greyed.{HasRoom};
 ghost use Rattle.tide_words.specs.heap.Heap.{heap_of, Heap as HeapWords};
 
-use crate::labelled::label_beside;
 use check_heap::{
-    Answers, Heap, System, joined, layout_of, number, number_between, number_text, numbers_text,
-    text, word_of,
+    Answers, Heap, System, joined, label_text, layout_of, number, number_between, number_text,
+    numbers_text, text, word_of,
 };
 use std::alloc::{AllocError, Global};
 use std::io;
@@ -196,22 +195,6 @@ fn name_of(volatility: Volatility) -> &'static str {
     }
 }
 
-/// The label beside the words of an empty heap after a call that looked at a cell in them.
-fn label_text(
-    alloc: Global,
-    heap: &Heap,
-    label: &str,
-    cell: &str,
-) -> Result<Option<String>, AllocError> {
-    let (Some(label), Some(cell)) = (number(label), number(cell)) else {
-        return Ok(None);
-    };
-    match label_beside(alloc, &heap.layout, label, cell) {
-        Some(left) => Ok(Some(number_text(alloc, u64::from(left))?)),
-        None => Ok(None),
-    }
-}
-
 /// Does what a cycle's end does to handles or to pairs.
 fn clear(heap: &mut Heap, what: &str) -> bool {
     match what {
@@ -251,7 +234,7 @@ fn asked(
             None => Ok(None),
         },
         ["clear", what] if clear(heap, what) => Ok(Some(text(alloc, "")?)),
-        ["label", label, "beside", cell] => label_text(alloc, heap, label, cell),
+        ["label", label, "beside", cell] => label_text(alloc, &heap.layout, label, cell),
         [what, at] => heap.word_text(alloc, what, at),
         _ => Ok(None),
     }

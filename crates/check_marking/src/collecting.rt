@@ -1,5 +1,10 @@
-//! The steps of a cycle over a heap of words, each done where its conditions hold, and all of them.
-ghost use Rattle.std.specs.Prelude.{◌≡◌, ◌≤◌, []};
+//! The steps of a cycle over a heap of words, each done where its conditions hold, and all of them. Each leaves what the
+//! laws of `tide_core` ask of the heaps before and after it.
+ghost use Rattle.std.specs.Prelude.{◌≡◌, ◌<◌, ◌≤◌, [], true, IfSome};
+ghost use Rattle.tide_core.specs.Entered.{HasBegun, HasEnded, HasPaused, HasSwept};
+ghost use Rattle.tide_layout.specs.Region.{block_count};
+ghost use Rattle.tide_solver.specs.Outcome.{visits_of};
+ghost use Rattle.tide_words.specs.heap.Heap.{heap_of};
 
 use crate::bench::cycle_marks;
 use check_heap::Heap;
@@ -31,7 +36,10 @@ impl Room {
 }
 
 /// Begins a cycle where none marks, and answers whether it did.
-pub fn begin_in(heap: &mut Heap) -> bool {
+pub fn begin_in(heap: &mut Heap) -> bool
+    ensures begun { result ≡ true → HasBegun heap.old.layout (heap_of heap.old.layout heap.old.words)
+        (heap_of heap.old.layout heap.new.words) }
+{
     let (cycle, marks) = word_phase(heap.words.load(heap.layout.place(Region::Phase, 0)));
     if marks || cycle >= LAST_CYCLE {
         return false;
@@ -44,7 +52,9 @@ pub fn begin_in(heap: &mut Heap) -> bool {
 pub fn pause_in(heap: &mut Heap, list: &mut GreyList, budget: u32) -> Option<Solved>
     requires empty { list.old.cells ≡ [] }
     requires room { 20480 ≤ list.old.cap }
-    ensures { list.new ≡ list.old }
+    ensures same_list { list.new ≡ list.old }
+    ensures paused { IfSome result (λ solved. HasPaused heap.old.layout (heap_of heap.old.layout heap.old.words)
+        (heap_of heap.old.layout heap.new.words) (visits_of solved)) }
 {
     if !cycle_marks(heap) {
         return None;
@@ -55,19 +65,35 @@ pub fn pause_in(heap: &mut Heap, list: &mut GreyList, budget: u32) -> Option<Sol
 }
 
 /// Ends the cycle where one marks and the report has room, and tells how many cells it freed.
-pub fn end_in(heap: &mut Heap, report: &mut Report) -> Option<u32> {
+pub fn end_in(heap: &mut Heap, report: &mut Report) -> Option<u32>
+    ensures ended { IfSome result (λ _. HasEnded heap.old.layout (heap_of heap.old.layout heap.old.words)
+        (heap_of heap.old.layout heap.new.words)) }
+{
     if !cycle_marks(heap) || !report.has_room(&heap.layout) {
         return None;
     }
     Some(end(&mut heap.words, &heap.layout, report))
 }
 
+/// Sweeps a block where something is dead in it, and answers whether it did.
+fn sweep_in(heap: &mut Heap, block: u32) -> bool
+    requires { block < block_count heap.old.layout }
+    ensures layout { heap.new.layout ≡ heap.old.layout }
+    ensures swept { result ≡ true → HasSwept heap.old.layout (heap_of heap.old.layout heap.old.words)
+        (heap_of heap.old.layout heap.new.words) block }
+{
+    if !has_dead(&mut heap.words, &heap.layout, block) {
+        return false;
+    }
+    sweep(&mut heap.words, &heap.layout, block);
+    true
+}
+
 /// Sweeps each block in which something is dead, and answers which these are.
 pub fn sweep_all(alloc: Global, heap: &mut Heap) -> Result<Vec<u32>, AllocError> {
     let mut blocks = Vec::new(alloc);
     for block in 0..heap.layout.block_count() {
-        if has_dead(&mut heap.words, &heap.layout, block) {
-            sweep(&mut heap.words, &heap.layout, block);
+        if sweep_in(heap, block) {
             blocks.push(block)?;
         }
     }

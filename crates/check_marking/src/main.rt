@@ -21,7 +21,6 @@ mod collecting;
 mod cycles;
 mod draw;
 mod heaps;
-mod labelled;
 mod marking;
 mod runs;
 

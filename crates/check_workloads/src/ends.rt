@@ -11,7 +11,9 @@
 //! - what `real.rt` answers.
 
 use crate::real::on_real_end;
-use check_heap::{Answers, System, joined, large_number, number_between, number_text, text};
+use check_heap::{
+    Answers, System, joined, large_number, large_numbers, number_between, number_text, text,
+};
 use std::alloc::{AllocError, Global};
 use std::io;
 use tide_io::{MemSink, MemSource, ReadError, Sink, Source, read_up_to, write_all};
@@ -26,17 +28,6 @@ pub struct Ends {
 /// The text that bytes are.
 pub fn text_of(alloc: Global, bytes: &[u8]) -> Result<String, AllocError> {
     text(alloc, std::str::from_utf8(bytes).unwrap_or("no text"))
-}
-
-/// The numbers that words are, up to one that is none.
-fn numbers(alloc: Global, words: &[&str]) -> Result<Vec<u64>, AllocError> {
-    let mut all = Vec::new(alloc);
-    for word in words {
-        if let Some(one) = large_number(word) {
-            all.push(one)?;
-        }
-    }
-    Ok(all)
 }
 
 /// The size that a word is, and 0 where it is none.
@@ -136,14 +127,13 @@ fn source_of(alloc: Global, words: &[&str]) -> Result<Option<MemSource>, AllocEr
     let (bytes, step, fails) = match words {
         ["of", count, "x", step] => {
             let bytes = vec![in alloc; b'x'; size_of(count)]?;
-            (bytes, step, Vec::new(alloc))
+            (bytes, step, &words[4..])
         }
-        [bytes, step, fails @ ..] => (
-            bytes.as_bytes().to_vec(alloc)?,
-            step,
-            numbers(alloc, fails)?,
-        ),
+        [bytes, step, fails @ ..] => (bytes.as_bytes().to_vec(alloc)?, step, fails),
         _ => return Ok(None),
+    };
+    let Some(fails) = large_numbers(alloc, fails)? else {
+        return Ok(None);
     };
     let step = size_of(step);
     if step == 0 {
@@ -157,7 +147,9 @@ fn sink_of(alloc: Global, words: &[&str]) -> Result<Option<MemSink>, AllocError>
     let [room, step, fails @ ..] = words else {
         return Ok(None);
     };
-    let fails = numbers(alloc, fails)?;
+    let Some(fails) = large_numbers(alloc, fails)? else {
+        return Ok(None);
+    };
     let step = size_of(step);
     if step == 0 {
         return Ok(None);

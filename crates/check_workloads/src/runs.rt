@@ -14,7 +14,8 @@ use crate::ending::Ending;
 use crate::machine::Machine;
 use crate::outcomes::{in_threads, in_turn};
 use check_heap::{
-    joined, large_number, number_between, number_text, parts_of, tell_answer, text, words_of,
+    joined, large_number, large_numbers, number_between, number_text, parts_of, tell_answer, text,
+    words_of,
 };
 use std::alloc::{AllocError, Global};
 use std::{fs, io};
@@ -44,18 +45,6 @@ pub struct Trial {
     ended: Option<Ending>,
     /// How many bytes the run left.
     left: usize,
-}
-
-/// The numbers that words are.
-fn numbers(alloc: Global, words: &[&str]) -> Result<Option<Vec<u64>>, AllocError> {
-    let mut all = Vec::new(alloc);
-    for word in words {
-        match large_number(word) {
-            Some(one) => all.push(one)?,
-            None => return Ok(None),
-        }
-    }
-    Ok(Some(all))
 }
 
 /// The words of a command line.
@@ -92,7 +81,7 @@ impl Trial {
     fn set(&mut self, alloc: Global, words: &[&str]) -> Result<Option<()>, AllocError> {
         match words {
             [who, "fail", calls @ ..] => {
-                let Some(calls) = numbers(alloc, calls)? else {
+                let Some(calls) = large_numbers(alloc, calls)? else {
                     return Ok(None);
                 };
                 match *who {

@@ -1,7 +1,9 @@
 //! A list of words with something beside it, which no call over words may change.
 ghost use Rattle.std.specs.Prelude.{◌≡◌, ℕ, ◌<◌, List, length, slice_index, slice_set, IfSome};
 
-use std::alloc::Global;
+use crate::reading::number;
+use crate::texts::number_text;
+use std::alloc::{AllocError, Global};
 use tide_layout::Layout;
 use tide_words::{VecWords, Words, is_live};
 
@@ -33,7 +35,7 @@ impl Words for Labelled {
 }
 
 /// The label beside the empty heap of a layout, after a call over its words that looked whether a cell is live: as it was.
-pub fn label_beside(alloc: Global, layout: &Layout, label: u32, cell: u32) -> Option<u32>
+fn label_beside(alloc: Global, layout: &Layout, label: u32, cell: u32) -> Option<u32>
     ensures label { IfSome result (λ left. left ≡ label) }
 {
     if cell >= layout.cells() {
@@ -43,4 +45,20 @@ pub fn label_beside(alloc: Global, layout: &Layout, label: u32, cell: u32) -> Op
     let mut labelled = Labelled { words, label };
     let _ = is_live(&mut labelled, layout, cell);
     Some(labelled.label)
+}
+
+/// The text of the label beside the words of an empty heap after a call that looked at a cell in them.
+pub fn label_text(
+    alloc: Global,
+    layout: &Layout,
+    label: &str,
+    cell: &str,
+) -> Result<Option<String>, AllocError> {
+    let (Some(label), Some(cell)) = (number(label), number(cell)) else {
+        return Ok(None);
+    };
+    match label_beside(alloc, layout, label, cell) {
+        Some(left) => Ok(Some(number_text(alloc, u64::from(left))?)),
+        None => Ok(None),
+    }
 }
