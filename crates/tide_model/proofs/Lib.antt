@@ -3,6 +3,7 @@ pub mod CallerRows
 pub mod CallKeeps
 pub mod CallLaws
 pub mod ClaimLaws
+pub mod CountLaws
 pub mod Cycles
 pub mod DanglingRows
 pub mod ExactEnds
@@ -21,5 +22,6 @@ pub mod ReferenceSteps
 pub mod ReferencesInCycles
 pub mod Retained
 pub mod ShareRows
+pub mod SinceLaws
 pub mod Spans
 pub mod Windows

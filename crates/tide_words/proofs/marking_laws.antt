@@ -2,6 +2,7 @@
 pub mod ColourLaws
 pub mod ConstraintLaws
 pub mod EmptyMarking
+pub mod LinkLaws
 pub mod MarkedLaws
 pub mod MarkingLaws
 pub mod NamedLaws
