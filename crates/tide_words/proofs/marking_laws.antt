@@ -1,4 +1,5 @@
 -- The laws of colours, greys, marking and constraints.
+pub mod BarrierLaws
 pub mod ColourLaws
 pub mod ConstraintLaws
 pub mod EmptyMarking
