@@ -1,0 +1,4 @@
+-- The laws of marking: what a call keeps of it.
+pub mod BirthMarking
+pub mod CallMarking
+pub mod CellsKept

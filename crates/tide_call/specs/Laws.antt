@@ -1,0 +1,71 @@
+-- What a call leaves, once its words are written.
+use Rattle.std.specs.Prelude.{ℕ, ◌≡◌, ◌≢◌, ◌<◌, true, List, [], ◌∷◌, ◌++◌, slice_get, Option, None, Some}
+use Rattle.tide_layout.specs.Limits.{IsWithinLimits}
+use Rattle.tide_layout.specs.declared.region.Region.{Region}
+use Rattle.tide_model.specs.declared.entry.Entry.TheVariants.{Call}
+use Rattle.tide_model.specs.declared.entry.Event.{Event}
+use Rattle.tide_model.specs.declared.op.Op.{Op}
+use Rattle.tide_model.specs.declared.op.Reply.{Reply}
+use Rattle.tide_model.specs.declared.op.Reply.TheVariants.{Born}
+use Rattle.tide_model.specs.Answer.{IsAnswer}
+use Rattle.tide_model.specs.Applied.{after_call}
+use Rattle.tide_model.specs.History.{state_after}
+use Rattle.tide_model.specs.Lawful.{FitsLayout, IsLawful, StandsCall}
+use Rattle.tide_model.specs.Layout.{Layout}
+use Rattle.tide_model.specs.References.{ClaimsAreOwn, RefsAreLive}
+use Rattle.tide_model.specs.Refused.{ShapeLists}
+use Rattle.tide_model.specs.State.{State}
+use Rattle.tide_words.specs.declared.forms.colours.Colour.{Colour}
+use Rattle.tide_words.specs.declared.forms.colours.Colour.TheVariants.{Grey}
+use Rattle.tide_words.specs.heap.Heap.{Heap, SameIn}
+use Rattle.tide_words.specs.heap.Reading.{ReadsAs}
+use Rattle.tide_words.specs.marking.Colours.{coloured}
+use Rattle.tide_words.specs.marking.Marking.{Marking}
+use Rattle.tide_call.specs.CallWords.{CallWords}
+use Rattle.tide_call.specs.Links.{StoresInNoBlack}
+
+-- a mutator of the layout may make this call on the state and be answered so; the layout is within its limits, the first
+-- shape is the empty one, and no two mutators claim a cell
+pub record MayCall (layout : Layout) (shapes : ShapeLists) (state : State) (who : ℕ) (op : Op) (reply : Reply) (took : Option ℕ) : Type 0 where
+  pub limits : IsWithinLimits layout
+  pub empty_shape : slice_get shapes 0 ≡ Some []
+  pub is_mutator : who < layout.mutators
+  pub is_active : state.active who ≡ true
+  pub fits : FitsLayout layout op
+  pub answers : IsAnswer layout shapes state who op reply took
+  pub claims : ClaimsAreOwn layout state
+
+-- the words of a call were written, and now they read as the state that it leaves
+abbrev pub CallsReadBack : Type 0
+CallsReadBack =
+    (layout : Layout) (shapes : ShapeLists) (old new : Heap) (state : State) (who : ℕ) (op : Op) (reply : Reply) (took : Option ℕ) →
+    MayCall layout shapes state who op reply took → RefsAreLive state →
+    CallWords layout shapes old state who op reply took new →
+    ReadsAs layout shapes old state → ReadsAs layout shapes new (after_call state who op reply took)
+
+-- so it is in a lawful history: the words read as the state after the call
+abbrev pub HistoriesReadBack : Type 0
+HistoriesReadBack =
+    (layout : Layout) (shapes : ShapeLists) (old new : Heap) (before : List Event) (who : ℕ) (op : Op) (reply : Reply) (took : Option ℕ) →
+    IsWithinLimits layout → slice_get shapes 0 ≡ Some [] → IsLawful layout shapes before →
+    StandsCall layout shapes before who op reply took →
+    CallWords layout shapes old (state_after layout before) who op reply took new →
+    ReadsAs layout shapes old (state_after layout before) →
+    ReadsAs layout shapes new (state_after layout (before ++ record { entry = Call who op reply; took = took } ∷ []))
+
+-- a call that stores no cell in a black one keeps marking
+abbrev pub CallsKeepMarking : Type 0
+CallsKeepMarking =
+    (layout : Layout) (shapes : ShapeLists) (old new : Heap) (state : State) (who : ℕ) (op : Op) (reply : Reply) (took : Option ℕ) (cells : List ℕ) →
+    MayCall layout shapes state who op reply took → StoresInNoBlack old state who op →
+    CallWords layout shapes old state who op reply took new →
+    Marking layout shapes old state cells → Marking layout shapes new (after_call state who op reply took) cells
+
+-- a cell is born and gets a colour, which isn't grey: marking is kept
+abbrev pub BirthsKeepMarking : Type 0
+BirthsKeepMarking =
+    (layout : Layout) (shapes : ShapeLists) (old born new : Heap) (state : State) (who : ℕ) (op : Op) (cell : ℕ) (colour : Colour) (cells : List ℕ) →
+    MayCall layout shapes state who op (Born cell) None → colour ≢ Grey →
+    CallWords layout shapes old state who op (Born cell) None born →
+    ((region : Region) → SameIn layout region (coloured born cell colour) new) →
+    Marking layout shapes old state cells → Marking layout shapes new (after_call state who op (Born cell) None) cells

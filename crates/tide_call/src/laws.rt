@@ -1,0 +1,18 @@
+//! What a call leaves, once its words are written, as functions that only promise it.
+//!
+//! A law speaks of the heap before a call, the heap after it, and the state before it. It knows no list of words and no
+//! order in which they were stored.
+ghost use Rattle.tide_call.specs.Laws.{BirthsKeepMarking, CallsKeepMarking, CallsReadBack, HistoriesReadBack};
+
+/// The words of a call were written: they read as the state that it leaves, whatever the operation.
+pub fn calls_read_back()
+    ensures reading { CallsReadBack }
+    ensures history { HistoriesReadBack }
+{}
+
+/// A call keeps marking where the cell in which it stores another isn't black. It does so before a new cell is
+/// coloured, and afterwards, where the cell is black or white.
+pub fn calls_keep_marking()
+    ensures marking { CallsKeepMarking }
+    ensures births { BirthsKeepMarking }
+{}
