@@ -1,2 +1,3 @@
 pub mod marking_laws
+pub mod plan_laws
 pub mod reading_laws

@@ -1,5 +1,5 @@
 -- The words that a granted call writes.
-use Rattle.std.specs.Prelude.{ℕ, ◌≡◌, ◌+◌, ◌%◌, ◌⊎◌, Bool, true, false, List, [], ◌∷◌, ◌++◌, length, Option, None, Some}
+use Rattle.std.specs.Prelude.{ℕ, ◌≡◌, ◌≢◌, ◌+◌, ◌%◌, ◌<◌, ◌⊎◌, Bool, true, false, List, [], ◌∷◌, ◌++◌, length, Option, None, Some}
 use Rattle.tide_layout.specs.declared.region.Region.{Region}
 use Rattle.tide_layout.specs.declared.region.Region.TheVariants as region
 use Rattle.tide_layout.specs.Region.{index_of_register}
@@ -68,10 +68,16 @@ Adds layout shapes heap state cell key value (Some taken) new =
 abbrev pub HasPairAt : Layout → Heap → ℕ → ℕ → ℕ → Type 0
 HasPairAt layout heap table place key = (value : Val) × IsPairOf key value (slot_word layout heap table place)
 
--- a pair may be stored at a place of a table: its key's stands there, or none does, and the key has none
+-- no pair stands at a place of a table, and one stands at each place before it
+abbrev pub IsFirstEmpty : Layout → Heap → ℕ → ℕ → Type 0
+IsFirstEmpty layout heap table place =
+    (slot_word layout heap table place ≡ 0)
+    × ((earlier : ℕ) → earlier < place → slot_word layout heap table earlier ≢ 0)
+
+-- the place for a pair of a table: the one that its key has, and else the first empty one
 abbrev pub IsPlaceFor : Layout → Heap → State → ℕ → ℕ → ℕ → Type 0
 IsPlaceFor layout heap state table place key =
-    ((slot_word layout heap table place ≡ 0) × ((state.cells table).pairs key ≡ None)) ⊎ HasPairAt layout heap table place key
+    (((state.cells table).pairs key ≡ None) × IsFirstEmpty layout heap table place) ⊎ HasPairAt layout heap table place key
 
 -- the new heap is the old one with the words of a granted call, but for those of its colours, grey cells and reply
 abbrev pub CallWords : Layout → ShapeLists → Heap → State → ℕ → Op → Reply → Option ℕ → Heap → Type 0

@@ -1,6 +1,10 @@
+pub mod Callers
 pub mod CallWords
 pub mod Grown
 pub mod Laws
 pub mod Links
+pub mod Pairs
+pub mod Plans
+pub mod Properties
 pub mod ShapeWord
 pub mod Taken

@@ -243,7 +243,7 @@ module _ (layout : Layout) (shapes : ShapeLists) (heap : Heap) (state : State) (
       at_its_cell new (state.registers who src) table (λ t. at_cell state (state.registers who key) (λ c. put_pair state t c (Some (state.registers who val)))) is_t
       (at_its_cell new (state.registers who key) cell (λ c. put_pair state table c (Some (state.registers who val))) is_k (told new _ _ same (elim stood [
         | inl absent ↦ Reading-pair_new layout shapes heap state table place cell has (alive src table is_t) is_one reads (state.registers who val)
-            (let most = few_cells layout limits in let below = inside cell (alive key cell is_k) in omega (arith, most, below)) (fits val within.2) absent.0 absent.1
+            (let most = few_cells layout limits in let below = inside cell (alive key cell is_k) in omega (arith, most, below)) (fits val within.2) absent.1.0 absent.0
         | inr (old, is_old) ↦ Reading-pair_same layout shapes heap state table place cell has (alive src table is_t) is_one reads (state.registers who val) old (fits val within.2) is_old
       ])))
     where
