@@ -58,7 +58,8 @@ abbrev pub Adds : Layout → ShapeLists → Heap → State → ℕ → ℕ → V
 Adds layout shapes heap state cell key value None new =
     (array : ℕ) × (shape : ℕ) × (stored : Heap) × ((state.cells cell).array ≡ Some array)
     × IsShapeWord shapes ((state.cells cell).keys ++ key ∷ []) shape
-    × IsWritten layout heap stored region.Elements (index_of_element layout array (length (state.cells cell).keys)) (val_word value)
+    × IsWritten layout heap stored region.Elements (index_of_element layout array (length (state.cells cell).keys))
+    (val_word value)
     × IsWritten layout stored new region.Structure cell (whole_word shape (length (state.cells cell).keys + 1))
 Adds layout shapes heap state cell key value (Some taken) new =
     (shape : ℕ) × IsShapeWord shapes ((state.cells cell).keys ++ key ∷ []) shape
@@ -77,7 +78,8 @@ IsFirstEmpty layout heap table place =
 -- the place for a pair of a table: the one that its key has, and else the first empty one
 abbrev pub IsPlaceFor : Layout → Heap → State → ℕ → ℕ → ℕ → Type 0
 IsPlaceFor layout heap state table place key =
-    (((state.cells table).pairs key ≡ None) × IsFirstEmpty layout heap table place) ⊎ HasPairAt layout heap table place key
+    (((state.cells table).pairs key ≡ None) × IsFirstEmpty layout heap table place)
+    ⊎ HasPairAt layout heap table place key
 
 -- the new heap is the old one with the words of a granted call, but for those of its colours, grey cells and reply
 abbrev pub CallWords : Layout → ShapeLists → Heap → State → ℕ → Op → Reply → Option ℕ → Heap → Type 0
@@ -88,13 +90,16 @@ CallWords layout shapes heap state who (Get dst src slot) (Seen value) took new 
 CallWords layout shapes heap state who (Put src slot val) Done took new =
     (cell : ℕ) × (state.registers who src ≡ Cell cell)
     × IsWritten layout heap new region.Slots (index_of_slot layout cell slot) (val_word (state.registers who val))
-CallWords layout shapes heap state who (Move dst src) Done took new = Fills layout heap who dst (state.registers who src) new
+CallWords layout shapes heap state who (Move dst src) Done took new =
+    Fills layout heap who dst (state.registers who src) new
 CallWords layout shapes heap state who (Set dst n) Done took new = Fills layout heap who dst (Int n) new
 CallWords layout shapes heap state who (Drop dst) Done took new = Fills layout heap who dst Empty new
 CallWords layout shapes heap state who (Claim src) Done took new =
-    (cell : ℕ) × (state.registers who src ≡ Cell cell) × IsWritten layout heap new region.Claim cell (claim_word (Some who))
+    (cell : ℕ) × (state.registers who src ≡ Cell cell)
+    × IsWritten layout heap new region.Claim cell (claim_word (Some who))
 CallWords layout shapes heap state who (Release src) Done took new =
-    (cell : ℕ) × (state.registers who src ≡ Cell cell) × IsWritten layout heap new region.Claim cell (claim_word None)
+    (cell : ℕ) × (state.registers who src ≡ Cell cell)
+    × IsWritten layout heap new region.Claim cell (claim_word None)
 CallWords layout shapes heap state who Unclaim Done took new =
     (cell : ℕ) × (others : List ℕ) × (state.claims who ≡ cell ∷ others)
     × IsWritten layout heap new region.Claim cell (claim_word None)
@@ -113,13 +118,14 @@ CallWords layout shapes heap state who (WeakSet at val) Done took new =
     IsWritten layout heap new region.Weak at (val_word (state.registers who val))
 CallWords layout shapes heap state who (WeakGet dst at) (Seen value) took new = Fills layout heap who dst value new
 CallWords layout shapes heap state who (PairSet src key val) Done took new =
-    (table : ℕ) × (cell : ℕ) × (place : ℕ) × (state.registers who src ≡ Cell table) × (state.registers who key ≡ Cell cell)
-    × HasSlot layout table place × IsPlaceFor layout heap state table place cell
-    × IsWritten layout heap new region.Slots (index_of_slot layout table place) (pair_word cell (state.registers who val))
+    (table : ℕ) × (cell : ℕ) × (place : ℕ) × (state.registers who src ≡ Cell table)
+    × (state.registers who key ≡ Cell cell) × HasSlot layout table place × IsPlaceFor layout heap state table place cell
+    × IsWritten layout heap new region.Slots (index_of_slot layout table place)
+    (pair_word cell (state.registers who val))
 CallWords layout shapes heap state who (PairGet dst src key) (Seen value) took new = Fills layout heap who dst value new
 CallWords layout shapes heap state who (PairDel src key) Done took new =
-    (table : ℕ) × (cell : ℕ) × (place : ℕ) × (state.registers who src ≡ Cell table) × (state.registers who key ≡ Cell cell)
-    × HasSlot layout table place × HasPairAt layout heap table place cell
+    (table : ℕ) × (cell : ℕ) × (place : ℕ) × (state.registers who src ≡ Cell table)
+    × (state.registers who key ≡ Cell cell) × HasSlot layout table place × HasPairAt layout heap table place cell
     × IsWritten layout heap new region.Slots (index_of_slot layout table place) 0
 CallWords layout shapes heap state who (Group src n) Done took new =
     (cell : ℕ) × (state.registers who src ≡ Cell cell) × IsWritten layout heap new region.Group cell n

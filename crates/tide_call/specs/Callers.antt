@@ -16,8 +16,8 @@ pub record Caller : Type 0 where
   pub who : ℕ
   pub claims : List ℕ
 
--- The caller is one of the state's mutators and has these claims, which are live. The cells in its registers are those of
--- the layout, and so are the arrays and the keys of pairs of the cells that it claims. Of the state, it needs no more.
+-- The caller is one of the state's mutators and has these claims, which are live. The cells in its registers are of the
+-- layout, and so are the arrays and the keys of pairs of the cells that it claims. It needs no more of the state.
 pub record IsCallerOf (caller : Caller) (state : State) : Type 0 where
   pub is_mutator : caller.who < caller.layout.mutators
   pub claims : state.claims caller.who ≡ caller.claims

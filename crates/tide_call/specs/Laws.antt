@@ -1,6 +1,8 @@
 -- What a call leaves, once its words are written.
-use Rattle.std.specs.Prelude.{ℕ, ◌≡◌, ◌≢◌, ◌<◌, true, List, [], ◌∷◌, ◌++◌, slice_get, Option, None, Some}
+use Rattle.std.specs.Prelude.{ℕ, ◌≡◌, ◌≢◌, ◌+◌, ◌%◌, ◌<◌, true, List, [], ◌∷◌, ◌++◌, slice_get, Option, None, Some}
 use Rattle.tide_layout.specs.Limits.{IsWithinLimits}
+use Rattle.tide_layout.specs.Slots.{HasElement, index_of_element}
+use Rattle.tide_layout.specs.declared.region.Region.TheVariants.{Array, Elements, Free, Structure}
 use Rattle.tide_layout.specs.declared.region.Region.{Region}
 use Rattle.tide_model.specs.declared.entry.Entry.TheVariants.{Call}
 use Rattle.tide_model.specs.declared.entry.Event.{Event}
@@ -11,22 +13,30 @@ use Rattle.tide_model.specs.Answer.{IsAnswer}
 use Rattle.tide_model.specs.Applied.{after_call}
 use Rattle.tide_model.specs.History.{state_after}
 use Rattle.tide_model.specs.Lawful.{FitsLayout, IsLawful, StandsCall}
-use Rattle.tide_model.specs.Layout.{Layout}
+use Rattle.tide_model.specs.declared.val.Val.{Val}
+use Rattle.tide_model.specs.Layout.{Layout, block_of_array, cell_count}
 use Rattle.tide_model.specs.References.{ClaimsAreOwn, RefsAreLive}
 use Rattle.tide_model.specs.Refused.{ShapeLists}
 use Rattle.tide_model.specs.State.{State}
 use Rattle.tide_words.specs.declared.forms.colours.Colour.{Colour}
 use Rattle.tide_words.specs.declared.forms.colours.Colour.TheVariants.{Grey}
 use Rattle.tide_words.specs.heap.Heap.{Heap, SameIn}
+use Rattle.tide_words.specs.forms.Reference.{array_word}
+use Rattle.tide_words.specs.forms.ValueWord.{val_word}
 use Rattle.tide_words.specs.heap.Reading.{ReadsAs}
+use Rattle.tide_words.specs.heap.Written.{IsBitPut, IsWritten}
 use Rattle.tide_words.specs.marking.Colours.{coloured}
 use Rattle.tide_words.specs.marking.Marking.{Marking}
+use Rattle.tide_call.specs.Callers.{Caller, IsCallerOf}
 use Rattle.tide_call.specs.CallWords.{CallWords}
+use Rattle.tide_call.specs.Grown.{AreCopied, IsGrown}
+use Rattle.tide_call.specs.ShapeWord.{whole_word}
 use Rattle.tide_call.specs.Links.{StoresInNoBlack}
 
--- a mutator of the layout may make this call on the state and be answered so; the layout is within its limits, the first
--- shape is the empty one, and no two mutators claim a cell
-pub record MayCall (layout : Layout) (shapes : ShapeLists) (state : State) (who : ℕ) (op : Op) (reply : Reply) (took : Option ℕ) : Type 0 where
+-- an active mutator of the layout may make this call on the state and be answered so; the layout is within its limits,
+-- the first shape is the empty one, and no two mutators claim a cell
+pub record MayCall (layout : Layout) (shapes : ShapeLists) (state : State) (who : ℕ) (op : Op) (reply : Reply)
+    (took : Option ℕ) : Type 0 where
   pub limits : IsWithinLimits layout
   pub empty_shape : slice_get shapes 0 ≡ Some []
   pub is_mutator : who < layout.mutators
@@ -35,10 +45,18 @@ pub record MayCall (layout : Layout) (shapes : ShapeLists) (state : State) (who 
   pub answers : IsAnswer layout shapes state who op reply took
   pub claims : ClaimsAreOwn layout state
 
+-- an active mutator of a state whose references are live may call there, with the claims that it has
+abbrev pub MutatorsMayCall : Type 0
+MutatorsMayCall =
+    (caller : Caller) (heap : Heap) (state : State) → caller.who < caller.layout.mutators →
+    state.active caller.who ≡ true → state.claims caller.who ≡ caller.claims → RefsAreLive state →
+    ReadsAs caller.layout caller.shapes heap state → IsCallerOf caller state
+
 -- the words of a call were written, and now they read as the state that it leaves
 abbrev pub CallsReadBack : Type 0
 CallsReadBack =
-    (layout : Layout) (shapes : ShapeLists) (old new : Heap) (state : State) (who : ℕ) (op : Op) (reply : Reply) (took : Option ℕ) →
+    (layout : Layout) (shapes : ShapeLists) (old new : Heap) (state : State) (who : ℕ) (op : Op) (reply : Reply)
+    (took : Option ℕ) →
     MayCall layout shapes state who op reply took → RefsAreLive state →
     CallWords layout shapes old state who op reply took new →
     ReadsAs layout shapes old state → ReadsAs layout shapes new (after_call state who op reply took)
@@ -46,7 +64,8 @@ CallsReadBack =
 -- so it is in a lawful history: the words read as the state after the call
 abbrev pub HistoriesReadBack : Type 0
 HistoriesReadBack =
-    (layout : Layout) (shapes : ShapeLists) (old new : Heap) (before : List Event) (who : ℕ) (op : Op) (reply : Reply) (took : Option ℕ) →
+    (layout : Layout) (shapes : ShapeLists) (old new : Heap) (before : List Event) (who : ℕ) (op : Op) (reply : Reply)
+    (took : Option ℕ) →
     IsWithinLimits layout → slice_get shapes 0 ≡ Some [] → IsLawful layout shapes before →
     StandsCall layout shapes before who op reply took →
     CallWords layout shapes old (state_after layout before) who op reply took new →
@@ -56,7 +75,8 @@ HistoriesReadBack =
 -- a call that stores no cell in a black one keeps marking
 abbrev pub CallsKeepMarking : Type 0
 CallsKeepMarking =
-    (layout : Layout) (shapes : ShapeLists) (old new : Heap) (state : State) (who : ℕ) (op : Op) (reply : Reply) (took : Option ℕ) (cells : List ℕ) →
+    (layout : Layout) (shapes : ShapeLists) (old new : Heap) (state : State) (who : ℕ) (op : Op) (reply : Reply)
+    (took : Option ℕ) (cells : List ℕ) →
     MayCall layout shapes state who op reply took → StoresInNoBlack old state who op →
     CallWords layout shapes old state who op reply took new →
     Marking layout shapes old state cells → Marking layout shapes new (after_call state who op reply took) cells
@@ -64,8 +84,23 @@ CallsKeepMarking =
 -- a cell is born and gets a colour, which isn't grey: marking is kept
 abbrev pub BirthsKeepMarking : Type 0
 BirthsKeepMarking =
-    (layout : Layout) (shapes : ShapeLists) (old born new : Heap) (state : State) (who : ℕ) (op : Op) (cell : ℕ) (colour : Colour) (cells : List ℕ) →
+    (layout : Layout) (shapes : ShapeLists) (old born new : Heap) (state : State) (who : ℕ) (op : Op) (cell : ℕ)
+    (colour : Colour) (cells : List ℕ) →
     MayCall layout shapes state who op (Born cell) None → colour ≢ Grey →
     CallWords layout shapes old state who op (Born cell) None born →
     ((region : Region) → SameIn layout region (coloured born cell colour) new) →
     Marking layout shapes old state cells → Marking layout shapes new (after_call state who op (Born cell) None) cells
+
+-- A growth's words are stored one after another: a free bit is cleared, elements are copied, the new one is stored, the
+-- old structure with its mark that the array changes, the array, and the new structure. They are those of a growth.
+abbrev pub GrowthsInOrder : Type 0
+GrowthsInOrder =
+    (layout : Layout) (old freed copied stored nuked moved new : Heap) (cell taken : ℕ) (from : Option ℕ)
+    (count shape nuked_word : ℕ) (value : Val) → cell < cell_count layout → HasElement layout taken count →
+    IsBitPut layout old freed Free (block_of_array layout taken) (taken % 64) 0 →
+    AreCopied layout freed copied from taken count →
+    IsWritten layout copied stored Elements (index_of_element layout taken count) (val_word value) →
+    IsWritten layout stored nuked Structure cell nuked_word →
+    IsWritten layout nuked moved Array cell (array_word (Some taken)) →
+    IsWritten layout moved new Structure cell (whole_word shape (count + 1)) →
+    IsGrown layout old new cell taken from count shape value

@@ -9,11 +9,15 @@ use Rattle.tide_words.specs.marking.Colours.{is_black, is_marking}
 
 -- the operation stores the cell in a slot or a property of the source
 abbrev pub Stores : State → ℕ → Op → ℕ → ℕ → Type 0
-Stores state who (Put src slot val) source cell = (state.registers who src ≡ Cell source) × (state.registers who val ≡ Cell cell)
-Stores state who (Add src key val) source cell = (state.registers who src ≡ Cell source) × (state.registers who val ≡ Cell cell)
-Stores state who (SetProp src key val) source cell = (state.registers who src ≡ Cell source) × (state.registers who val ≡ Cell cell)
+Stores state who (Put src slot val) source cell =
+    (state.registers who src ≡ Cell source) × (state.registers who val ≡ Cell cell)
+Stores state who (Add src key val) source cell =
+    (state.registers who src ≡ Cell source) × (state.registers who val ≡ Cell cell)
+Stores state who (SetProp src key val) source cell =
+    (state.registers who src ≡ Cell source) × (state.registers who val ≡ Cell cell)
 Stores state who _ source cell = ⊥
 
 -- while a cycle marks, the operation stores no cell in a black one
 abbrev pub StoresInNoBlack : Heap → State → ℕ → Op → Type 0
-StoresInNoBlack heap state who op = is_marking heap ≡ true → (source cell : ℕ) → Stores state who op source cell → is_black heap source ≡ false
+StoresInNoBlack heap state who op =
+    is_marking heap ≡ true → (source cell : ℕ) → Stores state who op source cell → is_black heap source ≡ false

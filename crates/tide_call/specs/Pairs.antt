@@ -24,4 +24,5 @@ HasNoZero words = (place : ℕ) → place < 8 → slice_index words place ≢ 0
 
 -- the place for a pair of the key: the one of its pair, and else the first without a pair
 abbrev pub IsPlaceAmong : List ℕ → ℕ → ℕ → Type 0
-IsPlaceAmong words key place = ((value : Val) × StandsAt words key value place) ⊎ (LacksKey words key × IsFirstZero words place)
+IsPlaceAmong words key place =
+    ((value : Val) × StandsAt words key value place) ⊎ (LacksKey words key × IsFirstZero words place)

@@ -32,7 +32,12 @@ impl<'a, S: ShapeTable> Model for Caller<'a, S> {
 
     ghost Value = { Caller };
 
-    ghost view = { λ c. record { layout = c.layout.now; shapes = S.lists c.shapes.now; who = c.who; claims = c.claims.now } };
+    ghost view = { λ c. record {
+      layout = c.layout.now;
+      shapes = S.lists c.shapes.now;
+      who = c.who;
+      claims = c.claims.now;
+    } };
 }
 
 impl<'a, S: ShapeTable> Caller<'a, S> {

@@ -2,12 +2,29 @@
 //!
 //! A law speaks of the heap before a call, the heap after it, and the state before it. It knows no list of words and no
 //! order in which they were stored.
-ghost use Rattle.tide_call.specs.Laws.{BirthsKeepMarking, CallsKeepMarking, CallsReadBack, HistoriesReadBack};
+ghost use Rattle.tide_call.specs.Laws.{
+  BirthsKeepMarking,
+  CallsKeepMarking,
+  CallsReadBack,
+  GrowthsInOrder,
+  HistoriesReadBack,
+  MutatorsMayCall,
+};
+
+/// An active mutator may call wherever references are live: it meets what `Caller::plan_of` asks of the state.
+pub fn mutators_may_call()
+    ensures callers { MutatorsMayCall }
+{}
 
 /// The words of a call were written: they read as the state that it leaves, whatever the operation.
 pub fn calls_read_back()
     ensures reading { CallsReadBack }
     ensures history { HistoriesReadBack }
+{}
+
+/// The words of a growth may be stored in the order that mutators on threads need.
+pub fn growths_are_in_order()
+    ensures growths { GrowthsInOrder }
 {}
 
 /// A call keeps marking where the cell in which it stores another isn't black. It does so before a new cell is

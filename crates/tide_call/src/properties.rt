@@ -29,7 +29,8 @@ struct Property {
 }
 
 impl<'a, S: ShapeTable> Caller<'a, S> {
-    /// The cell in a register, which has properties and which the caller claims, or why an operation on them is refused.
+    /// The cell in a register, which has properties and which the caller claims, or why an operation on these is
+    /// refused.
     pub(crate) fn property_holder<C, O: OwnWords<C>>(
         &self,
         own: &mut O,
