@@ -1,6 +1,7 @@
 -- The laws of plans: what a caller's own words say in a state, and what refuses its operations.
 pub mod AdditionRoom
 pub mod Callers
+pub mod ClaimPlans
 pub mod KeyReading
 pub mod OwnLaws
 pub mod PairCounts

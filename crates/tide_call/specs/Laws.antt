@@ -1,37 +1,40 @@
 -- What a call leaves, once its words are written.
-use Rattle.std.specs.Prelude.{ℕ, ◌≡◌, ◌≢◌, ◌+◌, ◌%◌, ◌<◌, true, List, [], ◌∷◌, ◌++◌, slice_get, Option, None, Some}
+use Rattle.std.specs.Prelude.{ℕ, ◌≡◌, ◌≢◌, ◌+◌, ◌%◌, ◌<◌, true, List, [], ◌∷◌, ◌++◌, slice_get, nat_le, length, Option, None, Some}
 use Rattle.tide_layout.specs.Limits.{IsWithinLimits}
 use Rattle.tide_layout.specs.Slots.{HasElement, index_of_element}
-use Rattle.tide_layout.specs.declared.region.Region.TheVariants.{Array, Elements, Free, Structure}
+use Rattle.tide_layout.specs.declared.region.Region.TheVariants.{Array, Claim as ClaimRegion, Elements, Free, GreyMutator, Structure}
 use Rattle.tide_layout.specs.declared.region.Region.{Region}
 use Rattle.tide_model.specs.declared.entry.Entry.TheVariants.{Call}
 use Rattle.tide_model.specs.declared.entry.Event.{Event}
 use Rattle.tide_model.specs.declared.op.Op.{Op}
+use Rattle.tide_model.specs.declared.op.Op.TheVariants.{Claim}
 use Rattle.tide_model.specs.declared.op.Reply.{Reply}
 use Rattle.tide_model.specs.declared.op.Reply.TheVariants.{Born}
 use Rattle.tide_model.specs.Answer.{IsAnswer}
 use Rattle.tide_model.specs.Applied.{after_call}
 use Rattle.tide_model.specs.History.{state_after}
 use Rattle.tide_model.specs.Lawful.{FitsLayout, IsLawful, StandsCall}
+use Rattle.tide_model.specs.declared.op.Refusal.TheVariants.{ClaimsFull, Held}
 use Rattle.tide_model.specs.declared.val.Val.{Val}
-use Rattle.tide_model.specs.Layout.{Layout, block_of_array, cell_count}
+use Rattle.tide_model.specs.declared.val.Val.TheVariants.{Cell}
+use Rattle.tide_model.specs.Layout.{Layout, block_of_array, block_of_cell, cell_count}
 use Rattle.tide_model.specs.References.{ClaimsAreOwn, RefsAreLive}
-use Rattle.tide_model.specs.Refused.{ShapeLists}
+use Rattle.tide_model.specs.Refused.{ShapeLists, claims_most, refusal_of, refuse_if}
 use Rattle.tide_model.specs.State.{State}
 use Rattle.tide_words.specs.declared.forms.colours.Colour.{Colour}
 use Rattle.tide_words.specs.declared.forms.colours.Colour.TheVariants.{Grey}
 use Rattle.tide_words.specs.heap.Heap.{Heap, SameIn}
-use Rattle.tide_words.specs.forms.Reference.{array_word}
+use Rattle.tide_words.specs.forms.Reference.{array_word, claim_word}
 use Rattle.tide_words.specs.forms.ValueWord.{val_word}
 use Rattle.tide_words.specs.heap.Reading.{ReadsAs}
 use Rattle.tide_words.specs.heap.Written.{IsBitPut, IsWritten}
-use Rattle.tide_words.specs.marking.Colours.{coloured}
+use Rattle.tide_words.specs.marking.Colours.{IsBlack, coloured, is_marking}
 use Rattle.tide_words.specs.marking.Marking.{Marking}
 use Rattle.tide_call.specs.Callers.{Caller, IsCallerOf}
 use Rattle.tide_call.specs.CallWords.{CallWords}
 use Rattle.tide_call.specs.Grown.{AreCopied, IsGrown}
 use Rattle.tide_call.specs.ShapeWord.{whole_word}
-use Rattle.tide_call.specs.Links.{StoresInNoBlack}
+use Rattle.tide_call.specs.Links.{Stores, StoresInNoBlack}
 
 -- an active mutator of the layout may make this call on the state and be answered so; the layout is within its limits,
 -- the first shape is the empty one, and no two mutators claim a cell
@@ -104,3 +107,30 @@ GrowthsInOrder =
     IsWritten layout nuked moved Array cell (array_word (Some taken)) →
     IsWritten layout moved new Structure cell (whole_word shape (count + 1)) →
     IsGrown layout old new cell taken from count shape value
+
+-- The barrier may come after the store that owes it. A call stored cells in one black cell alone, which then was made
+-- grey, and its bit set in its block's word of the cells that mutators made grey: marking is kept.
+abbrev pub BarriersMayFollow : Type 0
+BarriersMayFollow =
+    (layout : Layout) (shapes : ShapeLists) (old stored new : Heap) (state : State) (who : ℕ) (op : Op) (reply : Reply)
+    (took : Option ℕ) (source : ℕ) (cells : List ℕ) →
+    MayCall layout shapes state who op reply took → source < cell_count layout → is_marking old ≡ true →
+    IsBlack stored source → ((from cell : ℕ) → Stores state who op from cell → from ≡ source) →
+    CallWords layout shapes old state who op reply took stored →
+    IsBitPut layout (coloured stored source Grey) new GreyMutator (block_of_cell source) (source % 64) 1 →
+    Marking layout shapes old state cells → Marking layout shapes new (after_call state who op reply took) cells
+
+-- the claim word of a cell in a register tells what refuses a claim of it: its holder's claim, or that the mutator's are
+-- full
+pub record IsClaimTold (layout : Layout) (shapes : ShapeLists) (heap : Heap) (state : State) (who src cell : ℕ) : Type 0 where
+  pub held : (holder : ℕ) → heap ClaimRegion cell ≡ claim_word (Some holder) →
+      refusal_of layout shapes state who (Claim src) ≡ Some (Held holder)
+  pub free : heap ClaimRegion cell ≡ claim_word None →
+      refusal_of layout shapes state who (Claim src) ≡ refuse_if (nat_le claims_most (length (state.claims who))) ClaimsFull
+
+-- so it is where the words read as the state, in which no two mutators claim a cell
+abbrev pub ClaimsAreTold : Type 0
+ClaimsAreTold =
+    (layout : Layout) (shapes : ShapeLists) (heap : Heap) (state : State) (who src cell : ℕ) →
+    ClaimsAreOwn layout state → ReadsAs layout shapes heap state → state.registers who src ≡ Cell cell →
+    cell < cell_count layout → IsClaimTold layout shapes heap state who src cell

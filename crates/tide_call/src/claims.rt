@@ -6,9 +6,6 @@ ghost use Rattle.tide_model.specs.Refused.{claims_most};
 use arrayvec::ArrayVec;
 use std::marker::Model;
 
-/// How many cells a mutator may claim.
-const MOST: usize = 8;
-
 /// The cells that a mutator claims, the oldest claim first. Contracts see the list of them.
 #[derive(Debug, Drop)]
 pub struct Claims {
@@ -44,7 +41,7 @@ impl Claims {
     pub fn is_full(&self) -> bool
         ensures { result ≡ nat_le claims_most (length self.now) }
     {
-        self.cells.len() >= MOST
+        self.cells.is_full()
     }
 
     /// The cell that was claimed first, if one is claimed.
@@ -75,12 +72,5 @@ impl Claims {
         ensures { self.new ≡ drop 1 self.old }
     {
         self.cells.remove(0);
-    }
-
-    /// The cells that are claimed, in the order of their claims.
-    pub fn cells(&self) -> &[u32]
-        ensures { result.now ≡ self.now }
-    {
-        self.cells.as_slice()
     }
 }

@@ -2,18 +2,17 @@
 //!
 //! A law speaks of the heap before a call, the heap after it, and the state before it. It knows no list of words and no
 //! order in which they were stored.
-ghost use Rattle.tide_call.specs.Laws.{
-  BirthsKeepMarking,
-  CallsKeepMarking,
-  CallsReadBack,
-  GrowthsInOrder,
-  HistoriesReadBack,
-  MutatorsMayCall,
-};
+ghost use Rattle.tide_call.specs.Laws.{BarriersMayFollow, BirthsKeepMarking, CallsKeepMarking, CallsReadBack};
+ghost use Rattle.tide_call.specs.Laws.{ClaimsAreTold, GrowthsInOrder, HistoriesReadBack, MutatorsMayCall};
 
 /// An active mutator may call wherever references are live: it meets what `Caller::plan_of` asks of the state.
 pub fn mutators_may_call()
     ensures callers { MutatorsMayCall }
+{}
+
+/// What a mutator's own words don't tell of a claim, the claim word of the cell does.
+pub fn claims_are_told()
+    ensures claims { ClaimsAreTold }
 {}
 
 /// The words of a call were written: they read as the state that it leaves, whatever the operation.
@@ -27,9 +26,10 @@ pub fn growths_are_in_order()
     ensures growths { GrowthsInOrder }
 {}
 
-/// A call keeps marking where the cell in which it stores another isn't black. It does so before a new cell is
-/// coloured, and afterwards, where the cell is black or white.
+/// A call keeps marking where the cell in which it stores another isn't black, or where the barrier makes it grey
+/// afterwards. A new cell may be coloured black or white.
 pub fn calls_keep_marking()
     ensures marking { CallsKeepMarking }
+    ensures barrier { BarriersMayFollow }
     ensures births { BirthsKeepMarking }
 {}
