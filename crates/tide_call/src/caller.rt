@@ -83,10 +83,7 @@ impl<'a, S: ShapeTable> Caller<'a, S> {
             state.registers self.now.who register ≡ result) }
         ensures owns { KeepsOwn (O.owns own.old context.now) (O.owns own.new context.now) }
     {
-        match word_val(own.register(context, self.layout, self.who, register)) {
-            Some(value) => value,
-            None => Val::Empty,
-        }
+        word_val(own.register(context, self.layout, self.who, register)).unwrap_or(Val::Empty)
     }
 
     /// The cell that a register of the caller holds, or that it holds none.
