@@ -1,4 +1,5 @@
 -- The laws of plans: what a caller's own words say in a state, and what refuses its operations.
+pub mod Acting
 pub mod AdditionRoom
 pub mod Callers
 pub mod ClaimPlans

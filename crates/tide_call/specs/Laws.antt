@@ -7,7 +7,7 @@ use Rattle.tide_layout.specs.declared.region.Region.{Region}
 use Rattle.tide_model.specs.declared.entry.Entry.TheVariants.{Call}
 use Rattle.tide_model.specs.declared.entry.Event.{Event}
 use Rattle.tide_model.specs.declared.op.Op.{Op}
-use Rattle.tide_model.specs.declared.op.Op.TheVariants.{Claim}
+use Rattle.tide_model.specs.declared.op.Op.TheVariants.{Claim, Retire}
 use Rattle.tide_model.specs.declared.op.Reply.{Reply}
 use Rattle.tide_model.specs.declared.op.Reply.TheVariants.{Born}
 use Rattle.tide_model.specs.Answer.{IsAnswer}
@@ -32,6 +32,9 @@ use Rattle.tide_words.specs.marking.Colours.{IsBlack, coloured, is_marking}
 use Rattle.tide_words.specs.marking.Marking.{Marking}
 use Rattle.tide_call.specs.Callers.{Caller, IsCallerOf}
 use Rattle.tide_call.specs.CallWords.{CallWords}
+use Rattle.tide_call.specs.declared.plan.Plan.{Plan}
+use Rattle.tide_call.specs.Plans.{IsPlan}
+use Rattle.tide_call.specs.PlanWords.{PlanWords}
 use Rattle.tide_call.specs.Grown.{AreCopied, IsGrown}
 use Rattle.tide_call.specs.ShapeWord.{whole_word}
 use Rattle.tide_call.specs.Links.{Stores, StoresInNoBlack}
@@ -134,3 +137,15 @@ ClaimsAreTold =
     (layout : Layout) (shapes : ShapeLists) (heap : Heap) (state : State) (who src cell : ℕ) →
     ClaimsAreOwn layout state → ReadsAs layout shapes heap state → state.registers who src ≡ Cell cell →
     cell < cell_count layout → IsClaimTold layout shapes heap state who src cell
+
+-- Who acts on the plan of a call, by its words alone, answers the call and writes its words. The mutator is active and
+-- retires without claims, references are live, and no two mutators claim a cell.
+abbrev pub PlansAreCalls : Type 0
+PlansAreCalls =
+    (caller : Caller) (heap new : Heap) (state : State) (op : Op) (does : Plan) (reply : Reply) (took : Option ℕ) →
+    FitsLayout caller.layout op → IsCallerOf caller state → state.active caller.who ≡ true →
+    (op ≡ Retire → caller.claims ≡ []) → RefsAreLive state → ClaimsAreOwn caller.layout state →
+    ReadsAs caller.layout caller.shapes heap state → IsPlan caller heap state op does →
+    PlanWords caller.layout heap caller.who does reply took new →
+    IsAnswer caller.layout caller.shapes state caller.who op reply took
+    × CallWords caller.layout caller.shapes heap state caller.who op reply took new

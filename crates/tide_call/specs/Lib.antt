@@ -5,6 +5,7 @@ pub mod Laws
 pub mod Links
 pub mod Pairs
 pub mod Plans
+pub mod PlanWords
 pub mod Properties
 pub mod ShapeWord
 pub mod Taken

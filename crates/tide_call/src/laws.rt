@@ -3,15 +3,17 @@
 //! A law speaks of the heap before a call, the heap after it, and the state before it. It knows no list of words and no
 //! order in which they were stored.
 ghost use Rattle.tide_call.specs.Laws.{BarriersMayFollow, BirthsKeepMarking, CallsKeepMarking, CallsReadBack};
-ghost use Rattle.tide_call.specs.Laws.{ClaimsAreTold, GrowthsInOrder, HistoriesReadBack, MutatorsMayCall};
+ghost use Rattle.tide_call.specs.Laws.{ClaimsAreTold, GrowthsInOrder, HistoriesReadBack, MutatorsMayCall, PlansAreCalls};
 
 /// An active mutator may call wherever references are live: it meets what `Caller::plan_of` asks of the state.
 pub fn mutators_may_call()
     ensures callers { MutatorsMayCall }
 {}
 
-/// What a mutator's own words don't tell of a claim, the claim word of the cell does.
-pub fn claims_are_told()
+/// Who acts on a plan, by its words alone, answers the call that it is of and writes its words. What a mutator's own
+/// words don't tell of a claim, the claim word of the cell does.
+pub fn plans_are_calls()
+    ensures calls { PlansAreCalls }
     ensures claims { ClaimsAreTold }
 {}
 

@@ -27,10 +27,8 @@ impl<'a, S: ShapeTable> Caller<'a, S> {
         }
     }
 
-    /// What a call of the operation is to do: it is refused, by the first refusal that the caller's own words tell, or
-    /// what it does then. It takes no memory.
-    ///
-    /// Whether another mutator claims a cell, and whether a class has room, they don't tell.
+    /// What a call of the operation is to do: the first refusal that the caller's own words tell, or what it does then.
+    /// Whether another mutator claims a cell, and whether a class has room, they don't tell. It takes no memory.
     pub fn plan_of<C, O: OwnWords<C>>(&self, own: &mut O, context: &C, op: Op) -> Plan
         requires fits { FitsLayout self.now.layout op }
         requires known { MayCallNow (O.owns own.old context.now) self.now }

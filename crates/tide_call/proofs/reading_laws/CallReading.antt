@@ -53,10 +53,10 @@ use Rattle.tide_call.proofs.reading_laws.RootReading.{Reading-register, Reading-
 use Rattle.tide_call.proofs.reading_laws.SlotReading.{Reading-group, Reading-slot}
 
 -- what isn't refused, by the cell that its register holds
-allowed_at : (value : Val) (register cell : ℕ) (refusal : ℕ → Option Refusal) → value ≡ Cell cell → refusal_at value register refusal ≡ None → refusal cell ≡ None
+pub allowed_at : (value : Val) (register cell : ℕ) (refusal : ℕ → Option Refusal) → value ≡ Cell cell → refusal_at value register refusal ≡ None → refusal cell ≡ None
 allowed_at value register cell refusal is none = subst (λ (v : Val). refusal_at v register refusal ≡ None) is none
 
-slot_allowed : (layout : Layout) (value : Val) (register slot cell : ℕ) → value ≡ Cell cell → slot_refusal layout value register slot ≡ None → slot < slots_of (class_of layout cell)
+pub slot_allowed : (layout : Layout) (value : Val) (register slot cell : ℕ) → value ≡ Cell cell → slot_refusal layout value register slot ≡ None → slot < slots_of (class_of layout cell)
 slot_allowed layout value register slot cell is none = by_tests (class_of layout cell == 4) (nat_lt slot (slots_of (class_of layout cell))) refl (subst (λ (v : Val). slot_refusal layout v register slot ≡ None) is none)
   where
     by_tests : (t l : Bool) → nat_lt slot (slots_of (class_of layout cell)) ≡ l → (if t then Some IsTable else if l then None else Some (NoSlot slot)) ≡ None → slot < slots_of (class_of layout cell)
@@ -65,7 +65,7 @@ slot_allowed layout value register slot cell is none = by_tests (class_of layout
     by_tests false false e h = absurd (cc)
 
 -- the last of three refusals that don't come
-third_allowed : (a b : Bool) (r s : Refusal) (c : Bool) (t : Refusal) → first_of (refuse_if a r ∷ refuse_if b s ∷ refuse_if (not c) t ∷ []) ≡ None → c ≡ true
+pub third_allowed : (a b : Bool) (r s : Refusal) (c : Bool) (t : Refusal) → first_of (refuse_if a r ∷ refuse_if b s ∷ refuse_if (not c) t ∷ []) ≡ None → c ≡ true
 third_allowed true b r s c t h = absurd (cc)
 third_allowed false true r s c t h = absurd (cc)
 third_allowed false false r s true t h = refl
