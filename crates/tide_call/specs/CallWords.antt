@@ -39,8 +39,8 @@ is_kept_region region.Free = false
 is_kept_region _ = true
 
 -- no word is written
-abbrev pub IsLeft : Layout → Heap → Heap → Type 0
-IsLeft layout old new = (other : Region) → SameIn layout other old new
+abbrev pub IsUnwritten : Layout → Heap → Heap → Type 0
+IsUnwritten layout old new = (other : Region) → SameIn layout other old new
 
 -- a register is filled
 abbrev pub Fills : Layout → Heap → ℕ → ℕ → Val → Heap → Type 0
@@ -83,7 +83,7 @@ IsPlaceFor layout heap state table place key =
 
 -- the new heap is the old one with the words of a granted call, but for those of its colours, grey cells and reply
 abbrev pub CallWords : Layout → ShapeLists → Heap → State → ℕ → Op → Reply → Option ℕ → Heap → Type 0
-CallWords layout shapes heap state who op (Refused refusal) took new = IsLeft layout heap new
+CallWords layout shapes heap state who op (Refused refusal) took new = IsUnwritten layout heap new
 CallWords layout shapes heap state who (Alloc dst class) (Born cell) took new = Bears layout heap who dst cell new
 CallWords layout shapes heap state who (Table dst) (Born cell) took new = Bears layout heap who dst cell new
 CallWords layout shapes heap state who (Get dst src slot) (Seen value) took new = Fills layout heap who dst value new
@@ -130,4 +130,4 @@ CallWords layout shapes heap state who (PairDel src key) Done took new =
 CallWords layout shapes heap state who (Group src n) Done took new =
     (cell : ℕ) × (state.registers who src ≡ Cell cell) × IsWritten layout heap new region.Group cell n
 CallWords layout shapes heap state who Retire Done took new = IsWritten layout heap new region.Active who 0
-CallWords layout shapes heap state who op reply took new = IsLeft layout heap new
+CallWords layout shapes heap state who op reply took new = IsUnwritten layout heap new

@@ -39,9 +39,9 @@ use Rattle.tide_call.specs.Grown.{AreCopied, IsGrown}
 use Rattle.tide_call.specs.ShapeWord.{whole_word}
 use Rattle.tide_call.specs.Links.{Stores, StoresInNoBlack}
 
--- an active mutator of the layout may make this call on the state and be answered so; the layout is within its limits,
--- the first shape is the empty one, and no two mutators claim a cell
-pub record MayCall (layout : Layout) (shapes : ShapeLists) (state : State) (who : ℕ) (op : Op) (reply : Reply)
+-- the call stands in the state: an active mutator of the layout may make it and be answered so; the layout is within its
+-- limits, the first shape is the empty one, and no two mutators claim a cell
+pub record StandsIn (layout : Layout) (shapes : ShapeLists) (state : State) (who : ℕ) (op : Op) (reply : Reply)
     (took : Option ℕ) : Type 0 where
   pub limits : IsWithinLimits layout
   pub empty_shape : slice_get shapes 0 ≡ Some []
@@ -63,7 +63,7 @@ abbrev pub CallsReadBack : Type 0
 CallsReadBack =
     (layout : Layout) (shapes : ShapeLists) (old new : Heap) (state : State) (who : ℕ) (op : Op) (reply : Reply)
     (took : Option ℕ) →
-    MayCall layout shapes state who op reply took → RefsAreLive state →
+    StandsIn layout shapes state who op reply took → RefsAreLive state →
     CallWords layout shapes old state who op reply took new →
     ReadsAs layout shapes old state → ReadsAs layout shapes new (after_call state who op reply took)
 
@@ -83,7 +83,7 @@ abbrev pub CallsKeepMarking : Type 0
 CallsKeepMarking =
     (layout : Layout) (shapes : ShapeLists) (old new : Heap) (state : State) (who : ℕ) (op : Op) (reply : Reply)
     (took : Option ℕ) (cells : List ℕ) →
-    MayCall layout shapes state who op reply took → StoresInNoBlack old state who op →
+    StandsIn layout shapes state who op reply took → StoresInNoBlack old state who op →
     CallWords layout shapes old state who op reply took new →
     Marking layout shapes old state cells → Marking layout shapes new (after_call state who op reply took) cells
 
@@ -92,7 +92,7 @@ abbrev pub BirthsKeepMarking : Type 0
 BirthsKeepMarking =
     (layout : Layout) (shapes : ShapeLists) (old born new : Heap) (state : State) (who : ℕ) (op : Op) (cell : ℕ)
     (colour : Colour) (cells : List ℕ) →
-    MayCall layout shapes state who op (Born cell) None → colour ≢ Grey →
+    StandsIn layout shapes state who op (Born cell) None → colour ≢ Grey →
     CallWords layout shapes old state who op (Born cell) None born →
     ((region : Region) → SameIn layout region (coloured born cell colour) new) →
     Marking layout shapes old state cells → Marking layout shapes new (after_call state who op (Born cell) None) cells
@@ -117,7 +117,7 @@ abbrev pub BarriersMayFollow : Type 0
 BarriersMayFollow =
     (layout : Layout) (shapes : ShapeLists) (old stored new : Heap) (state : State) (who : ℕ) (op : Op) (reply : Reply)
     (took : Option ℕ) (source : ℕ) (cells : List ℕ) →
-    MayCall layout shapes state who op reply took → source < cell_count layout → is_marking old ≡ true →
+    StandsIn layout shapes state who op reply took → source < cell_count layout → is_marking old ≡ true →
     IsBlack stored source → ((from cell : ℕ) → Stores state who op from cell → from ≡ source) →
     CallWords layout shapes old state who op reply took stored →
     IsBitPut layout (coloured stored source Grey) new GreyMutator (block_of_cell source) (source % 64) 1 →

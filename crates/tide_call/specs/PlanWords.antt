@@ -15,7 +15,7 @@ use Rattle.tide_words.specs.heap.Reading.{IsValueOf, element_word, slot_word}
 use Rattle.tide_words.specs.heap.Written.{IsWritten}
 use Rattle.tide_call.specs.declared.plan.Plan.{Plan}
 use Rattle.tide_call.specs.declared.plan.Plan.TheVariants as plan
-use Rattle.tide_call.specs.CallWords.{Bears, Fills, IsLeft}
+use Rattle.tide_call.specs.CallWords.{Bears, Fills, IsUnwritten}
 use Rattle.tide_call.specs.Grown.{IsGrown}
 use Rattle.tide_call.specs.ShapeWord.{whole_word}
 
@@ -34,11 +34,11 @@ pub record IsFreeArrayIn (layout : Layout) (heap : Heap) (class array : ℕ) : T
 -- who acts on the plan gives this reply, takes this array or none, and writes the words that give the new heap
 abbrev pub PlanWords : Layout → Heap → ℕ → Plan → Reply → Option ℕ → Heap → Type 0
 PlanWords layout heap who (plan.Refuse refusal) (Refused other) took new =
-    (took ≡ None) × (other ≡ refusal) × IsLeft layout heap new
+    (took ≡ None) × (other ≡ refusal) × IsUnwritten layout heap new
 PlanWords layout heap who (plan.Take dst class) (Born cell) took new =
     (took ≡ None) × IsFreeCellIn layout heap class cell × Bears layout heap who dst cell new
 PlanWords layout heap who (plan.Take dst class) (Refused (Full full)) took new =
-    (took ≡ None) × (full ≡ class) × IsLeft layout heap new
+    (took ≡ None) × (full ≡ class) × IsUnwritten layout heap new
 PlanWords layout heap who (plan.LoadSlot dst cell slot) (Seen value) took new =
     (took ≡ None) × IsValueOf value (slot_word layout heap cell slot) × Fills layout heap who dst value new
 PlanWords layout heap who (plan.StoreSlot cell slot value) Done took new =
@@ -47,9 +47,9 @@ PlanWords layout heap who (plan.Fill dst value) Done took new = (took ≡ None) 
 PlanWords layout heap who (plan.Show dst value) (Seen seen) took new =
     (took ≡ None) × (seen ≡ value) × Fills layout heap who dst value new
 PlanWords layout heap who (plan.Claim cell full) (Refused (Held holder)) took new =
-    (took ≡ None) × (heap region.Claim cell ≡ claim_word (Some holder)) × IsLeft layout heap new
+    (took ≡ None) × (heap region.Claim cell ≡ claim_word (Some holder)) × IsUnwritten layout heap new
 PlanWords layout heap who (plan.Claim cell full) (Refused ClaimsFull) took new =
-    (took ≡ None) × (heap region.Claim cell ≡ claim_word None) × (full ≡ true) × IsLeft layout heap new
+    (took ≡ None) × (heap region.Claim cell ≡ claim_word None) × (full ≡ true) × IsUnwritten layout heap new
 PlanWords layout heap who (plan.Claim cell full) Done took new =
     (took ≡ None) × (heap region.Claim cell ≡ claim_word None) × (full ≡ false)
     × IsWritten layout heap new region.Claim cell (claim_word (Some who))
@@ -67,7 +67,7 @@ PlanWords layout heap who (plan.Grow addition array class value) Done (Some take
     IsFreeArrayIn layout heap class taken
     × IsGrown layout heap new addition.cell taken array addition.count addition.next value
 PlanWords layout heap who (plan.Grow addition array class value) (Refused (Full full)) took new =
-    (took ≡ None) × (full ≡ class) × IsLeft layout heap new
+    (took ≡ None) × (full ≡ class) × IsUnwritten layout heap new
 PlanWords layout heap who (plan.StoreStrong at value) Done took new =
     (took ≡ None) × IsWritten layout heap new region.Strong at (val_word value)
 PlanWords layout heap who (plan.LoadStrong dst at) (Seen value) took new =
@@ -82,6 +82,6 @@ PlanWords layout heap who (plan.ClearPair table place) Done took new =
     (took ≡ None) × IsWritten layout heap new region.Slots (index_of_slot layout table place) 0
 PlanWords layout heap who (plan.Join cell group) Done took new =
     (took ≡ None) × IsWritten layout heap new region.Group cell group
-PlanWords layout heap who plan.Ask Asked took new = (took ≡ None) × IsLeft layout heap new
+PlanWords layout heap who plan.Ask Asked took new = (took ≡ None) × IsUnwritten layout heap new
 PlanWords layout heap who plan.Retire Done took new = (took ≡ None) × IsWritten layout heap new region.Active who 0
 PlanWords layout heap who _ reply took new = ⊥

@@ -57,6 +57,15 @@ blank stored before = record {
   properties = λ place cell is below has. absurd (cc);
 }
 
+-- and a cell of which pairs or group are others has those that it had
+no_new_links : (stored : ℕ → Type 0) (before : CellState) (pairs : ℕ → Option Val) (group : ℕ) →
+    IsKeptCell stored (record before { pairs = pairs; group = group }) before
+no_new_links stored before pairs group = record {
+  alive = λ alive. alive;
+  slots = λ slot to alive has. inl (alive, has);
+  properties = λ place to alive below has. inl (alive, below, has);
+}
+
 -- each cell after a call
 pub each_is_kept : (state : State) (who : ℕ) (operation : Op) (reply : Reply) (took : Option ℕ) (x : ℕ) →
     IsKeptCell (Stores state who operation x) ((after_call state who operation reply took).cells x) (state.cells x)
@@ -115,32 +124,17 @@ each_is_kept state who (op.PairSet src key val) Done took x =
     (same (λ to. ⊥) (state.cells x))
     (λ table is. at_cell_elim (λ after. IsKeptCell (λ to. ⊥) (after.cells x) (state.cells x)) state (state.registers who key) _
     (same (λ to. ⊥) (state.cells x))
-    (λ cell is_key. put_one (λ n to. ⊥) state.cells table _ (unlinked (state.cells table) _) x))
-  where
-    unlinked : (before : CellState) (pairs : ℕ → Option Val) → IsKeptCell (λ to. ⊥) (record before { pairs = pairs }) before
-    unlinked before pairs = record {
-      alive = λ alive. alive;
-      slots = λ slot to alive has. inl (alive, has);
-      properties = λ place to alive below has. inl (alive, below, has);
-    }
+    (λ cell is_key. put_one (λ n to. ⊥) state.cells table _ (no_new_links (λ to. ⊥) (state.cells table) _ _) x))
 each_is_kept state who (op.PairDel src key) Done took x =
     at_cell_elim (λ after. IsKeptCell (λ to. ⊥) (after.cells x) (state.cells x)) state (state.registers who src) _
     (same (λ to. ⊥) (state.cells x))
     (λ table is. at_cell_elim (λ after. IsKeptCell (λ to. ⊥) (after.cells x) (state.cells x)) state (state.registers who key) _
     (same (λ to. ⊥) (state.cells x))
-    (λ cell is_key. put_one (λ n to. ⊥) state.cells table _ (record {
-      alive = λ alive. alive;
-      slots = λ slot to alive has. inl (alive, has);
-      properties = λ place to alive below has. inl (alive, below, has);
-    }) x))
+    (λ cell is_key. put_one (λ n to. ⊥) state.cells table _ (no_new_links (λ to. ⊥) (state.cells table) _ _) x))
 each_is_kept state who (op.Group src group) Done took x =
     at_cell_elim (λ after. IsKeptCell (λ to. ⊥) (after.cells x) (state.cells x)) state (state.registers who src) _
     (same (λ to. ⊥) (state.cells x))
-    (λ cell is. put_one (λ n to. ⊥) state.cells cell _ (record {
-      alive = λ alive. alive;
-      slots = λ slot to alive has. inl (alive, has);
-      properties = λ place to alive below has. inl (alive, below, has);
-    }) x)
+    (λ cell is. put_one (λ n to. ⊥) state.cells cell _ (no_new_links (λ to. ⊥) (state.cells cell) _ _) x)
 each_is_kept state who (op.Claim src) Done took x =
     at_cell_elim (λ after. IsKeptCell (λ to. ⊥) (after.cells x) (state.cells x)) state (state.registers who src) _
     (same (λ to. ⊥) (state.cells x)) (λ cell is. same (λ to. ⊥) (state.cells x))

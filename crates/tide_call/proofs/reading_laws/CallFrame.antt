@@ -1,7 +1,7 @@
 -- Which regions a call leaves.
 use Rattle.std.proofs.Common.{ℕ, ◌≡◌, refl, ◌∙◌, true, false, Option, Some, None}
 use Rattle.tide_layout.specs.declared.region.Region.{Region}
-use Rattle.tide_layout.specs.declared.region.Region.TheVariants.{Active, Array, Call, Claim, Colour, Dead, Elements, Free, GreyMutator, GreyRace, GreyShared, Group, Period, Phase, Registers, Slots, Stopped, Strong, Structure, Swept, Weak}
+use Rattle.tide_layout.specs.declared.region.Region.TheVariants.{Active, Claim, Elements, Free, Group, Registers, Slots, Strong, Structure, Weak}
 use Rattle.tide_layout.specs.Region.{index_of_register}
 use Rattle.tide_model.specs.declared.op.Op.{Op}
 use Rattle.tide_model.specs.declared.op.Op.TheVariants as op
@@ -18,31 +18,7 @@ use Rattle.tide_words.specs.heap.Written.{IsWritten}
 use Rattle.tide_words.proofs.heap_laws.ReadingLaws.{tags-apart}
 use Rattle.tide_words.proofs.heap_laws.WriteLaws.{written-other_region}
 use Rattle.tide_call.specs.CallWords.{Adds, Bears, CallWords, Fills, is_kept_region}
-use Rattle.tide_call.specs.Grown.{is_grown_region}
-
--- a region that calls leave is none that a growth writes
-kept_is_not_grown : (region : Region) → is_kept_region region ≡ true → is_grown_region region ≡ false
-kept_is_not_grown Period kept = refl
-kept_is_not_grown Phase kept = refl
-kept_is_not_grown Active kept = refl
-kept_is_not_grown Call kept = refl
-kept_is_not_grown Stopped kept = refl
-kept_is_not_grown Registers kept = refl
-kept_is_not_grown Strong kept = refl
-kept_is_not_grown Weak kept = refl
-kept_is_not_grown Colour kept = refl
-kept_is_not_grown Structure kept = absurd (cc)
-kept_is_not_grown Array kept = absurd (cc)
-kept_is_not_grown Claim kept = refl
-kept_is_not_grown Group kept = refl
-kept_is_not_grown Slots kept = refl
-kept_is_not_grown Elements kept = absurd (cc)
-kept_is_not_grown Free kept = absurd (cc)
-kept_is_not_grown Dead kept = refl
-kept_is_not_grown GreyShared kept = refl
-kept_is_not_grown GreyMutator kept = refl
-kept_is_not_grown GreyRace kept = refl
-kept_is_not_grown Swept kept = refl
+use Rattle.tide_call.proofs.reading_laws.GrowthReading.{not_grown}
 
 module _ (layout : Layout) (shapes : ShapeLists) (heap : Heap) (state : State) (who : ℕ) (region : Region)
     (kept : is_kept_region region ≡ true) where
@@ -64,7 +40,7 @@ module _ (layout : Layout) (shapes : ShapeLists) (heap : Heap) (state : State) (
       Adds layout shapes heap state cell key value took new → SameIn layout region heap new
   add new cell key value None (array, shape, stored, has, is_shape, element, structure) = λ index below.
       one stored new Structure _ _ refl structure index below ∙ one heap stored Elements _ _ refl element index below
-  add new cell key value (Some taken) (shape, is_shape, grown) = grown.others region (kept_is_not_grown region kept)
+  add new cell key value (Some taken) (shape, is_shape, grown) = grown.others region (not_grown is_kept_region refl refl refl refl region kept)
 
   -- a call leaves each of these regions
   pub CallWords-kept : (operation : Op) (reply : Reply) (took : Option ℕ) (new : Heap) →

@@ -29,29 +29,30 @@ use Rattle.tide_words.proofs.heap_laws.Parts.{RootsRead-same, is_root_region}
 use Rattle.tide_call.proofs.reading_laws.PropertyReading.{IsStructureOf-whole}
 use Rattle.tide_call.specs.ShapeWord.{IsShapeWord, whole_word}
 
--- none of them tells the roots
-root_not_grown : (region : Region) → is_root_region region ≡ true → is_grown_region region ≡ false
-root_not_grown Period is = refl
-root_not_grown Phase is = refl
-root_not_grown Active is = refl
-root_not_grown Call is = refl
-root_not_grown Stopped is = refl
-root_not_grown Registers is = refl
-root_not_grown Strong is = refl
-root_not_grown Weak is = refl
-root_not_grown Colour is = refl
-root_not_grown Structure is = absurd (cc)
-root_not_grown Array is = absurd (cc)
-root_not_grown Claim is = refl
-root_not_grown Group is = refl
-root_not_grown Slots is = refl
-root_not_grown Elements is = absurd (cc)
-root_not_grown Free is = absurd (cc)
-root_not_grown Dead is = refl
-root_not_grown GreyShared is = refl
-root_not_grown GreyMutator is = refl
-root_not_grown GreyRace is = refl
-root_not_grown Swept is = refl
+-- a growth writes no region of which a test says so, where it says so of none of the four that a growth writes
+pub not_grown : (test : Region → Bool) → test Structure ≡ false → test Array ≡ false → test Elements ≡ false → test Free ≡ false →
+    (region : Region) → test region ≡ true → is_grown_region region ≡ false
+not_grown test no_structure no_array no_elements no_free Period is = refl
+not_grown test no_structure no_array no_elements no_free Phase is = refl
+not_grown test no_structure no_array no_elements no_free Active is = refl
+not_grown test no_structure no_array no_elements no_free Call is = refl
+not_grown test no_structure no_array no_elements no_free Stopped is = refl
+not_grown test no_structure no_array no_elements no_free Registers is = refl
+not_grown test no_structure no_array no_elements no_free Strong is = refl
+not_grown test no_structure no_array no_elements no_free Weak is = refl
+not_grown test no_structure no_array no_elements no_free Colour is = refl
+not_grown test no_structure no_array no_elements no_free Structure is = absurd (cc)
+not_grown test no_structure no_array no_elements no_free Array is = absurd (cc)
+not_grown test no_structure no_array no_elements no_free Claim is = refl
+not_grown test no_structure no_array no_elements no_free Group is = refl
+not_grown test no_structure no_array no_elements no_free Slots is = refl
+not_grown test no_structure no_array no_elements no_free Elements is = absurd (cc)
+not_grown test no_structure no_array no_elements no_free Free is = absurd (cc)
+not_grown test no_structure no_array no_elements no_free Dead is = refl
+not_grown test no_structure no_array no_elements no_free GreyShared is = refl
+not_grown test no_structure no_array no_elements no_free GreyMutator is = refl
+not_grown test no_structure no_array no_elements no_free GreyRace is = refl
+not_grown test no_structure no_array no_elements no_free Swept is = refl
 
 -- an array that a cell gives up is spent, and no other is
 spend-same : (arrays : ℕ → Status) (from : Option ℕ) (array : ℕ) → from ≡ Some array → spend arrays from array ≡ spent
@@ -232,7 +233,7 @@ module _ (layout : Layout) (shapes : ShapeLists) (old new : Heap) (state : State
 
   pub Reading-grown : ReadsAs layout shapes new (add_property state cell key value (Some taken))
   Reading-grown = record {
-    roots = RootsRead-same layout old new state (λ region is. grown.others region (root_not_grown region is)) reads.roots;
+    roots = RootsRead-same layout old new state (λ region is. grown.others region (not_grown is_root_region refl refl refl refl region is)) reads.roots;
     parts = record {
       cells = put_at_elim (λ x (h : CellState). x < cell_count layout → CellReads layout shapes new x h) state.cells cell held (λ in_cells. here)
           (λ x apart in_cells. CellReads-kept layout shapes old new x (state.cells x) in_cells (others x in_cells apart) (parts.cells x in_cells));
