@@ -1,4 +1,4 @@
-//! What the addition of a property is to do.
+//! What the addition of a property is to do. It reads no word but the caller's own.
 ghost use Rattle.std.specs.Prelude.{◌≡◌, ◌+◌, ◌<◌, ℕ, None, Some, true, IfErr, IfOk};
 ghost use Rattle.tide_model.specs.Layout.{array_class_for, cell_count};
 ghost use Rattle.tide_model.specs.Numbers.{is_among};

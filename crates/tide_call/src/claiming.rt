@@ -1,4 +1,4 @@
-//! What operations on claims are to do.
+//! What operations on claims are to do. It reads no word but the caller's own.
 ghost use Rattle.std.specs.Prelude.{◌≡◌, ◌<◌};
 ghost use Rattle.tide_model.specs.State.{State};
 ghost use Rattle.tide_words.specs.heap.Heap.{Heap};

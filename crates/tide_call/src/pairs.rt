@@ -1,4 +1,4 @@
-//! What operations on pairs are to do.
+//! What operations on pairs are to do. It reads no word but the caller's own.
 ghost use Rattle.std.specs.Prelude.{◌≡◌, ◌<◌, ◌∷◌, [], ℕ, None, Some, Option, true, IfErr, IfNone, IfOk, IfSome};
 ghost use Rattle.tide_model.specs.Layout.{cell_count};
 ghost use Rattle.tide_model.specs.Numbers.{is_among};

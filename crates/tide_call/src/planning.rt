@@ -1,4 +1,4 @@
-//! `Caller::plan_of`: what a call is to do, of whichever operation.
+//! `Caller::plan_of`: what a call is to do, of whichever operation. It reads no word but the caller's own.
 ghost use Rattle.std.specs.Prelude.{◌≡◌, ◌<◌};
 ghost use Rattle.tide_model.specs.Lawful.{FitsLayout};
 ghost use Rattle.tide_model.specs.declared.op.Op.TheVariants.{Group};

@@ -1,4 +1,4 @@
-//! What operations on properties that a cell has are to do.
+//! What operations on properties that a cell has are to do. It reads no word but the caller's own.
 ghost use Rattle.std.specs.Prelude.{◌≡◌, ◌<◌, ℕ, List, Option, None, Some, true, IfErr, IfOk};
 ghost use Rattle.tide_layout.specs.Slots.{HasElement};
 ghost use Rattle.tide_model.specs.Applied.{place_of};

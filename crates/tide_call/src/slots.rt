@@ -1,4 +1,4 @@
-//! What operations on slots are to do.
+//! What operations on slots are to do. It reads no word but the caller's own.
 ghost use Rattle.std.specs.Prelude.{◌≡◌, ◌<◌, None, Some, IfErr, IfOk};
 ghost use Rattle.tide_layout.specs.Slots.{HasSlot};
 ghost use Rattle.tide_model.specs.Refused.{slot_refusal};
