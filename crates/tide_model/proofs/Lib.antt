@@ -21,6 +21,7 @@ pub mod ReferenceLaws
 pub mod ReferenceSteps
 pub mod ReferencesInCycles
 pub mod Retained
+pub mod Retaining
 pub mod ShareRows
 pub mod SinceLaws
 pub mod Spans

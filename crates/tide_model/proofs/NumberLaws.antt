@@ -1,6 +1,8 @@
 -- Functions with another value at one place, membership, lists of numbers below a bound, and their number.
 use Rattle.std.proofs.Common.{ℕ, zero, suc, ◌≡◌, ◌+◌, ◌<◌, refl, sym, ◌∙◌, ap, subst, arith, Bool, true, false, List, [], ◌∷◌, ◌++◌, length, append-nil, get_or, inl, inr, eq-eqb, length-append, ◌≢◌, true≢false}
-use Rattle.std.proofs.lemmas.Bool.{eqb-true, eqb-false, or_parts}
+use Rattle.std.proofs.lemmas.Bool.{eqb-true, eqb-false, ne_eqb, or_parts}
+use Rattle.std.proofs.lemmas.Bool.Decides.{eqb_tells}
+use Rattle.std.specs.List.{list_any}
 use Rattle.std.proofs.Math.ListN.{get_or-append}
 use Rattle.std.proofs.Math.Seq.{get_or-append_seam}
 use Rattle.std.proofs.lemmas.List.{get_or_default}
@@ -147,6 +149,17 @@ contains_from_among (x ∷ xs) n among = elim (or_cases (n == x) (is_among xs n)
   | inl here ↦ (0, omega arith, sym (eqb-true n x here))
   | inr later ↦ let at = contains_from_among xs n later in (suc at.0, let below = at.1 in omega (arith, below), at.2)
 ]
+
+-- the two tests say whether a number is in a list
+pub list_any-among : (xs : List ℕ) (n : ℕ) → list_any (λ x. x == n) xs ≡ is_among xs n
+list_any-among [] n = refl
+list_any-among (x ∷ xs) n = λ i. turned i || list_any-among xs n i
+  where
+    turned : (x == n) ≡ (n == x)
+    turned = elim (eqb_tells x n) [
+      | inl same ↦ same.0 ∙ sym (eq-eqb n x (sym same.1))
+      | inr other ↦ other.0 ∙ sym (ne_eqb n x (λ e. other.1 (sym e)))
+    ]
 
 -- the numbers below a bound that pass, where none does, and where just one does
 pub numbers_where-none : (test : ℕ → Bool) (bound : ℕ) → ((n : ℕ) → n < bound → test n ≡ false) → numbers_where test bound ≡ []

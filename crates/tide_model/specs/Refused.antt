@@ -95,6 +95,15 @@ has_pair state table key = is_some ((state.cells table).pairs key)
 abbrev pub pair_count : Layout → State → ℕ → ℕ
 pair_count layout state table = count_where (λ key. has_pair state table key) (cell_count layout)
 
+-- what refuses an operation on the properties of the cell that a register holds, where these are the further refusals:
+-- there is no cell, the cell is a table, it isn't claimed, and then those
+abbrev pub holder_refusal : Layout → State → ℕ → ℕ → (ℕ → List (Option Refusal)) → Option Refusal
+holder_refusal layout state who register further =
+    refusal_at (state.registers who register) register (λ cell. first_of (
+    refuse_if (is_table layout cell) IsTable
+    ∷ refuse_if (not (holds state who cell)) NotHeld
+    ∷ further cell))
+
 -- why a property of what a register holds can't be read or written, if it can't: there is no cell, the cell is a
 -- table, it isn't claimed, or it has no such key, in this order
 abbrev pub property_refusal : Layout → State → ℕ → ℕ → ℕ → Option Refusal

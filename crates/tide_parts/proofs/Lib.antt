@@ -2,4 +2,3 @@ pub mod Copies
 pub mod FreedArrays
 pub mod ListsAsFunctions
 pub mod PairLaws
-pub mod Retaining

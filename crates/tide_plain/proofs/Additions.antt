@@ -10,13 +10,12 @@ use Rattle.tide_model.specs.declared.op.Refusal.TheVariants.{IsTable, NotHeld, P
 use Rattle.tide_model.specs.Answer.{next_array_class, AtCell, IsAnswerUnless, IsTakenFor}
 use Rattle.tide_model.specs.Applied.{add_property, at_cell, is_array_full}
 use Rattle.tide_model.specs.Layout.{Layout, IsBlockOf}
-use Rattle.tide_model.specs.Refused.{ShapeLists, first_of, has_key, may_add, refusal_at, refusal_of, refuse_if}
+use Rattle.tide_model.specs.Refused.{ShapeLists, first_of, has_key, holder_refusal, may_add, refusal_at, refusal_of, refuse_if}
 use Rattle.tide_model.specs.Room.{IsFullBlock}
 use Rattle.tide_model.specs.State.{State}
 use Rattle.tide_stored.specs.Contents.{state_of, Leaves}
 use Rattle.tide_stored.specs.Stored.{Stored}
 use Rattle.tide_plain.specs.Calls.{IsCall}
-use Rattle.tide_plain.specs.Properties.{holder_refusal}
 
 -- the refusals that are an addition's own
 abbrev pub addition_refusals : ShapeLists → State → ℕ → ℕ → List (Option Refusal)

@@ -1,23 +1,10 @@
 -- Who claims a cell.
-use Rattle.std.proofs.Common.{ℕ, zero, suc, ◌≡◌, ◌<◌, refl, sym, ◌∙◌, ap, arith, Bool, true, List, [], ◌∷◌, ◌++◌, inl, inr, ne_eqb, eq-eqb}
-use Rattle.std.proofs.lemmas.Bool.Decides.{eqb_tells}
+use Rattle.std.proofs.Common.{ℕ, zero, suc, ◌≡◌, ◌<◌, refl, sym, ◌∙◌, ap, arith, Bool, true, List, [], ◌∷◌, ◌++◌, inl, inr}
 use Rattle.std.proofs.lemmas.Bool.{cases_eq}
-use Rattle.std.specs.List.{list_any}
-use Rattle.std.specs.Prelude.{◌==◌, ◌||◌, if◌then◌else◌, Some}
+use Rattle.std.specs.Prelude.{if◌then◌else◌, Some}
 use Rattle.tide_model.specs.declared.op.Refusal.TheVariants.{Held}
-use Rattle.tide_model.specs.Numbers.{is_among, numbers_where}
+use Rattle.tide_model.specs.Numbers.{numbers_where}
 use Rattle.tide_model.specs.Refused.{held_by}
-
--- the two tests say whether a number is in a list
-pub list_any-among : (xs : List ℕ) (n : ℕ) → list_any (λ x. x == n) xs ≡ is_among xs n
-list_any-among [] n = refl
-list_any-among (x ∷ xs) n = λ i. turned i || list_any-among xs n i
-  where
-    turned : (x == n) ≡ (n == x)
-    turned = elim (eqb_tells x n) [
-      | inl same ↦ same.0 ∙ sym (eq-eqb n x (sym same.1))
-      | inr other ↦ other.0 ∙ sym (ne_eqb n x (λ e. other.1 (sym e)))
-    ]
 
 -- the first number that passes comes first
 pub numbers_where-first : (test : ℕ → Bool) (bound n : ℕ) → n < bound → numbers_where test n ≡ [] → test n ≡ true →

@@ -1,4 +1,3 @@
 pub mod Calls
-pub mod Properties
 pub mod Registers
 pub mod Store

@@ -3,13 +3,12 @@ ghost use Rattle.std.specs.Prelude.{◌≡◌, ◌<◌, ℕ, List, Option, None,
 ghost use Rattle.tide_model.specs.Applied.{place_of};
 ghost use Rattle.tide_model.specs.Lawful.{FitsLayout};
 ghost use Rattle.tide_model.specs.References.{IsLive};
-ghost use Rattle.tide_model.specs.Refused.{first_of, may_add, property_refusal, refusal_of};
+ghost use Rattle.tide_model.specs.Refused.{first_of, holder_refusal, may_add, property_refusal, refusal_of};
 ghost use Rattle.tide_model.specs.declared.op.Op.TheVariants.{Add, GetProp, SetProp};
 ghost use Rattle.tide_model.specs.declared.op.Refusal.{Refusal as TheRefusal};
 ghost use Rattle.tide_model.specs.declared.val.Val.TheVariants.{Cell};
 ghost use Rattle.tide_stored.specs.Contents.{state_of};
 ghost use Rattle.tide_plain.specs.Calls.{IsCall, MayCall};
-ghost use Rattle.tide_plain.specs.Properties.{holder_refusal};
 
 use crate::claims::holds;
 use crate::registers::cell_in;

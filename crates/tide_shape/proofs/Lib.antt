@@ -1,5 +1,7 @@
+pub mod CapacityLaws
 pub mod DoubleLaws
 pub mod GrowthLaws
+pub mod KeyLaws
 pub mod LinkLaws
 pub mod PathLaws
 pub mod ShapesLaws

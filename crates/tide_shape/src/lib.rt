@@ -12,7 +12,7 @@ mod shapes;
 mod shapes_refused;
 mod tree;
 
-pub use capacities::capacity;
+pub use capacities::{array_class_for, capacity};
 pub use paths::Paths;
 pub use shape_table::ShapeTable;
 pub use shapes::{Shapes, double_path};

@@ -1,4 +1,4 @@
--- What a look-up of a key tells, and what a cell that gets one more property goes through.
+-- What a cell that gets one more property goes through.
 use Rattle.std.proofs.Common.{ℕ, ◌≡◌, ◌<◌, ◌≤◌, refl, sym, ◌∙◌, ap, arith, Bool, true, false, List, [], ◌∷◌, ◌++◌, length, get_or, length-append, Option, None, Some}
 use Rattle.std.proofs.lemmas.Bool.{eq-eqb, ne_eqb, eqb-true, false_from_ne_true}
 use Rattle.std.proofs.lemmas.Option.{cond_some, slice_get_within, get_or_from_slice_get}
@@ -13,7 +13,7 @@ use Rattle.tide_model.specs.Refused.{ShapeLists, is_shape}
 use Rattle.tide_model.specs.References.{IsLive, RefsAreLive}
 use Rattle.tide_model.specs.State.{State, CellState, free, live}
 use Rattle.tide_model.proofs.NumberLaws.{among_from_contains, contains_from_among}
-use Rattle.tide_shape.proofs.ShapesLaws.{is_shape-Decides, Contains-slice_get}
+use Rattle.tide_shape.proofs.KeyLaws.{fewer_keys}
 use Rattle.tide_parts.specs.declared.arrays.ArrayStatus.{ArrayStatus}
 use Rattle.tide_parts.specs.declared.cells.StoredCell.{StoredCell}
 use Rattle.tide_parts.specs.Changes.{elements_of}
@@ -24,52 +24,11 @@ use Rattle.tide_stored.specs.Properties.{with_array, with_property, IsOwnArray}
 use Rattle.tide_stored.proofs.PropertyLaws.{own-stored, own_within, state_of-exchange}
 use Rattle.tide_parts.proofs.Copies.{get_or-copies}
 
--- where a key stands, and that it stands nowhere
-pub place_of-position : (keys : List ℕ) (key place : ℕ) → Some place ≡ position (λ other. other == key) keys → place ≡ place_of keys key
-place_of-position keys key place first = sym (cond_some (nat_lt (position_or_len (λ other. other == key) keys) (length keys)) (position_or_len (λ other. other == key) keys) place (sym first)).1
-
-pub has_key-there : (keys : List ℕ) (key place : ℕ) → slice_get keys place ≡ Some key → is_among keys key ≡ true
-has_key-there keys key place there =
-    among_from_contains keys key (place, slice_get_within keys place key there, get_or_from_slice_get keys place key key there)
-
-pub has_key-absent : (keys : List ℕ) (key : ℕ) → (Contains keys key → ⊥) → is_among keys key ≡ false
-has_key-absent keys key absent = false_from_ne_true (is_among keys key) (λ among. absent (contains_from_among keys key among))
-
--- a look-up of a key tells whether the cell has it
-pub has_key-found : (keys : List ℕ) (key : ℕ) (found : Option ℕ) → IfSome found (λ place. slice_get keys place ≡ Some key) → IfNone found (Contains keys key → ⊥) → is_among keys key ≡ is_some found
-has_key-found keys key (Some place) there none = has_key-there keys key place there
-has_key-found keys key None there none = has_key-absent keys key none
-
--- a look-up of the next shape tells whether the key may be added
-pub may_add-there : (shapes : ShapeLists) (keys : List ℕ) (next : ℕ) → slice_get shapes next ≡ Some keys → is_shape shapes keys ≡ true
-may_add-there shapes keys next there = (is_shape-Decides shapes keys).1 (Contains-slice_get shapes next keys there)
-
-pub may_add-absent : (shapes : ShapeLists) (keys : List ℕ) → (Contains shapes keys → ⊥) → is_shape shapes keys ≡ false
-may_add-absent shapes keys absent = false_from_ne_true (is_shape shapes keys) (λ is. absent ((is_shape-Decides shapes keys).0 is))
-
--- where a look-up finds a key is its place
-pub place_of-found : (keys : List ℕ) (key : ℕ) (found : Option ℕ) → found ≡ position (λ other. other == key) keys → IfSome found (λ place. place ≡ place_of keys key)
-place_of-found keys key None first = tt
-place_of-found keys key (Some place) first = place_of-position keys key place first
-
--- a look-up of the next shape tells whether the key may be added
-pub may_add-found : (shapes : ShapeLists) (keys : List ℕ) (found : Option ℕ) → IfSome found (λ next. slice_get shapes next ≡ Some keys) → IfNone found (Contains shapes keys → ⊥) →
-    is_some found ≡ is_shape shapes keys
-may_add-found shapes keys (Some next) there none = sym (may_add-there shapes keys next there)
-may_add-found shapes keys None there none = sym (may_add-absent shapes keys none)
-
--- keys to which another can be added are fewer than 64
-pub fewer_keys : (contents : Stored) (shape key : ℕ) (keys : List ℕ) → IsStored contents → slice_get contents.shapes shape ≡ Some (keys ++ key ∷ []) → length keys < 64
-fewer_keys contents shape key keys stored is =
-    let short : length (get_or contents.shapes shape []) ≤ 64 = stored.table.short shape [] (slice_get_within contents.shapes shape (keys ++ key ∷ []) is) in
-    let same = ap length (get_or_from_slice_get contents.shapes shape (keys ++ key ∷ []) [] is) in
-    omega (arith, short, same, length-append keys (key ∷ []))
-
 -- keys to which a look-up finds another are fewer than 64
 pub fewer_keys-found : (contents : Stored) (key : ℕ) (keys : List ℕ) (found : Option ℕ) → IsStored contents → IfSome found (λ next. slice_get contents.shapes next ≡ Some (keys ++ key ∷ [])) →
     IfSome found (λ next. length keys < 64)
 fewer_keys-found contents key keys None stored there = tt
-fewer_keys-found contents key keys (Some next) stored there = fewer_keys contents next key keys stored there
+fewer_keys-found contents key keys (Some next) stored there = fewer_keys contents.shapes next key keys stored.table there
 
 -- a value that was put at a place is there
 pub put_at-here : {X : Type 0} (f : ℕ → X) (place : ℕ) (value : X) → put_at f place value place ≡ value
@@ -91,15 +50,6 @@ IsOwnArray-taken state cell taken references is_live is_free = record {
     step other false e alive has =
         let is = references.arrays_are_live other taken alive has in
         let clash : free ≡ live = sym is_free ∙ is in absurd (cc)
-
--- whether a cell's array is full, by a count of its keys
-pub is_array_full-at : (cell : CellState) (count : ℕ) → count ≡ length cell.keys → count < 64 → count ≡ capacity_of count → is_array_full cell ≡ true
-is_array_full-at cell count is few full =
-    eq-eqb (length cell.keys) (capacity_of (length cell.keys)) (sym is ∙ full ∙ ap capacity_of is)
-
-pub has_room-at : (cell : CellState) (count : ℕ) → count ≡ length cell.keys → count < 64 → (count ≡ capacity_of count → ⊥) → is_array_full cell ≡ false
-has_room-at cell count is few room =
-    ne_eqb (length cell.keys) (capacity_of (length cell.keys)) (λ e. room (is ∙ e ∙ sym (ap capacity_of is)))
 
 -- the array that is stored for a live cell is within a bound
 pub array_below : (contents : Stored) (cell bound : ℕ) (stored : StoredCell) → IsSound contents → IsLive (state_of contents) cell → stored ≡ stored_at contents cell →

@@ -1,28 +1,11 @@
 //! Properties: where they stand, what they are, and how a cell gets one more.
 ghost use Rattle.std.specs.Prelude.{◌≡◌, ◌<◌, ◌≤◌, ◌∷◌, ◌++◌, [], ℕ, Some, is_some, not, true, length, slice_get, IfErr, IfOk, IfSome, OnErr, OnOk};
-ghost use Rattle.tide_model.specs.Layout.{array_class_for};
 ghost use Rattle.tide_model.specs.State.{free};
 ghost use Rattle.tide_shape.specs.ShapeTable.{keys_of};
 
 use crate::contents::Contents;
 use tide_model::Val;
-use tide_shape::{ShapeTable, capacity};
-
-/// The class of the arrays that hold so many properties, 64 at most, with the least capacity.
-fn array_class_for(count: u32) -> u8
-    requires { count ≤ 64 }
-    ensures class { result ≡ array_class_for count }
-    ensures smallest { 5 ≤ result }
-    ensures largest { result < 10 }
-{
-    match count {
-        0..=4 => 5,
-        5..=8 => 6,
-        9..=16 => 7,
-        17..=32 => 8,
-        _ => 9,
-    }
-}
+use tide_shape::{ShapeTable, array_class_for, capacity};
 
 impl Contents {
     ghost use Rattle.tide_model.specs.Answer.{next_array_class, IsTakenFor};

@@ -2,7 +2,7 @@ use Rattle.std.proofs.Common.{◌∙◌, ap, List, ℕ}
 use Rattle.std.specs.Prelude.{◌==◌}
 use Rattle.std.specs.List.{list_any}
 use Rattle.tide_stored.specs.Contents.{state_of}
-use Rattle.tide_plain.proofs.Claiming.{list_any-among}
+use Rattle.tide_model.proofs.NumberLaws.{list_any-among}
 use Rattle.tide_plain.proofs.claims.holds.Goals as goal
 
 pub returns : goal.returns

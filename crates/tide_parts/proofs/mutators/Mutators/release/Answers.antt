@@ -4,7 +4,7 @@ use Rattle.std.proofs.lemmas.Grind.{common_steps}
 use Rattle.tide_parts.specs.declared.mutators.StoredMutator.{StoredMutator}
 use Rattle.tide_parts.specs.Changes.{with_claims}
 use Rattle.tide_parts.specs.PartLists.{mutator_at}
-use Rattle.tide_parts.proofs.Retaining.{filter_in_turns}
+use Rattle.tide_model.proofs.Retaining.{filter_in_turns}
 use Rattle.tide_parts.proofs.mutators.Mutators.release.Goals as goal
 
 pub returns : goal.returns

@@ -4,7 +4,7 @@ use Rattle.std.specs.Prelude.{not}
 use Rattle.tide_stored.specs.Contents.{state_of}
 use Rattle.tide_stored.specs.Parts.{parts_of}
 use Rattle.tide_stored.specs.Stored.{Stored}
-use Rattle.tide_stored.proofs.AdditionLaws.{has_room-at}
+use Rattle.tide_shape.proofs.CapacityLaws.{has_room-at}
 use Rattle.tide_stored.proofs.PropertyLaws.{keys_are-stored, keys_from-room, own_array}
 use Rattle.tide_stored.proofs.StoredLaws.{IsLive-at, IsSound-at}
 use Rattle.tide_stored.proofs.contents.Contents.has_room.Goals as goal

@@ -1,7 +1,8 @@
 use Rattle.std.proofs.Common.{◌∙◌, ap, ℕ, List, [], ◌∷◌, ◌++◌}
 use Rattle.tide_model.specs.Refused.{is_shape}
 use Rattle.tide_stored.specs.Parts.{parts_of}
-use Rattle.tide_stored.proofs.AdditionLaws.{fewer_keys-found, may_add-found}
+use Rattle.tide_shape.proofs.KeyLaws.{may_add-found}
+use Rattle.tide_stored.proofs.AdditionLaws.{fewer_keys-found}
 use Rattle.tide_stored.proofs.PropertyLaws.{keys_are-stored}
 use Rattle.tide_stored.proofs.StoredLaws.{IsLive-at}
 use Rattle.tide_stored.proofs.contents.Contents.next_shape.Goals as goal

@@ -1,7 +1,7 @@
 use Rattle.std.proofs.Common.{◌∙◌, sym, ap, ℕ, List}
 use Rattle.tide_model.specs.Numbers.{is_among}
 use Rattle.tide_stored.specs.Parts.{parts_of}
-use Rattle.tide_stored.proofs.AdditionLaws.{has_key-found, place_of-found}
+use Rattle.tide_shape.proofs.KeyLaws.{has_key-found, place_of-found}
 use Rattle.tide_stored.proofs.PropertyLaws.{keys_are-stored}
 use Rattle.tide_stored.proofs.StoredLaws.{IsLive-at}
 use Rattle.tide_stored.proofs.contents.Contents.place.Goals as goal

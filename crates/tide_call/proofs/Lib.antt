@@ -1,0 +1,3 @@
+pub mod marking_laws
+pub mod plan_laws
+pub mod reading_laws

@@ -1,0 +1,51 @@
+use Rattle.std.proofs.Common.{refl, sym, ◌∙◌, ap, arith, inl, inr}
+use Rattle.std.proofs.Math.ListN.{length-set}
+use Rattle.std.proofs.lemmas.Bool.{cases_eq}
+use Rattle.std.proofs.lemmas.List.{get_or-set_other}
+use Rattle.std.proofs.lemmas.Grind.{get_or-set_at}
+use Rattle.tide_words.specs.heap.Reading.{slot_word}
+use Rattle.tide_call.specs.Callers.{Caller}
+use Rattle.tide_call.proofs.plan_laws.OwnLaws.{claim-seen, claimed_word, owned-seen}
+use Rattle.tide_call.proofs.caller.Caller.pairs_of.Goals as goal
+
+pub loop-place-init : goal.loop-place-init
+loop-place-init g c = ((λ layout who heap owned. owned), refl, (λ heap state calls place below. absurd (omega (arith, below))))
+
+pub pair-requires-clause-known : goal.pair-requires-clause-known
+pair-requires-clause-known g c = (let (heap, state, calls) = c.requires.known in (
+  heap,
+  owned-seen (g.O.OwnWords.owns c.loop-place.own c.args.context.now) heap _ c.args.self.now c.self.view_is
+      (c.loop-place.invariant.0 c.args.self.now.layout c.args.self.now.who heap calls.owned),
+))
+
+pub loop-place-preserved : goal.loop-place-preserved
+loop-place-preserved g c =
+    let words = c.loop-place.words in
+    let at = c.from.result in
+    let is_at = c.from.ensures in
+    let below = c.loop-place-test.true in
+    let whole = c.loop-place.invariant.1 in (
+      (λ layout who heap owned. c.pair.ensures.owns layout who heap (c.loop-place.invariant.0 layout who heap owned)),
+      length-set words at c.pair.result ∙ whole,
+      (λ heap state calls place before. elim (cases_eq place at) [
+        | inl same ↦
+            let owned = owned-seen (g.O.OwnWords.owns c.loop-place.own c.args.context.now) heap _ c.args.self.now c.self.view_is
+            (c.loop-place.invariant.0 c.args.self.now.layout c.args.self.now.who heap calls.owned) in
+            let claimed = claim-seen heap c.args.table _ c.args.self.now c.self.view_is
+            (claimed_word (g.O.OwnWords.owns c.args.own.now c.args.context.now) c.args.self.now heap state calls c.args.table c.requires.claimed c.requires.of_layout) in
+            get_or-set_at words at place c.pair.result 0 same (omega (arith, whole, is_at, below))
+            ∙ c.pair.ensures.word heap owned claimed
+            ∙ ap (λ (caller : Caller). slot_word caller.layout heap c.args.table c.loop-place.place) c.self.view_is
+            ∙ ap (slot_word c.args.self.now.layout heap c.args.table) (sym (same ∙ is_at))
+        | inr apart ↦
+            get_or-set_other words at place c.pair.result 0 apart
+            ∙ c.loop-place.invariant.2 heap state calls place (omega (arith, before, apart, is_at))
+      ]),
+    )
+
+pub returns-clause-words : goal.returns-clause-words
+returns-clause-words g c = λ heap state calls place below.
+    (let done = c.loop-place-test.false in c.loop-place.invariant.2 heap state calls place (omega (arith, done, below)))
+
+pub returns-clause-owns : goal.returns-clause-owns
+returns-clause-owns g c = c.loop-place.invariant.0

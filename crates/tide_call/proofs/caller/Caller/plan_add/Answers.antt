@@ -1,0 +1,115 @@
+use Rattle.std.proofs.Common.{ℕ, ◌≡◌, ◌+◌, ◌<◌, arith, sym, ◌∙◌, ap, subst, false, None, Some, inl, inr}
+use Rattle.tide_model.specs.declared.val.Val.{Val}
+use Rattle.tide_model.specs.Applied.{is_array_full}
+use Rattle.tide_model.specs.Layout.{array_class_for}
+use Rattle.tide_shape.proofs.CapacityLaws.{has_room-at, is_array_full-at}
+use Rattle.tide_model.specs.declared.op.Op.TheVariants.{Add}
+use Rattle.tide_call.specs.declared.plan.Plan.{Plan}
+use Rattle.tide_call.specs.declared.plan.Plan.TheVariants.{Append, Grow}
+use Rattle.tide_call.specs.Plans.{IsPlan}
+use Rattle.tide_call.proofs.plan_laws.AdditionRoom.{full-none}
+use Rattle.tide_call.proofs.plan_laws.OwnLaws.{CallsIn-kept, claimed_is_live}
+use Rattle.tide_call.proofs.reading_laws.ArrayRoom.{HasElement-next}
+use Rattle.tide_call.proofs.caller.Caller.plan_add.Goals as goal
+
+-- a number that is below a bound is so by another name
+subst_below : {n m : ℕ} → n ≡ m → n < 64 → m < 64
+subst_below {n} {m} same below = omega (arith, same, below)
+
+pub returns-in-Err-clause-plan : goal.returns-in-Err-clause-plan
+returns-in-Err-clause-plan g c = λ heap state calls. c.in-Err.ensures.refused heap state calls c.args.val
+
+pub returns-clause-plan : goal.returns-clause-plan
+returns-clause-plan g c = λ heap state calls.
+    let caller = c.args.self.now in
+    let owns = g.O.OwnWords.owns c.args.own.now c.args.context.now in
+    let found = g.O.OwnWords.owns c.find_addition.new.own c.args.context.now in
+    let addition = c.in-Ok.addition in
+    let calls_then = CallsIn-kept owns found caller heap state c.find_addition.ensures.owns calls in
+    let calls_last = CallsIn-kept found (g.O.OwnWords.owns c.value_in-value.new.own c.args.context.now) caller heap state c.value_in-value.ensures.owns calls_then in
+    let is = c.in-Ok.ensures.addition heap state calls in
+    let live = claimed_is_live owns caller heap state calls addition.cell c.in-Ok.ensures.claimed in
+    let counted = c.from-count.ensures ∙ is.is_count in
+    let few = c.in-Ok.ensures.few in
+    let own = c.in-Some.ensures.array heap state calls_last in
+    let room : is_array_full (state.cells addition.cell) ≡ false = has_room-at (state.cells addition.cell) c.from-count.result counted
+    (subst_below (sym c.from-count.ensures) few) (λ full. c.if-count-capacity.false (full ∙ sym c.capacity.ensures)) in (
+      c.in-Ok.ensures.granted heap state calls c.args.val,
+      (
+        addition,
+        c.in-Ok.ensures.cell heap state calls,
+        is,
+        inl (
+          c.in-Some.array,
+          record {
+            is_its = own;
+            has = HasElement-next caller.layout heap (state.cells addition.cell) c.in-Some.array own
+                ((calls.reads.parts.cells addition.cell c.in-Ok.ensures.within).properties live) room;
+            not_full = room;
+          },
+          ap (λ (value : Val). Append addition c.in-Some.array value) (sym (c.value_in-value.ensures.value heap state calls_then)),
+        ),
+      ),
+    )
+
+pub returns-then-count-capacity-clause-plan : goal.returns-then-count-capacity-clause-plan
+returns-then-count-capacity-clause-plan g c = λ heap state calls.
+    let caller = c.args.self.now in
+    let found = g.O.OwnWords.owns c.find_addition.new.own c.args.context.now in
+    let addition = c.in-Ok.addition in
+    let calls_then = CallsIn-kept (g.O.OwnWords.owns c.args.own.now c.args.context.now) found caller heap state c.find_addition.ensures.owns calls in
+    let calls_last = CallsIn-kept found (g.O.OwnWords.owns c.value_in-value.new.own c.args.context.now) caller heap state c.value_in-value.ensures.owns calls_then in
+    let is = c.in-Ok.ensures.addition heap state calls in
+    let counted = c.from-count.ensures ∙ is.is_count in
+    subst (λ (plan : Plan). IsPlan caller heap state (Add c.args.src c.args.key c.args.val) plan) (sym c.growth-then-count-capacity.ensures) (
+      c.in-Ok.ensures.granted heap state calls c.args.val,
+      (
+        addition,
+        c.in-Ok.ensures.cell heap state calls,
+        is,
+        inr (
+          array_class_for (addition.count + 1),
+          Some c.in-Some.array,
+          record {
+            is_its = c.in-Some.ensures.array heap state calls_last;
+            full = is_array_full-at (state.cells addition.cell) c.from-count.result counted (subst_below (sym c.from-count.ensures) c.in-Ok.ensures.few)
+                (c.if-count-capacity.true ∙ c.capacity.ensures);
+            is_class = ap (λ (count : ℕ). array_class_for (count + 1)) is.is_count;
+          },
+          ap (λ (value : Val). Grow addition (Some c.in-Some.array) (array_class_for (addition.count + 1)) value)
+              (sym (c.value_in-value.ensures.value heap state calls_then)),
+        ),
+      ),
+    )
+
+pub returns-in_default-clause-plan : goal.returns-in_default-clause-plan
+returns-in_default-clause-plan g c = λ heap state calls.
+    let caller = c.args.self.now in
+    let owns = g.O.OwnWords.owns c.args.own.now c.args.context.now in
+    let found = g.O.OwnWords.owns c.find_addition.new.own c.args.context.now in
+    let addition = c.in-Ok.addition in
+    let calls_then = CallsIn-kept owns found caller heap state c.find_addition.ensures.owns calls in
+    let calls_last = CallsIn-kept found (g.O.OwnWords.owns c.value_in-value.new.own c.args.context.now) caller heap state c.value_in-value.ensures.owns calls_then in
+    let is = c.in-Ok.ensures.addition heap state calls in
+    let own = c.in_default.ensures.array heap state calls_last in
+    let live = claimed_is_live owns caller heap state calls addition.cell c.in-Ok.ensures.claimed in
+    subst (λ (plan : Plan). IsPlan caller heap state (Add c.args.src c.args.key c.args.val) plan) (sym c.growth.ensures) (
+      c.in-Ok.ensures.granted heap state calls c.args.val,
+      (
+        addition,
+        c.in-Ok.ensures.cell heap state calls,
+        is,
+        inr (
+          array_class_for (addition.count + 1),
+          None,
+          record {
+            is_its = own;
+            full = full-none caller.layout heap (state.cells addition.cell) own
+                ((calls.reads.parts.cells addition.cell c.in-Ok.ensures.within).properties live);
+            is_class = ap (λ (count : ℕ). array_class_for (count + 1)) is.is_count;
+          },
+          ap (λ (value : Val). Grow addition None (array_class_for (addition.count + 1)) value)
+              (sym (c.value_in-value.ensures.value heap state calls_then)),
+        ),
+      ),
+    )

@@ -1,0 +1,5 @@
+use Rattle.tide_call.proofs.plan_laws.Callers.{mutators_may_call}
+use Rattle.tide_call.proofs.laws.mutators_may_call.Goals as goal
+
+pub returns : goal.returns
+returns c = record { callers = mutators_may_call }

@@ -1,0 +1,11 @@
+pub mod Callers
+pub mod CallWords
+pub mod Grown
+pub mod Laws
+pub mod Links
+pub mod Pairs
+pub mod Plans
+pub mod PlanWords
+pub mod Properties
+pub mod ShapeWord
+pub mod Taken

@@ -1,0 +1,62 @@
+//! What operations on claims are to do. It reads no word but the caller's own.
+ghost use Rattle.std.specs.Prelude.{◌≡◌, ◌<◌};
+ghost use Rattle.tide_model.specs.State.{State};
+ghost use Rattle.tide_words.specs.heap.Heap.{Heap};
+ghost use Rattle.tide_model.specs.declared.op.Op.TheVariants.{Claim, Release, Unclaim};
+ghost use Rattle.tide_call.specs.Callers.{Always, IsCallerOf, KeepsOwn, MayCallNow};
+ghost use Rattle.tide_call.specs.Plans.{IsPlan};
+
+use crate::caller::Caller;
+use crate::own::OwnWords;
+use crate::plan::Plan;
+use tide_model::Refusal;
+use tide_shape::ShapeTable;
+
+impl<'a, S: ShapeTable> Caller<'a, S> {
+    /// What a `Claim` is to do. Whether others claim the cell, its claim word tells, which isn't the caller's own.
+    pub(crate) fn plan_claim<C, O: OwnWords<C>>(&self, own: &mut O, context: &C, src: u8) -> Plan
+        requires of_layout { src < self.now.layout.registers }
+        requires known { MayCallNow (O.owns own.old context.now) self.now }
+        ensures plan { Always (O.owns own.old context.now) self.now (λ heap state.
+            IsPlan self.now heap state (Claim src) result) }
+        ensures owns { KeepsOwn (O.owns own.old context.now) (O.owns own.new context.now) }
+    {
+        match self.cell_in(own, context, src) {
+            Ok(cell) => Plan::Claim {
+                cell,
+                full: self.claims().is_full(),
+            },
+            Err(refusal) => Plan::Refuse { refusal },
+        }
+    }
+
+    /// What a `Release` is to do.
+    pub(crate) fn plan_release<C, O: OwnWords<C>>(&self, own: &mut O, context: &C, src: u8) -> Plan
+        requires of_layout { src < self.now.layout.registers }
+        requires known { MayCallNow (O.owns own.old context.now) self.now }
+        ensures plan { Always (O.owns own.old context.now) self.now (λ heap state.
+            IsPlan self.now heap state (Release src) result) }
+        ensures owns { KeepsOwn (O.owns own.old context.now) (O.owns own.new context.now) }
+    {
+        match self.cell_in(own, context, src) {
+            Ok(cell) if self.claims().contains(cell) => Plan::Release { cell },
+            Ok(_) => Plan::Refuse {
+                refusal: Refusal::NotHeld,
+            },
+            Err(refusal) => Plan::Refuse { refusal },
+        }
+    }
+
+    /// What an `Unclaim` is to do.
+    pub(crate) fn plan_unclaim(&self) -> Plan
+        ensures plan { (heap : Heap) (state : State) → IsCallerOf self.now state →
+            IsPlan self.now heap state Unclaim result }
+    {
+        match self.claims().oldest() {
+            Some(cell) => Plan::Release { cell },
+            None => Plan::Refuse {
+                refusal: Refusal::NotHeld,
+            },
+        }
+    }
+}

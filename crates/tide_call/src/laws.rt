@@ -1,0 +1,37 @@
+//! What a call leaves, once its words are written, as functions that only promise it.
+//!
+//! A law speaks of the heap before a call, the heap after it, and the state before it. It knows no list of words and no
+//! order in which they were stored.
+ghost use Rattle.tide_call.specs.Laws.{BarriersMayFollow, BirthsKeepMarking, CallsKeepMarking, CallsReadBack};
+ghost use Rattle.tide_call.specs.Laws.{ClaimsAreTold, GrowthsInOrder, HistoriesReadBack, MutatorsMayCall, PlansAreCalls};
+
+/// An active mutator may call wherever references are live: it meets what `Caller::plan_of` asks of the state.
+pub fn mutators_may_call()
+    ensures callers { MutatorsMayCall }
+{}
+
+/// Who acts on a plan, by its words alone, answers the call that it is of and writes its words. What a mutator's own
+/// words don't tell of a claim, the claim word of the cell does.
+pub fn plans_are_calls()
+    ensures calls { PlansAreCalls }
+    ensures claims { ClaimsAreTold }
+{}
+
+/// The words of a call were written: they read as the state that it leaves, whatever the operation.
+pub fn calls_read_back()
+    ensures reading { CallsReadBack }
+    ensures history { HistoriesReadBack }
+{}
+
+/// The words of a growth may be stored in the order that mutators on threads need.
+pub fn growths_are_in_order()
+    ensures growths { GrowthsInOrder }
+{}
+
+/// A call keeps marking where the cell in which it stores another isn't black, or where the barrier makes it grey
+/// afterwards. A new cell may be coloured black or white.
+pub fn calls_keep_marking()
+    ensures marking { CallsKeepMarking }
+    ensures barrier { BarriersMayFollow }
+    ensures births { BirthsKeepMarking }
+{}

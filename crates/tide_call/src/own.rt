@@ -1,0 +1,79 @@
+//! `OwnWords`: the words that a mutator alone changes, wherever they are. It knows no operation.
+ghost use Rattle.std.specs.Prelude.{◌≡◌, ◌<◌, ℕ, Some, true};
+ghost use Rattle.tide_layout.specs.Region.{index_of_register};
+ghost use Rattle.tide_layout.specs.Slots.{HasSlot};
+ghost use Rattle.tide_layout.specs.declared.region.Region.TheVariants.{Array, Claim, Registers, Structure};
+ghost use Rattle.tide_model.specs.Layout.{Layout as PlainLayout, cell_count};
+ghost use Rattle.tide_words.specs.forms.Reference.{claim_word};
+ghost use Rattle.tide_words.specs.heap.Heap.{Heap, Reads};
+ghost use Rattle.tide_words.specs.heap.Reading.{slot_word};
+ghost use Rattle.tide_call.specs.Callers.{KeepsOwn};
+
+use tide_words::{Layout, Region, Words};
+
+/// The words that mutators alone change, each its own: those of its registers, and of the cells that it claims the
+/// structure, the array and the pairs.
+///
+/// While a mutator runs, nobody else changes them, so it may read them at any moments of a call.
+pub trait OwnWords<C> {
+    /// The heap has these words of the mutator.
+    ghost owns: { Self → C → PlainLayout → ℕ → Heap → Type 0 };
+
+    /// The word of a register of the mutator.
+    fn register(&mut self, context: &C, layout: &Layout, who: u32, register: u8) -> u64
+        requires mutator { who < layout.now.mutators }
+        requires of_layout { register < layout.now.registers }
+        requires known { (heap : Heap) × owns self.old context.now layout.now who heap }
+        ensures word { (heap : Heap) → owns self.old context.now layout.now who heap →
+            result ≡ heap Registers (index_of_register layout.now who register) }
+        ensures owns { KeepsOwn (owns self.old context.now) (owns self.new context.now) };
+
+    /// The structure word of a cell, which the mutator claims.
+    fn structure(&mut self, context: &C, layout: &Layout, who: u32, cell: u32) -> u64
+        requires mutator { who < layout.now.mutators }
+        requires of_layout { cell < cell_count layout.now }
+        requires known { (heap : Heap) × owns self.old context.now layout.now who heap }
+        ensures word { (heap : Heap) → owns self.old context.now layout.now who heap →
+            heap Claim cell ≡ claim_word (Some who) → result ≡ heap Structure cell }
+        ensures owns { KeepsOwn (owns self.old context.now) (owns self.new context.now) };
+
+    /// The array word of a cell, which the mutator claims.
+    fn array(&mut self, context: &C, layout: &Layout, who: u32, cell: u32) -> u64
+        requires mutator { who < layout.now.mutators }
+        requires of_layout { cell < cell_count layout.now }
+        requires known { (heap : Heap) × owns self.old context.now layout.now who heap }
+        ensures word { (heap : Heap) → owns self.old context.now layout.now who heap →
+            heap Claim cell ≡ claim_word (Some who) → result ≡ heap Array cell }
+        ensures owns { KeepsOwn (owns self.old context.now) (owns self.new context.now) };
+
+    /// The word at a place of a table, which the mutator claims.
+    fn pair(&mut self, context: &C, layout: &Layout, who: u32, table: u32, place: u8) -> u64
+        requires mutator { who < layout.now.mutators }
+        requires of_layout { HasSlot layout.now table place }
+        requires known { (heap : Heap) × owns self.old context.now layout.now who heap }
+        ensures word { (heap : Heap) → owns self.old context.now layout.now who heap →
+            heap Claim table ≡ claim_word (Some who) → result ≡ slot_word layout.now heap table place }
+        ensures owns { KeepsOwn (owns self.old context.now) (owns self.new context.now) };
+}
+
+/// Words that stand still.
+impl<W: Words> OwnWords<()> for W {
+    ghost owns = { λ words context layout who heap. Reads layout (W.words words) heap };
+
+    fn register(&mut self, _context: &(), layout: &Layout, who: u32, register: u8) -> u64 {
+        let index = who * u32::from(layout.registers()) + u32::from(register);
+        self.load(layout.place(Region::Registers, index))
+    }
+
+    fn structure(&mut self, _context: &(), layout: &Layout, _who: u32, cell: u32) -> u64 {
+        self.load(layout.place(Region::Structure, cell))
+    }
+
+    fn array(&mut self, _context: &(), layout: &Layout, _who: u32, cell: u32) -> u64 {
+        self.load(layout.place(Region::Array, cell))
+    }
+
+    fn pair(&mut self, _context: &(), layout: &Layout, _who: u32, table: u32, place: u8) -> u64 {
+        self.load(layout.slot(table, place))
+    }
+}

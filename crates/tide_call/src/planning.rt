@@ -1,0 +1,80 @@
+//! `Caller::plan_of`: what a call is to do, of whichever operation. It reads no word but the caller's own.
+ghost use Rattle.std.specs.Prelude.{◌≡◌, ◌<◌};
+ghost use Rattle.tide_model.specs.Lawful.{FitsLayout};
+ghost use Rattle.tide_model.specs.declared.op.Op.TheVariants.{Group};
+ghost use Rattle.tide_call.specs.Callers.{Always, KeepsOwn, MayCallNow};
+ghost use Rattle.tide_call.specs.Plans.{IsPlan};
+
+use crate::caller::Caller;
+use crate::own::OwnWords;
+use crate::plan::Plan;
+use tide_layout::TABLE;
+use tide_model::{Op, Val};
+use tide_shape::ShapeTable;
+
+impl<'a, S: ShapeTable> Caller<'a, S> {
+    /// What a `Group` is to do.
+    fn plan_group<C, O: OwnWords<C>>(&self, own: &mut O, context: &C, src: u8, group: u32) -> Plan
+        requires of_layout { src < self.now.layout.registers }
+        requires known { MayCallNow (O.owns own.old context.now) self.now }
+        ensures plan { Always (O.owns own.old context.now) self.now (λ heap state.
+            IsPlan self.now heap state (Group src group) result) }
+        ensures owns { KeepsOwn (O.owns own.old context.now) (O.owns own.new context.now) }
+    {
+        match self.cell_in(own, context, src) {
+            Ok(cell) => Plan::Join { cell, group },
+            Err(refusal) => Plan::Refuse { refusal },
+        }
+    }
+
+    /// What a call of the operation is to do: the first refusal that the caller's own words tell, or what it does then.
+    /// Whether another mutator claims a cell, and whether a class has room, they don't tell. It takes no memory.
+    pub fn plan_of<C, O: OwnWords<C>>(&self, own: &mut O, context: &C, op: Op) -> Plan
+        requires fits { FitsLayout self.now.layout op }
+        requires known { MayCallNow (O.owns own.old context.now) self.now }
+        ensures plan { Always (O.owns own.old context.now) self.now (λ heap state.
+            IsPlan self.now heap state op result) }
+        ensures owns { KeepsOwn (O.owns own.old context.now) (O.owns own.new context.now) }
+    {
+        match op {
+            Op::Alloc { dst, class } => Plan::Take { dst, class },
+            Op::Table { dst } => Plan::Take { dst, class: TABLE },
+            Op::Get { dst, src, slot } => self.plan_get(own, context, dst, src, slot),
+            Op::Put { src, slot, val } => self.plan_put(own, context, src, slot, val),
+            Op::Move { dst, src } => Plan::Fill {
+                dst,
+                value: self.value_in(own, context, src),
+            },
+            Op::Set { dst, n } => Plan::Fill {
+                dst,
+                value: Val::Int(n),
+            },
+            Op::Drop { dst } => Plan::Fill {
+                dst,
+                value: Val::Empty,
+            },
+            Op::Claim { src } => self.plan_claim(own, context, src),
+            Op::Release { src } => self.plan_release(own, context, src),
+            Op::Unclaim => self.plan_unclaim(),
+            Op::Add { src, key, val } => self.plan_add(own, context, src, key, val),
+            Op::GetProp { dst, src, key } => self.plan_get_property(own, context, dst, src, key),
+            Op::SetProp { src, key, val } => self.plan_set_property(own, context, src, key, val),
+            Op::StrongSet { at, val } => Plan::StoreStrong {
+                at,
+                value: self.value_in(own, context, val),
+            },
+            Op::StrongGet { dst, at } => Plan::LoadStrong { dst, at },
+            Op::WeakSet { at, val } => Plan::StoreWeak {
+                at,
+                value: self.value_in(own, context, val),
+            },
+            Op::WeakGet { dst, at } => Plan::LoadWeak { dst, at },
+            Op::PairSet { src, key, val } => self.plan_pair_set(own, context, src, key, val),
+            Op::PairGet { dst, src, key } => self.plan_pair_get(own, context, dst, src, key),
+            Op::PairDel { src, key } => self.plan_pair_delete(own, context, src, key),
+            Op::Group { src, n } => self.plan_group(own, context, src, n),
+            Op::Collect => Plan::Ask,
+            Op::Retire => Plan::Retire,
+        }
+    }
+}

@@ -1,0 +1,142 @@
+//! What operations on properties that a cell has are to do. It reads no word but the caller's own.
+ghost use Rattle.std.specs.Prelude.{◌≡◌, ◌<◌, ℕ, List, Option, None, Some, true, IfErr, IfOk};
+ghost use Rattle.tide_layout.specs.Slots.{HasElement};
+ghost use Rattle.tide_model.specs.Applied.{place_of};
+ghost use Rattle.tide_model.specs.Layout.{cell_count};
+ghost use Rattle.tide_model.specs.Numbers.{is_among};
+ghost use Rattle.tide_model.specs.Refused.{first_of, holder_refusal, property_refusal};
+ghost use Rattle.tide_model.specs.declared.op.Op.TheVariants.{GetProp, SetProp};
+ghost use Rattle.tide_model.specs.declared.op.Refusal.{Refusal as TheRefusal};
+ghost use Rattle.tide_model.specs.declared.val.Val.TheVariants.{Cell};
+ghost use Rattle.tide_call.specs.Callers.{Always, KeepsOwn, MayCallNow};
+ghost use Rattle.tide_call.specs.Plans.{IsPlan};
+ghost use Rattle.tide_call.specs.Properties.{IsPropertyOf};
+
+use crate::caller::Caller;
+use crate::own::OwnWords;
+use crate::plan::Plan;
+use tide_block::class_of;
+use tide_layout::TABLE;
+use tide_model::Refusal;
+use tide_shape::ShapeTable;
+
+/// A property: the cell that has it, and the element that it stands in.
+#[derive(Clone, Copy, Debug)]
+struct Property {
+    cell: u32,
+    array: u32,
+    place: u8,
+}
+
+impl<'a, S: ShapeTable> Caller<'a, S> {
+    /// The cell in a register, which has properties and which the caller claims, or why an operation on these is
+    /// refused.
+    pub(crate) fn property_holder<C, O: OwnWords<C>>(
+        &self,
+        own: &mut O,
+        context: &C,
+        src: u8,
+    ) -> Result<u32, Refusal>
+        requires of_layout { src < self.now.layout.registers }
+        requires known { MayCallNow (O.owns own.old context.now) self.now }
+        ensures refused { IfErr result (λ refusal. Always (O.owns own.old context.now) self.now (λ heap state.
+            (further : ℕ → List (Option TheRefusal)) →
+            holder_refusal self.now.layout state self.now.who src further ≡ Some refusal)) }
+        ensures granted { IfOk result (λ cell. Always (O.owns own.old context.now) self.now (λ heap state.
+            (further : ℕ → List (Option TheRefusal)) →
+            holder_refusal self.now.layout state self.now.who src further ≡ first_of (further cell))) }
+        ensures cell { IfOk result (λ cell. Always (O.owns own.old context.now) self.now (λ heap state.
+            state.registers self.now.who src ≡ Cell cell)) }
+        ensures within { IfOk result (λ cell. cell < cell_count self.now.layout) }
+        ensures claimed { IfOk result (λ cell. is_among self.now.claims cell ≡ true) }
+        ensures owns { KeepsOwn (O.owns own.old context.now) (O.owns own.new context.now) }
+    {
+        let cell = self.cell_in(own, context, src)?;
+        if class_of(self.layout(), cell) == TABLE {
+            return Err(Refusal::IsTable);
+        }
+        if !self.claims().contains(cell) {
+            return Err(Refusal::NotHeld);
+        }
+        Ok(cell)
+    }
+
+    /// Where a property of the cell in a register stands, or why it can't be read or written.
+    fn find_property<C, O: OwnWords<C>>(
+        &self,
+        own: &mut O,
+        context: &C,
+        src: u8,
+        key: u32,
+    ) -> Result<Property, Refusal>
+        requires of_layout { src < self.now.layout.registers }
+        requires known { MayCallNow (O.owns own.old context.now) self.now }
+        ensures refused { IfErr result (λ refusal. Always (O.owns own.old context.now) self.now (λ heap state.
+            property_refusal self.now.layout state self.now.who src key ≡ Some refusal)) }
+        ensures property { IfOk result (λ found. Always (O.owns own.old context.now) self.now (λ heap state.
+            IsPropertyOf self.now state src key found.cell found.array found.place)) }
+        ensures owns { KeepsOwn (O.owns own.old context.now) (O.owns own.new context.now) }
+    {
+        let cell = self.property_holder(own, context, src)?;
+        let shape = self.shape_of(own, context, cell);
+        let Some(place) = self.shapes().place(shape, key) else {
+            return Err(Refusal::Absent);
+        };
+        let Some(array) = self.array_of(own, context, cell) else {
+            return Err(Refusal::Absent);
+        };
+        Ok(Property {
+            cell,
+            array,
+            place: place as u8,
+        })
+    }
+
+    /// What a `GetProp` is to do.
+    pub(crate) fn plan_get_property<C, O: OwnWords<C>>(
+        &self,
+        own: &mut O,
+        context: &C,
+        dst: u8,
+        src: u8,
+        key: u32,
+    ) -> Plan
+        requires of_layout { src < self.now.layout.registers }
+        requires known { MayCallNow (O.owns own.old context.now) self.now }
+        ensures plan { Always (O.owns own.old context.now) self.now (λ heap state.
+            IsPlan self.now heap state (GetProp dst src key) result) }
+        ensures owns { KeepsOwn (O.owns own.old context.now) (O.owns own.new context.now) }
+    {
+        match self.find_property(own, context, src, key) {
+            Ok(Property { array, place, .. }) => Plan::LoadElement { dst, array, place },
+            Err(refusal) => Plan::Refuse { refusal },
+        }
+    }
+
+    /// What a `SetProp` is to do.
+    pub(crate) fn plan_set_property<C, O: OwnWords<C>>(
+        &self,
+        own: &mut O,
+        context: &C,
+        src: u8,
+        key: u32,
+        val: u8,
+    ) -> Plan
+        requires of_layout { src < self.now.layout.registers }
+        requires val_of_layout { val < self.now.layout.registers }
+        requires known { MayCallNow (O.owns own.old context.now) self.now }
+        ensures plan { Always (O.owns own.old context.now) self.now (λ heap state.
+            IsPlan self.now heap state (SetProp src key val) result) }
+        ensures owns { KeepsOwn (O.owns own.old context.now) (O.owns own.new context.now) }
+    {
+        match self.find_property(own, context, src, key) {
+            Ok(found) => Plan::StoreElement {
+                cell: found.cell,
+                array: found.array,
+                place: found.place,
+                value: self.value_in(own, context, val),
+            },
+            Err(refusal) => Plan::Refuse { refusal },
+        }
+    }
+}

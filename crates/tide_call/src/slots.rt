@@ -1,0 +1,95 @@
+//! What operations on slots are to do. It reads no word but the caller's own.
+ghost use Rattle.std.specs.Prelude.{◌≡◌, ◌<◌, None, Some, IfErr, IfOk};
+ghost use Rattle.tide_layout.specs.Slots.{HasSlot};
+ghost use Rattle.tide_model.specs.Refused.{slot_refusal};
+ghost use Rattle.tide_model.specs.declared.op.Op.TheVariants.{Get, Put};
+ghost use Rattle.tide_model.specs.declared.val.Val.TheVariants.{Cell};
+ghost use Rattle.tide_call.specs.Callers.{Always, KeepsOwn, MayCallNow};
+ghost use Rattle.tide_call.specs.Plans.{IsPlan};
+
+use crate::caller::Caller;
+use crate::own::OwnWords;
+use crate::plan::Plan;
+use tide_block::{class_of, slots};
+use tide_layout::TABLE;
+use tide_model::Refusal;
+use tide_shape::ShapeTable;
+
+impl<'a, S: ShapeTable> Caller<'a, S> {
+    /// The cell in a register, which has this slot, or why the slot can't be read or written.
+    fn slot_holder<C, O: OwnWords<C>>(
+        &self,
+        own: &mut O,
+        context: &C,
+        src: u8,
+        slot: u8,
+    ) -> Result<u32, Refusal>
+        requires of_layout { src < self.now.layout.registers }
+        requires known { MayCallNow (O.owns own.old context.now) self.now }
+        ensures refused { IfErr result (λ refusal. Always (O.owns own.old context.now) self.now (λ heap state.
+            slot_refusal self.now.layout (state.registers self.now.who src) src slot ≡ Some refusal)) }
+        ensures granted { IfOk result (λ cell. Always (O.owns own.old context.now) self.now (λ heap state.
+            slot_refusal self.now.layout (state.registers self.now.who src) src slot ≡ None)) }
+        ensures cell { IfOk result (λ cell. Always (O.owns own.old context.now) self.now (λ heap state.
+            state.registers self.now.who src ≡ Cell cell)) }
+        ensures slot { IfOk result (λ cell. HasSlot self.now.layout cell slot) }
+        ensures owns { KeepsOwn (O.owns own.old context.now) (O.owns own.new context.now) }
+    {
+        let cell = self.cell_in(own, context, src)?;
+        let class = class_of(self.layout(), cell);
+        if class == TABLE {
+            return Err(Refusal::IsTable);
+        }
+        if slot >= slots(class) {
+            return Err(Refusal::NoSlot { slot });
+        }
+        Ok(cell)
+    }
+
+    /// What a `Get` is to do.
+    pub(crate) fn plan_get<C, O: OwnWords<C>>(
+        &self,
+        own: &mut O,
+        context: &C,
+        dst: u8,
+        src: u8,
+        slot: u8,
+    ) -> Plan
+        requires of_layout { src < self.now.layout.registers }
+        requires known { MayCallNow (O.owns own.old context.now) self.now }
+        ensures plan { Always (O.owns own.old context.now) self.now (λ heap state.
+            IsPlan self.now heap state (Get dst src slot) result) }
+        ensures owns { KeepsOwn (O.owns own.old context.now) (O.owns own.new context.now) }
+    {
+        match self.slot_holder(own, context, src, slot) {
+            Ok(cell) => Plan::LoadSlot { dst, cell, slot },
+            Err(refusal) => Plan::Refuse { refusal },
+        }
+    }
+
+    /// What a `Put` is to do.
+    pub(crate) fn plan_put<C, O: OwnWords<C>>(
+        &self,
+        own: &mut O,
+        context: &C,
+        src: u8,
+        slot: u8,
+        val: u8,
+    ) -> Plan
+        requires of_layout { src < self.now.layout.registers }
+        requires val_of_layout { val < self.now.layout.registers }
+        requires known { MayCallNow (O.owns own.old context.now) self.now }
+        ensures plan { Always (O.owns own.old context.now) self.now (λ heap state.
+            IsPlan self.now heap state (Put src slot val) result) }
+        ensures owns { KeepsOwn (O.owns own.old context.now) (O.owns own.new context.now) }
+    {
+        match self.slot_holder(own, context, src, slot) {
+            Ok(cell) => Plan::StoreSlot {
+                cell,
+                slot,
+                value: self.value_in(own, context, val),
+            },
+            Err(refusal) => Plan::Refuse { refusal },
+        }
+    }
+}
