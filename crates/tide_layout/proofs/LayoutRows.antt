@@ -78,16 +78,22 @@ full-cells = (omega (arith, none, one, two, three, four, rest), omega (arith, no
   where
     none : words_among full 0 0 ≡ 0
     none = words_among-none full 0 20480
+
     one : words_among full 0 4096 ≡ words_among full 0 0 + 4096 * 2
     one = words_among-class full 0 0 20480 (omega arith) (omega arith)
+
     two : words_among full 0 8192 ≡ words_among full 0 4096 + 4096 * 4
     two = words_among-class full 0 1 20480 (omega arith) (omega arith)
+
     three : words_among full 0 12288 ≡ words_among full 0 8192 + 4096 * 8
     three = words_among-class full 0 2 20480 (omega arith) (omega arith)
+
     four : words_among full 0 16384 ≡ words_among full 0 12288 + 4096 * 16
     four = words_among-class full 0 3 20480 (omega arith) (omega arith)
+
     rest : words_among full 0 20479 ≡ words_among full 0 16384 + 4095 * 8
     rest = words_among-class full 0 4 20479 (omega arith) (omega arith)
+
     all : words_among full 0 20480 ≡ words_among full 0 16384 + 4096 * 8
     all = words_among-class full 0 4 20480 (omega arith) (omega arith)
 
@@ -97,16 +103,22 @@ full-arrays = (omega (arith, none, one, two, three, four, rest), omega (arith, n
   where
     none : words_among full 5 0 ≡ 0
     none = words_among-none full 5 20480
+
     one : words_among full 5 4096 ≡ words_among full 5 0 + 4096 * 4
     one = words_among-class full 5 0 20480 (omega arith) (omega arith)
+
     two : words_among full 5 8192 ≡ words_among full 5 4096 + 4096 * 8
     two = words_among-class full 5 1 20480 (omega arith) (omega arith)
+
     three : words_among full 5 12288 ≡ words_among full 5 8192 + 4096 * 16
     three = words_among-class full 5 2 20480 (omega arith) (omega arith)
+
     four : words_among full 5 16384 ≡ words_among full 5 12288 + 4096 * 32
     four = words_among-class full 5 3 20480 (omega arith) (omega arith)
+
     rest : words_among full 5 20479 ≡ words_among full 5 16384 + 4095 * 64
     rest = words_among-class full 5 4 20479 (omega arith) (omega arith)
+
     all : words_among full 5 20480 ≡ words_among full 5 16384 + 4096 * 64
     all = words_among-class full 5 4 20480 (omega arith) (omega arith)
 
@@ -126,10 +138,18 @@ largest-places : (place_in largest Stopped 23 ≡ 57) × (place_in largest Weak 
     × (place_in largest Dead 639 ≡ 768057) × (place_in largest GreyRace 319 ≡ 769017) × (place_in largest Swept 639 ≡ 769657)
 unfolding place_in base_of
 largest-places = let cells = largest-cells.1 in let arrays = largest-arrays.1 in (
-    refl, refl, omega (arith, cells, arrays), omega (arith, cells, arrays), omega (arith, cells, arrays), omega (arith, cells, arrays))
+  refl,
+  refl,
+  omega (arith, cells, arrays),
+  omega (arith, cells, arrays),
+  omega (arith, cells, arrays),
+  omega (arith, cells, arrays),
+)
 
 -- the last pair of the last table, and the last element of the last array
 largest-ends : (place_of_slot largest 20479 7 ≡ 258873) × (place_of_element largest 20479 63 ≡ 766777)
 unfolding place_in base_of index_of_slot index_of_element
 largest-ends = let cells = largest-cells in let arrays = largest-arrays in (
-    omega (arith, cells.0, cells.1), omega (arith, cells.0, cells.1, arrays.0))
+  omega (arith, cells.0, cells.1),
+  omega (arith, cells.0, cells.1, arrays.0),
+)
