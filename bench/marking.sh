@@ -80,19 +80,19 @@ for kind in links turns tables leaps; do
     done
 done
 
-# A row of what a run of Groups takes, with an order that is new and with one that is left, and a run of Ephemerons.
+# A row of what a run of Groups takes, and a run of Ephemerons over the same words.
 of_runs() { # GROUPS MARKED
     echo "runs $1 $2 400" > "$folder/line"
     "$words" < "$folder/line" 2> "$folder/times" > "$folder/text" || return
     awk -v groups="$1" -v marked="$2" '{
-        printf "| %s | %s | %.1f | %.1f | %.1f | %.1f |\n", groups, marked, $3 / 1000, $4 / 1000, $5 / 1000, ($3 > $4 ? $3 : $4) / $5
+        printf "| %s | %s | %.1f | %.1f | %.1f |\n", groups, marked, $3 / 1000, $4 / 1000, $3 / $4
     }' "$folder/times"
 }
 
 echo
-echo "| Groups of cells | Marked | Groups, order new | Groups, order left | Ephemerons | Times as long, at most |"
-echo "|---|---|---|---|---|---|"
-for groups in alone together beside apart drawn; do
+echo "| Groups of cells | Marked | Groups | Ephemerons | Times as long |"
+echo "|---|---|---|---|---|"
+for groups in alone together beside apart drawn crowded; do
     for marked in nothing few half cells all; do
         [ -x "$words" ] && of_runs $groups $marked
     done

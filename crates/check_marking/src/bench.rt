@@ -4,8 +4,7 @@
 //! holds before a run. Then
 //!
 //! - `run CONSTRAINT` is answered with how many cells it marked, and with the list afterwards: the given cell first. Each
-//!   list but the first has the room for an order of the one before, with what was left there; after `no room` none has
-//!   any;
+//!   list but the first has the room for notes of the one before, with what was left there; after `no room` none has any;
 //! - `volatility CONSTRAINT`, `clear weak` and `clear pairs` do what they say;
 //! - `mark CELL` and `mark named WORD` are answered with whether the cell was marked, and the list;
 //! - `marked` is answered with the cells that are, `is_live CELL` with true or false, `length` with the number of words, and
@@ -32,14 +31,14 @@ use tide_words::{
     Constraint, GreyList, Volatility, Words, is_live, is_marked, mark, mark_named, word_phase,
 };
 
-/// The room for an order that the next list has: what the one before it left, or its own, or none.
+/// The room for notes that the next list has: what the one before it left, or its own, or none.
 #[derive(Drop)]
 struct Room {
-    left: Option<Vec<u64>>,
+    left: Option<Vec<u32>>,
     is_wanting: bool,
 }
 
-/// A heap, once its layout is given, the cell that is listed, and the room for an order that the next list has.
+/// A heap, once its layout is given, the cell that is listed, and the room for notes that the next list has.
 #[derive(Drop)]
 pub struct Bench {
     heap: Option<Heap>,
@@ -96,7 +95,7 @@ pub fn cycle_marks(heap: &mut Heap) -> bool
     marks
 }
 
-/// Runs a constraint once beside a list that holds one cell, and that has this room for an order.
+/// Runs a constraint once beside a list that holds one cell, and that has this room for notes.
 fn run<C: Constraint>(
     alloc: Global,
     heap: &mut Heap,
@@ -109,12 +108,12 @@ fn run<C: Constraint>(
     }
     let mut list = list_of(alloc, &heap.layout, listed)?;
     if room.is_wanting {
-        list.take_order();
+        list.take_room();
     } else if let Some(left) = room.left.take() {
-        list.give_order(left);
+        list.give_room(left);
     }
     let count = constraint.run(&mut heap.words, &heap.layout, &mut list);
-    room.left = list.take_order();
+    room.left = list.take_room();
     marked_text(alloc, count, &mut list)
 }
 

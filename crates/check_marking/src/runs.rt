@@ -35,6 +35,8 @@ pub enum Grouping {
     Apart,
     /// Each cell with one that was drawn.
     Drawn,
+    /// Each cell with the one beside it, in groups whose numbers all have one slot for their own.
+    Crowded,
 }
 
 /// Which cells are marked before a run.
@@ -126,6 +128,7 @@ impl Runs {
             let number = match grouping {
                 Grouping::Alone => 0,
                 Grouping::Together => 1,
+                Grouping::Crowded => (at as u64 / 2 % 32_768 + 1) * 32_769,
                 _ => at as u64 / 2 + 1,
             };
             heap.take_cell(cell);
@@ -149,46 +152,33 @@ impl Runs {
     }
 }
 
-/// Runs a constraint once beside a list that holds one cell, and that has the room for an order of the list before it.
-/// Answers how many cells it marked and how long it took.
+/// Runs a constraint once beside a list that holds one cell. Answers how many cells it marked and how long it took.
 fn time_run<R: System, C: Constraint>(
     rt: &R,
     heap: &mut Heap,
-    order: &mut Option<Vec<u64>>,
     constraint: &C,
 ) -> io::Result<Option<(u32, Duration)>> {
     if !cycle_marks(heap) {
         return Ok(None);
     }
     let mut list = list_of(rt.alloc(), &heap.layout, 0)?;
-    if let Some(left) = order.take() {
-        list.give_order(left);
-    }
     let start = Instant::now(rt)?;
     let count = constraint.run(&mut heap.words, &heap.layout, &mut list);
-    let took = start.elapsed(rt)?;
-    *order = list.take_order();
-    Ok(Some((count, took)))
+    Ok(Some((count, start.elapsed(rt)?)))
 }
 
 /// The least time that a constraint took in so many runs, each of which marks so many cells, or `None` where one doesn't.
-/// Each run puts the cells in order anew, or finds the order that the one before it left.
 fn least_time<R: System, C: Constraint>(
     rt: &R,
     runs: &mut Runs,
-    is_new: bool,
     times: u32,
     constraint: &C,
     finds: usize,
 ) -> io::Result<Option<Duration>> {
-    let mut order = None;
     let mut least = Duration::MAX;
     for _time in 0..times {
         set_marks(&mut runs.heap, runs.cells.as_slice(), runs.marks);
-        if is_new {
-            order = None;
-        }
-        match time_run(rt, &mut runs.heap, &mut order, constraint)? {
+        match time_run(rt, &mut runs.heap, constraint)? {
             Some((count, took)) if count as usize == finds => least = least.min(took),
             _ => return Ok(None),
         }
@@ -196,8 +186,8 @@ fn least_time<R: System, C: Constraint>(
     Ok(Some(least))
 }
 
-/// Tells the least time of so many runs of `Groups`, with an order that is new and with one that is left, and of
-/// `Ephemerons`, over the same words. Answers whether each marked as many cells as it should.
+/// Tells the least time of so many runs of `Groups` and of `Ephemerons`, over the same words. Answers whether each marked
+/// as many cells as it should.
 pub fn time_runs<R: System>(
     rt: &R,
     grouping: Grouping,
@@ -207,13 +197,12 @@ pub fn time_runs<R: System>(
     let mut runs = Runs::new(rt.alloc(), grouping, marks)?;
     let count = set_marks(&mut runs.heap, runs.cells.as_slice(), runs.marks);
     let twins = runs.unmarked_twins(count);
-    let new = least_time(rt, &mut runs, true, times, &Groups, twins)?;
-    let left = least_time(rt, &mut runs, false, times, &Groups, twins)?;
-    let pairs = least_time(rt, &mut runs, true, times, &Ephemerons, 0)?;
-    let (Some(new), Some(left), Some(pairs)) = (new, left, pairs) else {
+    let groups = least_time(rt, &mut runs, times, &Groups, twins)?;
+    let pairs = least_time(rt, &mut runs, times, &Ephemerons, 0)?;
+    let (Some(groups), Some(pairs)) = (groups, pairs) else {
         return Ok(false);
     };
-    let (new, left, pairs) = (new.as_nanos(), left.as_nanos(), pairs.as_nanos());
-    eprintln!(rt; "{grouping:?} {marks:?} {new} {left} {pairs}")?;
+    let (groups, pairs) = (groups.as_nanos(), pairs.as_nanos());
+    eprintln!(rt; "{grouping:?} {marks:?} {groups} {pairs}")?;
     Ok(true)
 }

@@ -11,8 +11,8 @@ mod heap;
 mod marking;
 
 pub use forms::{
-    Colour, MAX_CELLS, Structure, array_word, claim_word, colour, colour_word, pair_word,
-    phase_word, structure_word, val_word, word_array, word_claim, word_pair, word_phase,
+    Colour, MAX_CELLS, Structure, array_word, claim_word, colour, colour_word, is_marked_in,
+    pair_word, phase_word, structure_word, val_word, word_array, word_claim, word_pair, word_phase,
     word_structure, word_val,
 };
 pub use heap::{
