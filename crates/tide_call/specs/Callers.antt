@@ -49,3 +49,7 @@ Always owns caller holds = (heap : Heap) (state : State) → CallsIn owns caller
 -- heaps that had a mutator's own words have them
 abbrev pub KeepsOwn : OwnHeaps → OwnHeaps → Type 0
 KeepsOwn before after = (layout : Layout) (who : ℕ) (heap : Heap) → before layout who heap → after layout who heap
+
+-- so do they after a call that reads own words in some context, and the rest is as it was
+abbrev pub LeavesOwn : {C Rest : Type 0} → (C → OwnHeaps) → (C → OwnHeaps) → C → Rest → Rest → Type 0
+LeavesOwn before after context old new = KeepsOwn (before context) (after context) × (new ≡ old)

@@ -5,7 +5,7 @@ ghost use Rattle.tide_model.specs.Numbers.{is_among};
 ghost use Rattle.tide_model.specs.Refused.{refusal_of};
 ghost use Rattle.tide_model.specs.declared.op.Op.TheVariants.{Add};
 ghost use Rattle.tide_model.specs.declared.val.Val.TheVariants.{Cell};
-ghost use Rattle.tide_call.specs.Callers.{Always, KeepsOwn, MayCallNow};
+ghost use Rattle.tide_call.specs.Callers.{Always, LeavesOwn, MayCallNow};
 ghost use Rattle.tide_call.specs.declared.plan.Plan.TheVariants.{Grow};
 ghost use Rattle.tide_call.specs.Plans.{IsAddition, IsPlan};
 
@@ -19,7 +19,6 @@ use tide_shape::{ShapeTable, array_class_for, capacity};
 #[derive(Clone, Copy, Debug, PartialEq, Eq)]
 pub struct Addition {
     pub cell: u32,
-    /// The cell's shape.
     pub shape: u32,
     /// The shape with one more key.
     pub next: u32,
@@ -63,7 +62,7 @@ impl<'a, S: ShapeTable> Caller<'a, S> {
         ensures few { IfOk result (λ addition. addition.count < 64) }
         ensures within { IfOk result (λ addition. addition.cell < cell_count self.now.layout) }
         ensures claimed { IfOk result (λ addition. is_among self.now.claims addition.cell ≡ true) }
-        ensures owns { KeepsOwn (O.owns own.old context.now) (O.owns own.new context.now) }
+        ensures owns { LeavesOwn (O.owns own.old) (O.owns own.new) context.now (O.rest own.old) (O.rest own.new) }
     {
         let cell = self.property_holder(own, context, src)?;
         let shape = self.shape_of(own, context, cell);
@@ -95,7 +94,7 @@ impl<'a, S: ShapeTable> Caller<'a, S> {
         requires known { MayCallNow (O.owns own.old context.now) self.now }
         ensures plan { Always (O.owns own.old context.now) self.now (λ heap state.
             IsPlan self.now heap state (Add src key val) result) }
-        ensures owns { KeepsOwn (O.owns own.old context.now) (O.owns own.new context.now) }
+        ensures owns { LeavesOwn (O.owns own.old) (O.owns own.new) context.now (O.rest own.old) (O.rest own.new) }
     {
         let addition = match self.find_addition(own, context, src, key) {
             Ok(addition) => addition,

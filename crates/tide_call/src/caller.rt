@@ -7,7 +7,7 @@ ghost use Rattle.tide_model.specs.declared.op.Refusal.{Refusal as TheRefusal};
 ghost use Rattle.tide_model.specs.declared.val.Val.TheVariants.{Cell};
 ghost use Rattle.tide_shape.specs.ShapeTable.{IsShapeTable};
 ghost use Rattle.tide_words.specs.heap.Reading.{slot_word};
-ghost use Rattle.tide_call.specs.Callers.{Always, KeepsOwn, MayCallNow};
+ghost use Rattle.tide_call.specs.Callers.{Always, LeavesOwn, MayCallNow};
 ghost use Rattle.tide_call.specs.ShapeWord.{IsShapeWord};
 
 use crate::claims::Claims;
@@ -81,7 +81,7 @@ impl<'a, S: ShapeTable> Caller<'a, S> {
         requires known { MayCallNow (O.owns own.old context.now) self.now }
         ensures value { Always (O.owns own.old context.now) self.now (λ heap state.
             state.registers self.now.who register ≡ result) }
-        ensures owns { KeepsOwn (O.owns own.old context.now) (O.owns own.new context.now) }
+        ensures owns { LeavesOwn (O.owns own.old) (O.owns own.new) context.now (O.rest own.old) (O.rest own.new) }
     {
         word_val(own.register(context, self.layout, self.who, register)).unwrap_or(Val::Empty)
     }
@@ -101,7 +101,7 @@ impl<'a, S: ShapeTable> Caller<'a, S> {
         ensures refused { IfErr result (λ refusal. Always (O.owns own.old context.now) self.now (λ heap state.
             (further : ℕ → Option TheRefusal) →
             refusal_at (state.registers self.now.who register) register further ≡ Some refusal)) }
-        ensures owns { KeepsOwn (O.owns own.old context.now) (O.owns own.new context.now) }
+        ensures owns { LeavesOwn (O.owns own.old) (O.owns own.new) context.now (O.rest own.old) (O.rest own.new) }
     {
         let cells = self.layout.cells();
         match self.value_in(own, context, register) {
@@ -118,7 +118,7 @@ impl<'a, S: ShapeTable> Caller<'a, S> {
         ensures shape { Always (O.owns own.old context.now) self.now (λ heap state.
             IsShapeWord self.now.shapes (state.cells cell).keys result) }
         ensures within { result < length self.now.shapes }
-        ensures owns { KeepsOwn (O.owns own.old context.now) (O.owns own.new context.now) }
+        ensures owns { LeavesOwn (O.owns own.old) (O.owns own.new) context.now (O.rest own.old) (O.rest own.new) }
     {
         match word_structure(own.structure(context, self.layout, self.who, cell)) {
             Some(structure) => structure.shape,
@@ -138,7 +138,7 @@ impl<'a, S: ShapeTable> Caller<'a, S> {
         requires known { MayCallNow (O.owns own.old context.now) self.now }
         ensures array { Always (O.owns own.old context.now) self.now (λ heap state.
             (state.cells cell).array ≡ result) }
-        ensures owns { KeepsOwn (O.owns own.old context.now) (O.owns own.new context.now) }
+        ensures owns { LeavesOwn (O.owns own.old) (O.owns own.new) context.now (O.rest own.old) (O.rest own.new) }
     {
         let arrays = self.layout.arrays();
         let array = word_array(own.array(context, self.layout, self.who, cell))?;
@@ -158,7 +158,7 @@ impl<'a, S: ShapeTable> Caller<'a, S> {
         requires known { MayCallNow (O.owns own.old context.now) self.now }
         ensures words { Always (O.owns own.old context.now) self.now (λ heap state. (place : ℕ) → place < 8 →
             slice_index result place ≡ slot_word self.now.layout heap table place) }
-        ensures owns { KeepsOwn (O.owns own.old context.now) (O.owns own.new context.now) }
+        ensures owns { LeavesOwn (O.owns own.old) (O.owns own.new) context.now (O.rest own.old) (O.rest own.new) }
     {
         let mut words = [0; 8];
         for place in 0..PAIRS {

@@ -3,7 +3,7 @@ ghost use Rattle.std.specs.Prelude.{◌≡◌, ◌<◌};
 ghost use Rattle.tide_model.specs.State.{State};
 ghost use Rattle.tide_words.specs.heap.Heap.{Heap};
 ghost use Rattle.tide_model.specs.declared.op.Op.TheVariants.{Claim, Release, Unclaim};
-ghost use Rattle.tide_call.specs.Callers.{Always, IsCallerOf, KeepsOwn, MayCallNow};
+ghost use Rattle.tide_call.specs.Callers.{Always, IsCallerOf, LeavesOwn, MayCallNow};
 ghost use Rattle.tide_call.specs.Plans.{IsPlan};
 
 use crate::caller::Caller;
@@ -19,7 +19,7 @@ impl<'a, S: ShapeTable> Caller<'a, S> {
         requires known { MayCallNow (O.owns own.old context.now) self.now }
         ensures plan { Always (O.owns own.old context.now) self.now (λ heap state.
             IsPlan self.now heap state (Claim src) result) }
-        ensures owns { KeepsOwn (O.owns own.old context.now) (O.owns own.new context.now) }
+        ensures owns { LeavesOwn (O.owns own.old) (O.owns own.new) context.now (O.rest own.old) (O.rest own.new) }
     {
         match self.cell_in(own, context, src) {
             Ok(cell) => Plan::Claim {
@@ -36,7 +36,7 @@ impl<'a, S: ShapeTable> Caller<'a, S> {
         requires known { MayCallNow (O.owns own.old context.now) self.now }
         ensures plan { Always (O.owns own.old context.now) self.now (λ heap state.
             IsPlan self.now heap state (Release src) result) }
-        ensures owns { KeepsOwn (O.owns own.old context.now) (O.owns own.new context.now) }
+        ensures owns { LeavesOwn (O.owns own.old) (O.owns own.new) context.now (O.rest own.old) (O.rest own.new) }
     {
         match self.cell_in(own, context, src) {
             Ok(cell) if self.claims().contains(cell) => Plan::Release { cell },

@@ -10,8 +10,7 @@ pub fn mutators_may_call()
     ensures callers { MutatorsMayCall }
 {}
 
-/// Who acts on a plan, by its words alone, answers the call that it is of and writes its words. What a mutator's own
-/// words don't tell of a claim, the claim word of the cell does.
+/// Who acts on a plan, by its words alone, makes its call. Of a claim the claim word tells what the plan leaves open.
 pub fn plans_are_calls()
     ensures calls { PlansAreCalls }
     ensures claims { ClaimsAreTold }

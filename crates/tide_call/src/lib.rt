@@ -2,8 +2,8 @@
 //!
 //! `Caller::plan_of` decides by the words that its mutator alone changes whether a call is refused, and else what is to
 //! be done: a `Plan`. Words that stand still and words that others change beside the mutator are `OwnWords` alike. The
-//! functions of `laws` promise what the words read as once the plan's are written, and that marking is kept. A store and
-//! a mutator on a thread cite these alike. The crate stands on `tide_words` and `tide_shape`.
+//! functions of `laws` promise what the words read as once the plan's are written, and that marking is kept. A store
+//! and a mutator on a thread cite these alike. The crate stands on `tide_words` and `tide_shape`.
 #![tactic(auto)]
 
 mod additions;

@@ -1,5 +1,5 @@
 //! `OwnWords`: the words that a mutator alone changes, wherever they are. It knows no operation.
-ghost use Rattle.std.specs.Prelude.{◌≡◌, ◌<◌, ℕ, Some, true};
+ghost use Rattle.std.specs.Prelude.{◌≡◌, ◌<◌, ℕ, List, Some, true};
 ghost use Rattle.tide_layout.specs.Region.{index_of_register};
 ghost use Rattle.tide_layout.specs.Slots.{HasSlot};
 ghost use Rattle.tide_layout.specs.declared.region.Region.TheVariants.{Array, Claim, Registers, Structure};
@@ -7,17 +7,20 @@ ghost use Rattle.tide_model.specs.Layout.{Layout as PlainLayout, cell_count};
 ghost use Rattle.tide_words.specs.forms.Reference.{claim_word};
 ghost use Rattle.tide_words.specs.heap.Heap.{Heap, Reads};
 ghost use Rattle.tide_words.specs.heap.Reading.{slot_word};
-ghost use Rattle.tide_call.specs.Callers.{KeepsOwn};
+ghost use Rattle.tide_call.specs.Callers.{LeavesOwn};
 
 use tide_words::{Layout, Region, Words};
 
 /// The words that mutators alone change, each its own: those of its registers, and of the cells that it claims the
-/// structure, the array and the pairs.
-///
-/// While a mutator runs, nobody else changes them, so it may read them at any moments of a call.
+/// structure, the array and the pairs. While it runs nobody else changes them, so it may read them at any moments.
 pub trait OwnWords<C> {
     /// The heap has these words of the mutator.
     ghost owns: { Self → C → PlainLayout → ℕ → Heap → Type 0 };
+
+    /// What reading them leaves as it is.
+    ghost Rest: { Type 0 };
+
+    ghost rest: { Self → Rest };
 
     /// The word of a register of the mutator.
     fn register(&mut self, context: &C, layout: &Layout, who: u32, register: u8) -> u64
@@ -26,7 +29,7 @@ pub trait OwnWords<C> {
         requires known { (heap : Heap) × owns self.old context.now layout.now who heap }
         ensures word { (heap : Heap) → owns self.old context.now layout.now who heap →
             result ≡ heap Registers (index_of_register layout.now who register) }
-        ensures owns { KeepsOwn (owns self.old context.now) (owns self.new context.now) };
+        ensures owns { LeavesOwn (owns self.old) (owns self.new) context.now (rest self.old) (rest self.new) };
 
     /// The structure word of a cell, which the mutator claims.
     fn structure(&mut self, context: &C, layout: &Layout, who: u32, cell: u32) -> u64
@@ -35,7 +38,7 @@ pub trait OwnWords<C> {
         requires known { (heap : Heap) × owns self.old context.now layout.now who heap }
         ensures word { (heap : Heap) → owns self.old context.now layout.now who heap →
             heap Claim cell ≡ claim_word (Some who) → result ≡ heap Structure cell }
-        ensures owns { KeepsOwn (owns self.old context.now) (owns self.new context.now) };
+        ensures owns { LeavesOwn (owns self.old) (owns self.new) context.now (rest self.old) (rest self.new) };
 
     /// The array word of a cell, which the mutator claims.
     fn array(&mut self, context: &C, layout: &Layout, who: u32, cell: u32) -> u64
@@ -44,7 +47,7 @@ pub trait OwnWords<C> {
         requires known { (heap : Heap) × owns self.old context.now layout.now who heap }
         ensures word { (heap : Heap) → owns self.old context.now layout.now who heap →
             heap Claim cell ≡ claim_word (Some who) → result ≡ heap Array cell }
-        ensures owns { KeepsOwn (owns self.old context.now) (owns self.new context.now) };
+        ensures owns { LeavesOwn (owns self.old) (owns self.new) context.now (rest self.old) (rest self.new) };
 
     /// The word at a place of a table, which the mutator claims.
     fn pair(&mut self, context: &C, layout: &Layout, who: u32, table: u32, place: u8) -> u64
@@ -53,12 +56,16 @@ pub trait OwnWords<C> {
         requires known { (heap : Heap) × owns self.old context.now layout.now who heap }
         ensures word { (heap : Heap) → owns self.old context.now layout.now who heap →
             heap Claim table ≡ claim_word (Some who) → result ≡ slot_word layout.now heap table place }
-        ensures owns { KeepsOwn (owns self.old context.now) (owns self.new context.now) };
+        ensures owns { LeavesOwn (owns self.old) (owns self.new) context.now (rest self.old) (rest self.new) };
 }
 
 /// Words that stand still.
 impl<W: Words> OwnWords<()> for W {
     ghost owns = { λ words context layout who heap. Reads layout (W.words words) heap };
+
+    ghost Rest = { List ℕ × W.Rest };
+
+    ghost rest = { λ words. (W.words words, W.rest words) };
 
     fn register(&mut self, _context: &(), layout: &Layout, who: u32, register: u8) -> u64 {
         let index = who * u32::from(layout.registers()) + u32::from(register);

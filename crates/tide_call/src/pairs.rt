@@ -6,7 +6,7 @@ ghost use Rattle.tide_model.specs.Refused.{first_of, is_table, pair_refusal};
 ghost use Rattle.tide_model.specs.declared.op.Op.TheVariants.{PairDel, PairGet, PairSet};
 ghost use Rattle.tide_model.specs.declared.op.Refusal.{Refusal as TheRefusal};
 ghost use Rattle.tide_model.specs.declared.val.Val.TheVariants.{Cell};
-ghost use Rattle.tide_call.specs.Callers.{Always, KeepsOwn, MayCallNow};
+ghost use Rattle.tide_call.specs.Callers.{Always, LeavesOwn, MayCallNow};
 ghost use Rattle.tide_call.specs.Pairs.{HasNoZero, IsFirstZero, IsPlaceAmong, LacksKey, StandsAt};
 ghost use Rattle.tide_call.specs.Plans.{IsPlan};
 
@@ -73,8 +73,7 @@ struct PairCells {
 }
 
 impl<'a, S: ShapeTable> Caller<'a, S> {
-    /// The table and the key cell that two registers hold, of which the caller claims the table, or why an operation on
-    /// the pair is refused.
+    /// The table, which the caller claims, and the key cell that two registers hold, or why an operation is refused.
     fn pair_cells<C, O: OwnWords<C>>(
         &self,
         own: &mut O,
@@ -99,7 +98,7 @@ impl<'a, S: ShapeTable> Caller<'a, S> {
         ensures within { IfOk result (λ cells. cells.table < cell_count self.now.layout) }
         ensures is_table { IfOk result (λ cells. is_table self.now.layout cells.table ≡ true) }
         ensures claimed { IfOk result (λ cells. is_among self.now.claims cells.table ≡ true) }
-        ensures owns { KeepsOwn (O.owns own.old context.now) (O.owns own.new context.now) }
+        ensures owns { LeavesOwn (O.owns own.old) (O.owns own.new) context.now (O.rest own.old) (O.rest own.new) }
     {
         let table = self.cell_in(own, context, src)?;
         let key = self.cell_in(own, context, key)?;
@@ -127,7 +126,7 @@ impl<'a, S: ShapeTable> Caller<'a, S> {
         requires known { MayCallNow (O.owns own.old context.now) self.now }
         ensures plan { Always (O.owns own.old context.now) self.now (λ heap state.
             IsPlan self.now heap state (PairSet src key val) result) }
-        ensures owns { KeepsOwn (O.owns own.old context.now) (O.owns own.new context.now) }
+        ensures owns { LeavesOwn (O.owns own.old) (O.owns own.new) context.now (O.rest own.old) (O.rest own.new) }
     {
         let cells = match self.pair_cells(own, context, src, key) {
             Ok(cells) => cells,
@@ -161,7 +160,7 @@ impl<'a, S: ShapeTable> Caller<'a, S> {
         requires known { MayCallNow (O.owns own.old context.now) self.now }
         ensures plan { Always (O.owns own.old context.now) self.now (λ heap state.
             IsPlan self.now heap state (PairGet dst src key) result) }
-        ensures owns { KeepsOwn (O.owns own.old context.now) (O.owns own.new context.now) }
+        ensures owns { LeavesOwn (O.owns own.old) (O.owns own.new) context.now (O.rest own.old) (O.rest own.new) }
     {
         let cells = match self.pair_cells(own, context, src, key) {
             Ok(cells) => cells,
@@ -192,7 +191,7 @@ impl<'a, S: ShapeTable> Caller<'a, S> {
         requires known { MayCallNow (O.owns own.old context.now) self.now }
         ensures plan { Always (O.owns own.old context.now) self.now (λ heap state.
             IsPlan self.now heap state (PairDel src key) result) }
-        ensures owns { KeepsOwn (O.owns own.old context.now) (O.owns own.new context.now) }
+        ensures owns { LeavesOwn (O.owns own.old) (O.owns own.new) context.now (O.rest own.old) (O.rest own.new) }
     {
         let cells = match self.pair_cells(own, context, src, key) {
             Ok(cells) => cells,

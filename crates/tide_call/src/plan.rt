@@ -2,12 +2,9 @@
 use crate::additions::Addition;
 use tide_model::{Refusal, Val};
 
-/// What a call is to do.
-///
-/// `dst` is the register that gets what was read or born, `cell` the cell whose fields change.
+/// What a call is to do: `dst` is the register that gets what was read or born, `cell` the cell whose fields change.
 #[derive(Clone, Copy, Debug, PartialEq, Eq)]
 pub enum Plan {
-    /// Nothing: the call is refused.
     Refuse {
         refusal: Refusal,
     },
@@ -41,7 +38,6 @@ pub enum Plan {
         cell: u32,
         full: bool,
     },
-    /// To end the caller's claim on a cell.
     Release {
         cell: u32,
     },

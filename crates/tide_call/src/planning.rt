@@ -2,7 +2,7 @@
 ghost use Rattle.std.specs.Prelude.{◌≡◌, ◌<◌};
 ghost use Rattle.tide_model.specs.Lawful.{FitsLayout};
 ghost use Rattle.tide_model.specs.declared.op.Op.TheVariants.{Group};
-ghost use Rattle.tide_call.specs.Callers.{Always, KeepsOwn, MayCallNow};
+ghost use Rattle.tide_call.specs.Callers.{Always, LeavesOwn, MayCallNow};
 ghost use Rattle.tide_call.specs.Plans.{IsPlan};
 
 use crate::caller::Caller;
@@ -19,7 +19,7 @@ impl<'a, S: ShapeTable> Caller<'a, S> {
         requires known { MayCallNow (O.owns own.old context.now) self.now }
         ensures plan { Always (O.owns own.old context.now) self.now (λ heap state.
             IsPlan self.now heap state (Group src group) result) }
-        ensures owns { KeepsOwn (O.owns own.old context.now) (O.owns own.new context.now) }
+        ensures owns { LeavesOwn (O.owns own.old) (O.owns own.new) context.now (O.rest own.old) (O.rest own.new) }
     {
         match self.cell_in(own, context, src) {
             Ok(cell) => Plan::Join { cell, group },
@@ -34,7 +34,7 @@ impl<'a, S: ShapeTable> Caller<'a, S> {
         requires known { MayCallNow (O.owns own.old context.now) self.now }
         ensures plan { Always (O.owns own.old context.now) self.now (λ heap state.
             IsPlan self.now heap state op result) }
-        ensures owns { KeepsOwn (O.owns own.old context.now) (O.owns own.new context.now) }
+        ensures owns { LeavesOwn (O.owns own.old) (O.owns own.new) context.now (O.rest own.old) (O.rest own.new) }
     {
         match op {
             Op::Alloc { dst, class } => Plan::Take { dst, class },

@@ -8,7 +8,7 @@ ghost use Rattle.tide_model.specs.Refused.{first_of, holder_refusal, property_re
 ghost use Rattle.tide_model.specs.declared.op.Op.TheVariants.{GetProp, SetProp};
 ghost use Rattle.tide_model.specs.declared.op.Refusal.{Refusal as TheRefusal};
 ghost use Rattle.tide_model.specs.declared.val.Val.TheVariants.{Cell};
-ghost use Rattle.tide_call.specs.Callers.{Always, KeepsOwn, MayCallNow};
+ghost use Rattle.tide_call.specs.Callers.{Always, LeavesOwn, MayCallNow};
 ghost use Rattle.tide_call.specs.Plans.{IsPlan};
 ghost use Rattle.tide_call.specs.Properties.{IsPropertyOf};
 
@@ -49,7 +49,7 @@ impl<'a, S: ShapeTable> Caller<'a, S> {
             state.registers self.now.who src ≡ Cell cell)) }
         ensures within { IfOk result (λ cell. cell < cell_count self.now.layout) }
         ensures claimed { IfOk result (λ cell. is_among self.now.claims cell ≡ true) }
-        ensures owns { KeepsOwn (O.owns own.old context.now) (O.owns own.new context.now) }
+        ensures owns { LeavesOwn (O.owns own.old) (O.owns own.new) context.now (O.rest own.old) (O.rest own.new) }
     {
         let cell = self.cell_in(own, context, src)?;
         if class_of(self.layout(), cell) == TABLE {
@@ -75,7 +75,7 @@ impl<'a, S: ShapeTable> Caller<'a, S> {
             property_refusal self.now.layout state self.now.who src key ≡ Some refusal)) }
         ensures property { IfOk result (λ found. Always (O.owns own.old context.now) self.now (λ heap state.
             IsPropertyOf self.now state src key found.cell found.array found.place)) }
-        ensures owns { KeepsOwn (O.owns own.old context.now) (O.owns own.new context.now) }
+        ensures owns { LeavesOwn (O.owns own.old) (O.owns own.new) context.now (O.rest own.old) (O.rest own.new) }
     {
         let cell = self.property_holder(own, context, src)?;
         let shape = self.shape_of(own, context, cell);
@@ -105,7 +105,7 @@ impl<'a, S: ShapeTable> Caller<'a, S> {
         requires known { MayCallNow (O.owns own.old context.now) self.now }
         ensures plan { Always (O.owns own.old context.now) self.now (λ heap state.
             IsPlan self.now heap state (GetProp dst src key) result) }
-        ensures owns { KeepsOwn (O.owns own.old context.now) (O.owns own.new context.now) }
+        ensures owns { LeavesOwn (O.owns own.old) (O.owns own.new) context.now (O.rest own.old) (O.rest own.new) }
     {
         match self.find_property(own, context, src, key) {
             Ok(Property { array, place, .. }) => Plan::LoadElement { dst, array, place },
@@ -127,7 +127,7 @@ impl<'a, S: ShapeTable> Caller<'a, S> {
         requires known { MayCallNow (O.owns own.old context.now) self.now }
         ensures plan { Always (O.owns own.old context.now) self.now (λ heap state.
             IsPlan self.now heap state (SetProp src key val) result) }
-        ensures owns { KeepsOwn (O.owns own.old context.now) (O.owns own.new context.now) }
+        ensures owns { LeavesOwn (O.owns own.old) (O.owns own.new) context.now (O.rest own.old) (O.rest own.new) }
     {
         match self.find_property(own, context, src, key) {
             Ok(found) => Plan::StoreElement {

@@ -4,7 +4,7 @@ ghost use Rattle.tide_layout.specs.Slots.{HasSlot};
 ghost use Rattle.tide_model.specs.Refused.{slot_refusal};
 ghost use Rattle.tide_model.specs.declared.op.Op.TheVariants.{Get, Put};
 ghost use Rattle.tide_model.specs.declared.val.Val.TheVariants.{Cell};
-ghost use Rattle.tide_call.specs.Callers.{Always, KeepsOwn, MayCallNow};
+ghost use Rattle.tide_call.specs.Callers.{Always, LeavesOwn, MayCallNow};
 ghost use Rattle.tide_call.specs.Plans.{IsPlan};
 
 use crate::caller::Caller;
@@ -33,7 +33,7 @@ impl<'a, S: ShapeTable> Caller<'a, S> {
         ensures cell { IfOk result (λ cell. Always (O.owns own.old context.now) self.now (λ heap state.
             state.registers self.now.who src ≡ Cell cell)) }
         ensures slot { IfOk result (λ cell. HasSlot self.now.layout cell slot) }
-        ensures owns { KeepsOwn (O.owns own.old context.now) (O.owns own.new context.now) }
+        ensures owns { LeavesOwn (O.owns own.old) (O.owns own.new) context.now (O.rest own.old) (O.rest own.new) }
     {
         let cell = self.cell_in(own, context, src)?;
         let class = class_of(self.layout(), cell);
@@ -59,7 +59,7 @@ impl<'a, S: ShapeTable> Caller<'a, S> {
         requires known { MayCallNow (O.owns own.old context.now) self.now }
         ensures plan { Always (O.owns own.old context.now) self.now (λ heap state.
             IsPlan self.now heap state (Get dst src slot) result) }
-        ensures owns { KeepsOwn (O.owns own.old context.now) (O.owns own.new context.now) }
+        ensures owns { LeavesOwn (O.owns own.old) (O.owns own.new) context.now (O.rest own.old) (O.rest own.new) }
     {
         match self.slot_holder(own, context, src, slot) {
             Ok(cell) => Plan::LoadSlot { dst, cell, slot },
@@ -81,7 +81,7 @@ impl<'a, S: ShapeTable> Caller<'a, S> {
         requires known { MayCallNow (O.owns own.old context.now) self.now }
         ensures plan { Always (O.owns own.old context.now) self.now (λ heap state.
             IsPlan self.now heap state (Put src slot val) result) }
-        ensures owns { KeepsOwn (O.owns own.old context.now) (O.owns own.new context.now) }
+        ensures owns { LeavesOwn (O.owns own.old) (O.owns own.new) context.now (O.rest own.old) (O.rest own.new) }
     {
         match self.slot_holder(own, context, src, slot) {
             Ok(cell) => Plan::StoreSlot {

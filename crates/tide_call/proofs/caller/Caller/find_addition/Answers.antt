@@ -26,7 +26,7 @@ returns-then-is_some-clause-refused g c = λ heap state calls val.
     let shapes = c.args.self.now.shapes in
     let cell = c.in_ok-cell.cell in
     let calls_then = CallsIn-kept (g.O.OwnWords.owns c.args.own.now c.args.context.now) (g.O.OwnWords.owns c.property_holder.new.own c.args.context.now)
-    c.args.self.now heap state c.property_holder.ensures.owns calls in
+    c.args.self.now heap state c.property_holder.ensures.owns.0 calls in
     let known : has_key state cell c.args.key ≡ true =
     key-found (g.S.ShapeTable.lists c.shapes.result.now) shapes c.shapes.ensures.lists c.shape_of-shape.result (state.cells cell).keys
     (c.shape_of-shape.ensures.shape heap state calls_then) c.args.key c.place.result c.place.ensures.there c.place.ensures.none
@@ -39,7 +39,7 @@ returns-in_default-clause-refused g c = λ heap state calls val.
     let shapes = c.args.self.now.shapes in
     let cell = c.in_ok-cell.cell in
     let calls_then = CallsIn-kept (g.O.OwnWords.owns c.args.own.now c.args.context.now) (g.O.OwnWords.owns c.property_holder.new.own c.args.context.now)
-    c.args.self.now heap state c.property_holder.ensures.owns calls in
+    c.args.self.now heap state c.property_holder.ensures.owns.0 calls in
     let is_shape = c.shape_of-shape.ensures.shape heap state calls_then in
     let known : has_key state cell c.args.key ≡ false =
     key-found (g.S.ShapeTable.lists c.shapes.result.now) shapes c.shapes.ensures.lists c.shape_of-shape.result (state.cells cell).keys
@@ -55,7 +55,7 @@ returns-clause-granted g c = λ heap state calls val.
     let shapes = c.args.self.now.shapes in
     let cell = c.in_ok-cell.cell in
     let calls_then = CallsIn-kept (g.O.OwnWords.owns c.args.own.now c.args.context.now) (g.O.OwnWords.owns c.property_holder.new.own c.args.context.now)
-    c.args.self.now heap state c.property_holder.ensures.owns calls in
+    c.args.self.now heap state c.property_holder.ensures.owns.0 calls in
     let is_shape = c.shape_of-shape.ensures.shape heap state calls_then in
     let known : has_key state cell c.args.key ≡ false =
     key-found (g.S.ShapeTable.lists c.shapes.result.now) shapes c.shapes.ensures.lists c.shape_of-shape.result (state.cells cell).keys
@@ -71,7 +71,7 @@ returns-clause-addition g c = λ heap state calls.
     let shapes = c.args.self.now.shapes in
     let cell = c.in_ok-cell.cell in
     let calls_then = CallsIn-kept (g.O.OwnWords.owns c.args.own.now c.args.context.now) (g.O.OwnWords.owns c.property_holder.new.own c.args.context.now)
-    c.args.self.now heap state c.property_holder.ensures.owns calls in
+    c.args.self.now heap state c.property_holder.ensures.owns.0 calls in
     let is_shape = c.shape_of-shape.ensures.shape heap state calls_then in
     let few : c.in-Some.next < 2 ^ 32 = search rules in
     record {
@@ -88,7 +88,7 @@ returns-clause-few g c =
     let shapes = c.args.self.now.shapes in
     let cell = c.in_ok-cell.cell in
     let calls_then = CallsIn-kept (g.O.OwnWords.owns c.args.own.now c.args.context.now) (g.O.OwnWords.owns c.property_holder.new.own c.args.context.now)
-    c.args.self.now heap state c.property_holder.ensures.owns calls in
+    c.args.self.now heap state c.property_holder.ensures.owns.0 calls in
     let is_shape = c.shape_of-shape.ensures.shape heap state calls_then in
     let counted = c.count.ensures
     ∙ ap (λ (ks : List ℕ). length ks) (keys_of-cell (g.S.ShapeTable.lists c.shapes-3.result.now) shapes c.shapes-3.ensures.lists c.shape_of-shape.result (state.cells cell).keys is_shape) in

@@ -26,7 +26,7 @@ returns-in_default-clause-refused g c = λ heap state calls.
     let cell = c.in_ok-cell.cell in
     let key = c.args.key in
     let calls_then = CallsIn-kept owns (g.O.OwnWords.owns c.property_holder.new.own c.args.context.now) c.args.self.now heap state
-    c.property_holder.ensures.owns calls in
+    c.property_holder.ensures.owns.0 calls in
     let is_shape = c.shape_of-shape.ensures.shape heap state calls_then in
     let known : has_key state cell key ≡ false = key-found lists c.args.self.now.shapes c.shapes.ensures.lists c.shape_of-shape.result (state.cells cell).keys is_shape
     key None tt c.in_default.ensures.none in
@@ -39,9 +39,9 @@ returns-in_default-array_of-clause-refused g c = λ heap state calls.
     let lists = g.S.ShapeTable.lists c.shapes.result.now in
     let cell = c.in_ok-cell.cell in
     let held = g.O.OwnWords.owns c.property_holder.new.own c.args.context.now in
-    let calls_then = CallsIn-kept owns held c.args.self.now heap state c.property_holder.ensures.owns calls in
+    let calls_then = CallsIn-kept owns held c.args.self.now heap state c.property_holder.ensures.owns.0 calls in
     let calls_last = CallsIn-kept held (g.O.OwnWords.owns c.shape_of-shape.new.own c.args.context.now) c.args.self.now heap state
-    c.shape_of-shape.ensures.owns calls_then in
+    c.shape_of-shape.ensures.owns.0 calls_then in
     let same = keys_of-cell lists c.args.self.now.shapes c.shapes.ensures.lists c.shape_of-shape.result (state.cells cell).keys
     (c.shape_of-shape.ensures.shape heap state calls_then) in
     let there = subst (λ (ks : List ℕ). slice_get ks c.in-Some.place ≡ Some c.args.key) same c.in-Some.ensures.there in
@@ -57,9 +57,9 @@ returns-clause-property g c = λ heap state calls.
     let cell = c.in_ok-cell.cell in
     let key = c.args.key in
     let held = g.O.OwnWords.owns c.property_holder.new.own c.args.context.now in
-    let calls_then = CallsIn-kept owns held c.args.self.now heap state c.property_holder.ensures.owns calls in
+    let calls_then = CallsIn-kept owns held c.args.self.now heap state c.property_holder.ensures.owns.0 calls in
     let calls_last = CallsIn-kept held (g.O.OwnWords.owns c.shape_of-shape.new.own c.args.context.now) c.args.self.now heap state
-    c.shape_of-shape.ensures.owns calls_then in
+    c.shape_of-shape.ensures.owns.0 calls_then in
     let is_shape = c.shape_of-shape.ensures.shape heap state calls_then in
     let same = keys_of-cell lists c.args.self.now.shapes c.shapes.ensures.lists c.shape_of-shape.result (state.cells cell).keys is_shape in
     let there = subst (λ (ks : List ℕ). slice_get ks c.in-Some.place ≡ Some key) same c.in-Some.ensures.there in

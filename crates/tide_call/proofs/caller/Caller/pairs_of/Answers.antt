@@ -9,13 +9,13 @@ use Rattle.tide_call.proofs.plan_laws.OwnLaws.{claim-seen, claimed_word, owned-s
 use Rattle.tide_call.proofs.caller.Caller.pairs_of.Goals as goal
 
 pub loop-place-init : goal.loop-place-init
-loop-place-init g c = ((λ layout who heap owned. owned), refl, (λ heap state calls place below. absurd (omega (arith, below))))
+loop-place-init g c = (((λ layout who heap owned. owned), refl), refl, (λ heap state calls place below. absurd (omega (arith, below))))
 
 pub pair-requires-clause-known : goal.pair-requires-clause-known
 pair-requires-clause-known g c = (let (heap, state, calls) = c.requires.known in (
   heap,
   owned-seen (g.O.OwnWords.owns c.loop-place.own c.args.context.now) heap _ c.args.self.now c.self.view_is
-      (c.loop-place.invariant.0 c.args.self.now.layout c.args.self.now.who heap calls.owned),
+      (c.loop-place.invariant.0.0 c.args.self.now.layout c.args.self.now.who heap calls.owned),
 ))
 
 pub loop-place-preserved : goal.loop-place-preserved
@@ -25,12 +25,12 @@ loop-place-preserved g c =
     let is_at = c.from.ensures in
     let below = c.loop-place-test.true in
     let whole = c.loop-place.invariant.1 in (
-      (λ layout who heap owned. c.pair.ensures.owns layout who heap (c.loop-place.invariant.0 layout who heap owned)),
+      ((λ layout who heap owned. c.pair.ensures.owns.0 layout who heap (c.loop-place.invariant.0.0 layout who heap owned)), c.pair.ensures.owns.1 ∙ c.loop-place.invariant.0.1),
       length-set words at c.pair.result ∙ whole,
       (λ heap state calls place before. elim (cases_eq place at) [
         | inl same ↦
             let owned = owned-seen (g.O.OwnWords.owns c.loop-place.own c.args.context.now) heap _ c.args.self.now c.self.view_is
-            (c.loop-place.invariant.0 c.args.self.now.layout c.args.self.now.who heap calls.owned) in
+            (c.loop-place.invariant.0.0 c.args.self.now.layout c.args.self.now.who heap calls.owned) in
             let claimed = claim-seen heap c.args.table _ c.args.self.now c.self.view_is
             (claimed_word (g.O.OwnWords.owns c.args.own.now c.args.context.now) c.args.self.now heap state calls c.args.table c.requires.claimed c.requires.of_layout) in
             get_or-set_at words at place c.pair.result 0 same (omega (arith, whole, is_at, below))

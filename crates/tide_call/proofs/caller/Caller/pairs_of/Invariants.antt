@@ -2,12 +2,12 @@
 use Rattle.std.proofs.Common.{ℕ, ◌≡◌, ◌<◌, length}
 use Rattle.std.specs.Prelude.{slice_index}
 use Rattle.tide_words.specs.heap.Reading.{slot_word}
-use Rattle.tide_call.specs.Callers.{Always, KeepsOwn}
+use Rattle.tide_call.specs.Callers.{Always, LeavesOwn}
 use Rattle.tide_call.proofs.caller.Caller.pairs_of.Given as goal
 
 abbrev pub invariant-loop-place : goal.invariant-loop-place
 invariant-loop-place g l =
-    KeepsOwn (g.O.OwnWords.owns l.initial.own l.context) (g.O.OwnWords.owns l.own l.context)
+    LeavesOwn (g.O.OwnWords.owns l.initial.own) (g.O.OwnWords.owns l.own) l.context (g.O.OwnWords.rest l.initial.own) (g.O.OwnWords.rest l.own)
     × (length l.words ≡ 8)
     × Always (g.O.OwnWords.owns l.initial.own l.context) l.self (λ heap state. (place : ℕ) → place < l.place →
     slice_index l.words place ≡ slot_word l.self.layout heap l.table place)
