@@ -3,22 +3,25 @@ use Rattle.std.proofs.Common.{ℕ, ◌≡◌, ◌+◌, ◌<◌, refl, sym, ◌�
 use Rattle.std.proofs.lemmas.List.Folds.{list_any-append}
 use Rattle.std.specs.List.{list_any}
 use Rattle.std.specs.Prelude.{◌&&◌, ◌||◌, not}
-use Rattle.tide_layout.specs.declared.region.Region.TheVariants.{Colour, Phase}
+use Rattle.tide_layout.specs.declared.region.Region.{Region}
+use Rattle.tide_layout.specs.declared.region.Region.TheVariants.{Call as CallRegion, Colour, Period, Phase}
 use Rattle.tide_model.specs.declared.entry.Event.{Event}
 use Rattle.tide_model.specs.Cycle.{cycle_span}
 use Rattle.tide_model.specs.Graph.{IsRetained, graph_of, no_cell, retained_more}
 use Rattle.tide_model.specs.History.{is_begin, state_after}
 use Rattle.tide_model.specs.Layout.{Layout, cell_count}
+use Rattle.tide_model.specs.Refused.{ShapeLists}
 use Rattle.tide_model.specs.Since.{since, visits_in}
 use Rattle.tide_model.proofs.CountLaws.{count_where-wider}
 use Rattle.tide_model.proofs.NumberLaws.{count_where-same}
 use Rattle.tide_model.proofs.SinceLaws.{since-push, visits_since-push}
 use Rattle.tide_model.proofs.Spans.{cycle_span-push, graph_in_cycle_span}
 use Rattle.tide_words.specs.heap.Heap.{Heap, SameIn}
-use Rattle.tide_words.specs.marking.Colours.{IsBlack, IsMarked, IsMarkedWithin, black_count, is_black}
-use Rattle.tide_words.proofs.marking_laws.ColourLaws.{is_black-same, is_marked-same}
+use Rattle.tide_words.specs.marking.Colours.{IsBlack, IsMarked, IsMarkedWithin, black_count, is_black, is_marking}
+use Rattle.tide_words.proofs.marking_laws.ColourLaws.{is_black-same, is_marked-same, is_marking-same, running_cycle-same}
+use Rattle.tide_words.proofs.marking_laws.MarkingLaws.{Marking-same}
 use Rattle.tide_solver.specs.Traced.{IsReached}
-use Rattle.tide_core.specs.FrozenWave.{BlackIsCounted, BornIsMarked, MarkedIsRetained, is_birth_of, is_born_in_cycle}
+use Rattle.tide_core.specs.FrozenWave.{BlackIsCounted, BornIsMarked, FrozenWave, MarkedIsRetained, is_birth_of, is_born_in_cycle}
 
 -- the event begins no cycle, and no cell is born at it
 pub record IsQuiet (event : Event) : Type 0 where
@@ -93,3 +96,28 @@ BlackIsCounted-push layout old new history event quiet grow counted =
     (λ cell within. ap (λ (born : Bool). is_black new cell && not born) (born-push history event quiet cell)) in
     let visits = visits_since-push is_begin history event quiet.goes_on in
     omega (arith, counted, wider, blackened, same, visits)
+
+-- The wave speaks of the words of the layout alone: it holds of any other heap that has the same ones.
+pub FrozenWave-same : (layout : Layout) (shapes : ShapeLists) (old new : Heap) (history : List Event) →
+    ((region : Region) → SameIn layout region old new) → FrozenWave layout shapes old history →
+    FrozenWave layout shapes new history
+FrozenWave-same layout shapes old new history same wave = record {
+  marking = Marking-same layout shapes old new (state_after layout history) [] same wave.marking;
+  cycle = running_cycle-same layout old new (same Phase) ∙ wave.cycle;
+  period = same Period 0 (omega arith) ∙ wave.period;
+  calls = λ who within. same CallRegion who within ∙ wave.calls who within;
+  retained = λ marks cell within marked. wave.retained (before marks) cell within
+      (sym (is_marked-same layout old new cell (same Phase) (same Colour) within) ∙ marked);
+  born = λ marks cell within born.
+      is_marked-same layout old new cell (same Phase) (same Colour) within ∙ wave.born (before marks) cell within born;
+  counted = λ marks.
+      let few = wave.counted (before marks) in
+      let count = count_where-same (λ cell. is_black new cell && not (is_born_in_cycle history cell))
+      (λ cell. is_black old cell && not (is_born_in_cycle history cell)) (cell_count layout)
+      (λ cell within. ap (λ (black : Bool). black && not (is_born_in_cycle history cell))
+      (is_black-same layout old new cell (same Phase) (same Colour) within)) in
+      omega (arith, few, count);
+}
+  where
+    before : is_marking new ≡ true → is_marking old ≡ true
+    before marks = sym (is_marking-same layout old new (same Phase)) ∙ marks
