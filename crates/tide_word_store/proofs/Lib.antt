@@ -1,0 +1,5 @@
+pub mod ActingLaws
+pub mod ClaimWords
+pub mod CopyLaws
+pub mod PlansFit
+pub mod TakenLaws
