@@ -46,7 +46,7 @@ some_claim layout shapes heap state cell limits own reads within = by_holders (n
         )
       where
         first_is_among : (one : ℕ) (rest : List ℕ) → is_among (one ∷ rest) one ≡ true
-        first_is_among one rest = among_from_contains (one ∷ rest) one search
+        first_is_among one rest = among_from_contains (one ∷ rest) one (0, omega arith, refl)
 
         small : (one by : ℕ) → one ≡ by → one < 17 → by < 2 ^ 32
         small one by same few = omega (arith, same, few)

@@ -1,4 +1,5 @@
 pub mod ActingLaws
+pub mod CallLaws
 pub mod ClaimWords
 pub mod CopyLaws
 pub mod PlansFit

@@ -156,7 +156,7 @@ module _ (caller : Caller) (heap : Heap) (state : State) (limits : IsWithinLimit
       fits_as does _ is (reads.parts.claimed caller.who cell (subst (λ (claims : List ℕ). Contains claims cell) (sym (is_caller.claims ∙ are)) first))
     where
       first : Contains (cell ∷ others) cell
-      first = search
+      first = (0, omega arith, refl)
   granted-fits (Add src key val) does fits none (addition, holds, of, so) = add src key val addition does holds of so
   granted-fits (GetProp dst src key) does fits none (cell, array, holds, has, inside, is) =
       fits_as does _ is (fits.0, inside, element_value src key cell array holds has none)

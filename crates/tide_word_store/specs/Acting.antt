@@ -34,9 +34,9 @@ HasAppended layout old new addition array value =
     × IsWritten layout old stored Elements (index_of_element layout array addition.count) (val_word value)
     × IsWritten layout stored new Structure addition.cell (whole_word addition.next (addition.count + 1))
 
--- what a call leaves of its mutator's claims, by its plan
-abbrev pub claims_after : Op → Plan → Reply → List ℕ → List ℕ
-claims_after (Claim src) (plan.Claim cell full) Done claims = claims ++ cell ∷ []
-claims_after (Release src) (plan.Release cell) Done claims = filter (λ claimed. not (claimed == cell)) claims
-claims_after Unclaim does Done claims = drop 1 claims
-claims_after op does reply claims = claims
+-- what a call leaves of its mutator's claims, by its reply and its plan
+abbrev pub claims_after : Reply → Op → Plan → List ℕ → List ℕ
+claims_after Done (Claim src) (plan.Claim cell full) claims = claims ++ cell ∷ []
+claims_after Done (Release src) (plan.Release cell) claims = filter (λ claimed. not (claimed == cell)) claims
+claims_after Done Unclaim does claims = drop 1 claims
+claims_after reply op does claims = claims

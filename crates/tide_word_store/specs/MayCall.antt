@@ -12,12 +12,12 @@ use Rattle.tide_words.specs.marking.Marking.{Marking}
 
 -- The words read as the state and meet marking, and no two mutators claim a cell. The mutator is one of the layout and
 -- active, has these claims, and retires only without any; the operation's numbers are those of the layout.
-pub record MayCall (layout : Layout) (shapes : ShapeLists) (heap : Heap) (claims : List ℕ) (who : ℕ) (op : Op)
+pub record MayCall (layout : Layout) (shapes : ShapeLists) (heap : Heap) (held : List ℕ) (who : ℕ) (op : Op)
     (state : State) : Type 0 where
   pub marking : Marking layout shapes heap state []
   pub own : ClaimsAreOwn layout state
   pub is_mutator : who < layout.mutators
   pub is_active : state.active who ≡ true
-  pub claims : state.claims who ≡ claims
+  pub claims : state.claims who ≡ held
   pub fits : FitsLayout layout op
   pub released : op ≡ Retire → state.claims who ≡ []

@@ -8,6 +8,7 @@
 mod acting;
 mod barrier;
 mod births;
+mod calling;
 mod cells;
 mod fields;
 mod growing;
@@ -17,3 +18,4 @@ mod storing;
 mod taking;
 
 pub use acting::Called;
+pub use calling::call;

@@ -35,7 +35,7 @@ returns-then-full-clause-acts g c =
     let words = g.W.Words.words c.args.words.now in
     let old = heap_of layout words in
     let word : c.load.result ≡ old Claim c.args.cell = c.load.ensures.word ∙ ap (slice_index words) c.place.ensures.place in
-    let free = no_holder (old Claim c.args.cell) c.load.result word c.in-None.ensures.none c.requires.fits.1 in
+    let free = no_holder (old Claim c.args.cell) c.load.result word c.in_default.ensures.none c.requires.fits.1 in
     subst (λ (list : List ℕ). Acts layout old (heap_of layout list) c.args.who (plan.Claim c.args.cell c.args.full) c.refused-then-full.result.reply c.refused-then-full.result.took)
     (sym c.load.ensures.same)
     (acts_as layout old old old c.args.who (plan.Claim c.args.cell c.args.full) (Refused ClaimsFull) _ None _ c.refused-then-full.ensures.reply c.refused-then-full.ensures.took
@@ -48,7 +48,7 @@ returns-clause-acts g c =
     let old = heap_of layout words in
     let new = heap_of layout (g.W.Words.words c.store_word.new.words) in
     let word : c.load.result ≡ old Claim c.args.cell = c.load.ensures.word ∙ ap (slice_index words) c.place.ensures.place in
-    let free = no_holder (old Claim c.args.cell) c.load.result word c.in-None.ensures.none c.requires.fits.1 in
+    let free = no_holder (old Claim c.args.cell) c.load.result word c.in_default.ensures.none c.requires.fits.1 in
     let written = subst (λ (list : List ℕ). IsWritten layout (heap_of layout list) new Claim c.args.cell c.claim_word.result) c.load.ensures.same c.store_word.ensures.written in
     acts_as layout old new new c.args.who (plan.Claim c.args.cell c.args.full) Done _ None _ c.plain.ensures.reply c.plain.ensures.took
     (refl, free, c.if-full.false, written_as layout old new Claim c.args.cell _ (claim_word (Some c.args.who)) c.claim_word.ensures written) (unwritten layout new)

@@ -15,4 +15,4 @@ returns-clause-acts g c = λ who.
     let old = heap_of layout (g.W.Words.words c.args.words.now) in
     let new = heap_of layout (g.W.Words.words c.store_word.new.words) in
     acts_as layout old new new who (plan.Join c.args.cell c.args.group) Done _ None _ c.plain.ensures.reply c.plain.ensures.took
-    (refl, c.store_word.ensures.written) (unwritten layout new)
+    (refl, written_as layout old new region.Group c.args.cell _ c.args.group c.from.ensures c.store_word.ensures.written) (unwritten layout new)

@@ -17,12 +17,12 @@ shade_for-requires-clause-few g c =
     let now = heap_of layout (g.W.Words.words c.grow.new.words) in
     few-same layout old now (c.in-Some.ensures.grown.others Phase refl) c.requires.few
 
-pub returns-in-None-clause-acts : goal.returns-in-None-clause-acts
-returns-in-None-clause-acts g c = λ who.
+pub returns-in_default-clause-acts : goal.returns-in_default-clause-acts
+returns-in_default-clause-acts g c = λ who.
     let layout = c.args.layout.now in
     let old = heap_of layout (g.W.Words.words c.args.words.now) in
     subst (λ (list : List _). Acts layout old (heap_of layout list) who (plan.Grow c.args.addition c.args.array c.args.class c.args.value) c.refused.result.reply c.refused.result.took)
-    (sym c.in-None.ensures.same)
+    (sym c.in_default.ensures.same)
     (acts_as layout old old old who (plan.Grow c.args.addition c.args.array c.args.class c.args.value) (Refused (Full c.args.class)) _ None _ c.refused.ensures.reply c.refused.ensures.took
     (refl, refl, unwritten layout old) (unwritten layout old))
 

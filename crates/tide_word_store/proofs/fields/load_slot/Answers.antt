@@ -10,14 +10,14 @@ use Rattle.tide_word_store.specs.Needed.{IsSomeValue}
 use Rattle.tide_word_store.proofs.ActingLaws.{acts_as, unwritten}
 use Rattle.tide_word_store.proofs.fields.load_slot.Goals as goal
 
-pub show-requires-value : goal.show-requires-value
-show-requires-value g c = subst (λ (at : ℕ). IsSomeValue (slice_index (g.W.Words.words c.args.words.now) at)) (sym c.slot.ensures.place) c.requires.fits.2
+pub show-value-requires-clause-value : goal.show-value-requires-clause-value
+show-value-requires-clause-value g c = subst (λ (at : ℕ). IsSomeValue (slice_index (g.W.Words.words c.args.words.now) at)) (sym c.slot.ensures.place) c.requires.fits.2
 
 pub returns-clause-acts : goal.returns-clause-acts
 returns-clause-acts g c =
     let layout = c.args.layout.now in
     let old = heap_of layout (g.W.Words.words c.args.words.now) in
-    let new = heap_of layout (g.W.Words.words c.show.new.words) in
-    acts_as layout old new new c.args.who (plan.LoadSlot c.args.dst c.args.cell c.args.slot) (Seen c.show.result) _ None _ c.plain.ensures.reply c.plain.ensures.took
-    (refl, subst (λ (at : ℕ). IsValueOf c.show.result (slice_index (g.W.Words.words c.args.words.now) at)) c.slot.ensures.place c.show.ensures.value, c.show.ensures.fills)
+    let new = heap_of layout (g.W.Words.words c.show-value.new.words) in
+    acts_as layout old new new c.args.who (plan.LoadSlot c.args.dst c.args.cell c.args.slot) (Seen c.show-value.result) _ None _ c.plain.ensures.reply c.plain.ensures.took
+    (refl, subst (λ (at : ℕ). IsValueOf c.show-value.result (slice_index (g.W.Words.words c.args.words.now) at)) c.slot.ensures.place c.show-value.ensures.value, c.show-value.ensures.fills)
     (unwritten layout new)

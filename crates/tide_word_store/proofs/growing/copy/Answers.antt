@@ -1,12 +1,13 @@
 -- Why `copy` meets its contract.
 use Rattle.std.proofs.Common.{rules, ℕ, ◌≡◌, ◌+◌, ◌<◌, ◌≤◌, ◌∙◌, refl, sym, ap, subst, arith, List, length, Option, None, Some}
-use Rattle.std.specs.Prelude.{slice_index}
+use Rattle.std.specs.Prelude.{IfSome, slice_index}
 use Rattle.tide_layout.specs.declared.region.Region.TheVariants.{Elements}
 use Rattle.tide_layout.specs.Slots.{HasElement, index_of_element, width_of_array, width_of_class}
-use Rattle.tide_model.specs.Layout.{Layout}
+use Rattle.tide_model.specs.Layout.{array_count}
 use Rattle.tide_words.specs.heap.Heap.{heap_of}
 use Rattle.tide_words.specs.heap.Reading.{element_word}
 use Rattle.tide_words.specs.heap.Written.{IsWritten}
+use Rattle.tide_call.specs.Grown.{AreCopied}
 use Rattle.tide_word_store.proofs.CopyLaws.{copied-all, copied-more, copied-none, copied-start}
 use Rattle.tide_word_store.proofs.growing.copy.Goals as goal
 
@@ -37,7 +38,7 @@ loop-place-preserved g c =
     c.load-word.ensures.word ∙ ap (slice_index at_hand) c.element.ensures.place in
     let class = c.class_of_array.ensures.class in
     let wide = c.width.ensures.width ∙ ap width_of_class class in
-    let has_from : HasElement layout c.in-Some.from place = record { array_within = c.in-Some.requires.within; element_within = omega (arith, wide) } in
+    let has_from : HasElement layout c.in-Some.from place = record { array_within = subst (λ (array : Option ℕ). IfSome array (λ from. from < array_count layout)) c.in-Some.is c.requires.within; element_within = omega (arith, wide) } in
     let has : HasElement layout c.args.taken place = record { array_within = c.requires.taken_within; element_within = (let holds = c.requires.holds in omega (arith, holds)) } in
     record {
       all_words = c.store_element.ensures.all_words;
@@ -61,6 +62,7 @@ returns-clause-copied g c =
     let new = heap_of layout (g.W.Words.words c.loop-place.words) in
     let class = c.class_of_array.ensures.class in
     let wide = c.width.ensures.width ∙ ap width_of_class class in
-    copied-all layout old new c.in-Some.from c.args.taken c.loop-place.place c.args.count
+    subst (λ (array : Option ℕ). AreCopied layout old new array c.args.taken c.args.count) (sym c.in-Some.is)
+    (copied-all layout old new c.in-Some.from c.args.taken c.loop-place.place c.args.count
     (λ place has before. (let inside = has.element_within in omega (arith, wide, inside, before)))
-    c.loop-place.invariant.copied.copied
+    c.loop-place.invariant.copied.copied)

@@ -10,7 +10,7 @@ use Rattle.tide_word_store.proofs.ActingLaws.{acts_as, unwritten, written_as}
 use Rattle.tide_word_store.proofs.roots.show_value.Goals as goal
 
 pub returns-clause-acts : goal.returns-clause-acts
-returns-clause-acts g c = 
+returns-clause-acts g c =
     let layout = c.args.layout.now in
     let old = heap_of layout (g.W.Words.words c.args.words.now) in
     let new = heap_of layout (g.W.Words.words c.fill.new.words) in
