@@ -1,3 +1,4 @@
+pub mod Acting
 pub mod Callers
 pub mod CallWords
 pub mod Grown

@@ -1,3 +1,4 @@
+pub mod Called
 pub mod Entered
 pub mod FrozenWave
 pub mod Laws
