@@ -1,0 +1,6 @@
+-- The lemmas of this crate.
+pub mod Cycling
+pub mod Ending
+pub mod Opening
+pub mod Sweeping
+pub mod Telling
