@@ -43,7 +43,9 @@ impl<'a, S: ShapeTable> Model for Caller<'a, S> {
 impl<'a, S: ShapeTable> Caller<'a, S> {
     /// The mutator with this number.
     pub fn new(who: u32, layout: &'a Layout, shapes: &'a S, claims: &'a Claims) -> Self
-        ensures { result ≡ record { layout = layout.now; shapes = S.lists shapes.now; who = who; claims = claims.now } }
+        ensures caller { result ≡
+            record { layout = layout.now; shapes = S.lists shapes.now; who = who; claims = claims.now } }
+        ensures table { IsShapeTable result.shapes }
     {
         Caller {
             who,

@@ -1,0 +1,6 @@
+pub mod ActingLaws
+pub mod CallLaws
+pub mod ClaimWords
+pub mod CopyLaws
+pub mod PlansFit
+pub mod TakenLaws

@@ -1,0 +1,18 @@
+-- Why `retire` meets its contract.
+use Rattle.std.proofs.Common.{refl}
+use Rattle.std.specs.Prelude.{None}
+use Rattle.tide_layout.specs.declared.region.Region.TheVariants as region
+use Rattle.tide_model.specs.declared.op.Reply.TheVariants.{Done}
+use Rattle.tide_words.specs.forms.ValueWord.{val_word}
+use Rattle.tide_words.specs.heap.Heap.{heap_of}
+use Rattle.tide_call.specs.declared.plan.Plan.TheVariants as plan
+use Rattle.tide_word_store.proofs.ActingLaws.{acts_as, unwritten}
+use Rattle.tide_word_store.proofs.roots.retire.Goals as goal
+
+pub returns-clause-acts : goal.returns-clause-acts
+returns-clause-acts g c =
+    let layout = c.args.layout.now in
+    let old = heap_of layout (g.W.Words.words c.args.words.now) in
+    let new = heap_of layout (g.W.Words.words c.store_word.new.words) in
+    acts_as layout old new new c.args.who (plan.Retire) Done _ None _ c.plain.ensures.reply c.plain.ensures.took
+    (refl, c.store_word.ensures.written) (unwritten layout new)

@@ -1,0 +1,4 @@
+pub mod Acting
+pub mod MayCall
+pub mod Needed
+pub mod Taken

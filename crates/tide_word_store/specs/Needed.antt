@@ -1,0 +1,66 @@
+-- What acting on a plan needs of the words.
+use Rattle.std.specs.Prelude.{ℕ, ◌≡◌, ◌<◌, ◌≤◌, ◌^◌, Option, Some, IfSome}
+use Rattle.tide_layout.specs.declared.region.Region.TheVariants.{Claim as ClaimRegion, Strong, Weak}
+use Rattle.tide_layout.specs.Slots.{HasElement, HasSlot, width_of_class}
+use Rattle.tide_model.specs.declared.val.Val.{Val}
+use Rattle.tide_model.specs.Layout.{Layout, array_count, cell_count}
+use Rattle.tide_words.specs.forms.PairWord.{max_cells}
+use Rattle.tide_words.specs.forms.Reference.{claim_word}
+use Rattle.tide_words.specs.heap.Heap.{Heap}
+use Rattle.tide_words.specs.heap.Reading.{IsValueOf, element_word, slot_word}
+use Rattle.tide_call.specs.declared.additions.Addition.{Addition}
+use Rattle.tide_call.specs.declared.plan.Plan.{Plan}
+use Rattle.tide_call.specs.declared.plan.Plan.TheVariants as plan
+
+-- the word is that of some value
+abbrev pub IsSomeValue : ℕ → Type 0
+IsSomeValue word = (value : Val) × IsValueOf value word
+
+-- the word is that of a claim, or of none
+abbrev pub IsSomeClaim : ℕ → Type 0
+IsSomeClaim word = (holder : Option ℕ) × ((by : ℕ) → holder ≡ Some by → by < 2 ^ 32) × (word ≡ claim_word holder)
+
+-- the array has an element for the property that is added
+pub record HasRoomFor (layout : Layout) (addition : Addition) (array : ℕ) : Type 0 where
+  pub cell_within : addition.cell < cell_count layout
+  pub few : addition.count < 64
+  pub element : HasElement layout array addition.count
+
+-- an array of the class has an element for the property that is added, and the cell's array, if it has one, is one of the
+-- layout
+pub record MayGrow (layout : Layout) (addition : Addition) (array : Option ℕ) (class : ℕ) : Type 0 where
+  pub cell_within : addition.cell < cell_count layout
+  pub few : addition.count < 64
+  pub smallest : 5 ≤ class
+  pub largest : class < 10
+  pub holds : addition.count < width_of_class class
+  pub array_within : IfSome array (λ from. from < array_count layout)
+
+-- the plan's numbers are those of the layout, and the words that it loads are of some value
+abbrev pub FitsPlan : Layout → Heap → Plan → Type 0
+FitsPlan layout heap (plan.Refuse refusal) = Unit {0}
+FitsPlan layout heap (plan.Take dst class) = (dst < layout.registers) × (class < 5)
+FitsPlan layout heap (plan.LoadSlot dst cell slot) =
+    (dst < layout.registers) × HasSlot layout cell slot × IsSomeValue (slot_word layout heap cell slot)
+FitsPlan layout heap (plan.StoreSlot cell slot value) = HasSlot layout cell slot
+FitsPlan layout heap (plan.Fill dst value) = dst < layout.registers
+FitsPlan layout heap (plan.Show dst value) = dst < layout.registers
+FitsPlan layout heap (plan.Claim cell full) = (cell < cell_count layout) × IsSomeClaim (heap ClaimRegion cell)
+FitsPlan layout heap (plan.Release cell) = cell < cell_count layout
+FitsPlan layout heap (plan.LoadElement dst array place) =
+    (dst < layout.registers) × HasElement layout array place × IsSomeValue (element_word layout heap array place)
+FitsPlan layout heap (plan.StoreElement cell array place value) =
+    (cell < cell_count layout) × HasElement layout array place
+FitsPlan layout heap (plan.Append addition array value) = HasRoomFor layout addition array
+FitsPlan layout heap (plan.Grow addition array class value) = MayGrow layout addition array class
+FitsPlan layout heap (plan.StoreStrong at value) = at < layout.strong
+FitsPlan layout heap (plan.LoadStrong dst at) =
+    (dst < layout.registers) × (at < layout.strong) × IsSomeValue (heap Strong at)
+FitsPlan layout heap (plan.StoreWeak at value) = at < layout.weak
+FitsPlan layout heap (plan.LoadWeak dst at) =
+    (dst < layout.registers) × (at < layout.weak) × IsSomeValue (heap Weak at)
+FitsPlan layout heap (plan.StorePair table place key value) = HasSlot layout table place × (key < max_cells)
+FitsPlan layout heap (plan.ClearPair table place) = HasSlot layout table place
+FitsPlan layout heap (plan.Join cell group) = cell < cell_count layout
+FitsPlan layout heap plan.Ask = Unit {0}
+FitsPlan layout heap plan.Retire = Unit {0}
