@@ -1,4 +1,5 @@
 -- The lemmas of this crate.
+pub mod Calling
 pub mod Cycling
 pub mod Ending
 pub mod Opening

@@ -28,7 +28,7 @@ use Rattle.tide_periods.specs.declared.told.Told.{Told}
 use Rattle.tide_periods.specs.Recorded.{IsAtRest}
 use Rattle.tide_periods.specs.Told.{events_of}
 use Rattle.tide_periods.proofs.Starting.{IsAtRest-nothing}
-use Rattle.tide_recording.specs.Kept.{HoldsClaims}
+use Rattle.tide_recording.specs.Kept.{HoldsClaims, recorded_of}
 
 -- words that read as the empty heap meet the wave of the empty history
 pub FrozenWave-fresh : (layout : Layout) (shapes : ShapeLists) (words : List ℕ) → Reads layout words empty_heap →
@@ -78,25 +78,9 @@ HoldsClaims-nothing layout claims are = record {
 
 -- what is recorded before anything was run is at rest
 pub IsAtRest-fresh : (layout : Layout) (shapes : ShapeLists) (told : List Told) → told ≡ [] →
-    IsAtRest (record {
-      setting = record { layout = layout; shapes = shapes };
-      state = state_after layout (events_of told);
-      told = told;
-      history = events_of told;
-      cycles = begin_count (events_of told);
-      parts = open_count (events_of told);
-      blocks = block_count layout;
-    })
+    IsAtRest (recorded_of layout shapes told)
 IsAtRest-fresh layout shapes told none =
-    subst (λ (told : List Told). IsAtRest (record {
-      setting = record { layout = layout; shapes = shapes };
-      state = state_after layout (events_of told);
-      told = told;
-      history = events_of told;
-      cycles = begin_count (events_of told);
-      parts = open_count (events_of told);
-      blocks = block_count layout;
-    })) (sym none)
+    subst (λ (all : List Told). IsAtRest (recorded_of layout shapes all)) (sym none)
     (IsAtRest-nothing (record { layout = layout; shapes = shapes }) empty_state (block_count layout) refl refl)
 
 -- one more mutator without claims

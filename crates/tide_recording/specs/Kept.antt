@@ -1,6 +1,5 @@
 -- What holds of words that keep a history.
 use Rattle.std.specs.Prelude.{ℕ, ◌≡◌, ◌≤◌, List, [], length, slice_get, Some}
-use Rattle.tide_layout.specs.Limits.{IsWithinLimits}
 use Rattle.tide_layout.specs.Region.{block_count, word_count}
 use Rattle.tide_model.specs.declared.entry.Event.{Event}
 use Rattle.tide_model.specs.Cycle.{begin_count}
@@ -50,22 +49,24 @@ pub record HoldsClaims (layout : Layout) (state : State) (claims : List (List �
   pub one_each : length claims ≡ layout.mutators
   pub are : (who : ℕ) (own : List ℕ) → slice_get claims who ≡ Some own → state.claims who ≡ own
 
--- the store has its room in a layout within its limits, its words meet the wave of its history, and its lists are the
--- mutators' claims
+-- the store has its room, its words meet the wave of its history, and its lists are the mutators' claims
 pub record StandsWhole (store : RecordedWords) : Type 0 where
-  pub limits : IsWithinLimits store.layout
   pub ready : HasRoom store
   pub wave : FrozenWave store.layout (lists_of store.shapes) (heap_in store) (history_in store)
   pub claims : HoldsClaims store.layout (state_in store) store.claims.items
 
+-- what a run sees of a store of this layout and with these shapes, of which this was told
+abbrev pub recorded_of : Layout → ShapeLists → List Told → Recorded
+recorded_of layout shapes told = record {
+  setting = record { layout = layout; shapes = shapes };
+  state = state_after layout (events_of told);
+  told = told;
+  history = events_of told;
+  cycles = begin_count (events_of told);
+  parts = open_count (events_of told);
+  blocks = block_count layout;
+}
+
 -- what a run sees of the store
 abbrev pub recorded_in : RecordedWords → Recorded
-recorded_in store = record {
-  setting = record { layout = store.layout; shapes = lists_of store.shapes };
-  state = state_in store;
-  told = store.told.items;
-  history = history_in store;
-  cycles = begin_count (history_in store);
-  parts = open_count (history_in store);
-  blocks = block_count store.layout;
-}
+recorded_in store = recorded_of store.layout (lists_of store.shapes) store.told.items

@@ -14,6 +14,7 @@ use std::thread::Threads;
 use tide_model::{Memory, Op, Turnstile};
 use tide_periods::{Pacing, Recorder, Recording, operations_in, run_on};
 use tide_plain::PlainStore;
+use tide_recording::RecordedWords;
 use tide_workload::Workload;
 
 /// Runs a workload's scripts on a store of its layout and shapes, on which nothing was run yet.
@@ -60,8 +61,8 @@ pub fn plain(alloc: Global, load: &Workload) -> Result<Outcome, Memory>
     Ok(outcome)
 }
 
-/// Runs a workload with up to 8 visitors. No visitor is started and no thread yet, so the number says nothing of the
-/// run, and the turnstile is met by nobody: the run is that of `plain`.
+/// Runs a workload on a store of words, in the same periods, with up to 8 visitors. No visitor is started and no thread
+/// yet, so the number says nothing of the run, and the turnstile is met by nobody.
 pub fn run<R: Threads + Sync, T: Turnstile>(
     rt: &R,
     alloc: Global,
@@ -75,5 +76,11 @@ pub fn run<R: Threads + Sync, T: Turnstile>(
     let _ = rt;
     let _ = visitors;
     let _ = gate;
-    plain(alloc, load)
+    let layout = layout_with(load.settings(), load.mutators());
+    let shapes = shapes_from(alloc, load.paths())?;
+    let scripts = copied_scripts(alloc, load)?;
+    let room = operations_in(scripts.as_slice());
+    let recorder = RecordedWords::new(alloc, layout, shapes, room)?;
+    let outcome = run_with(alloc, load, scripts, recorder)?;
+    Ok(outcome)
 }

@@ -1,10 +1,10 @@
 -- Answers to the goals of runs::plain.
-use Rattle.std.proofs.Common.{◌≡◌, ◌∙◌, sym, ap}
+use Rattle.std.proofs.Common.{◌∙◌, sym, ap}
 use Rattle.tide_layout.specs.Region.{block_count}
 use Rattle.tide_periods.specs.Store.{Setting}
 use Rattle.tide_shape.specs.Shapes.{shapes_of_paths}
 use Rattle.tide_workload.specs.Words.{Settings}
-use Rattle.tide_run.specs.Runs.{layout_of_work, layout_with}
+use Rattle.tide_run.specs.Runs.{layout_with}
 use Rattle.tide_run.proofs.runs.plain.Goals as goal
 
 pub new-requires-2-clause-blocks : goal.new-requires-2-clause-blocks

@@ -19,7 +19,6 @@ returns-clause-stands c =
     let claims = c.in_ok-claims.claims.items in
     let none = c.in_ok-told.ensures in
     record {
-      limits = c.cells.ensures.limits;
       ready = record {
         all_words = c.in_ok-words.ensures.all_words;
         empty = ap (λ (greys : Greys). greys.cells) c.in_ok-greys.ensures;

@@ -56,7 +56,6 @@ returns-clause-stands c =
     (subst (λ (words : List ℕ). HasOpened layout (heap_of layout words) new c.from.result) c.load-last.ensures.same
     (HasOpened-written layout (heap_of layout c.load-last.new.self) new c.from.result c.store_word.ensures.written)) in
     record {
-      limits = stands.limits;
       ready = record { all_words = c.store_word.ensures.all_words; empty = stands.ready.empty; room = stands.ready.room };
       wave = subst (FrozenWave layout (lists_of self.shapes) new) (sym history)
           (FrozenWave-opened layout (lists_of self.shapes) old new (history_in self) c.args.run stands.wave
