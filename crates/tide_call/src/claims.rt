@@ -37,6 +37,13 @@ impl Claims {
         self.cells.contains(&cell)
     }
 
+    /// How many cells are claimed.
+    pub fn len(&self) -> u32
+        ensures { result ≡ length self.now }
+    {
+        self.cells.len() as u32
+    }
+
     /// Whether no more cells may be claimed.
     pub fn is_full(&self) -> bool
         ensures { result ≡ nat_le claims_most (length self.now) }

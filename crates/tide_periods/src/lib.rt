@@ -1,8 +1,8 @@
 //! A run of mutators in periods, over any store: running parts, and the freezes between them in which cycles run.
 //!
 //! It knows no workload and no text. What it is handed are scripts, a store and the numbers of a period; what it gives
-//! back is the history, told event by event, and each mutator's calls. `Store` is what a run asks of a store, and the
-//! plain store is the first that meets it.
+//! back is the history, told event by event, and each mutator's calls. `Recorder` is what a run asks of a store: that it
+//! keeps the history of what was run on it. `Recording` is one over any `Store`, and the plain store is the first such.
 #![tactic(auto)]
 
 mod caller;
@@ -16,6 +16,8 @@ mod store;
 mod told;
 
 pub use periods::Pacing;
-pub use run::{Finished, run_on};
+pub use recorder::Recorder;
+pub use recording::Recording;
+pub use run::{Finished, operations_in, run_on};
 pub use store::Store;
 pub use told::{Answered, Told};

@@ -17,8 +17,10 @@ pub(crate) fn run_share<T: Recorder>(
     run: u32,
 ) -> Result<bool, Memory>
     requires at_rest { IsAtRest (T.recorded recorder.old) }
+    requires stands { T.stands recorder.old }
     requires caller { IsCaller (T.recorded recorder.old) caller.old }
     ensures ran { IfOk result (RanShare (T.recorded recorder.old) (T.recorded recorder.new) run caller.old.who) }
+    ensures stands { IfOk result (λ ended. T.stands recorder.new) }
     ensures caller { IfOk result (λ ended. IsCaller (T.recorded recorder.new) caller.new) }
     ensures who { IfOk result (λ ended. caller.new.who ≡ caller.old.who) }
     ensures ops { IfOk result (λ ended. caller.new.ops ≡ caller.old.ops) }
@@ -48,8 +50,10 @@ pub(crate) fn run_part<T: Recorder>(
     run: u32,
 ) -> Result<bool, Memory>
     requires at_rest { IsAtRest (T.recorded recorder.old) }
+    requires stands { T.stands recorder.old }
     requires callers { AreCallers (T.recorded recorder.old) callers.old }
     ensures ran { IfOk result (RanPart (T.recorded recorder.old) (T.recorded recorder.new) run) }
+    ensures stands { IfOk result (λ ended. T.stands recorder.new) }
     ensures callers { IfOk result (λ ended. AreCallers (T.recorded recorder.new) callers.new) }
     ensures scripts { IfOk result (λ ended. scripts_of callers.new ≡ scripts_of callers.old) }
     ensures left { IfOk result (λ ended.

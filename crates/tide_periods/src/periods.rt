@@ -34,8 +34,10 @@ pub(crate) fn freeze<T: Recorder>(
     alloc: Global,
 ) -> Result<(), Memory>
     requires at_rest { IsAtRest (T.recorded recorder.old) }
-    requires room { (T.recorded recorder.old).cycles < 2 ^ 64 - 1 }
-    ensures { OnOk result (RanFreeze (T.recorded recorder.old) (T.recorded recorder.new) is_must) }
+    requires stands { T.stands recorder.old }
+    requires room { (T.recorded recorder.old).cycles < 2 ^ 60 }
+    ensures ran { OnOk result (RanFreeze (T.recorded recorder.old) (T.recorded recorder.new) is_must) }
+    ensures stands { OnOk result (T.stands recorder.new) }
 {
     if is_must {
         recorder.cycle(alloc)?;
@@ -51,12 +53,14 @@ pub(crate) fn run_period<T: Recorder>(
     alloc: Global,
 ) -> Result<(), Memory>
     requires at_rest { IsAtRest (T.recorded recorder.old) }
+    requires stands { T.stands recorder.old }
     requires callers { AreCallers (T.recorded recorder.old) callers.old }
     requires goes_on { is_over (T.recorded recorder.old).setting.layout (T.recorded recorder.old).history ≡ false }
-    requires room { (T.recorded recorder.old).cycles < 2 ^ 64 - 1 }
+    requires room { (T.recorded recorder.old).cycles < 2 ^ 60 }
     requires few { (T.recorded recorder.old).parts < 2 ^ 32 - 1 }
     requires pacing { 0 < pacing.period }
     ensures ran { OnOk result (RanPeriod (T.recorded recorder.old) (T.recorded recorder.new) (pace_of pacing)) }
+    ensures stands { OnOk result (T.stands recorder.new) }
     ensures left { OnOk result
         (total_left (T.recorded recorder.new) callers.new < total_left (T.recorded recorder.old) callers.old) }
     ensures callers { OnOk result (AreCallers (T.recorded recorder.new) callers.new) }
@@ -77,6 +81,7 @@ pub(crate) fn run_periods<T: Recorder>(
     alloc: Global,
 ) -> Result<(), Memory>
     requires at_rest { IsAtRest (T.recorded recorder.old) }
+    requires stands { T.stands recorder.old }
     requires callers { AreCallers (T.recorded recorder.old) callers.old }
     requires nothing { (T.recorded recorder.old).history ≡ [] }
     requires pacing { 0 < pacing.period }
@@ -85,6 +90,7 @@ pub(crate) fn run_periods<T: Recorder>(
     requires room { total_left (T.recorded recorder.old) callers.old < 2 ^ 32 - 1 }
     requires some { 0 < length callers.old }
     ensures ran { OnOk result (RanAll (T.recorded recorder.new) (pace_of pacing) callers.new) }
+    ensures stands { OnOk result (T.stands recorder.new) }
     ensures same { OnOk result ((T.recorded recorder.new).setting ≡ (T.recorded recorder.old).setting) }
     ensures scripts { OnOk result (scripts_of callers.new ≡ scripts_of callers.old) }
 {

@@ -1,7 +1,9 @@
 //! A store with the history of what was run on it, as a part and a freeze use it.
 ghost use Rattle.std.specs.Prelude.{◌≡◌, ◌-◌, ◌^◌, ◌<◌, ◌++◌, ◌∷◌, [], length, IfOk, OnOk};
+ghost use Rattle.tide_model.specs.Cycle.{live_count};
 ghost use Rattle.tide_periods.specs.Recorded.{IsAtRest, MadeCall, MayAsk, OpenedPart, RanCycle, Recorded};
 
+use crate::told::Told;
 use std::alloc::Global;
 use tide_model::{Memory, Op, Reply};
 
@@ -25,30 +27,51 @@ pub(crate) fn append<T: Drop>(list: &mut Vec<T>, item: T) -> Result<(), Memory>
     }
 }
 
-/// A store with the history of what was run on it.
-pub(crate) trait Recorder {
+/// A store that keeps the history of what was run on it.
+pub trait Recorder {
+    /// What is recorded.
     ghost recorded: { Self → Recorded };
+
+    /// What holds of the store between two entries of the history, beside what is recorded.
+    ghost stands: { Self → Type 0 };
 
     /// Makes a call and records it.
     fn call(&mut self, who: u32, op: Op) -> Result<Reply, Memory>
         requires at_rest { IsAtRest (recorded self.old) }
+        requires stands { stands self.old }
         requires asks { MayAsk (recorded self.old) who op }
-        ensures { IfOk result (λ reply. MadeCall (recorded self.old) (recorded self.new) who op reply) };
+        ensures made { IfOk result (λ reply. MadeCall (recorded self.old) (recorded self.new) who op reply) }
+        ensures stands { IfOk result (λ reply. stands self.new) };
 
     /// How many cells a mutator claims.
     fn claims(&self, who: u32) -> u32
-        requires { who < (recorded self.now).setting.layout.mutators }
+        requires stands { stands self.now }
+        requires mutator { who < (recorded self.now).setting.layout.mutators }
         ensures { result ≡ length ((recorded self.now).state.claims who) };
 
     /// Opens a part, in which each mutator makes at most `run` calls.
     fn open(&mut self, run: u32) -> Result<(), Memory>
         requires at_rest { IsAtRest (recorded self.old) }
+        requires stands { stands self.old }
         requires few { (recorded self.old).parts < 2 ^ 32 - 1 }
-        ensures { OnOk result (OpenedPart (recorded self.old) (recorded self.new) run) };
+        ensures opened { OnOk result (OpenedPart (recorded self.old) (recorded self.new) run) }
+        ensures stands { OnOk result (stands self.new) };
 
     /// Runs a whole cycle and records it.
     fn cycle(&mut self, alloc: Global) -> Result<(), Memory>
         requires at_rest { IsAtRest (recorded self.old) }
-        requires room { (recorded self.old).cycles < 2 ^ 64 - 1 }
-        ensures { OnOk result (RanCycle (recorded self.old) (recorded self.new)) };
+        requires stands { stands self.old }
+        requires room { (recorded self.old).cycles < 2 ^ 60 }
+        ensures ran { OnOk result (RanCycle (recorded self.old) (recorded self.new)) }
+        ensures stands { OnOk result (stands self.new) };
+
+    /// How many cells live.
+    fn live(&mut self) -> u32
+        requires stands { stands self.old }
+        ensures live { result ≡ live_count (recorded self.old).setting.layout (recorded self.old).state }
+        ensures same { recorded self.new ≡ recorded self.old };
+
+    /// Each event that was recorded, in order.
+    fn into_told(self) -> Vec<Told>
+        ensures { result.items ≡ (recorded self).told };
 }

@@ -17,15 +17,15 @@ use tide_model::{Entry, Event, Ids, Memory, Op, Reply};
 
 /// A store, and what was run on it.
 #[derive(Drop)]
-pub(crate) struct Recording<S: Store> {
-    pub(crate) store: S,
-    pub(crate) told: Vec<Told>,
+pub struct Recording<S: Store> {
+    store: S,
+    told: Vec<Told>,
     /// How many cycles began.
-    pub(crate) cycles: u64,
+    cycles: u64,
     /// How many parts were opened.
-    pub(crate) parts: u32,
+    parts: u32,
     /// How many blocks the store has.
-    pub(crate) blocks: u32,
+    blocks: u32,
 }
 
 /// Tells an entry that took no array, beside which no number stands.
@@ -50,7 +50,7 @@ fn tell_sweeps<S: Store>(told: &mut Vec<Told>, store: &S, blocks: u32) -> Result
     Ok(())
 }
 
-impl<S: Store> Recorder for Recording<S> {
+impl<S: Store + Drop> Recorder for Recording<S> {
     ghost recorded = { λ s. record {
       setting = S.setting s.store;
       state = S.state s.store;
@@ -60,6 +60,8 @@ impl<S: Store> Recorder for Recording<S> {
       parts = s.parts;
       blocks = s.blocks;
     } };
+
+    ghost stands = { λ _. Unit {0} };
 
     fn call(&mut self, who: u32, op: Op) -> Result<Reply, Memory> {
         let reply = self.store.call(who, op);
@@ -95,32 +97,32 @@ impl<S: Store> Recorder for Recording<S> {
         tell_sweeps(&mut self.told, &self.store, self.blocks)?;
         Ok(())
     }
-}
 
-impl<S: Store> Recording<S> {
-    /// How many cells live.
-    pub(crate) fn live(&self) -> u32
-        ensures { result ≡ live_count (S.setting self.now.store).layout (S.state self.now.store) }
-    {
+    fn live(&mut self) -> u32 {
         self.store.live()
+    }
+
+    fn into_told(self) -> Vec<Told> {
+        let Recording {
+            store: _,
+            told,
+            cycles: _,
+            parts: _,
+            blocks: _,
+        } = self;
+        told
     }
 }
 
 impl<S: Store + Drop> Recording<S> {
     /// A store on which nothing was run yet, which has so many blocks, with room for so many events.
-    pub(crate) fn new(
-        alloc: Global,
-        store: S,
-        blocks: u32,
-        room: usize,
-    ) -> Result<Recording<S>, Memory>
+    pub fn new(alloc: Global, store: S, blocks: u32, room: usize) -> Result<Recording<S>, Memory>
         requires empty { S.state store ≡ empty_state }
         requires blocks { blocks ≡ blocks_in (S.setting store) }
+        ensures stands { IfOk result (λ new. ⟦<Recording<S> as Recorder>⟧.stands new) }
         ensures at_rest { IfOk result (λ new. IsAtRest (⟦<Recording<S> as Recorder>⟧.recorded new)) }
         ensures nothing { IfOk result (λ new. (⟦<Recording<S> as Recorder>⟧.recorded new).history ≡ []) }
         ensures setting { IfOk result (λ new. (⟦<Recording<S> as Recorder>⟧.recorded new).setting ≡ S.setting store) }
-        ensures cycles { IfOk result (λ new. (⟦<Recording<S> as Recorder>⟧.recorded new).cycles ≡ 0) }
-        ensures parts { IfOk result (λ new. (⟦<Recording<S> as Recorder>⟧.recorded new).parts ≡ 0) }
     {
         let told = with_room(alloc, room)?;
         Ok(Recording {
@@ -130,19 +132,5 @@ impl<S: Store + Drop> Recording<S> {
             parts: 0,
             blocks,
         })
-    }
-
-    /// What was told.
-    pub(crate) fn into_told(self) -> Vec<Told>
-        ensures { result ≡ self.told }
-    {
-        let Recording {
-            store: _,
-            told,
-            cycles: _,
-            parts: _,
-            blocks: _,
-        } = self;
-        told
     }
 }

@@ -1,6 +1,6 @@
 //! Runs of workloads, from the words of a command line to the status.
 //!
-//! `plain` runs a workload on a store that stops for each whole cycle, and `run` and `riptide` stand on it.
+//! `plain` runs a workload on the plain store, and `run` on words that keep a history, on which `riptide` stands.
 //! `riptide` carries the history theorem: what it printed is the text of a legal history of the workload that it
 //! read.
 #![tactic(auto)]

@@ -60,6 +60,7 @@ loop-caller-preserved g c =
           ];
       later = λ k past.
           slice_get-set_other callers at k c.run_share.new.caller (λ same. omega (arith, same, past)) ∙ c.loop-caller.invariant.later k (omega (arith, past));
+      stands = c.in_ok-run_share.ensures.stands;
       scripts = map-set_same (λ (x : Caller). x.ops.items) callers at c.run_share.new.caller c.caller-item.result (ap (λ ops. ops.items) c.in_ok-run_share.ensures.ops)
           ∙ c.loop-caller.invariant.scripts;
       callers = AreCallers-share now new callers c.args.run at stopped c.run_share.new.caller c.loop-caller.invariant.callers below ran

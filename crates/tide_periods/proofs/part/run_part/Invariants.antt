@@ -15,6 +15,7 @@ invariant-loop-caller g l = record {
   fewer : 0 < l.run → (k : ℕ) (caller : Caller) → k < l.caller-index → slice_get l.initial.callers k ≡ Some caller → caller.retired ≡ false →
       total_left (g.T.Recorder.recorded l.recorder) l.callers < total_left (g.T.Recorder.recorded l.initial.recorder) l.initial.callers;
   later : (k : ℕ) → l.caller-index ≤ k → slice_get l.callers k ≡ slice_get l.initial.callers k;
+  stands : g.T.Recorder.stands l.recorder;
   scripts : scripts_of l.callers ≡ scripts_of l.initial.callers;
   callers : AreCallers (g.T.Recorder.recorded l.recorder) l.callers;
 }

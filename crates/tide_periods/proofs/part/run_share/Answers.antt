@@ -27,7 +27,7 @@ returns-then-branch-clause-ran g c =
     let caller = c.loop-made.caller in
     let who = c.args.caller.now.who in
     let at = subst (λ w. IsMutatorAt now w caller.ops.items (standing_of caller) (map pair_of caller.calls.items)) c.loop-made.invariant.who c.loop-made.invariant.caller in
-    let made = subst (λ w. MadeCall now new w c.next-op.result c.in_ok-reply.reply) c.loop-made.invariant.who c.in_ok-reply.ensures in
+    let made = subst (λ w. MadeCall now new w c.next-op.result c.in_ok-reply.reply) c.loop-made.invariant.who c.in_ok-reply.ensures.made in
     let sharing = IsSharing-called old now new c.args.run who c.loop-made._made caller.ops.items (standing_of caller) (map pair_of caller.calls.items) c.claims.result
     c.next-op.result c.in_ok-reply.reply c.loop-made.invariant.sharing c.loop-made-test.true at c.next-op.ensures made in
     RanShare-stops old new c.args.run who (c.loop-made._made + 1)
@@ -38,7 +38,7 @@ returns-then-branch-clause-caller g c =
     let now = g.T.Recorder.recorded c.loop-made.recorder in
     let caller = c.loop-made.caller in
     IsCaller-took now (g.T.Recorder.recorded c.call.new.self) caller c.take.new.self c.next-op.result c.in_ok-reply.reply c.loop-made.invariant.sharing.at_rest c.loop-made.invariant.caller
-    c.if-caller.false (c.next-op.ensures ∙ ap (next_of caller.ops.items (standing_of caller)) c.claims.ensures) c.in_ok-reply.ensures c.in_ok-take.ensures.took
+    c.if-caller.false (c.next-op.ensures ∙ ap (next_of caller.ops.items (standing_of caller)) c.claims.ensures) c.in_ok-reply.ensures.made c.in_ok-take.ensures.took
 
 pub loop-made-preserved : goal.loop-made-preserved
 loop-made-preserved g c =
@@ -48,16 +48,17 @@ loop-made-preserved g c =
     let caller = c.loop-made.caller in
     let who = c.args.caller.now.who in
     let at = subst (λ w. IsMutatorAt now w caller.ops.items (standing_of caller) (map pair_of caller.calls.items)) c.loop-made.invariant.who c.loop-made.invariant.caller in
-    let made = subst (λ w. MadeCall now new w c.next-op.result c.in_ok-reply.reply) c.loop-made.invariant.who c.in_ok-reply.ensures in
+    let made = subst (λ w. MadeCall now new w c.next-op.result c.in_ok-reply.reply) c.loop-made.invariant.who c.in_ok-reply.ensures.made in
     let sharing = IsSharing-called old now new c.args.run who c.loop-made._made caller.ops.items (standing_of caller) (map pair_of caller.calls.items) c.claims.result
     c.next-op.result c.in_ok-reply.reply c.loop-made.invariant.sharing c.loop-made-test.true at c.next-op.ensures made in
     record {
       sharing = subst (IsSharing old new c.args.run who (c.loop-made._made + 1)) (sym c.in_ok-take.ensures.stops ∙ c.if-branch.false) sharing;
       caller = IsCaller-took now new caller c.take.new.self c.next-op.result c.in_ok-reply.reply c.loop-made.invariant.sharing.at_rest c.loop-made.invariant.caller
-          c.if-caller.false (c.next-op.ensures ∙ ap (next_of caller.ops.items (standing_of caller)) c.claims.ensures) c.in_ok-reply.ensures c.in_ok-take.ensures.took;
+          c.if-caller.false (c.next-op.ensures ∙ ap (next_of caller.ops.items (standing_of caller)) c.claims.ensures) c.in_ok-reply.ensures.made c.in_ok-take.ensures.took;
       left = (let fewer = left-took now new caller c.take.new.self c.next-op.result c.in_ok-reply.reply c.loop-made.invariant.sharing.at_rest c.loop-made.invariant.caller
-          c.if-caller.false (c.next-op.ensures ∙ ap (next_of caller.ops.items (standing_of caller)) c.claims.ensures) c.in_ok-reply.ensures c.in_ok-take.ensures.took in
+          c.if-caller.false (c.next-op.ensures ∙ ap (next_of caller.ops.items (standing_of caller)) c.claims.ensures) c.in_ok-reply.ensures.made c.in_ok-take.ensures.took in
           let before = c.loop-made.invariant.left in omega (arith, fewer, before));
+      stands = c.in_ok-reply.ensures.stands;
       ops = c.in_ok-take.ensures.took.ops ∙ c.loop-made.invariant.ops;
       who = c.in_ok-take.ensures.took.who ∙ c.loop-made.invariant.who;
     }
@@ -68,7 +69,7 @@ returns-then-branch-clause-left g c =
     let new = g.T.Recorder.recorded c.call.new.self in
     let caller = c.loop-made.caller in
     let fewer = left-took now new caller c.take.new.self c.next-op.result c.in_ok-reply.reply c.loop-made.invariant.sharing.at_rest c.loop-made.invariant.caller
-    c.if-caller.false (c.next-op.ensures ∙ ap (next_of caller.ops.items (standing_of caller)) c.claims.ensures) c.in_ok-reply.ensures c.in_ok-take.ensures.took in
+    c.if-caller.false (c.next-op.ensures ∙ ap (next_of caller.ops.items (standing_of caller)) c.claims.ensures) c.in_ok-reply.ensures.made c.in_ok-take.ensures.took in
     let before = c.loop-made.invariant.left in
     omega (arith, fewer, before)
 
@@ -78,7 +79,7 @@ returns-then-branch-clause-fewer g c some stays =
     let new = g.T.Recorder.recorded c.call.new.self in
     let caller = c.loop-made.caller in
     let fewer = left-took now new caller c.take.new.self c.next-op.result c.in_ok-reply.reply c.loop-made.invariant.sharing.at_rest c.loop-made.invariant.caller
-    c.if-caller.false (c.next-op.ensures ∙ ap (next_of caller.ops.items (standing_of caller)) c.claims.ensures) c.in_ok-reply.ensures c.in_ok-take.ensures.took in
+    c.if-caller.false (c.next-op.ensures ∙ ap (next_of caller.ops.items (standing_of caller)) c.claims.ensures) c.in_ok-reply.ensures.made c.in_ok-take.ensures.took in
     let before = c.loop-made.invariant.left in
     omega (arith, fewer, before)
 

@@ -9,6 +9,7 @@ use Rattle.tide_periods.proofs.periods.run_periods.Goals as goal
 pub loop-pacing-init : goal.loop-pacing-init
 loop-pacing-init g c = record {
   at_rest = c.requires.at_rest;
+  stands = c.requires.stands;
   same = refl;
   scripts = refl;
   callers = c.requires.callers;
@@ -33,6 +34,7 @@ loop-pacing-preserved g c =
     let left = c.loop-pacing.invariant.left in
     record {
       at_rest = ran.at_rest;
+      stands = c.in_ok-run_period.ensures.stands;
       same = ran.same ∙ c.loop-pacing.invariant.same;
       scripts = c.in_ok-run_period.ensures.scripts ∙ c.loop-pacing.invariant.scripts;
       callers = c.in_ok-run_period.ensures.callers;
@@ -43,6 +45,7 @@ loop-pacing-preserved g c =
 
 pub returns : goal.returns
 returns g c = record {
+  stands = c.loop-pacing.invariant.stands;
   same = c.loop-pacing.invariant.same;
   scripts = c.loop-pacing.invariant.scripts;
   ran = RanAll-over (g.T.Recorder.recorded c.loop-pacing.recorder) (pace_of c.args.pacing) c.loop-pacing.callers c.loop-pacing.invariant.at_rest c.loop-pacing.invariant.callers

@@ -13,6 +13,7 @@ invariant-loop-pacing g l =
     let now = g.T.Recorder.recorded l.recorder in
     record {
       at_rest : IsAtRest now;
+      stands : g.T.Recorder.stands l.recorder;
       same : now.setting ≡ (g.T.Recorder.recorded l.initial.recorder).setting;
       scripts : scripts_of l.callers ≡ scripts_of l.initial.callers;
       callers : AreCallers now l.callers;

@@ -2,57 +2,59 @@
 use Rattle.std.proofs.Common.{◌≡◌, ◌<◌, ◌≤◌, ◌∙◌, sym, ap, arith, subst, length, map, List, All}
 use Rattle.std.proofs.lemmas.List.{length-map, with_items_is}
 use Rattle.tide_model.specs.declared.op.Op.{Op}
+use Rattle.tide_model.specs.Cycle.{begin_count}
+use Rattle.tide_model.specs.Periods.{open_count}
 use Rattle.tide_periods.specs.declared.caller.Caller.{Caller}
-use Rattle.tide_periods.specs.Asking.{IsAskable, scripts_of}
+use Rattle.tide_periods.specs.Asking.{scripts_of}
 use Rattle.tide_periods.specs.Left.{total_by}
 use Rattle.tide_periods.specs.Part.{AreCallers}
 use Rattle.tide_periods.specs.Periods.{pace_of}
-use Rattle.tide_periods.specs.Store.{Setting}
 use Rattle.tide_periods.specs.Recorded.{Recorded}
-use Rattle.tide_periods.specs.Told.{events_of}
-use Rattle.tide_periods.proofs.RecordedLaws.{recorded_of}
 use Rattle.tide_periods.proofs.Running.{HasRun-over}
 use Rattle.tide_periods.proofs.Starting.{AreCallers-nothing, total-few}
 use Rattle.tide_periods.proofs.run.run_on.Goals as goal
 
 pub run_periods-requires-clause-callers : goal.run_periods-requires-clause-callers
 run_periods-requires-clause-callers g c =
-    let made = c.in_ok-recording.recording in
-    let recorded : Recorded = recorded_of (g.S.Store.setting made.store) (g.S.Store.state made.store) made.told.items made.cycles made.parts made.blocks in
+    let recorded : Recorded = g.T.Recorder.recorded c.args.recorder in
     let scripts = map (λ ops. ops.items) c.args.scripts.items in
     let callers = c.in_ok-callers.callers.items in
     let new = c.in_ok-callers.ensures in
-    let setting : recorded.setting ≡ g.S.Store.setting c.args.store = c.in_ok-recording.ensures.setting in
     let count : length callers ≡ recorded.setting.layout.mutators =
-    sym (length-map callers (λ (c' : Caller). c'.ops.items)) ∙ ap length new.scripts_are ∙ length-map c.args.scripts.items (λ ops. ops.items) ∙ c.requires.mutators
-    ∙ ap (λ (s : Setting). s.layout.mutators) (sym setting) in
+    sym (length-map callers (λ (c' : Caller). c'.ops.items)) ∙ ap length new.scripts_are ∙ length-map c.args.scripts.items (λ ops. ops.items) ∙ c.requires.mutators in
     subst (AreCallers recorded) (sym c.as_mut_slice.ensures.value)
-    (AreCallers-nothing recorded callers scripts c.in_ok-recording.ensures.nothing new count
-    (subst (λ (s : Setting). All (All (IsAskable s.layout)) scripts) (sym setting) c.requires.askable))
+    (AreCallers-nothing recorded callers scripts c.requires.nothing new count c.requires.askable)
+
+pub run_periods-requires-clause-cycles : goal.run_periods-requires-clause-cycles
+run_periods-requires-clause-cycles g c = sym c.requires.at_rest.begun ∙ ap begin_count c.requires.nothing
+
+pub run_periods-requires-clause-parts : goal.run_periods-requires-clause-parts
+run_periods-requires-clause-parts g c = sym c.requires.at_rest.opens ∙ ap open_count c.requires.nothing
 
 pub run_periods-requires-clause-room : goal.run_periods-requires-clause-room
 run_periods-requires-clause-room g c =
     let callers = c.in_ok-callers.callers.items in
     let new = c.in_ok-callers.ensures in
-    let claims = (g.S.Store.state c.in_ok-recording.recording.store).claims in
+    let claims = (g.T.Recorder.recorded c.args.recorder).state.claims in
     let count : length callers ≡ length c.args.scripts.items =
     sym (length-map callers (λ (c' : Caller). c'.ops.items)) ∙ ap length new.scripts_are ∙ length-map c.args.scripts.items (λ ops. ops.items) in
-    let total = total-few claims callers c.in_ok-recording.ensures.at_rest.few (subst (All (λ (ops : List Op). length ops ≤ 65536)) (sym new.scripts_are) c.requires.short) in
+    let total = total-few claims callers c.requires.at_rest.few (subst (All (λ (ops : List Op). length ops ≤ 65536)) (sym new.scripts_are) c.requires.short) in
     let few = c.requires.few in
     subst (λ (cs : List Caller). total_by claims cs < 4294967295) (sym c.as_mut_slice.ensures.value) (omega (arith, total, count, few))
 
 pub returns : goal.returns
 returns g c =
-    let after = c.run_periods.new.recorder in
-    let recorded : Recorded = recorded_of (g.S.Store.setting after.store) (g.S.Store.state after.store) after.told.items after.cycles after.parts after.blocks in
+    let recorded : Recorded = g.T.Recorder.recorded c.run_periods.new.recorder in
+    let ended : Recorded = g.T.Recorder.recorded c.live-live.new.self in
     let ran = c.in_ok-run_periods.ensures in
     let callers = c.in_ok-callers.callers in
     let new = c.run_periods.new.callers in
     let script : Caller → List Op = λ (x : Caller). x.ops.items in
     let as_many : length new ≡ length c.as_mut_slice.result.now = sym (length-map new script) ∙ ap length ran.scripts ∙ length-map c.as_mut_slice.result.now script in
     let whole = with_items_is callers new (omega (arith, as_many, c.as_mut_slice.ensures.len)) in
-    HasRun-over (g.S.Store.setting c.args.store) (pace_of c.args.pacing) (map (λ ops. ops.items) c.args.scripts.items) recorded c.run_periods.new.callers
+    HasRun-over (g.T.Recorder.recorded c.args.recorder).setting (pace_of c.args.pacing) (map (λ ops. ops.items) c.args.scripts.items) recorded c.run_periods.new.callers
     c.into_told-told.result.items (map (λ own. own.items) c.in_ok-calls.calls.items) c.live-live.result
-    ran.ran (ran.same ∙ c.in_ok-recording.ensures.setting)
+    ran.ran ran.same
     (ran.scripts ∙ ap scripts_of c.as_mut_slice.ensures.value ∙ c.in_ok-callers.ensures.scripts_are)
-    (ap (λ told. told.items) c.into_told-told.ensures) (c.in_ok-calls.ensures ∙ ap (map (λ (x : Caller). x.calls.items)) whole) c.live-live.ensures
+    (c.into_told-told.ensures ∙ ap (λ (r : Recorded). r.told) c.live-live.ensures.same)
+    (c.in_ok-calls.ensures ∙ ap (map (λ (x : Caller). x.calls.items)) whole) c.live-live.ensures.live

@@ -9,8 +9,8 @@ use Rattle.tide_periods.proofs.CallerLaws.{called}
 use Rattle.tide_periods.proofs.RecordedLaws.{MadeCall-did, recorded_of}
 use Rattle.tide_periods.proofs.recording.RecordingRecorder.call.Goals as goal
 
-pub returns : goal.returns
-returns g c =
+pub returns-clause-made : goal.returns-clause-made
+returns-clause-made g c =
     let self = c.args.self.now in
     let store = c.call-reply.new.self in
     let old : Recorded = recorded_of (g.S.Store.setting self.store) (g.S.Store.state self.store) self.told.items self.cycles self.parts self.blocks in

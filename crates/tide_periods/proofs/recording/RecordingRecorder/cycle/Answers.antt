@@ -13,8 +13,8 @@ use Rattle.tide_periods.proofs.RecordedLaws.{recorded_of}
 use Rattle.tide_periods.proofs.CycleLaws.{IsCollected, RanCycle-did}
 use Rattle.tide_periods.proofs.recording.RecordingRecorder.cycle.Goals as goal
 
-pub returns : goal.returns
-returns g c =
+pub returns-clause-ran : goal.returns-clause-ran
+returns-clause-ran g c =
     let self = c.args.self.now in
     let store = c.collect.new.self in
     let old : Recorded = recorded_of (g.S.Store.setting self.store) (g.S.Store.state self.store) self.told.items self.cycles self.parts self.blocks in

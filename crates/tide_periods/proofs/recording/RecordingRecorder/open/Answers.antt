@@ -8,8 +8,8 @@ use Rattle.tide_periods.specs.Told.{events_of, uncounted}
 use Rattle.tide_periods.proofs.RecordedLaws.{OpenedPart-did, recorded_of}
 use Rattle.tide_periods.proofs.recording.RecordingRecorder.open.Goals as goal
 
-pub returns : goal.returns
-returns g c =
+pub returns-clause-opened : goal.returns-clause-opened
+returns-clause-opened g c =
     let self = c.args.self.now in
     let old : Recorded = recorded_of (g.S.Store.setting self.store) (g.S.Store.state self.store) self.told.items self.cycles self.parts self.blocks in
     let new : Recorded = recorded_of (g.S.Store.setting self.store) (g.S.Store.state self.store) c.tell.new.told.items self.cycles (self.parts + 1) self.blocks in
