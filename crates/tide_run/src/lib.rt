@@ -2,9 +2,11 @@
 //!
 //! `plain` runs a workload on a store that stops for each whole cycle, and `run` and `riptide` stand on it.
 //! `riptide` carries the history theorem: what it printed is the text of a legal history of the workload that it
-//! read.
+//! read, or the summary of one of the workload that it made.
 #![tactic(auto)]
 
+mod asking;
+mod counting;
 mod outcome;
 mod printing;
 mod program;
