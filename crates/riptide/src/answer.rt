@@ -1,8 +1,10 @@
 //! All that the program does with what `main` hands it. It knows no real input or output.
-ghost use Rattle.std.specs.Prelude.{◌≡◌, ◌≢◌, ◌↔◌, ◌<◌, ◌≤◌, ◌⊎◌, length, IfOk, IfSome, IsErr, IsOk};
+ghost use Rattle.std.specs.Prelude.{◌≡◌, ◌≢◌, ◌⊎◌, None, true, IfOk, IfSome, IsErr, IsOk};
 ghost use Rattle.std.specs.Io.KnownBytes.{Keeps};
 ghost use Rattle.tide_io.specs.Faults.{Rose};
+ghost use Rattle.tide_options.specs.Options.{asked_by};
 ghost use Rattle.tide_workload.specs.Words.{reads_workload};
+ghost use Rattle.tide_run.specs.Asked.{AsksToRead, asks_for_made};
 ghost use Rattle.tide_run.specs.Program.{input_of, status_line, IsStatus, TellsLine, ToldFault};
 ghost use Rattle.riptide.specs.Answered.{HasPrinted, HasPrintedPart};
 
@@ -24,31 +26,41 @@ pub fn answer<R: Threads + Sync, S: Source, K: Sink, E: Sink>(
 ) -> u8
     ensures status { IsStatus result }
 
-    // At 0 the text of a legal history of the workload is printed whole, and at 5 a first part of it; else nothing is.
-    ensures printed { result ≡ 0 → HasPrinted (S.left source.old) (S.left source.new) (K.held out.old) (K.held out.new) }
+    // At 0 the text of a legal history of the workload is printed whole, or its summary, at 5 a first part of it; else
+    // nothing is.
+    ensures printed { result ≡ 0 → IfOk words (λ words. HasPrinted (asked_by words.items)
+        (S.left source.old) (S.left source.new) (K.held out.old) (K.held out.new)) }
     ensures handed_on { result ≡ 0 → K.waiting out.new ≡ 0 }
-    ensures printed_part { result ≡ 5 →
-        HasPrintedPart (S.left source.old) (S.left source.new) (K.held out.old) (K.held out.new) }
+    ensures printed_part { result ≡ 5 → IfOk words (λ words. HasPrintedPart (asked_by words.items)
+        (S.left source.old) (S.left source.new) (K.held out.old) (K.held out.new)) }
     ensures nothing_printed { result ≢ 0 → result ≢ 5 → Keeps (K.held out.old) (K.held out.new) }
 
     // Each status but 6 has its cause.
-    ensures usage { IfOk words (λ words. (result ≡ 2) ↔ (1 < length words.items)) }
+    ensures usage { result ≡ 2 → IfOk words (λ words. asked_by words.items ≡ None) }
+    ensures refused { IfOk words (λ words. asked_by words.items ≡ None → (result ≡ 2) ⊎ (result ≡ 6)) }
     ensures no_words { IsErr words → result ≡ 6 }
     ensures unread { result ≡ 2 → Keeps (S.left source.old) (S.left source.new) }
-    ensures bad_input { result ≡ 3 →
+    ensures bad_input { result ≡ 3 → IfOk words (λ words. AsksToRead (asked_by words.items)) ×
         ToldFault (S.left source.old) (S.left source.new)
         (E.held err.old) (E.held err.new) (E.faults err.old) (E.faults err.new) }
-    ensures read_fault { result ≡ 4 → Rose (S.faults source.old) (S.faults source.new) }
+    ensures read_fault { result ≡ 4 → IfOk words (λ words. AsksToRead (asked_by words.items)) ×
+        Rose (S.faults source.old) (S.faults source.new) }
     ensures write_fault { result ≡ 5 → Rose (K.faults out.old) (K.faults out.new) }
 
     // What is accepted is run, and what is refused is refused, unless something failed or memory ran out.
     ensures accepts { IfOk words (λ words. IfSome (S.left source.old) (λ bytes.
-        length words.items ≤ 1 → IsOk (reads_workload (input_of bytes)) →
+        AsksToRead (asked_by words.items) → IsOk (reads_workload (input_of bytes)) →
         ¬ Rose (S.faults source.old) (S.faults source.new) → ¬ Rose (K.faults out.old) (K.faults out.new) →
         (result ≡ 0) ⊎ (result ≡ 6))) }
     ensures refuses { IfOk words (λ words. IfSome (S.left source.old) (λ bytes.
-        length words.items ≤ 1 → IsErr (reads_workload (input_of bytes)) →
+        AsksToRead (asked_by words.items) → IsErr (reads_workload (input_of bytes)) →
         ¬ Rose (S.faults source.old) (S.faults source.new) → (result ≡ 3) ⊎ (result ≡ 6))) }
+
+    // The generated workload is run with nothing read, unless something failed or memory ran out.
+    ensures made { IfOk words (λ words. asks_for_made (asked_by words.items) ≡ true →
+        ¬ Rose (K.faults out.old) (K.faults out.new) → (result ≡ 0) ⊎ (result ≡ 6)) }
+    ensures unread_made { IfOk words (λ words. asks_for_made (asked_by words.items) ≡ true →
+        Keeps (S.left source.old) (S.left source.new)) }
 
     // The error sink gets nothing at 0, and else the line of the status.
     ensures quiet { result ≡ 0 → Keeps (E.held err.old) (E.held err.new) }

@@ -1,16 +1,17 @@
 //! The words of the command line.
-ghost use Rattle.std.specs.Prelude.{◌≡◌, ◌<◌, length, IfOk, IsErr};
+ghost use Rattle.std.specs.Prelude.{◌≡◌, None, length, IfOk, IsErr};
 ghost use Rattle.std.specs.Vec.Iter.{into_iter_len};
+ghost use Rattle.tide_options.specs.Options.{asked_by};
 
 use std::alloc::{AllocError, Global};
 use std::env::Args;
 use std::io;
 
-/// The words of the command line, of which the first is the program's name. Where they aren't all text they are a faulty
-/// command line, as is one word too many.
+/// The words of the command line, of which the first is the program's name. Where they aren't all text they are words that
+/// are refused.
 pub fn words_of(alloc: Global, args: io::Result<Args>) -> Result<Vec<String>, AllocError>
     ensures count { IfOk args (λ given. IfOk result (λ words. length words.items ≡ into_iter_len given)) }
-    ensures refused { IsErr args → IfOk result (λ words. 1 < length words.items) }
+    ensures refused { IsErr args → IfOk result (λ words. asked_by words.items ≡ None) }
 {
     match args {
         Ok(given) => {

@@ -1,11 +1,13 @@
 -- What was read decides whether it is run or refused.
-use Rattle.std.proofs.Common.{ℕ, zero, suc, ◌≡◌, ◌+◌, ◌≤◌, ◌<◌, refl, sym, ◌∙◌, ap, subst, arith, List, [], ◌∷◌, ◌++◌, length, take, inr, Option, None, Some, Result, Ok, Err}
+use Rattle.std.proofs.Common.{ℕ, zero, suc, ◌≡◌, ◌+◌, ◌≤◌, ◌<◌, refl, sym, ◌∙◌, ap, subst, arith, true, false, true≢false, List, [], ◌∷◌, ◌++◌, length, take, inl, inr, Option, None, Some, is_some, Result, Ok, Err}
 use Rattle.std.specs.Prelude.{◌⊎◌, IfSome, IsOk, IsErr}
 use Rattle.tide_workload.specs.Words.{Fault, MAX_BYTES, reads_workload, Work}
 use Rattle.tide_run.specs.declared.program.Stop.{Stop}
 use Rattle.tide_run.specs.declared.program.Stop.TheVariants.{Usage, ReadFault, BadInput, Memory}
+use Rattle.tide_options.specs.declared.options.Options.{Options}
+use Rattle.tide_run.specs.Asked.{AsksToRead, IsAskedFor, RanAsked, asks_for_made}
 use Rattle.tide_run.specs.Runs.{Ran}
-use Rattle.tide_run.specs.Program.{input_of, Took, RefusedInput, RanInput, stop_status, stop_line, status_line}
+use Rattle.tide_run.specs.Program.{input_of, Took, ReadWork, RefusedInput, stop_status, stop_line, status_line}
 
 -- the first bytes of two parts, where the first part is that long or all there is
 take_first : (count : ℕ) (xs ys : List ℕ) → length xs ≤ count → (length xs < count → ys ≡ []) → take count (xs ++ ys) ≡ xs
@@ -20,11 +22,11 @@ took_input xs None bytes took = absurd took.consumed
 took_input xs (Some ys) bytes took =
     sym (take_first (MAX_BYTES + 1) bytes ys took.few (λ less. took.ended (omega arith))) ∙ ap (take (MAX_BYTES + 1)) (sym took.consumed)
 
--- input that was run isn't refused
-pub ran_input_is_ok : (xs : List ℕ) (new : Option (List ℕ)) (ran : Ran) → RanInput (Some xs) new ran → IsErr (reads_workload (input_of xs)) → ⊥
-ran_input_is_ok xs new ran input refused =
-    let e : reads_workload (input_of xs) ≡ Ok input.work = ap reads_workload (sym (took_input xs new input.reads.bytes input.reads.took)) ∙ input.reads.reads in
-    ok_is_no_err (reads_workload (input_of xs)) input.work e refused
+-- input that was read isn't refused
+read_work_is_ok : (xs : List ℕ) (new : Option (List ℕ)) (work : Work) → ReadWork (Some xs) new work → IsErr (reads_workload (input_of xs)) → ⊥
+read_work_is_ok xs new work read refused =
+    let e : reads_workload (input_of xs) ≡ Ok work = ap reads_workload (sym (took_input xs new read.bytes read.took)) ∙ read.reads in
+    ok_is_no_err (reads_workload (input_of xs)) work e refused
   where
     ok_is_no_err : (r : Result Work Fault) (w : Work) → r ≡ Ok w → IsErr r → ⊥
     ok_is_no_err r w e is = let h : IsErr {E = Fault} (Ok w) = subst IsErr e is in absurd (cc)
@@ -38,18 +40,47 @@ refused_input_is_err xs new fault input accepted =
     err_is_no_ok : (r : Result Work Fault) (f : Fault) → r ≡ Err f → IsOk r → ⊥
     err_is_no_ok r f e is = let h : IsOk {T = Work} (Err f) = subst IsOk e is in absurd (cc)
 
-pub refuses-ran : (left new : Option (List ℕ)) (ran : Ran) (A B C : Type 0) → RanInput left new ran → IfSome left (λ bytes. A → IsErr (reads_workload (input_of bytes)) → B → C)
-refuses-ran None new ran A B C input = tt
-refuses-ran (Some xs) new ran A B C input = λ a refused b. absurd (ran_input_is_ok xs new ran input refused)
+-- words don't ask for both, a workload that is read and one that is made
+pub not_both : (asked : Option Options) → AsksToRead asked → asks_for_made asked ≡ true → ⊥
+not_both None reads made = reads
+not_both (Some options) reads made =
+    let none : is_some options.make ≡ false = ap is_some reads in
+    true≢false (sym made ∙ none)
 
-pub accepts-stop : (stop : Stop) (status : ℕ) (left new : Option (List ℕ)) (words : ℕ) (Faulty Q : Type 0) → status ≡ stop_status stop → (stop ≡ Usage → 1 < words) →
-    (stop ≡ ReadFault → Faulty) → ((fault : Fault) → stop ≡ BadInput fault → RefusedInput left new fault) →
-    IfSome left (λ bytes. words ≤ 1 → IsOk (reads_workload (input_of bytes)) → (Faulty → ⊥) → Q → (status ≡ 0) ⊎ (status ≡ 6))
-accepts-stop stop status None new words Faulty Q is usage read_fault bad = tt
-accepts-stop Usage status (Some xs) new words Faulty Q is usage read_fault bad = λ one accepted no_fault q. absurd (let more = usage refl in omega (arith, more, one))
-accepts-stop ReadFault status (Some xs) new words Faulty Q is usage read_fault bad = λ one accepted no_fault q. absurd (no_fault (read_fault refl))
-accepts-stop (BadInput fault) status (Some xs) new words Faulty Q is usage read_fault bad = λ one accepted no_fault q. absurd (refused_input_is_err xs new fault (bad fault refl) accepted)
-accepts-stop Memory status (Some xs) new words Faulty Q is usage read_fault bad = λ one accepted no_fault q. inr is
+-- what was run was read, where the words ask for that
+was_read : (asked : Option Options) (old new : Option (List ℕ)) (ran : Ran) → RanAsked asked old new ran → AsksToRead asked → (work : Work) × ReadWork old new work
+was_read asked old new ran input reads =
+    let none : input.options.make ≡ None = subst AsksToRead input.are_asked reads in
+    (input.work, subst (λ (number : Option ℕ). IsAskedFor number old new input.work) none input.is_asked_for)
+
+pub refuses-ran : (asked : Option Options) (left new : Option (List ℕ)) (ran : Ran) (B C : Type 0) → RanAsked asked left new ran →
+    IfSome left (λ bytes. AsksToRead asked → IsErr (reads_workload (input_of bytes)) → B → C)
+refuses-ran asked None new ran B C input = tt
+refuses-ran asked (Some xs) new ran B C input = λ reads refused b.
+    let read = was_read asked (Some xs) new ran input reads in absurd (read_work_is_ok xs new read.0 read.1 refused)
+
+-- what a program that ran nothing says of what it was asked for: refused words ask for nothing, and only what was read
+-- failed or was refused
+pub record IsStop (asked : Option Options) (left new : Option (List ℕ)) (Faulty : Type 0) (stop : Stop) : Type 0 where
+  pub usage : stop ≡ Usage → asked ≡ None
+  pub read_fault : stop ≡ ReadFault → AsksToRead asked × Faulty
+  pub bad_input : (fault : Fault) → stop ≡ BadInput fault → AsksToRead asked × RefusedInput left new fault
+
+pub accepts-stop : (stop : Stop) (status : ℕ) (asked : Option Options) (left new : Option (List ℕ)) (Faulty Q : Type 0) → status ≡ stop_status stop →
+    IsStop asked left new Faulty stop →
+    IfSome left (λ bytes. AsksToRead asked → IsOk (reads_workload (input_of bytes)) → (Faulty → ⊥) → Q → (status ≡ 0) ⊎ (status ≡ 6))
+accepts-stop stop status asked None new Faulty Q is why = tt
+accepts-stop Usage status asked (Some xs) new Faulty Q is why = λ reads accepted no_fault q. absurd (subst AsksToRead (why.usage refl) reads)
+accepts-stop ReadFault status asked (Some xs) new Faulty Q is why = λ reads accepted no_fault q. absurd (no_fault (why.read_fault refl).1)
+accepts-stop (BadInput fault) status asked (Some xs) new Faulty Q is why = λ reads accepted no_fault q. absurd (refused_input_is_err xs new fault (why.bad_input fault refl).1 accepted)
+accepts-stop Memory status asked (Some xs) new Faulty Q is why = λ reads accepted no_fault q. inr is
+
+pub made-stop : (stop : Stop) (status : ℕ) (asked : Option Options) (left new : Option (List ℕ)) (Faulty : Type 0) → status ≡ stop_status stop →
+    IsStop asked left new Faulty stop → asks_for_made asked ≡ true → (status ≡ 0) ⊎ (status ≡ 6)
+made-stop Usage status asked left new Faulty is why made = let none : asks_for_made None ≡ true = subst (λ o. asks_for_made o ≡ true) (why.usage refl) made in absurd (cc)
+made-stop ReadFault status asked left new Faulty is why made = absurd (not_both asked (why.read_fault refl).0 made)
+made-stop (BadInput fault) status asked left new Faulty is why made = absurd (not_both asked (why.bad_input fault refl).0 made)
+made-stop Memory status asked left new Faulty is why made = inr is
 
 pub bad-stop : (stop : Stop) → stop_status stop ≡ 3 → (fault : Fault) × (stop ≡ BadInput fault)
 bad-stop Usage is = absurd (omega (arith, is))

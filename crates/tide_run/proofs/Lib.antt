@@ -1,6 +1,7 @@
 -- The lemmas of this crate.
 pub mod Causes
 pub mod Copies
+pub mod Counted
 pub mod Printed
 pub mod Reported
 pub mod RunLaws

@@ -3,7 +3,11 @@ use Rattle.std.proofs.Common.{◌≡◌, ℕ, zero, suc, ◌+◌, ◌<◌, ◌�
 use Rattle.std.proofs.lemmas.Bool.{eqb-true, eqb-false}
 use Rattle.std.proofs.lemmas.List.{take_more}
 use Rattle.std.proofs.lemmas.List.Concat.{flat_map-append}
-use Rattle.std.specs.Prelude.{◌==◌}
+use Rattle.std.specs.Prelude.{◌==◌, Option}
+use Rattle.std.specs.Io.KnownBytes.{Appends, Keeps}
+use Rattle.std.proofs.KnownBytes.{Appends-kept}
+use Rattle.tide_io.specs.Faults.{AppendsPart}
+use Rattle.tide_model.proofs.Cycles.{take-all}
 use Rattle.std.specs.List.{flat_map}
 use Rattle.tide_model.specs.declared.entry.Entry.{Entry}
 use Rattle.tide_model.specs.declared.entry.Entry.TheVariants.{Call, Begin, Pause, Visits, End, Sweep, Open}
@@ -20,6 +24,10 @@ use Rattle.tide_workload.specs.Words.{cycle_line, end_line, cycles_from, call_li
 use Rattle.tide_run.specs.Printing.{answered_line, told_line}
 use Rattle.tide_run.specs.Report.{CycleEnd, entry_end, ends_from, told_end}
 use Rattle.tide_run.proofs.Reported.{ends_told}
+
+-- all bytes are a part of themselves, and stay so where what is held stays
+pub kept_is_part : (a b c : Option (List ℕ)) (bytes : List ℕ) → Appends a b bytes → Keeps b c → AppendsPart a c bytes
+kept_is_part a b c bytes appended kept = (length bytes, subst (Appends a c) (sym (take-all bytes)) (Appends-kept a b c bytes appended kept))
 
 -- one line more
 pub one_line_more : {X : Type 0} (line : X → List ℕ) (xs : List X) (i : ℕ) (d : X) → i < length xs →

@@ -6,7 +6,6 @@ use Rattle.tide_workload.specs.Words.{Fault, MAX_BYTES, fault_line, reads_worklo
 use Rattle.tide_model.specs.Numbers.{is_among}
 use Rattle.tide_run.specs.declared.program.Stop.{Stop}
 use Rattle.tide_run.specs.declared.program.Stop.TheVariants.{Usage, ReadFault, BadInput, Memory}
-use Rattle.tide_run.specs.Runs.{IsRunOf, Ran}
 
 -- of the bytes that are left, those that reading takes: at most 4,194,305, one more than a workload may have
 abbrev pub input_of : List ℕ → List ℕ
@@ -42,12 +41,6 @@ pub record ToldFault (old new : Option (List ℕ)) (held held' : Option (List �
   pub refused : RefusedInput old new fault
   pub told : TellsLine held held' before now (fault_line fault)
 
--- the run is one of the workload that was read
-pub record RanInput (old new : Option (List ℕ)) (ran : Ran) : Type 0 where
-  pub work : Work
-  pub reads : ReadWork old new work
-  pub is_run : IsRunOf work ran
-
 -- the status of a program that ran nothing
 abbrev pub stop_status : Stop → ℕ
 stop_status Usage = 2
@@ -57,7 +50,7 @@ stop_status Memory = 6
 
 -- the line of a program that ran nothing
 abbrev pub stop_line : Stop → List ℕ
-stop_line Usage = codes "riptide: usage: riptide\n"
+stop_line Usage = codes "riptide: usage: riptide [--visitors N] [--plain] [--make N]\n"
 stop_line ReadFault = codes "riptide: read fault\n"
 stop_line (BadInput fault) = fault_line fault
 stop_line Memory = codes "riptide: no memory\n"
@@ -66,7 +59,7 @@ stop_line Memory = codes "riptide: no memory\n"
 -- fault
 abbrev pub status_line : ℕ → List ℕ
 status_line status =
-    if status == 2 then codes "riptide: usage: riptide\n"
+    if status == 2 then codes "riptide: usage: riptide [--visitors N] [--plain] [--make N]\n"
     else if status == 4 then codes "riptide: read fault\n"
     else if status == 5 then codes "riptide: write fault\n"
     else codes "riptide: no memory\n"

@@ -2,9 +2,11 @@
 //!
 //! `plain` runs a workload on the plain store, and `run` on words that keep a history, on which `riptide` stands.
 //! `riptide` carries the history theorem: what it printed is the text of a legal history of the workload that it
-//! read.
+//! read, or the summary of one of the workload that it made.
 #![tactic(auto)]
 
+mod asking;
+mod counting;
 mod outcome;
 mod printing;
 mod program;

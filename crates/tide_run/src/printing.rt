@@ -3,7 +3,7 @@ ghost use Rattle.std.specs.Prelude.{◌≡◌, ◌<◌, All, OnOk, OnErr};
 ghost use Rattle.std.specs.List.{flat_map};
 ghost use Rattle.std.specs.Io.KnownBytes.{Appends};
 ghost use Rattle.tide_io.specs.Faults.{AppendsPart, HasCause};
-ghost use Rattle.tide_workload.specs.Words.{HasText, cycles_from, mutator_text, mutators_text, text_of};
+ghost use Rattle.tide_workload.specs.Words.{HasText, cycles_from, mutator_text, mutators_text, summary_text, text_of};
 ghost use Rattle.tide_model.specs.State.{empty_state};
 ghost use Rattle.tide_run.specs.Printing.{answered_line, told_line};
 
@@ -11,7 +11,9 @@ use crate::outcome::Outcome;
 use tide_io::{Failed, Sink};
 use tide_model::Entry;
 use tide_periods::{Answered, Told};
-use tide_workload::{Workload, write_call, write_cycle, write_live, write_mutator};
+use tide_workload::{
+    Counts, Workload, write_call, write_cycle, write_live, write_mutator, write_summary,
+};
 
 /// Writes the line of each call.
 fn write_calls<K: Sink>(out: &mut K, load: &Workload, calls: &[Answered]) -> Result<(), Failed>
@@ -122,5 +124,16 @@ pub fn print_text<K: Sink>(out: &mut K, load: &Workload, outcome: &Outcome) -> R
     ensures cause { HasCause (K.faults out.old) (K.faults out.new) result }
 {
     write_text(out, load, outcome)?;
+    out.flush()
+}
+
+/// Writes the summary of a run, and has the sink hand on all of it.
+pub fn print_summary<K: Sink>(out: &mut K, counts: Counts) -> Result<(), Failed>
+    ensures whole { OnOk result (Appends (K.held out.old) (K.held out.new) (summary_text counts)) }
+    ensures part { OnErr result (AppendsPart (K.held out.old) (K.held out.new) (summary_text counts)) }
+    ensures handed_on { OnOk result (K.waiting out.new ≡ 0) }
+    ensures cause { HasCause (K.faults out.old) (K.faults out.new) result }
+{
+    write_summary(out, counts)?;
     out.flush()
 }

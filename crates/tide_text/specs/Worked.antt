@@ -6,8 +6,13 @@ use Rattle.tide_model.specs.declared.op.Reply.TheVariants.{Done, Born, Seen, Ask
 use Rattle.tide_model.specs.declared.val.Val.TheVariants.{Empty, Int, Cell}
 use Rattle.tide_work.specs.declared.fault.Fault.TheVariants.{NotToml, TooLong, Missing, Bad, BadOp, Memory}
 use Rattle.tide_work.specs.declared.field.Field.TheVariants.{Registers, Ops, Other}
+use Rattle.tide_model.specs.declared.entry.Entry.TheVariants.{Call, Begin, Pause, End}
+use Rattle.tide_model.specs.History.{plain}
+use Rattle.tide_model.specs.Rows.{small}
 use Rattle.tide_text.specs.FaultLine.{fault_line}
 use Rattle.tide_text.specs.Line.{call_line, cycle_line, live_line, mutator_line, refusal_text}
+use Rattle.tide_text.specs.declared.counts.Counts.{Counts}
+use Rattle.tide_text.specs.Summary.{counts_with, summary_of, summary_text}
 
 -- the names of the keys 0 and 1
 abbrev pub names : List (List ℕ)
@@ -78,3 +83,12 @@ WorkedFaults =
     × (fault_line (Bad Other) ≡ codes "riptide: bad field other\n")
     × (fault_line (BadOp 1 65535) ≡ codes "riptide: bad op 65535 of mutator 1\n")
     × (fault_line Memory ≡ codes "riptide: no memory\n")
+
+-- the summary of a run of no call, of one of a call of each kind, and of the history of one mutator that asks for a cycle
+abbrev pub WorkedSummaries : Type 0
+WorkedSummaries =
+    (summary_text (counts_with 1 [] 0) ≡ codes "mutators 1 calls 0\nborn 0 ok 0 cell 0 int 0 empty 0 asked 0 refused 0\nlive 0\n")
+    × (summary_text (counts_with 16 (Done ∷ Born 3 ∷ Seen (Cell 3) ∷ Seen (Int 3) ∷ Seen Empty ∷ Asked ∷ Refused IsTable ∷ Done ∷ []) 20480)
+    ≡ codes "mutators 16 calls 8\nborn 1 ok 2 cell 1 int 1 empty 1 asked 1 refused 1\nlive 20480\n")
+    × (summary_of small (plain (Call 0 (Alloc 0 0) (Born 0)) ∷ plain (Call 0 Collect Asked) ∷ plain (Begin 1) ∷ plain (Pause 1) ∷ plain (End 1 []) ∷ [])
+    ≡ codes "mutators 1 calls 2\nborn 1 ok 0 cell 0 int 0 empty 0 asked 1 refused 0\nlive 1\n")

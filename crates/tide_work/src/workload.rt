@@ -1,6 +1,7 @@
-//! A workload within its limits. It does not know what it was read from.
+//! A workload within its limits. It does not know whether it was read or made.
 use crate::keys::{Keys, MAX_KEY_BYTES, MAX_KEYS};
 use crate::settings::Settings;
+use std::alloc::Global;
 use std::marker::Model;
 use tide_model::Op;
 use tide_shape::Paths;
@@ -11,8 +12,8 @@ pub const MAX_MUTATORS: usize = 16;
 /// How many operations a mutator may have.
 pub const MAX_OPS: usize = 65_536;
 
-/// A workload that was read: its settings, its property keys and the declared paths of them, and the operations of each
-/// mutator in order.
+/// A workload: its settings, its property keys and the declared paths of them, and the operations of each mutator in
+/// order.
 #[derive(Drop)]
 pub struct Workload {
     settings: Settings,
@@ -43,9 +44,10 @@ impl Model for Workload {
 }
 
 impl Workload {
-    ghost use Rattle.std.specs.Prelude.{◌≡◌, ◌≢◌, ◌<◌, ◌≤◌, Some, true, length, map, slice_get, All, AllPairs};
+    ghost use Rattle.std.specs.Prelude.{◌≡◌, ◌≢◌, ◌<◌, ◌≤◌, [], Some, true, length, map, slice_get, All, AllPairs};
     ghost use Rattle.tide_work.specs.Keys.{is_key};
-    ghost use Rattle.tide_work.specs.Work.{ArePaths, AreSettings, IsBetween, IsOperation, IsWork, limits_of};
+    ghost use Rattle.tide_work.specs.OpLimits.{limits_with};
+    ghost use Rattle.tide_work.specs.Work.{AreOperations, ArePaths, AreSettings, IsBetween, IsOperation, IsSized, IsWork, limits_of};
 
     /// A workload of parts that are within its limits.
     pub fn new(settings: Settings, keys: Keys, paths: Paths, scripts: Vec<Vec<Op>>) -> Workload
@@ -70,7 +72,23 @@ impl Workload {
         }
     }
 
-    /// The numbers that it was read with.
+    /// The workload with these settings and operations, those of one mutator a list. It declares no path, so no operation
+    /// on properties is among them. It takes no memory, and refuses nothing.
+    pub fn of(alloc: Global, settings: Settings, ops: Vec<Vec<Op>>) -> Workload
+        requires limits { AreSettings settings }
+        requires sized { IsSized (map (λ own. own.items) ops.items) }
+        requires operations { AreOperations (limits_with settings []) (map (λ own. own.items) ops.items) }
+        ensures { result ≡ record {
+          settings = settings;
+          keys = [];
+          paths = [];
+          scripts = map (λ own. own.items) ops.items;
+        } }
+    {
+        Workload::new(settings, Keys::new(alloc), Paths::new(alloc), ops)
+    }
+
+    /// Its numbers.
     pub fn settings(&self) -> Settings
         ensures value { result ≡ self.now.settings }
         ensures within { AreSettings result }

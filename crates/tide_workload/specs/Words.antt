@@ -14,4 +14,6 @@ unfoldable pub use Rattle.tide_text.specs.OpText.{op_text}
 unfoldable pub use Rattle.tide_text.specs.Line.{call_line, cycle_line, live_line, mutator_line}
 unfoldable pub use Rattle.tide_text.specs.FaultLine.{fault_line}
 pub use Rattle.tide_text.specs.Text.{call_lines, mutator_text, mutators_text, end_line, cycles_from, text_of}
+pub use Rattle.tide_text.specs.declared.counts.Counts.{Counts}
+pub use Rattle.tide_text.specs.Summary.{counts_of, counts_with, replies_in, reply_in, summary_of, summary_text}
 pub use Rattle.tide_text.specs.ReadBack.{IsReadBack, AreReadBack}

@@ -4,6 +4,7 @@ use Rattle.std.specs.Fmt.{digits}
 use Rattle.tide_text.specs.FaultLine.{fault_line, fault_text}
 use Rattle.tide_text.specs.Line.{call_line, counts_text, cycle_line, freed_cell_text, freed_text, live_line, mutator_line, refusal_text, reply_text, val_text}
 use Rattle.tide_text.specs.OpText.{op_text}
+use Rattle.tide_text.specs.Summary.{calls_line, replies_line}
 use Rattle.tide_text.proofs.worked.worked_lines.Goals as goal
 
 pub returns-clause-calls : goal.returns-clause-calls
@@ -21,3 +22,7 @@ returns-clause-frame c = (refl, refl, refl, refl, refl)
 pub returns-clause-faults : goal.returns-clause-faults
 unfolding digits fault_line fault_text
 returns-clause-faults c = (refl, refl, refl, refl, refl, refl, refl)
+
+pub returns-clause-summaries : goal.returns-clause-summaries
+unfolding digits calls_line replies_line live_line
+returns-clause-summaries c = (refl, refl, refl)

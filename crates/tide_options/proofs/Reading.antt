@@ -1,0 +1,87 @@
+-- What a parse says of the words.
+use Rattle.std.proofs.Common.{ℕ, ◌≡◌, ◌≢◌, ◌<◌, ◌≤◌, ◌∙◌, ◌&&◌, ◌||◌, nat_lt, is_some, codes, unwrap_or, refl, sym, ap, subst, inl, inr, arith, Bool, true, false, List, [], ◌∷◌, Option, Some, None, Result, Ok, Err}
+use Rattle.std.proofs.lemmas.Bool.{ltb-false, ne_eqb}
+use Rattle.std.specs.Prelude.{◌⊎◌, IfOk, IfErr, if◌then◌else◌}
+use Rattle.std.specs.Result.{result_ok}
+use Rattle.clap.specs.Words.{HasKind, IsAmong, Kinds, Row, Text, fault_of, is_simple, is_simple_and_free, kind_of, matches_of}
+use Rattle.clap.proofs.OnLiterals.{clap_on_literals}
+use Rattle.clap.specs.Walk.{is_empty}
+use Rattle.clap.specs.declared.error.Error.{Error}
+use Rattle.clap.specs.declared.error.kind.ErrorKind.{ErrorKind}
+use Rattle.clap.specs.declared.error.kind.ErrorKind.TheVariants.{OutOfMemory}
+use Rattle.tide_options.specs.declared.options.Options.{Options}
+use Rattle.tide_options.specs.declared.options.Refused.{Refused}
+use Rattle.tide_options.specs.declared.options.Refused.TheVariants.{Memory}
+use Rattle.tide_options.specs.Command.{command}
+use Rattle.tide_options.specs.Options.{is_set, is_too_much, number_at, options_in, reads_options}
+
+-- the command is one of which `clap` states all
+pub command_is_simple : is_simple command ≡ true
+command_is_simple = refl
+
+pub command_is_free : is_simple_and_free command ≡ true
+command_is_free = refl
+
+some_kind : (kind : ErrorKind) (kinds : Kinds) → IsAmong kind kinds → is_empty kinds ≡ false
+some_kind kind [] among = absurd among
+some_kind kind (first ∷ kinds) among = ne_eqb _ 0 (λ same. omega (arith, same))
+
+-- words that aren't taken, and not for want of memory, are refused
+pub untaken : (words : List Text) (error : Error) → HasKind (fault_of command words) error → kind_of error ≢ OutOfMemory → reads_options words ≡ None
+unfolding reads_options
+untaken words error kinds no_memory = elim kinds [
+  | inl memory ↦ absurd (no_memory memory)
+  | inr among ↦ ap (λ (taken : Bool). if taken then options_in (matches_of command words) else None) (some_kind (kind_of error) (fault_of command words) among)
+]
+
+-- words that are taken ask for what their matches give
+pub taken : (words : List Text) (rows : List Row) → fault_of command words ≡ [] → rows ≡ matches_of command words → options_in rows ≡ reads_options words
+unfolding reads_options
+taken words rows none are =
+    ap options_in are ∙ sym (ap (λ (taken : Bool). if taken then options_in (matches_of command words) else None) (ap is_empty none))
+
+no_more : (v : ℕ) → nat_lt 0 v ≡ false → v ≤ 8
+no_more v more = let none = ltb-false 0 v more in omega (arith, none)
+
+second_false : (a b : Bool) → (a || b) ≡ false → b ≡ false
+second_false true b neither = absurd (cc)
+second_false false b neither = neither
+
+-- there are few visitors
+few_visitors : (rows : List Row) (options : Options) → options_in rows ≡ Some options → options.visitors ≤ 8
+few_visitors rows options is = go (is_too_much rows) refl
+  where
+    found : Options
+    found = record {
+      visitors = unwrap_or (number_at (codes "visitors") rows) 0;
+      plain = is_set (codes "plain") rows;
+      make = number_at (codes "make") rows;
+    }
+
+    go : (b : Bool) → is_too_much rows ≡ b → options.visitors ≤ 8
+    go true much = let none : None ≡ Some options = sym (ap (λ (b : Bool). if b then None else Some found) much) ∙ is in absurd (cc)
+    go false much =
+        let some : Some found ≡ Some options = sym (ap (λ (b : Bool). if b then None else Some found) much) ∙ is in
+        let same : found ≡ options = cc in
+        subst (λ (o : Options). o.visitors ≤ 8) same
+        (no_more found.visitors (second_false (is_set (codes "plain") rows && is_some (number_at (codes "visitors") rows)) _ much))
+
+-- the options that are handed on are those that were asked for
+pub asked_for : (given asked : Option Options) (r : Result Options Refused) → given ≡ result_ok r → given ≡ asked → IfOk r (λ options. asked ≡ Some options)
+asked_for given asked (Ok options) part same = sym same ∙ part
+asked_for given asked (Err why) part same = tt
+
+-- and where there are none, none were
+pub refused : (given asked : Option Options) (r : Result Options Refused) → given ≡ result_ok r → given ≡ asked → IfErr r (λ why. why ≢ Memory → asked ≡ None)
+refused given asked (Ok options) part same = tt
+refused given asked (Err why) part same = λ other. sym same ∙ part
+
+-- those that are handed on have few visitors
+pub few_asked : (rows : List Row) (given : Option Options) (r : Result Options Refused) → given ≡ result_ok r → given ≡ options_in rows → IfOk r (λ options. options.visitors ≤ 8)
+few_asked rows given (Ok options) part same = few_visitors rows options (sym same ∙ part)
+few_asked rows given (Err why) part same = tt
+
+-- a word that names no option is refused, as is one that is no text, in whose place it stands
+pub stray_word : reads_options (codes "riptide" ∷ codes "?" ∷ []) ≡ None
+unfolding clap_on_literals reads_options
+stray_word = refl

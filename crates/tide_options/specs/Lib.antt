@@ -1,0 +1,4 @@
+-- The definitions of this crate.
+pub mod Command
+pub mod Options
+pub mod Rows

@@ -1,0 +1,47 @@
+-- Command lines, and what they read as.
+use Rattle.std.specs.Prelude.{ℕ, ◌≡◌, Bool, true, false, List, [], ◌∷◌, Option, Some, None, codes}
+use Rattle.clap.specs.Words.{Text}
+use Rattle.tide_options.specs.declared.options.Options.{Options}
+use Rattle.tide_options.specs.Options.{reads_options}
+
+-- the options that the words after the program's name ask for
+abbrev pub after_name : List Text → Option Options
+after_name words = reads_options (codes "riptide" ∷ words)
+
+-- no visitors, and so
+abbrev pub alone : Bool → Option ℕ → Option Options
+alone plain make = Some (record { visitors = 0; plain = plain; make = make })
+
+-- what some command lines ask for
+pub record Asked : Type 0 where
+  pub no_word : reads_options [] ≡ alone false None
+  pub name : after_name [] ≡ alone false None
+  pub no_visitors : after_name (codes "--visitors" ∷ codes "0" ∷ []) ≡ alone false None
+  pub with_equals : after_name (codes "--visitors=0" ∷ []) ≡ alone false None
+  pub plain : after_name (codes "--plain" ∷ []) ≡ alone true None
+  pub made : after_name (codes "--make" ∷ codes "7" ∷ []) ≡ alone false (Some 7)
+  pub made_plain : after_name (codes "--make=7" ∷ codes "--plain" ∷ []) ≡ alone true (Some 7)
+  pub in_any_order : after_name (codes "--visitors" ∷ codes "0" ∷ codes "--make" ∷ codes "0" ∷ []) ≡ alone false (Some 0)
+  pub largest : after_name (codes "--make" ∷ codes "18446744073709551615" ∷ []) ≡ alone false (Some 18446744073709551615)
+  pub zeros_and_plus : after_name (codes "--make=+007" ∷ []) ≡ alone false (Some 7)
+  pub end_of_options : after_name (codes "--plain" ∷ codes "--" ∷ []) ≡ alone true None
+
+-- each kind of mistake
+pub record Mistaken : Type 0 where
+  pub unknown : after_name (codes "--fast" ∷ []) ≡ None
+  pub help : after_name (codes "--help" ∷ []) ≡ None
+  pub short_help : after_name (codes "-h" ∷ []) ≡ None
+  pub abbreviated : after_name (codes "--pla" ∷ []) ≡ None
+  pub word : after_name (codes "stored.toml" ∷ []) ≡ None
+  pub empty : after_name ([] ∷ []) ≡ None
+  pub behind_the_end : after_name (codes "--" ∷ codes "--plain" ∷ []) ≡ None
+  pub no_number : after_name (codes "--make" ∷ []) ≡ None
+  pub other_number : after_name (codes "--make" ∷ codes "seven" ∷ []) ≡ None
+  pub empty_number : after_name (codes "--make=" ∷ []) ≡ None
+  pub below_nothing : after_name (codes "--make=-1" ∷ []) ≡ None
+  pub too_large : after_name (codes "--make" ∷ codes "18446744073709551616" ∷ []) ≡ None
+  pub flag_with_value : after_name (codes "--plain=1" ∷ []) ≡ None
+  pub flag_twice : after_name (codes "--plain" ∷ codes "--plain" ∷ []) ≡ None
+  pub number_twice : after_name (codes "--make" ∷ codes "1" ∷ codes "--make" ∷ codes "1" ∷ []) ≡ None
+  pub a_visitor : after_name (codes "--visitors" ∷ codes "1" ∷ []) ≡ None
+  pub plain_with_visitors : after_name (codes "--plain" ∷ codes "--visitors" ∷ codes "0" ∷ []) ≡ None

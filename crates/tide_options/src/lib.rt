@@ -1,0 +1,11 @@
+//! The options of a command line: which ones its words ask for, or that they are refused.
+//!
+//! The command is a simple one of the crate `clap`, which states what its words mean; what is added is that a plain run
+//! has no visitors, and how many there may be. It knows no workload and no run.
+#![tactic(auto)]
+
+mod command;
+mod options;
+mod rows;
+
+pub use options::{MAX_VISITORS, Options, Refused, options_of};

@@ -1,0 +1,178 @@
+//! From the words of a command line to a run: the workload that they ask for, and the store that runs it.
+ghost use Rattle.std.specs.Prelude.{◌≡◌, ◌≢◌, ◌≤◌, ◌⊎◌, Some, None, IfOk, IfErr, is_some, true};
+ghost use Rattle.std.specs.Io.KnownBytes.{Keeps};
+ghost use Rattle.tide_io.specs.Faults.{Rose};
+ghost use Rattle.tide_options.specs.Options.{asked_by};
+ghost use Rattle.tide_workload.specs.Words.{Fault as FaultValue};
+ghost use Rattle.tide_run.specs.Asked.{AsksToRead, IsAskedFor, RanAsked, asks_for_made, printed_as, printed_of, printed_with};
+ghost use Rattle.tide_run.specs.Program.{ReadWork, RefusedInput};
+ghost use Rattle.tide_run.specs.Runs.{IsRunOf};
+
+use crate::counting::counts_of;
+use crate::outcome::Outcome;
+use crate::program::Stop;
+use crate::runs::{plain, run};
+use std::alloc::Global;
+use std::marker::Sync;
+use std::thread::Threads;
+use tide_io::{ReadError, Source, read_up_to};
+use tide_make::make;
+use tide_model::{Memory, Turnstile};
+use tide_options::{Options, Refused, options_of};
+use tide_workload::{Counts, Fault, MAX_BYTES, Workload, read};
+
+/// A run, and what is to be printed of it: the counts of its calls, or the text of them where there are no counts.
+#[derive(Drop)]
+pub struct Printable {
+    pub load: Workload,
+    pub outcome: Outcome,
+    pub counts: Option<Counts>,
+}
+
+/// The options that words ask for.
+fn asked_options(alloc: Global, words: &[String]) -> Result<Options, Stop>
+    ensures asked { IfOk result (λ options. asked_by words.now ≡ Some options) }
+    ensures usage { result ≡ Err Stop.Usage → asked_by words.now ≡ None }
+    ensures others { IfErr result (λ stop. (stop ≡ Stop.Usage) ⊎ (stop ≡ Stop.Memory)) }
+    ensures few { IfOk result (λ options. options.visitors ≤ 8) }
+{
+    match options_of(alloc, words) {
+        Ok(options) => Ok(options),
+        Err(Refused::Usage) => Err(Stop::Usage),
+        Err(Refused::Memory) => Err(Stop::Memory),
+    }
+}
+
+/// Reads the workload.
+fn take_workload<S: Source>(alloc: Global, source: &mut S) -> Result<Workload, Stop>
+    ensures reads { IfOk result (λ work. ReadWork (S.left source.old) (S.left source.new) work) }
+    ensures usage { result ≢ Err Stop.Usage }
+    ensures read_fault { result ≡ Err Stop.ReadFault → Rose (S.faults source.old) (S.faults source.new) }
+    ensures bad_input { (fault : FaultValue) → result ≡ Err (Stop.BadInput fault) →
+        RefusedInput (S.left source.old) (S.left source.new) fault }
+    ensures later { S.faults source.old ≤ S.faults source.new }
+{
+    let bytes = match read_up_to(alloc, source, MAX_BYTES + 1) {
+        Ok(bytes) => bytes,
+        Err(ReadError::Failed) => return Err(Stop::ReadFault),
+        Err(ReadError::Memory) => return Err(Stop::Memory),
+    };
+    match read(alloc, bytes.as_slice()) {
+        Ok(load) => Ok(load),
+        Err(Fault::Memory) => Err(Stop::Memory),
+        Err(fault) => Err(Stop::BadInput { fault }),
+    }
+}
+
+/// The workload that is asked for: the generated one of a number, or the one that is read.
+fn asked_workload<S: Source>(
+    alloc: Global,
+    number: Option<u64>,
+    source: &mut S,
+) -> Result<Workload, Stop>
+    ensures asked { IfOk result (λ work. IsAskedFor number (S.left source.old) (S.left source.new) work) }
+    ensures usage { result ≢ Err Stop.Usage }
+    ensures unread { is_some number ≡ true → Keeps (S.left source.old) (S.left source.new) }
+    ensures read_fault { result ≡ Err Stop.ReadFault →
+        (number ≡ None) × Rose (S.faults source.old) (S.faults source.new) }
+    ensures bad_input { (fault : FaultValue) → result ≡ Err (Stop.BadInput fault) →
+        (number ≡ None) × RefusedInput (S.left source.old) (S.left source.new) fault }
+    ensures later { S.faults source.old ≤ S.faults source.new }
+{
+    match number {
+        Some(number) => make(alloc, number).map_err(|_| Stop::Memory),
+        None => take_workload(alloc, source),
+    }
+}
+
+/// Runs a workload on the store that is asked for.
+fn run_asked<R: Threads + Sync, T: Turnstile>(
+    rt: &R,
+    alloc: Global,
+    load: &Workload,
+    options: Options,
+    gate: &T,
+) -> Result<Outcome, Memory>
+    requires { options.visitors ≤ 8 }
+    ensures run { IfOk result (IsRunOf load.now) }
+{
+    if options.plain {
+        plain(alloc, load)
+    } else {
+        run(rt, alloc, load, options.visitors, gate)
+    }
+}
+
+/// The counts of a run, where they are printed in place of its text.
+fn asked_counts(is_made: bool, outcome: &Outcome) -> Result<Option<Counts>, Memory>
+    ensures { IfOk result (λ counts. printed_with counts outcome.now ≡ printed_as is_made outcome.now) }
+{
+    if is_made {
+        Ok(Some(counts_of(outcome)?))
+    } else {
+        Ok(None)
+    }
+}
+
+/// Runs what the options ask for.
+fn attempt_with<R: Threads + Sync, S: Source, T: Turnstile>(
+    rt: &R,
+    alloc: Global,
+    options: Options,
+    source: &mut S,
+    gate: &T,
+) -> Result<Printable, Stop>
+    requires { options.visitors ≤ 8 }
+    ensures ran { IfOk result (λ done. RanAsked (Some options) (S.left source.old) (S.left source.new) done.outcome) }
+    ensures keys { IfOk result (λ done. done.outcome.keys ≡ done.load.keys) }
+    ensures prints { IfOk result (λ done.
+        printed_with done.counts done.outcome ≡ printed_of (Some options) done.outcome) }
+    ensures usage { result ≢ Err Stop.Usage }
+    ensures unread { is_some options.make ≡ true → Keeps (S.left source.old) (S.left source.new) }
+    ensures read_fault { result ≡ Err Stop.ReadFault →
+        (options.make ≡ None) × Rose (S.faults source.old) (S.faults source.new) }
+    ensures bad_input { (fault : FaultValue) → result ≡ Err (Stop.BadInput fault) →
+        (options.make ≡ None) × RefusedInput (S.left source.old) (S.left source.new) fault }
+    ensures later { S.faults source.old ≤ S.faults source.new }
+{
+    let load = asked_workload(alloc, options.make, source)?;
+    let outcome = match run_asked(rt, alloc, &load, options, gate) {
+        Ok(outcome) => outcome,
+        Err(Memory) => return Err(Stop::Memory),
+    };
+    match asked_counts(options.make.is_some(), &outcome) {
+        Ok(counts) => Ok(Printable {
+            load,
+            outcome,
+            counts,
+        }),
+        Err(Memory) => Err(Stop::Memory),
+    }
+}
+
+/// Runs what the words ask for.
+pub fn attempt<R: Threads + Sync, S: Source, T: Turnstile>(
+    rt: &R,
+    alloc: Global,
+    words: &[String],
+    source: &mut S,
+    gate: &T,
+) -> Result<Printable, Stop>
+    ensures ran { IfOk result (λ done.
+        RanAsked (asked_by words.now) (S.left source.old) (S.left source.new) done.outcome) }
+    ensures keys { IfOk result (λ done. done.outcome.keys ≡ done.load.keys) }
+    ensures prints { IfOk result (λ done.
+        printed_with done.counts done.outcome ≡ printed_of (asked_by words.now) done.outcome) }
+    ensures usage { result ≡ Err Stop.Usage → asked_by words.now ≡ None }
+    ensures words { IfErr result (λ stop. asked_by words.now ≡ None → (stop ≡ Stop.Usage) ⊎ (stop ≡ Stop.Memory)) }
+    ensures unread { result ≡ Err Stop.Usage → Keeps (S.left source.old) (S.left source.new) }
+    ensures unread_made { asks_for_made (asked_by words.now) ≡ true → Keeps (S.left source.old) (S.left source.new) }
+    ensures read_fault { result ≡ Err Stop.ReadFault →
+        AsksToRead (asked_by words.now) × Rose (S.faults source.old) (S.faults source.new) }
+    ensures bad_input { (fault : FaultValue) → result ≡ Err (Stop.BadInput fault) →
+        AsksToRead (asked_by words.now) × RefusedInput (S.left source.old) (S.left source.new) fault }
+    ensures later { S.faults source.old ≤ S.faults source.new }
+{
+    let options = asked_options(alloc, words)?;
+    attempt_with(rt, alloc, options, source, gate)
+}
