@@ -1,5 +1,5 @@
 #!/usr/bin/env python3
-"""Tells which examples of README.md and docs/WORKLOAD.md are no files that the program check_workloads runs.
+"""Tells which examples of README.md and of the pages of docs/ are no files that the program check_workloads runs.
 
     python3 docs/examples.py         prints what differs, and ends with 1 where anything does
 
@@ -8,6 +8,8 @@
 - A table with the columns Operation, Printed and Why has one row for each call of the workload that the link before it
   names, in order.
 - A printed call, as `drop r2 = ok`, and a printed count, as `live 1`, is a line of some workload's text.
+- The blocks of docs/READING-A-RUN.md are the text of one workload, in order.
+- A block that begins with `mutators` is a summary that a run is compared with.
 - A line on the error output, as `riptide: not TOML`, is one that a refused input or a run that fails is compared with.
 
 It also tells which links of the pages lead nowhere, and which files that they name below crates/ aren't there.
@@ -59,6 +61,20 @@ def blocks_differ(name, page):
             path = None
 
 
+def walk_differs(name, stem):
+    """The blocks of a page that leads through a run are its text."""
+    shown = "".join(text for language, text in blocks((TOP / name).read_text()) if language == "")
+    if shown != (DATA / "workloads" / f"{stem}.txt").read_text():
+        yield f"{name}: its blocks aren't the text of {stem}"
+
+
+def summaries_differ(name, page):
+    made = [path.read_text() for path in DATA.glob("make_*.txt")]
+    for _, text in blocks(page):
+        if text.startswith("mutators ") and text not in made:
+            yield f"{name}: no run is compared with this summary:\n{text}"
+
+
 def tables_differ(name, page):
     for before, table in TABLE.findall(page):
         stem = re.search(r"\((?:[^()]*/)?(\w+)\.toml\)", before).group(1)
@@ -98,12 +114,12 @@ def paths_differ():
 
 def main():
     differ = 0
-    for message in paths_differ():
+    for message in (*paths_differ(), *walk_differs("docs/READING-A-RUN.md", "page_with_listeners")):
         differ = 1
         print(message)
     for name in ("README.md", "docs/WORKLOAD.md"):
         page = (TOP / name).read_text()
-        for message in (*blocks_differ(name, page), *tables_differ(name, page), *spans_differ(name, page)):
+        for message in (*blocks_differ(name, page), *tables_differ(name, page), *spans_differ(name, page), *summaries_differ(name, page)):
             differ = 1
             print(message)
     return differ

@@ -1,8 +1,9 @@
 //! A run whose source and sinks give and take ten bytes a call, and fail where they are told to.
 //!
-//! The lines of a row: `workload NAME` or `document LINE` is what there is to read, `words WORDS` are those of the command
-//! line, which is `riptide` alone where none are given (`''` is the empty word); `reads fail CALLS`, `prints fail CALLS` and
-//! `tells fail CALLS` say which calls fail, from 0, and `room BYTES` how much may be printed. Then
+//! The lines of a row: `workload NAME` or `document LINE` is what there is to read, `text FILE` what is to be printed where
+//! that isn't the workload's text, `words WORDS` are those of the command line, which is `riptide` alone where none are given
+//! (`''` is the empty word); `reads fail CALLS`, `prints fail CALLS` and `tells fail CALLS` say which calls fail, from 0, and
+//! `room BYTES` how much may be printed. Then
 //!
 //! - `run` is answered with the status, and with an outcome where there is one; `run short of room` with `write faults` where
 //!   each room less than the text needs ends with one, and with as many first bytes of the text;
@@ -66,6 +67,7 @@ impl Trial {
                 self.document = fs::read(rt, joined(alloc, &["workloads/", name, ".toml"])?)?;
                 self.printed = fs::read(rt, joined(alloc, &["workloads/", name, ".txt"])?)?;
             }
+            ["text", file] => self.printed = fs::read(rt, text(alloc, file)?)?,
             ["document", line @ ..] => {
                 for word in line {
                     self.document.extend_from_slice(word.as_bytes())?;
