@@ -1,0 +1,109 @@
+-- A load that a call sees keeps the wave: what a register is owed is the value that was seen. So does a load of nothing.
+use Rattle.std.proofs.Common.{ℕ, ◌≡◌, ◌≢◌, ◌<◌, ◌==◌, refl, sym, ◌∙◌, ap, subst, arith, Bool, true, false, List, [], ◌∷◌, ◌++◌, Option, Some, None, inl, inr}
+use Rattle.std.specs.Prelude.{if◌then◌else◌}
+use Rattle.std.proofs.lemmas.Bool.{cases_eq, cases_lt, eq-eqb, ne_eqb}
+use Rattle.tide_layout.specs.declared.region.Region.{Region}
+use Rattle.tide_layout.specs.declared.region.Region.TheVariants as region
+use Rattle.tide_machine.proofs.Colouring.{write_same}
+use Rattle.tide_machine.proofs.LoadingSeen.{load_seen}
+use Rattle.tide_machine.specs.Kind.{LoadStrong, LoadWeak, LoadLink, LoadRegister, LoadCall, Kind, region_of, index_of}
+use Rattle.tide_machine.specs.Machine.{found, stepped}
+use Rattle.tide_machine.specs.May.{MayCall}
+use Rattle.tide_machine.specs.RunningWave.{RunningWave}
+use Rattle.tide_machine.specs.Scanning.{slot}
+use Rattle.tide_machine.specs.Words.{value_of}
+use Rattle.tide_machine.specs.World.{World, parties}
+use Rattle.tide_machine.specs.declared.view.View.{View}
+use Rattle.tide_machine.specs.kinds.LoadLink.{MayLoadLink}
+use Rattle.tide_machine.specs.kinds.StoreRootWord.{MayLoadStrong, MayLoadWeak}
+use Rattle.tide_machine.specs.points.Births.{IsHidden}
+use Rattle.tide_model.specs.Answer.{IsAnswerUnless, IsGranted}
+use Rattle.tide_model.specs.Applied.{slot_of}
+use Rattle.tide_model.specs.History.{state_after}
+use Rattle.tide_model.specs.Layout.{Layout, class_of, slots_of, cell_count}
+use Rattle.tide_model.specs.Numbers.{put_at}
+use Rattle.tide_model.specs.References.{IsLive}
+use Rattle.tide_model.specs.Refused.{refusal_of, ShapeLists}
+use Rattle.tide_model.specs.State.{State, is_free}
+use Rattle.tide_model.specs.declared.op.Op.{Op}
+use Rattle.tide_model.specs.declared.op.Op.TheVariants.{Get, StrongGet, WeakGet}
+use Rattle.tide_model.specs.declared.op.Refusal.{Refusal}
+use Rattle.tide_model.specs.declared.op.Reply.TheVariants.{Seen}
+use Rattle.tide_model.specs.declared.val.Val.{Val}
+use Rattle.tide_model.specs.declared.val.Val.TheVariants.{Cell}
+use Rattle.tide_words.proofs.heap_laws.ReadingLaws.{live_within}
+use Rattle.tide_words.specs.forms.ValueWord.{HasU32}
+use Rattle.tide_words.specs.heap.Heap.{Heap, write}
+
+-- a call that saw something met no refusal
+pub seen_granted : (layout : Layout) (state : State) (who : ℕ) (op : Op) (value : Val) (took : Option ℕ) (refused : Option Refusal) →
+    IsAnswerUnless refused layout state who op (Seen value) took → IsGranted layout state who op (Seen value) took
+seen_granted layout state who op value took (Some refusal) (none, is) = absurd (cc)
+seen_granted layout state who op value took None granted = granted
+
+module _ (layout : Layout) (shapes : ShapeLists) (w : World) (me : ℕ) (inside : me < parties) (wave : RunningWave layout shapes w) where
+  abbrev state : State
+  state = state_after layout w.log
+
+  -- the word that was loaded stays
+  as_it_was : (at : Region) (index : ℕ) (part : ℕ → View) (log : List _) → RunningWave layout shapes (record { heap = w.heap; part = part; log = log }) →
+      RunningWave layout shapes (record { heap = write w.heap at index (w.heap at index); part = part; log = log })
+  as_it_was at index part log = subst (λ (h : Heap). RunningWave layout shapes (record { heap = h; part = part; log = log })) (sym (write_same w.heap at index))
+
+  -- a load that says nothing to the one that loads
+  pub load_nothing : (at : Region) (index : ℕ) →
+      RunningWave layout shapes (record { heap = write w.heap at index (w.heap at index); part = put_at w.part me (w.part me); log = w.log })
+  load_nothing at index = as_it_was at index (put_at w.part me (w.part me)) w.log
+      (subst (λ (part : ℕ → View). RunningWave layout shapes (record { heap = w.heap; part = part; log = w.log })) (sym (λ i p. same p i)) wave)
+    where
+      same : (p : ℕ) → put_at w.part me (w.part me) p ≡ w.part p
+      same p = elim (cases_eq p me) [
+        | inl is ↦ ap (λ (b : Bool). if b then w.part me else w.part p) (eq-eqb p me is) ∙ ap w.part (sym is)
+        | inr apart ↦ ap (λ (b : Bool). if b then w.part me else w.part p) (ne_eqb p me apart)
+      ]
+
+  pub load_strong : (handle : ℕ) (op : Op) → MayLoadStrong layout shapes w me handle (w.heap region.Strong handle) (Some op) →
+      RunningWave layout shapes (stepped layout shapes w me (LoadStrong handle (Some op)))
+  load_strong handle (StrongGet dst at) (here, may) = as_it_was region.Strong handle _ _
+      (load_seen layout shapes w me inside wave may.runner.runs may.between.duty may.between.owed may.between.growth (StrongGet dst at) dst
+      (value_of (w.heap region.Strong handle)) may.stands (λ s. refl) may.stands.fits.0
+      (subst HasU32 (sym may.stands.answers.1) (wave.words.reads.roots.strong at may.stands.fits.1).number)
+      (λ p c apart h is. h.strong at (sym may.stands.answers.1 ∙ is)))
+  load_strong handle _ none = absurd none
+
+  pub load_weak : (handle : ℕ) (op : Op) → MayLoadWeak layout shapes w me handle (w.heap region.Weak handle) (Some op) →
+      RunningWave layout shapes (stepped layout shapes w me (LoadWeak handle (Some op)))
+  load_weak handle (WeakGet dst at) (here, may) = as_it_was region.Weak handle _ _
+      (load_seen layout shapes w me inside wave may.runner.runs may.between.duty may.between.owed may.between.growth (WeakGet dst at) dst
+      (value_of (w.heap region.Weak handle)) may.stands (λ s. refl) may.stands.fits.0
+      (subst HasU32 (sym may.stands.answers.1) (wave.words.reads.roots.weak at may.stands.fits.1).number)
+      (λ p c apart h is. h.weak at (sym may.stands.answers.1 ∙ is)))
+  load_weak handle _ none = absurd none
+
+  pub load_link : (cell n : ℕ) (op : Op) → MayLoadLink layout shapes w me cell n (found layout w me (LoadLink cell n (Some op))) (Some op) →
+      RunningWave layout shapes (stepped layout shapes w me (LoadLink cell n (Some op)))
+  load_link cell n (Get dst src m) (here, source, may) = as_it_was region.Slots _ _ _
+      (load_seen layout shapes w me inside wave may.runner.runs may.between.duty may.between.owed may.between.growth (Get dst src m) dst
+      value may.stands (λ s. refl) may.stands.fits.0 (subst HasU32 (sym is) number) (λ p c apart h at. h.linked cell (slot m) (alive, sym is ∙ at)))
+    where
+      value : Val
+      value = value_of (found layout w me (LoadLink cell n (Some (Get dst src m))))
+
+      alive : IsLive state cell
+      alive = wave.refs.in_registers me src cell may.stands.is_active source
+
+      is : value ≡ (state.cells cell).slots m
+      is = (seen_granted layout state me (Get dst src m) value None (refusal_of layout shapes state me (Get dst src m)) may.stands.answers).1
+          ∙ ap (λ (v : Val). slot_of state v m) source
+
+      within : cell < cell_count layout
+      within = live_within layout shapes wave.words.settled state cell wave.words.reads alive
+
+      number : HasU32 ((state.cells cell).slots m)
+      number =
+          let taken = (wave.words.reads.parts.cells cell within).taken (ap is_free alive) in
+          elim (cases_lt m (slots_of (class_of layout cell))) [
+            | inl below ↦ (taken.slots m below).number
+            | inr past ↦ subst HasU32 (sym (taken.past_slots m past)) tt
+          ]
+  load_link cell n _ none = absurd none

@@ -1,0 +1,15 @@
+pub mod World
+pub mod Owed
+pub mod Words
+pub mod Duties
+pub mod Scanning
+pub mod Kind
+pub mod Entries
+pub mod May
+pub mod kinds
+pub mod Views
+pub mod Machine
+pub mod points
+pub mod RunningWave
+pub mod Frozen
+pub mod Schedule

@@ -1,0 +1,65 @@
+-- What the conditions of several kinds of step have in common.
+use Rattle.std.specs.Prelude.{ℕ, ◌≡◌, ◌<◌, ◌≤◌, ◌+◌, Bool, true, false, List, [], length}
+use Rattle.std.specs.Prelude.{Option, None, Some}
+use Rattle.tide_machine.specs.World.{World, first_visitor}
+use Rattle.tide_machine.specs.declared.view.Duty.{Duty}
+use Rattle.tide_machine.specs.declared.view.Growth.{Growth}
+use Rattle.tide_machine.specs.declared.view.Owed.{Owed}
+use Rattle.tide_machine.specs.declared.view.View.{View}
+use Rattle.tide_model.specs.History.{state_after}
+use Rattle.tide_model.specs.Lawful.{Stands}
+use Rattle.tide_model.specs.Layout.{Layout}
+use Rattle.tide_model.specs.Refused.{ShapeLists}
+use Rattle.tide_model.specs.State.{State}
+use Rattle.tide_model.specs.declared.entry.Event.{Event}
+use Rattle.tide_model.specs.declared.op.Op.{Op}
+use Rattle.tide_model.specs.declared.op.Reply.{Reply}
+use Rattle.tide_words.specs.heap.Heap.{Heap}
+use Rattle.tide_words.specs.marking.Colours.{is_marking, running_cycle}
+use Rattle.tide_machine.specs.declared.view.Duty.TheVariants as duty
+use Rattle.tide_machine.specs.declared.view.Growth.TheVariants as growth
+use Rattle.tide_layout.specs.declared.region.Region.TheVariants as region
+use Rattle.tide_machine.specs.Entries.{call_of}
+
+-- the participant is a mutator of the layout in its running part
+pub record RunsAsMutator (layout : Layout) (w : World) (me : ℕ) : Type 0 where
+  pub is_mutator : me < layout.mutators
+  pub runs : (w.part me).runs ≡ true
+
+-- the participant is a visitor of the layout in its running part, while a cycle marks
+pub record RunsAsVisitor (layout : Layout) (w : World) (me : ℕ) : Type 0 where
+  pub is_visitor : first_visitor ≤ me
+  pub within : me < first_visitor + layout.visitors
+  pub runs : (w.part me).runs ≡ true
+  pub marks : (w.part me).marks ≡ true
+
+-- a mutator stands between two of its calls: it owes no word, no barrier, no push and no colour, its call word tells all
+-- of its calls, and it grows no array
+pub record IsBetweenCalls (v : View) : Type 0 where
+  pub owed : v.owed ≡ []
+  pub duty : v.duty ≡ duty.Nothing
+  pub growth : v.growth ≡ growth.Nothing
+  pub calls : v.calls ≡ length v.mine
+
+-- a mutator may make a call with this answer: it stands between two calls, and the history stays lawful with the call
+pub record MayCall (layout : Layout) (shapes : ShapeLists) (w : World) (me : ℕ) (op : Op) (reply : Reply)
+    (took : Option ℕ) : Type 0 where
+  pub runner : RunsAsMutator layout w me
+  pub between : IsBetweenCalls (w.part me)
+  pub stands : Stands layout shapes w.log (call_of me op reply took)
+
+-- a participant holds, scans and owes nothing
+pub record Rests (v : View) : Type 0 where
+  pub held : v.held ≡ []
+  pub scan : v.scan ≡ None
+  pub between : IsBetweenCalls v
+
+-- a view after a call of its own: it owes these words, and what it knew of words is of the past
+abbrev pub called : List Owed → View → View
+called owed v = record v { owed = owed; known = []; full = [] }
+
+-- the barrier that is owed after a store of a word in a cell, where a cycle marks
+abbrev pub barrier_for : Bool → ℕ → Bool → Duty
+barrier_for true cell true = duty.Barrier cell
+barrier_for true cell false = duty.Nothing
+barrier_for false cell is_cell = duty.Nothing

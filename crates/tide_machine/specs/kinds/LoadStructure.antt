@@ -1,0 +1,22 @@
+-- Load structure: a scan reads its cell's structure for the first time.
+use Rattle.std.specs.Prelude.{ℕ, ◌≡◌, false}
+use Rattle.std.specs.Prelude.{None, Some}
+use Rattle.tide_machine.specs.May.{RunsAsVisitor}
+use Rattle.tide_machine.specs.Scanning.{in_scan}
+use Rattle.tide_machine.specs.Words.{is_nuked}
+use Rattle.tide_machine.specs.World.{World}
+use Rattle.tide_machine.specs.declared.view.Scan.{Scan}
+use Rattle.tide_machine.specs.declared.view.View.{View}
+use Rattle.tide_model.specs.Layout.{Layout}
+
+-- a nuked structure is a race
+abbrev pub structure_view : ℕ → View → View
+structure_view read v = record v { scan = in_scan v.scan (λ s. Some record s { first = Some read; raced = is_nuked read }) }
+
+-- the scan of the cell has no first reading
+pub record MayLoadStructure (layout : Layout) (w : World) (me cell : ℕ) : Type 0 where
+  pub runner : RunsAsVisitor layout w me
+  pub scan : Scan
+  pub is : (w.part me).scan ≡ Some scan
+  pub of_cell : scan.cell ≡ cell
+  pub first : scan.first ≡ None
