@@ -18,8 +18,11 @@ pub mod PlainCalls
 pub mod PlainWords
 pub mod StoringRoots
 pub mod Refusals
+pub mod Loads
 pub mod SeenCalls
 pub mod CallWords
 pub mod Freezing
 pub mod OpeningParts
 pub mod Entering
+pub mod FirstGroup
+pub mod Scheduling

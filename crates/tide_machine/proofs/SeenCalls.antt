@@ -1,4 +1,4 @@
--- A load that a call sees keeps the wave: what a register is owed is the value that was seen. So does a load of nothing.
+-- A load that a call sees keeps the wave: what a register is owed is the value that was seen.
 use Rattle.std.proofs.Common.{ℕ, ◌≡◌, ◌≢◌, ◌<◌, ◌==◌, refl, sym, ◌∙◌, ap, subst, arith, Bool, true, false, List, [], ◌∷◌, ◌++◌, Option, Some, None, inl, inr}
 use Rattle.std.specs.Prelude.{if◌then◌else◌}
 use Rattle.std.proofs.lemmas.Bool.{cases_eq, cases_lt, eq-eqb, ne_eqb}
@@ -34,6 +34,7 @@ use Rattle.tide_model.specs.declared.val.Val.TheVariants.{Cell}
 use Rattle.tide_words.proofs.heap_laws.ReadingLaws.{live_within}
 use Rattle.tide_words.specs.forms.ValueWord.{HasU32}
 use Rattle.tide_words.specs.heap.Heap.{Heap, write}
+use Rattle.tide_machine.proofs.Loads.{load_same}
 
 -- a call that saw something met no refusal
 pub seen_granted : (layout : Layout) (state : State) (who : ℕ) (op : Op) (value : Val) (took : Option ℕ) (refused : Option Refusal) →
@@ -45,26 +46,9 @@ module _ (layout : Layout) (shapes : ShapeLists) (w : World) (me : ℕ) (inside 
   abbrev state : State
   state = state_after layout w.log
 
-  -- the word that was loaded stays
-  as_it_was : (at : Region) (index : ℕ) (part : ℕ → View) (log : List _) → RunningWave layout shapes (record { heap = w.heap; part = part; log = log }) →
-      RunningWave layout shapes (record { heap = write w.heap at index (w.heap at index); part = part; log = log })
-  as_it_was at index part log = subst (λ (h : Heap). RunningWave layout shapes (record { heap = h; part = part; log = log })) (sym (write_same w.heap at index))
-
-  -- a load that says nothing to the one that loads
-  pub load_nothing : (at : Region) (index : ℕ) →
-      RunningWave layout shapes (record { heap = write w.heap at index (w.heap at index); part = put_at w.part me (w.part me); log = w.log })
-  load_nothing at index = as_it_was at index (put_at w.part me (w.part me)) w.log
-      (subst (λ (part : ℕ → View). RunningWave layout shapes (record { heap = w.heap; part = part; log = w.log })) (sym (λ i p. same p i)) wave)
-    where
-      same : (p : ℕ) → put_at w.part me (w.part me) p ≡ w.part p
-      same p = elim (cases_eq p me) [
-        | inl is ↦ ap (λ (b : Bool). if b then w.part me else w.part p) (eq-eqb p me is) ∙ ap w.part (sym is)
-        | inr apart ↦ ap (λ (b : Bool). if b then w.part me else w.part p) (ne_eqb p me apart)
-      ]
-
   pub load_strong : (handle : ℕ) (op : Op) → MayLoadStrong layout shapes w me handle (w.heap region.Strong handle) (Some op) →
       RunningWave layout shapes (stepped layout shapes w me (LoadStrong handle (Some op)))
-  load_strong handle (StrongGet dst at) (here, may) = as_it_was region.Strong handle _ _
+  load_strong handle (StrongGet dst at) (here, may) = load_same layout shapes w.heap region.Strong handle _ _
       (load_seen layout shapes w me inside wave may.runner.runs may.between.duty may.between.owed may.between.growth (StrongGet dst at) dst
       (value_of (w.heap region.Strong handle)) may.stands (λ s. refl) may.stands.fits.0
       (subst HasU32 (sym may.stands.answers.1) (wave.words.reads.roots.strong at may.stands.fits.1).number)
@@ -73,7 +57,7 @@ module _ (layout : Layout) (shapes : ShapeLists) (w : World) (me : ℕ) (inside 
 
   pub load_weak : (handle : ℕ) (op : Op) → MayLoadWeak layout shapes w me handle (w.heap region.Weak handle) (Some op) →
       RunningWave layout shapes (stepped layout shapes w me (LoadWeak handle (Some op)))
-  load_weak handle (WeakGet dst at) (here, may) = as_it_was region.Weak handle _ _
+  load_weak handle (WeakGet dst at) (here, may) = load_same layout shapes w.heap region.Weak handle _ _
       (load_seen layout shapes w me inside wave may.runner.runs may.between.duty may.between.owed may.between.growth (WeakGet dst at) dst
       (value_of (w.heap region.Weak handle)) may.stands (λ s. refl) may.stands.fits.0
       (subst HasU32 (sym may.stands.answers.1) (wave.words.reads.roots.weak at may.stands.fits.1).number)
@@ -82,7 +66,7 @@ module _ (layout : Layout) (shapes : ShapeLists) (w : World) (me : ℕ) (inside 
 
   pub load_link : (cell n : ℕ) (op : Op) → MayLoadLink layout shapes w me cell n (found layout w me (LoadLink cell n (Some op))) (Some op) →
       RunningWave layout shapes (stepped layout shapes w me (LoadLink cell n (Some op)))
-  load_link cell n (Get dst src m) (here, source, may) = as_it_was region.Slots _ _ _
+  load_link cell n (Get dst src m) (here, source, may) = load_same layout shapes w.heap region.Slots _ _ _
       (load_seen layout shapes w me inside wave may.runner.runs may.between.duty may.between.owed may.between.growth (Get dst src m) dst
       value may.stands (λ s. refl) may.stands.fits.0 (subst HasU32 (sym is) number) (λ p c apart h at. h.linked cell (slot m) (alive, sym is ∙ at)))
     where

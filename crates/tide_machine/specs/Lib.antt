@@ -13,3 +13,4 @@ pub mod points
 pub mod RunningWave
 pub mod Frozen
 pub mod Schedule
+pub mod Groups
