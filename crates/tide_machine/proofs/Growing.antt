@@ -98,6 +98,13 @@ module _ (layout : Layout) (log : List Event) (e : Event) (goes_on : is_begin e.
   pub born-old : (cell : ℕ) → is_born_in_cycle log cell ≡ true → is_born_in_cycle (log ++ e ∷ []) cell ≡ true
   born-old cell is = born_now cell ∙ ap (λ (b : Bool). b || (is_birth_of cell e.entry || false)) is
 
+  pub born_here : (cell : ℕ) → is_birth_of cell e.entry ≡ true → is_born_in_cycle (log ++ e ∷ []) cell ≡ true
+  born_here cell is = born_now cell ∙ ap (λ (b : Bool). is_born_in_cycle log cell || (b || false)) is ∙ or_true (is_born_in_cycle log cell)
+    where
+      or_true : (b : Bool) → (b || true) ≡ true
+      or_true true = refl
+      or_true false = refl
+
   pub born-new : (cell : ℕ) → is_born_in_cycle (log ++ e ∷ []) cell ≡ true →
       (is_born_in_cycle log cell ≡ true) ⊎ (is_birth_of cell e.entry ≡ true)
   born-new cell is = by (is_born_in_cycle log cell) (is_birth_of cell e.entry) (sym (born_now cell) ∙ is)

@@ -25,4 +25,13 @@ pub mod Freezing
 pub mod OpeningParts
 pub mod Entering
 pub mod FirstGroup
+pub mod Barriers
+pub mod SlotCells
+pub mod StoringLinks
+pub mod Regreying
+pub mod BornColours
+pub mod SecondGroup
+pub mod Births
+pub mod TakingCells
+pub mod Takes
 pub mod Scheduling

@@ -13,10 +13,19 @@ use Rattle.tide_machine.specs.World.{World, parties}
 use Rattle.tide_model.specs.Lawful.{IsLawful}
 use Rattle.tide_model.specs.Layout.{Layout}
 use Rattle.tide_model.specs.Refused.{ShapeLists}
+use Rattle.std.specs.Prelude.{slice_get, Option}
+use Rattle.tide_layout.specs.Limits.{IsWithinLimits}
+use Rattle.tide_machine.proofs.SecondGroup.{second_group}
+use Rattle.tide_machine.proofs.Takes.{take}
+use Rattle.tide_machine.specs.Groups.{has_law, is_of_second_group}
+use Rattle.tide_machine.specs.Kind.{TakeFree}
+use Rattle.std.proofs.Common.{◌⊎◌, inl, inr, List, [], Some, None}
+use Rattle.std.specs.Prelude.{◌||◌}
+use Rattle.std.proofs.lemmas.Bool.{or_cases}
 
 -- whoever steps when
-pub whoever_steps : (layout : Layout) (shapes : ShapeLists) (test : Kind → Bool) →
-    ((w : World) (me : ℕ) → me < parties → RunningWave layout shapes w → (kind : Kind) → test kind ≡ true →
+pub whoever_steps : (layout : Layout) (shapes : ShapeLists) (test : World → ℕ → Kind → Bool) →
+    ((w : World) (me : ℕ) → me < parties → RunningWave layout shapes w → (kind : Kind) → test w me kind ≡ true →
     IsAllowed layout shapes w me kind → RunningWave layout shapes (stepped layout shapes w me kind)) →
     (mode : Mode) (w : World) → Comes layout shapes test mode w → WaveIn layout shapes mode w
 whoever_steps layout shapes test keeps _ _ at_first = FrozenMachine-first layout shapes
@@ -29,14 +38,30 @@ whoever_steps layout shapes test keeps _ _ (enters w before after heap log came 
 whoever_steps layout shapes test keeps _ _ (opens w run came) =
     RunningWave-opened layout shapes w run (whoever_steps layout shapes test keeps (frozen 0) w came)
 
--- so it is with the kinds of the first group
-pub all_schedules : (layout : Layout) (shapes : ShapeLists) (mode : Mode) (w : World) →
-    Comes layout shapes is_of_first_group mode w → WaveIn layout shapes mode w
-all_schedules layout shapes = whoever_steps layout shapes is_of_first_group
-    (λ w me inside wave. first_group layout shapes w me inside wave)
+-- each step whose law is proved keeps the wave
+pub step_keeps : (layout : Layout) (shapes : ShapeLists) → IsWithinLimits layout → slice_get shapes 0 ≡ Some [] →
+    (w : World) (me : ℕ) → me < parties → RunningWave layout shapes w → (kind : Kind) → has_law w me kind ≡ true →
+    IsAllowed layout shapes w me kind → RunningWave layout shapes (stepped layout shapes w me kind)
+step_keeps layout shapes limits empty_shape w me inside wave (TakeFree block k None) is may = absurd may
+step_keeps layout shapes limits empty_shape w me inside wave (TakeFree block k (Some o)) is may =
+    take layout shapes limits empty_shape w me inside wave block k may.2 may.3 o may is
+step_keeps layout shapes limits empty_shape w me inside wave kind is may = by_group (either is)
+  where
+    by_group : (is_of_first_group kind ≡ true) ⊎ (is_of_second_group kind ≡ true) → RunningWave layout shapes (stepped layout shapes w me kind)
+    by_group (inl first) = first_group layout shapes w me inside wave kind first may
+    by_group (inr second) = second_group layout shapes w me inside wave kind second may
+
+    either : (is_of_first_group kind || is_of_second_group kind) ≡ true → (is_of_first_group kind ≡ true) ⊎ (is_of_second_group kind ≡ true)
+    either = or_cases (is_of_first_group kind) (is_of_second_group kind)
+
+-- so the wave holds in all schedules of such steps
+pub all_schedules : (layout : Layout) (shapes : ShapeLists) → IsWithinLimits layout → slice_get shapes 0 ≡ Some [] →
+    (mode : Mode) (w : World) → Comes layout shapes has_law mode w → WaveIn layout shapes mode w
+all_schedules layout shapes limits empty_shape = whoever_steps layout shapes has_law (step_keeps layout shapes limits empty_shape)
 
 -- and the history is lawful
-pub all_lawful : (layout : Layout) (shapes : ShapeLists) (mode : Mode) (w : World) →
-    Comes layout shapes is_of_first_group mode w → IsLawful layout shapes w.log
-all_lawful layout shapes running w came = (all_schedules layout shapes running w came).lawful
-all_lawful layout shapes (frozen unentered) w came = (all_schedules layout shapes (frozen unentered) w came).wave.lawful
+pub all_lawful : (layout : Layout) (shapes : ShapeLists) → IsWithinLimits layout → slice_get shapes 0 ≡ Some [] →
+    (mode : Mode) (w : World) → Comes layout shapes has_law mode w → IsLawful layout shapes w.log
+all_lawful layout shapes limits empty_shape running w came = (all_schedules layout shapes limits empty_shape running w came).lawful
+all_lawful layout shapes limits empty_shape (frozen unentered) w came =
+    (all_schedules layout shapes limits empty_shape (frozen unentered) w came).wave.lawful

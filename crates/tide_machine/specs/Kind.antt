@@ -4,7 +4,7 @@ use Rattle.std.specs.Prelude.{◌==◌, nat_lt, if◌then◌else◌, Option, bit
 use Rattle.tide_layout.specs.Region.{index_of_register}
 use Rattle.tide_layout.specs.Slots.{index_of_slot, index_of_element}
 use Rattle.tide_layout.specs.declared.region.Region.{Region}
-use Rattle.tide_machine.specs.Words.{bit_of}
+use Rattle.tide_machine.specs.Words.{all_but, bit_of}
 use Rattle.tide_machine.specs.World.{first_visitor}
 use Rattle.tide_machine.specs.declared.act.Act.{Act}
 use Rattle.tide_machine.specs.declared.act.Act.TheVariants.{Load, Store, Swap, And, Or, Exchange}
@@ -223,7 +223,7 @@ act_of (LoadColour cell) = Load
 act_of (Regrey cell cycle) = Exchange (colour_word cycle Black) (colour_word cycle Grey)
 act_of (PushBit cell) = Or (bit_of cell)
 act_of (LoadFree block made) = Load
-act_of (TakeFree block k made) = And (2 ^ 64 - 1 - 2 ^ k)
+act_of (TakeFree block k made) = And (all_but k)
 act_of (StoreBorn cell word) = Store word
 act_of (LoadPair table place made) = Load
 act_of (StorePair table place word made) = Store word
@@ -233,7 +233,7 @@ act_of (TakeClaim cell who made) = Exchange (claim_word None) (claim_word (Some 
 act_of (Release cell made) = Store (claim_word None)
 act_of (LoadElement array place made) = Load
 act_of (StoreElement array place word made) = Store word
-act_of (TakeArray block k old next made) = And (2 ^ 64 - 1 - 2 ^ k)
+act_of (TakeArray block k old next made) = And (all_but k)
 act_of (Nuke cell word) = Store word
 act_of (LoadOwnArray cell) = Load
 act_of (StoreArray cell array) = Store (array_word (Some array))

@@ -1,5 +1,6 @@
 -- What the conditions of several kinds of step have in common.
-use Rattle.std.specs.Prelude.{ℕ, ◌≡◌, ◌<◌, ◌≤◌, ◌+◌, Bool, true, false, List, [], length}
+use Rattle.tide_machine.specs.Words.{is_cell_word}
+use Rattle.std.specs.Prelude.{◌&&◌, if◌then◌else◌, ℕ, ◌≡◌, ◌<◌, ◌≤◌, ◌+◌, Bool, true, false, List, [], length}
 use Rattle.std.specs.Prelude.{Option, None, Some}
 use Rattle.tide_machine.specs.World.{World, first_visitor}
 use Rattle.tide_machine.specs.declared.view.Duty.{Duty}
@@ -58,8 +59,6 @@ pub record Rests (v : View) : Type 0 where
 abbrev pub called : List Owed → View → View
 called owed v = record v { owed = owed; known = []; full = [] }
 
--- the barrier that is owed after a store of a word in a cell, where a cycle marks
-abbrev pub barrier_for : Bool → ℕ → Bool → Duty
-barrier_for true cell true = duty.Barrier cell
-barrier_for true cell false = duty.Nothing
-barrier_for false cell is_cell = duty.Nothing
+-- the barrier that is owed after a store of a word in a cell, where a cycle marks and the word is a reference
+abbrev pub barrier_for : Bool → ℕ → ℕ → Duty
+barrier_for marks cell word = if marks && is_cell_word word then duty.Barrier cell else duty.Nothing

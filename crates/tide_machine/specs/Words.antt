@@ -1,6 +1,6 @@
 -- What single words tell a participant.
 use Rattle.std.specs.Prelude.{ℕ, ◌+◌, ◌*◌, ◌%◌, ◌/◌, ◌^◌, Bool, List}
-use Rattle.std.specs.Int.{bit_at}
+use Rattle.std.specs.Int.{bit_at, bit_not, w64}
 use Rattle.std.specs.Prelude.{◌==◌, map, if◌then◌else◌}
 use Rattle.tide_model.specs.Numbers.{numbers_where}
 use Rattle.tide_model.specs.declared.val.Val.{Val}
@@ -39,3 +39,7 @@ bit_of cell = 2 ^ (cell % 64)
 -- the cells of a block whose bits a word has
 abbrev pub cells_in : ℕ → ℕ → List ℕ
 cells_in block word = map (λ k. 64 * block + k) (numbers_where (λ k. bit_at word k == 1) 64)
+
+-- all bits of a word but one
+abbrev pub all_but : ℕ → ℕ
+all_but k = bit_not w64 (1 * 2 ^ k % 2 ^ 64)

@@ -2,7 +2,6 @@
 use Rattle.std.specs.Prelude.{ℕ, ◌≡◌, ◌<◌, []}
 use Rattle.std.specs.Prelude.{Option, None, Some}
 use Rattle.tide_machine.specs.May.{MayCall, called, barrier_for}
-use Rattle.tide_machine.specs.Words.{is_cell_word}
 use Rattle.tide_machine.specs.World.{World}
 use Rattle.tide_machine.specs.declared.view.View.{View}
 use Rattle.tide_model.specs.History.{state_after}
@@ -16,7 +15,7 @@ use Rattle.tide_words.specs.forms.ValueWord.{val_word}
 
 -- it owes the barrier
 abbrev pub linked_view : ℕ → ℕ → View → View
-linked_view cell word v = record (called [] v) { duty = barrier_for v.marks cell (is_cell_word word) }
+linked_view cell word v = record (called [] v) { duty = barrier_for v.marks cell word }
 
 -- the slot is stored by Put
 abbrev pub MayStoreLink : Layout → ShapeLists → World → ℕ → ℕ → ℕ → ℕ → Option Op → Type 0

@@ -4,7 +4,7 @@ use Rattle.std.specs.Prelude.{◌⊎◌, Contains, Option, None, Some}
 use Rattle.tide_layout.specs.Slots.{index_of_element, HasElement}
 use Rattle.tide_machine.specs.May.{RunsAsMutator, MayCall, called, barrier_for}
 use Rattle.tide_machine.specs.Owed.{Owes, owed_word, without_word, owed_register, filled_register}
-use Rattle.tide_machine.specs.Words.{is_cell_word, value_of, cell_named}
+use Rattle.tide_machine.specs.Words.{value_of, cell_named}
 use Rattle.tide_machine.specs.World.{World}
 use Rattle.tide_machine.specs.declared.view.View.{View}
 use Rattle.tide_model.specs.History.{state_after}
@@ -34,7 +34,7 @@ stored_element_view layout state me array place word None v = record v {
       ∷ without_word region.Elements (index_of_element layout array place) v.known;
 }
 stored_element_view layout state me array place word (Some (SetProp src key val)) v = record (called [] v) {
-  duty = barrier_for v.marks (cell_named (state.registers me src)) (is_cell_word word);
+  duty = barrier_for v.marks (cell_named (state.registers me src)) word;
 }
 stored_element_view layout state me array place word (Some _) v = v
 

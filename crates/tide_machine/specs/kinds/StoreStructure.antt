@@ -5,7 +5,6 @@ use Rattle.std.specs.Prelude.{Option, None, Some}
 use Rattle.tide_call.specs.ShapeWord.{whole_word, IsShapeWord}
 use Rattle.tide_machine.specs.May.{RunsAsMutator, MayCall, called, barrier_for}
 use Rattle.tide_machine.specs.Owed.{owed_word, without_word}
-use Rattle.tide_machine.specs.Words.{is_cell_word}
 use Rattle.tide_machine.specs.World.{World}
 use Rattle.tide_machine.specs.declared.view.View.{View}
 use Rattle.tide_model.specs.History.{state_after}
@@ -25,7 +24,7 @@ abbrev pub structured_view : State → ℕ → ℕ → Option Op → View → Vi
 structured_view state me cell None v =
     record v { growth = growth.Nothing; owed = without_word region.Structure cell v.owed; known = [] }
 structured_view state me cell (Some (Add src key val)) v =
-    record (called [] v) { duty = barrier_for v.marks cell (is_cell_word (val_word (state.registers me val))) }
+    record (called [] v) { duty = barrier_for v.marks cell (val_word (state.registers me val)) }
 structured_view state me cell (Some _) v = v
 
 -- the structure's word is known

@@ -5,7 +5,7 @@ use Rattle.std.specs.Prelude.{◌==◌, if◌then◌else◌, Option, None, Some}
 use Rattle.tide_layout.specs.Region.{cell_block_count}
 use Rattle.tide_machine.specs.May.{RunsAsMutator, MayCall, called, barrier_for}
 use Rattle.tide_machine.specs.Owed.{owed_word, owed_elements, Knows}
-use Rattle.tide_machine.specs.Words.{is_cell_word, cell_named, count_of, is_nuked}
+use Rattle.tide_machine.specs.Words.{cell_named, count_of, is_nuked}
 use Rattle.tide_machine.specs.World.{World}
 use Rattle.tide_machine.specs.declared.view.View.{View}
 use Rattle.tide_machine.specs.kinds.LoadFree.{searched_view}
@@ -40,7 +40,7 @@ grown_view layout state cell array value old next v = record v {
   owed = owed_word region.Structure cell next ∷ owed_word region.Array cell (array_word (Some array))
       ∷ owed_elements layout (properties_with state cell value) array (suc (length (state.cells cell).keys));
   growth = growth.Filling cell array old next;
-  duty = barrier_for v.marks cell (is_cell_word (val_word value));
+  duty = barrier_for v.marks cell (val_word value);
   known = []; full = [];
 }
 
