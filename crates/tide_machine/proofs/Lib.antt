@@ -35,3 +35,4 @@ pub mod Births
 pub mod TakingCells
 pub mod Takes
 pub mod Scheduling
+pub mod BusyRow
