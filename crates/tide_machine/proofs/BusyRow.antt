@@ -28,7 +28,7 @@ use Rattle.tide_words.specs.heap.EmptyHeap.{empty_heap}
 use Rattle.tide_words.specs.heap.Heap.{Heap, write}
 use Rattle.tide_words.specs.marking.Colours.{is_marking, is_grey}
 
-limits : IsWithinLimits small
+pub limits : IsWithinLimits small
 limits = record {
   five_cell_classes = refl;
   five_array_classes = refl;
@@ -72,10 +72,10 @@ came_begun : Comes small no_shapes has_law (frozen 0) begun
 came_begun = enters first_world 0 0 (write empty_heap region.Phase 0 3) (with_begin []) at_first (begins (write empty_heap region.Phase 0 3) refl begins_first)
 
 -- a part of 16 calls is opened
-abbrev opened : World
+abbrev pub opened : World
 opened = record begun { heap = write begun.heap region.Period 0 1; log = with_open begun.log 16 }
 
-came_opened : Comes small no_shapes has_law running opened
+pub came_opened : Comes small no_shapes has_law running opened
 came_opened = opens begun 16 came_begun
 
 -- its ticket

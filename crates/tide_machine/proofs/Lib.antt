@@ -36,3 +36,4 @@ pub mod TakingCells
 pub mod Takes
 pub mod Scheduling
 pub mod BusyRow
+pub mod PointRows

@@ -14,3 +14,4 @@ pub mod RunningWave
 pub mod Frozen
 pub mod Schedule
 pub mod Groups
+pub mod Laws
