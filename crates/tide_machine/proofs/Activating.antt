@@ -1,26 +1,22 @@
 -- A participant that holds a ticket of the open part begins.
-use Rattle.std.proofs.Common.{ℕ, ◌⊎◌, ◌≡◌, ◌≢◌, ◌+◌, ◌<◌, ◌≤◌, ◌==◌, refl, sym, ◌∙◌, ap, subst, arith, Bool, true, false, List, [], inl, inr, Option, Some, None}
+use Rattle.std.proofs.Common.{ℕ, ◌⊎◌, ◌≡◌, ◌<◌, ◌≤◌, refl, sym, ◌∙◌, ap, subst, arith, Bool, true, false, [], inl, inr, Some}
 use Rattle.std.specs.Prelude.{Contains, if◌then◌else◌}
 use Rattle.std.proofs.lemmas.Bool.{cases_Bool, cases_eq, eq-eqb, eqb-true}
 use Rattle.tide_layout.specs.declared.region.Region.{Region}
 use Rattle.tide_layout.specs.declared.region.Region.TheVariants as region
 use Rattle.tide_machine.specs.declared.view.View.{View}
 use Rattle.tide_machine.specs.declared.view.Scan.{Scan}
-use Rattle.tide_machine.specs.declared.view.Owed.{Owed}
-use Rattle.tide_machine.specs.declared.view.Duty.{Duty}
-use Rattle.tide_machine.specs.declared.view.Duty.TheVariants as duty
-use Rattle.tide_machine.specs.declared.view.Growth.TheVariants as growth
 use Rattle.tide_machine.proofs.Frames.{calls_view, each_put}
-use Rattle.tide_machine.proofs.Steps.{ShowsStep, any_step}
+use Rattle.tide_machine.proofs.Steps.{any_step}
 use Rattle.tide_machine.proofs.Lists.{nothing_in}
-use Rattle.tide_machine.specs.Duties.{GrowsAndOwes, OwesColour}
+use Rattle.tide_machine.specs.Duties.{GrowsAndOwes}
 use Rattle.tide_machine.specs.Owed.{Owes, IsOwnWord, owed_word}
 use Rattle.tide_machine.specs.RunningWave.{RunningWave}
 use Rattle.tide_machine.specs.World.{World, parties}
 use Rattle.tide_machine.specs.kinds.Activate.{begun_view}
 use Rattle.tide_machine.specs.points.Growths.{GrowthKnows}
 use Rattle.tide_machine.specs.points.Marks.{counted_in}
-use Rattle.tide_machine.specs.points.Scans.{held, scanned, buffered, IsAtHand}
+use Rattle.tide_machine.specs.points.Scans.{held, scanned, buffered}
 use Rattle.tide_machine.specs.points.SettledWords.{RunningWordsRead}
 use Rattle.tide_model.proofs.ReferenceLaws.{put_at_elim}
 use Rattle.tide_model.specs.History.{state_after}
@@ -28,8 +24,6 @@ use Rattle.tide_model.specs.Layout.{Layout}
 use Rattle.tide_model.specs.Numbers.{put_at}
 use Rattle.tide_model.specs.Refused.{ShapeLists}
 use Rattle.tide_words.specs.marking.Colours.{is_marking, running_cycle}
-use Rattle.tide_words.specs.marking.Marking.{times_in}
-
 
 module _ (layout : Layout) (shapes : ShapeLists) (w : World) (me : ℕ) (inside : me < parties) (wave : RunningWave layout shapes w) (parked : (w.part me).runs ≡ false)
     (of_part : (w.part me).ticket ≡ w.heap region.Period 0) (marks_are : (w.part me).marks ≡ is_marking w.heap) (cycle_is : (w.part me).cycle ≡ running_cycle w.heap)
@@ -53,10 +47,13 @@ module _ (layout : Layout) (shapes : ShapeLists) (w : World) (me : ℕ) (inside 
   pub activate : (visits ≡ 0) ⊎ ((w.part me).begun ≡ w.heap region.Period 0) → RunningWave layout shapes (record { heap = w.heap; part = put_at w.part me later; log = w.log })
   activate first_or_again = any_step layout shapes w.heap w.part w.log me wave w.heap later record {
     inside = inside;
-    phase = refl; period = refl;
+    phase = refl;
+    period = refl;
     calls = calls_view layout w.heap w.heap w.part me later refl (λ p. refl) wave.calls;
     words = words_after;
-    who = refl; seen = inl refl; mine = refl;
+    who = refl;
+    seen = inl refl;
+    mine = refl;
     knows = λ at index word is. absurd (nothing_in (owed_word at index word) is);
     knows_still = λ p at index word apart is. wave.kept.known p at index word is;
     finds = λ block moment is. absurd (let below = is.1 in omega (arith, below));
@@ -65,7 +62,7 @@ module _ (layout : Layout) (shapes : ShapeLists) (w : World) (me : ℕ) (inside 
     colours = wave.colours;
     balance = λ _ c in_c few. refl;
     rests = λ idle. (wave.rests.words idle, wave.rests.held idle me, wave.rests.scans idle me, wave.rests.duties idle me);
-    at_hand = λ c at. wave.hands.cells me c (elim at [ | held is ↦ held is | scanned scan is e ↦ scanned scan is e | buffered scan is e ↦ buffered scan is e ]);
+    at_hand = λ c at. wave.hands.cells me c (elim at [ held is ↦ held is | scanned scan is e ↦ scanned scan is e | buffered scan is e ↦ buffered scan is e ]);
     arrays = λ a scan is. none_scans scan is;
     scanned = λ scan is. none_scans scan is;
     growth = subst (GrowthKnows w.heap (state_after layout w.log) me later) (sym (wave.parked.growth me parked)) tt;
@@ -114,18 +111,22 @@ pub record Activated (v w : View) : Type 0 where
 pub activated : (v : View) → Activated v (begun_view v)
 activated v = elim (cases_eq v.begun v.ticket) [
   | inl same ↦ record {
-      born = v.born; visits = v.visits; races = v.races;
-      is = ap (λ (b : Bool). if b then record v { runs = true; round = []; full = []; known = [] } else record v { runs = true; begun = v.ticket; born = 0; visits = 0; races = 0; round = []; full = []; known = [] }) (eq-eqb v.begun v.ticket same)
-          ∙ ap (λ (n : ℕ). record v { runs = true; begun = n; round = []; full = []; known = [] }) same;
-      same = λ _. refl;
-      first_or_again = inr same;
-    }
+    born = v.born;
+    visits = v.visits;
+    races = v.races;
+    is = ap (λ (b : Bool). if b then record v { runs = true; round = []; full = []; known = [] } else record v { runs = true; begun = v.ticket; born = 0; visits = 0; races = 0; round = []; full = []; known = [] }) (eq-eqb v.begun v.ticket same)
+        ∙ ap (λ (n : ℕ). record v { runs = true; begun = n; round = []; full = []; known = [] }) same;
+    same = λ _. refl;
+    first_or_again = inr same;
+  }
   | inr apart ↦ record {
-      born = 0; visits = 0; races = 0;
-      is = ap (λ (b : Bool). if b then record v { runs = true; round = []; full = []; known = [] } else record v { runs = true; begun = v.ticket; born = 0; visits = 0; races = 0; round = []; full = []; known = [] }) (Rattle.std.proofs.lemmas.Bool.ne_eqb v.begun v.ticket apart);
-      same = λ e. absurd (apart e);
-      first_or_again = inl refl;
-    }
+    born = 0;
+    visits = 0;
+    races = 0;
+    is = ap (λ (b : Bool). if b then record v { runs = true; round = []; full = []; known = [] } else record v { runs = true; begun = v.ticket; born = 0; visits = 0; races = 0; round = []; full = []; known = [] }) (Rattle.std.proofs.lemmas.Bool.ne_eqb v.begun v.ticket apart);
+    same = λ e. absurd (apart e);
+    first_or_again = inl refl;
+  }
 ]
 
 -- the step of beginning keeps the wave
@@ -134,4 +135,4 @@ pub begin : (layout : Layout) (shapes : ShapeLists) (w : World) (me : ℕ) → m
 begin layout shapes w me inside wave parked of_part marks_are cycle_is =
     let a = activated (w.part me) in
     subst (λ (v : View). RunningWave layout shapes (record { heap = w.heap; part = put_at w.part me v; log = w.log })) (sym a.is)
-    (activate layout shapes w me inside wave parked of_part marks_are cycle_is a.born a.visits a.races (λ again. a.same (again ∙ sym of_part)) (elim a.first_or_again [ | inl none ↦ inl none | inr again ↦ inr (again ∙ of_part) ]))
+    (activate layout shapes w me inside wave parked of_part marks_are cycle_is a.born a.visits a.races (λ again. a.same (again ∙ sym of_part)) (elim a.first_or_again [ inl none ↦ inl none | inr again ↦ inr (again ∙ of_part) ]))

@@ -1,11 +1,10 @@
 -- What a store of a word leaves its caller to do.
-use Rattle.std.proofs.Common.{ℕ, ◌≡◌, ◌+◌, ◌*◌, ◌%◌, refl, sym, ◌∙◌, ap, subst, arith, Bool, true, false}
+use Rattle.std.proofs.Common.{ℕ, ◌≡◌, ◌+◌, ◌*◌, ◌%◌, refl, arith, Bool, true, false}
 use Rattle.std.specs.Prelude.{if◌then◌else◌, ◌&&◌}
 use Rattle.std.proofs.lemmas.Bool.{eq-eqb}
 use Rattle.tide_machine.specs.declared.view.Duty.{Duty}
 use Rattle.tide_machine.specs.declared.view.Duty.TheVariants as duty
 use Rattle.tide_machine.specs.Duties.{OwesBarrier, OwesColour, IsCalm}
-use Rattle.tide_machine.specs.May.{barrier_for}
 use Rattle.tide_machine.specs.Words.{is_cell_word}
 use Rattle.tide_machine.specs.World.{pushes}
 

@@ -1,18 +1,14 @@
 -- A cell that was free and has just been taken awaits its colour.
-use Rattle.std.proofs.Common.{ℕ, zero, suc, ◌≡◌, ◌≢◌, ◌+◌, ◌<◌, ◌≤◌, ◌⊎◌, ◌==◌, refl, sym, ◌∙◌, ap, subst, arith, Bool, true, false, List, [], ◌∷◌, ◌++◌, inl, inr, Option, Some, None, length}
-use Rattle.std.specs.Prelude.{Contains, if◌then◌else◌, count_by}
+use Rattle.std.proofs.Common.{ℕ, ◌≡◌, ◌≢◌, ◌<◌, refl, sym, ◌∙◌, ap, subst, arith, Bool, true, false, List, [], ◌∷◌, ◌++◌, inl, inr, None, length}
+use Rattle.std.specs.Prelude.{if◌then◌else◌}
 use Rattle.std.proofs.lemmas.Bool.{cases_Bool, cases_eq, eq-eqb, ne_eqb}
-use Rattle.std.proofs.lemmas.Bool.Decides.{nat_tests}
-use Rattle.std.proofs.lemmas.List.Sums.{sum_by-append}
 use Rattle.tide_model.specs.declared.entry.Event.{Event}
 use Rattle.tide_model.specs.Applied.{after_call}
 use Rattle.tide_model.specs.declared.op.Op.{Op}
 use Rattle.tide_model.specs.declared.op.Reply.TheVariants.{Born}
-use Rattle.tide_model.specs.declared.val.Val.{Val}
-use Rattle.tide_model.specs.declared.val.Val.TheVariants.{Empty, Cell}
+use Rattle.tide_model.specs.declared.val.Val.TheVariants.{Cell}
 use Rattle.tide_machine.proofs.Freezing.{retained_is_live}
 use Rattle.tide_machine.proofs.Growing
-use Rattle.tide_core.specs.FrozenWave.{is_birth_of, is_born_in_cycle}
 use Rattle.tide_machine.specs.Entries.{call_of}
 use Rattle.tide_machine.specs.RunningWave.{RunningWave}
 use Rattle.tide_machine.specs.Scanning.{Place, slot, property}
@@ -22,17 +18,15 @@ use Rattle.tide_machine.specs.points.Links.{LinkAt}
 use Rattle.tide_model.proofs.Cycles.{graph_in_span}
 use Rattle.tide_model.proofs.Histories.{state_after-push, moment_after_last-le}
 use Rattle.tide_model.specs.Applied.{put_register, put_cell}
-use Rattle.tide_model.specs.Cycle.{cycle_span}
-use Rattle.tide_model.specs.Graph.{IsRetained, is_root, no_cell, in_register, IsLink, in_slot, in_property, IsRoot}
+use Rattle.tide_model.specs.Graph.{is_root, in_register, IsLink, in_slot, in_property, IsRoot}
 use Rattle.tide_model.specs.History.{state_after, is_begin, moment_after_last}
 use Rattle.tide_model.specs.Layout.{Layout, cell_count}
 use Rattle.tide_model.specs.Numbers.{put_at}
-use Rattle.tide_model.specs.References.{IsLive, RefsAreLive}
+use Rattle.tide_model.specs.References.{IsLive}
 use Rattle.tide_model.specs.Refused.{ShapeLists}
-use Rattle.tide_model.specs.Since.{since}
 use Rattle.tide_model.specs.State.{State, CellState, live, free, blank_cell}
 use Rattle.tide_words.specs.heap.Heap.{Heap}
-use Rattle.tide_words.specs.marking.Colours.{is_marking, IsMarked}
+use Rattle.tide_words.specs.marking.Colours.{is_marking}
 use Rattle.tide_words.specs.marking.Marked.{is_marked}
 
 module _ (layout : Layout) (shapes : ShapeLists) (w : World) (wave : RunningWave layout shapes w) (me : ℕ) (op : Op) (dst cell : ℕ)

@@ -1,18 +1,16 @@
 -- The colour of a cell that was just taken is stored.
-use Rattle.std.proofs.Common.{ℕ, zero, suc, ◌≡◌, ◌≢◌, ◌+◌, ◌*◌, ◌<◌, ◌≤◌, ◌⊎◌, ◌==◌, refl, sym, ◌∙◌, ap, subst, arith, Bool, true, false, inl, inr}
+use Rattle.std.proofs.Common.{ℕ, ◌≡◌, ◌<◌, refl, sym, ◌∙◌, ap, subst, arith, Bool, true, false, inl, inr}
 use Rattle.std.specs.Prelude.{if◌then◌else◌, ◌&&◌, not}
-use Rattle.std.proofs.lemmas.Bool.{cases_Bool, cases_eq, eq-eqb, eqb-true, eqb-false, ne_eqb, and_parts, and_from}
-use Rattle.tide_words.specs.declared.forms.colours.Colour.TheVariants.{Black, White, Grey}
+use Rattle.std.proofs.lemmas.Bool.{cases_eq, and_parts, and_from}
+use Rattle.tide_words.specs.declared.forms.colours.Colour.TheVariants.{Black, White}
 use Rattle.tide_layout.specs.declared.region.Region.TheVariants as region
-use Rattle.tide_machine.specs.declared.view.View.{View}
 use Rattle.tide_machine.specs.declared.view.Duty.{Duty}
 use Rattle.tide_machine.specs.declared.view.Duty.TheVariants as duty
 use Rattle.tide_machine.proofs.Colouring.{unread_write, colours_coloured, count_where-le, recoloured_one}
-use Rattle.tide_machine.proofs.Duties.{with_duty, ShowsDuty, duty_step}
+use Rattle.tide_machine.proofs.Duties.{with_duty, duty_step}
 use Rattle.tide_core.specs.FrozenWave.{is_born_in_cycle}
-use Rattle.tide_machine.specs.Duties.{OwesBarrier, OwesColour, IsCalm}
+use Rattle.tide_machine.specs.Duties.{OwesBarrier, OwesColour}
 use Rattle.tide_machine.specs.RunningWave.{RunningWave}
-use Rattle.tide_machine.specs.Scanning.{Place}
 use Rattle.tide_machine.specs.World.{World, parties, pushes}
 use Rattle.tide_machine.specs.points.Births.{AwaitsColour}
 use Rattle.tide_machine.specs.points.Links.{LinkAt}
@@ -20,11 +18,9 @@ use Rattle.tide_model.specs.History.{state_after}
 use Rattle.tide_model.specs.Layout.{Layout, cell_count}
 use Rattle.tide_model.specs.Numbers.{put_at}
 use Rattle.tide_model.specs.Refused.{ShapeLists}
-use Rattle.tide_words.proofs.heap_laws.ReadingLaws.{live_within}
 use Rattle.tide_words.proofs.marking_laws.ColourLaws.{is_black-made, is_black-other, is_grey-other, is_marked-other, black_is_not_grey, black_is_marked, unmarked_is_neither}
 use Rattle.tide_words.specs.forms.ColourWord.{colour_word}
-use Rattle.tide_words.specs.heap.Heap.{Heap, write}
-use Rattle.tide_words.specs.marking.Colours.{coloured, is_marking, running_cycle, is_grey, is_black, IsBlack, IsMarked}
+use Rattle.tide_words.specs.marking.Colours.{coloured, is_marking, running_cycle, is_grey, is_black, IsMarked}
 use Rattle.tide_words.specs.marking.Marked.{is_marked}
 
 module _ (layout : Layout) (shapes : ShapeLists) (w : World) (me : ℕ) (inside : me < parties) (wave : RunningWave layout shapes w) (runs : (w.part me).runs ≡ true) (cell : ℕ) (owes : (w.part me).duty ≡ duty.Born cell) where
@@ -43,7 +39,8 @@ module _ (layout : Layout) (shapes : ShapeLists) (w : World) (me : ℕ) (inside 
     inside = inside;
     runs = runs;
     words = λ at index. unread_write w.heap region.Colour cell (colour_word (running_cycle w.heap) Black) refl at index;
-    period = refl; call_words = λ p. refl;
+    period = refl;
+    call_words = λ p. refl;
     colours = colours_coloured layout w.heap cell Black (omega arith) wave.colours;
     balance = λ _ other in_other few.
         let none = ap (λ (d : Duty). pushes d other) owes in
@@ -100,7 +97,8 @@ module _ (layout : Layout) (shapes : ShapeLists) (w : World) (me : ℕ) (inside 
     inside = inside;
     runs = runs;
     words = λ at index. unread_write w.heap region.Colour cell (colour_word (running_cycle w.heap) White) refl at index;
-    period = refl; call_words = λ p. refl;
+    period = refl;
+    call_words = λ p. refl;
     colours = colours_coloured layout w.heap cell White (omega arith) wave.colours;
     balance = λ marks. absurd (cc);
     rests = λ _. ((λ block within. let none = wave.rests.words idle block within in record { shared = none.shared; mutator = none.mutator; race = none.race }), tt);

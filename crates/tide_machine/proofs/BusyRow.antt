@@ -1,6 +1,6 @@
 -- A world that isn't idle: while a cycle marks a mutator takes a cell, links it, makes it grey by its barrier, and links it
 -- again. The wave holds there, with a grey cell in a grey word and a barrier that is owed.
-use Rattle.std.proofs.Common.{ℕ, zero, suc, ◌≡◌, ◌≢◌, ◌+◌, ◌<◌, ◌≤◌, ◌==◌, refl, sym, ◌∙◌, ap, arith, Bool, true, false, List, [], ◌∷◌, ◌++◌, Option, Some, None, inl, inr}
+use Rattle.std.proofs.Common.{ℕ, zero, suc, ◌≡◌, ◌≤◌, refl, arith, true, [], ◌∷◌, Some, None}
 use Rattle.tide_layout.specs.declared.region.Region.TheVariants as region
 use Rattle.tide_machine.specs.declared.view.Duty.TheVariants as duty
 use Rattle.tide_cycle.proofs.BeginLaws
@@ -10,13 +10,13 @@ use Rattle.tide_layout.specs.Limits.{IsWithinLimits}
 use Rattle.tide_machine.proofs.Scheduling.{all_schedules}
 use Rattle.tide_machine.specs.Frozen.{first_world}
 use Rattle.tide_machine.specs.Groups.{has_law}
-use Rattle.tide_machine.specs.Kind.{Ticket, Kind, Join, Activate, TakeFree, StoreRegister, StoreBorn, StoreCall, StoreLink, LoadColour, Regrey, PushBit}
-use Rattle.tide_machine.specs.Machine.{stepped, IsAllowed}
+use Rattle.tide_machine.specs.Kind.{Ticket, Join, Activate, TakeFree, StoreRegister, StoreBorn, StoreCall, StoreLink, LoadColour, Regrey, PushBit}
+use Rattle.tide_machine.specs.Machine.{stepped}
 use Rattle.tide_machine.specs.RunningWave.{RunningWave}
 use Rattle.tide_machine.specs.Schedule.{Comes, running, frozen, at_first, steps, enters, opens, begins}
 use Rattle.tide_machine.specs.World.{World}
 use Rattle.tide_model.specs.History.{plain}
-use Rattle.tide_model.specs.Layout.{Layout, blocks_of}
+use Rattle.tide_model.specs.Layout.{blocks_of}
 use Rattle.tide_model.specs.Prefix.{prefix_refl}
 use Rattle.tide_model.specs.Refused.{no_shapes}
 use Rattle.tide_model.specs.Rows.{small}
@@ -25,7 +25,7 @@ use Rattle.tide_model.specs.declared.op.Op.TheVariants.{Alloc, Put}
 use Rattle.tide_model.specs.declared.op.Reply.TheVariants.{Born, Done}
 use Rattle.tide_words.proofs.heap_laws.HeapLaws.{write-other_region}
 use Rattle.tide_words.specs.heap.EmptyHeap.{empty_heap}
-use Rattle.tide_words.specs.heap.Heap.{Heap, write}
+use Rattle.tide_words.specs.heap.Heap.{write}
 use Rattle.tide_words.specs.marking.Colours.{is_marking, is_grey}
 
 pub limits : IsWithinLimits small
@@ -87,8 +87,14 @@ joined = stepped small no_shapes opened 0 (Join ticket)
 
 came_joined : Comes small no_shapes has_law running joined
 came_joined = steps opened 0 (Join ticket) came_opened (omega arith) refl record {
-  rests = refl; later = omega arith; period = refl; marks = refl; cycle = refl; told = prefix_refl opened.log;
-  longer = record { rest = opened.log; joins = refl }; own = refl;
+  rests = refl;
+  later = omega arith;
+  period = refl;
+  marks = refl;
+  cycle = refl;
+  told = prefix_refl opened.log;
+  longer = record { rest = opened.log; joins = refl };
+  own = refl;
 }
 
 abbrev activated : World
@@ -96,7 +102,12 @@ activated = stepped small no_shapes joined 0 Activate
 
 came_activated : Comes small no_shapes has_law running activated
 came_activated = steps joined 0 Activate came_joined (omega arith) refl record {
-  rests = refl; stays = refl; later = omega arith; of_part = refl; marks = refl; cycle = refl;
+  rests = refl;
+  stays = refl;
+  later = omega arith;
+  of_part = refl;
+  marks = refl;
+  cycle = refl;
 }
 
 -- a cell is taken while the cycle marks
@@ -129,7 +140,8 @@ registered = stepped small no_shapes taken 0 (StoreRegister 0 2 None)
 
 came_registered : Comes small no_shapes has_law running registered
 came_registered = steps taken 0 (StoreRegister 0 2 None) came_taken (omega arith) refl (
-  record { is_mutator = omega arith; runs = refl }, (0, omega arith, refl),
+  record { is_mutator = omega arith; runs = refl },
+  (0, omega arith, refl),
 )
 
 abbrev coloured_black : World
@@ -137,7 +149,9 @@ coloured_black = stepped small no_shapes registered 0 (StoreBorn 0 4)
 
 came_coloured : Comes small no_shapes has_law running coloured_black
 came_coloured = steps registered 0 (StoreBorn 0 4) came_registered (omega arith) refl record {
-  runner = record { is_mutator = omega arith; runs = refl }; owed = refl; is_word = refl;
+  runner = record { is_mutator = omega arith; runs = refl };
+  owed = refl;
+  is_word = refl;
 }
 
 abbrev told : World
@@ -145,7 +159,8 @@ told = stepped small no_shapes coloured_black 0 (StoreCall 1 None)
 
 came_told : Comes small no_shapes has_law running told
 came_told = steps coloured_black 0 (StoreCall 1 None) came_coloured (omega arith) refl (
-  record { is_mutator = omega arith; runs = refl }, refl,
+  record { is_mutator = omega arith; runs = refl },
+  refl,
 )
 
 -- the cell holds itself, and the barrier is owed
@@ -154,12 +169,19 @@ linked = stepped small no_shapes told 0 (StoreLink 0 0 2 (Some (Put 0 0 0)))
 
 came_linked : Comes small no_shapes has_law running linked
 came_linked = steps told 0 (StoreLink 0 0 2 (Some (Put 0 0 0))) came_told (omega arith) refl (
-  refl, omega arith, refl, refl,
+  refl,
+  omega arith,
+  refl,
+  refl,
   record {
     runner = record { is_mutator = omega arith; runs = refl };
     between = record { owed = refl; duty = refl; growth = refl; calls = refl };
     stands = record {
-      is_mutator = omega arith; is_active = refl; fits = (omega arith, omega arith); answers = refl; room = λ class is. absurd (cc);
+      is_mutator = omega arith;
+      is_active = refl;
+      fits = (omega arith, omega arith);
+      answers = refl;
+      room = λ class is. absurd (cc);
     };
   },
 )
@@ -170,7 +192,9 @@ loaded = stepped small no_shapes linked 0 (LoadColour 0)
 
 came_loaded : Comes small no_shapes has_law running loaded
 came_loaded = steps linked 0 (LoadColour 0) came_linked (omega arith) refl record {
-  runner = record { is_mutator = omega arith; runs = refl }; owed = refl; grown = λ none. none;
+  runner = record { is_mutator = omega arith; runs = refl };
+  owed = refl;
+  grown = λ none. none;
 }
 
 abbrev regreyed : World
@@ -178,7 +202,12 @@ regreyed = stepped small no_shapes loaded 0 (Regrey 0 1)
 
 came_regreyed : Comes small no_shapes has_law running regreyed
 came_regreyed = steps loaded 0 (Regrey 0 1) came_loaded (omega arith) refl record {
-  runner = record { is_mutator = omega arith; runs = refl }; word = 4; owed = refl; within = omega arith; in_cycle = refl; grown = λ none. none;
+  runner = record { is_mutator = omega arith; runs = refl };
+  word = 4;
+  owed = refl;
+  within = omega arith;
+  in_cycle = refl;
+  grown = λ none. none;
 }
 
 abbrev pushed : World
@@ -186,7 +215,8 @@ pushed = stepped small no_shapes regreyed 0 (PushBit 0)
 
 came_pushed : Comes small no_shapes has_law running pushed
 came_pushed = steps regreyed 0 (PushBit 0) came_regreyed (omega arith) refl record {
-  runner = record { is_mutator = omega arith; runs = refl }; owed = refl;
+  runner = record { is_mutator = omega arith; runs = refl };
+  owed = refl;
 }
 
 abbrev told_again : World
@@ -194,7 +224,8 @@ told_again = stepped small no_shapes pushed 0 (StoreCall 2 None)
 
 came_told_again : Comes small no_shapes has_law running told_again
 came_told_again = steps pushed 0 (StoreCall 2 None) came_pushed (omega arith) refl (
-  record { is_mutator = omega arith; runs = refl }, refl,
+  record { is_mutator = omega arith; runs = refl },
+  refl,
 )
 
 -- and links it again
@@ -203,12 +234,19 @@ busy = stepped small no_shapes told_again 0 (StoreLink 0 1 2 (Some (Put 0 1 0)))
 
 pub came_busy : Comes small no_shapes has_law running busy
 came_busy = steps told_again 0 (StoreLink 0 1 2 (Some (Put 0 1 0))) came_told_again (omega arith) refl (
-  refl, omega arith, refl, refl,
+  refl,
+  omega arith,
+  refl,
+  refl,
   record {
     runner = record { is_mutator = omega arith; runs = refl };
     between = record { owed = refl; duty = refl; growth = refl; calls = refl };
     stands = record {
-      is_mutator = omega arith; is_active = refl; fits = (omega arith, omega arith); answers = refl; room = λ class is. absurd (cc);
+      is_mutator = omega arith;
+      is_active = refl;
+      fits = (omega arith, omega arith);
+      answers = refl;
+      room = λ class is. absurd (cc);
     };
   },
 )

@@ -1,5 +1,5 @@
 -- A step that makes a call keeps the invariant. It changes no colour, no grey word and no phase.
-use Rattle.std.proofs.Common.{ℕ, zero, suc, ◌≡◌, ◌≢◌, ◌+◌, ◌<◌, ◌≤◌, ◌⊎◌, ◌==◌, refl, sym, ◌∙◌, ap, subst, arith, Bool, true, false, List, [], ◌∷◌, ◌++◌, inl, inr, Option, Some, None, length}
+use Rattle.std.proofs.Common.{ℕ, ◌≡◌, ◌≢◌, ◌+◌, ◌<◌, ◌≤◌, ◌⊎◌, ◌==◌, refl, sym, ◌∙◌, ap, subst, arith, Bool, true, false, List, [], ◌∷◌, ◌++◌, inl, inr, Option, Some, None, length}
 use Rattle.std.specs.Prelude.{Contains, if◌then◌else◌, ◌&&◌, not}
 use Rattle.std.proofs.lemmas.Bool.{cases_Bool, cases_eq, and_parts, and_from}
 use Rattle.tide_model.specs.declared.entry.Event.{Event}
@@ -9,7 +9,6 @@ use Rattle.tide_model.specs.declared.op.Reply.{Reply}
 use Rattle.tide_layout.specs.declared.region.Region.{Region}
 use Rattle.tide_layout.specs.declared.region.Region.TheVariants as region
 use Rattle.tide_machine.specs.declared.view.View.{View}
-use Rattle.tide_machine.specs.declared.view.Duty.{Duty}
 use Rattle.tide_machine.specs.declared.view.Duty.TheVariants as duty
 use Rattle.tide_machine.specs.declared.view.Growth.TheVariants as growth
 use Rattle.tide_machine.specs.declared.view.Scan.{Scan}
@@ -23,40 +22,38 @@ use Rattle.tide_machine.proofs.Lists.{nothing_in}
 use Rattle.tide_core.specs.FrozenWave.{is_birth_of, is_born_in_cycle}
 use Rattle.tide_machine.specs.Duties.{IsCalm, OwesBarrier, GrowsAndOwes, OwesColour}
 use Rattle.tide_machine.specs.Entries.{call_of}
-use Rattle.tide_machine.specs.Owed.{Owes, IsOwnWord, owed_word}
+use Rattle.tide_machine.specs.Owed.{IsOwnWord, owed_word}
 use Rattle.tide_machine.specs.RunningWave.{RunningWave}
 use Rattle.tide_machine.specs.Scanning.{IsTrue, Place, slot, property}
 use Rattle.tide_machine.specs.Words.{count_of}
-use Rattle.tide_machine.specs.World.{World, total, holds, parties, pushes}
+use Rattle.tide_machine.specs.World.{total, parties, pushes}
 use Rattle.tide_machine.specs.points.Births.{IsHidden, AwaitsColour, RunningBornIsMarked}
 use Rattle.tide_machine.specs.points.Growths.{GrowthKnows}
-use Rattle.tide_machine.specs.points.Holders.{RunningGreyIsHeld}
 use Rattle.tide_machine.specs.points.Links.{IsExcused, Excuses, ScanExcuses, LinkAt}
 use Rattle.tide_machine.specs.points.Marks.{counted_in}
 use Rattle.tide_machine.specs.points.Scans.{IsAtHand, held, scanned, buffered, ScanKnows}
-use Rattle.tide_machine.specs.points.Seen.{CallsAreTold, IsKnown}
+use Rattle.tide_machine.specs.points.Seen.{CallsAreTold}
 use Rattle.tide_machine.specs.points.SettledWords.{RunningWordsRead}
 use Rattle.tide_model.proofs.Histories.{IsLawful-push, state_after-push}
 use Rattle.tide_model.proofs.ReferenceLaws.{put_at_elim}
 use Rattle.tide_model.specs.Applied.{after_call}
 use Rattle.tide_model.specs.Cycle.{cycle_span}
-use Rattle.tide_model.specs.Graph.{IsRetained, no_cell, IsRoot, IsLink, IsTriple, AreTwins, in_register, claimed, in_handle, in_slot, in_property}
-use Rattle.tide_model.specs.History.{state_after, state_at, is_call_of, is_begin}
+use Rattle.tide_model.specs.Graph.{IsRetained, no_cell, IsRoot, IsLink, in_register, claimed, in_handle, in_slot, in_property}
+use Rattle.tide_model.specs.History.{state_after, state_at, is_call_of}
 use Rattle.tide_model.specs.Lawful.{Stands}
 use Rattle.tide_model.specs.Layout.{Layout, cell_count, block_of_cell}
-use Rattle.tide_model.specs.Numbers.{put_at, count_where}
+use Rattle.tide_model.specs.Numbers.{put_at}
 use Rattle.tide_model.specs.Prefix.{IsPrefix, prefix_trans, prefix_push, prefix_refl}
 use Rattle.tide_model.specs.References.{IsLive, RefsAreLive}
 use Rattle.tide_model.specs.Refused.{ShapeLists}
 use Rattle.tide_model.specs.Room.{window_start, IsFullBlock}
-use Rattle.tide_model.specs.Since.{visits_since}
 use Rattle.tide_model.specs.State.{State, live, spent}
 use Rattle.tide_words.proofs.heap_laws.Frames.{is_read}
 use Rattle.tide_words.proofs.marking_laws.MarkingLaws.{link_ends}
 use Rattle.tide_words.specs.heap.Heap.{Heap}
 use Rattle.tide_words.specs.marking.Colours.{is_marking, running_cycle, is_grey, is_black, IsBlack, IsMarked}
 use Rattle.tide_words.specs.marking.Marked.{is_marked}
-use Rattle.tide_words.specs.marking.Marking.{bits_of, HasNoGreys, NoLaterColours, times_in}
+use Rattle.tide_words.specs.marking.Marking.{bits_of, times_in}
 
 -- the regions that no call writes
 abbrev pub is_uncalled : Region → Bool
@@ -66,7 +63,6 @@ is_uncalled region.GreyShared = true
 is_uncalled region.GreyMutator = true
 is_uncalled region.GreyRace = true
 is_uncalled _ = false
-
 
 module _ (layout : Layout) (shapes : ShapeLists) (old : Heap) (part : ℕ → View) (log : List Event) (me : ℕ) (wave : RunningWave layout shapes (record { heap = old; part = part; log = log })) (op : Op) (reply : Reply) (took : Option ℕ) where
   -- the history with the call, and the state after it
@@ -302,7 +298,7 @@ module _ (layout : Layout) (shapes : ShapeLists) (old : Heap) (part : ℕ → Vi
       growths = record { knows = put_at_elim (λ p u. GrowthKnows new after p u u.growth) part me w now_of.growth now_of.growths };
       targets = record {
         right = λ p scan target is. scans_of (λ scan. scan.target ≡ Some target → (target.cell < cell_count layout) × ((new region.Colour target.cell ≡ target.word) ⊎ IsMarked new target.cell))
-            (λ p scan is aims. let was = wave.targets.right p scan target is aims in (was.0, elim was.1 [ | inl same ↦ inl (s.uncalled region.Colour target.cell refl ∙ same) | inr now ↦ inr (same_marked target.cell ∙ now) ])) p scan is;
+            (λ p scan is aims. let was = wave.targets.right p scan target is aims in (was.0, elim was.1 [ inl same ↦ inl (s.uncalled region.Colour target.cell refl ∙ same) | inr now ↦ inr (same_marked target.cell ∙ now) ])) p scan is;
       };
       parked = record {
         held = each_put (λ p u. u.runs ≡ false → u.held ≡ []) part me w stopped wave.parked.held;

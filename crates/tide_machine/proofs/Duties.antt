@@ -1,22 +1,22 @@
 -- A step that changes the duty of its view alone, beside words that the reading doesn't look at.
-use Rattle.std.proofs.Common.{ℕ, ◌≡◌, ◌≢◌, ◌+◌, ◌<◌, ◌≤◌, ◌⊎◌, ◌==◌, refl, sym, ◌∙◌, ap, subst, arith, Bool, true, false, inl, inr, Option, Some, List}
-use Rattle.std.specs.Prelude.{Contains, if◌then◌else◌, ◌&&◌, not}
+use Rattle.std.proofs.Common.{ℕ, ◌≡◌, ◌+◌, ◌<◌, ◌≤◌, ◌⊎◌, refl, sym, ◌∙◌, arith, true, false, inl, inr, Some, List}
+use Rattle.std.specs.Prelude.{if◌then◌else◌, ◌&&◌, not}
 use Rattle.tide_model.specs.declared.entry.Event.{Event}
 use Rattle.tide_layout.specs.declared.region.Region.{Region}
 use Rattle.tide_layout.specs.declared.region.Region.TheVariants as region
 use Rattle.tide_machine.specs.declared.view.View.{View}
 use Rattle.tide_machine.specs.declared.view.Duty.{Duty}
 use Rattle.tide_machine.proofs.Frames.{calls_view}
-use Rattle.tide_machine.proofs.Quiet.{Shows, quiet_step}
+use Rattle.tide_machine.proofs.Quiet.{quiet_step}
 use Rattle.tide_machine.specs.declared.view.Scan.{Scan}
 use Rattle.tide_core.specs.FrozenWave.{is_born_in_cycle}
 use Rattle.tide_layout.specs.Region.{cell_block_count}
-use Rattle.tide_machine.specs.Duties.{IsCalm, OwesBarrier, GrowsOn, GrowsAndOwes, OwesColour}
+use Rattle.tide_machine.specs.Duties.{IsCalm, OwesBarrier, GrowsOn, OwesColour}
 use Rattle.tide_machine.specs.RunningWave.{RunningWave}
 use Rattle.tide_machine.specs.Scanning.{Place}
-use Rattle.tide_machine.specs.World.{World, holds, parties, pushes}
+use Rattle.tide_machine.specs.World.{parties, pushes}
 use Rattle.tide_machine.specs.points.Links.{LinkAt}
-use Rattle.tide_machine.specs.points.Scans.{IsAtHand, held, scanned, buffered}
+use Rattle.tide_machine.specs.points.Scans.{held, scanned, buffered}
 use Rattle.tide_model.specs.History.{state_after}
 use Rattle.tide_model.specs.Layout.{Layout, cell_count}
 use Rattle.tide_model.specs.Numbers.{put_at, count_where}
@@ -58,7 +58,18 @@ module _ (layout : Layout) (shapes : ShapeLists) (old : Heap) (part : ℕ → Vi
   duty_step new d s = quiet_step layout shapes old part log me wave new (with_duty (part me) d) record {
     inside = s.inside;
     words = s.words;
-    who = refl; seen = refl; mine = refl; owed = refl; known = refl; full = refl; growth = refl; marks = refl; cycle = refl; begun = refl; period = s.period; calls = calls_view layout old new part me (with_duty (part me) d) refl s.call_words wave.calls;
+    who = refl;
+    seen = refl;
+    mine = refl;
+    owed = refl;
+    known = refl;
+    full = refl;
+    growth = refl;
+    marks = refl;
+    cycle = refl;
+    begun = refl;
+    period = s.period;
+    calls = calls_view layout old new part me (with_duty (part me) d) refl s.call_words wave.calls;
     ran = s.runs;
     runs = s.runs;
     colours = s.colours;
@@ -73,7 +84,7 @@ module _ (layout : Layout) (shapes : ShapeLists) (old : Heap) (part : ℕ → Vi
     scanned = λ scan is. (s.stays (marks_by scan is) scan.cell (wave.retained.scanned me scan is), wave.scans.knows me scan is, λ cell at. wave.retained.buffered me cell scan is at);
     black = λ marks source place cell link black white. elim (s.black marks source place cell link black white) [
       | inl owes ↦ inl (inl owes)
-      | inr before ↦ inr (before.0, before.1, λ excuse. inl (elim excuse [ | inl owes ↦ inl (before.2 owes) | inr scans ↦ inr scans ]))
+      | inr before ↦ inr (before.0, before.1, λ excuse. inl (elim excuse [ inl owes ↦ inl (before.2 owes) | inr scans ↦ inr scans ]))
     ];
     grows = λ cell g. record { grows = g.grows; owes = s.grows cell g.grows g.owes };
     stays = s.stays;
@@ -89,4 +100,4 @@ module _ (layout : Layout) (shapes : ShapeLists) (old : Heap) (part : ℕ → Vi
   }
     where
       marks_by : (scan : Scan) → (part me).scan ≡ Some scan → is_marking old ≡ true
-      marks_by scan is = elim (Rattle.std.proofs.lemmas.Bool.cases_Bool (is_marking old)) [ | inl marks ↦ marks | inr idle ↦ (let none = wave.rests.scans idle me in absurd (cc)) ]
+      marks_by scan is = elim (Rattle.std.proofs.lemmas.Bool.cases_Bool (is_marking old)) [ inl marks ↦ marks | inr idle ↦ (let none = wave.rests.scans idle me in absurd (cc)) ]

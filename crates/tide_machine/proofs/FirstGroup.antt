@@ -1,6 +1,5 @@
 -- Each kind of the first group keeps the wave.
-use Rattle.std.proofs.Common.{ℕ, ◌≡◌, ◌<◌, refl, sym, ◌∙◌, ap, subst, Bool, true, false, Option, Some, None, inl, inr, List}
-use Rattle.std.specs.Prelude.{filter}
+use Rattle.std.proofs.Common.{ℕ, ◌≡◌, ◌<◌, refl, true, false, Some, None, inl, inr}
 use Rattle.tide_layout.specs.declared.region.Region.TheVariants as region
 use Rattle.tide_machine.proofs.CallWords.{store_call_word}
 use Rattle.tide_machine.proofs.PayingRegisters.{pay_register}
@@ -13,16 +12,12 @@ use Rattle.tide_machine.specs.Machine.{IsAllowed, stepped}
 use Rattle.tide_machine.specs.May.{Rests}
 use Rattle.tide_machine.specs.RunningWave.{RunningWave}
 use Rattle.tide_machine.specs.World.{World, parties}
-use Rattle.tide_machine.specs.declared.view.View.{View}
-use Rattle.tide_machine.specs.kinds.Activate.{MayActivate, begun_view}
+use Rattle.tide_machine.specs.kinds.Activate.{MayActivate}
 use Rattle.tide_machine.specs.kinds.Join.{MayJoin}
 use Rattle.tide_machine.specs.kinds.Split.{MaySplit}
 use Rattle.tide_machine.specs.kinds.StoreStopped.{MayStoreStopped}
 use Rattle.tide_model.specs.Layout.{Layout}
-use Rattle.tide_model.specs.Numbers.{put_at}
-use Rattle.tide_model.specs.Prefix.{IsPrefix}
 use Rattle.tide_model.specs.Refused.{ShapeLists}
-use Rattle.tide_model.specs.declared.entry.Event.{Event}
 use Rattle.tide_machine.proofs.Loads.{load_same, load_nothing}
 use Rattle.tide_machine.proofs.Resting.{rest_step, stop}
 use Rattle.tide_machine.proofs.Activating.{begin}

@@ -1,28 +1,22 @@
 -- One law for each point of the invariant: what a change of one view has to show for the point to survive it.
-use Rattle.std.proofs.Common.{ℕ, zero, suc, ◌≡◌, ◌≢◌, ◌+◌, ◌<◌, ◌≤◌, ◌⊎◌, ◌==◌, refl, sym, ◌∙◌, ap, subst, arith, Bool, true, false, List, [], ◌∷◌, ◌++◌, inl, inr, ⊎_elim, Option, Some, None, length}
-use Rattle.std.specs.Prelude.{Contains, if◌then◌else◌, filter}
-use Rattle.std.proofs.lemmas.Bool.{eq-eqb, ne_eqb, cases_eq, eqb-true, eqb-false}
+use Rattle.std.proofs.Common.{ℕ, zero, suc, ◌≡◌, ◌≢◌, ◌+◌, ◌<◌, ◌≤◌, ◌⊎◌, refl, sym, ◌∙◌, ap, subst, arith, Bool, true, List, inl, inr}
+use Rattle.std.specs.Prelude.{if◌then◌else◌, filter}
+use Rattle.std.proofs.lemmas.Bool.{eq-eqb, ne_eqb, cases_eq}
 use Rattle.tide_model.specs.declared.entry.Event.{Event}
 use Rattle.tide_machine.specs.declared.view.View.{View}
 use Rattle.tide_layout.specs.Slots.{total_below}
-use Rattle.tide_machine.specs.Entries.{call_of}
-use Rattle.tide_machine.specs.Scanning.{Place}
-use Rattle.tide_machine.specs.World.{total, holds, parties}
+use Rattle.tide_machine.specs.World.{holds, parties}
 use Rattle.tide_machine.specs.points.Holders.{RunningGreyIsHeld}
-use Rattle.tide_machine.specs.points.Links.{RunningBlackPointsToMarked, IsExcused, Excuses, LinkAt}
 use Rattle.tide_machine.specs.points.Seen.{CallsAreTold, IsKnown}
 use Rattle.std.specs.Prelude.{◌%◌, ◌^◌}
 use Rattle.tide_layout.specs.declared.region.Region.TheVariants as region
-use Rattle.tide_machine.specs.points.SettledWords.{RunningWordsRead}
 use Rattle.tide_model.proofs.ReferenceLaws.{put_at_elim}
 use Rattle.tide_model.specs.History.{is_call_of}
 use Rattle.tide_model.specs.Layout.{Layout, cell_count}
 use Rattle.tide_model.specs.Numbers.{put_at}
-use Rattle.tide_model.specs.Prefix.{IsPrefix, prefix_trans, prefix_push}
-use Rattle.tide_model.specs.Refused.{ShapeLists}
+use Rattle.tide_model.specs.Prefix.{IsPrefix}
 use Rattle.tide_words.specs.heap.Heap.{Heap}
-use Rattle.tide_words.specs.marking.Colours.{is_marking, is_grey, IsBlack}
-use Rattle.tide_words.specs.marking.Marked.{is_marked}
+use Rattle.tide_words.specs.marking.Colours.{is_marking, is_grey}
 use Rattle.tide_words.specs.marking.Marking.{bits_of}
 
 -- what held of the stepping view's old value, or is shown of its new one, and held of all others, holds of all
@@ -64,10 +58,10 @@ pub known_view : (log : List Event) (part : ℕ → View) (me : ℕ) (w : View) 
     IsKnown log part → IsKnown log (put_at part me w)
 known_view log part me w who seen mine known = record {
   who = each_put (λ p u. u.who ≡ p) part me w (who ∙ known.who me) known.who;
-  seen = each_put (λ p u. IsPrefix u.seen log) part me w (elim seen [ | inl same ↦ subst (λ (s : List Event). IsPrefix s log) (sym same) (known.seen me) | inr more ↦ more.0 ]) known.seen;
+  seen = each_put (λ p u. IsPrefix u.seen log) part me w (elim seen [ inl same ↦ subst (λ (s : List Event). IsPrefix s log) (sym same) (known.seen me) | inr more ↦ more.0 ]) known.seen;
   own = each_put (λ p u. filter (λ event. is_call_of p event.entry) log ≡ u.mine) part me w (known.own me ∙ sym mine) known.own;
   told = each_put (λ p u. filter (λ event. is_call_of p event.entry) u.seen ≡ u.mine) part me w
-      (elim seen [ | inl same ↦ ap (filter (λ (event : Event). is_call_of me event.entry)) same ∙ known.told me ∙ sym mine | inr more ↦ more.1 ∙ sym mine ]) known.told;
+      (elim seen [ inl same ↦ ap (filter (λ (event : Event). is_call_of me event.entry)) same ∙ known.told me ∙ sym mine | inr more ↦ more.1 ∙ sym mine ]) known.told;
 }
 
 -- each grey cell keeps its one holder

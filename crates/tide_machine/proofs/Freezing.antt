@@ -1,10 +1,9 @@
 -- The empty heap meets the wave at a freeze; a freeze leads to it, and an opening from it.
-use Rattle.std.proofs.Common.{ℕ, zero, suc, ◌≡◌, ◌≢◌, ◌+◌, ◌<◌, ◌≤◌, ◌⊎◌, ◌==◌, refl, sym, ◌∙◌, ap, subst, arith, Bool, true, false, List, [], ◌∷◌, ◌++◌, inl, inr, Option, Some, None, length}
-use Rattle.std.specs.Prelude.{Contains, if◌then◌else◌, ◌&&◌, not}
+use Rattle.std.proofs.Common.{ℕ, zero, suc, ◌≡◌, refl, sym, ◌∙◌, ap, subst, arith, true, false, List, [], inl, inr, length}
+use Rattle.std.specs.Prelude.{Contains}
 use Rattle.std.proofs.lemmas.Bool.{cases_Bool}
 use Rattle.tide_model.specs.declared.entry.Event.{Event}
 use Rattle.tide_layout.specs.declared.region.Region.TheVariants as region
-use Rattle.tide_machine.specs.declared.view.View.{View}
 use Rattle.tide_machine.specs.declared.view.Owed.{Owed}
 use Rattle.tide_machine.specs.declared.view.Duty.{Duty}
 use Rattle.tide_machine.specs.declared.view.Duty.TheVariants as duty
@@ -19,24 +18,23 @@ use Rattle.tide_machine.specs.World.{World, total, holds, parties, pushes}
 use Rattle.tide_machine.specs.Frozen.{FrozenWith, FrozenMachine, first_world}
 use Rattle.tide_model.specs.History.{is_call_of}
 use Rattle.tide_model.specs.Prefix.{prefix_refl}
-use Rattle.std.specs.Prelude.{◌%◌, ◌^◌, filter, count_by}
+use Rattle.std.specs.Prelude.{◌%◌, ◌^◌}
 use Rattle.tide_machine.specs.points.Links.{LinkAt, ScanExcuses, IsExcused}
 use Rattle.tide_machine.specs.points.Marks.{SpanIsLive, counted_in}
 use Rattle.tide_model.proofs.Histories.{IsLawful-nil}
 use Rattle.std.proofs.lemmas.List.Sums.{length-filter}
 use Rattle.tide_model.specs.Cycle.{cycle_span}
-use Rattle.tide_model.specs.Graph.{IsRetained, retained_in_closed, no_cell, IsLink, in_slot, in_property}
+use Rattle.tide_model.specs.Graph.{IsRetained, retained_in_closed, no_cell, in_slot, in_property}
 use Rattle.tide_model.specs.History.{state_after}
-use Rattle.tide_model.specs.Layout.{Layout, cell_count}
+use Rattle.tide_model.specs.Layout.{Layout}
 use Rattle.tide_model.specs.References.{IsLive}
 use Rattle.tide_model.specs.Refused.{ShapeLists}
 use Rattle.tide_words.proofs.heap_laws.Frames.{ReadsAs-same}
 use Rattle.tide_words.proofs.marking_laws.EmptyMarking.{Marking-empty}
-use Rattle.tide_words.specs.heap.EmptyHeap.{empty_heap}
 use Rattle.tide_words.specs.heap.Heap.{Heap}
-use Rattle.tide_words.specs.marking.Colours.{is_marking, is_grey, IsBlack, IsMarked}
+use Rattle.tide_words.specs.marking.Colours.{is_marking, IsBlack, IsMarked}
 use Rattle.tide_words.specs.marking.Marked.{is_marked}
-use Rattle.tide_words.specs.marking.Marking.{Marking, HasNoGreys, bits_of, times_in}
+use Rattle.tide_words.specs.marking.Marking.{times_in}
 
 -- before anything happened the machine is frozen, and the wave holds
 pub FrozenMachine-first : (layout : Layout) (shapes : ShapeLists) → FrozenMachine layout shapes first_world 0
@@ -55,8 +53,14 @@ FrozenMachine-first layout shapes = record {
   known = record { who = λ p. refl; seen = λ p. prefix_refl []; own = λ p. refl; told = λ p. refl };
   stopped = λ p. refl;
   parked = record {
-    held = λ p rests. refl; scan = λ p rests. refl; owed = λ p rests. refl; duty = λ p rests. refl; growth = λ p rests. refl;
-    known = λ p rests. refl; full = λ p rests. refl; calls = λ p rests. refl;
+    held = λ p rests. refl;
+    scan = λ p rests. refl;
+    owed = λ p rests. refl;
+    duty = λ p rests. refl;
+    growth = λ p rests. refl;
+    known = λ p rests. refl;
+    full = λ p rests. refl;
+    calls = λ p rests. refl;
   };
 }
 

@@ -1,10 +1,8 @@
 -- A load that makes a call, whose answer goes to a register that is owed from then on, keeps the invariant.
-use Rattle.std.proofs.Common.{ℕ, zero, suc, ◌≡◌, ◌≢◌, ◌+◌, ◌*◌, ◌%◌, ◌<◌, ◌≤◌, ◌⊎◌, ◌==◌, refl, sym, ◌∙◌, ap, subst, arith, Bool, true, false, List, [], ◌∷◌, ◌++◌, inl, inr, Option, Some, None, length}
-use Rattle.std.specs.Prelude.{Contains, if◌then◌else◌, ◌&&◌, slice_get}
-use Rattle.std.specs.Int.{bit_at}
-use Rattle.std.proofs.lemmas.Bool.{cases_Bool, cases_eq, eq-eqb, ne_eqb, eqb-true, and_parts}
+use Rattle.std.proofs.Common.{ℕ, zero, suc, ◌≡◌, ◌≢◌, ◌<◌, ◌==◌, refl, sym, ◌∙◌, ap, subst, arith, Bool, true, false, List, [], ◌∷◌, ◌++◌, inl, inr, None}
+use Rattle.std.specs.Prelude.{Contains, if◌then◌else◌, ◌&&◌}
+use Rattle.std.proofs.lemmas.Bool.{cases_Bool, eqb-true, and_parts}
 use Rattle.tide_model.specs.declared.op.Op.{Op}
-use Rattle.tide_model.specs.declared.op.Reply.{Reply}
 use Rattle.tide_model.specs.declared.op.Reply.TheVariants.{Seen}
 use Rattle.tide_model.specs.declared.val.Val.{Val}
 use Rattle.tide_model.specs.declared.val.Val.TheVariants.{Cell}
@@ -16,41 +14,37 @@ use Rattle.tide_machine.specs.declared.view.Duty.TheVariants as duty
 use Rattle.tide_machine.specs.declared.view.Growth.{Growth}
 use Rattle.tide_machine.specs.declared.view.Growth.TheVariants as growth
 use Rattle.tide_machine.specs.declared.view.Owed.{Owed}
-use Rattle.tide_machine.proofs.Calls.{OfState, ShowsCall, call_step, is_uncalled}
-use Rattle.tide_machine.proofs.Frames.{each_put}
+use Rattle.tide_machine.proofs.Calls.{OfState, call_step}
 use Rattle.tide_machine.proofs.Frames.{calls_view}
 use Rattle.tide_machine.proofs.Owning.{own_alone}
 use Rattle.tide_machine.proofs.Registers.{register_after}
 use Rattle.tide_call.proofs.reading_laws.RootReading.{Reading-register}
-use Rattle.tide_machine.proofs.Lists.{in_one}
 use Rattle.tide_machine.proofs.Frames.{put_here}
 use Rattle.tide_layout.proofs.Places.{tag-injective}
 use Rattle.tide_layout.specs.Region.{tag, index_of_register}
-use Rattle.tide_machine.specs.Duties.{OwesBarrier, OwesColour, IsCalm}
+use Rattle.tide_machine.specs.Duties.{OwesColour, IsCalm}
 use Rattle.tide_machine.specs.Entries.{call_of}
 use Rattle.tide_machine.specs.Owed.{Owes, IsOwnWord, own_register, own_structure, own_array, own_pair, own_element, owed_word}
 use Rattle.tide_machine.specs.RunningWave.{RunningWave}
 use Rattle.tide_machine.specs.Scanning.{Place, slot, property}
 use Rattle.tide_machine.specs.World.{World, parties, pushes}
 use Rattle.tide_machine.specs.points.Births.{IsHidden}
-use Rattle.tide_machine.specs.points.Growths.{GrowthKnows, GrowthOn}
+use Rattle.tide_machine.specs.points.Growths.{GrowthKnows}
 use Rattle.tide_machine.specs.points.Links.{LinkAt}
 use Rattle.tide_machine.specs.points.SettledWords.{RunningWordsRead}
 use Rattle.tide_model.proofs.ClaimLaws.{ClaimsAreOwn-lawful}
 use Rattle.tide_model.proofs.ReferenceLaws.{put_at_elim, RefsAreLive-call}
-use Rattle.tide_model.specs.Applied.{put_register, put_cell, after_call}
+use Rattle.tide_model.specs.Applied.{put_register, after_call}
 use Rattle.tide_model.specs.History.{state_after}
 use Rattle.tide_model.specs.Lawful.{Stands}
-use Rattle.tide_model.specs.Layout.{Layout, cell_count, block_of_cell}
+use Rattle.tide_model.specs.Layout.{Layout}
 use Rattle.tide_model.specs.Numbers.{put_at}
-use Rattle.tide_model.specs.References.{IsLive, RefsAreLive}
+use Rattle.tide_model.specs.References.{RefsAreLive}
 use Rattle.tide_model.specs.Refused.{ShapeLists}
-use Rattle.tide_model.specs.State.{State, CellState, live, free, blank_cell}
-use Rattle.tide_words.proofs.heap_laws.Frames.{is_read}
-use Rattle.tide_words.proofs.heap_laws.HeapLaws.{write-same, write-other_region}
+use Rattle.tide_model.specs.State.{State}
+use Rattle.tide_words.proofs.heap_laws.HeapLaws.{write-same}
 use Rattle.tide_words.specs.forms.ValueWord.{val_word, HasU32}
 use Rattle.tide_words.specs.heap.Heap.{Heap, write}
-use Rattle.tide_words.specs.marking.Colours.{is_marking, IsBlack}
 
 -- what stands in a list of one word
 one_owed : (x y : Owed) → Contains (x ∷ []) y → x ≡ y
@@ -78,7 +72,9 @@ module _ (layout : Layout) (shapes : ShapeLists) (w : World) (me : ℕ) (inside 
 
   abbrev later : View
   later = record (w.part me) {
-    owed = owed_word region.Registers idx (val_word value) ∷ []; known = []; full = [];
+    owed = owed_word region.Registers idx (val_word value) ∷ [];
+    known = [];
+    full = [];
     seen = w.log ++ call_of me op (Seen value) None ∷ [];
     mine = (w.part me).mine ++ call_of me op (Seen value) None ∷ [];
   }
@@ -98,7 +94,7 @@ module _ (layout : Layout) (shapes : ShapeLists) (w : World) (me : ℕ) (inside 
     | inl both ↦
         let parts = and_parts (tag at == tag region.Registers) (index == idx) both in
         absurd (apart (own_alone layout state (ClaimsAreOwn-lawful layout shapes w.log wave.lawful) wave.refs p me at region.Registers index idx own (own_register dst stands.is_mutator in_registers)
-          (eqb-true (tag at) (tag region.Registers) parts.0) (eqb-true index idx parts.1)))
+        (eqb-true (tag at) (tag region.Registers) parts.0) (eqb-true index idx parts.1)))
     | inr isnt ↦ isnt
   ]
 
@@ -161,7 +157,14 @@ module _ (layout : Layout) (shapes : ShapeLists) (w : World) (me : ℕ) (inside 
     alive = λ x is. is;
     arrays = λ array is. is;
     scans = λ p scan is. let k = wave.scans.knows p scan is in record {
-      unread = k.unread; array_after = k.array_after; grows = k.grows; nuked = k.nuked; array = k.array; room = k.room; agreed = k.agreed; names_live = k.names_live;
+      unread = k.unread;
+      array_after = k.array_after;
+      grows = k.grows;
+      nuked = k.nuked;
+      array = k.array;
+      room = k.room;
+      agreed = k.agreed;
+      names_live = k.names_live;
     };
     links = λ marks x place target link black white. inr (link_before x place target link);
     beyond = λ marks x n target link past. inr (link, past);
@@ -174,7 +177,10 @@ module _ (layout : Layout) (shapes : ShapeLists) (w : World) (me : ℕ) (inside 
         | inl now ↦ absurd (unseen p c apart h now)
         | inr was ↦ h.registers who register not_p active was
       ];
-      strong = h.strong; weak = h.weak; claims = h.claims; paired = h.paired;
+      strong = h.strong;
+      weak = h.weak;
+      claims = h.claims;
+      paired = h.paired;
       linked = λ x place link. h.linked x place (link_before x place c link);
       blank = λ place target link. h.blank place target (link_before c place target link);
     };
@@ -188,7 +194,19 @@ module _ (layout : Layout) (shapes : ShapeLists) (w : World) (me : ℕ) (inside 
     still_runs = runs;
     uncalled = λ at index is. refl;
     stands = stands;
-    who = refl; seen = refl; mine = refl; marks = refl; cycle = refl; begun = refl; visits = refl; period = refl; calls = calls_view layout w.heap w.heap w.part me later refl (λ p. refl) wave.calls; held = refl; scan = refl; known = refl; full = refl;
+    who = refl;
+    seen = refl;
+    mine = refl;
+    marks = refl;
+    cycle = refl;
+    begun = refl;
+    visits = refl;
+    period = refl;
+    calls = calls_view layout w.heap w.heap w.part me later refl (λ p. refl) wave.calls;
+    held = refl;
+    scan = refl;
+    known = refl;
+    full = refl;
     pushes_none = λ c. (ap (λ (d : Duty). pushes d c) idle, ap (λ (d : Duty). pushes d c) idle);
     calm = λ rests. subst IsCalm (sym idle) tt;
     grows = λ c g. record { grows = g.grows; owes = g.owes };

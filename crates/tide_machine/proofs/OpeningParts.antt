@@ -1,8 +1,6 @@
 -- A part is opened: the wave at a freeze leads to the running one.
-use Rattle.std.proofs.Common.{ℕ, zero, suc, ◌≡◌, ◌≢◌, ◌+◌, ◌<◌, ◌≤◌, ◌⊎◌, ◌==◌, refl, sym, ◌∙◌, ap, subst, arith, Bool, true, false, List, [], ◌∷◌, ◌++◌, inl, inr, Option, Some, None, length, append-nil}
-use Rattle.std.specs.Prelude.{Contains, if◌then◌else◌, count_by, sum_by, filter, nat_lt}
-use Rattle.std.proofs.lemmas.Bool.{cases_Bool}
-use Rattle.std.proofs.lemmas.Bool.Decides.{nat_tests}
+use Rattle.std.proofs.Common.{ℕ, ◌≡◌, ◌+◌, ◌≤◌, refl, sym, ◌∙◌, ap, subst, arith, Bool, true, false, List, [], ◌∷◌, ◌++◌, inl, inr, Some, length, append-nil}
+use Rattle.std.specs.Prelude.{Contains, filter}
 use Rattle.std.proofs.lemmas.List.Elements.{filter-append}
 use Rattle.std.proofs.lemmas.List.Sums.{length-filter}
 use Rattle.tide_model.specs.declared.entry.Entry.TheVariants.{Open}
@@ -11,10 +9,7 @@ use Rattle.tide_layout.specs.declared.region.Region.TheVariants as region
 use Rattle.std.specs.Prelude.{◌&&◌, not}
 use Rattle.tide_machine.proofs.Colouring.{count_where-le}
 use Rattle.tide_machine.specs.declared.view.View.{View}
-use Rattle.tide_machine.specs.declared.view.Owed.{Owed}
 use Rattle.tide_machine.specs.declared.view.Duty.{Duty}
-use Rattle.tide_machine.specs.declared.view.Duty.TheVariants as duty
-use Rattle.tide_machine.specs.declared.view.Growth.TheVariants as growth
 use Rattle.tide_machine.proofs.Freezing.{total_none}
 use Rattle.tide_machine.proofs.Growing
 use Rattle.tide_machine.specs.declared.view.Scan.{Scan}
@@ -27,36 +22,33 @@ use Rattle.tide_model.proofs.SinceLaws.{count-push, since-none}
 use Rattle.tide_model.specs.History.{is_open}
 use Rattle.tide_model.specs.Periods.{open_count}
 use Rattle.std.specs.Prelude.{◌%◌, ◌^◌}
-use Rattle.tide_layout.specs.Slots.{total_below}
 use Rattle.tide_machine.specs.Duties.{OwesColour, IsCalm}
-use Rattle.tide_machine.specs.Entries.{call_of}
-use Rattle.tide_machine.specs.Owed.{Owes, owed_word}
+use Rattle.tide_machine.specs.Owed.{owed_word}
 use Rattle.tide_machine.specs.RunningWave.{RunningWave}
 use Rattle.tide_machine.specs.Scanning.{Place, slot, property}
 use Rattle.tide_machine.specs.Words.{count_of}
-use Rattle.tide_machine.specs.World.{World, total, holds, parties, pushes}
+use Rattle.tide_machine.specs.World.{World, holds, parties, pushes}
 use Rattle.tide_machine.specs.points.Growths.{GrowthKnows}
 use Rattle.tide_machine.specs.points.Links.{LinkAt}
 use Rattle.tide_machine.specs.points.Scans.{IsAtHand, held, scanned, buffered}
 use Rattle.tide_machine.specs.points.Seen.{IsKnown, ParkedIsEmpty}
 use Rattle.tide_model.proofs.Cycles.{graph_in_span}
 use Rattle.tide_model.proofs.Histories.{IsLawful-push, state_after-push, moment_after_last-le}
-use Rattle.tide_model.specs.Cycle.{cycle_span, begin_count}
-use Rattle.tide_model.specs.Graph.{retained_more, no_cell, IsLink, in_slot, in_property, IsRoot, IsTriple, AreTwins, IsWithin, graph_of}
+use Rattle.tide_model.specs.Cycle.{cycle_span}
+use Rattle.tide_model.specs.Graph.{IsLink, in_slot, in_property, IsRoot, IsTriple, AreTwins, IsWithin, graph_of}
 use Rattle.tide_model.specs.History.{plain, state_after, is_begin, is_call_of, moment_after_last}
 use Rattle.tide_model.specs.Layout.{Layout, cell_count}
-use Rattle.tide_model.specs.Prefix.{IsPrefix, prefix_trans, prefix_push}
+use Rattle.tide_model.specs.Prefix.{prefix_trans, prefix_push}
 use Rattle.tide_model.specs.References.{IsLive, RefsAreLive}
 use Rattle.tide_model.specs.Refused.{ShapeLists}
-use Rattle.tide_model.specs.Since.{visits_since, since, visits_in}
+use Rattle.tide_model.specs.Since.{visits_since}
 use Rattle.tide_model.specs.State.{State, is_free}
 use Rattle.tide_words.proofs.heap_laws.Frames.{ReadsAs-write_unread}
 use Rattle.tide_words.proofs.heap_laws.ReadingLaws.{live_within}
 use Rattle.tide_words.specs.heap.Heap.{Heap, write}
 use Rattle.tide_words.specs.heap.Reading.{ReadsAs}
-use Rattle.tide_words.specs.marking.Colours.{is_marking, is_grey, IsBlack, IsMarked, is_black}
-use Rattle.tide_words.specs.marking.Marked.{is_marked}
-use Rattle.tide_words.specs.marking.Marking.{Marking, bits_of, times_in}
+use Rattle.tide_words.specs.marking.Colours.{is_black}
+use Rattle.tide_words.specs.marking.Marking.{times_in}
 
 module _ (layout : Layout) (shapes : ShapeLists) (heap : Heap) (part : ℕ → View) (before : List Event) (run : ℕ)
     (wave : FrozenWith layout shapes heap before 0) (known : IsKnown before part) (empty : ParkedIsEmpty part) (parked : (p : ℕ) → (part p).runs ≡ false) where
@@ -127,8 +119,12 @@ module _ (layout : Layout) (shapes : ShapeLists) (heap : Heap) (part : ℕ → V
           let no_list : times_in [] cell ≡ 0 = refl in
           omega (arith, once, none, no_list);
     };
-    rests = record { words = λ idle block within. (let n = wave.marking.held.no_words idle block within in record { shared = n.shared; mutator = n.mutator; race = n.race }); held = λ idle p. empty.held p (parked p); scans = λ idle p. empty.scan p (parked p);
-      duties = λ idle p. subst IsCalm (sym (empty.duty p (parked p))) tt };
+    rests = record {
+      words = λ idle block within. (let n = wave.marking.held.no_words idle block within in record { shared = n.shared; mutator = n.mutator; race = n.race });
+      held = λ idle p. empty.held p (parked p);
+      scans = λ idle p. empty.scan p (parked p);
+      duties = λ idle p. subst IsCalm (sym (empty.duty p (parked p))) tt;
+    };
     black = record { excused = λ marks source place cell link black white. (let is = wave.marking.black marks source cell black (linked source cell place (subst (λ (t : State). LinkAt t source place cell) same_state link)) in absurd (cc)) };
     retained = record {
       marked = λ marks cell within is. retained-push layout before (plain (Open number run)) refl cell (wave.retained marks cell within is);
@@ -165,7 +161,7 @@ module _ (layout : Layout) (shapes : ShapeLists) (heap : Heap) (part : ℕ → V
           let was = wave.counted marks in
           let same = entered_same in
           let few = count_where-le (λ c. is_black heap c && not (is_born_in_cycle log c)) (λ c. is_black heap c && not (is_born_in_cycle before c)) (cell_count layout)
-              (λ c both. subst (λ (b : Bool). (is_black heap c && not b) ≡ true) (born_same c) both) in
+          (λ c both. subst (λ (b : Bool). (is_black heap c && not b) ≡ true) (born_same c) both) in
           omega (arith, was, same, few);
     };
     scans = record { knows = λ p scan is. no_scan p scan is };

@@ -1,14 +1,12 @@
 -- No word is two mutators' own.
-use Rattle.std.proofs.Common.{ℕ, ◌≡◌, refl, sym, ◌∙◌, ap, subst, arith, Option, Some}
+use Rattle.std.proofs.Common.{ℕ, ◌≡◌, sym, ◌∙◌, ap, subst, arith, Some}
 use Rattle.std.specs.Prelude.{Contains}
 use Rattle.tide_layout.specs.declared.region.Region.{Region}
-use Rattle.tide_layout.specs.declared.region.Region.TheVariants as region
 use Rattle.tide_layout.proofs.SlotPlaces.{index_of_slot-alone, index_of_element-alone, index_of_register-alone}
-use Rattle.tide_layout.specs.Region.{tag, index_of_register}
-use Rattle.tide_layout.specs.Slots.{index_of_slot, index_of_element}
+use Rattle.tide_layout.specs.Region.{tag}
 use Rattle.tide_machine.specs.Owed.{IsOwnWord, own_register, own_structure, own_array, own_pair, own_element}
-use Rattle.tide_model.specs.Layout.{Layout, cell_count}
-use Rattle.tide_model.specs.References.{IsLive, RefsAreLive, ClaimsAreOwn}
+use Rattle.tide_model.specs.Layout.{Layout}
+use Rattle.tide_model.specs.References.{RefsAreLive, ClaimsAreOwn}
 use Rattle.tide_model.specs.State.{State}
 
 module _ (layout : Layout) (state : State) (claims : ClaimsAreOwn layout state) (refs : RefsAreLive state) where

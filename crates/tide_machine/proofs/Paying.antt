@@ -1,10 +1,9 @@
 -- A word that is owed is stored: the reading is as it was.
-use Rattle.std.proofs.Common.{ℕ, zero, suc, ◌≡◌, ◌≢◌, ◌+◌, ◌<◌, ◌≤◌, ◌⊎◌, ◌==◌, refl, sym, ◌∙◌, ap, subst, arith, Bool, true, false, List, [], ◌∷◌, ◌++◌, inl, inr, Option, Some, None, length}
+use Rattle.std.proofs.Common.{ℕ, zero, suc, ◌≡◌, ◌==◌, refl, sym, ◌∙◌, ap, subst, arith, Bool, true, false, List, [], ◌∷◌, ◌++◌, inl, inr}
 use Rattle.std.specs.Prelude.{Contains, if◌then◌else◌, ◌&&◌, not, filter}
-use Rattle.std.proofs.lemmas.Bool.{cases_Bool, cases_eq, eq-eqb, ne_eqb, eqb-true, eqb-false, and_parts, and_from}
+use Rattle.std.proofs.lemmas.Bool.{cases_Bool, eqb-true, and_parts}
 use Rattle.std.proofs.lemmas.List.Elements.{filter-append, Contains-append_cases, Contains-append_left, Contains-append_right}
 use Rattle.tide_layout.specs.declared.region.Region.{Region}
-use Rattle.tide_layout.specs.declared.region.Region.TheVariants as region
 use Rattle.tide_machine.specs.declared.view.View.{View}
 use Rattle.tide_machine.specs.declared.view.Owed.{Owed}
 use Rattle.tide_machine.proofs.Frames.{each_put}
@@ -13,13 +12,10 @@ use Rattle.tide_layout.specs.Region.{tag}
 use Rattle.tide_machine.specs.Owed.{is_at, Owes, IsOwnWord, owed_word, without_word}
 use Rattle.tide_machine.specs.points.SettledWords.{RunningWordsRead}
 use Rattle.tide_model.proofs.ReferenceLaws.{put_at_elim}
-use Rattle.tide_model.specs.History.{state_after}
-use Rattle.tide_model.specs.Layout.{Layout, cell_count}
+use Rattle.tide_model.specs.Layout.{Layout}
 use Rattle.tide_model.specs.Numbers.{put_at}
 use Rattle.tide_model.specs.Refused.{ShapeLists}
 use Rattle.tide_model.specs.State.{State}
-use Rattle.tide_words.proofs.heap_laws.Frames.{is_read}
-use Rattle.tide_words.proofs.heap_laws.HeapLaws.{write-same, write-other_index, write-other_region}
 use Rattle.tide_words.specs.heap.Heap.{Heap, write}
 
 -- what stands in a list that a test went over

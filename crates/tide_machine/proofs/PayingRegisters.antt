@@ -1,6 +1,6 @@
 -- The store of an owed register word keeps the invariant.
-use Rattle.std.proofs.Common.{ℕ, zero, suc, ◌≡◌, ◌≢◌, ◌+◌, ◌<◌, ◌≤◌, ◌⊎◌, ◌==◌, refl, sym, ◌∙◌, ap, subst, arith, Bool, true, false, List, [], ◌∷◌, inl, inr, Option, Some, None}
-use Rattle.std.specs.Prelude.{Contains, if◌then◌else◌, ◌&&◌, not}
+use Rattle.std.proofs.Common.{ℕ, ◌≡◌, ◌≢◌, ◌+◌, ◌<◌, ◌⊎◌, ◌==◌, refl, ◌∙◌, ap, subst, arith, Bool, true, false, [], inl, inr, Option, Some, None}
+use Rattle.std.specs.Prelude.{if◌then◌else◌, ◌&&◌, not}
 use Rattle.std.proofs.lemmas.Bool.{cases_Bool, cases_eq, eqb-true, and_parts}
 use Rattle.tide_layout.specs.declared.region.Region.{Region}
 use Rattle.tide_layout.specs.declared.region.Region.TheVariants as region
@@ -13,10 +13,10 @@ use Rattle.tide_machine.specs.declared.view.Growth.{Growth}
 use Rattle.tide_machine.specs.declared.view.Growth.TheVariants as growth
 use Rattle.tide_machine.proofs.Owning.{own_alone}
 use Rattle.tide_machine.proofs.Paying.{words_paid, in_filter}
-use Rattle.tide_machine.proofs.Steps.{ShowsStep, any_step}
+use Rattle.tide_machine.proofs.Steps.{any_step}
 use Rattle.tide_layout.specs.Region.{tag, index_of_register}
 use Rattle.tide_machine.specs.Duties.{GrowsAndOwes, OwesBarrier}
-use Rattle.tide_machine.specs.Owed.{is_at, Owes, IsOwnWord, own_register, owed_word, without_word}
+use Rattle.tide_machine.specs.Owed.{is_at, Owes, IsOwnWord, owed_word, without_word}
 use Rattle.tide_machine.specs.RunningWave.{RunningWave}
 use Rattle.tide_machine.specs.Scanning.{Place}
 use Rattle.tide_machine.specs.World.{World, parties}
@@ -53,13 +53,20 @@ module _ (layout : Layout) (shapes : ShapeLists) (w : World) (me : ℕ) (inside 
     | inl both ↦
         let parts = and_parts (tag at == tag region.Registers) (index == idx) both in
         absurd (apart (own_alone layout state (ClaimsAreOwn-lawful layout shapes w.log wave.lawful) wave.refs p me at region.Registers index idx own own_it
-          (eqb-true (tag at) (tag region.Registers) parts.0) (eqb-true index idx parts.1)))
+        (eqb-true (tag at) (tag region.Registers) parts.0) (eqb-true index idx parts.1)))
     | inr isnt ↦ ap (λ (b : Bool). if b then word else w.heap at index) isnt
   ]
 
   knows_after : (scan : Scan) → ScanKnows layout w.heap state scan → ScanKnows layout new state scan
   knows_after scan s = record {
-    unread = s.unread; array_after = s.array_after; grows = s.grows; nuked = s.nuked; room = s.room; agreed = s.agreed; names_live = s.names_live; array = s.array;
+    unread = s.unread;
+    array_after = s.array_after;
+    grows = s.grows;
+    nuked = s.nuked;
+    room = s.room;
+    agreed = s.agreed;
+    names_live = s.names_live;
+    array = s.array;
   }
 
   stays_owed : (at : Region) (index x : ℕ) → is_at region.Registers idx (owed_word at index x) ≡ false → Owes (w.part me) at index x → Owes later at index x
@@ -85,7 +92,13 @@ module _ (layout : Layout) (shapes : ShapeLists) (w : World) (me : ℕ) (inside 
     inside = inside;
     phase = refl;
     words = words_paid layout shapes w.heap w.part me state wave.words region.Registers idx later (λ r i x at. from_none (owed_word r i x) at) word owes_it refl;
-    who = refl; seen = inl refl; mine = refl; finds = wave.kept.full me; period = refl; calls = calls_view layout w.heap new w.part me later refl (λ p. refl) wave.calls; told = λ _. wave.numbers.told me runs;
+    who = refl;
+    seen = inl refl;
+    mine = refl;
+    finds = wave.kept.full me;
+    period = refl;
+    calls = calls_view layout w.heap new w.part me later refl (λ p. refl) wave.calls;
+    told = λ _. wave.numbers.told me runs;
     empties = λ is. absurd (cc);
     growth = growth_mine (w.part me).growth (wave.growths.knows me);
     growths = λ p apart. growth_else p (w.part p).growth (wave.growths.knows p);
@@ -94,7 +107,7 @@ module _ (layout : Layout) (shapes : ShapeLists) (w : World) (me : ℕ) (inside 
     colours = wave.colours;
     balance = λ _ c in_c few. refl;
     rests = λ idle. ((λ block in_block. let none = wave.rests.words idle block in_block in record { shared = none.shared; mutator = none.mutator; race = none.race }), wave.rests.held idle me, wave.rests.scans idle me, wave.rests.duties idle me);
-    at_hand = λ c at. wave.hands.cells me c (elim at [ | held is ↦ held is | scanned scan is e ↦ scanned scan is e | buffered scan is e ↦ buffered scan is e ]);
+    at_hand = λ c at. wave.hands.cells me c (elim at [ held is ↦ held is | scanned scan is e ↦ scanned scan is e | buffered scan is e ↦ buffered scan is e ]);
     arrays = λ a scan is. wave.hands.arrays me a scan is;
     scanned = λ scan is. (wave.retained.scanned me scan is, knows_after scan (wave.scans.knows me scan is), λ c at holds. wave.retained.buffered me c scan is at holds);
     scans = λ p scan apart is. knows_after scan (wave.scans.knows p scan is);

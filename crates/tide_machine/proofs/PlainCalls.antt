@@ -1,11 +1,9 @@
 -- A call that leaves all cells and arrays as they were keeps the invariant: one on a register, a handle, a claim, or none.
-use Rattle.std.proofs.Common.{ℕ, zero, suc, ◌≡◌, ◌≢◌, ◌+◌, ◌*◌, ◌%◌, ◌<◌, ◌≤◌, ◌⊎◌, ◌==◌, refl, sym, ◌∙◌, ap, subst, arith, Bool, true, false, List, [], ◌∷◌, ◌++◌, inl, inr, Option, Some, None, length}
-use Rattle.std.specs.Prelude.{Contains, if◌then◌else◌, ◌&&◌, slice_get}
-use Rattle.std.specs.Int.{bit_at}
-use Rattle.std.proofs.lemmas.Bool.{cases_Bool, cases_eq, eq-eqb, ne_eqb, eqb-true, and_parts}
+use Rattle.std.proofs.Common.{ℕ, ◌≡◌, ◌≢◌, ◌+◌, ◌<◌, ◌≤◌, refl, sym, ◌∙◌, ap, subst, arith, Bool, true, false, List, [], ◌∷◌, ◌++◌, inl, inr, None}
+use Rattle.std.specs.Prelude.{Contains}
+use Rattle.std.proofs.lemmas.Bool.{cases_Bool}
 use Rattle.tide_model.specs.declared.op.Op.{Op}
 use Rattle.tide_model.specs.declared.op.Reply.{Reply}
-use Rattle.tide_model.specs.declared.op.Reply.TheVariants.{Seen}
 use Rattle.tide_model.specs.declared.val.Val.{Val}
 use Rattle.tide_model.specs.declared.val.Val.TheVariants.{Cell}
 use Rattle.tide_layout.specs.declared.region.Region.{Region}
@@ -16,18 +14,12 @@ use Rattle.tide_machine.specs.declared.view.Duty.TheVariants as duty
 use Rattle.tide_machine.specs.declared.view.Growth.{Growth}
 use Rattle.tide_machine.specs.declared.view.Growth.TheVariants as growth
 use Rattle.tide_machine.specs.declared.view.Owed.{Owed}
-use Rattle.tide_machine.proofs.Calls.{OfState, ShowsCall, call_step, is_uncalled}
-use Rattle.tide_machine.proofs.Frames.{each_put}
-use Rattle.tide_machine.proofs.Growing
-use Rattle.tide_machine.proofs.Owning.{own_alone}
-use Rattle.tide_machine.proofs.Lists.{in_one}
+use Rattle.tide_machine.proofs.Calls.{OfState, call_step, is_uncalled}
 use Rattle.tide_core.specs.FrozenWave.{is_birth_of}
-use Rattle.tide_layout.proofs.Places.{tag-injective}
-use Rattle.tide_layout.specs.Region.{tag, index_of_register}
 use Rattle.tide_layout.specs.Slots.{index_of_element}
-use Rattle.tide_machine.specs.Duties.{OwesBarrier, OwesColour, IsCalm}
+use Rattle.tide_machine.specs.Duties.{OwesColour, IsCalm}
 use Rattle.tide_machine.specs.Entries.{call_of}
-use Rattle.tide_machine.specs.Owed.{Owes, IsOwnWord, own_register, own_structure, own_array, own_pair, own_element, owed_word}
+use Rattle.tide_machine.specs.Owed.{IsOwnWord, own_register, own_structure, own_array, own_pair, own_element, owed_word}
 use Rattle.tide_machine.specs.RunningWave.{RunningWave}
 use Rattle.tide_machine.specs.Scanning.{Place, slot, property, IsStill}
 use Rattle.tide_machine.specs.Words.{count_of, is_nuked}
@@ -38,21 +30,16 @@ use Rattle.tide_machine.specs.points.Births.{IsHidden}
 use Rattle.tide_machine.specs.points.Growths.{GrowthKnows, GrowthOn}
 use Rattle.tide_machine.specs.points.Links.{LinkAt}
 use Rattle.tide_machine.specs.points.SettledWords.{RunningWordsRead}
-use Rattle.tide_model.proofs.ClaimLaws.{ClaimsAreOwn-lawful}
-use Rattle.tide_model.proofs.ReferenceLaws.{put_at_elim, RefsAreLive-call}
-use Rattle.tide_model.specs.Applied.{put_register, put_cell, after_call}
+use Rattle.tide_model.proofs.ReferenceLaws.{RefsAreLive-call}
+use Rattle.tide_model.specs.Applied.{after_call}
 use Rattle.tide_model.specs.History.{state_after}
 use Rattle.tide_model.specs.Lawful.{Stands}
-use Rattle.tide_model.specs.Layout.{Layout, cell_count, block_of_cell}
+use Rattle.tide_model.specs.Layout.{Layout}
 use Rattle.tide_model.specs.Numbers.{put_at}
 use Rattle.tide_model.specs.References.{IsLive, RefsAreLive}
 use Rattle.tide_model.specs.Refused.{ShapeLists}
-use Rattle.tide_model.specs.State.{State, CellState, live, free, blank_cell}
-use Rattle.tide_words.proofs.heap_laws.Frames.{is_read}
-use Rattle.tide_words.proofs.heap_laws.HeapLaws.{write-same, write-other_region}
-use Rattle.tide_words.specs.forms.ValueWord.{val_word, HasU32}
-use Rattle.tide_words.specs.heap.Heap.{Heap, write}
-use Rattle.tide_words.specs.marking.Colours.{is_marking, IsBlack}
+use Rattle.tide_model.specs.State.{State}
+use Rattle.tide_words.specs.heap.Heap.{Heap}
 
 -- the regions that such a call writes
 abbrev pub is_changed : Region → Bool
@@ -76,7 +63,11 @@ module _ (layout : Layout) (shapes : ShapeLists) (w : World) (me : ℕ) (inside 
 
   abbrev later : List Owed → View
   later owed = record (w.part me) {
-    owed = owed; known = []; full = []; calls = calls; left = left;
+    owed = owed;
+    known = [];
+    full = [];
+    calls = calls;
+    left = left;
     seen = w.log ++ call_of me op reply None ∷ [];
     mine = (w.part me).mine ++ call_of me op reply None ∷ [];
   }
@@ -126,7 +117,10 @@ module _ (layout : Layout) (shapes : ShapeLists) (w : World) (me : ℕ) (inside 
       alive = λ x is. is;
       arrays = λ array is. is;
       scans = λ p scan is. let k = wave.scans.knows p scan is in record {
-        unread = k.unread; array_after = k.array_after; room = k.room; agreed = k.agreed;
+        unread = k.unread;
+        array_after = k.array_after;
+        room = k.room;
+        agreed = k.agreed;
         grows = λ first e. (let o = ap count_of (structure scan.cell) in let g = k.grows first e in omega (arith, o, g));
         nuked = λ first e same nuked. ap is_nuked (structure scan.cell) ∙ k.nuked first e (same ∙ ap count_of (structure scan.cell)) nuked;
         array = λ word has holds. s.same region.Array scan.cell refl ∙ k.array word has (subst (IsStill scan.first) (structure scan.cell) holds);
@@ -139,7 +133,11 @@ module _ (layout : Layout) (shapes : ShapeLists) (w : World) (me : ℕ) (inside 
       growths = λ p apart. growth_after p apart (w.part p).growth (wave.growths.knows p);
       owns = λ p at index apart. own_still p at index apart;
       hidden = λ p c apart alive h. let now = s.hidden p c apart alive h in record {
-        registers = now.0; strong = now.1; weak = now.2; claims = now.3; paired = h.paired;
+        registers = now.0;
+        strong = now.1;
+        weak = now.2;
+        claims = now.3;
+        paired = h.paired;
         linked = λ x place link. h.linked x place (link_before x place c link);
         blank = λ place target link. h.blank place target (link_before c place target link);
       };
@@ -152,13 +150,25 @@ module _ (layout : Layout) (shapes : ShapeLists) (w : World) (me : ℕ) (inside 
       still_runs = runs;
       uncalled = λ at index is. s.same at index (not_changed at is);
       stands = stands;
-      who = refl; seen = refl; mine = refl; marks = refl; cycle = refl; begun = refl; visits = refl; period = s.same region.Period 0 refl; calls = s.told; held = refl; scan = refl; known = refl; full = refl;
+      who = refl;
+      seen = refl;
+      mine = refl;
+      marks = refl;
+      cycle = refl;
+      begun = refl;
+      visits = refl;
+      period = s.same region.Period 0 refl;
+      calls = s.told;
+      held = refl;
+      scan = refl;
+      known = refl;
+      full = refl;
       pushes_none = λ c. (ap (λ (d : Duty). pushes d c) idle, ap (λ (d : Duty). pushes d c) idle);
       calm = λ rests. subst IsCalm (sym idle) tt;
       grows = λ c g. record { grows = g.grows; owes = g.owes };
       barrier = λ c owes. owes;
       kept = s.kept;
-      truer = λ p scan is holds. (holds.0, elim holds.1 [ | inl agreed ↦ inl agreed | inr still ↦ inr (subst (IsStill scan.first) (structure scan.cell) still) ]);
+      truer = λ p scan is holds. (holds.0, elim holds.1 [ inl agreed ↦ inl agreed | inr still ↦ inr (subst (IsStill scan.first) (structure scan.cell) still) ]);
       born_before = λ c owes. no_colour c owes;
       born = λ c born. (let isnt = bears_nothing c in absurd (cc));
       awaits = λ marks c owes. absurd (no_colour c owes);
@@ -169,7 +179,7 @@ module _ (layout : Layout) (shapes : ShapeLists) (w : World) (me : ℕ) (inside 
     }
       where
         not_changed : (at : Region) → is_uncalled at ≡ true → is_changed at ≡ false
-        not_changed at is = elim (cases_Bool (is_changed at)) [ | inl changed ↦ absurd (clash at is changed) | inr isnt ↦ isnt ]
+        not_changed at is = elim (cases_Bool (is_changed at)) [ inl changed ↦ absurd (clash at is changed) | inr isnt ↦ isnt ]
           where
             clash : (at : Region) → is_uncalled at ≡ true → is_changed at ≡ true → ⊥
             clash region.Active a b = absurd (cc)

@@ -1,7 +1,7 @@
 -- A call that writes one word of a register, a handle or a claim keeps the invariant, by the reading law of its operation.
-use Rattle.std.proofs.Common.{ℕ, zero, suc, ◌≡◌, ◌≢◌, ◌+◌, ◌<◌, ◌≤◌, ◌⊎◌, ◌==◌, refl, sym, ◌∙◌, ap, subst, arith, Bool, true, false, List, [], ◌∷◌, ◌++◌, inl, inr, Option, Some, None}
+use Rattle.std.proofs.Common.{ℕ, ◌≡◌, ◌≢◌, ◌<◌, ◌==◌, refl, sym, ◌∙◌, ap, subst, arith, Bool, true, false, List, [], ◌∷◌, ◌++◌, inl, inr, None}
 use Rattle.std.specs.Prelude.{Contains, if◌then◌else◌, ◌&&◌}
-use Rattle.std.proofs.lemmas.Bool.{cases_Bool, cases_eq, eqb-true, ne_eqb, and_parts}
+use Rattle.std.proofs.lemmas.Bool.{cases_Bool, eqb-true, ne_eqb, and_parts}
 use Rattle.tide_model.specs.declared.op.Op.{Op}
 use Rattle.tide_model.specs.declared.op.Reply.{Reply}
 use Rattle.tide_model.specs.declared.val.Val.{Val}
@@ -38,7 +38,6 @@ use Rattle.tide_words.proofs.heap_laws.HeapLaws.{write-other_region}
 use Rattle.tide_words.specs.heap.Heap.{Heap, write}
 use Rattle.tide_words.specs.heap.Reading.{ReadsAs}
 
-
 module _ (layout : Layout) (shapes : ShapeLists) (w : World) (me : ℕ) (inside : me < parties) (wave : RunningWave layout shapes w) (runs : (w.part me).runs ≡ true)
     (idle : (w.part me).duty ≡ duty.Nothing) (owes_nothing : (w.part me).owed ≡ []) (grows_not : (w.part me).growth ≡ growth.Nothing)
     (op : Op) (reply : Reply) (bears_nothing : (cell : ℕ) → is_birth_of cell (Call me op reply) ≡ false) (stands : Stands layout shapes w.log (call_of me op reply None))
@@ -54,7 +53,10 @@ module _ (layout : Layout) (shapes : ShapeLists) (w : World) (me : ℕ) (inside 
 
   abbrev pub later : View
   later = record (w.part me) {
-    owed = []; known = []; full = []; left = left;
+    owed = [];
+    known = [];
+    full = [];
+    left = left;
     seen = w.log ++ call_of me op reply None ∷ [];
     mine = (w.part me).mine ++ call_of me op reply None ∷ [];
   }

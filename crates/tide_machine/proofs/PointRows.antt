@@ -1,6 +1,5 @@
 -- Worlds near to one that has the wave, each of which breaks one of its points.
-use Rattle.std.proofs.Common.{ℕ, zero, suc, ◌≡◌, ◌+◌, ◌<◌, ◌≤◌, ◌⊎◌, refl, sym, ◌∙◌, ap, subst, arith, Bool, true, false, List, [], ◌∷◌, ◌++◌, Option, Some, None, inl, inr}
-use Rattle.std.specs.Prelude.{Contains}
+use Rattle.std.proofs.Common.{ℕ, refl, arith, false, List, [], ◌∷◌, Some, inl, inr}
 use Rattle.tide_layout.specs.declared.region.Region.TheVariants as region
 use Rattle.tide_machine.specs.declared.view.Duty.TheVariants as duty
 use Rattle.tide_machine.specs.declared.view.Growth.TheVariants as growth
@@ -9,8 +8,7 @@ use Rattle.tide_machine.proofs.Freezing.{retained_is_live}
 use Rattle.tide_machine.proofs.Lists.{is_in_one, nothing_in}
 use Rattle.tide_machine.proofs.Scheduling.{all_schedules}
 use Rattle.tide_machine.specs.Frozen.{newcomer}
-use Rattle.tide_machine.specs.Owed.{owed_word, Owes, Knows}
-use Rattle.tide_machine.specs.RunningWave.{RunningWave}
+use Rattle.tide_machine.specs.Owed.{owed_word, Owes}
 use Rattle.tide_machine.specs.Scanning.{scan_of, slot}
 use Rattle.tide_machine.specs.Schedule.{running}
 use Rattle.tide_machine.specs.declared.view.Scan.{Scan}
@@ -134,7 +132,7 @@ one_black = write (write empty_heap region.Phase 0 3) region.Colour 0 4
 
 -- nobody owes the barrier
 black-unexcused : RunningBlackPointsToMarked small one_black newcomer linked_late → ⊥
-black-unexcused point = elim (point.excused refl 0 (slot 0) 1 (refl, refl) refl refl).excuse [ | inl owes ↦ owes | inr scans ↦ scans ]
+black-unexcused point = elim (point.excused refl 0 (slot 0) 1 (refl, refl) refl refl).excuse [ inl owes ↦ owes | inr scans ↦ scans ]
 
 -- no visit was counted
 counted-less : RunningBlackIsCounted small one_black newcomer linked_late → ⊥
@@ -152,4 +150,4 @@ abbrev born_white : List Event
 born_white = plain (Begin 1) ∷ plain (Open 1 16) ∷ plain (Call 0 (Alloc 0 0) (Born 0)) ∷ []
 
 born-white : RunningBornIsMarked small (write (write empty_heap region.Phase 0 3) region.Colour 0 5) newcomer born_white → ⊥
-born-white point = elim (point.born refl 0 (omega arith) refl) [ | inl marked ↦ absurd (cc) | inr owes ↦ owes.1 ]
+born-white point = elim (point.born refl 0 (omega arith) refl) [ inl marked ↦ absurd (cc) | inr owes ↦ owes.1 ]

@@ -1,5 +1,5 @@
 -- A step that makes no entry and changes no word that the reading looks at keeps the invariant.
-use Rattle.std.proofs.Common.{ℕ, zero, suc, ◌≡◌, ◌≢◌, ◌+◌, ◌<◌, ◌≤◌, ◌⊎◌, ◌==◌, refl, sym, ◌∙◌, ap, subst, arith, Bool, true, false, List, [], ◌∷◌, ◌++◌, inl, inr, ⊎_elim, Option, Some, None, length}
+use Rattle.std.proofs.Common.{ℕ, ◌≡◌, ◌≢◌, ◌+◌, ◌<◌, ◌≤◌, ◌⊎◌, refl, sym, ◌∙◌, ap, subst, arith, Bool, true, false, List, [], inl, inr, Option, Some, None}
 use Rattle.std.specs.Prelude.{Contains, if◌then◌else◌, ◌&&◌, not}
 use Rattle.std.proofs.lemmas.Bool.{cases_Bool}
 use Rattle.tide_model.specs.declared.entry.Event.{Event}
@@ -10,12 +10,11 @@ use Rattle.tide_machine.specs.declared.view.Owed.{Owed}
 use Rattle.tide_machine.specs.declared.view.Found.{Found}
 use Rattle.tide_machine.specs.declared.view.Scan.{Scan}
 use Rattle.tide_machine.specs.declared.view.Target.{Target}
-use Rattle.tide_machine.specs.declared.view.Duty.TheVariants as duty
 use Rattle.tide_machine.specs.declared.view.Growth.{Growth}
 use Rattle.tide_machine.specs.declared.view.Growth.TheVariants as growth
-use Rattle.tide_machine.proofs.Steps.{ShowsStep, any_step}
+use Rattle.tide_machine.proofs.Steps.{any_step}
 use Rattle.tide_machine.specs.points.Seen.{CallsAreTold}
-use Rattle.tide_machine.proofs.Frames.{each_put, put_here, put_else, total_below-put, known_view, held_view}
+use Rattle.tide_machine.proofs.Frames.{each_put}
 use Rattle.tide_core.specs.FrozenWave.{is_born_in_cycle}
 use Rattle.tide_layout.specs.Region.{cell_block_count}
 use Rattle.tide_layout.specs.Slots.{index_of_element}
@@ -24,30 +23,24 @@ use Rattle.tide_machine.specs.Owed.{owed_word, Owes, IsOwnWord}
 use Rattle.tide_machine.specs.RunningWave.{RunningWave}
 use Rattle.tide_machine.specs.Scanning.{IsTrue, Place, IsStill}
 use Rattle.tide_machine.specs.Words.{count_of, is_nuked}
-use Rattle.tide_machine.specs.World.{World, total, holds, parties}
-use Rattle.tide_machine.specs.points.Births.{RunningBornIsMarked, AwaitsColour}
+use Rattle.tide_machine.specs.World.{holds, parties}
 use Rattle.tide_machine.specs.points.Growths.{GrowthKnows, GrowthOn}
-use Rattle.tide_machine.specs.points.Holders.{RunningGreyIsHeld, RestsWhereIdle}
-use Rattle.tide_machine.specs.points.Links.{RunningBlackPointsToMarked, IsExcused, Excuses, ScanExcuses, LinkAt}
-use Rattle.tide_machine.specs.points.Marks.{counted_in, RunningMarkedIsRetained, RunningBlackIsCounted}
-use Rattle.tide_machine.specs.points.Scans.{IsAtHand, HandsAreLive, ScanKnows, ScansAreRight}
-use Rattle.tide_machine.specs.points.Seen.{IsKnown, ParkedIsEmpty, NumbersRead}
-use Rattle.tide_machine.specs.points.SettledWords.{RunningWordsRead, OwnIsKept}
+use Rattle.tide_machine.specs.points.Links.{Excuses, ScanExcuses, LinkAt}
+use Rattle.tide_machine.specs.points.Marks.{counted_in}
+use Rattle.tide_machine.specs.points.Scans.{IsAtHand, ScanKnows}
+use Rattle.tide_machine.specs.points.SettledWords.{RunningWordsRead}
 use Rattle.tide_model.proofs.ReferenceLaws.{put_at_elim}
 use Rattle.tide_model.specs.Cycle.{cycle_span}
 use Rattle.tide_model.specs.Graph.{IsRetained, no_cell}
-use Rattle.tide_model.specs.History.{state_after, state_at, is_begin}
+use Rattle.tide_model.specs.History.{state_after}
 use Rattle.tide_model.specs.Layout.{Layout, cell_count}
 use Rattle.tide_model.specs.Numbers.{put_at, count_where}
 use Rattle.tide_model.specs.References.{IsLive}
 use Rattle.tide_model.specs.Refused.{ShapeLists}
-use Rattle.tide_model.specs.Room.{window_start, IsFullBlock}
-use Rattle.tide_model.specs.Since.{visits_since}
 use Rattle.tide_model.specs.State.{live, spent}
 use Rattle.tide_words.proofs.heap_laws.Frames.{is_read}
-use Rattle.tide_words.proofs.heap_laws.ReadingLaws.{live_within}
 use Rattle.tide_words.specs.heap.Heap.{Heap}
-use Rattle.tide_words.specs.marking.Colours.{is_marking, running_cycle, is_grey, is_black, IsBlack, IsMarked}
+use Rattle.tide_words.specs.marking.Colours.{is_marking, is_grey, is_black, IsBlack, IsMarked}
 use Rattle.tide_words.specs.marking.Marked.{is_marked}
 use Rattle.tide_words.specs.marking.Marking.{bits_of, HasNoGreys, NoLaterColours}
 
@@ -173,7 +166,11 @@ module _ (layout : Layout) (shapes : ShapeLists) (old : Heap) (part : ℕ → Vi
       inside = s.inside;
       phase = s.words region.Phase 0 refl;
       words = words_after;
-      who = s.who; seen = inl s.seen; mine = s.mine; finds = λ block moment at. wave.kept.full me block moment (subst (λ (o : List Found). Contains o (found block moment)) s.full at); period = s.period;
+      who = s.who;
+      seen = inl s.seen;
+      mine = s.mine;
+      finds = λ block moment at. wave.kept.full me block moment (subst (λ (o : List Found). Contains o (found block moment)) s.full at);
+      period = s.period;
       told = λ is. (let t = wave.numbers.told me s.ran in (s.marks ∙ t.0, s.cycle ∙ t.1, s.begun ∙ t.2));
       calls = s.calls;
       empties = λ is. (let runs = s.runs in absurd (cc));
@@ -183,15 +180,25 @@ module _ (layout : Layout) (shapes : ShapeLists) (old : Heap) (part : ℕ → Vi
           let was = subst (λ (o : List Owed). Contains o (owed_word at index word)) s.known is in
           (wave.kept.reads me at index word was, wave.kept.owns me at index word was, s.words at index (wave.kept.reads me at index word was) ∙ wave.kept.known me at index word was);
       knows_still = λ p at index word apart is. s.words at index (wave.kept.reads p at index word is) ∙ wave.kept.known p at index word is;
-      colours = s.colours; balance = s.balance; rests = s.rests; at_hand = s.at_hand; arrays = s.arrays;
+      colours = s.colours;
+      balance = s.balance;
+      rests = s.rests;
+      at_hand = s.at_hand;
+      arrays = s.arrays;
       scanned = λ scan is. let t = s.scanned scan is in (t.0, knows_same scan t.1, λ cell at holds. t.2 cell at (true_same scan holds));
       scans = λ p scan apart is. knows_same scan (wave.scans.knows p scan is);
       truer = λ p scan apart is. true_same scan;
       black = λ marks source place cell link black white. elim (s.black marks source place cell link black white) [
         | inl mine ↦ inl (excuses_same source place cell w mine)
-        | inr before ↦ inr (before.0, before.1, λ e. elim (before.2 e) [ | inl mine ↦ inl (excuses_same source place cell w mine) | inr other ↦ inr other ])
+        | inr before ↦ inr (before.0, before.1, λ e. elim (before.2 e) [ inl mine ↦ inl (excuses_same source place cell w mine) | inr other ↦ inr other ])
       ];
-      stays = s.stays; recoloured = s.recoloured; aims = s.aims; marked = s.marked; born = s.born; owes = s.owes; counted = λ marks. (let t = wave.numbers.told me s.ran in let few = s.counted marks in let one = counted_now (part me) t.2 in let two = counted_now w (s.begun ∙ t.2) in omega (arith, few, one, two));
+      stays = s.stays;
+      recoloured = s.recoloured;
+      aims = s.aims;
+      marked = s.marked;
+      born = s.born;
+      owes = s.owes;
+      counted = λ marks. (let t = wave.numbers.told me s.ran in let few = s.counted marks in let one = counted_now (part me) t.2 in let two = counted_now w (s.begun ∙ t.2) in omega (arith, few, one, two));
       beyond = λ marks source n cell link past.
           let (p, g) = wave.grows.beyond marks source n cell link (subst (λ (word : ℕ). count_of word ≤ n) (structure source) past) in
           elim (Rattle.std.proofs.lemmas.Bool.cases_eq p me) [

@@ -1,7 +1,7 @@
 -- A call that changes no word that is read, and leaves the store as it was, keeps the wave: refusals, and Collect.
-use Rattle.std.proofs.Common.{ℕ, ◌≡◌, ◌≢◌, ◌<◌, ◌+◌, ◌==◌, refl, sym, ◌∙◌, ap, subst, arith, Bool, true, false, List, [], ◌∷◌, ◌++◌, Option, Some, None}
+use Rattle.std.proofs.Common.{ℕ, ◌≡◌, ◌<◌, ◌+◌, refl, ◌∙◌, ap, subst, true, false, List, [], ◌∷◌, ◌++◌, Option, Some, None}
 use Rattle.std.specs.Prelude.{Contains, ◌%◌, ◌^◌, length}
-use Rattle.std.proofs.lemmas.Bool.{ne_eqb, cases_eq, eqb-true}
+use Rattle.std.proofs.lemmas.Bool.{ne_eqb}
 use Rattle.tide_layout.specs.declared.region.Region.{Region}
 use Rattle.tide_layout.specs.declared.region.Region.TheVariants as region
 use Rattle.tide_model.specs.declared.op.Op.TheVariants as op
@@ -11,18 +11,16 @@ use Rattle.tide_core.specs.FrozenWave.{is_birth_of}
 use Rattle.tide_layout.proofs.Places.{tag-injective}
 use Rattle.tide_layout.specs.Region.{tag}
 use Rattle.tide_machine.proofs.Colouring.{unread_write}
-use Rattle.tide_machine.proofs.Frames.{each_put}
 use Rattle.tide_machine.proofs.Lists.{nothing_in}
 use Rattle.tide_machine.specs.Entries.{reply_of_call, refused_or_full, class_taken, call_of}
 use Rattle.tide_machine.specs.Kind.{StoreCall}
 use Rattle.tide_machine.specs.Machine.{stepped}
 use Rattle.tide_machine.specs.May.{MayCall}
-use Rattle.tide_machine.specs.Owed.{Owes, Knows, IsOwnWord, owed_word}
+use Rattle.tide_machine.specs.Owed.{Owes, IsOwnWord, owed_word}
 use Rattle.tide_machine.specs.RunningWave.{RunningWave}
 use Rattle.tide_machine.specs.World.{World, parties}
 use Rattle.tide_machine.specs.declared.view.View.{View}
 use Rattle.tide_machine.specs.kinds.RegisterCall.{MayStoreCall}
-use Rattle.tide_machine.specs.points.Births.{IsHidden}
 use Rattle.tide_machine.specs.points.Seen.{CallsAreTold}
 use Rattle.tide_machine.specs.points.SettledWords.{RunningWordsRead}
 use Rattle.tide_model.proofs.ReferenceLaws.{put_at_elim, after_call-refused}
@@ -30,7 +28,6 @@ use Rattle.tide_model.specs.Applied.{after_call}
 use Rattle.tide_model.specs.History.{state_after}
 use Rattle.tide_model.specs.Layout.{Layout}
 use Rattle.tide_model.specs.Numbers.{put_at}
-use Rattle.tide_model.specs.References.{IsLive}
 use Rattle.tide_model.specs.Refused.{ShapeLists, refusal_of}
 use Rattle.tide_model.specs.State.{State}
 use Rattle.tide_model.specs.declared.entry.Entry.TheVariants.{Call}
@@ -38,9 +35,6 @@ use Rattle.tide_model.specs.declared.op.Op.{Op}
 use Rattle.tide_model.specs.declared.op.Refusal.{Refusal}
 use Rattle.tide_model.specs.declared.op.Refusal.TheVariants.{Full}
 use Rattle.tide_model.specs.declared.op.Reply.{Reply}
-use Rattle.tide_model.specs.declared.op.Reply.TheVariants.{Refused, Asked}
-use Rattle.tide_model.specs.declared.val.Val.{Val}
-use Rattle.tide_model.specs.declared.val.Val.TheVariants.{Cell}
 use Rattle.tide_words.proofs.heap_laws.Frames.{is_read}
 use Rattle.tide_words.proofs.heap_laws.HeapLaws.{write-other_region, write-same, write-other_index}
 use Rattle.tide_words.specs.heap.Heap.{Heap, write}
@@ -53,8 +47,12 @@ module _ (layout : Layout) (shapes : ShapeLists) (w : World) (me : ℕ) (inside 
 
   abbrev later : View
   later = record (w.part me) {
-    owed = []; known = []; full = []; calls = calls;
-    seen = w.log ++ call_of me op reply None ∷ []; mine = (w.part me).mine ++ call_of me op reply None ∷ [];
+    owed = [];
+    known = [];
+    full = [];
+    calls = calls;
+    seen = w.log ++ call_of me op reply None ∷ [];
+    mine = (w.part me).mine ++ call_of me op reply None ∷ [];
   }
 
   module _ (new : Heap) (words : (at : Region) (index : ℕ) → is_read at ≡ true → new at index ≡ w.heap at index)
@@ -81,14 +79,14 @@ module _ (layout : Layout) (shapes : ShapeLists) (w : World) (me : ℕ) (inside 
     pub leaves_all : RunningWave layout shapes (record { heap = new; part = put_at w.part me later; log = w.log ++ call_of me op reply None ∷ [] })
     leaves_all = PlainCalls.plain_call layout shapes w me inside wave may.runner.runs may.between.duty may.between.growth op reply bears_nothing may.stands
         state.active state.registers state.claims state.strong state.weak calls (w.part me).left new [] record {
-      becomes = becomes;
-      same = same;
-      words = words_after;
-      told = told;
-      kept = λ p at index x apart is. words at index (wave.kept.reads p at index x is) ∙ wave.kept.known p at index x is;
-      claims_else = λ p apart. refl;
-      hidden = λ p c apart alive h. (h.registers, h.strong, h.weak, h.claims);
-    }
+          becomes = becomes;
+          same = same;
+          words = words_after;
+          told = told;
+          kept = λ p at index x apart is. words at index (wave.kept.reads p at index x is) ∙ wave.kept.known p at index x is;
+          claims_else = λ p apart. refl;
+          hidden = λ p c apart alive h. (h.registers, h.strong, h.weak, h.claims);
+        }
 
 -- a refusal, or the answer to Collect, leaves the store
 pub leaves_store : (layout : Layout) (shapes : ShapeLists) (now : State) (who : ℕ) (o : Op) →

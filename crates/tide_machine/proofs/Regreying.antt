@@ -1,12 +1,9 @@
 -- The barrier's exchange, and the bit that it sets, keep the invariant.
-use Rattle.std.proofs.Common.{ℕ, zero, suc, ◌≡◌, ◌≢◌, ◌+◌, ◌*◌, ◌/◌, ◌<◌, ◌≤◌, ◌==◌, refl, sym, ◌∙◌, ap, subst, arith, Bool, true, false, inl, inr}
+use Rattle.std.proofs.Common.{ℕ, ◌≡◌, ◌<◌, ◌≤◌, ◌==◌, refl, sym, ◌∙◌, ap, subst, arith, Bool, true, false, inl, inr}
 use Rattle.std.specs.Prelude.{if◌then◌else◌, ◌&&◌, not}
-use Rattle.std.proofs.lemmas.Bool.{cases_eq, eq-eqb, eqb-true, eqb-false, ne_eqb}
-use Rattle.std.proofs.lemmas.Bool.Decides.{nat_tests}
-use Rattle.tide_model.specs.declared.entry.Event.{Event}
-use Rattle.tide_words.specs.declared.forms.colours.Colour.TheVariants.{Black, White, Grey}
+use Rattle.std.proofs.lemmas.Bool.{cases_eq, eq-eqb, eqb-true, ne_eqb}
+use Rattle.tide_words.specs.declared.forms.colours.Colour.TheVariants.{Black, Grey}
 use Rattle.tide_layout.specs.declared.region.Region.TheVariants as region
-use Rattle.tide_machine.specs.declared.view.View.{View}
 use Rattle.tide_machine.specs.declared.view.Duty.{Duty}
 use Rattle.tide_machine.specs.declared.view.Duty.TheVariants as duty
 use Rattle.std.specs.Prelude.{bit_or, ◌%◌}
@@ -14,7 +11,7 @@ use Rattle.std.specs.Int.{bit_at}
 use Rattle.tide_machine.proofs.GreyBits.{bit_pushed}
 use Rattle.tide_machine.proofs.Colouring.{unread_write, write_same, colours_coloured, black_before_grey, marked_after_grey, marked_before_grey, count_where-le, recoloured_one}
 use Rattle.std.proofs.lemmas.Bool.{cases_Bool, and_parts, and_from}
-use Rattle.tide_machine.proofs.Duties.{with_duty, ShowsDuty, duty_step}
+use Rattle.tide_machine.proofs.Duties.{with_duty, duty_step}
 use Rattle.tide_core.specs.FrozenWave.{is_born_in_cycle}
 use Rattle.tide_machine.specs.Duties.{OwesBarrier, GrowsOn, OwesColour, IsCalm}
 use Rattle.tide_machine.specs.Kind.{Regrey, PushBit, PushRace, LoadColour}
@@ -64,7 +61,8 @@ module _ (layout : Layout) (shapes : ShapeLists) (w : World) (me : ℕ) (inside 
     inside = inside;
     runs = runs;
     words = λ at index. unread_write w.heap region.Colour cell (colour_word (running_cycle w.heap) Grey) refl at index;
-    period = refl; call_words = λ p. refl;
+    period = refl;
+    call_words = λ p. refl;
     colours = colours_coloured layout w.heap cell Grey (omega arith) wave.colours;
     balance = λ _ other in_other few. elim (cases_eq other cell) [
       | inl same ↦
@@ -82,8 +80,11 @@ module _ (layout : Layout) (shapes : ShapeLists) (w : World) (me : ℕ) (inside 
     rests = λ idle. (let marks = marks_if (duty.Regrey cell word) is (λ calm. calm) in absurd (cc));
     black = λ marks source place target link black_now white.
         let before = black_before_grey w.heap cell source black_now in
-        inr (before.1, sym (marked_before_grey w.heap cell target (black_is_marked w.heap cell black)) ∙ white,
-          λ owes. absurd (before.0 (sym (was_barrier (duty.Regrey cell word) source is owes))));
+        inr (
+          before.1,
+          sym (marked_before_grey w.heap cell target (black_is_marked w.heap cell black)) ∙ white,
+          λ owes. absurd (before.0 (sym (was_barrier (duty.Regrey cell word) source is owes))),
+        );
     grows = λ other g owes. absurd (grown other g owes);
     stays = λ _ other. marked_after_grey w.heap cell other;
     recoloured = λ _ other in_other. recoloured_one w.heap cell other Grey (grey_is_marked (coloured w.heap cell Grey) cell (is_grey-made w.heap cell));
@@ -101,7 +102,8 @@ module _ (layout : Layout) (shapes : ShapeLists) (w : World) (me : ℕ) (inside 
     inside = inside;
     runs = runs;
     words = λ at index read. refl;
-    period = refl; call_words = λ p. refl;
+    period = refl;
+    call_words = λ p. refl;
     colours = wave.colours;
     balance = λ _ other in_other few. (let none = ap (λ (d : Duty). pushes d other) is in omega (arith, none));
     rests = λ idle. (wave.rests.words idle, tt);
@@ -137,10 +139,10 @@ module _ (layout : Layout) (shapes : ShapeLists) (w : World) (me : ℕ) (inside 
       cycle = (wave.numbers.told me runs).1
 
       by_test : (test : Bool) → (w.heap region.Colour cell == colour_word (w.part me).cycle Black) ≡ test → RunningWave layout shapes (record {
-          heap = write w.heap region.Colour cell (if test then colour_word (w.part me).cycle Grey else w.heap region.Colour cell);
-          part = put_at w.part me (with_duty (w.part me) (if test then duty.Push cell else duty.Nothing));
-          log = w.log;
-        })
+        heap = write w.heap region.Colour cell (if test then colour_word (w.part me).cycle Grey else w.heap region.Colour cell);
+        part = put_at w.part me (with_duty (w.part me) (if test then duty.Push cell else duty.Nothing));
+        log = w.log;
+      })
       by_test true was = subst (λ (c : ℕ). RunningWave layout shapes (record { heap = write w.heap region.Colour cell (colour_word c Grey); part = put_at w.part me (with_duty (w.part me) (duty.Push cell)); log = w.log })) (sym cycle)
           (regreyed cell word is within (subst (λ (x : ℕ). is_black_in (running_cycle w.heap) x ≡ true)
           (sym (eqb-true (w.heap region.Colour cell) (colour_word (w.part me).cycle Black) was ∙ ap (λ (c : ℕ). colour_word c Black) cycle)) (word_in_black (running_cycle w.heap))))
@@ -153,7 +155,8 @@ module _ (layout : Layout) (shapes : ShapeLists) (w : World) (me : ℕ) (inside 
     inside = inside;
     runs = runs;
     words = λ at index. unread_write w.heap region.GreyMutator (block_of_cell cell) (bit_or (w.heap region.GreyMutator (block_of_cell cell)) (bit_of cell)) refl at index;
-    period = refl; call_words = λ p. refl;
+    period = refl;
+    call_words = λ p. refl;
     colours = wave.colours;
     balance = λ _ other in_other few.
         let one = ap (λ (d : Duty). pushes d other) is in
@@ -179,7 +182,8 @@ module _ (layout : Layout) (shapes : ShapeLists) (w : World) (me : ℕ) (inside 
     inside = inside;
     runs = runs;
     words = λ at index. unread_write w.heap region.GreyRace (block_of_cell cell) (bit_or (w.heap region.GreyRace (block_of_cell cell)) (bit_of cell)) refl at index;
-    period = refl; call_words = λ p. refl;
+    period = refl;
+    call_words = λ p. refl;
     colours = wave.colours;
     balance = λ _ other in_other few.
         let one = ap (λ (d : Duty). pushes d other) is in
@@ -205,12 +209,16 @@ module _ (layout : Layout) (shapes : ShapeLists) (w : World) (me : ℕ) (inside 
       (by_test (w.heap region.Colour cell == colour_word (w.part me).cycle Black) refl)
     where
       by_test : (test : Bool) → (w.heap region.Colour cell == colour_word (w.part me).cycle Black) ≡ test → RunningWave layout shapes (record {
-          heap = w.heap; part = put_at w.part me (with_duty (w.part me) (if test then duty.Regrey cell (w.heap region.Colour cell) else duty.Nothing)); log = w.log })
+        heap = w.heap;
+        part = put_at w.part me (with_duty (w.part me) (if test then duty.Regrey cell (w.heap region.Colour cell) else duty.Nothing));
+        log = w.log;
+      })
       by_test test was = duty_step layout shapes w.heap w.part w.log me wave w.heap (if test then duty.Regrey cell (w.heap region.Colour cell) else duty.Nothing) record {
         inside = inside;
         runs = runs;
         words = λ at index read. refl;
-        period = refl; call_words = λ p. refl;
+        period = refl;
+        call_words = λ p. refl;
         colours = wave.colours;
         balance = λ _ other in_other few. (let none = ap (λ (d : Duty). pushes d other) is in let after = no_push test other in omega (arith, none, after));
         rests = λ idle. (let marks = marks_if (duty.Barrier cell) is (λ calm. calm) in absurd (cc));

@@ -1,5 +1,5 @@
 -- A participant that owes and holds nothing stops, learns what a ticket says, or hands out its note.
-use Rattle.std.proofs.Common.{ℕ, ◌⊎◌, ◌≡◌, ◌≢◌, ◌+◌, ◌<◌, ◌≤◌, ◌==◌, refl, sym, ◌∙◌, ap, subst, arith, Bool, true, false, List, [], inl, inr, Option, Some, None}
+use Rattle.std.proofs.Common.{ℕ, ◌⊎◌, ◌≡◌, ◌<◌, ◌==◌, refl, sym, ◌∙◌, ap, subst, arith, Bool, true, false, List, [], inl, inr, Some}
 use Rattle.std.specs.Prelude.{Contains, filter, if◌then◌else◌}
 use Rattle.std.proofs.lemmas.Bool.{cases_eq}
 use Rattle.tide_model.specs.declared.entry.Event.{Event}
@@ -7,24 +7,19 @@ use Rattle.tide_layout.specs.declared.region.Region.{Region}
 use Rattle.tide_layout.specs.declared.region.Region.TheVariants as region
 use Rattle.tide_machine.specs.declared.view.View.{View}
 use Rattle.tide_machine.specs.declared.view.Scan.{Scan}
-use Rattle.tide_machine.specs.declared.view.Duty.{Duty}
-use Rattle.tide_machine.specs.declared.view.Duty.TheVariants as duty
-use Rattle.tide_machine.specs.declared.view.Growth.TheVariants as growth
 use Rattle.tide_machine.proofs.Frames.{calls_view, each_put, put_here}
 use Rattle.tide_machine.specs.May.{Rests}
 use Rattle.tide_machine.proofs.Colouring.{unread_write}
 use Rattle.tide_machine.proofs.Quiet.{quiet_step}
-use Rattle.tide_machine.proofs.Steps.{ShowsStep, any_step}
+use Rattle.tide_machine.proofs.Steps.{any_step}
 use Rattle.tide_machine.proofs.Frames.{put_here}
 use Rattle.tide_machine.proofs.Lists.{nothing_in}
-use Rattle.tide_machine.specs.Duties.{GrowsAndOwes, OwesColour, OwesBarrier}
-use Rattle.tide_machine.specs.Entries.{call_of}
+use Rattle.tide_machine.specs.Duties.{GrowsAndOwes}
 use Rattle.tide_machine.specs.Owed.{Owes, IsOwnWord, owed_word}
 use Rattle.tide_machine.specs.RunningWave.{RunningWave}
-use Rattle.tide_machine.specs.World.{World, parties}
+use Rattle.tide_machine.specs.World.{parties}
 use Rattle.tide_machine.specs.points.Growths.{GrowthKnows}
-use Rattle.tide_machine.specs.points.Links.{Excuses}
-use Rattle.tide_machine.specs.points.Scans.{held, scanned, buffered, IsAtHand}
+use Rattle.tide_machine.specs.points.Scans.{held, scanned, buffered}
 use Rattle.tide_machine.specs.points.SettledWords.{RunningWordsRead}
 use Rattle.tide_model.proofs.ReferenceLaws.{put_at_elim}
 use Rattle.tide_model.specs.History.{state_after, is_call_of}
@@ -33,8 +28,6 @@ use Rattle.tide_model.specs.Numbers.{put_at}
 use Rattle.tide_model.specs.Prefix.{IsPrefix}
 use Rattle.tide_model.specs.Refused.{ShapeLists}
 use Rattle.tide_words.specs.heap.Heap.{Heap, write}
-use Rattle.tide_words.specs.marking.Colours.{is_marking, running_cycle}
-
 
 module _ (layout : Layout) (shapes : ShapeLists) (heap : Heap) (part : ℕ → View) (log : List Event) (me : ℕ) (inside : me < parties)
     (wave : RunningWave layout shapes (record { heap = heap; part = part; log = log })) (rests : Rests (part me)) where
@@ -59,10 +52,13 @@ module _ (layout : Layout) (shapes : ShapeLists) (heap : Heap) (part : ℕ → V
     pub rest_step : RunningWave layout shapes (record { heap = heap; part = put_at part me later; log = log })
     rest_step = any_step layout shapes heap part log me wave heap later record {
       inside = inside;
-      phase = refl; period = refl;
+      phase = refl;
+      period = refl;
       calls = calls_view layout heap heap part me later refl (λ p. refl) wave.calls;
       words = words_after;
-      who = refl; seen = heard; mine = refl;
+      who = refl;
+      seen = heard;
+      mine = refl;
       knows = λ at index word is. absurd (nothing_in (owed_word at index word) is);
       knows_still = λ p at index word apart is. wave.kept.known p at index word is;
       finds = λ block moment is. absurd (let below = is.1 in omega (arith, below));
@@ -71,7 +67,7 @@ module _ (layout : Layout) (shapes : ShapeLists) (heap : Heap) (part : ℕ → V
       colours = wave.colours;
       balance = λ _ c in_c few. refl;
       rests = λ idle. (wave.rests.words idle, wave.rests.held idle me, wave.rests.scans idle me, wave.rests.duties idle me);
-      at_hand = λ c at. wave.hands.cells me c (elim at [ | held is ↦ held is | scanned scan is e ↦ scanned scan is e | buffered scan is e ↦ buffered scan is e ]);
+      at_hand = λ c at. wave.hands.cells me c (elim at [ held is ↦ held is | scanned scan is e ↦ scanned scan is e | buffered scan is e ↦ buffered scan is e ]);
       arrays = λ a scan is. none_scans scan is;
       scanned = λ scan is. none_scans scan is;
       growth = subst (GrowthKnows heap (state_after layout log) me later) (sym rests.between.growth) tt;
@@ -99,7 +95,18 @@ module _ (layout : Layout) (shapes : ShapeLists) (heap : Heap) (part : ℕ → V
   stored runs index word = quiet_step layout shapes heap part log me wave (write heap region.Stopped index word) (part me) record {
     inside = inside;
     words = λ at i. unread_write heap region.Stopped index word refl at i;
-    who = refl; seen = refl; mine = refl; owed = refl; known = refl; full = refl; growth = refl; marks = refl; cycle = refl; begun = refl; period = refl; calls = calls_view layout heap (write heap region.Stopped index word) part me (part me) refl (λ p. refl) wave.calls;
+    who = refl;
+    seen = refl;
+    mine = refl;
+    owed = refl;
+    known = refl;
+    full = refl;
+    growth = refl;
+    marks = refl;
+    cycle = refl;
+    begun = refl;
+    period = refl;
+    calls = calls_view layout heap (write heap region.Stopped index word) part me (part me) refl (λ p. refl) wave.calls;
     ran = runs;
     runs = runs;
     colours = wave.colours;
@@ -143,4 +150,4 @@ stop layout shapes heap part log me inside wave runs rests index word =
     let v = put_at part me (part me) me in
     let after = rest_step layout shapes (write heap region.Stopped index word) (put_at part me (part me)) log me inside once (subst Rests (sym same) rests) v.seen v.period v.ticket v.run v.cycle v.marks (inl refl) in
     subst (λ (q : ℕ → View). RunningWave layout shapes (record { heap = write heap region.Stopped index word; part = q; log = log }))
-        (ap (put_at (put_at part me (part me)) me) (ap (λ (x : View). record x { runs = false; known = []; full = [] }) same) ∙ put_twice part me (part me) (record (part me) { runs = false; known = []; full = [] })) after
+    (ap (put_at (put_at part me (part me)) me) (ap (λ (x : View). record x { runs = false; known = []; full = [] }) same) ∙ put_twice part me (part me) (record (part me) { runs = false; known = []; full = [] })) after

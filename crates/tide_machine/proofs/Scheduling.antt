@@ -1,5 +1,5 @@
 -- The wave holds wherever the machine may come, if each of the kinds that step keeps it.
-use Rattle.std.proofs.Common.{ℕ, ◌≡◌, ◌<◌, Bool, true, false}
+use Rattle.std.proofs.Common.{ℕ, ◌≡◌, ◌<◌, Bool, true}
 use Rattle.tide_machine.proofs.Entering.{FrozenMachine-entered}
 use Rattle.tide_machine.proofs.FirstGroup.{first_group}
 use Rattle.tide_machine.proofs.Freezing.{FrozenMachine-first, FrozenMachine-running}
@@ -13,13 +13,13 @@ use Rattle.tide_machine.specs.World.{World, parties}
 use Rattle.tide_model.specs.Lawful.{IsLawful}
 use Rattle.tide_model.specs.Layout.{Layout}
 use Rattle.tide_model.specs.Refused.{ShapeLists}
-use Rattle.std.specs.Prelude.{slice_get, Option}
+use Rattle.std.specs.Prelude.{slice_get}
 use Rattle.tide_layout.specs.Limits.{IsWithinLimits}
 use Rattle.tide_machine.proofs.SecondGroup.{second_group}
 use Rattle.tide_machine.proofs.Takes.{take}
 use Rattle.tide_machine.specs.Groups.{has_law, is_of_second_group}
 use Rattle.tide_machine.specs.Kind.{TakeFree}
-use Rattle.std.proofs.Common.{◌⊎◌, inl, inr, List, [], Some, None}
+use Rattle.std.proofs.Common.{◌⊎◌, inl, inr, [], Some, None}
 use Rattle.std.specs.Prelude.{◌||◌}
 use Rattle.std.proofs.lemmas.Bool.{or_cases}
 

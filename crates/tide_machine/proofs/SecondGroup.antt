@@ -1,10 +1,8 @@
 -- Each kind on slots, each of the barrier and the colour of a new cell keeps the wave.
-use Rattle.std.proofs.Common.{ℕ, ◌≡◌, ◌<◌, refl, sym, ◌∙◌, ap, subst, Bool, true, false, Option, Some, None, inl, inr, List}
+use Rattle.std.proofs.Common.{ℕ, ◌≡◌, ◌<◌, refl, sym, ◌∙◌, ap, subst, Bool, true, false, Some, None}
 use Rattle.std.specs.Prelude.{if◌then◌else◌}
-use Rattle.std.proofs.lemmas.Bool.{cases_Bool}
 use Rattle.tide_layout.specs.declared.region.Region.TheVariants as region
 use Rattle.tide_machine.specs.declared.view.Duty.{Duty}
-use Rattle.tide_machine.specs.declared.view.Duty.TheVariants as duty
 use Rattle.tide_machine.proofs.Regreying.{regrey, push_bit, load_colour}
 use Rattle.tide_machine.proofs.BornColours.{born_black, born_white}
 use Rattle.tide_machine.proofs.SeenCalls.{load_link}
@@ -15,24 +13,17 @@ use Rattle.tide_machine.specs.Kind.{Kind, LoadLink, StoreLink, LoadColour, Regre
 use Rattle.tide_machine.specs.Machine.{IsAllowed, stepped}
 use Rattle.tide_machine.specs.RunningWave.{RunningWave}
 use Rattle.tide_machine.specs.World.{World, parties}
-use Rattle.tide_machine.specs.declared.view.View.{View}
 use Rattle.tide_machine.specs.kinds.LoadColour.{MayLoadColour}
 use Rattle.tide_machine.specs.kinds.PushBit.{MayPushBit}
 use Rattle.tide_machine.specs.kinds.Regrey.{MayRegrey}
 use Rattle.tide_machine.specs.kinds.StoreBorn.{MayStoreBorn}
 use Rattle.tide_machine.specs.kinds.StoreLink.{MayStoreLink}
-use Rattle.tide_model.specs.History.{state_after}
 use Rattle.tide_model.specs.Layout.{Layout, class_of, slots_of}
-use Rattle.tide_model.specs.Numbers.{put_at}
 use Rattle.tide_model.specs.Refused.{ShapeLists}
 use Rattle.tide_model.specs.declared.op.Op.{Op}
 use Rattle.tide_model.specs.declared.op.Op.TheVariants.{Put}
-use Rattle.tide_model.specs.declared.op.Reply.TheVariants.{Done}
-use Rattle.tide_model.specs.declared.val.Val.TheVariants.{Cell}
-use Rattle.tide_words.specs.declared.forms.colours.Colour.{Colour}
 use Rattle.tide_words.specs.declared.forms.colours.Colour.TheVariants.{Black, White}
 use Rattle.tide_words.specs.forms.ColourWord.{colour_word}
-use Rattle.tide_words.specs.forms.ValueWord.{val_word}
 use Rattle.tide_words.specs.marking.Colours.{running_cycle, is_marking}
 use Rattle.tide_machine.proofs.Loads.{load_nothing}
 

@@ -1,27 +1,20 @@
 -- A load that a call sees keeps the wave: what a register is owed is the value that was seen.
-use Rattle.std.proofs.Common.{ℕ, ◌≡◌, ◌≢◌, ◌<◌, ◌==◌, refl, sym, ◌∙◌, ap, subst, arith, Bool, true, false, List, [], ◌∷◌, ◌++◌, Option, Some, None, inl, inr}
-use Rattle.std.specs.Prelude.{if◌then◌else◌}
-use Rattle.std.proofs.lemmas.Bool.{cases_eq, cases_lt, eq-eqb, ne_eqb}
-use Rattle.tide_layout.specs.declared.region.Region.{Region}
+use Rattle.std.proofs.Common.{ℕ, ◌≡◌, ◌<◌, refl, sym, ◌∙◌, ap, subst, Option, Some, None, inl, inr}
+use Rattle.std.proofs.lemmas.Bool.{cases_lt}
 use Rattle.tide_layout.specs.declared.region.Region.TheVariants as region
-use Rattle.tide_machine.proofs.Colouring.{write_same}
 use Rattle.tide_machine.proofs.LoadingSeen.{load_seen}
-use Rattle.tide_machine.specs.Kind.{LoadStrong, LoadWeak, LoadLink, LoadRegister, LoadCall, Kind, region_of, index_of}
+use Rattle.tide_machine.specs.Kind.{LoadStrong, LoadWeak, LoadLink}
 use Rattle.tide_machine.specs.Machine.{found, stepped}
-use Rattle.tide_machine.specs.May.{MayCall}
 use Rattle.tide_machine.specs.RunningWave.{RunningWave}
 use Rattle.tide_machine.specs.Scanning.{slot}
 use Rattle.tide_machine.specs.Words.{value_of}
 use Rattle.tide_machine.specs.World.{World, parties}
-use Rattle.tide_machine.specs.declared.view.View.{View}
 use Rattle.tide_machine.specs.kinds.LoadLink.{MayLoadLink}
 use Rattle.tide_machine.specs.kinds.StoreRootWord.{MayLoadStrong, MayLoadWeak}
-use Rattle.tide_machine.specs.points.Births.{IsHidden}
 use Rattle.tide_model.specs.Answer.{IsAnswerUnless, IsGranted}
 use Rattle.tide_model.specs.Applied.{slot_of}
 use Rattle.tide_model.specs.History.{state_after}
 use Rattle.tide_model.specs.Layout.{Layout, class_of, slots_of, cell_count}
-use Rattle.tide_model.specs.Numbers.{put_at}
 use Rattle.tide_model.specs.References.{IsLive}
 use Rattle.tide_model.specs.Refused.{refusal_of, ShapeLists}
 use Rattle.tide_model.specs.State.{State, is_free}
@@ -30,10 +23,8 @@ use Rattle.tide_model.specs.declared.op.Op.TheVariants.{Get, StrongGet, WeakGet}
 use Rattle.tide_model.specs.declared.op.Refusal.{Refusal}
 use Rattle.tide_model.specs.declared.op.Reply.TheVariants.{Seen}
 use Rattle.tide_model.specs.declared.val.Val.{Val}
-use Rattle.tide_model.specs.declared.val.Val.TheVariants.{Cell}
 use Rattle.tide_words.proofs.heap_laws.ReadingLaws.{live_within}
 use Rattle.tide_words.specs.forms.ValueWord.{HasU32}
-use Rattle.tide_words.specs.heap.Heap.{Heap, write}
 use Rattle.tide_machine.proofs.Loads.{load_same}
 
 -- a call that saw something met no refusal

@@ -1,5 +1,5 @@
 -- What cells are after a slot was stored.
-use Rattle.std.proofs.Common.{ℕ, ◌≡◌, ◌≢◌, ◌==◌, refl, ap, Bool, true, false, arith}
+use Rattle.std.proofs.Common.{ℕ, ◌≡◌, ◌≢◌, refl, ap, Bool}
 use Rattle.std.specs.Prelude.{if◌then◌else◌}
 use Rattle.std.proofs.lemmas.Bool.{eq-eqb}
 use Rattle.tide_model.proofs.ReferenceLaws.{put_at_elim}

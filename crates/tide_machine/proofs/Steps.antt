@@ -1,12 +1,11 @@
 -- A step that makes no entry keeps the invariant. What it shows of words and scans is said of each other view apart.
-use Rattle.std.proofs.Common.{ℕ, zero, suc, ◌≡◌, ◌≢◌, ◌+◌, ◌<◌, ◌≤◌, ◌⊎◌, ◌==◌, refl, sym, ◌∙◌, ap, subst, arith, Bool, true, false, List, [], ◌∷◌, ◌++◌, inl, inr, ⊎_elim, Option, Some, None, length}
+use Rattle.std.proofs.Common.{ℕ, ◌≡◌, ◌≢◌, ◌+◌, ◌<◌, ◌≤◌, ◌⊎◌, refl, sym, ◌∙◌, ap, subst, arith, true, false, List, [], inl, inr, Option, Some, None, length}
 use Rattle.std.specs.Prelude.{Contains, filter, if◌then◌else◌, ◌&&◌, not}
 use Rattle.std.proofs.lemmas.Bool.{cases_Bool}
 use Rattle.tide_model.specs.declared.entry.Event.{Event}
 use Rattle.tide_layout.specs.declared.region.Region.{Region}
 use Rattle.tide_layout.specs.declared.region.Region.TheVariants as region
 use Rattle.tide_machine.specs.declared.view.View.{View}
-use Rattle.tide_machine.specs.declared.view.Owed.{Owed}
 use Rattle.tide_machine.specs.declared.view.Found.{Found}
 use Rattle.tide_machine.specs.declared.view.Scan.{Scan}
 use Rattle.tide_machine.specs.declared.view.Target.{Target}
@@ -15,33 +14,29 @@ use Rattle.tide_machine.specs.declared.view.Growth.TheVariants as growth
 use Rattle.tide_machine.proofs.Frames.{each_put, put_here, put_else, total_below-put, known_view, held_view}
 use Rattle.tide_core.specs.FrozenWave.{is_born_in_cycle}
 use Rattle.tide_layout.specs.Region.{cell_block_count}
-use Rattle.tide_layout.specs.Slots.{index_of_element}
 use Rattle.tide_machine.specs.Duties.{IsCalm, OwesBarrier, GrowsAndOwes, OwesColour}
-use Rattle.tide_machine.specs.Entries.{call_of}
-use Rattle.tide_machine.specs.Owed.{owed_word, Owes, IsOwnWord}
+use Rattle.tide_machine.specs.Owed.{owed_word, IsOwnWord}
 use Rattle.tide_machine.specs.RunningWave.{RunningWave}
 use Rattle.tide_machine.specs.Scanning.{IsTrue, Place, property}
-use Rattle.tide_machine.specs.Words.{count_of, is_nuked}
-use Rattle.tide_machine.specs.World.{World, total, holds, parties}
+use Rattle.tide_machine.specs.Words.{count_of}
+use Rattle.tide_machine.specs.World.{total, holds, parties}
 use Rattle.tide_machine.specs.points.Births.{RunningBornIsMarked, AwaitsColour}
 use Rattle.tide_machine.specs.points.Growths.{GrowthKnows}
-use Rattle.tide_machine.specs.points.Holders.{RunningGreyIsHeld, RestsWhereIdle}
-use Rattle.tide_machine.specs.points.Links.{RunningBlackPointsToMarked, IsExcused, Excuses, ScanExcuses, LinkAt}
-use Rattle.tide_machine.specs.points.Marks.{counted_in, RunningMarkedIsRetained, RunningBlackIsCounted}
-use Rattle.tide_machine.specs.points.Scans.{IsAtHand, HandsAreLive, ScanKnows, ScansAreRight}
-use Rattle.tide_machine.specs.points.Seen.{CallsAreTold, IsKnown, ParkedIsEmpty, NumbersRead}
-use Rattle.tide_machine.specs.points.SettledWords.{RunningWordsRead, OwnIsKept}
+use Rattle.tide_machine.specs.points.Links.{IsExcused, Excuses, ScanExcuses, LinkAt}
+use Rattle.tide_machine.specs.points.Marks.{counted_in}
+use Rattle.tide_machine.specs.points.Scans.{IsAtHand, ScanKnows}
+use Rattle.tide_machine.specs.points.Seen.{CallsAreTold}
+use Rattle.tide_machine.specs.points.SettledWords.{RunningWordsRead}
 use Rattle.tide_model.proofs.ReferenceLaws.{put_at_elim}
 use Rattle.tide_model.specs.Cycle.{cycle_span}
 use Rattle.tide_model.specs.Graph.{IsRetained, no_cell}
-use Rattle.tide_model.specs.History.{state_after, is_call_of, state_at, is_begin}
+use Rattle.tide_model.specs.History.{state_after, is_call_of, state_at}
 use Rattle.tide_model.specs.Layout.{Layout, cell_count}
 use Rattle.tide_model.specs.Numbers.{put_at, count_where}
 use Rattle.tide_model.specs.Prefix.{IsPrefix}
 use Rattle.tide_model.specs.References.{IsLive}
 use Rattle.tide_model.specs.Refused.{ShapeLists}
 use Rattle.tide_model.specs.Room.{window_start, IsFullBlock}
-use Rattle.tide_model.specs.Since.{visits_since}
 use Rattle.tide_model.specs.State.{live, spent}
 use Rattle.tide_words.proofs.heap_laws.Frames.{is_read}
 use Rattle.tide_words.proofs.heap_laws.ReadingLaws.{live_within}
@@ -232,15 +227,15 @@ module _ (layout : Layout) (shapes : ShapeLists) (old : Heap) (part : ℕ → Vi
       where
         -- a cycle marks while somebody scans
         marks_by : (p : ℕ) (scan : Scan) → (part p).scan ≡ Some scan → is_marking old ≡ true
-        marks_by p scan is = elim (cases_Bool (is_marking old)) [ | inl marks ↦ marks | inr idle ↦ (let none = wave.rests.scans idle p in absurd (cc)) ]
+        marks_by p scan is = elim (cases_Bool (is_marking old)) [ inl marks ↦ marks | inr idle ↦ (let none = wave.rests.scans idle p in absurd (cc)) ]
 
         marks_of_mine : (scan : Scan) → w.scan ≡ Some scan → is_marking old ≡ true
-        marks_of_mine scan is = elim (cases_Bool (is_marking old)) [ | inl marks ↦ marks | inr idle ↦ (let none = (s.rests idle).2 in absurd (cc)) ]
+        marks_of_mine scan is = elim (cases_Bool (is_marking old)) [ inl marks ↦ marks | inr idle ↦ (let none = (s.rests idle).2 in absurd (cc)) ]
 
         still_right : is_marking old ≡ true → (target : Target) → (target.cell < cell_count layout) × ((old region.Colour target.cell ≡ target.word) ⊎ IsMarked old target.cell) →
             (target.cell < cell_count layout) × ((new region.Colour target.cell ≡ target.word) ⊎ IsMarked new target.cell)
         still_right marks target (within, inr is) = (within, inr (s.stays marks target.cell is))
-        still_right marks target (within, inl is) = (within, elim (s.recoloured marks target.cell within) [ | inl same ↦ inl (same ∙ is) | inr now ↦ inr now ])
+        still_right marks target (within, inl is) = (within, elim (s.recoloured marks target.cell within) [ inl same ↦ inl (same ∙ is) | inr now ↦ inr now ])
 
         born_after : RunningBornIsMarked layout new (put_at part me w) log
         born_after = record {

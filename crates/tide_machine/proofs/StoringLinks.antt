@@ -1,5 +1,5 @@
 -- The store of a slot keeps the invariant.
-use Rattle.std.proofs.Common.{ℕ, zero, suc, ◌≡◌, ◌≢◌, ◌+◌, ◌*◌, ◌<◌, ◌≤◌, ◌⊎◌, ◌==◌, refl, sym, ◌∙◌, ap, subst, arith, Bool, true, false, List, [], ◌∷◌, ◌++◌, inl, inr, Option, Some, None, length}
+use Rattle.std.proofs.Common.{ℕ, ◌≡◌, ◌≢◌, ◌<◌, ◌⊎◌, ◌==◌, refl, sym, ◌∙◌, ap, subst, arith, Bool, true, List, [], ◌∷◌, ◌++◌, inl, inr, Option, Some, None, length}
 use Rattle.std.specs.Prelude.{Contains, if◌then◌else◌, ◌&&◌}
 use Rattle.std.proofs.lemmas.Bool.{cases_Bool, cases_eq, eq-eqb, ne_eqb}
 use Rattle.tide_model.specs.declared.op.Op.TheVariants.{Put}
@@ -13,11 +13,9 @@ use Rattle.tide_machine.specs.declared.view.Duty.TheVariants as duty
 use Rattle.tide_machine.specs.declared.view.Growth.{Growth}
 use Rattle.tide_machine.specs.declared.view.Growth.TheVariants as growth
 use Rattle.tide_machine.specs.declared.view.Owed.{Owed}
-use Rattle.tide_machine.specs.declared.view.Scan.{Scan}
 use Rattle.tide_machine.proofs.Barriers.{pushes_barrier, colour_barrier, calm_barrier, owes_barrier, cell_word_is}
-use Rattle.tide_machine.proofs.Calls.{OfState, ShowsCall, call_step}
+use Rattle.tide_machine.proofs.Calls.{OfState, call_step}
 use Rattle.tide_machine.proofs.Frames.{each_put}
-use Rattle.tide_machine.proofs.Growing
 use Rattle.tide_call.proofs.reading_laws.SlotReading.{Reading-slot}
 use Rattle.tide_machine.proofs.Frames.{calls_view}
 use Rattle.tide_machine.proofs.SlotCells
@@ -25,7 +23,7 @@ use Rattle.tide_machine.proofs.Lists.{nothing_in}
 use Rattle.tide_machine.proofs.Calls.{is_uncalled}
 use Rattle.tide_layout.proofs.Places.{tag-injective}
 use Rattle.tide_layout.proofs.SlotPlaces.{index_of_slot-alone}
-use Rattle.tide_layout.specs.Region.{tag, index_of_register}
+use Rattle.tide_layout.specs.Region.{tag}
 use Rattle.tide_layout.specs.Slots.{index_of_slot}
 use Rattle.tide_machine.specs.Duties.{OwesBarrier, OwesColour}
 use Rattle.tide_machine.specs.Entries.{call_of}
@@ -37,28 +35,23 @@ use Rattle.tide_machine.specs.RunningWave.{RunningWave}
 use Rattle.tide_machine.specs.Scanning.{Place, slot, property}
 use Rattle.tide_machine.specs.Words.{is_cell_word}
 use Rattle.tide_machine.specs.World.{World, parties, pushes}
-use Rattle.tide_machine.specs.points.Births.{IsHidden}
 use Rattle.tide_machine.specs.points.Growths.{GrowthKnows}
 use Rattle.tide_machine.specs.points.Links.{LinkAt}
-use Rattle.tide_machine.specs.points.Scans.{ScanKnows}
 use Rattle.tide_machine.specs.points.SettledWords.{RunningWordsRead}
 use Rattle.tide_model.proofs.ReferenceLaws.{put_at_elim, RefsAreLive-call}
-use Rattle.tide_model.specs.Applied.{put_slot, after_call}
+use Rattle.tide_model.specs.Applied.{put_slot}
 use Rattle.tide_model.specs.History.{state_after}
 use Rattle.tide_model.specs.Lawful.{Stands}
 use Rattle.tide_model.specs.Layout.{Layout, cell_count, class_of, slots_of}
 use Rattle.tide_model.specs.Numbers.{put_at}
 use Rattle.tide_model.specs.References.{IsLive, RefsAreLive}
-use Rattle.tide_model.specs.Refused.{ShapeLists, is_table}
-use Rattle.tide_model.specs.State.{State, CellState, live, spent}
-use Rattle.tide_words.proofs.heap_laws.Frames.{is_read}
+use Rattle.tide_model.specs.Refused.{ShapeLists}
+use Rattle.tide_model.specs.State.{State}
 use Rattle.tide_words.proofs.heap_laws.HeapLaws.{write-other_region, write-other_index}
 use Rattle.tide_words.proofs.heap_laws.ReadingLaws.{live_within, HasSlot-class}
 use Rattle.tide_words.specs.forms.ValueWord.{val_word, HasU32}
 use Rattle.tide_words.specs.heap.Heap.{Heap, write}
-use Rattle.tide_words.specs.heap.Reading.{IsValueOf, ReadsAs}
-use Rattle.tide_words.specs.marking.Colours.{is_marking, IsBlack}
-use Rattle.tide_words.specs.marking.Marked.{is_marked}
+use Rattle.tide_words.specs.heap.Reading.{ReadsAs}
 
 module _ (layout : Layout) (shapes : ShapeLists) (w : World) (me : ℕ) (inside : me < parties) (wave : RunningWave layout shapes w) (runs : (w.part me).runs ≡ true)
     (idle : (w.part me).duty ≡ duty.Nothing) (owes_nothing : (w.part me).owed ≡ []) (grows_not : (w.part me).growth ≡ growth.Nothing)
@@ -75,7 +68,10 @@ module _ (layout : Layout) (shapes : ShapeLists) (w : World) (me : ℕ) (inside 
 
   abbrev later : View
   later = record (w.part me) {
-    owed = []; duty = barrier_for (w.part me).marks cell word; known = []; full = [];
+    owed = [];
+    duty = barrier_for (w.part me).marks cell word;
+    known = [];
+    full = [];
     seen = w.log ++ call_of me (Put src slot_number val) Done None ∷ [];
     mine = (w.part me).mine ++ call_of me (Put src slot_number val) Done None ∷ [];
   }
@@ -178,7 +174,13 @@ module _ (layout : Layout) (shapes : ShapeLists) (w : World) (me : ℕ) (inside 
     alive = λ x is. (as_before x).status ∙ is;
     arrays = λ array is. is;
     scans = λ p scan is. let k = wave.scans.knows p scan is in record {
-      unread = k.unread; array_after = k.array_after; grows = k.grows; nuked = k.nuked; array = k.array; room = k.room; agreed = k.agreed;
+      unread = k.unread;
+      array_after = k.array_after;
+      grows = k.grows;
+      nuked = k.nuked;
+      array = k.array;
+      room = k.room;
+      agreed = k.agreed;
       names_live = λ first array place c a b below names. (as_before c).status ∙ k.names_live first array place c a b below names;
     };
     links = λ marks x place target link black white. elim (link_after x place target link) [
@@ -191,7 +193,10 @@ module _ (layout : Layout) (shapes : ShapeLists) (w : World) (me : ℕ) (inside 
     growths = λ p apart. of_growth p (w.part p).growth (wave.growths.knows p);
     owns = own_still;
     hidden = λ p c apart is_live h. record {
-      registers = h.registers; strong = h.strong; weak = h.weak; claims = h.claims;
+      registers = h.registers;
+      strong = h.strong;
+      weak = h.weak;
+      claims = h.claims;
       linked = λ x place link. elim (link_after x place c link) [
         | inl fresh ↦ h.registers me val (λ e. apart (sym e)) active fresh.2
         | inr before ↦ h.linked x place before
@@ -206,26 +211,38 @@ module _ (layout : Layout) (shapes : ShapeLists) (w : World) (me : ℕ) (inside 
 
   pub store_link : RunningWave layout shapes (stepped layout shapes w me (StoreLink cell slot_number word (Some (Put src slot_number val))))
   store_link = (call_step layout shapes w.heap w.part w.log me wave (Put src slot_number val) Done None new later record {
-      inside = inside;
-      runs = runs;
-      still_runs = runs;
-      uncalled = λ at index is. uncalled_else at index is;
-      stands = stands;
-      who = refl; seen = refl; mine = refl; marks = refl; cycle = refl; begun = refl; visits = refl; period = refl; calls = calls_view layout w.heap new w.part me later refl (λ p. refl) wave.calls; held = refl; scan = refl; known = refl; full = refl;
-      pushes_none = λ c. (ap (λ d. pushes d c) idle, pushes_barrier ((w.part me).marks && is_cell_word word) cell c);
-      calm = λ rests. calm_barrier (w.part me).marks (is_cell_word word) cell ((wave.numbers.told me runs).0 ∙ rests);
-      grows = λ c g. absurd (subst (λ d. OwesBarrier d c) idle g.owes);
-      barrier = λ c owes. absurd (subst (λ d. OwesBarrier d c) idle owes);
-      kept = λ p at index other apart is. own_else w.heap p at index (wave.kept.owns p at index other is) ∙ wave.kept.known p at index other is;
-      truer = λ p scan is holds. holds;
-      born_before = λ c owes. subst (λ d. OwesColour d c) idle owes;
-      born = λ c born. absurd (cc);
-      awaits = λ marks c owes. absurd (colour_barrier ((w.part me).marks && is_cell_word word) cell c owes);
-      owner = wave.born.owner;
-      once = λ c owes. absurd (colour_barrier ((w.part me).marks && is_cell_word word) cell c owes);
-      once_others = λ p c apart. wave.born.once p c;
-      state = subst (λ (x : Val). OfState layout shapes w.heap w.part w.log me wave (Put src slot_number val) Done None new later (put_slot state x slot_number value)) (sym source) state_after_store;
-    })
+    inside = inside;
+    runs = runs;
+    still_runs = runs;
+    uncalled = λ at index is. uncalled_else at index is;
+    stands = stands;
+    who = refl;
+    seen = refl;
+    mine = refl;
+    marks = refl;
+    cycle = refl;
+    begun = refl;
+    visits = refl;
+    period = refl;
+    calls = calls_view layout w.heap new w.part me later refl (λ p. refl) wave.calls;
+    held = refl;
+    scan = refl;
+    known = refl;
+    full = refl;
+    pushes_none = λ c. (ap (λ d. pushes d c) idle, pushes_barrier ((w.part me).marks && is_cell_word word) cell c);
+    calm = λ rests. calm_barrier (w.part me).marks (is_cell_word word) cell ((wave.numbers.told me runs).0 ∙ rests);
+    grows = λ c g. absurd (subst (λ d. OwesBarrier d c) idle g.owes);
+    barrier = λ c owes. absurd (subst (λ d. OwesBarrier d c) idle owes);
+    kept = λ p at index other apart is. own_else w.heap p at index (wave.kept.owns p at index other is) ∙ wave.kept.known p at index other is;
+    truer = λ p scan is holds. holds;
+    born_before = λ c owes. subst (λ d. OwesColour d c) idle owes;
+    born = λ c born. absurd (cc);
+    awaits = λ marks c owes. absurd (colour_barrier ((w.part me).marks && is_cell_word word) cell c owes);
+    owner = wave.born.owner;
+    once = λ c owes. absurd (colour_barrier ((w.part me).marks && is_cell_word word) cell c owes);
+    once_others = λ p c apart. wave.born.once p c;
+    state = subst (λ (x : Val). OfState layout shapes w.heap w.part w.log me wave (Put src slot_number val) Done None new later (put_slot state x slot_number value)) (sym source) state_after_store;
+  })
     where
       uncalled_else : (at : Region) (index : ℕ) → is_uncalled at ≡ true → new at index ≡ w.heap at index
       uncalled_else at index is = write-other_region w.heap region.Slots at (index_of_slot layout cell slot_number) index word

@@ -1,6 +1,5 @@
 -- A register or a handle is stored by its call, or a mutator retires: the wave is kept.
-use Rattle.std.proofs.Common.{ℕ, ◌≡◌, ◌≢◌, ◌<◌, ◌==◌, refl, sym, subst, arith, Bool, true, false, List, [], ◌∷◌, ◌++◌, Option, Some, None, inl, inr}
-use Rattle.std.specs.Prelude.{Contains}
+use Rattle.std.proofs.Common.{ℕ, ◌≡◌, ◌≢◌, ◌<◌, ◌==◌, refl, sym, subst, Bool, true, false, Some, None, inl, inr}
 use Rattle.tide_layout.specs.declared.region.Region.{Region}
 use Rattle.tide_layout.specs.declared.region.Region.TheVariants as region
 use Rattle.tide_call.proofs.reading_laws.RootReading.{Reading-register, Reading-strong, Reading-weak, Reading-retire}
@@ -12,9 +11,9 @@ use Rattle.tide_machine.specs.May.{MayCall}
 use Rattle.tide_machine.specs.Owed.{IsOwnWord, own_register, own_structure, own_array, own_pair, own_element}
 use Rattle.tide_machine.specs.RunningWave.{RunningWave}
 use Rattle.tide_machine.specs.World.{World, parties}
-use Rattle.tide_machine.specs.kinds.RegisterCall.{MayStoreRegister, StoresRegister}
+use Rattle.tide_machine.specs.kinds.RegisterCall.{MayStoreRegister}
 use Rattle.tide_machine.proofs.Owning.{own_alone}
-use Rattle.tide_machine.proofs.PlainWords.{plain_word, ShowsWord}
+use Rattle.tide_machine.proofs.PlainWords.{plain_word}
 use Rattle.tide_machine.specs.kinds.Retire.{MayRetire}
 use Rattle.tide_machine.specs.kinds.StoreRootWord.{MayStoreStrong, MayStoreWeak}
 use Rattle.tide_machine.specs.points.Births.{IsHidden}
@@ -22,10 +21,8 @@ use Rattle.tide_model.proofs.ClaimLaws.{ClaimsAreOwn-lawful}
 use Rattle.tide_model.proofs.ReferenceLaws.{put_at_elim}
 use Rattle.tide_model.specs.Applied.{put_register, after_call}
 use Rattle.tide_model.specs.History.{state_after}
-use Rattle.tide_model.specs.Lawful.{StandsCall}
 use Rattle.tide_model.specs.Layout.{Layout}
 use Rattle.tide_model.specs.Numbers.{put_at}
-use Rattle.tide_model.specs.References.{IsLive}
 use Rattle.tide_model.specs.Refused.{ShapeLists}
 use Rattle.tide_model.specs.State.{State}
 use Rattle.tide_model.specs.declared.op.Op.{Op}
@@ -34,7 +31,6 @@ use Rattle.tide_model.specs.declared.op.Reply.TheVariants.{Done}
 use Rattle.tide_model.specs.declared.val.Val.{Val}
 use Rattle.tide_model.specs.declared.val.Val.TheVariants.{Cell, Int, Empty}
 use Rattle.tide_words.specs.forms.ValueWord.{HasU32, val_word}
-use Rattle.tide_words.specs.heap.Heap.{Heap}
 use Rattle.tide_machine.specs.Kind.{Retire as RetireKind}
 
 module _ (layout : Layout) (shapes : ShapeLists) (w : World) (me : ℕ) (inside : me < parties) (wave : RunningWave layout shapes w) where
@@ -72,7 +68,9 @@ module _ (layout : Layout) (shapes : ShapeLists) (w : World) (me : ℕ) (inside 
             | inl now ↦ unseen p c apart h now
             | inr was ↦ h.registers who register not_p active was
           ]),
-          h.strong, h.weak, h.claims,
+          h.strong,
+          h.weak,
+          h.claims,
         );
       }
 
@@ -109,9 +107,13 @@ module _ (layout : Layout) (shapes : ShapeLists) (w : World) (me : ℕ) (inside 
             (wave.words.reads.roots.registers me val may.stands.is_mutator may.stands.fits.1).number;
         alone = λ p apart. not_own region.Strong refl refl refl refl refl p at;
         claims_else = λ p apart. refl;
-        hidden = λ p c apart alive h. (h.registers,
+        hidden = λ p c apart alive h. (
+          h.registers,
           put_at_elim (λ n (held : Val). held ≡ Cell c → ⊥) state.strong at (state.registers me val)
-          (λ is. h.registers me val (λ e. apart (sym e)) may.stands.is_active is) (λ n other is. h.strong n is), h.weak, h.claims);
+              (λ is. h.registers me val (λ e. apart (sym e)) may.stands.is_active is) (λ n other is. h.strong n is),
+          h.weak,
+          h.claims,
+        );
       }))
   store_strong handle word _ none = absurd none
 
@@ -130,9 +132,13 @@ module _ (layout : Layout) (shapes : ShapeLists) (w : World) (me : ℕ) (inside 
             (wave.words.reads.roots.registers me val may.stands.is_mutator may.stands.fits.1).number;
         alone = λ p apart. not_own region.Weak refl refl refl refl refl p at;
         claims_else = λ p apart. refl;
-        hidden = λ p c apart alive h. (h.registers, h.strong,
+        hidden = λ p c apart alive h. (
+          h.registers,
+          h.strong,
           put_at_elim (λ n (held : Val). held ≡ Cell c → ⊥) state.weak at (state.registers me val)
-          (λ is. h.registers me val (λ e. apart (sym e)) may.stands.is_active is) (λ n other is. h.weak n is), h.claims);
+              (λ is. h.registers me val (λ e. apart (sym e)) may.stands.is_active is) (λ n other is. h.weak n is),
+          h.claims,
+        );
       }))
   store_weak handle word _ none = absurd none
 
@@ -147,7 +153,11 @@ module _ (layout : Layout) (shapes : ShapeLists) (w : World) (me : ℕ) (inside 
         alone = λ p apart. not_own region.Active refl refl refl refl refl p me;
         claims_else = λ p apart. refl;
         hidden = λ p c apart alive h. (
-          (λ who register not_p active is. h.registers who register not_p (was_active who active) is), h.strong, h.weak, h.claims);
+          (λ who register not_p active is. h.registers who register not_p (was_active who active) is),
+          h.strong,
+          h.weak,
+          h.claims,
+        );
       }
     where
       was_active : (who : ℕ) → put_at state.active me false who ≡ true → state.active who ≡ true

@@ -1,8 +1,8 @@
 -- A free bit that is set is taken: the cell is born, and the wave is kept.
-use Rattle.std.proofs.Common.{ℕ, ◌≡◌, ◌≢◌, ◌+◌, ◌*◌, ◌/◌, ◌%◌, ◌<◌, ◌==◌, refl, sym, ◌∙◌, ap, subst, arith, Bool, true, false, List, [], ◌∷◌, Option, Some, None}
-use Rattle.std.specs.Prelude.{◌^◌, if◌then◌else◌, slice_get, bit_and}
+use Rattle.std.proofs.Common.{ℕ, ◌≡◌, ◌+◌, ◌*◌, ◌%◌, ◌<◌, ◌==◌, refl, sym, ◌∙◌, ap, subst, arith, Bool, true, [], Option, Some, None}
+use Rattle.std.specs.Prelude.{if◌then◌else◌, slice_get, bit_and}
 use Rattle.std.specs.Int.{bit_at}
-use Rattle.std.proofs.lemmas.Bool.{eqb-true, eq-eqb}
+use Rattle.std.proofs.lemmas.Bool.{eqb-true}
 use Rattle.tide_layout.specs.declared.region.Region.{Region}
 use Rattle.tide_layout.specs.declared.region.Region.TheVariants as region
 use Rattle.tide_machine.proofs.TakingCells.{take_free}
@@ -15,15 +15,13 @@ use Rattle.tide_machine.specs.Entries.{call_of, added, full_if_empty}
 use Rattle.tide_machine.specs.Kind.{TakeFree}
 use Rattle.tide_machine.specs.Machine.{stepped}
 use Rattle.tide_machine.specs.May.{called, MayCall}
-use Rattle.tide_machine.specs.Owed.{owed_register, Owes, IsOwnWord, own_register, own_structure, own_array, own_pair, own_element, filled_register}
+use Rattle.tide_machine.specs.Owed.{owed_register, IsOwnWord, own_register, own_structure, own_array, own_pair, own_element, filled_register}
 use Rattle.tide_machine.specs.RunningWave.{RunningWave}
 use Rattle.tide_machine.specs.Views.{with_entry}
 use Rattle.tide_machine.specs.Words.{all_but}
 use Rattle.tide_machine.specs.World.{World, parties}
-use Rattle.tide_machine.specs.declared.view.View.{View}
 use Rattle.tide_machine.specs.kinds.LoadFree.{searched_view}
-use Rattle.tide_machine.specs.kinds.TakeFree.{MayTakeFree, TakesCell, taken_view}
-use Rattle.tide_model.specs.Answer.{IsAnswerUnless, IsGranted}
+use Rattle.tide_machine.specs.kinds.TakeFree.{MayTakeFree}
 use Rattle.tide_model.specs.Applied.{after_call, put_register, put_cell}
 use Rattle.tide_model.specs.History.{state_after}
 use Rattle.tide_model.specs.Layout.{Layout, block_of_cell, cell_count}
@@ -35,7 +33,7 @@ use Rattle.tide_model.specs.declared.op.Op.TheVariants.{Alloc, Table}
 use Rattle.tide_model.specs.declared.op.Reply.TheVariants.{Born}
 use Rattle.tide_model.specs.declared.val.Val.TheVariants.{Cell}
 use Rattle.tide_words.proofs.heap_laws.HeapLaws.{write-other_region, write-other_index, write-same}
-use Rattle.tide_words.specs.heap.Heap.{Heap, write}
+use Rattle.tide_words.specs.heap.Heap.{write}
 use Rattle.tide_words.specs.heap.Written.{IsBitPut}
 
 -- the free words are nobody's to owe

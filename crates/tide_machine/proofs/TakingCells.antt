@@ -1,12 +1,10 @@
 -- The take of a free bit, at which a cell is born, keeps the invariant.
-use Rattle.std.proofs.Common.{ℕ, zero, suc, ◌≡◌, ◌≢◌, ◌+◌, ◌*◌, ◌%◌, ◌<◌, ◌≤◌, ◌⊎◌, ◌==◌, refl, sym, ◌∙◌, ap, subst, arith, Bool, true, false, List, [], ◌∷◌, ◌++◌, inl, inr, Option, Some, None, length}
+use Rattle.std.proofs.Common.{ℕ, ◌≡◌, ◌≢◌, ◌+◌, ◌%◌, ◌<◌, ◌==◌, refl, sym, ◌∙◌, ap, subst, arith, Bool, true, false, List, [], ◌∷◌, ◌++◌, inl, inr, Some, None}
 use Rattle.std.specs.Prelude.{Contains, if◌then◌else◌, ◌&&◌, slice_get}
-use Rattle.std.specs.Int.{bit_at}
 use Rattle.std.proofs.lemmas.Bool.{cases_Bool, cases_eq, eq-eqb, ne_eqb, eqb-true, and_parts}
 use Rattle.tide_model.specs.Applied.{after_call}
 use Rattle.tide_model.specs.declared.op.Op.{Op}
 use Rattle.tide_model.specs.declared.op.Reply.TheVariants.{Born}
-use Rattle.tide_model.specs.declared.val.Val.{Val}
 use Rattle.tide_model.specs.declared.val.Val.TheVariants.{Cell}
 use Rattle.tide_layout.specs.declared.region.Region.{Region}
 use Rattle.tide_layout.specs.declared.region.Region.TheVariants as region
@@ -26,9 +24,7 @@ use Rattle.tide_machine.specs.Words.{cell_named}
 use Rattle.tide_model.specs.Applied.{after_call}
 use Rattle.tide_model.specs.declared.op.Op.{Op}
 use Rattle.tide_words.specs.heap.Written.{IsBitPut}
-use Rattle.tide_machine.proofs.Calls.{OfState, ShowsCall, call_step, is_uncalled}
-use Rattle.tide_machine.proofs.Frames.{each_put}
-use Rattle.tide_machine.proofs.Growing
+use Rattle.tide_machine.proofs.Calls.{OfState, call_step, is_uncalled}
 use Rattle.tide_machine.proofs.Owning.{own_alone}
 use Rattle.tide_machine.proofs.Frames.{put_here}
 use Rattle.tide_layout.proofs.Places.{tag-injective}
@@ -37,10 +33,10 @@ use Rattle.tide_machine.specs.Duties.{OwesBarrier, OwesColour}
 use Rattle.tide_machine.specs.Entries.{call_of}
 use Rattle.tide_machine.specs.Owed.{Owes, IsOwnWord, own_register, own_structure, own_array, own_pair, own_element, owed_word}
 use Rattle.tide_machine.specs.RunningWave.{RunningWave}
-use Rattle.tide_machine.specs.Scanning.{Place, slot, property}
+use Rattle.tide_machine.specs.Scanning.{Place, property}
 use Rattle.tide_machine.specs.World.{World, parties, pushes}
-use Rattle.tide_machine.specs.points.Births.{IsHidden, AwaitsColour}
-use Rattle.tide_machine.specs.points.Growths.{GrowthKnows, GrowthOn}
+use Rattle.tide_machine.specs.points.Births.{AwaitsColour}
+use Rattle.tide_machine.specs.points.Growths.{GrowthKnows}
 use Rattle.tide_machine.specs.points.Links.{LinkAt}
 use Rattle.tide_machine.specs.points.SettledWords.{RunningWordsRead}
 use Rattle.tide_model.proofs.ClaimLaws.{ClaimsAreOwn-lawful}
@@ -53,11 +49,9 @@ use Rattle.tide_model.specs.Numbers.{put_at}
 use Rattle.tide_model.specs.References.{IsLive, RefsAreLive}
 use Rattle.tide_model.specs.Refused.{ShapeLists}
 use Rattle.tide_model.specs.State.{State, CellState, live, free, blank_cell}
-use Rattle.tide_words.proofs.heap_laws.Frames.{is_read}
 use Rattle.tide_words.proofs.heap_laws.HeapLaws.{write-same, write-other_region}
-use Rattle.tide_words.specs.forms.ValueWord.{val_word, HasU32}
+use Rattle.tide_words.specs.forms.ValueWord.{val_word}
 use Rattle.tide_words.specs.heap.Heap.{Heap, write}
-use Rattle.tide_words.specs.marking.Colours.{is_marking, IsBlack}
 
 module _ (layout : Layout) (shapes : ShapeLists) (w : World) (me : ℕ) (inside : me < parties) (wave : RunningWave layout shapes w) (runs : (w.part me).runs ≡ true)
     (idle : (w.part me).duty ≡ duty.Nothing) (owes_nothing : (w.part me).owed ≡ []) (grows_not : (w.part me).growth ≡ growth.Nothing)
@@ -84,7 +78,11 @@ module _ (layout : Layout) (shapes : ShapeLists) (w : World) (me : ℕ) (inside 
 
   abbrev later : View
   later = record (w.part me) {
-    owed = owed_word region.Registers idx (val_word (Cell cell)) ∷ []; duty = duty.Born cell; born = (w.part me).born + 1; known = []; full = [];
+    owed = owed_word region.Registers idx (val_word (Cell cell)) ∷ [];
+    duty = duty.Born cell;
+    born = (w.part me).born + 1;
+    known = [];
+    full = [];
     seen = w.log ++ call_of me op (Born cell) None ∷ [];
     mine = (w.part me).mine ++ call_of me op (Born cell) None ∷ [];
   }
@@ -127,7 +125,7 @@ module _ (layout : Layout) (shapes : ShapeLists) (w : World) (me : ℕ) (inside 
     | inl both ↦
         let parts = and_parts (tag at == tag region.Registers) (index == idx) both in
         absurd (apart (own_alone layout state (ClaimsAreOwn-lawful layout shapes w.log wave.lawful) wave.refs p me at region.Registers index idx own (own_register dst stands.is_mutator in_registers)
-          (eqb-true (tag at) (tag region.Registers) parts.0) (eqb-true index idx parts.1)))
+        (eqb-true (tag at) (tag region.Registers) parts.0) (eqb-true index idx parts.1)))
     | inr isnt ↦ isnt
   ]
 
@@ -188,7 +186,13 @@ module _ (layout : Layout) (shapes : ShapeLists) (w : World) (me : ℕ) (inside 
     alive = still;
     arrays = λ array is. is;
     scans = λ p scan is. let k = wave.scans.knows p scan is in record {
-      unread = k.unread; array_after = k.array_after; grows = k.grows; nuked = k.nuked; array = k.array; room = k.room; agreed = k.agreed;
+      unread = k.unread;
+      array_after = k.array_after;
+      grows = k.grows;
+      nuked = k.nuked;
+      array = k.array;
+      room = k.room;
+      agreed = k.agreed;
       names_live = λ first array place c a b below names. still c (k.names_live first array place c a b below names);
     };
     links = λ marks x place target link black white. inr (link_before x place target link).1;
@@ -202,7 +206,9 @@ module _ (layout : Layout) (shapes : ShapeLists) (w : World) (me : ℕ) (inside 
         | inl now ↦ other (same_cell_of_value now)
         | inr was ↦ h.registers who register not_p active was
       ];
-      strong = h.strong; weak = h.weak; claims = h.claims;
+      strong = h.strong;
+      weak = h.weak;
+      claims = h.claims;
       linked = λ x place link. h.linked x place (link_before x place c link).1;
       paired = λ table key is_live is. elim (cases_eq table cell) [
         | inl same ↦ (let none = sym (ap (λ (x : CellState). x.pairs key) (ap after.cells same ∙ Births.cell_here layout shapes w wave me op dst cell bears was_free within stands.is_active)) ∙ is in absurd (cc))
@@ -220,7 +226,19 @@ module _ (layout : Layout) (shapes : ShapeLists) (w : World) (me : ℕ) (inside 
     uncalled = λ at index is. write-other_region w.heap region.Free at (block_of_cell cell) index word
         (ne_eqb (tag at) (tag region.Free) (λ same. let r = tag-injective at region.Free same in let also = ap is_uncalled r in absurd (cc)));
     stands = stands;
-    who = refl; seen = refl; mine = refl; marks = refl; cycle = refl; begun = refl; visits = refl; period = refl; calls = calls_view layout w.heap new w.part me later refl (λ p. refl) wave.calls; held = refl; scan = refl; known = refl; full = refl;
+    who = refl;
+    seen = refl;
+    mine = refl;
+    marks = refl;
+    cycle = refl;
+    begun = refl;
+    visits = refl;
+    period = refl;
+    calls = calls_view layout w.heap new w.part me later refl (λ p. refl) wave.calls;
+    held = refl;
+    scan = refl;
+    known = refl;
+    full = refl;
     pushes_none = λ c. (ap (λ (d : Duty). pushes d c) idle, refl);
     calm = λ rests. tt;
     grows = λ c g. absurd (subst (λ (d : Duty). OwesBarrier d c) idle g.owes);

@@ -17,7 +17,7 @@ use Rattle.tide_model.specs.declared.op.Reply.TheVariants.{Done, Born, Seen, Ask
 use Rattle.tide_model.specs.declared.val.Val.{Val}
 use Rattle.tide_model.specs.declared.val.Val.TheVariants.{Empty, Int, Cell}
 use Rattle.tide_model.specs.declared.op.Op.TheVariants as op
-use Rattle.tide_machine.specs.Kind.{Kind, Split, Join, Activate, StoreStopped, Retire, LoadRegister, StoreRegister, LoadCall, StoreCall, LoadStrong, StoreStrong, LoadWeak, StoreWeak, LoadLink, StoreLink, LoadFree, TakeFree, LoadPair, StorePair, StoreGroup, LoadClaim, TakeClaim, Release, LoadElement, StoreElement, TakeArray, StoreStructure}
+use Rattle.tide_machine.specs.Kind.{Kind, Retire, StoreRegister, StoreCall, LoadStrong, StoreStrong, LoadWeak, StoreWeak, LoadLink, StoreLink, LoadFree, TakeFree, LoadPair, StorePair, StoreGroup, LoadClaim, TakeClaim, Release, LoadElement, StoreElement, TakeArray, StoreStructure}
 
 -- the class for one more property of the cell that a value names
 abbrev pub class_for_value : State → Val → ℕ

@@ -5,8 +5,7 @@ use Rattle.tide_machine.specs.World.{World}
 use Rattle.tide_machine.specs.declared.view.View.{View}
 use Rattle.tide_machine.specs.points.Marks.{SpanIsLive}
 use Rattle.tide_machine.specs.points.Seen.{IsKnown, ParkedIsEmpty}
-use Rattle.tide_model.specs.Cycle.{cycle_span, begin_count}
-use Rattle.tide_model.specs.Graph.{IsRetained, no_cell}
+use Rattle.tide_model.specs.Cycle.{begin_count}
 use Rattle.tide_model.specs.History.{state_after, is_begin}
 use Rattle.tide_model.specs.Lawful.{IsLawful}
 use Rattle.tide_model.specs.Layout.{Layout}
@@ -47,10 +46,38 @@ pub record FrozenMachine (layout : Layout) (shapes : ShapeLists) (w : World) (un
 -- a participant that knows nothing yet
 abbrev pub newcomer : ℕ → View
 newcomer p = record {
-  role = Member; who = p; seen = []; mine = []; calls = 0; period = 0; ticket = 0; run = 0; marks = false; cycle = 0;
-  runs = false; begun = 0; born = 0; visits = 0; races = 0; round = []; owed = []; known = []; duty = duty.Nothing;
-  growth = growth.Nothing; held = []; scan = None; full = []; sweeping = None; left = false; frozen = false; words = [];
-  base = []; notes = []; gone = []; next = 0; ledger = 0;
+  role = Member;
+  who = p;
+  seen = [];
+  mine = [];
+  calls = 0;
+  period = 0;
+  ticket = 0;
+  run = 0;
+  marks = false;
+  cycle = 0;
+  runs = false;
+  begun = 0;
+  born = 0;
+  visits = 0;
+  races = 0;
+  round = [];
+  owed = [];
+  known = [];
+  duty = duty.Nothing;
+  growth = growth.Nothing;
+  held = [];
+  scan = None;
+  full = [];
+  sweeping = None;
+  left = false;
+  frozen = false;
+  words = [];
+  base = [];
+  notes = [];
+  gone = [];
+  next = 0;
+  ledger = 0;
 }
 
 -- the world before anything happened

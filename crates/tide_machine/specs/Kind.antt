@@ -1,5 +1,5 @@
 -- The kinds of step: which word each is on, and what it does to it.
-use Rattle.std.specs.Prelude.{ℕ, ◌+◌, ◌-◌, ◌^◌, Bool, List}
+use Rattle.std.specs.Prelude.{ℕ, ◌+◌, ◌-◌, Bool, List}
 use Rattle.std.specs.Prelude.{◌==◌, nat_lt, if◌then◌else◌, Option, bit_and, bit_or, None, Some}
 use Rattle.tide_layout.specs.Region.{index_of_register}
 use Rattle.tide_layout.specs.Slots.{index_of_slot, index_of_element}

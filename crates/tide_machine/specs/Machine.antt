@@ -1,10 +1,10 @@
 -- The machine of atomic steps: what each step does, and which are allowed.
-use Rattle.std.specs.Prelude.{ℕ, ◌<◌}
+use Rattle.std.specs.Prelude.{ℕ}
 use Rattle.std.specs.Prelude.{Option}
 use Rattle.tide_machine.specs.Kind.{Kind, region_of, index_of, act_of, acted}
 use Rattle.tide_machine.specs.May.{RunsAsMutator}
 use Rattle.tide_machine.specs.Views.{view_after}
-use Rattle.tide_machine.specs.World.{World, parties}
+use Rattle.tide_machine.specs.World.{World}
 use Rattle.tide_model.specs.History.{state_after}
 use Rattle.tide_model.specs.Layout.{Layout}
 use Rattle.tide_model.specs.Numbers.{put_at}

@@ -2,20 +2,18 @@
 use Rattle.std.specs.Prelude.{ℕ, ◌≡◌, ◌+◌, ◌<◌, ◌++◌, ◌∷◌, true, false, Bool, List, []}
 use Rattle.tide_core.specs.Entered.{HasBegun, HasPaused, HasEnded, HasSwept, with_begin, with_end, with_open}
 use Rattle.tide_cycle.specs.Converged.{HasConverged}
-use Rattle.tide_cycle.specs.Reports.{freed_by}
 use Rattle.tide_machine.specs.Frozen.{FrozenMachine, first_world}
 use Rattle.tide_machine.specs.Kind.{Kind}
 use Rattle.tide_machine.specs.Machine.{IsAllowed, stepped}
 use Rattle.tide_machine.specs.RunningWave.{RunningWave}
 use Rattle.tide_machine.specs.World.{World, parties, total}
 use Rattle.tide_machine.specs.points.Marks.{counted_in}
-use Rattle.tide_model.specs.Cycle.{begin_count, HasDead}
+use Rattle.tide_model.specs.Cycle.{HasDead}
 use Rattle.tide_model.specs.History.{plain, state_after}
-use Rattle.tide_model.specs.Lawful.{Stands, IsLawful}
 use Rattle.tide_model.specs.Layout.{Layout}
 use Rattle.tide_model.specs.Periods.{open_count}
 use Rattle.tide_model.specs.Refused.{ShapeLists}
-use Rattle.tide_model.specs.declared.entry.Entry.TheVariants.{Begin, Pause, Visits, End, Sweep, Open}
+use Rattle.tide_model.specs.declared.entry.Entry.TheVariants.{Pause, Visits, Sweep}
 use Rattle.tide_model.specs.declared.entry.Event.{Event}
 use Rattle.tide_words.specs.heap.Heap.{Heap, write}
 use Rattle.tide_words.specs.marking.Colours.{is_marking}

@@ -8,7 +8,6 @@ use Rattle.tide_model.specs.History.{state_after}
 use Rattle.tide_model.specs.Layout.{Layout}
 use Rattle.tide_model.specs.Refused.{ShapeLists}
 use Rattle.tide_model.specs.declared.entry.Event.{Event}
-use Rattle.tide_model.specs.declared.op.Op.{Op}
 use Rattle.tide_machine.specs.kinds.Activate.{begun_view}
 use Rattle.tide_machine.specs.kinds.Blacken.{blackened_view}
 use Rattle.tide_machine.specs.kinds.ClaimCell.{claim_view}

@@ -45,11 +45,26 @@ pub enum Duty {
 pub enum Growth {
     Nothing,
     /// The array is taken; the structure's word, and the one to come.
-    Filling { cell: u64, array: u64, old: u64, new: u64 },
+    Filling {
+        cell: u64,
+        array: u64,
+        old: u64,
+        new: u64,
+    },
     /// The structure is nuked.
-    Nuked { cell: u64, array: u64, old: u64, new: u64 },
+    Nuked {
+        cell: u64,
+        array: u64,
+        old: u64,
+        new: u64,
+    },
     /// The array is stored.
-    Stored { cell: u64, array: u64, old: u64, new: u64 },
+    Stored {
+        cell: u64,
+        array: u64,
+        old: u64,
+        new: u64,
+    },
 }
 
 /// A cell and the colour word that was read of it.

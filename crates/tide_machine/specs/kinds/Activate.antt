@@ -11,7 +11,14 @@ abbrev pub begun_view : View → View
 begun_view v =
     if v.begun == v.ticket then record v { runs = true; round = []; full = []; known = [] }
     else record v {
-      runs = true; begun = v.ticket; born = 0; visits = 0; races = 0; round = []; full = []; known = [];
+      runs = true;
+      begun = v.ticket;
+      born = 0;
+      visits = 0;
+      races = 0;
+      round = [];
+      full = [];
+      known = [];
     }
 
 -- it doesn't run, hasn't left, and its ticket is of the open part, for which it has handed out no note yet

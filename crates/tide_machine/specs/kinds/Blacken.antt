@@ -12,7 +12,9 @@ use Rattle.tide_machine.specs.declared.view.Duty.TheVariants as duty
 -- the visit is counted
 abbrev pub blackened_view : Layout → ℕ → View → View
 blackened_view layout cell v = record v {
-  held = take_out cell v.held; visits = v.visits + 1; round = [];
+  held = take_out cell v.held;
+  visits = v.visits + 1;
+  round = [];
   scan = if is_table layout cell then None else Some (scan_of cell);
 }
 

@@ -13,7 +13,11 @@ use Rattle.tide_layout.specs.declared.region.Region.TheVariants as region
 -- it has seen what the ticket tells of the history, and knows what it tells of the part; it doesn't run yet
 abbrev pub joined_view : Ticket → View → View
 joined_view t v = record (stopped_view v) {
-  seen = t.seen; ticket = t.period; run = t.run; marks = t.marks; cycle = t.cycle;
+  seen = t.seen;
+  ticket = t.period;
+  run = t.run;
+  marks = t.marks;
+  cycle = t.cycle;
 }
 
 -- the ticket is of the open part, and what it tells of the history is as much as the participant has seen, or more

@@ -1,5 +1,5 @@
 -- Load structure: a scan reads its cell's structure for the first time.
-use Rattle.std.specs.Prelude.{ℕ, ◌≡◌, false}
+use Rattle.std.specs.Prelude.{ℕ, ◌≡◌}
 use Rattle.std.specs.Prelude.{None, Some}
 use Rattle.tide_machine.specs.May.{RunsAsVisitor}
 use Rattle.tide_machine.specs.Scanning.{in_scan}

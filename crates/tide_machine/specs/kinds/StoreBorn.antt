@@ -3,7 +3,6 @@ use Rattle.std.specs.Prelude.{ℕ, ◌≡◌}
 use Rattle.std.specs.Prelude.{if◌then◌else◌}
 use Rattle.tide_machine.specs.May.{RunsAsMutator}
 use Rattle.tide_machine.specs.World.{World}
-use Rattle.tide_machine.specs.declared.view.View.{View}
 use Rattle.tide_model.specs.Layout.{Layout}
 use Rattle.tide_words.specs.declared.forms.colours.Colour.TheVariants.{Black, White}
 use Rattle.tide_words.specs.forms.ColourWord.{colour_word}

@@ -1,5 +1,5 @@
 -- Store plain word: the claimer of a table loads or stores the word of a pair, and a mutator stores a group word.
-use Rattle.std.specs.Prelude.{ℕ, ◌≡◌, ◌^◌, ◌%◌, ◌∷◌, [], true}
+use Rattle.std.specs.Prelude.{ℕ, ◌≡◌, ◌∷◌, true}
 use Rattle.std.specs.Prelude.{Contains, Option, None, Some}
 use Rattle.tide_layout.specs.Slots.{index_of_slot, HasSlot}
 use Rattle.tide_machine.specs.May.{RunsAsMutator, MayCall, called}

@@ -1,5 +1,5 @@
 -- Store private array word: the claimer of a cell loads or stores an element of its array, or of one that was just taken.
-use Rattle.std.specs.Prelude.{ℕ, ◌≡◌, ◌<◌, ◌≤◌, ◌∷◌, [], length}
+use Rattle.std.specs.Prelude.{ℕ, ◌≡◌, ◌≤◌, ◌∷◌, [], length}
 use Rattle.std.specs.Prelude.{◌⊎◌, Contains, Option, None, Some}
 use Rattle.tide_layout.specs.Slots.{index_of_element, HasElement}
 use Rattle.tide_machine.specs.May.{RunsAsMutator, MayCall, called, barrier_for}
@@ -14,7 +14,6 @@ use Rattle.tide_model.specs.State.{State}
 use Rattle.tide_model.specs.declared.op.Op.{Op}
 use Rattle.tide_model.specs.declared.op.Op.TheVariants.{GetProp, SetProp}
 use Rattle.tide_model.specs.declared.op.Reply.TheVariants.{Done, Seen}
-use Rattle.tide_model.specs.declared.val.Val.TheVariants.{Cell}
 use Rattle.tide_words.specs.forms.ValueWord.{val_word}
 use Rattle.tide_layout.specs.declared.region.Region.TheVariants as region
 use Rattle.tide_machine.specs.declared.view.Growth.TheVariants as growth

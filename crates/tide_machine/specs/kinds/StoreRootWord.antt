@@ -1,5 +1,5 @@
 -- Store root word: a mutator loads or stores a strong or a weak handle.
-use Rattle.std.specs.Prelude.{ℕ, ◌≡◌, []}
+use Rattle.std.specs.Prelude.{ℕ, ◌≡◌}
 use Rattle.std.specs.Prelude.{Option, None, Some}
 use Rattle.tide_machine.specs.May.{RunsAsMutator, MayCall, called}
 use Rattle.tide_machine.specs.Owed.{owed_register, filled_register}

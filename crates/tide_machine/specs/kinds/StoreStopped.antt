@@ -3,7 +3,6 @@ use Rattle.std.specs.Prelude.{ℕ, ◌≡◌, true, false, []}
 use Rattle.tide_machine.specs.May.{Rests}
 use Rattle.tide_machine.specs.World.{World}
 use Rattle.tide_machine.specs.declared.view.View.{View}
-use Rattle.tide_model.specs.Layout.{Layout}
 
 -- it doesn't run, and forgets what it knew of words
 abbrev pub stopped_view : View → View

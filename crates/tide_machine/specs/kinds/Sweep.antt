@@ -1,17 +1,11 @@
 -- The sweep of a block: a participant claims the block, loads its dead cells, zeroes their words, gives their bits back
 -- and finishes.
-use Rattle.std.specs.Prelude.{ℕ, ◌≡◌, ◌<◌, ◌∷◌, [], true, false}
-use Rattle.std.specs.Int.{bit_at}
-use Rattle.std.specs.Prelude.{◌==◌, if◌then◌else◌, Option, None, Some, Contains}
-use Rattle.tide_layout.specs.Region.{block_count, cell_block_count}
+use Rattle.std.specs.Prelude.{ℕ, ◌∷◌, [], true, false}
+use Rattle.std.specs.Prelude.{◌==◌, if◌then◌else◌, Option, None, Some}
 use Rattle.tide_layout.specs.declared.region.Region.{Region}
 use Rattle.tide_machine.specs.Owed.{owed_word}
-use Rattle.tide_machine.specs.World.{World}
 use Rattle.tide_machine.specs.declared.view.Sweeping.{Sweeping}
 use Rattle.tide_machine.specs.declared.view.View.{View}
-use Rattle.tide_model.specs.Layout.{Layout}
-use Rattle.tide_words.specs.marking.Colours.{is_marking, running_cycle}
-use Rattle.tide_layout.specs.declared.region.Region.TheVariants as region
 
 -- what becomes of a sweep
 abbrev pub in_sweep : Option Sweeping → (Sweeping → Option Sweeping) → Option Sweeping

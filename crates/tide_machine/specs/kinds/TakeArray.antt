@@ -3,7 +3,7 @@ use Rattle.std.specs.Prelude.{ℕ, ◌≡◌, ◌+◌, ◌*◌, ◌-◌, ◌<◌
 use Rattle.std.specs.Int.{bit_at}
 use Rattle.std.specs.Prelude.{◌==◌, if◌then◌else◌, Option, None, Some}
 use Rattle.tide_layout.specs.Region.{cell_block_count}
-use Rattle.tide_machine.specs.May.{RunsAsMutator, MayCall, called, barrier_for}
+use Rattle.tide_machine.specs.May.{RunsAsMutator, MayCall, barrier_for}
 use Rattle.tide_machine.specs.Owed.{owed_word, owed_elements, Knows}
 use Rattle.tide_machine.specs.Words.{cell_named, count_of, is_nuked}
 use Rattle.tide_machine.specs.World.{World}
@@ -41,7 +41,8 @@ grown_view layout state cell array value old next v = record v {
       ∷ owed_elements layout (properties_with state cell value) array (suc (length (state.cells cell).keys));
   growth = growth.Filling cell array old next;
   duty = barrier_for v.marks cell (val_word value);
-  known = []; full = [];
+  known = [];
+  full = [];
 }
 
 -- the array is taken, or the take was lost and is one that looked
@@ -49,8 +50,8 @@ abbrev pub array_view : Layout → List Event → State → ℕ → ℕ → ℕ 
 array_view layout log state me block k old next None read v = v
 array_view layout log state me block k old next (Some (Add src key val)) read v =
     if bit_at read k == 1 then
-        grown_view layout state (cell_named (state.registers me src)) (array_at layout block k) (state.registers me val)
-        old next v
+    grown_view layout state (cell_named (state.registers me src)) (array_at layout block k) (state.registers me val)
+    old next v
     else searched_view log block (Some (Add src key val)) read v
 array_view layout log state me block k old next (Some _) read v = v
 

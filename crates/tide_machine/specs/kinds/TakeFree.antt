@@ -1,12 +1,12 @@
 -- Take free bit: a mutator clears a free bit, and the cell is born if the bit was set.
-use Rattle.std.specs.Prelude.{ℕ, ◌≡◌, ◌≢◌, ◌+◌, ◌*◌, ◌<◌, List}
+use Rattle.std.specs.Prelude.{ℕ, ◌≡◌, ◌+◌, ◌*◌, ◌<◌, List}
 use Rattle.std.specs.Int.{bit_at}
 use Rattle.std.specs.Prelude.{◌==◌, if◌then◌else◌, Option, None, Some}
 use Rattle.tide_machine.specs.May.{RunsAsMutator, MayCall, called}
 use Rattle.tide_machine.specs.Owed.{owed_register, filled_register}
 use Rattle.tide_machine.specs.World.{World}
 use Rattle.tide_machine.specs.declared.view.View.{View}
-use Rattle.tide_machine.specs.kinds.LoadFree.{looked_view, searched_view}
+use Rattle.tide_machine.specs.kinds.LoadFree.{searched_view}
 use Rattle.tide_model.specs.History.{state_after}
 use Rattle.tide_model.specs.Layout.{Layout, cell_count}
 use Rattle.tide_model.specs.Refused.{ShapeLists}
@@ -24,7 +24,8 @@ abbrev pub taken_view : Layout → List Event → ℕ → ℕ → ℕ → Option
 taken_view layout log me block k None read v = v
 taken_view layout log me block k (Some op) read v =
     if bit_at read k == 1 then record (called (owed_register layout me (filled_register op) (Cell (64 * block + k))) v) {
-      duty = duty.Born (64 * block + k); born = v.born + 1;
+      duty = duty.Born (64 * block + k);
+      born = v.born + 1;
     }
     else searched_view log block (Some op) read v
 

@@ -13,7 +13,8 @@ use Rattle.tide_machine.specs.declared.view.Duty.TheVariants as duty
 -- the one that made the cell grey has to push it
 abbrev pub un_blackened_view : ℕ → ℕ → ℕ → View → View
 un_blackened_view cell cycle read v = record v {
-  scan = None; races = v.races + 1;
+  scan = None;
+  races = v.races + 1;
   duty = if read == colour_word cycle Black then duty.PushRace cell else v.duty;
 }
 

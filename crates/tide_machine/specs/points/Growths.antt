@@ -1,5 +1,5 @@
 -- Points on growths of arrays, which change several words of a cell one after another.
-use Rattle.std.specs.Prelude.{ℕ, ◌≡◌, ◌+◌, ◌≤◌, true, false, List}
+use Rattle.std.specs.Prelude.{ℕ, ◌≡◌, ◌+◌, ◌≤◌, true, false}
 use Rattle.std.specs.Prelude.{Contains, Some}
 use Rattle.tide_machine.specs.Duties.{GrowsAndOwes}
 use Rattle.tide_machine.specs.Owed.{Owes}
