@@ -33,7 +33,9 @@ pub mod BornColours
 pub mod SecondGroup
 pub mod Births
 pub mod TakingCells
+pub mod Searching
 pub mod Takes
+pub mod Searches
 pub mod Scheduling
 pub mod BusyRow
 pub mod PointRows

@@ -24,8 +24,8 @@ use Rattle.std.specs.Prelude.{◌||◌}
 use Rattle.std.proofs.lemmas.Bool.{or_cases}
 
 -- whoever steps when
-pub whoever_steps : (layout : Layout) (shapes : ShapeLists) (test : World → ℕ → Kind → Bool) →
-    ((w : World) (me : ℕ) → me < parties → RunningWave layout shapes w → (kind : Kind) → test w me kind ≡ true →
+pub whoever_steps : (layout : Layout) (shapes : ShapeLists) (test : Kind → Bool) →
+    ((w : World) (me : ℕ) → me < parties → RunningWave layout shapes w → (kind : Kind) → test kind ≡ true →
     IsAllowed layout shapes w me kind → RunningWave layout shapes (stepped layout shapes w me kind)) →
     (mode : Mode) (w : World) → Comes layout shapes test mode w → WaveIn layout shapes mode w
 whoever_steps layout shapes test keeps _ _ at_first = FrozenMachine-first layout shapes
@@ -40,16 +40,13 @@ whoever_steps layout shapes test keeps _ _ (opens w run came) =
 
 -- each step whose law is proved keeps the wave
 pub step_keeps : (layout : Layout) (shapes : ShapeLists) → IsWithinLimits layout → slice_get shapes 0 ≡ Some [] →
-    (w : World) (me : ℕ) → me < parties → RunningWave layout shapes w → (kind : Kind) → has_law w me kind ≡ true →
+    (w : World) (me : ℕ) → me < parties → RunningWave layout shapes w → (kind : Kind) → has_law kind ≡ true →
     IsAllowed layout shapes w me kind → RunningWave layout shapes (stepped layout shapes w me kind)
-step_keeps layout shapes limits empty_shape w me inside wave (TakeFree block k None) is may = absurd may
-step_keeps layout shapes limits empty_shape w me inside wave (TakeFree block k (Some o)) is may =
-    take layout shapes limits empty_shape w me inside wave block k may.2 may.3 o may is
 step_keeps layout shapes limits empty_shape w me inside wave kind is may = by_group (either is)
   where
     by_group : (is_of_first_group kind ≡ true) ⊎ (is_of_second_group kind ≡ true) → RunningWave layout shapes (stepped layout shapes w me kind)
     by_group (inl first) = first_group layout shapes w me inside wave kind first may
-    by_group (inr second) = second_group layout shapes w me inside wave kind second may
+    by_group (inr second) = second_group layout shapes limits empty_shape w me inside wave kind second may
 
     either : (is_of_first_group kind || is_of_second_group kind) ≡ true → (is_of_first_group kind ≡ true) ⊎ (is_of_second_group kind ≡ true)
     either = or_cases (is_of_first_group kind) (is_of_second_group kind)

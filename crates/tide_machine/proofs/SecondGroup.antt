@@ -26,6 +26,15 @@ use Rattle.tide_words.specs.declared.forms.colours.Colour.TheVariants.{Black, Wh
 use Rattle.tide_words.specs.forms.ColourWord.{colour_word}
 use Rattle.tide_words.specs.marking.Colours.{running_cycle, is_marking}
 use Rattle.tide_machine.proofs.Loads.{load_nothing}
+use Rattle.std.proofs.Common.{[]}
+use Rattle.std.specs.Int.{bit_at}
+use Rattle.std.specs.Prelude.{slice_get, ◌==◌}
+use Rattle.tide_layout.specs.Limits.{IsWithinLimits}
+use Rattle.tide_machine.specs.Kind.{LoadFree, TakeFree}
+use Rattle.tide_machine.proofs.Takes.{take}
+use Rattle.tide_machine.proofs.Searches.{load_free, lost}
+use Rattle.std.proofs.lemmas.Bool.{cases_Bool}
+use Rattle.std.proofs.Common.{inl, inr}
 
 -- a slot is stored by Put
 pub put : (layout : Layout) (shapes : ShapeLists) (w : World) (me : ℕ) → me < parties → RunningWave layout shapes w →
@@ -79,14 +88,22 @@ born_coloured layout shapes w me inside wave cell word may =
     by false idle = born_white layout shapes w me inside wave may.runner.runs cell may.owed idle
 
 -- each of these kinds
-pub second_group : (layout : Layout) (shapes : ShapeLists) (w : World) (me : ℕ) → me < parties → RunningWave layout shapes w →
+pub second_group : (layout : Layout) (shapes : ShapeLists) → IsWithinLimits layout → slice_get shapes 0 ≡ Some [] →
+    (w : World) (me : ℕ) → me < parties → RunningWave layout shapes w →
     (kind : Kind) → is_of_second_group kind ≡ true → IsAllowed layout shapes w me kind → RunningWave layout shapes (stepped layout shapes w me kind)
-second_group layout shapes w me inside wave (LoadLink cell n None) is may = load_nothing layout shapes w me wave region.Slots _
-second_group layout shapes w me inside wave (LoadLink cell n (Some o)) is may = load_link layout shapes w me inside wave cell n o may
-second_group layout shapes w me inside wave (StoreLink cell n word None) is may = absurd may
-second_group layout shapes w me inside wave (StoreLink cell n word (Some o)) is may = put layout shapes w me inside wave cell n word o may
-second_group layout shapes w me inside wave (LoadColour cell) is may = colour_loaded layout shapes w me inside wave cell may
-second_group layout shapes w me inside wave (Regrey cell cycle) is may = regreyed_or_left layout shapes w me inside wave cell cycle may
-second_group layout shapes w me inside wave (PushBit cell) is may = bit_pushed_once layout shapes w me inside wave cell may
-second_group layout shapes w me inside wave (StoreBorn cell word) is may = born_coloured layout shapes w me inside wave cell word may
-second_group layout shapes w me inside wave _ is may = absurd (cc)
+second_group layout shapes limits empty_shape w me inside wave (LoadLink cell n None) is may = load_nothing layout shapes w me wave region.Slots _
+second_group layout shapes limits empty_shape w me inside wave (LoadLink cell n (Some o)) is may = load_link layout shapes w me inside wave cell n o may
+second_group layout shapes limits empty_shape w me inside wave (StoreLink cell n word None) is may = absurd may
+second_group layout shapes limits empty_shape w me inside wave (StoreLink cell n word (Some o)) is may = put layout shapes w me inside wave cell n word o may
+second_group layout shapes limits empty_shape w me inside wave (LoadColour cell) is may = colour_loaded layout shapes w me inside wave cell may
+second_group layout shapes limits empty_shape w me inside wave (Regrey cell cycle) is may = regreyed_or_left layout shapes w me inside wave cell cycle may
+second_group layout shapes limits empty_shape w me inside wave (PushBit cell) is may = bit_pushed_once layout shapes w me inside wave cell may
+second_group layout shapes limits empty_shape w me inside wave (LoadFree block None) is may = load_free layout shapes w me inside wave may.0.runs block None may
+second_group layout shapes limits empty_shape w me inside wave (LoadFree block (Some o)) is may = load_free layout shapes w me inside wave may.0.runs block (Some o) may
+second_group layout shapes limits empty_shape w me inside wave (TakeFree block k None) is may = absurd may
+second_group layout shapes limits empty_shape w me inside wave (TakeFree block k (Some o)) is may = elim (cases_Bool (bit_at (w.heap region.Free block) k == 1)) [
+  | inl set ↦ take layout shapes limits empty_shape w me inside wave block k may.2 may.3 o may set
+  | inr clear ↦ lost layout shapes w me inside wave may.0.runs block k may.2 o may.5 clear
+]
+second_group layout shapes limits empty_shape w me inside wave (StoreBorn cell word) is may = born_coloured layout shapes w me inside wave cell word may
+second_group layout shapes limits empty_shape w me inside wave _ is may = absurd (cc)

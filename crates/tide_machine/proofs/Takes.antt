@@ -37,7 +37,7 @@ use Rattle.tide_words.specs.heap.Heap.{write}
 use Rattle.tide_words.specs.heap.Written.{IsBitPut}
 
 -- the free words are nobody's to owe
-free_is_unowed : (layout : Layout) (state : State) (p index : ℕ) → IsOwnWord layout state p region.Free index → ⊥
+pub free_is_unowed : (layout : Layout) (state : State) (p index : ℕ) → IsOwnWord layout state p region.Free index → ⊥
 free_is_unowed layout state p index own = by region.Free index own refl
   where
     by : (at : Region) (i : ℕ) → IsOwnWord layout state p at i → tag at ≡ tag region.Free → ⊥
@@ -61,7 +61,7 @@ module _ (layout : Layout) (shapes : ShapeLists) (limits : IsWithinLimits layout
   its_bit : cell % 64 ≡ k
   its_bit = omega (arith, few)
 
-  same_word : wave.words.settled region.Free block ≡ read
+  pub same_word : wave.words.settled region.Free block ≡ read
   same_word = sym (wave.words.same region.Free block refl (λ p x owes. free_is_unowed layout (state_after layout w.log) p block (wave.words.owns p region.Free block x owes)))
 
   -- the bit of the settled words is cleared

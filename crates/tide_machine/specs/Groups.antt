@@ -7,6 +7,7 @@ use Rattle.std.specs.Prelude.{◌==◌, ◌||◌, ℕ}
 use Rattle.tide_machine.specs.Kind.{TakeFree}
 use Rattle.tide_machine.specs.World.{World}
 use Rattle.tide_layout.specs.declared.region.Region.TheVariants as region
+use Rattle.tide_machine.specs.Kind.{LoadFree}
 
 -- a participant begins, hears and stops, a mutator retires, and works with its own words and with handles
 abbrev pub is_of_first_group : Kind → Bool
@@ -25,17 +26,18 @@ is_of_first_group (LoadWeak handle made) = true
 is_of_first_group (StoreWeak handle word made) = true
 is_of_first_group _ = false
 
--- a mutator works with slots, pays the barrier, and colours a new cell
+-- a mutator works with slots, pays the barrier, takes a cell or finds none, and colours a new one
 abbrev pub is_of_second_group : Kind → Bool
 is_of_second_group (LoadLink cell slot made) = true
 is_of_second_group (StoreLink cell slot word made) = true
 is_of_second_group (LoadColour cell) = true
 is_of_second_group (Regrey cell cycle) = true
 is_of_second_group (PushBit cell) = true
+is_of_second_group (LoadFree block made) = true
+is_of_second_group (TakeFree block k made) = true
 is_of_second_group (StoreBorn cell word) = true
 is_of_second_group _ = false
 
--- The law of this step is proved: its kind is of the first or the second group, or it takes a free bit that is set.
-abbrev pub has_law : World → ℕ → Kind → Bool
-has_law w me (TakeFree block k made) = bit_at (w.heap region.Free block) k == 1
-has_law w me kind = is_of_first_group kind || is_of_second_group kind
+-- the law of the kind is proved
+abbrev pub has_law : Kind → Bool
+has_law kind = is_of_first_group kind || is_of_second_group kind

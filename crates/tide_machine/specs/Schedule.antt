@@ -40,9 +40,9 @@ pub data Enters (layout : Layout) (shapes : ShapeLists) (old : Heap) (history : 
 
 -- The machine may come to this world by some schedule of steps whose kinds pass a test, of freezes, of entries and of
 -- parts that are opened.
-pub data Comes (layout : Layout) (shapes : ShapeLists) (test : World → ℕ → Kind → Bool) : Mode → World → Type 0 where
+pub data Comes (layout : Layout) (shapes : ShapeLists) (test : Kind → Bool) : Mode → World → Type 0 where
   at_first : Comes layout shapes test (frozen 0) first_world
-  steps : (w : World) (me : ℕ) (kind : Kind) → Comes layout shapes test running w → me < parties → test w me kind ≡ true →
+  steps : (w : World) (me : ℕ) (kind : Kind) → Comes layout shapes test running w → me < parties → test kind ≡ true →
       IsAllowed layout shapes w me kind → Comes layout shapes test running (stepped layout shapes w me kind)
   freezes : (w : World) → Comes layout shapes test running w → ((p : ℕ) → (w.part p).runs ≡ false) →
       Comes layout shapes test (frozen (total (counted_in (w.heap region.Period 0)) w.part)) w
