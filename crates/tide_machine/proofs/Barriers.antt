@@ -23,7 +23,8 @@ pub calm_barrier : (marks cell_word : Bool) (cell : ℕ) → marks ≡ false →
 calm_barrier false cell_word cell idle = tt
 calm_barrier true cell_word cell idle = absurd (cc)
 
-pub owes_barrier : (marks cell_word : Bool) (cell : ℕ) → marks ≡ true → cell_word ≡ true → OwesBarrier (barrier_if (marks && cell_word) cell) cell
+pub owes_barrier : (marks cell_word : Bool) (cell : ℕ) → marks ≡ true → cell_word ≡ true →
+    OwesBarrier (barrier_if (marks && cell_word) cell) cell
 owes_barrier true true cell m w = refl
 owes_barrier false cell_word cell m w = absurd (cc)
 owes_barrier true false cell m w = absurd (cc)

@@ -62,14 +62,16 @@ begins_first = record {
   others = same;
   cycle = omega arith;
   unmarked = BeginLaws.begun-unmarked small empty_heap (write empty_heap region.Phase 0 3) same refl;
-  marking = λ shapes state. BeginLaws.Marking-begun small empty_heap (write empty_heap region.Phase 0 3) same refl shapes state refl (omega arith);
+  marking = λ shapes state. BeginLaws.Marking-begun small empty_heap (write empty_heap region.Phase 0 3) same refl
+      shapes state refl (omega arith);
 }
   where
     same : LeftByBegin small empty_heap (write empty_heap region.Phase 0 3)
     same at apart index within = write-other_region empty_heap region.Phase at 0 index 3 apart
 
 came_begun : Comes small no_shapes has_law (frozen 0) begun
-came_begun = enters first_world 0 0 (write empty_heap region.Phase 0 3) (with_begin []) at_first (begins (write empty_heap region.Phase 0 3) refl begins_first)
+came_begun = enters first_world 0 0 (write empty_heap region.Phase 0 3) (with_begin []) at_first
+    (begins (write empty_heap region.Phase 0 3) refl begins_first)
 
 -- a part of 16 calls is opened
 abbrev pub opened : World

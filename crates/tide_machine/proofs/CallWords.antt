@@ -17,9 +17,12 @@ use Rattle.tide_model.specs.Refused.{ShapeLists}
 use Rattle.tide_words.proofs.heap_laws.HeapLaws.{write-same, write-other_index}
 use Rattle.tide_words.specs.heap.Heap.{Heap, write}
 
-pub store_call_word : (layout : Layout) (shapes : ShapeLists) (w : World) (me : ℕ) → me < parties → RunningWave layout shapes w →
-    (word : ℕ) → MayStoreCall layout shapes w me word None → RunningWave layout shapes (stepped layout shapes w me (StoreCall word None))
-store_call_word layout shapes w me inside wave word may = quiet_step layout shapes w.heap w.part w.log me wave new later record {
+pub store_call_word : (layout : Layout) (shapes : ShapeLists) (w : World) (me : ℕ) → me < parties →
+    RunningWave layout shapes w →
+    (word : ℕ) → MayStoreCall layout shapes w me word None →
+        RunningWave layout shapes (stepped layout shapes w me (StoreCall word None))
+store_call_word layout shapes w me inside wave word may =
+    quiet_step layout shapes w.heap w.part w.log me wave new later record {
   inside = inside;
   words = λ at i. unread_write w.heap region.Call me word refl at i;
   who = refl;
@@ -40,10 +43,14 @@ store_call_word layout shapes w me inside wave word may = quiet_step layout shap
   runs = may.0.runs;
   colours = wave.colours;
   balance = λ _ c in_c few. refl;
-  rests = λ idle. (λ block within. (let n = wave.rests.words idle block within in record { shared = n.shared; mutator = n.mutator; race = n.race }), wave.rests.held idle me, wave.rests.scans idle me, wave.rests.duties idle me);
-  at_hand = λ c at. wave.hands.cells me c (elim at [ held is ↦ held is | scanned scan is e ↦ scanned scan is e | buffered scan is e ↦ buffered scan is e ]);
+  rests = λ idle. (λ block within.
+      (let n = wave.rests.words idle block within in record { shared = n.shared; mutator = n.mutator; race = n.race }),
+      wave.rests.held idle me, wave.rests.scans idle me, wave.rests.duties idle me);
+  at_hand = λ c at. wave.hands.cells me c (elim at [ held is ↦ held is | scanned scan is e ↦
+      scanned scan is e | buffered scan is e ↦ buffered scan is e ]);
   arrays = λ a scan is. wave.hands.arrays me a scan is;
-  scanned = λ scan is. (wave.retained.scanned me scan is, wave.scans.knows me scan is, λ c at holds. wave.retained.buffered me c scan is at holds);
+  scanned = λ scan is. (wave.retained.scanned me scan is, wave.scans.knows me scan is, λ c at holds.
+      wave.retained.buffered me c scan is at holds);
   black = λ marks source place target link black white. inr (black, white, λ e. inl e);
   grows = λ c g. record { grows = g.grows; owes = g.owes };
   stays = λ _ c is. is;

@@ -64,7 +64,9 @@ is_uncalled region.GreyMutator = true
 is_uncalled region.GreyRace = true
 is_uncalled _ = false
 
-module _ (layout : Layout) (shapes : ShapeLists) (old : Heap) (part : ℕ → View) (log : List Event) (me : ℕ) (wave : RunningWave layout shapes (record { heap = old; part = part; log = log })) (op : Op) (reply : Reply) (took : Option ℕ) where
+module _ (layout : Layout) (shapes : ShapeLists) (old : Heap) (part : ℕ → View) (log : List Event) (me : ℕ)
+    (wave : RunningWave layout shapes (record { heap = old; part = part; log = log })) (op : Op) (reply : Reply)
+    (took : Option ℕ) where
   -- the history with the call, and the state after it
   abbrev pub longer : List Event
   longer = log ++ call_of me op reply took ∷ []
@@ -80,18 +82,22 @@ module _ (layout : Layout) (shapes : ShapeLists) (old : Heap) (part : ℕ → Vi
     pub words : RunningWordsRead layout shapes new (put_at part me w) t
     pub refs : RefsAreLive t
     pub alive : (cell : ℕ) → IsLive before cell → IsLive t cell
-    pub arrays : (array : ℕ) → (before.arrays array ≡ live) ⊎ (before.arrays array ≡ spent) → (t.arrays array ≡ live) ⊎ (t.arrays array ≡ spent)
+    pub arrays : (array : ℕ) → (before.arrays array ≡ live) ⊎ (before.arrays array ≡ spent) → (t.arrays array ≡ live) ⊎
+        (t.arrays array ≡ spent)
     pub scans : (p : ℕ) (scan : Scan) → (part p).scan ≡ Some scan → ScanKnows layout new t scan
     -- a link of the state after it is one from before, or the caller owes its barrier
-    pub links : is_marking old ≡ true → (source : ℕ) (place : Place) (cell : ℕ) → LinkAt t source place cell → IsBlack old source → is_marked old cell ≡ false →
+    pub links : is_marking old ≡ true → (source : ℕ) (place : Place) (cell : ℕ) → LinkAt t source place cell →
+        IsBlack old source → is_marked old cell ≡ false →
         OwesBarrier w.duty source ⊎ LinkAt before source place cell
     -- what another has just taken stays unknown
-    pub beyond : is_marking old ≡ true → (source n cell : ℕ) → LinkAt t source (property n) cell → count_of (new region.Structure source) ≤ n →
+    pub beyond : is_marking old ≡ true → (source n cell : ℕ) → LinkAt t source (property n) cell →
+        count_of (new region.Structure source) ≤ n →
         GrowsAndOwes w source ⊎ (LinkAt before source (property n) cell × (count_of (old region.Structure source) ≤ n))
     pub awaited : (cell : ℕ) → OwesColour w.duty cell → IsLive t cell
     pub growth : GrowthKnows new t me w w.growth
     pub growths : (p : ℕ) → p ≢ me → GrowthKnows new t p (part p) (part p).growth
-    pub owns : (p : ℕ) (at : Region) (index : ℕ) → p ≢ me → IsOwnWord layout before p at index → IsOwnWord layout t p at index
+    pub owns : (p : ℕ) (at : Region) (index : ℕ) → p ≢ me → IsOwnWord layout before p at index →
+        IsOwnWord layout t p at index
     pub hidden : (p cell : ℕ) → p ≢ me → IsLive before cell → IsHidden before p cell → IsHidden t p cell
 
   pub record ShowsCall (new : Heap) (w : View) : Type 0 where
@@ -118,8 +124,10 @@ module _ (layout : Layout) (shapes : ShapeLists) (old : Heap) (part : ℕ → Vi
     pub calm : is_marking old ≡ false → IsCalm w.duty
     pub grows : (cell : ℕ) → GrowsAndOwes (part me) cell → GrowsAndOwes w cell
     pub barrier : (source : ℕ) → OwesBarrier (part me).duty source → OwesBarrier w.duty source
-    pub kept : (p : ℕ) (at : Region) (index word : ℕ) → p ≢ me → Contains (part p).known (owed_word at index word) → new at index ≡ word
-    pub truer : (p : ℕ) (scan : Scan) → (part p).scan ≡ Some scan → IsTrue scan (new region.Structure scan.cell) → IsTrue scan (old region.Structure scan.cell)
+    pub kept : (p : ℕ) (at : Region) (index word : ℕ) → p ≢ me → Contains (part p).known (owed_word at index word) →
+        new at index ≡ word
+    pub truer : (p : ℕ) (scan : Scan) → (part p).scan ≡ Some scan → IsTrue scan (new region.Structure scan.cell) →
+        IsTrue scan (old region.Structure scan.cell)
     -- what was born
     pub born_before : (cell : ℕ) → OwesColour (part me).duty cell → ⊥
     pub born : (cell : ℕ) → is_birth_of cell (Call me op reply) ≡ true → OwesColour w.duty cell
@@ -147,45 +155,69 @@ module _ (layout : Layout) (shapes : ShapeLists) (old : Heap) (part : ℕ → Vi
     phase_and_colour p c _ i = c
 
     same_black : (cell : ℕ) → is_black new cell ≡ is_black old cell
-    same_black cell = ap (λ (p : ℕ). is_black (phase_and_colour p (new region.Colour cell)) cell) phase ∙ ap (λ (c : ℕ). is_black (phase_and_colour (old region.Phase 0) c) cell) (s.uncalled region.Colour cell refl)
+    same_black cell = ap (λ (p : ℕ). is_black (phase_and_colour p (new region.Colour cell)) cell) phase ∙
+        ap (λ (c : ℕ). is_black (phase_and_colour (old region.Phase 0) c) cell) (s.uncalled region.Colour cell refl)
 
     same_grey : (cell : ℕ) → is_grey new cell ≡ is_grey old cell
-    same_grey cell = ap (λ (p : ℕ). is_grey (phase_and_colour p (new region.Colour cell)) cell) phase ∙ ap (λ (c : ℕ). is_grey (phase_and_colour (old region.Phase 0) c) cell) (s.uncalled region.Colour cell refl)
+    same_grey cell = ap (λ (p : ℕ). is_grey (phase_and_colour p (new region.Colour cell)) cell) phase ∙
+        ap (λ (c : ℕ). is_grey (phase_and_colour (old region.Phase 0) c) cell) (s.uncalled region.Colour cell refl)
 
     same_marked : (cell : ℕ) → is_marked new cell ≡ is_marked old cell
-    same_marked cell = ap (λ (p : ℕ). is_marked (phase_and_colour p (new region.Colour cell)) cell) phase ∙ ap (λ (c : ℕ). is_marked (phase_and_colour (old region.Phase 0) c) cell) (s.uncalled region.Colour cell refl)
+    same_marked cell = ap (λ (p : ℕ). is_marked (phase_and_colour p (new region.Colour cell)) cell) phase ∙
+        ap (λ (c : ℕ). is_marked (phase_and_colour (old region.Phase 0) c) cell) (s.uncalled region.Colour cell refl)
 
     same_bits : (cell : ℕ) → bits_of new cell ≡ bits_of old cell
     same_bits cell =
-        let shared = ap (λ (word : ℕ). Rattle.std.specs.Int.bit_at word (Rattle.std.specs.Prelude.◌%◌ cell 64)) (s.uncalled region.GreyShared (block_of_cell cell) refl) in
-        let mutator = ap (λ (word : ℕ). Rattle.std.specs.Int.bit_at word (Rattle.std.specs.Prelude.◌%◌ cell 64)) (s.uncalled region.GreyMutator (block_of_cell cell) refl) in
-        let race = ap (λ (word : ℕ). Rattle.std.specs.Int.bit_at word (Rattle.std.specs.Prelude.◌%◌ cell 64)) (s.uncalled region.GreyRace (block_of_cell cell) refl) in
+        let shared = ap (λ (word : ℕ). Rattle.std.specs.Int.bit_at word (Rattle.std.specs.Prelude.◌%◌ cell 64))
+            (s.uncalled region.GreyShared (block_of_cell cell) refl) in
+        let mutator = ap (λ (word : ℕ). Rattle.std.specs.Int.bit_at word (Rattle.std.specs.Prelude.◌%◌ cell 64))
+            (s.uncalled region.GreyMutator (block_of_cell cell) refl) in
+        let race = ap (λ (word : ℕ). Rattle.std.specs.Int.bit_at word (Rattle.std.specs.Prelude.◌%◌ cell 64))
+            (s.uncalled region.GreyRace (block_of_cell cell) refl) in
         omega (arith, shared, mutator, race)
 
-    retained_longer : (cell : ℕ) → IsRetained (cycle_span layout log) no_cell cell → IsRetained (cycle_span layout longer) no_cell cell
+    retained_longer : (cell : ℕ) → IsRetained (cycle_span layout log) no_cell cell →
+        IsRetained (cycle_span layout longer) no_cell cell
     retained_longer = retained-push layout log (call_of me op reply took) refl
 
     -- a view's excuse stands after the call
-    scan_excuses : (p source : ℕ) (place : Place) (cell : ℕ) (scan : Option Scan) → (part p).scan ≡ scan → ScanExcuses old source place cell scan → ScanExcuses new source place cell scan
+    scan_excuses : (p source : ℕ) (place : Place) (cell : ℕ) (scan : Option Scan) → (part p).scan ≡ scan →
+        ScanExcuses old source place cell scan → ScanExcuses new source place cell scan
     scan_excuses p source place cell None is e = e
-    scan_excuses p source place cell (Some scan) is e = (e.0, λ holds. e.1 (subst (λ (c : ℕ). IsTrue scan (old region.Structure c)) e.0 (s.truer p scan is (subst (λ (c : ℕ). IsTrue scan (new region.Structure c)) (sym e.0) holds))))
+    scan_excuses p source place cell (Some scan) is e =
+        (e.0, λ holds. e.1 (subst (λ (c : ℕ). IsTrue scan (old region.Structure c)) e.0
+        (s.truer p scan is (subst (λ (c : ℕ). IsTrue scan (new region.Structure c)) (sym e.0) holds))))
 
-    mine_excuses : (source : ℕ) (place : Place) (cell : ℕ) → Excuses old source place cell (part me) → IsExcused new (put_at part me w) source place cell
-    mine_excuses source place cell (inl owes) = record { by = me; excuse = subst (Excuses new source place cell) (sym (put_here part me w)) (inl (s.barrier source owes)) }
-    mine_excuses source place cell (inr scans) = record { by = me; excuse = subst (Excuses new source place cell) (sym (put_here part me w)) (inr (subst (ScanExcuses new source place cell) (sym s.scan) (scan_excuses me source place cell (part me).scan refl scans))) }
+    mine_excuses : (source : ℕ) (place : Place) (cell : ℕ) → Excuses old source place cell (part me) →
+        IsExcused new (put_at part me w) source place cell
+    mine_excuses source place cell (inl owes) =
+        record { by = me; excuse = subst (Excuses new source place cell) (sym (put_here part me w))
+        (inl (s.barrier source owes)) }
+    mine_excuses source place cell (inr scans) =
+        record { by = me; excuse = subst (Excuses new source place cell) (sym (put_here part me w))
+        (inr (subst (ScanExcuses new source place cell) (sym s.scan)
+        (scan_excuses me source place cell (part me).scan refl scans))) }
 
-    other_excuses : (p source : ℕ) (place : Place) (cell : ℕ) → p ≢ me → Excuses old source place cell (part p) → IsExcused new (put_at part me w) source place cell
-    other_excuses p source place cell apart (inl owes) = record { by = p; excuse = subst (Excuses new source place cell) (sym (put_else part me p w apart)) (inl owes) }
-    other_excuses p source place cell apart (inr scans) = record { by = p; excuse = subst (Excuses new source place cell) (sym (put_else part me p w apart)) (inr (scan_excuses p source place cell (part p).scan refl scans)) }
+    other_excuses : (p source : ℕ) (place : Place) (cell : ℕ) → p ≢ me → Excuses old source place cell (part p) →
+        IsExcused new (put_at part me w) source place cell
+    other_excuses p source place cell apart (inl owes) =
+        record { by = p; excuse = subst (Excuses new source place cell) (sym (put_else part me p w apart)) (inl owes) }
+    other_excuses p source place cell apart (inr scans) =
+        record { by = p; excuse = subst (Excuses new source place cell) (sym (put_else part me p w apart))
+        (inr (scan_excuses p source place cell (part p).scan refl scans)) }
 
-    excused : (source : ℕ) (place : Place) (cell : ℕ) → IsExcused old part source place cell → IsExcused new (put_at part me w) source place cell
+    excused : (source : ℕ) (place : Place) (cell : ℕ) → IsExcused old part source place cell →
+        IsExcused new (put_at part me w) source place cell
     excused source place cell ex = elim (cases_eq ex.by me) [
-      | inl same ↦ mine_excuses source place cell (subst (λ (p : ℕ). Excuses old source place cell (part p)) same ex.excuse)
+      | inl same ↦ mine_excuses source place cell
+          (subst (λ (p : ℕ). Excuses old source place cell (part p)) same ex.excuse)
       | inr apart ↦ other_excuses ex.by source place cell apart ex.excuse
     ]
 
-    scans_of : (P : Scan → Type 0) → ((p : ℕ) (scan : Scan) → (part p).scan ≡ Some scan → P scan) → (p : ℕ) (scan : Scan) → (put_at part me w p).scan ≡ Some scan → P scan
-    scans_of P each = each_put (λ p u. (scan : Scan) → u.scan ≡ Some scan → P scan) part me w (λ scan is. each me scan (sym s.scan ∙ is)) each
+    scans_of : (P : Scan → Type 0) → ((p : ℕ) (scan : Scan) → (part p).scan ≡ Some scan → P scan) →
+        (p : ℕ) (scan : Scan) → (put_at part me w p).scan ≡ Some scan → P scan
+    scans_of P each = each_put (λ p u. (scan : Scan) → u.scan ≡ Some scan → P scan) part me w (λ scan is.
+        each me scan (sym s.scan ∙ is)) each
 
     pub call_step : RunningWave layout shapes (record { heap = new; part = put_at part me w; log = longer })
     call_step = record {
@@ -195,44 +227,65 @@ module _ (layout : Layout) (shapes : ShapeLists) (old : Heap) (part : ℕ → Vi
       few_cycles = (let few = wave.few_cycles in omega (arith, few, running));
       known = record {
         who = each_put (λ p u. u.who ≡ p) part me w (s.who ∙ wave.known.who me) wave.known.who;
-        seen = each_put (λ p u. IsPrefix u.seen longer) part me w (subst (λ (h : List Event). IsPrefix h longer) (sym s.seen) (prefix_refl longer))
-            (λ p. prefix_trans (part p).seen log longer (wave.known.seen p) (prefix_push log (call_of me op reply took)));
-        own = put_at_elim (λ p u. Rattle.std.specs.Prelude.filter (λ event. is_call_of p event.entry) longer ≡ u.mine) part me w own_longer
+        seen = each_put (λ p u. IsPrefix u.seen longer) part me w
+            (subst (λ (h : List Event). IsPrefix h longer) (sym s.seen) (prefix_refl longer))
+            (λ p. prefix_trans (part p).seen log longer (wave.known.seen p)
+                (prefix_push log (call_of me op reply took)));
+        own = put_at_elim (λ p u. Rattle.std.specs.Prelude.filter (λ event. is_call_of p event.entry) longer ≡ u.mine)
+            part me w own_longer
             (λ p apart. Growing.other_calls-push log me op reply took p apart ∙ wave.known.own p);
-        told = each_put (λ p u. Rattle.std.specs.Prelude.filter (λ event. is_call_of p event.entry) u.seen ≡ u.mine) part me w
-            (ap (Rattle.std.specs.Prelude.filter (λ (event : Event). is_call_of me event.entry)) s.seen ∙ own_longer) wave.known.told;
+        told = each_put (λ p u. Rattle.std.specs.Prelude.filter (λ event. is_call_of p event.entry) u.seen ≡ u.mine)
+            part me w
+            (ap (Rattle.std.specs.Prelude.filter (λ (event : Event). is_call_of me event.entry)) s.seen ∙
+                own_longer) wave.known.told;
       };
       numbers = record {
-        cycles = running ∙ wave.numbers.cycles ∙ sym (Growing.begin_count-push layout log (call_of me op reply took) refl);
+        cycles = running ∙ wave.numbers.cycles ∙
+            sym (Growing.begin_count-push layout log (call_of me op reply took) refl);
         periods = s.period ∙ wave.numbers.periods ∙ sym (Growing.open_count-call log me op reply took);
-        told = each_put (λ p u. u.runs ≡ true → (u.marks ≡ is_marking new) × (u.cycle ≡ running_cycle new) × (u.begun ≡ new region.Period 0)) part me w
-            (λ is. let t = wave.numbers.told me s.runs in (s.marks ∙ t.0 ∙ sym marking, s.cycle ∙ t.1 ∙ sym running, s.begun ∙ t.2 ∙ sym s.period))
+        told = each_put (λ p u. u.runs ≡ true → (u.marks ≡ is_marking new) × (u.cycle ≡ running_cycle new) ×
+            (u.begun ≡ new region.Period 0)) part me w
+            (λ is. let t = wave.numbers.told me s.runs in (s.marks ∙ t.0 ∙ sym marking, s.cycle ∙ t.1 ∙ sym running,
+                s.begun ∙ t.2 ∙ sym s.period))
             (λ p is. let t = wave.numbers.told p is in (t.0 ∙ sym marking, t.1 ∙ sym running, t.2 ∙ sym s.period));
       };
       words = now_of.words;
       refs = now_of.refs;
-      colours = λ cell within. (let c = s.uncalled region.Colour cell refl in let few = wave.colours cell within in omega (arith, c, few, running));
+      colours = λ cell within. (let c = s.uncalled region.Colour cell refl in let few = wave.colours cell within in
+          omega (arith, c, few, running));
       hands = record {
         cells = each_put (λ p u. (cell : ℕ) → IsAtHand u cell → IsLive after cell) part me w
-            (λ cell at. now_of.alive cell (wave.hands.cells me cell (was_at_hand cell at))) (λ p cell at. now_of.alive cell (wave.hands.cells p cell at));
-        arrays = λ p array scan is has. now_of.arrays array (scans_of (λ scan. scan.array ≡ Some (array + 1) → (before.arrays array ≡ live) ⊎ (before.arrays array ≡ spent)) (λ p scan is has. wave.hands.arrays p array scan is has) p scan is has);
+            (λ cell at. now_of.alive cell (wave.hands.cells me cell (was_at_hand cell at))) (λ p cell at.
+                now_of.alive cell (wave.hands.cells p cell at));
+        arrays = λ p array scan is has.
+            now_of.arrays array (scans_of (λ scan. scan.array ≡ Some (array + 1) → (before.arrays array ≡ live) ⊎
+            (before.arrays array ≡ spent)) (λ p scan is has. wave.hands.arrays p array scan is has) p scan is has);
       };
       kept = record {
-        reads = each_put (λ p u. (at : Region) (index word : ℕ) → Contains u.known (owed_word at index word) → is_read at ≡ true) part me w (λ at index word is. nothing_known at index word is) wave.kept.reads;
-        owns = put_at_elim (λ p u. (at : Region) (index word : ℕ) → Contains u.known (owed_word at index word) → IsOwnWord layout after p at index) part me w (λ at index word is. nothing_known at index word is)
+        reads = each_put (λ p u. (at : Region) (index word : ℕ) → Contains u.known (owed_word at index word) →
+            is_read at ≡ true) part me w (λ at index word is. nothing_known at index word is) wave.kept.reads;
+        owns = put_at_elim (λ p u. (at : Region) (index word : ℕ) → Contains u.known (owed_word at index word) →
+            IsOwnWord layout after p at index) part me w (λ at index word is. nothing_known at index word is)
             (λ p apart at index word is. now_of.owns p at index apart (wave.kept.owns p at index word is));
-        known = put_at_elim (λ p u. (at : Region) (index word : ℕ) → Contains u.known (owed_word at index word) → new at index ≡ word) part me w (λ at index word is. nothing_known at index word is)
+        known = put_at_elim (λ p u. (at : Region) (index word : ℕ) → Contains u.known (owed_word at index word) →
+            new at index ≡ word) part me w (λ at index word is. nothing_known at index word is)
             (λ p apart at index word. s.kept p at index word apart);
-        full = put_at_elim (λ p u. (block moment : ℕ) → Contains u.full (record { block = block; moment = moment }) → (window_start p longer ≤ moment) × (moment ≤ length longer) × IsFullBlock layout (state_at layout longer moment) block) part me w
-            (λ block moment is. absurd (none_full block moment (subst (λ (l : List Found). Contains l (record { block = block; moment = moment })) s.full is)))
+        full = put_at_elim (λ p u. (block moment : ℕ) → Contains u.full (record { block = block; moment = moment }) →
+            (window_start p longer ≤ moment) × (moment ≤ length longer) ×
+            IsFullBlock layout (state_at layout longer moment) block) part me w
+            (λ block moment is. absurd (none_full block moment
+                (subst (λ (l : List Found). Contains l (record { block = block; moment = moment })) s.full is)))
             (λ p apart block moment is. let was = wave.kept.full p block moment is in (
               subst (λ (n : ℕ). n ≤ moment) (sym (Growing.window_start-other log me op reply took p apart)) was.0,
               (let l = Growing.length-push log (call_of me op reply took) in let m = was.1 in omega (arith, l, m)),
-              subst (λ (t : State). IsFullBlock layout t block) (sym (Growing.state_at-push layout log (call_of me op reply took) moment was.1)) was.2,
+              subst (λ (t : State). IsFullBlock layout t block)
+                  (sym (Growing.state_at-push layout log (call_of me op reply took) moment was.1)) was.2,
             ));
       };
       held = held_view layout old new part me w s.inside marking
-          (λ marks cell within few. let bits = same_bits cell in let none = s.pushes_none cell in let grey = ap {B = ℕ} (λ (b : Bool). if b then 1 else 0) (same_grey cell) in let stack = ap (λ (l : List ℕ). times_in l cell) s.held in omega (arith, bits, none.0, none.1, grey, stack))
+          (λ marks cell within few. let bits = same_bits cell in let none = s.pushes_none cell in let grey =
+              ap {B = ℕ} (λ (b : Bool). if b then 1 else 0) (same_grey cell) in let stack =
+              ap (λ (l : List ℕ). times_in l cell) s.held in omega (arith, bits, none.0, none.1, grey, stack))
           wave.held;
       rests = record {
         words = λ idle block within. let none = wave.rests.words (sym marking ∙ idle) block within in record {
@@ -240,40 +293,54 @@ module _ (layout : Layout) (shapes : ShapeLists) (old : Heap) (part : ℕ → Vi
           mutator = s.uncalled region.GreyMutator block refl ∙ none.mutator;
           race = s.uncalled region.GreyRace block refl ∙ none.race;
         };
-        held = λ idle. each_put (λ p u. u.held ≡ []) part me w (s.held ∙ wave.rests.held (sym marking ∙ idle) me) (wave.rests.held (sym marking ∙ idle));
-        scans = λ idle. each_put (λ p u. u.scan ≡ None) part me w (s.scan ∙ wave.rests.scans (sym marking ∙ idle) me) (wave.rests.scans (sym marking ∙ idle));
-        duties = λ idle. each_put (λ p u. IsCalm u.duty) part me w (s.calm (sym marking ∙ idle)) (wave.rests.duties (sym marking ∙ idle));
+        held = λ idle. each_put (λ p u. u.held ≡ []) part me w (s.held ∙ wave.rests.held (sym marking ∙ idle) me)
+            (wave.rests.held (sym marking ∙ idle));
+        scans = λ idle. each_put (λ p u. u.scan ≡ None) part me w (s.scan ∙ wave.rests.scans (sym marking ∙ idle) me)
+            (wave.rests.scans (sym marking ∙ idle));
+        duties = λ idle. each_put (λ p u. IsCalm u.duty) part me w (s.calm (sym marking ∙ idle))
+            (wave.rests.duties (sym marking ∙ idle));
       };
       black = record {
         excused = λ marks source place cell link black white.
             let was_black = sym (same_black source) ∙ black in
             let was_white = sym (same_marked cell) ∙ white in
             elim (now_of.links (sym marking ∙ marks) source place cell link was_black was_white) [
-              | inl owes ↦ record { by = me; excuse = subst (Excuses new source place cell) (sym (put_here part me w)) (inl owes) }
-              | inr link_before ↦ excused source place cell (wave.black.excused (sym marking ∙ marks) source place cell link_before was_black was_white)
+              | inl owes ↦ record { by = me; excuse = subst (Excuses new source place cell) (sym (put_here part me w))
+                  (inl owes) }
+              | inr link_before ↦ excused source place cell
+                  (wave.black.excused (sym marking ∙ marks) source place cell link_before was_black was_white)
             ];
       };
       retained = record {
-        marked = λ marks cell within is. retained_longer cell (wave.retained.marked (sym marking ∙ marks) cell within (sym (same_marked cell) ∙ is));
-        scanned = scans_of (λ scan. IsMarked new scan.cell) (λ p scan is. same_marked scan.cell ∙ wave.retained.scanned p scan is);
-        buffered = λ p cell scan is. scans_of (λ scan. Contains scan.buffer cell → IsTrue scan (new region.Structure scan.cell) → (cycle_span layout longer).link scan.cell cell)
-            (λ p scan is at holds. (Growing.cycle_span-push layout log (call_of me op reply took) refl).links scan.cell cell (wave.retained.buffered p cell scan is at (s.truer p scan is holds))) p scan is;
+        marked = λ marks cell within is.
+            retained_longer cell (wave.retained.marked (sym marking ∙ marks) cell within (sym (same_marked cell) ∙ is));
+        scanned = scans_of (λ scan. IsMarked new scan.cell) (λ p scan is. same_marked scan.cell ∙
+            wave.retained.scanned p scan is);
+        buffered = λ p cell scan is. scans_of (λ scan. Contains scan.buffer cell →
+            IsTrue scan (new region.Structure scan.cell) → (cycle_span layout longer).link scan.cell cell)
+            (λ p scan is at holds. (Growing.cycle_span-push layout log (call_of me op reply took) refl).links scan.cell
+                cell (wave.retained.buffered p cell scan is at (s.truer p scan is holds))) p scan is;
       };
       span = record {
         roots = λ marks cell root. elim (Growing.root_cases layout log (call_of me op reply took) refl cell root) [
           | inl earlier ↦ now_of.alive cell (wave.span.roots (sym marking ∙ marks) cell earlier)
           | inr now ↦ root_live cell now
         ];
-        links = λ marks source cell link. elim (Growing.link_cases layout log (call_of me op reply took) refl source cell link) [
-          | inl earlier ↦ (let both = wave.span.links (sym marking ∙ marks) source cell earlier in (now_of.alive source both.0, now_of.alive cell both.1))
+        links = λ marks source cell link.
+            elim (Growing.link_cases layout log (call_of me op reply took) refl source cell link) [
+          | inl earlier ↦ (let both = wave.span.links (sym marking ∙ marks) source cell earlier in
+              (now_of.alive source both.0, now_of.alive cell both.1))
           | inr now ↦ link_ends after source cell now_of.refs now
         ];
-        triples = λ marks table key cell triple. elim (Growing.triple_cases layout log (call_of me op reply took) refl table key cell triple) [
+        triples = λ marks table key cell triple.
+            elim (Growing.triple_cases layout log (call_of me op reply took) refl table key cell triple) [
           | inl earlier ↦ now_of.alive cell (wave.span.triples (sym marking ∙ marks) table key cell earlier)
           | inr now ↦ now_of.refs.in_pairs table key cell now.is_live now.has_pair
         ];
-        twins = λ marks one other twin. elim (Growing.twin_cases layout log (call_of me op reply took) refl one other twin) [
-          | inl earlier ↦ (let both = wave.span.twins (sym marking ∙ marks) one other earlier in (now_of.alive one both.0, now_of.alive other both.1))
+        twins = λ marks one other twin.
+            elim (Growing.twin_cases layout log (call_of me op reply took) refl one other twin) [
+          | inl earlier ↦ (let both = wave.span.twins (sym marking ∙ marks) one other earlier in
+              (now_of.alive one both.0, now_of.alive other both.1))
           | inr now ↦ (now.one_is_live, now.other_is_live)
         ];
       };
@@ -282,23 +349,32 @@ module _ (layout : Layout) (shapes : ShapeLists) (old : Heap) (part : ℕ → Vi
         counted = λ marks.
             let was = wave.counted.counted (sym marking ∙ marks) in
             let sums = total_below-put (counted_in (old region.Period 0)) part me w parties s.inside in
-            let same : counted_in (old region.Period 0) w ≡ counted_in (old region.Period 0) (part me) = ap (λ (n : ℕ). if n == old region.Period 0 then w.visits else 0) s.begun ∙ ap {B = ℕ} (λ (n : ℕ). if (part me).begun == old region.Period 0 then n else 0) s.visits in
+            let same : counted_in (old region.Period 0) w ≡ counted_in (old region.Period 0) (part me) =
+                ap (λ (n : ℕ). if n == old region.Period 0 then w.visits else 0) s.begun ∙
+                ap {B = ℕ} (λ (n : ℕ). if (part me).begun == old region.Period 0 then n else 0) s.visits in
             let period = ap (λ (n : ℕ). total (counted_in n) (put_at part me w)) s.period in
             let more = Growing.visits-push layout log (call_of me op reply took) refl in
-            let few = count_where-le (λ c. is_black new c && not (is_born_in_cycle longer c)) (λ c. is_black old c && not (is_born_in_cycle log c)) (cell_count layout) (λ c. fewer c) in
+            let few = count_where-le (λ c. is_black new c && not (is_born_in_cycle longer c)) (λ c.
+                is_black old c && not (is_born_in_cycle log c)) (cell_count layout) (λ c. fewer c) in
             omega (arith, was, sums, same, more, few, period);
       };
       scans = record { knows = scans_of (λ scan. ScanKnows layout new after scan) now_of.scans };
       grows = record {
         beyond = λ marks source n cell link past. elim (now_of.beyond (sym marking ∙ marks) source n cell link past) [
           | inl mine ↦ (me, subst (λ (u : View). GrowsAndOwes u source) (sym (put_here part me w)) mine)
-          | inr was ↦ (let (p, g) = wave.grows.beyond (sym marking ∙ marks) source n cell was.0 was.1 in (p, put_at_elim (λ p u. GrowsAndOwes (part p) source → GrowsAndOwes u source) part me w (s.grows source) (λ p apart g. g) p g))
+          | inr was ↦ (let (p, g) = wave.grows.beyond (sym marking ∙ marks) source n cell was.0 was.1 in
+              (p, put_at_elim (λ p u. GrowsAndOwes (part p) source → GrowsAndOwes u source) part me w (s.grows source)
+              (λ p apart g. g) p g))
         ];
       };
-      growths = record { knows = put_at_elim (λ p u. GrowthKnows new after p u u.growth) part me w now_of.growth now_of.growths };
+      growths = record { knows = put_at_elim (λ p u. GrowthKnows new after p u u.growth) part me w now_of.growth
+          now_of.growths };
       targets = record {
-        right = λ p scan target is. scans_of (λ scan. scan.target ≡ Some target → (target.cell < cell_count layout) × ((new region.Colour target.cell ≡ target.word) ⊎ IsMarked new target.cell))
-            (λ p scan is aims. let was = wave.targets.right p scan target is aims in (was.0, elim was.1 [ inl same ↦ inl (s.uncalled region.Colour target.cell refl ∙ same) | inr now ↦ inr (same_marked target.cell ∙ now) ])) p scan is;
+        right = λ p scan target is. scans_of (λ scan. scan.target ≡ Some target → (target.cell < cell_count layout) ×
+            ((new region.Colour target.cell ≡ target.word) ⊎ IsMarked new target.cell))
+            (λ p scan is aims. let was = wave.targets.right p scan target is aims in
+                (was.0, elim was.1 [ inl same ↦ inl (s.uncalled region.Colour target.cell refl ∙ same) | inr now ↦
+                inr (same_marked target.cell ∙ now) ])) p scan is;
       };
       parked = record {
         held = each_put (λ p u. u.runs ≡ false → u.held ≡ []) part me w stopped wave.parked.held;
@@ -316,7 +392,8 @@ module _ (layout : Layout) (shapes : ShapeLists) (old : Heap) (part : ℕ → Vi
         stopped is = let runs = s.still_runs in absurd (cc)
 
         own_longer : Rattle.std.specs.Prelude.filter (λ (event : Event). is_call_of me event.entry) longer ≡ w.mine
-        own_longer = Growing.own_calls-push log me op reply took ∙ ap (λ (l : List Event). l ++ call_of me op reply took ∷ []) (wave.known.own me) ∙ sym s.mine
+        own_longer = Growing.own_calls-push log me op reply took ∙
+            ap (λ (l : List Event). l ++ call_of me op reply took ∷ []) (wave.known.own me) ∙ sym s.mine
 
         was_at_hand : (cell : ℕ) → IsAtHand w cell → IsAtHand (part me) cell
         was_at_hand cell (held is) = held (subst (λ (l : List ℕ). Contains l cell) s.held is)
@@ -327,52 +404,64 @@ module _ (layout : Layout) (shapes : ShapeLists) (old : Heap) (part : ℕ → Vi
         none_full block moment is = nothing_in (record { block = block; moment = moment }) is
 
         nothing_known : {X : Type 0} (at : Region) (index word : ℕ) → Contains w.known (owed_word at index word) → X
-        nothing_known at index word is = absurd (nothing_in (owed_word at index word) (subst (λ (l : List Owed). Contains l (owed_word at index word)) s.known is))
+        nothing_known at index word is =
+            absurd (nothing_in (owed_word at index word)
+            (subst (λ (l : List Owed). Contains l (owed_word at index word)) s.known is))
 
         root_live : (cell : ℕ) → IsRoot after cell → IsLive after cell
         root_live cell (in_register who register active is) = now_of.refs.in_registers who register cell active is
         root_live cell (claimed who at) = now_of.refs.claimed who cell at
         root_live cell (in_handle handle is) = now_of.refs.in_strong handle cell is
 
-        fewer : (c : ℕ) → (is_black new c && not (is_born_in_cycle longer c)) ≡ true → (is_black old c && not (is_born_in_cycle log c)) ≡ true
+        fewer : (c : ℕ) → (is_black new c && not (is_born_in_cycle longer c)) ≡ true →
+            (is_black old c && not (is_born_in_cycle log c)) ≡ true
         fewer c both =
             let parts = and_parts (is_black new c) (not (is_born_in_cycle longer c)) both in
             and_from (is_black old c) (not (is_born_in_cycle log c)) (sym (same_black c) ∙ parts.0) (not_born parts.1)
           where
             not_born : not (is_born_in_cycle longer c) ≡ true → not (is_born_in_cycle log c) ≡ true
             not_born is = elim (cases_Bool (is_born_in_cycle log c)) [
-              | inl yes_born ↦ (let also = Growing.born-old layout log (call_of me op reply took) refl c yes_born in absurd (cc))
+              | inl yes_born ↦ (let also = Growing.born-old layout log (call_of me op reply took) refl c yes_born in
+                  absurd (cc))
               | inr isnt ↦ ap not isnt
             ]
 
         born_after : RunningBornIsMarked layout new (put_at part me w) longer
         born_after = record {
-          born = λ marks cell within since. elim (Growing.born-new layout log (call_of me op reply took) refl cell since) [
+          born = λ marks cell within since.
+              elim (Growing.born-new layout log (call_of me op reply took) refl cell since) [
             | inl earlier ↦ elim (wave.born.born (sym marking ∙ marks) cell within earlier) [
               | inl is ↦ inl (same_marked cell ∙ is)
               | inr owes ↦ inr (carried cell owes.0 owes.1)
             ]
-            | inr now ↦ inr (me, subst (λ (u : View). OwesColour u.duty cell) (sym (put_here part me w)) (s.born cell now))
+            | inr now ↦ inr (me, subst (λ (u : View). OwesColour u.duty cell) (sym (put_here part me w))
+                (s.born cell now))
           ];
-          owed = λ marks. put_at_elim (λ p u. (cell : ℕ) → OwesColour u.duty cell → AwaitsColour layout new longer p cell) part me w (s.awaits (sym marking ∙ marks))
+          owed = λ marks. put_at_elim (λ p u. (cell : ℕ) → OwesColour u.duty cell →
+              AwaitsColour layout new longer p cell) part me w (s.awaits (sym marking ∙ marks))
               (λ p apart cell owes. other_awaits p cell apart (wave.born.owed (sym marking ∙ marks) p cell owes));
-          alive = each_put (λ p u. (cell : ℕ) → OwesColour u.duty cell → IsLive after cell) part me w now_of.awaited (λ p cell owes. now_of.alive cell (wave.born.alive p cell owes));
+          alive = each_put (λ p u. (cell : ℕ) → OwesColour u.duty cell → IsLive after cell) part me w now_of.awaited
+              (λ p cell owes. now_of.alive cell (wave.born.alive p cell owes));
           owner = s.owner;
-          once = put_at_elim (λ p u. (cell : ℕ) → OwesColour u.duty cell → s.owner cell ≡ p) part me w s.once (λ p apart cell. s.once_others p cell apart);
+          once = put_at_elim (λ p u. (cell : ℕ) → OwesColour u.duty cell → s.owner cell ≡ p) part me w s.once
+              (λ p apart cell. s.once_others p cell apart);
         }
           where
             -- a live cell's link, as the graph has it
-            place_of_link : (source cell : ℕ) → IsLink after source cell → (place : Place) × LinkAt after source place cell
+            place_of_link : (source cell : ℕ) → IsLink after source cell → (place : Place) ×
+                LinkAt after source place cell
             place_of_link source cell (in_slot n alive is) = (slot n, (alive, is))
             place_of_link source cell (in_property n alive below is) = (property n, (alive, below, is))
 
-            other_awaits : (p cell : ℕ) → p ≢ me → AwaitsColour layout old log p cell → AwaitsColour layout new longer p cell
+            other_awaits : (p cell : ℕ) → p ≢ me → AwaitsColour layout old log p cell →
+                AwaitsColour layout new longer p cell
             other_awaits p cell apart a = let h = now_of.hidden p cell apart a.alive a.hidden in record {
               is_new = Growing.born-old layout log (call_of me op reply took) refl cell a.is_new;
               alive = now_of.alive cell a.alive;
               white = same_marked cell ∙ a.white;
               kept = retained_longer cell a.kept;
-              alone = λ source link. elim (Growing.link_cases layout log (call_of me op reply took) refl source cell link) [
+              alone = λ source link. elim (Growing.link_cases layout log (call_of me op reply took) refl source cell
+                  link) [
                 | inl earlier ↦ a.alone source earlier
                 | inr now ↦ (let (place, link) = place_of_link source cell now in h.linked source place link)
               ];

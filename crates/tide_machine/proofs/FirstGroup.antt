@@ -23,7 +23,8 @@ use Rattle.tide_machine.proofs.Resting.{rest_step, stop}
 use Rattle.tide_machine.proofs.Activating.{begin}
 
 -- one that doesn't run rests
-pub parked_rests : (layout : Layout) (shapes : ShapeLists) (w : World) (me : ℕ) → RunningWave layout shapes w → (w.part me).runs ≡ false → Rests (w.part me)
+pub parked_rests : (layout : Layout) (shapes : ShapeLists) (w : World) (me : ℕ) → RunningWave layout shapes w →
+    (w.part me).runs ≡ false → Rests (w.part me)
 parked_rests layout shapes w me wave parked = record {
   held = wave.parked.held me parked;
   scan = wave.parked.scan me parked;
@@ -50,39 +51,55 @@ join layout shapes w me inside wave t may =
     (rest_step layout shapes w.heap w.part w.log me inside wave (parked_rests layout shapes w me wave may.rests)
     t.seen (w.part me).period t.period t.run t.cycle t.marks (inr (may.told, may.own)))
 
-pub activate : (layout : Layout) (shapes : ShapeLists) (w : World) (me : ℕ) → me < parties → RunningWave layout shapes w →
+pub activate : (layout : Layout) (shapes : ShapeLists) (w : World) (me : ℕ) → me < parties →
+    RunningWave layout shapes w →
     MayActivate w me → RunningWave layout shapes (stepped layout shapes w me Activate)
 activate layout shapes w me inside wave may =
     load_same layout shapes w.heap region.Period 0 _ w.log
     (begin layout shapes w me inside wave may.rests may.of_part may.marks may.cycle)
 
-pub store_stopped : (layout : Layout) (shapes : ShapeLists) (w : World) (me : ℕ) → me < parties → RunningWave layout shapes w →
-    (period : ℕ) → MayStoreStopped w me period → RunningWave layout shapes (stepped layout shapes w me (StoreStopped period))
+pub store_stopped : (layout : Layout) (shapes : ShapeLists) (w : World) (me : ℕ) → me < parties →
+    RunningWave layout shapes w →
+    (period : ℕ) → MayStoreStopped w me period →
+        RunningWave layout shapes (stepped layout shapes w me (StoreStopped period))
 store_stopped layout shapes w me inside wave period may =
     stop layout shapes w.heap w.part w.log me inside wave may.runs may.rests _ period
 
 -- each kind of the first group
-pub first_group : (layout : Layout) (shapes : ShapeLists) (w : World) (me : ℕ) → me < parties → RunningWave layout shapes w →
-    (kind : Kind) → is_of_first_group kind ≡ true → IsAllowed layout shapes w me kind → RunningWave layout shapes (stepped layout shapes w me kind)
+pub first_group : (layout : Layout) (shapes : ShapeLists) (w : World) (me : ℕ) → me < parties →
+    RunningWave layout shapes w →
+    (kind : Kind) → is_of_first_group kind ≡ true → IsAllowed layout shapes w me kind →
+        RunningWave layout shapes (stepped layout shapes w me kind)
 first_group layout shapes w me inside wave Split is may = split layout shapes w me inside wave may
 first_group layout shapes w me inside wave (Join ticket) is may = join layout shapes w me inside wave ticket may
 first_group layout shapes w me inside wave Activate is may = activate layout shapes w me inside wave may
-first_group layout shapes w me inside wave (StoreStopped period) is may = store_stopped layout shapes w me inside wave period may
+first_group layout shapes w me inside wave (StoreStopped period) is may =
+    store_stopped layout shapes w me inside wave period may
 first_group layout shapes w me inside wave (Retire (Some o)) is may = retire layout shapes w me inside wave o may
 first_group layout shapes w me inside wave (Retire None) is may = absurd may
-first_group layout shapes w me inside wave (LoadRegister register) is may = load_nothing layout shapes w me wave region.Registers _
+first_group layout shapes w me inside wave (LoadRegister register) is may =
+    load_nothing layout shapes w me wave region.Registers _
 first_group layout shapes w me inside wave (StoreRegister register word None) is may =
     pay_register layout shapes w me inside wave may.0.runs register word may.1
-first_group layout shapes w me inside wave (StoreRegister register word (Some o)) is may = store_register layout shapes w me inside wave register word o may
+first_group layout shapes w me inside wave (StoreRegister register word (Some o)) is may =
+    store_register layout shapes w me inside wave register word o may
 first_group layout shapes w me inside wave LoadCall is may = load_nothing layout shapes w me wave region.Call _
-first_group layout shapes w me inside wave (StoreCall word None) is may = store_call_word layout shapes w me inside wave word may
-first_group layout shapes w me inside wave (StoreCall word (Some o)) is may = store_call layout shapes w me inside wave word o may
-first_group layout shapes w me inside wave (LoadStrong handle None) is may = load_nothing layout shapes w me wave region.Strong _
-first_group layout shapes w me inside wave (LoadStrong handle (Some o)) is may = load_strong layout shapes w me inside wave handle o may
+first_group layout shapes w me inside wave (StoreCall word None) is may =
+    store_call_word layout shapes w me inside wave word may
+first_group layout shapes w me inside wave (StoreCall word (Some o)) is may =
+    store_call layout shapes w me inside wave word o may
+first_group layout shapes w me inside wave (LoadStrong handle None) is may =
+    load_nothing layout shapes w me wave region.Strong _
+first_group layout shapes w me inside wave (LoadStrong handle (Some o)) is may =
+    load_strong layout shapes w me inside wave handle o may
 first_group layout shapes w me inside wave (StoreStrong handle word None) is may = absurd may
-first_group layout shapes w me inside wave (StoreStrong handle word (Some o)) is may = store_strong layout shapes w me inside wave handle word o may
-first_group layout shapes w me inside wave (LoadWeak handle None) is may = load_nothing layout shapes w me wave region.Weak _
-first_group layout shapes w me inside wave (LoadWeak handle (Some o)) is may = load_weak layout shapes w me inside wave handle o may
+first_group layout shapes w me inside wave (StoreStrong handle word (Some o)) is may =
+    store_strong layout shapes w me inside wave handle word o may
+first_group layout shapes w me inside wave (LoadWeak handle None) is may =
+    load_nothing layout shapes w me wave region.Weak _
+first_group layout shapes w me inside wave (LoadWeak handle (Some o)) is may =
+    load_weak layout shapes w me inside wave handle o may
 first_group layout shapes w me inside wave (StoreWeak handle word None) is may = absurd may
-first_group layout shapes w me inside wave (StoreWeak handle word (Some o)) is may = store_weak layout shapes w me inside wave handle word o may
+first_group layout shapes w me inside wave (StoreWeak handle word (Some o)) is may =
+    store_weak layout shapes w me inside wave handle word o may
 first_group layout shapes w me inside wave _ is may = absurd (cc)

@@ -20,7 +20,8 @@ use Rattle.tide_words.specs.marking.Colours.{is_marking, is_grey}
 use Rattle.tide_words.specs.marking.Marking.{bits_of}
 
 -- what held of the stepping view's old value, or is shown of its new one, and held of all others, holds of all
-pub each_put : (Q : ℕ → View → Type 0) (part : ℕ → View) (me : ℕ) (w : View) → Q me w → ((p : ℕ) → Q p (part p)) → (p : ℕ) → Q p (put_at part me w p)
+pub each_put : (Q : ℕ → View → Type 0) (part : ℕ → View) (me : ℕ) (w : View) → Q me w → ((p : ℕ) → Q p (part p)) →
+    (p : ℕ) → Q p (put_at part me w p)
 each_put Q part me w mine each = put_at_elim Q part me w mine (λ p other. each p)
 
 -- one view of the function
@@ -37,7 +38,8 @@ total_below-put f part me w zero inside = absurd (omega arith)
 total_below-put f part me w (suc n) inside = elim (cases_eq me n) [
   | inl same ↦
       let below = others n (omega (arith, same)) in
-      let here : f (put_at part me w n) ≡ f w = ap (λ (p : ℕ). f (put_at part me w p)) (sym same) ∙ ap f (put_here part me w) in
+      let here : f (put_at part me w n) ≡ f w = ap (λ (p : ℕ). f (put_at part me w p)) (sym same) ∙
+          ap f (put_here part me w) in
       let old : f (part me) ≡ f (part n) = ap (λ (p : ℕ). f (part p)) same in
       omega (arith, below, here, old)
   | inr apart ↦
@@ -54,20 +56,29 @@ total_below-put f part me w (suc n) inside = elim (cases_eq me n) [
         omega (arith, before, last)
 
 -- what it has seen is as before
-pub known_view : (log : List Event) (part : ℕ → View) (me : ℕ) (w : View) → w.who ≡ (part me).who → (w.seen ≡ (part me).seen) ⊎ (IsPrefix w.seen log × (filter (λ event. is_call_of me event.entry) w.seen ≡ (part me).mine)) → w.mine ≡ (part me).mine →
+pub known_view : (log : List Event) (part : ℕ → View) (me : ℕ) (w : View) → w.who ≡ (part me).who →
+    (w.seen ≡ (part me).seen) ⊎ (IsPrefix w.seen log ×
+    (filter (λ event. is_call_of me event.entry) w.seen ≡ (part me).mine)) → w.mine ≡ (part me).mine →
     IsKnown log part → IsKnown log (put_at part me w)
 known_view log part me w who seen mine known = record {
   who = each_put (λ p u. u.who ≡ p) part me w (who ∙ known.who me) known.who;
-  seen = each_put (λ p u. IsPrefix u.seen log) part me w (elim seen [ inl same ↦ subst (λ (s : List Event). IsPrefix s log) (sym same) (known.seen me) | inr more ↦ more.0 ]) known.seen;
-  own = each_put (λ p u. filter (λ event. is_call_of p event.entry) log ≡ u.mine) part me w (known.own me ∙ sym mine) known.own;
+  seen = each_put (λ p u. IsPrefix u.seen log) part me w
+      (elim seen [ inl same ↦ subst (λ (s : List Event). IsPrefix s log) (sym same) (known.seen me) | inr more ↦
+      more.0 ]) known.seen;
+  own = each_put (λ p u. filter (λ event. is_call_of p event.entry) log ≡ u.mine) part me w (known.own me ∙
+      sym mine) known.own;
   told = each_put (λ p u. filter (λ event. is_call_of p event.entry) u.seen ≡ u.mine) part me w
-      (elim seen [ inl same ↦ ap (filter (λ (event : Event). is_call_of me event.entry)) same ∙ known.told me ∙ sym mine | inr more ↦ more.1 ∙ sym mine ]) known.told;
+      (elim seen [ inl same ↦ ap (filter (λ (event : Event). is_call_of me event.entry)) same ∙ known.told me ∙
+          sym mine | inr more ↦ more.1 ∙ sym mine ]) known.told;
 }
 
 -- each grey cell keeps its one holder
-pub held_view : (layout : Layout) (old new : Heap) (part : ℕ → View) (me : ℕ) (w : View) → me < parties → is_marking new ≡ is_marking old →
-    (is_marking old ≡ true → (cell : ℕ) → cell < cell_count layout → bits_of old cell + holds cell (part me) ≤ (if is_grey old cell then 1 else 0) →
-    bits_of new cell + holds cell w + (if is_grey old cell then 1 else 0) ≡ bits_of old cell + holds cell (part me) + (if is_grey new cell then 1 else 0)) →
+pub held_view : (layout : Layout) (old new : Heap) (part : ℕ → View) (me : ℕ) (w : View) → me < parties →
+    is_marking new ≡ is_marking old →
+    (is_marking old ≡ true → (cell : ℕ) → cell < cell_count layout →
+        bits_of old cell + holds cell (part me) ≤ (if is_grey old cell then 1 else 0) →
+    bits_of new cell + holds cell w + (if is_grey old cell then 1 else 0) ≡ bits_of old cell + holds cell (part me) +
+        (if is_grey new cell then 1 else 0)) →
     RunningGreyIsHeld layout old part → RunningGreyIsHeld layout new (put_at part me w)
 held_view layout old new part me w inside phase balance held = record {
   held = λ marks cell within.
@@ -87,6 +98,8 @@ held_view layout old new part me w inside phase balance held = record {
 
 -- each call word tells what its view says
 pub calls_view : (layout : Layout) (old new : Heap) (part : ℕ → View) (me : ℕ) (w : View) → w.calls ≡ (part me).calls →
-    ((p : ℕ) → new region.Call p ≡ old region.Call p) → CallsAreTold layout old part → CallsAreTold layout new (put_at part me w)
-calls_view layout old new part me w same words told = each_put (λ p u. p < layout.mutators → new region.Call p ≡ u.calls % 2 ^ 64) part me w
+    ((p : ℕ) → new region.Call p ≡ old region.Call p) → CallsAreTold layout old part →
+        CallsAreTold layout new (put_at part me w)
+calls_view layout old new part me w same words told =
+    each_put (λ p u. p < layout.mutators → new region.Call p ≡ u.calls % 2 ^ 64) part me w
     (λ within. words me ∙ told me within ∙ ap (λ (n : ℕ). n % 2 ^ 64) (sym same)) (λ p within. words p ∙ told p within)

@@ -41,7 +41,8 @@ pub FrozenMachine-first : (layout : Layout) (shapes : ShapeLists) → FrozenMach
 FrozenMachine-first layout shapes = record {
   wave = record {
     lawful = IsLawful-nil layout shapes;
-    span = record { roots = λ marks. absurd (cc); links = λ marks. absurd (cc); triples = λ marks. absurd (cc); twins = λ marks. absurd (cc) };
+    span = record { roots = λ marks. absurd (cc); links = λ marks. absurd (cc); triples = λ marks. absurd (cc); twins =
+        λ marks. absurd (cc) };
     marking = Marking-empty layout shapes;
     cycle = omega arith;
     period = refl;
@@ -69,8 +70,11 @@ total_none f zero none = refl
 total_none f (suc n) none = (let before = total_none f n none in let last = none n in omega (arith, before, last))
 
 -- what is retained while a cycle marks is live
-pub retained_is_live : (layout : Layout) (heap : Heap) (log : List Event) → SpanIsLive layout heap log → is_marking heap ≡ true → (cell : ℕ) → IsRetained (cycle_span layout log) no_cell cell → IsLive (state_after layout log) cell
-retained_is_live layout heap log span marks = retained_in_closed (cycle_span layout log) no_cell (IsLive (state_after layout log)) record {
+pub retained_is_live : (layout : Layout) (heap : Heap) (log : List Event) → SpanIsLive layout heap log →
+    is_marking heap ≡ true → (cell : ℕ) → IsRetained (cycle_span layout log) no_cell cell →
+    IsLive (state_after layout log) cell
+retained_is_live layout heap log span marks =
+    retained_in_closed (cycle_span layout log) no_cell (IsLive (state_after layout log)) record {
   roots = span.roots marks;
   further_cells = λ cell none. absurd none;
   links = λ source cell alive link. (span.links marks source cell link).1;
@@ -78,12 +82,15 @@ retained_is_live layout heap log span marks = retained_in_closed (cycle_span lay
   twins = λ one other alive twin. (span.twins marks one other twin).1;
 }
 
-module _ (layout : Layout) (shapes : ShapeLists) (w : World) (wave : RunningWave layout shapes w) (parked : (p : ℕ) → (w.part p).runs ≡ false) where
+module _ (layout : Layout) (shapes : ShapeLists) (w : World) (wave : RunningWave layout shapes w) (parked : (p : ℕ) →
+    (w.part p).runs ≡ false) where
   no_duty : (p : ℕ) → (w.part p).duty ≡ duty.Nothing
   no_duty p = wave.parked.duty p (parked p)
 
   nobody_owes : (p : ℕ) (at : Region) (index word : ℕ) → Owes (w.part p) at index word → ⊥
-  nobody_owes p at index word owes = (let below = (subst (λ (l : List Owed). Contains l (owed_word at index word)) (wave.parked.owed p (parked p)) owes).1 in omega (arith, below))
+  nobody_owes p at index word owes =
+      (let below = (subst (λ (l : List Owed). Contains l (owed_word at index word)) (wave.parked.owed p (parked p))
+      owes).1 in omega (arith, below))
 
   holds_none : (cell p : ℕ) → holds cell (w.part p) ≡ 0
   holds_none cell p =
@@ -97,7 +104,8 @@ module _ (layout : Layout) (shapes : ShapeLists) (w : World) (wave : RunningWave
     | inr answers ↦ subst (ScanExcuses w.heap source place cell) (wave.parked.scan ex.by (parked ex.by)) answers
   ]
 
-  linked : (source cell : ℕ) → is_marking w.heap ≡ true → IsBlack w.heap source → (place : Place) → LinkAt (state_after layout w.log) source place cell → IsMarked w.heap cell
+  linked : (source cell : ℕ) → is_marking w.heap ≡ true → IsBlack w.heap source → (place : Place) →
+      LinkAt (state_after layout w.log) source place cell → IsMarked w.heap cell
   linked source cell marks black place link = elim (cases_Bool (is_marked w.heap cell)) [
     | inl is ↦ is
     | inr isnt ↦ absurd (nobody_excuses source place cell (wave.black.excused marks source place cell link black isnt))
@@ -111,7 +119,8 @@ module _ (layout : Layout) (shapes : ShapeLists) (w : World) (wave : RunningWave
     calls = λ who within. wave.calls who within ∙ ap (λ (n : ℕ). n % 2 ^ 64) (wave.parked.calls who (parked who)
         ∙ ap length (sym (wave.known.own who)) ∙ length-filter (λ (event : Event). is_call_of who event.entry) w.log);
     marking = record {
-      reads = ReadsAs-same layout shapes wave.words.settled w.heap (state_after layout w.log) (λ at read index below. wave.words.same at index read (λ p word owes. nobody_owes p at index word owes)) wave.words.reads;
+      reads = ReadsAs-same layout shapes wave.words.settled w.heap (state_after layout w.log) (λ at read index below.
+          wave.words.same at index read (λ p word owes. nobody_owes p at index word owes)) wave.words.reads;
       references = wave.refs;
       few_cycles = wave.few_cycles;
       colours = wave.colours;
@@ -129,7 +138,8 @@ module _ (layout : Layout) (shapes : ShapeLists) (w : World) (wave : RunningWave
         | in_slot n alive is ↦ linked source cell marks black (slot n) (alive, is)
         | in_property n alive below is ↦ linked source cell marks black (property n) (alive, below, is)
       ];
-      live = λ marks cell within is. retained_is_live layout w.heap w.log wave.span marks cell (wave.retained.marked marks cell within is);
+      live = λ marks cell within is. retained_is_live layout w.heap w.log wave.span marks cell
+          (wave.retained.marked marks cell within is);
     };
     retained = wave.retained.marked;
     span = wave.span;
@@ -141,7 +151,8 @@ module _ (layout : Layout) (shapes : ShapeLists) (w : World) (wave : RunningWave
   }
 
 -- once nobody runs the machine is frozen, with the visits that views count
-pub FrozenMachine-running : (layout : Layout) (shapes : ShapeLists) (w : World) → RunningWave layout shapes w → ((p : ℕ) → (w.part p).runs ≡ false) →
+pub FrozenMachine-running : (layout : Layout) (shapes : ShapeLists) (w : World) → RunningWave layout shapes w →
+    ((p : ℕ) → (w.part p).runs ≡ false) →
     FrozenMachine layout shapes w (total (counted_in (w.heap region.Period 0)) w.part)
 FrozenMachine-running layout shapes w wave parked = record {
   wave = FrozenWith-running layout shapes w wave parked;

@@ -9,27 +9,36 @@ use Rattle.tide_model.specs.Layout.{block_of_cell}
 
 -- the bit of a cell is set, and no other
 pub bit_pushed : (old : ℕ → ℕ) (cell other : ℕ) →
-    bit_at (if block_of_cell other == block_of_cell cell then bit_or (old (block_of_cell cell)) (bit_of cell) else old (block_of_cell other)) (other % 64)
+    bit_at (if block_of_cell other == block_of_cell cell then bit_or (old (block_of_cell cell)) (bit_of cell) else old
+        (block_of_cell other)) (other % 64)
     ≡ (if cell == other then 1 else bit_at (old (block_of_cell other)) (other % 64))
 bit_pushed old cell other = elim (cases_eq (block_of_cell other) (block_of_cell cell)) [
   | inl same ↦
-      let here = ap (λ (b : Bool). bit_at (if b then bit_or (old (block_of_cell cell)) (bit_of cell) else old (block_of_cell other)) (other % 64)) (eq-eqb (block_of_cell other) (block_of_cell cell) same) in
+      let here = ap (λ (b : Bool). bit_at (if b then bit_or (old (block_of_cell cell)) (bit_of cell) else old
+          (block_of_cell other)) (other % 64)) (eq-eqb (block_of_cell other) (block_of_cell cell) same) in
       here ∙ bit_at_or (old (block_of_cell cell)) (bit_of cell) (other % 64) ∙ in_block same
   | inr apart ↦
-      let here = ap (λ (b : Bool). bit_at (if b then bit_or (old (block_of_cell cell)) (bit_of cell) else old (block_of_cell other)) (other % 64)) (ne_eqb (block_of_cell other) (block_of_cell cell) apart) in
-      let not_it = ap {B = ℕ} (λ (b : Bool). if b then 1 else bit_at (old (block_of_cell other)) (other % 64)) (ne_eqb cell other (λ e. apart (ap block_of_cell (sym e)))) in
+      let here = ap (λ (b : Bool). bit_at (if b then bit_or (old (block_of_cell cell)) (bit_of cell) else old
+          (block_of_cell other)) (other % 64)) (ne_eqb (block_of_cell other) (block_of_cell cell) apart) in
+      let not_it = ap {B = ℕ} (λ (b : Bool). if b then 1 else bit_at (old (block_of_cell other)) (other % 64))
+          (ne_eqb cell other (λ e. apart (ap block_of_cell (sym e)))) in
       here ∙ sym not_it
 ]
   where
-    in_block : block_of_cell other ≡ block_of_cell cell → max (bit_at (old (block_of_cell cell)) (other % 64)) (bit_at (bit_of cell) (other % 64)) ≡ (if cell == other then 1 else bit_at (old (block_of_cell other)) (other % 64))
+    in_block : block_of_cell other ≡ block_of_cell cell →
+        max (bit_at (old (block_of_cell cell)) (other % 64)) (bit_at (bit_of cell) (other % 64)) ≡ (if cell ==
+        other then 1 else bit_at (old (block_of_cell other)) (other % 64))
     in_block same = elim (cases_eq cell other) [
       | inl is ↦
-          let one = ap {B = ℕ} (λ (b : Bool). if b then 1 else bit_at (old (block_of_cell other)) (other % 64)) (eq-eqb cell other is) in
-          let set : bit_at (bit_of cell) (other % 64) ≡ 1 = ap (λ (c : ℕ). bit_at (bit_of cell) (c % 64)) (sym is) ∙ bit_at-pow_same (cell % 64) in
+          let one = ap {B = ℕ} (λ (b : Bool). if b then 1 else bit_at (old (block_of_cell other)) (other % 64))
+              (eq-eqb cell other is) in
+          let set : bit_at (bit_of cell) (other % 64) ≡ 1 = ap (λ (c : ℕ). bit_at (bit_of cell) (c % 64)) (sym is) ∙
+              bit_at-pow_same (cell % 64) in
           let few = bit_at-lt (old (block_of_cell cell)) (other % 64) in
           omega (arith, one, set, few)
       | inr apart ↦
-          let not_it = ap {B = ℕ} (λ (b : Bool). if b then 1 else bit_at (old (block_of_cell other)) (other % 64)) (ne_eqb cell other apart) in
+          let not_it = ap {B = ℕ} (λ (b : Bool). if b then 1 else bit_at (old (block_of_cell other)) (other % 64))
+              (ne_eqb cell other apart) in
           let clear = bit_at-pow_other (cell % 64) (other % 64) (λ e. apart (omega (arith, e, same))) in
           let word = ap (λ (b : ℕ). bit_at (old b) (other % 64)) same in
           omega (arith, not_it, clear, word)

@@ -49,14 +49,17 @@ module _ (layout : Layout) (log : List Event) (e : Event) (goes_on : is_begin e.
 
   -- what stands at a moment of the cycle stood at one before, or stands now
   earlier : (P : State → Type 0) →
-      (moment : ℕ) × (start (log ++ e ∷ []) ≤ moment) × (moment ≤ length (log ++ e ∷ [])) × P (state_at layout (log ++ e ∷ []) moment) →
-      ((moment : ℕ) × (start log ≤ moment) × (moment ≤ length log) × P (state_at layout log moment)) ⊎ P (state_after layout (log ++ e ∷ []))
+      (moment : ℕ) × (start (log ++ e ∷ []) ≤ moment) × (moment ≤ length (log ++ e ∷ [])) ×
+          P (state_at layout (log ++ e ∷ []) moment) →
+      ((moment : ℕ) × (start log ≤ moment) × (moment ≤ length log) × P (state_at layout log moment)) ⊎
+          P (state_after layout (log ++ e ∷ []))
   earlier P (moment, from, to, holds) = elim (cases_eq moment (length (log ++ e ∷ []))) [
     | inl is ↦ inr (subst P (ap (state_at layout (log ++ e ∷ [])) is ∙ state_at-last layout (log ++ e ∷ [])) holds)
     | inr isnt ↦
         let l = length-push log e in
         let before : moment ≤ length log = omega (arith, l, to, isnt) in
-        inl (moment, subst (λ (s : ℕ). s ≤ moment) start_same from, before, subst P (state_at-push layout log e moment before) holds)
+        inl (moment, subst (λ (s : ℕ). s ≤ moment) start_same from, before,
+            subst P (state_at-push layout log e moment before) holds)
   ]
 
   -- the span takes nothing back
@@ -91,7 +94,8 @@ module _ (layout : Layout) (log : List Event) (e : Event) (goes_on : is_begin e.
   visits-push = visits_since-push is_begin log e goes_on
 
   -- who was born in the cycle: those that were, and the one that is
-  born_now : (cell : ℕ) → is_born_in_cycle (log ++ e ∷ []) cell ≡ (is_born_in_cycle log cell || (is_birth_of cell e.entry || false))
+  born_now : (cell : ℕ) → is_born_in_cycle (log ++ e ∷ []) cell ≡
+      (is_born_in_cycle log cell || (is_birth_of cell e.entry || false))
   born_now cell = ap (list_any (λ event. is_birth_of cell event.entry)) (since-push is_begin log e goes_on)
       ∙ list_any-append (λ event. is_birth_of cell event.entry) (since is_begin log) (e ∷ [])
 
@@ -99,7 +103,8 @@ module _ (layout : Layout) (log : List Event) (e : Event) (goes_on : is_begin e.
   born-old cell is = born_now cell ∙ ap (λ (b : Bool). b || (is_birth_of cell e.entry || false)) is
 
   pub born_here : (cell : ℕ) → is_birth_of cell e.entry ≡ true → is_born_in_cycle (log ++ e ∷ []) cell ≡ true
-  born_here cell is = born_now cell ∙ ap (λ (b : Bool). is_born_in_cycle log cell || (b || false)) is ∙ or_true (is_born_in_cycle log cell)
+  born_here cell is = born_now cell ∙ ap (λ (b : Bool). is_born_in_cycle log cell || (b || false)) is ∙
+      or_true (is_born_in_cycle log cell)
     where
       or_true : (b : Bool) → (b || true) ≡ true
       or_true true = refl
@@ -130,7 +135,8 @@ pub own_calls-push : (log : List Event) (who : ℕ) (op : Op) (reply : Reply) (t
     ≡ filter (λ (event : Event). is_call_of who event.entry) log ++ call_of who op reply took ∷ []
 own_calls-push log who op reply took =
     filter-append (λ (event : Event). is_call_of who event.entry) log (call_of who op reply took ∷ [])
-    ∙ ap (λ (b : Bool). filter (λ (event : Event). is_call_of who event.entry) log ++ (if b then call_of who op reply took ∷ [] else []))
+    ∙ ap (λ (b : Bool). filter (λ (event : Event). is_call_of who event.entry) log ++
+        (if b then call_of who op reply took ∷ [] else []))
     (eq-eqb who who refl)
 
 pub other_calls-push : (log : List Event) (who : ℕ) (op : Op) (reply : Reply) (took : Option ℕ) (p : ℕ) → p ≢ who →
@@ -138,7 +144,8 @@ pub other_calls-push : (log : List Event) (who : ℕ) (op : Op) (reply : Reply) 
     ≡ filter (λ (event : Event). is_call_of p event.entry) log
 other_calls-push log who op reply took p apart =
     filter-append (λ (event : Event). is_call_of p event.entry) log (call_of who op reply took ∷ [])
-    ∙ ap (λ (b : Bool). filter (λ (event : Event). is_call_of p event.entry) log ++ (if b then call_of who op reply took ∷ [] else []))
+    ∙ ap (λ (b : Bool). filter (λ (event : Event). is_call_of p event.entry) log ++
+        (if b then call_of who op reply took ∷ [] else []))
     (ne_eqb who p (λ e. apart (sym e)))
     ∙ append-nil (filter (λ (event : Event). is_call_of p event.entry) log)
 

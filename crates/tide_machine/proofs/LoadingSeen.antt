@@ -51,11 +51,14 @@ one_owed : (x y : Owed) → Contains (x ∷ []) y → x ≡ y
 one_owed x y (zero, below, is) = is
 one_owed x y (suc k, below, is) = absurd (omega (arith, below))
 
-module _ (layout : Layout) (shapes : ShapeLists) (w : World) (me : ℕ) (inside : me < parties) (wave : RunningWave layout shapes w) (runs : (w.part me).runs ≡ true)
-    (idle : (w.part me).duty ≡ duty.Nothing) (owes_nothing : (w.part me).owed ≡ []) (grows_not : (w.part me).growth ≡ growth.Nothing)
+module _ (layout : Layout) (shapes : ShapeLists) (w : World) (me : ℕ) (inside : me < parties)
+    (wave : RunningWave layout shapes w) (runs : (w.part me).runs ≡ true)
+    (idle : (w.part me).duty ≡ duty.Nothing) (owes_nothing : (w.part me).owed ≡ [])
+        (grows_not : (w.part me).growth ≡ growth.Nothing)
     (op : Op) (dst : ℕ) (value : Val) (stands : Stands layout shapes w.log (call_of me op (Seen value) None))
     -- it is one that fills a register, and bears nothing
-    (fills : (state : State) → after_call state me op (Seen value) None ≡ put_register state me dst value) (in_registers : dst < layout.registers) (number : HasU32 value)
+    (fills : (state : State) → after_call state me op (Seen value) None ≡ put_register state me dst value)
+        (in_registers : dst < layout.registers) (number : HasU32 value)
     -- another's hidden cell isn't what it sees
     (unseen : (p c : ℕ) → p ≢ me → IsHidden (state_after layout w.log) p c → value ≡ Cell c → ⊥) where
   abbrev state : State
@@ -86,58 +89,84 @@ module _ (layout : Layout) (shapes : ShapeLists) (w : World) (me : ℕ) (inside 
   own_still p _ _ (own_pair t k at one has) = own_pair t k at one has
   own_still p _ _ (own_element c a k at is has) = own_element c a k at is has
 
-  mine_is : (at : Region) (index x : ℕ) → Owes later at index x → owed_word region.Registers idx (val_word value) ≡ owed_word at index x
+  mine_is : (at : Region) (index x : ℕ) → Owes later at index x →
+      owed_word region.Registers idx (val_word value) ≡ owed_word at index x
   mine_is at index x owes = one_owed (owed_word region.Registers idx (val_word value)) (owed_word at index x) owes
 
-  apart_from : (p : ℕ) (at : Region) (index : ℕ) → p ≢ me → IsOwnWord layout state p at index → ((tag at == tag region.Registers) && (index == idx)) ≡ false
+  apart_from : (p : ℕ) (at : Region) (index : ℕ) → p ≢ me → IsOwnWord layout state p at index →
+      ((tag at == tag region.Registers) && (index == idx)) ≡ false
   apart_from p at index apart own = elim (cases_Bool ((tag at == tag region.Registers) && (index == idx))) [
     | inl both ↦
         let parts = and_parts (tag at == tag region.Registers) (index == idx) both in
-        absurd (apart (own_alone layout state (ClaimsAreOwn-lawful layout shapes w.log wave.lawful) wave.refs p me at region.Registers index idx own (own_register dst stands.is_mutator in_registers)
+        absurd (apart (own_alone layout state (ClaimsAreOwn-lawful layout shapes w.log wave.lawful) wave.refs p me at
+            region.Registers index idx own (own_register dst stands.is_mutator in_registers)
         (eqb-true (tag at) (tag region.Registers) parts.0) (eqb-true index idx parts.1)))
     | inr isnt ↦ isnt
   ]
 
-  elsewhere : (p : ℕ) (at : Region) (index : ℕ) → p ≢ me → IsOwnWord layout state p at index → settled at index ≡ wave.words.settled at index
-  elsewhere p at index apart own = ap (λ (b : Bool). if b then val_word value else wave.words.settled at index) (apart_from p at index apart own)
+  elsewhere : (p : ℕ) (at : Region) (index : ℕ) → p ≢ me → IsOwnWord layout state p at index →
+      settled at index ≡ wave.words.settled at index
+  elsewhere p at index apart own = ap (λ (b : Bool). if b then val_word value else wave.words.settled at index)
+      (apart_from p at index apart own)
 
   words_after : RunningWordsRead layout shapes w.heap (put_at w.part me later) after
   words_after = record {
     settled = settled;
-    reads = Reading-register layout shapes wave.words.settled state wave.words.reads me dst value stands.is_mutator in_registers number;
+    reads = Reading-register layout shapes wave.words.settled state wave.words.reads me dst value stands.is_mutator
+        in_registers number;
     same = λ at index read free. elim (cases_Bool ((tag at == tag region.Registers) && (index == idx))) [
       | inl both ↦ absurd (free me (val_word value) (here at index both))
-      | inr isnt ↦ wave.words.same at index read (λ p x owes. free p x (back p at index x owes)) ∙ sym (ap (λ (b : Bool). if b then val_word value else wave.words.settled at index) isnt)
+      | inr isnt ↦ wave.words.same at index read (λ p x owes. free p x (back p at index x owes)) ∙
+          sym (ap (λ (b : Bool). if b then val_word value else wave.words.settled at index) isnt)
     ];
     owed = put_at_elim (λ p u. (at : Region) (index x : ℕ) → Owes u at index x → settled at index ≡ x) w.part me later
-        (λ at index x owes. subst (λ (o : Owed). settled o.region o.index ≡ o.word) (mine_is at index x owes) (write-same wave.words.settled region.Registers idx (val_word value)))
-        (λ p apart at index x owes. elsewhere p at index apart (wave.words.owns p at index x owes) ∙ wave.words.owed p at index x owes);
-    known = put_at_elim (λ p u. (at : Region) (index x : ℕ) → Contains u.known (owed_word at index x) → settled at index ≡ x) w.part me later
+        (λ at index x owes. subst (λ (o : Owed). settled o.region o.index ≡ o.word) (mine_is at index x owes)
+            (write-same wave.words.settled region.Registers idx (val_word value)))
+        (λ p apart at index x owes. elsewhere p at index apart (wave.words.owns p at index x owes) ∙
+            wave.words.owed p at index x owes);
+    known = put_at_elim (λ p u. (at : Region) (index x : ℕ) → Contains u.known (owed_word at index x) →
+        settled at index ≡ x) w.part me later
         (λ at index x is. absurd (let below = is.1 in omega (arith, below)))
-        (λ p apart at index x is. elsewhere p at index apart (wave.kept.owns p at index x is) ∙ wave.words.known p at index x is);
-    owns = put_at_elim (λ p u. (at : Region) (index x : ℕ) → Owes u at index x → IsOwnWord layout after p at index) w.part me later
-        (λ at index x owes. subst (λ (o : Owed). IsOwnWord layout after me o.region o.index) (mine_is at index x owes) (own_register dst stands.is_mutator in_registers))
+        (λ p apart at index x is. elsewhere p at index apart (wave.kept.owns p at index x is) ∙
+            wave.words.known p at index x is);
+    owns = put_at_elim (λ p u. (at : Region) (index x : ℕ) → Owes u at index x → IsOwnWord layout after p at index)
+        w.part me later
+        (λ at index x owes. subst (λ (o : Owed). IsOwnWord layout after me o.region o.index) (mine_is at index x owes)
+            (own_register dst stands.is_mutator in_registers))
         (λ p apart at index x owes. own_still p at index (wave.words.owns p at index x owes));
   }
     where
-      here : (at : Region) (index : ℕ) → ((tag at == tag region.Registers) && (index == idx)) ≡ true → Owes (put_at w.part me later me) at index (val_word value)
+      here : (at : Region) (index : ℕ) → ((tag at == tag region.Registers) && (index == idx)) ≡ true →
+          Owes (put_at w.part me later me) at index (val_word value)
       here at index both =
           let parts = and_parts (tag at == tag region.Registers) (index == idx) both in
           let region_is = tag-injective at region.Registers (eqb-true (tag at) (tag region.Registers) parts.0) in
           let index_is = eqb-true index idx parts.1 in
           subst (λ (u : View). Owes u at index (val_word value)) (sym (put_here w.part me later))
-          (subst (λ (r : Region). Contains (owed_word region.Registers idx (val_word value) ∷ []) (owed_word r index (val_word value))) (sym region_is)
-          (subst (λ (i : ℕ). Contains (owed_word region.Registers idx (val_word value) ∷ []) (owed_word region.Registers i (val_word value))) (sym index_is) (0, omega arith, refl)))
+          (subst (λ (r : Region). Contains (owed_word region.Registers idx (val_word value) ∷ [])
+              (owed_word r index (val_word value))) (sym region_is)
+          (subst (λ (i : ℕ). Contains (owed_word region.Registers idx (val_word value) ∷ [])
+              (owed_word region.Registers i (val_word value))) (sym index_is) (0, omega arith, refl)))
 
-      back : (p : ℕ) (at : Region) (index x : ℕ) → Owes (w.part p) at index x → Owes (put_at w.part me later p) at index x
-      back = put_at_elim (λ p u. (at : Region) (index x : ℕ) → Owes (w.part p) at index x → Owes u at index x) w.part me later
-          (λ at index x owes. absurd (let below = (subst (λ (l : List Owed). Contains l (owed_word at index x)) owes_nothing owes).1 in omega (arith, below))) (λ p apart at index x owes. owes)
+      back : (p : ℕ) (at : Region) (index x : ℕ) → Owes (w.part p) at index x →
+          Owes (put_at w.part me later p) at index x
+      back = put_at_elim (λ p u. (at : Region) (index x : ℕ) → Owes (w.part p) at index x →
+          Owes u at index x) w.part me later
+          (λ at index x owes. absurd (let below =
+              (subst (λ (l : List Owed). Contains l (owed_word at index x)) owes_nothing owes).1 in
+              omega (arith, below))) (λ p apart at index x owes. owes)
 
-  growth_after : (p : ℕ) (g : Growth) → GrowthKnows w.heap state p (w.part p) g → GrowthKnows w.heap after p (w.part p) g
+  growth_after : (p : ℕ) (g : Growth) → GrowthKnows w.heap state p (w.part p) g →
+      GrowthKnows w.heap after p (w.part p) g
   growth_after p growth.Nothing k = tt
-  growth_after p (growth.Filling c array a b) k = (record { claimed = k.0.claimed; stands = k.0.stands; even = k.0.even; fresh = k.0.fresh; more = k.0.more; owes = k.0.owes }, k.1)
-  growth_after p (growth.Nuked c array a b) k = (record { claimed = k.0.claimed; stands = k.0.stands; even = k.0.even; fresh = k.0.fresh; more = k.0.more; owes = k.0.owes }, k.1)
-  growth_after p (growth.Stored c array a b) k = record { claimed = k.claimed; stands = k.stands; even = k.even; fresh = k.fresh; more = k.more; owes = k.owes }
+  growth_after p (growth.Filling c array a b) k =
+      (record { claimed = k.0.claimed; stands = k.0.stands; even = k.0.even; fresh = k.0.fresh; more = k.0.more; owes =
+      k.0.owes }, k.1)
+  growth_after p (growth.Nuked c array a b) k =
+      (record { claimed = k.0.claimed; stands = k.0.stands; even = k.0.even; fresh = k.0.fresh; more = k.0.more; owes =
+      k.0.owes }, k.1)
+  growth_after p (growth.Stored c array a b) k = record { claimed = k.claimed; stands = k.stands; even = k.even; fresh =
+      k.fresh; more = k.more; owes = k.owes }
 
   link_before : (x : ℕ) (place : Place) (target : ℕ) → LinkAt after x place target → LinkAt state x place target
   link_before x (slot n) target link = link
@@ -153,7 +182,8 @@ module _ (layout : Layout) (shapes : ShapeLists) (w : World) (me : ℕ) (inside 
   of_state : OfState layout shapes w.heap w.part w.log me wave op (Seen value) None w.heap later after
   of_state = record {
     words = words_after;
-    refs = subst RefsAreLive (fills state) (RefsAreLive-call layout shapes state me op (Seen value) None wave.refs stands.is_active stands.answers);
+    refs = subst RefsAreLive (fills state)
+        (RefsAreLive-call layout shapes state me op (Seen value) None wave.refs stands.is_active stands.answers);
     alive = λ x is. is;
     arrays = λ array is. is;
     scans = λ p scan is. let k = wave.scans.knows p scan is in record {
@@ -187,7 +217,8 @@ module _ (layout : Layout) (shapes : ShapeLists) (w : World) (me : ℕ) (inside 
   }
 
   -- it serves each load that answers what it sees: of a slot, a handle, a pair and an element
-  pub load_seen : RunningWave layout shapes (record { heap = w.heap; part = put_at w.part me later; log = w.log ++ call_of me op (Seen value) None ∷ [] })
+  pub load_seen : RunningWave layout shapes (record { heap = w.heap; part = put_at w.part me later; log =
+      w.log ++ call_of me op (Seen value) None ∷ [] })
   load_seen = call_step layout shapes w.heap w.part w.log me wave op (Seen value) None w.heap later record {
     inside = inside;
     runs = runs;
@@ -219,5 +250,6 @@ module _ (layout : Layout) (shapes : ShapeLists) (w : World) (me : ℕ) (inside 
     owner = wave.born.owner;
     once = λ c owes. absurd (no_colour c owes);
     once_others = λ p c apart. wave.born.once p c;
-    state = subst (OfState layout shapes w.heap w.part w.log me wave op (Seen value) None w.heap later) (sym (fills state)) of_state;
+    state = subst (OfState layout shapes w.heap w.part w.log me wave op (Seen value) None w.heap later)
+        (sym (fills state)) of_state;
   }

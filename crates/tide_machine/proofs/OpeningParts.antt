@@ -51,7 +51,8 @@ use Rattle.tide_words.specs.marking.Colours.{is_black}
 use Rattle.tide_words.specs.marking.Marking.{times_in}
 
 module _ (layout : Layout) (shapes : ShapeLists) (heap : Heap) (part : ℕ → View) (before : List Event) (run : ℕ)
-    (wave : FrozenWith layout shapes heap before 0) (known : IsKnown before part) (empty : ParkedIsEmpty part) (parked : (p : ℕ) → (part p).runs ≡ false) where
+    (wave : FrozenWith layout shapes heap before 0) (known : IsKnown before part) (empty : ParkedIsEmpty part)
+        (parked : (p : ℕ) → (part p).runs ≡ false) where
   abbrev number : ℕ
   number = open_count before + 1
 
@@ -73,7 +74,8 @@ module _ (layout : Layout) (shapes : ShapeLists) (heap : Heap) (part : ℕ → V
   born_same : (cell : ℕ) → is_born_in_cycle log cell ≡ is_born_in_cycle before cell
   born_same = Growing.born-same layout before (plain (Open number run)) refl (λ cell. refl)
 
-  linked : (source cell : ℕ) (place : Place) → LinkAt (state_after layout before) source place cell → IsLink (state_after layout before) source cell
+  linked : (source cell : ℕ) (place : Place) → LinkAt (state_after layout before) source place cell →
+      IsLink (state_after layout before) source cell
   linked source cell (slot n) link = in_slot n link.0 link.1
   linked source cell (property n) link = in_property n link.0 link.1 link.2
 
@@ -83,34 +85,48 @@ module _ (layout : Layout) (shapes : ShapeLists) (heap : Heap) (part : ℕ → V
     known = record {
       who = known.who;
       seen = λ p. prefix_trans (part p).seen before log (known.seen p) (prefix_push before (plain (Open number run)));
-      own = λ p. filter-append (λ (event : Event). is_call_of p event.entry) before (plain (Open number run) ∷ []) ∙ append-nil (filter (λ (event : Event). is_call_of p event.entry) before) ∙ known.own p;
+      own = λ p. filter-append (λ (event : Event). is_call_of p event.entry) before (plain (Open number run) ∷ []) ∙
+          append-nil (filter (λ (event : Event). is_call_of p event.entry) before) ∙ known.own p;
       told = known.told;
     };
     numbers = record {
       cycles = wave.cycle ∙ sym (Growing.begin_count-push layout before (plain (Open number run)) refl);
-      periods = (let counted = count-push (λ e. is_open e.entry) before (plain (Open number run)) in omega (arith, counted));
+      periods = (let counted = count-push (λ e. is_open e.entry) before (plain (Open number run)) in
+          omega (arith, counted));
       told = λ p runs. (let rests = parked p in absurd (cc));
     };
     words = record {
       settled = new;
-      reads = subst (ReadsAs layout shapes new) (sym same_state) (ReadsAs-write_unread layout shapes heap (state_after layout before) region.Period 0 number refl wave.marking.reads);
+      reads = subst (ReadsAs layout shapes new) (sym same_state)
+          (ReadsAs-write_unread layout shapes heap (state_after layout before) region.Period 0 number refl
+          wave.marking.reads);
       same = λ at index read free. refl;
-      owed = λ p at index word owes. absurd (nothing (part p).owed (owed_word at index word) (empty.owed p (parked p)) owes);
-      known = λ p at index word is. absurd (nothing (part p).known (owed_word at index word) (empty.known p (parked p)) is);
-      owns = λ p at index word owes. absurd (nothing (part p).owed (owed_word at index word) (empty.owed p (parked p)) owes);
+      owed = λ p at index word owes. absurd
+          (nothing (part p).owed (owed_word at index word) (empty.owed p (parked p)) owes);
+      known = λ p at index word is. absurd
+          (nothing (part p).known (owed_word at index word) (empty.known p (parked p)) is);
+      owns = λ p at index word owes. absurd
+          (nothing (part p).owed (owed_word at index word) (empty.owed p (parked p)) owes);
     };
-    calls_alone = λ event at. absurd (nothing_in event (subst (λ (l : List Event). Contains l event) (since-none is_open before (plain (Open number run)) refl) at));
+    calls_alone = λ event at. absurd
+        (nothing_in event (subst (λ (l : List Event). Contains l event)
+        (since-none is_open before (plain (Open number run)) refl) at));
     calls = λ p within. wave.calls p within ∙ ap (λ (n : ℕ). n % 2 ^ 64)
-        (sym (length-filter (λ (event : Event). is_call_of p event.entry) before) ∙ ap length (known.own p) ∙ sym (empty.calls p (parked p)));
+        (sym (length-filter (λ (event : Event). is_call_of p event.entry) before) ∙ ap length (known.own p) ∙
+            sym (empty.calls p (parked p)));
     few_cycles = wave.marking.few_cycles;
     refs = subst RefsAreLive (sym same_state) wave.marking.references;
     colours = wave.marking.colours;
     hands = record { cells = λ p cell at. absurd (at_hand p cell at); arrays = λ p array scan is. no_scan p scan is };
     kept = record {
-      reads = λ p at index word is. absurd (nothing (part p).known (owed_word at index word) (empty.known p (parked p)) is);
-      owns = λ p at index word is. absurd (nothing (part p).known (owed_word at index word) (empty.known p (parked p)) is);
-      known = λ p at index word is. absurd (nothing (part p).known (owed_word at index word) (empty.known p (parked p)) is);
-      full = λ p block moment is. absurd (nothing (part p).full (record { block = block; moment = moment }) (empty.full p (parked p)) is);
+      reads = λ p at index word is. absurd
+          (nothing (part p).known (owed_word at index word) (empty.known p (parked p)) is);
+      owns = λ p at index word is. absurd
+          (nothing (part p).known (owed_word at index word) (empty.known p (parked p)) is);
+      known = λ p at index word is. absurd
+          (nothing (part p).known (owed_word at index word) (empty.known p (parked p)) is);
+      full = λ p block moment is. absurd (nothing (part p).full (record { block = block; moment = moment })
+          (empty.full p (parked p)) is);
     };
     held = record {
       held = λ marks cell within.
@@ -120,33 +136,47 @@ module _ (layout : Layout) (shapes : ShapeLists) (heap : Heap) (part : ℕ → V
           omega (arith, once, none, no_list);
     };
     rests = record {
-      words = λ idle block within. (let n = wave.marking.held.no_words idle block within in record { shared = n.shared; mutator = n.mutator; race = n.race });
+      words = λ idle block within. (let n = wave.marking.held.no_words idle block within in
+          record { shared = n.shared; mutator = n.mutator; race = n.race });
       held = λ idle p. empty.held p (parked p);
       scans = λ idle p. empty.scan p (parked p);
       duties = λ idle p. subst IsCalm (sym (empty.duty p (parked p))) tt;
     };
-    black = record { excused = λ marks source place cell link black white. (let is = wave.marking.black marks source cell black (linked source cell place (subst (λ (t : State). LinkAt t source place cell) same_state link)) in absurd (cc)) };
+    black = record { excused = λ marks source place cell link black white.
+        (let is = wave.marking.black marks source cell black
+        (linked source cell place (subst (λ (t : State). LinkAt t source place cell) same_state link)) in
+        absurd (cc)) };
     retained = record {
-      marked = λ marks cell within is. retained-push layout before (plain (Open number run)) refl cell (wave.retained marks cell within is);
+      marked = λ marks cell within is. retained-push layout before (plain (Open number run)) refl cell
+          (wave.retained marks cell within is);
       scanned = λ p scan is. no_scan p scan is;
       buffered = λ p cell scan is. no_scan p scan is;
     };
     span = record {
-      roots = λ marks cell root. subst (λ (t : State). IsLive t cell) (sym same_state) (elim (Growing.root_cases layout before (plain (Open number run)) refl cell root) [
+      roots = λ marks cell root. subst (λ (t : State). IsLive t cell) (sym same_state)
+          (elim (Growing.root_cases layout before (plain (Open number run)) refl cell root) [
         | inl earlier ↦ wave.span.roots marks cell earlier
-        | inr now ↦ wave.span.roots marks cell (in_before.roots cell (subst (λ (t : State). IsRoot t cell) same_state now))
+        | inr now ↦ wave.span.roots marks cell
+            (in_before.roots cell (subst (λ (t : State). IsRoot t cell) same_state now))
       ]);
-      links = λ marks source cell link. subst (λ (t : State). IsLive t source × IsLive t cell) (sym same_state) (elim (Growing.link_cases layout before (plain (Open number run)) refl source cell link) [
+      links = λ marks source cell link. subst (λ (t : State). IsLive t source × IsLive t cell) (sym same_state)
+          (elim (Growing.link_cases layout before (plain (Open number run)) refl source cell link) [
         | inl earlier ↦ wave.span.links marks source cell earlier
-        | inr now ↦ wave.span.links marks source cell (in_before.links source cell (subst (λ (t : State). IsLink t source cell) same_state now))
+        | inr now ↦ wave.span.links marks source cell
+            (in_before.links source cell (subst (λ (t : State). IsLink t source cell) same_state now))
       ]);
-      triples = λ marks table key cell triple. subst (λ (t : State). IsLive t cell) (sym same_state) (elim (Growing.triple_cases layout before (plain (Open number run)) refl table key cell triple) [
+      triples = λ marks table key cell triple.
+          subst (λ (t : State). IsLive t cell) (sym same_state)
+          (elim (Growing.triple_cases layout before (plain (Open number run)) refl table key cell triple) [
         | inl earlier ↦ wave.span.triples marks table key cell earlier
-        | inr now ↦ wave.span.triples marks table key cell (in_before.triples table key cell (subst (λ (t : State). IsTriple t table key cell) same_state now))
+        | inr now ↦ wave.span.triples marks table key cell
+            (in_before.triples table key cell (subst (λ (t : State). IsTriple t table key cell) same_state now))
       ]);
-      twins = λ marks one other twin. subst (λ (t : State). IsLive t one × IsLive t other) (sym same_state) (elim (Growing.twin_cases layout before (plain (Open number run)) refl one other twin) [
+      twins = λ marks one other twin. subst (λ (t : State). IsLive t one × IsLive t other) (sym same_state)
+          (elim (Growing.twin_cases layout before (plain (Open number run)) refl one other twin) [
         | inl earlier ↦ wave.span.twins marks one other earlier
-        | inr now ↦ wave.span.twins marks one other (in_before.twins one other (subst (λ (t : State). AreTwins t one other) same_state now))
+        | inr now ↦ wave.span.twins marks one other
+            (in_before.twins one other (subst (λ (t : State). AreTwins t one other) same_state now))
       ]);
     };
     born = record {
@@ -160,19 +190,23 @@ module _ (layout : Layout) (shapes : ShapeLists) (heap : Heap) (part : ℕ → V
       counted = λ marks.
           let was = wave.counted marks in
           let same = entered_same in
-          let few = count_where-le (λ c. is_black heap c && not (is_born_in_cycle log c)) (λ c. is_black heap c && not (is_born_in_cycle before c)) (cell_count layout)
+          let few = count_where-le (λ c. is_black heap c && not (is_born_in_cycle log c)) (λ c.
+              is_black heap c && not (is_born_in_cycle before c)) (cell_count layout)
           (λ c both. subst (λ (b : Bool). (is_black heap c && not b) ≡ true) (born_same c) both) in
           omega (arith, was, same, few);
     };
     scans = record { knows = λ p scan is. no_scan p scan is };
-    grows = record { beyond = λ marks source n cell link past. absurd (told source n cell (subst (λ (t : State). LinkAt t source (property n) cell) same_state link) past) };
-    growths = record { knows = λ p. subst (GrowthKnows new (state_after layout log) p (part p)) (sym (empty.growth p (parked p))) tt };
+    grows = record { beyond = λ marks source n cell link past.
+        absurd (told source n cell (subst (λ (t : State). LinkAt t source (property n) cell) same_state link) past) };
+    growths = record { knows = λ p. subst (GrowthKnows new (state_after layout log) p (part p))
+        (sym (empty.growth p (parked p))) tt };
     targets = record { right = λ p scan target is. no_scan p scan is };
     parked = empty;
   }
     where
       in_before : IsWithin (graph_of (state_after layout before)) (cycle_span layout before)
-      in_before = graph_in_span layout before (moment_after_last (λ event. is_begin event.entry) before) (moment_after_last-le (λ event. is_begin event.entry) before)
+      in_before = graph_in_span layout before (moment_after_last (λ event. is_begin event.entry) before)
+          (moment_after_last-le (λ event. is_begin event.entry) before)
 
       holds_none : (cell p : ℕ) → holds cell (part p) ≡ 0
       holds_none cell p =
@@ -189,7 +223,8 @@ module _ (layout : Layout) (shapes : ShapeLists) (heap : Heap) (part : ℕ → V
       entered_same = (let now = Growing.visits-push layout before (plain (Open number run)) refl in omega (arith, now))
 
       -- the structure's word of a live cell tells all its properties
-      told : (source n cell : ℕ) → LinkAt (state_after layout before) source (property n) cell → count_of (heap region.Structure source) ≤ n → ⊥
+      told : (source n cell : ℕ) → LinkAt (state_after layout before) source (property n) cell →
+          count_of (heap region.Structure source) ≤ n → ⊥
       told source n cell link past =
           let within = live_within layout shapes heap (state_after layout before) source wave.marking.reads link.0 in
           let is = ((wave.marking.reads.parts.cells source within).taken (ap is_free link.0)).keys in
@@ -199,6 +234,9 @@ module _ (layout : Layout) (shapes : ShapeLists) (heap : Heap) (part : ℕ → V
           omega (arith, word, few, below, past)
 
 -- a part is opened
-pub RunningWave-opened : (layout : Layout) (shapes : ShapeLists) (w : World) (run : ℕ) → FrozenMachine layout shapes w 0 →
-    RunningWave layout shapes (record w { heap = write w.heap region.Period 0 (open_count w.log + 1); log = with_open w.log run })
-RunningWave-opened layout shapes w run f = open_part layout shapes w.heap w.part w.log run f.wave f.known f.parked f.stopped
+pub RunningWave-opened : (layout : Layout) (shapes : ShapeLists) (w : World) (run : ℕ) →
+    FrozenMachine layout shapes w 0 →
+    RunningWave layout shapes (record w { heap = write w.heap region.Period 0 (open_count w.log + 1); log =
+        with_open w.log run })
+RunningWave-opened layout shapes w run f =
+    open_part layout shapes w.heap w.part w.log run f.wave f.known f.parked f.stopped

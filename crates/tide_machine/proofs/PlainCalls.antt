@@ -51,10 +51,13 @@ is_changed region.Weak = true
 is_changed region.Claim = true
 is_changed _ = false
 
-module _ (layout : Layout) (shapes : ShapeLists) (w : World) (me : ℕ) (inside : me < parties) (wave : RunningWave layout shapes w) (runs : (w.part me).runs ≡ true)
+module _ (layout : Layout) (shapes : ShapeLists) (w : World) (me : ℕ) (inside : me < parties)
+    (wave : RunningWave layout shapes w) (runs : (w.part me).runs ≡ true)
     (idle : (w.part me).duty ≡ duty.Nothing) (grows_not : (w.part me).growth ≡ growth.Nothing)
-    (op : Op) (reply : Reply) (bears_nothing : (cell : ℕ) → is_birth_of cell (Call me op reply) ≡ false) (stands : Stands layout shapes w.log (call_of me op reply None))
-    (active : ℕ → Bool) (registers : ℕ → ℕ → Val) (claims : ℕ → List ℕ) (strong weak : ℕ → Val) (calls : ℕ) (left : Bool) where
+    (op : Op) (reply : Reply) (bears_nothing : (cell : ℕ) → is_birth_of cell (Call me op reply) ≡ false)
+        (stands : Stands layout shapes w.log (call_of me op reply None))
+    (active : ℕ → Bool) (registers : ℕ → ℕ → Val) (claims : ℕ → List ℕ) (strong weak : ℕ → Val) (calls : ℕ)
+        (left : Bool) where
   abbrev state : State
   state = state_after layout w.log
 
@@ -78,23 +81,35 @@ module _ (layout : Layout) (shapes : ShapeLists) (w : World) (me : ℕ) (inside 
     pub same : (at : Region) (index : ℕ) → is_changed at ≡ false → new at index ≡ w.heap at index
     pub words : RunningWordsRead layout shapes new (put_at w.part me (later owed)) after
     pub told : CallsAreTold layout new (put_at w.part me (later owed))
-    pub kept : (p : ℕ) (at : Region) (index word : ℕ) → p ≢ me → Contains (w.part p).known (owed_word at index word) → new at index ≡ word
+    pub kept : (p : ℕ) (at : Region) (index word : ℕ) → p ≢ me → Contains (w.part p).known (owed_word at index word) →
+        new at index ≡ word
     pub claims_else : (p : ℕ) → p ≢ me → claims p ≡ state.claims p
-    pub hidden : (p c : ℕ) → p ≢ me → IsLive state c → IsHidden state p c → ((who register : ℕ) → who ≢ p → active who ≡ true → registers who register ≡ Cell c → ⊥)
-        × ((handle : ℕ) → strong handle ≡ Cell c → ⊥) × ((handle : ℕ) → weak handle ≡ Cell c → ⊥) × ((who : ℕ) → Contains (claims who) c → ⊥)
+    pub hidden : (p c : ℕ) → p ≢ me → IsLive state c → IsHidden state p c →
+        ((who register : ℕ) → who ≢ p → active who ≡ true → registers who register ≡ Cell c → ⊥)
+        × ((handle : ℕ) → strong handle ≡ Cell c → ⊥) × ((handle : ℕ) → weak handle ≡ Cell c → ⊥) ×
+            ((who : ℕ) → Contains (claims who) c → ⊥)
 
   module _ (new : Heap) (owed : List Owed) (s : ShowsPlain new owed) where
-    own_still : (p : ℕ) (at : Region) (index : ℕ) → p ≢ me → IsOwnWord layout state p at index → IsOwnWord layout after p at index
+    own_still : (p : ℕ) (at : Region) (index : ℕ) → p ≢ me → IsOwnWord layout state p at index →
+        IsOwnWord layout after p at index
     own_still p _ _ apart (own_register r a b) = own_register r a b
-    own_still p _ _ apart (own_structure c at) = own_structure c (subst (λ (l : List ℕ). Contains l c) (sym (s.claims_else p apart)) at)
-    own_still p _ _ apart (own_array c at) = own_array c (subst (λ (l : List ℕ). Contains l c) (sym (s.claims_else p apart)) at)
-    own_still p _ _ apart (own_pair t k at one has) = own_pair t k (subst (λ (l : List ℕ). Contains l t) (sym (s.claims_else p apart)) at) one has
-    own_still p _ _ apart (own_element c a k at is has) = own_element c a k (subst (λ (l : List ℕ). Contains l c) (sym (s.claims_else p apart)) at) is has
+    own_still p _ _ apart (own_structure c at) =
+        own_structure c (subst (λ (l : List ℕ). Contains l c) (sym (s.claims_else p apart)) at)
+    own_still p _ _ apart (own_array c at) =
+        own_array c (subst (λ (l : List ℕ). Contains l c) (sym (s.claims_else p apart)) at)
+    own_still p _ _ apart (own_pair t k at one has) =
+        own_pair t k (subst (λ (l : List ℕ). Contains l t) (sym (s.claims_else p apart)) at) one has
+    own_still p _ _ apart (own_element c a k at is has) =
+        own_element c a k (subst (λ (l : List ℕ). Contains l c) (sym (s.claims_else p apart)) at) is has
 
-    on : (p : ℕ) → p ≢ me → (c a b x : ℕ) → GrowthOn w.heap state p (w.part p) c a b x → GrowthOn new after p (w.part p) c a b x
-    on p apart c a b x g = record { claimed = subst (λ (l : List ℕ). Contains l c) (sym (s.claims_else p apart)) g.claimed; stands = s.same region.Structure c refl ∙ g.stands; even = g.even; fresh = g.fresh; more = g.more; owes = g.owes }
+    on : (p : ℕ) → p ≢ me → (c a b x : ℕ) → GrowthOn w.heap state p (w.part p) c a b x →
+        GrowthOn new after p (w.part p) c a b x
+    on p apart c a b x g = record { claimed =
+        subst (λ (l : List ℕ). Contains l c) (sym (s.claims_else p apart)) g.claimed; stands =
+        s.same region.Structure c refl ∙ g.stands; even = g.even; fresh = g.fresh; more = g.more; owes = g.owes }
 
-    growth_after : (p : ℕ) → p ≢ me → (g : Growth) → GrowthKnows w.heap state p (w.part p) g → GrowthKnows new after p (w.part p) g
+    growth_after : (p : ℕ) → p ≢ me → (g : Growth) → GrowthKnows w.heap state p (w.part p) g →
+        GrowthKnows new after p (w.part p) g
     growth_after p apart growth.Nothing k = tt
     growth_after p apart (growth.Filling c array a b) k = (on p apart c a b a k.0, k.1)
     growth_after p apart (growth.Nuked c array a b) k = (on p apart c a b (a + 1) k.0, k.1)
@@ -113,7 +128,8 @@ module _ (layout : Layout) (shapes : ShapeLists) (w : World) (me : ℕ) (inside 
     of_state : OfState layout shapes w.heap w.part w.log me wave op reply None new (later owed) after
     of_state = record {
       words = s.words;
-      refs = subst RefsAreLive s.becomes (RefsAreLive-call layout shapes state me op reply None wave.refs stands.is_active stands.answers);
+      refs = subst RefsAreLive s.becomes
+          (RefsAreLive-call layout shapes state me op reply None wave.refs stands.is_active stands.answers);
       alive = λ x is. is;
       arrays = λ array is. is;
       scans = λ p scan is. let k = wave.scans.knows p scan is in record {
@@ -121,10 +137,15 @@ module _ (layout : Layout) (shapes : ShapeLists) (w : World) (me : ℕ) (inside 
         array_after = k.array_after;
         room = k.room;
         agreed = k.agreed;
-        grows = λ first e. (let o = ap count_of (structure scan.cell) in let g = k.grows first e in omega (arith, o, g));
-        nuked = λ first e same nuked. ap is_nuked (structure scan.cell) ∙ k.nuked first e (same ∙ ap count_of (structure scan.cell)) nuked;
-        array = λ word has holds. s.same region.Array scan.cell refl ∙ k.array word has (subst (IsStill scan.first) (structure scan.cell) holds);
-        names_live = λ first array place c a b below names. k.names_live first array place c a b below (sym (s.same region.Elements (index_of_element layout array place) refl) ∙ names);
+        grows = λ first e. (let o = ap count_of (structure scan.cell) in let g = k.grows first e in
+            omega (arith, o, g));
+        nuked = λ first e same nuked. ap is_nuked (structure scan.cell) ∙
+            k.nuked first e (same ∙ ap count_of (structure scan.cell)) nuked;
+        array = λ word has holds. s.same region.Array scan.cell refl ∙
+            k.array word has (subst (IsStill scan.first) (structure scan.cell) holds);
+        names_live = λ first array place c a b below names.
+            k.names_live first array place c a b below
+            (sym (s.same region.Elements (index_of_element layout array place) refl) ∙ names);
       };
       links = λ marks x place target link black white. inr (link_before x place target link);
       beyond = λ marks x n target link past. inr (link, subst (λ (word : ℕ). count_of word ≤ n) (structure x) past);
@@ -143,7 +164,8 @@ module _ (layout : Layout) (shapes : ShapeLists) (w : World) (me : ℕ) (inside 
       };
     }
 
-    pub plain_call : RunningWave layout shapes (record { heap = new; part = put_at w.part me (later owed); log = w.log ++ call_of me op reply None ∷ [] })
+    pub plain_call : RunningWave layout shapes (record { heap = new; part = put_at w.part me (later owed); log =
+        w.log ++ call_of me op reply None ∷ [] })
     plain_call = call_step layout shapes w.heap w.part w.log me wave op reply None new (later owed) record {
       inside = inside;
       runs = runs;
@@ -168,18 +190,21 @@ module _ (layout : Layout) (shapes : ShapeLists) (w : World) (me : ℕ) (inside 
       grows = λ c g. record { grows = g.grows; owes = g.owes };
       barrier = λ c owes. owes;
       kept = s.kept;
-      truer = λ p scan is holds. (holds.0, elim holds.1 [ inl agreed ↦ inl agreed | inr still ↦ inr (subst (IsStill scan.first) (structure scan.cell) still) ]);
+      truer = λ p scan is holds. (holds.0, elim holds.1 [ inl agreed ↦ inl agreed | inr still ↦
+          inr (subst (IsStill scan.first) (structure scan.cell) still) ]);
       born_before = λ c owes. no_colour c owes;
       born = λ c born. (let isnt = bears_nothing c in absurd (cc));
       awaits = λ marks c owes. absurd (no_colour c owes);
       owner = wave.born.owner;
       once = λ c owes. absurd (no_colour c owes);
       once_others = λ p c apart. wave.born.once p c;
-      state = subst (OfState layout shapes w.heap w.part w.log me wave op reply None new (later owed)) (sym s.becomes) of_state;
+      state = subst (OfState layout shapes w.heap w.part w.log me wave op reply None new (later owed))
+          (sym s.becomes) of_state;
     }
       where
         not_changed : (at : Region) → is_uncalled at ≡ true → is_changed at ≡ false
-        not_changed at is = elim (cases_Bool (is_changed at)) [ inl changed ↦ absurd (clash at is changed) | inr isnt ↦ isnt ]
+        not_changed at is = elim (cases_Bool (is_changed at)) [ inl changed ↦ absurd (clash at is changed) | inr isnt ↦
+            isnt ]
           where
             clash : (at : Region) → is_uncalled at ≡ true → is_changed at ≡ true → ⊥
             clash region.Active a b = absurd (cc)

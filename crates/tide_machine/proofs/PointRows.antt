@@ -70,7 +70,8 @@ parked-untold : ParkedIsEmpty (alone (record mutator { runs = false; duty = duty
 parked-untold point = (let all = point.calls 0 refl in absurd (omega (arith, all)))
 
 -- a register's word isn't stored, and nobody owes it
-words-unpaid : RunningWordsRead small no_shapes (write busy.heap region.Registers 0 0) (alone mutator) (state_after small busy.log) → ⊥
+words-unpaid : RunningWordsRead small no_shapes (write busy.heap region.Registers 0 0) (alone mutator)
+    (state_after small busy.log) → ⊥
 words-unpaid point =
     let word = (point.reads.roots.registers 0 0 (omega arith) (omega arith)).is_word in
     let same = point.same region.Registers 0 refl nobody in
@@ -81,9 +82,11 @@ words-unpaid point =
         (nothing_in (owed_word region.Registers 0 word)) (λ p apart. nothing_in (owed_word region.Registers 0 word)) p
 
 -- a mutator knows a word that stands no more
-kept-changed : OwnIsKept small busy.heap (alone (record mutator { known = owed_word region.Registers 0 6 ∷ [] })) busy.log → ⊥
+kept-changed : OwnIsKept small busy.heap (alone (record mutator { known = owed_word region.Registers 0 6 ∷ [] }))
+    busy.log → ⊥
 kept-changed point =
-    (let word = point.known 0 region.Registers 0 6 (is_in_one (owed_word region.Registers 0 6)) in absurd (omega (arith, word)))
+    (let word = point.known 0 region.Registers 0 6 (is_in_one (owed_word region.Registers 0 6)) in
+        absurd (omega (arith, word)))
 
 -- a grey cell has its bit in two grey words
 held-twice : RunningGreyIsHeld small (write busy.heap region.GreyShared 0 1) busy.part → ⊥
@@ -119,12 +122,14 @@ targets-missed point = elim (point.right 0 aiming (record { cell = 1; word = 1 }
 ]
 
 -- a growth of an array of a cell that isn't claimed
-growths-unclaimed : GrowthsAreRight busy.heap (alone (record (newcomer 0) { growth = growth.Filling 0 0 0 2 })) (state_after small busy.log) → ⊥
+growths-unclaimed : GrowthsAreRight busy.heap (alone (record (newcomer 0) { growth = growth.Filling 0 0 0 2 }))
+    (state_after small busy.log) → ⊥
 growths-unclaimed point = (let claimed = (point.knows 0).0.claimed in absurd (nothing_in 0 claimed))
 
 -- two cells are born, then a cycle begins, and the first one, which is black, gets the other, which is white
 abbrev linked_late : List Event
-linked_late = plain (Call 0 (Alloc 0 0) (Born 0)) ∷ plain (Call 0 (Alloc 1 0) (Born 1)) ∷ plain (Begin 1) ∷ plain (Open 1 16)
+linked_late = plain (Call 0 (Alloc 0 0) (Born 0)) ∷ plain (Call 0 (Alloc 1 0) (Born 1)) ∷ plain (Begin 1) ∷ plain
+    (Open 1 16)
     ∷ plain (Call 0 (Put 0 0 1) Done) ∷ []
 
 abbrev one_black : Heap
@@ -132,7 +137,8 @@ one_black = write (write empty_heap region.Phase 0 3) region.Colour 0 4
 
 -- nobody owes the barrier
 black-unexcused : RunningBlackPointsToMarked small one_black newcomer linked_late → ⊥
-black-unexcused point = elim (point.excused refl 0 (slot 0) 1 (refl, refl) refl refl).excuse [ inl owes ↦ owes | inr scans ↦ scans ]
+black-unexcused point = elim (point.excused refl 0 (slot 0) 1 (refl, refl) refl refl).excuse [ inl owes ↦
+    owes | inr scans ↦ scans ]
 
 -- no visit was counted
 counted-less : RunningBlackIsCounted small one_black newcomer linked_late → ⊥
@@ -142,12 +148,14 @@ counted-less point = (let few = point.counted refl in absurd (omega (arith, few)
 retained-never : RunningMarkedIsRetained small (write opened.heap region.Colour 5 4) newcomer opened.log → ⊥
 retained-never point =
     let wave = all_schedules small no_shapes limits refl running opened came_opened in
-    let alive = retained_is_live small opened.heap opened.log wave.span refl 5 (point.marked refl 5 (omega arith) refl) in
+    let alive = retained_is_live small opened.heap opened.log wave.span refl 5 (point.marked refl 5 (omega arith) refl)
+        in
     absurd (cc)
 
 -- a cell was born in the cycle, it is white, and nobody owes its colour
 abbrev born_white : List Event
 born_white = plain (Begin 1) ∷ plain (Open 1 16) ∷ plain (Call 0 (Alloc 0 0) (Born 0)) ∷ []
 
-born-white : RunningBornIsMarked small (write (write empty_heap region.Phase 0 3) region.Colour 0 5) newcomer born_white → ⊥
+born-white : RunningBornIsMarked small (write (write empty_heap region.Phase 0 3) region.Colour 0 5) newcomer born_white
+    → ⊥
 born-white point = elim (point.born refl 0 (omega arith) refl) [ inl marked ↦ absurd (cc) | inr owes ↦ owes.1 ]

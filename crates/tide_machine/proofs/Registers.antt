@@ -16,16 +16,21 @@ register_after state who dst value other register held is = elim (cases_eq other
     | inl also ↦ inl (sym (here same also) ∙ is)
     | inr apart ↦ inr (sym (at_other same apart) ∙ is)
   ]
-  | inr apart ↦ inr (sym (ap (λ (b : Bool). (if b then put_at (state.registers who) dst value else state.registers other) register) (ne_eqb other who apart)) ∙ is)
+  | inr apart ↦ inr (sym (ap (λ (b : Bool).
+      (if b then put_at (state.registers who) dst value else state.registers other) register) (ne_eqb other who apart))
+      ∙ is)
 ]
   where
     here : other ≡ who → register ≡ dst → (put_register state who dst value).registers other register ≡ value
     here same also =
-        ap (λ (b : Bool). (if b then put_at (state.registers who) dst value else state.registers other) register) (eq-eqb other who same)
+        ap (λ (b : Bool). (if b then put_at (state.registers who) dst value else state.registers other) register)
+            (eq-eqb other who same)
         ∙ ap (λ (b : Bool). if b then value else state.registers who register) (eq-eqb register dst also)
 
-    at_other : other ≡ who → (register ≡ dst → ⊥) → (put_register state who dst value).registers other register ≡ state.registers other register
+    at_other : other ≡ who → (register ≡ dst → ⊥) →
+        (put_register state who dst value).registers other register ≡ state.registers other register
     at_other same apart =
-        ap (λ (b : Bool). (if b then put_at (state.registers who) dst value else state.registers other) register) (eq-eqb other who same)
+        ap (λ (b : Bool). (if b then put_at (state.registers who) dst value else state.registers other) register)
+            (eq-eqb other who same)
         ∙ ap (λ (b : Bool). if b then value else state.registers who register) (ne_eqb register dst apart)
         ∙ ap (λ (q : ℕ). state.registers q register) (sym same)

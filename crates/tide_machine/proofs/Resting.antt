@@ -29,23 +29,33 @@ use Rattle.tide_model.specs.Prefix.{IsPrefix}
 use Rattle.tide_model.specs.Refused.{ShapeLists}
 use Rattle.tide_words.specs.heap.Heap.{Heap, write}
 
-module _ (layout : Layout) (shapes : ShapeLists) (heap : Heap) (part : ℕ → View) (log : List Event) (me : ℕ) (inside : me < parties)
+module _ (layout : Layout) (shapes : ShapeLists) (heap : Heap) (part : ℕ → View) (log : List Event) (me : ℕ)
+    (inside : me < parties)
     (wave : RunningWave layout shapes (record { heap = heap; part = part; log = log })) (rests : Rests (part me)) where
   none_scans : {X : Type 0} (scan : Scan) → (part me).scan ≡ Some scan → X
   none_scans scan is = (let none = rests.scan in absurd (cc))
 
-  module _ (seen : List Event) (period ticket run cycle : ℕ) (marks : Bool) (heard : (seen ≡ (part me).seen) ⊎ (IsPrefix seen log × (filter (λ event. is_call_of me event.entry) seen ≡ (part me).mine))) where
+  module _ (seen : List Event) (period ticket run cycle : ℕ) (marks : Bool) (heard : (seen ≡ (part me).seen) ⊎
+      (IsPrefix seen log × (filter (λ event. is_call_of me event.entry) seen ≡ (part me).mine))) where
     abbrev later : View
-    later = record (part me) { runs = false; seen = seen; period = period; ticket = ticket; run = run; marks = marks; cycle = cycle; known = []; full = [] }
+    later = record (part me) { runs = false; seen = seen; period = period; ticket = ticket; run = run; marks = marks;
+        cycle = cycle; known = []; full = [] }
 
     words_after : RunningWordsRead layout shapes heap (put_at part me later) (state_after layout log)
     words_after = record {
       settled = wave.words.settled;
       reads = wave.words.reads;
-      same = λ at index read free. wave.words.same at index read (λ p word owes. free p word (put_at_elim (λ p u. (at : Region) (index word : ℕ) → Owes (part p) at index word → Owes u at index word) part me later (λ at index word o. o) (λ p apart at index word o. o) p at index word owes));
-      owed = each_put (λ p u. (at : Region) (index word : ℕ) → Owes u at index word → wave.words.settled at index ≡ word) part me later (wave.words.owed me) wave.words.owed;
-      known = each_put (λ p u. (at : Region) (index word : ℕ) → Contains u.known (owed_word at index word) → wave.words.settled at index ≡ word) part me later (λ at index word is. absurd (nothing_in (owed_word at index word) is)) wave.words.known;
-      owns = each_put (λ p u. (at : Region) (index word : ℕ) → Owes u at index word → IsOwnWord layout (state_after layout log) p at index) part me later (wave.words.owns me) wave.words.owns;
+      same = λ at index read free. wave.words.same at index read (λ p word owes.
+          free p word (put_at_elim (λ p u. (at : Region) (index word : ℕ) → Owes (part p) at index word →
+          Owes u at index word) part me later (λ at index word o. o) (λ p apart at index word o.
+          o) p at index word owes));
+      owed = each_put (λ p u. (at : Region) (index word : ℕ) → Owes u at index word →
+          wave.words.settled at index ≡ word) part me later (wave.words.owed me) wave.words.owed;
+      known = each_put (λ p u. (at : Region) (index word : ℕ) → Contains u.known (owed_word at index word) →
+          wave.words.settled at index ≡ word) part me later (λ at index word is.
+          absurd (nothing_in (owed_word at index word) is)) wave.words.known;
+      owns = each_put (λ p u. (at : Region) (index word : ℕ) → Owes u at index word →
+          IsOwnWord layout (state_after layout log) p at index) part me later (wave.words.owns me) wave.words.owns;
     }
 
     -- it doesn't run, whatever it has heard
@@ -63,11 +73,14 @@ module _ (layout : Layout) (shapes : ShapeLists) (heap : Heap) (part : ℕ → V
       knows_still = λ p at index word apart is. wave.kept.known p at index word is;
       finds = λ block moment is. absurd (let below = is.1 in omega (arith, below));
       told = λ is. absurd (cc);
-      empties = λ _. (rests.held, rests.scan, rests.between.owed, rests.between.duty, rests.between.growth, refl, refl, rests.between.calls);
+      empties = λ _. (rests.held, rests.scan, rests.between.owed, rests.between.duty, rests.between.growth, refl, refl,
+          rests.between.calls);
       colours = wave.colours;
       balance = λ _ c in_c few. refl;
-      rests = λ idle. (wave.rests.words idle, wave.rests.held idle me, wave.rests.scans idle me, wave.rests.duties idle me);
-      at_hand = λ c at. wave.hands.cells me c (elim at [ held is ↦ held is | scanned scan is e ↦ scanned scan is e | buffered scan is e ↦ buffered scan is e ]);
+      rests = λ idle. (wave.rests.words idle, wave.rests.held idle me, wave.rests.scans idle me,
+          wave.rests.duties idle me);
+      at_hand = λ c at. wave.hands.cells me c (elim at [ held is ↦ held is | scanned scan is e ↦
+          scanned scan is e | buffered scan is e ↦ buffered scan is e ]);
       arrays = λ a scan is. none_scans scan is;
       scanned = λ scan is. none_scans scan is;
       growth = subst (GrowthKnows heap (state_after layout log) me later) (sym rests.between.growth) tt;
@@ -85,14 +98,18 @@ module _ (layout : Layout) (shapes : ShapeLists) (heap : Heap) (part : ℕ → V
       beyond = λ marks source n target link past.
           let (p, g) = wave.grows.beyond marks source n target link past in
           elim (cases_eq p me) [
-            | inl same ↦ (let mine = subst (λ (q : ℕ). GrowsAndOwes (part q) source) same g in inl (record { grows = mine.grows; owes = mine.owes }))
+            | inl same ↦ (let mine = subst (λ (q : ℕ). GrowsAndOwes (part q) source) same g in
+                inl (record { grows = mine.grows; owes = mine.owes }))
             | inr apart ↦ inr (p, apart, g)
           ];
     }
 
   -- a word of the region Stopped says nothing
-  stored : (part me).runs ≡ true → (index word : ℕ) → RunningWave layout shapes (record { heap = write heap region.Stopped index word; part = put_at part me (part me); log = log })
-  stored runs index word = quiet_step layout shapes heap part log me wave (write heap region.Stopped index word) (part me) record {
+  stored : (part me).runs ≡ true → (index word : ℕ) →
+      RunningWave layout shapes (record { heap = write heap region.Stopped index word; part = put_at part me (part me);
+      log = log })
+  stored runs index word = quiet_step layout shapes heap part log me wave (write heap region.Stopped index word)
+      (part me) record {
     inside = inside;
     words = λ at i. unread_write heap region.Stopped index word refl at i;
     who = refl;
@@ -111,7 +128,9 @@ module _ (layout : Layout) (shapes : ShapeLists) (heap : Heap) (part : ℕ → V
     runs = runs;
     colours = wave.colours;
     balance = λ _ c in_c few. refl;
-    rests = λ idle. (λ block within. (let n = wave.rests.words idle block within in record { shared = n.shared; mutator = n.mutator; race = n.race }), wave.rests.held idle me, wave.rests.scans idle me, wave.rests.duties idle me);
+    rests = λ idle. (λ block within.
+        (let n = wave.rests.words idle block within in record { shared = n.shared; mutator = n.mutator; race =
+        n.race }), wave.rests.held idle me, wave.rests.scans idle me, wave.rests.duties idle me);
     at_hand = λ c at. wave.hands.cells me c at;
     arrays = λ a scan is. none_scans scan is;
     scanned = λ scan is. none_scans scan is;
@@ -141,13 +160,20 @@ pub put_same : (part : ℕ → View) (me : ℕ) → put_at part me (part me) me 
 put_same part me = put_here part me (part me)
 
 -- the store that it has stopped
-pub stop : (layout : Layout) (shapes : ShapeLists) (heap : Heap) (part : ℕ → View) (log : List Event) (me : ℕ) → me < parties →
-    RunningWave layout shapes (record { heap = heap; part = part; log = log }) → (part me).runs ≡ true → Rests (part me) → (index word : ℕ) →
-    RunningWave layout shapes (record { heap = write heap region.Stopped index word; part = put_at part me (record (part me) { runs = false; known = []; full = [] }); log = log })
+pub stop : (layout : Layout) (shapes : ShapeLists) (heap : Heap) (part : ℕ → View) (log : List Event) (me : ℕ) →
+    me < parties →
+    RunningWave layout shapes (record { heap = heap; part = part; log = log }) → (part me).runs ≡ true →
+        Rests (part me) → (index word : ℕ) →
+    RunningWave layout shapes (record { heap = write heap region.Stopped index word; part =
+        put_at part me (record (part me) { runs = false; known = []; full = [] }); log = log })
 stop layout shapes heap part log me inside wave runs rests index word =
     let same = put_same part me in
     let once = stored layout shapes heap part log me inside wave rests runs index word in
     let v = put_at part me (part me) me in
-    let after = rest_step layout shapes (write heap region.Stopped index word) (put_at part me (part me)) log me inside once (subst Rests (sym same) rests) v.seen v.period v.ticket v.run v.cycle v.marks (inl refl) in
-    subst (λ (q : ℕ → View). RunningWave layout shapes (record { heap = write heap region.Stopped index word; part = q; log = log }))
-    (ap (put_at (put_at part me (part me)) me) (ap (λ (x : View). record x { runs = false; known = []; full = [] }) same) ∙ put_twice part me (part me) (record (part me) { runs = false; known = []; full = [] })) after
+    let after = rest_step layout shapes (write heap region.Stopped index word) (put_at part me (part me)) log me inside
+        once (subst Rests (sym same) rests) v.seen v.period v.ticket v.run v.cycle v.marks (inl refl) in
+    subst (λ (q : ℕ → View). RunningWave layout shapes (record { heap = write heap region.Stopped index word; part = q;
+        log = log }))
+    (ap (put_at (put_at part me (part me)) me)
+        (ap (λ (x : View). record x { runs = false; known = []; full = [] }) same) ∙
+        put_twice part me (part me) (record (part me) { runs = false; known = []; full = [] })) after

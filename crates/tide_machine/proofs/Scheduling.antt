@@ -34,7 +34,8 @@ whoever_steps layout shapes test keeps _ _ (steps w me kind came inside is may) 
 whoever_steps layout shapes test keeps _ _ (freezes w came stopped) =
     FrozenMachine-running layout shapes w (whoever_steps layout shapes test keeps running w came) stopped
 whoever_steps layout shapes test keeps _ _ (enters w before after heap log came entry) =
-    FrozenMachine-entered layout shapes w before after heap log (whoever_steps layout shapes test keeps (frozen before) w came) entry
+    FrozenMachine-entered layout shapes w before after heap log
+        (whoever_steps layout shapes test keeps (frozen before) w came) entry
 whoever_steps layout shapes test keeps _ _ (opens w run came) =
     RunningWave-opened layout shapes w run (whoever_steps layout shapes test keeps (frozen 0) w came)
 
@@ -44,21 +45,25 @@ pub step_keeps : (layout : Layout) (shapes : ShapeLists) → IsWithinLimits layo
     IsAllowed layout shapes w me kind → RunningWave layout shapes (stepped layout shapes w me kind)
 step_keeps layout shapes limits empty_shape w me inside wave kind is may = by_group (either is)
   where
-    by_group : (is_of_first_group kind ≡ true) ⊎ (is_of_second_group kind ≡ true) → RunningWave layout shapes (stepped layout shapes w me kind)
+    by_group : (is_of_first_group kind ≡ true) ⊎ (is_of_second_group kind ≡ true) →
+        RunningWave layout shapes (stepped layout shapes w me kind)
     by_group (inl first) = first_group layout shapes w me inside wave kind first may
     by_group (inr second) = second_group layout shapes limits empty_shape w me inside wave kind second may
 
-    either : (is_of_first_group kind || is_of_second_group kind) ≡ true → (is_of_first_group kind ≡ true) ⊎ (is_of_second_group kind ≡ true)
+    either : (is_of_first_group kind || is_of_second_group kind) ≡ true → (is_of_first_group kind ≡ true) ⊎
+        (is_of_second_group kind ≡ true)
     either = or_cases (is_of_first_group kind) (is_of_second_group kind)
 
 -- so the wave holds in all schedules of such steps
 pub all_schedules : (layout : Layout) (shapes : ShapeLists) → IsWithinLimits layout → slice_get shapes 0 ≡ Some [] →
     (mode : Mode) (w : World) → Comes layout shapes has_law mode w → WaveIn layout shapes mode w
-all_schedules layout shapes limits empty_shape = whoever_steps layout shapes has_law (step_keeps layout shapes limits empty_shape)
+all_schedules layout shapes limits empty_shape =
+    whoever_steps layout shapes has_law (step_keeps layout shapes limits empty_shape)
 
 -- and the history is lawful
 pub all_lawful : (layout : Layout) (shapes : ShapeLists) → IsWithinLimits layout → slice_get shapes 0 ≡ Some [] →
     (mode : Mode) (w : World) → Comes layout shapes has_law mode w → IsLawful layout shapes w.log
-all_lawful layout shapes limits empty_shape running w came = (all_schedules layout shapes limits empty_shape running w came).lawful
+all_lawful layout shapes limits empty_shape running w came =
+    (all_schedules layout shapes limits empty_shape running w came).lawful
 all_lawful layout shapes limits empty_shape (frozen unentered) w came =
     (all_schedules layout shapes limits empty_shape (frozen unentered) w came).wave.lawful

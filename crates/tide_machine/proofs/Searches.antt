@@ -42,7 +42,8 @@ use Rattle.tide_model.specs.declared.op.Reply.TheVariants.{Born, Refused}
 use Rattle.tide_model.specs.declared.val.Val.TheVariants.{Cell}
 use Rattle.tide_words.specs.heap.Heap.{Heap, write}
 
-module _ (layout : Layout) (shapes : ShapeLists) (w : World) (me : ℕ) (inside : me < parties) (wave : RunningWave layout shapes w) (runs : (w.part me).runs ≡ true) (block : ℕ) where
+module _ (layout : Layout) (shapes : ShapeLists) (w : World) (me : ℕ) (inside : me < parties)
+    (wave : RunningWave layout shapes w) (runs : (w.part me).runs ≡ true) (block : ℕ) where
   abbrev state : State
   state = state_after layout w.log
 
@@ -50,15 +51,20 @@ module _ (layout : Layout) (shapes : ShapeLists) (w : World) (me : ℕ) (inside 
   read = w.heap region.Free block
 
   same_word : wave.words.settled region.Free block ≡ read
-  same_word = sym (wave.words.same region.Free block refl (λ p x owes. free_is_unowed layout state p block (wave.words.owns p region.Free block x owes)))
+  same_word = sym (wave.words.same region.Free block refl (λ p x owes.
+      free_is_unowed layout state p block (wave.words.owns p region.Free block x owes)))
 
   -- a block that shows nothing is full now
-  finds : read ≡ 0 → (b moment : ℕ) → Contains (record { block = block; moment = length w.log } ∷ (w.part me).full) (record { block = b; moment = moment }) →
+  finds : read ≡ 0 → (b moment : ℕ) → Contains (record { block = block; moment = length w.log } ∷ (w.part me).full)
+      (record { block = b; moment = moment }) →
       (window_start me w.log ≤ moment) × (moment ≤ length w.log) × IsFullBlock layout (state_at layout w.log moment) b
-  finds empty b moment at = elim (Contains-append_cases (record { block = block; moment = length w.log } ∷ []) (w.part me).full (record { block = b; moment = moment }) at) [
-    | inl here ↦ subst (λ (f : Found). (window_start me w.log ≤ f.moment) × (f.moment ≤ length w.log) × IsFullBlock layout (state_at layout w.log f.moment) f.block)
+  finds empty b moment at = elim (Contains-append_cases (record { block = block; moment = length w.log } ∷ [])
+      (w.part me).full (record { block = b; moment = moment }) at) [
+    | inl here ↦ subst (λ (f : Found). (window_start me w.log ≤ f.moment) × (f.moment ≤ length w.log) ×
+        IsFullBlock layout (state_at layout w.log f.moment) f.block)
         (in_one (record { block = block; moment = length w.log }) (record { block = b; moment = moment }) here)
-        (in_window me w.log, omega arith, subst (λ (s : State). IsFullBlock layout s block) (sym (state_at-last layout w.log))
+        (in_window me w.log, omega arith,
+            subst (λ (s : State). IsFullBlock layout s block) (sym (state_at-last layout w.log))
         (full_block layout shapes wave.words.settled state block wave.words.reads (same_word ∙ empty)))
     | inr before ↦ wave.kept.full me b moment before
   ]
@@ -67,12 +73,14 @@ module _ (layout : Layout) (shapes : ShapeLists) (w : World) (me : ℕ) (inside 
   pub refused : (o : Op) → MayCall layout shapes w me o (Refused (Full (class_taken state me o))) None →
       RunningWave layout shapes (record {
         heap = write w.heap region.Free block read;
-        part = put_at w.part me (with_entry w.log (Some (call_of me o (Refused (Full (class_taken state me o))) None)) (called [] (w.part me)));
+        part = put_at w.part me (with_entry w.log (Some (call_of me o (Refused (Full (class_taken state me o))) None))
+            (called [] (w.part me)));
         log = added w.log (Some (call_of me o (Refused (Full (class_taken state me o))) None));
       })
   refused o may = load_same layout shapes w.heap region.Free block _ _
       (leaves_all layout shapes w me inside wave o (Refused (Full (class_taken state me o))) may (λ cell. refl)
-      (after_call-refused state me o (Full (class_taken state me o)) None) (w.part me).calls w.heap (λ at index is_read. refl) (λ at index isnt. refl)
+      (after_call-refused state me o (Full (class_taken state me o)) None) (w.part me).calls w.heap (λ at index is_read.
+          refl) (λ at index isnt. refl)
       (calls_view layout w.heap w.heap w.part me _ refl (λ p. refl) wave.calls))
 
   pub load_free : (made : Option Op) → MayLoadFree layout shapes w me block read made →
@@ -81,17 +89,20 @@ module _ (layout : Layout) (shapes : ShapeLists) (w : World) (me : ℕ) (inside 
     where
       by : (b : Bool) → (read == 0) ≡ b → RunningWave layout shapes (record {
         heap = write w.heap region.Free block read;
-        part = put_at w.part me (if b then record (w.part me) { full = record { block = block; moment = length w.log } ∷ (w.part me).full } else w.part me);
+        part = put_at w.part me (if b then record (w.part me) { full =
+            record { block = block; moment = length w.log } ∷ (w.part me).full } else w.part me);
         log = w.log;
       })
-      by true is = looks layout shapes w me inside wave runs block read (λ k few. ap (λ (x : ℕ). bit_at x k) (sym same_word))
+      by true is = looks layout shapes w me inside wave runs block read (λ k few.
+          ap (λ (x : ℕ). bit_at x k) (sym same_word))
           (record { block = block; moment = length w.log } ∷ (w.part me).full) (finds (eqb-true read 0 is))
       by false is = load_nothing layout shapes w me wave region.Free block
   load_free (Some o) may = by (read == 0) refl
     where
       by : (b : Bool) → (read == 0) ≡ b → RunningWave layout shapes (record {
         heap = write w.heap region.Free block read;
-        part = put_at w.part me (with_entry w.log (if b then Some (call_of me o (Refused (Full (class_taken state me o))) None) else None)
+        part = put_at w.part me (with_entry w.log
+            (if b then Some (call_of me o (Refused (Full (class_taken state me o))) None) else None)
             (if b then called [] (w.part me) else w.part me));
         log = added w.log (if b then Some (call_of me o (Refused (Full (class_taken state me o))) None) else None);
       })
@@ -99,15 +110,20 @@ module _ (layout : Layout) (shapes : ShapeLists) (w : World) (me : ℕ) (inside 
       by false is = load_nothing layout shapes w me wave region.Free block
 
   -- a take of a bit that isn't set
-  pub lost : (k : ℕ) → k < 64 → (o : Op) → (read ≡ 0 → MayCall layout shapes w me o (Refused (Full (class_taken state me o))) None) → (bit_at read k == 1) ≡ false →
+  pub lost : (k : ℕ) → k < 64 → (o : Op) →
+      (read ≡ 0 → MayCall layout shapes w me o (Refused (Full (class_taken state me o))) None) →
+      (bit_at read k == 1) ≡ false →
       RunningWave layout shapes (stepped layout shapes w me (TakeFree block k (Some o)))
   lost k few o may clear =
       subst (λ (set : Bool). RunningWave layout shapes (record {
         heap = write w.heap region.Free block (bit_and read (all_but k));
-        part = put_at w.part me (with_entry w.log (if set then Some (call_of me o (Born (64 * block + k)) None) else full_if_empty read state me o)
-            (if set then record (called (owed_register layout me (filled_register o) (Cell (64 * block + k))) (w.part me)) { duty = duty.Born (64 * block + k); born = (w.part me).born + 1 }
+        part = put_at w.part me (with_entry w.log
+            (if set then Some (call_of me o (Born (64 * block + k)) None) else full_if_empty read state me o)
+            (if set then record (called (owed_register layout me (filled_register o) (Cell (64 * block + k)))
+                (w.part me)) { duty = duty.Born (64 * block + k); born = (w.part me).born + 1 }
             else searched_view w.log block (Some o) read (w.part me)));
-        log = added w.log (if set then Some (call_of me o (Born (64 * block + k)) None) else full_if_empty read state me o);
+        log = added w.log (if set then Some (call_of me o (Born (64 * block + k)) None) else full_if_empty read state me
+            o);
       })) (sym clear) (by (read == 0) refl)
     where
       same_bits : (i : ℕ) → i < 64 → bit_at (bit_and read (all_but k)) i ≡ bit_at read i
@@ -118,21 +134,26 @@ module _ (layout : Layout) (shapes : ShapeLists) (w : World) (me : ℕ) (inside 
       ]
         where
           no_bit : bit_at read k ≡ 0
-          no_bit = (let low = bit_at-lt read k in let isnt = eqb-false (bit_at read k) 1 clear in omega (arith, low, isnt))
+          no_bit = (let low = bit_at-lt read k in let isnt = eqb-false (bit_at read k) 1 clear in
+              omega (arith, low, isnt))
 
       by : (b : Bool) → (read == 0) ≡ b → RunningWave layout shapes (record {
         heap = write w.heap region.Free block (bit_and read (all_but k));
-        part = put_at w.part me (with_entry w.log (if b then Some (call_of me o (Refused (Full (class_taken state me o))) None) else None)
+        part = put_at w.part me (with_entry w.log
+            (if b then Some (call_of me o (Refused (Full (class_taken state me o))) None) else None)
             (if b then called [] (w.part me) else w.part me));
         log = added w.log (if b then Some (call_of me o (Refused (Full (class_taken state me o))) None) else None);
       })
       by true is = subst (λ (word : ℕ). RunningWave layout shapes (record {
             heap = write w.heap region.Free block word;
-            part = put_at w.part me (with_entry w.log (Some (call_of me o (Refused (Full (class_taken state me o))) None)) (called [] (w.part me)));
+            part = put_at w.part me (with_entry w.log
+                (Some (call_of me o (Refused (Full (class_taken state me o))) None)) (called [] (w.part me)));
             log = added w.log (Some (call_of me o (Refused (Full (class_taken state me o))) None));
           })) (sym zero_stays) (refused o (may (eqb-true read 0 is)))
         where
           zero_stays : bit_and read (all_but k) ≡ read
-          zero_stays = ap (λ (x : ℕ). bit_and x (all_but k)) (eqb-true read 0 is) ∙ and_zero_l (all_but k) ∙ sym (eqb-true read 0 is)
+          zero_stays = ap (λ (x : ℕ). bit_and x (all_but k)) (eqb-true read 0 is) ∙ and_zero_l (all_but k) ∙
+              sym (eqb-true read 0 is)
       by false is = looks layout shapes w me inside wave runs block (bit_and read (all_but k))
-          (λ i below. same_bits i below ∙ ap (λ (x : ℕ). bit_at x i) (sym same_word)) (w.part me).full (wave.kept.full me)
+          (λ i below. same_bits i below ∙ ap (λ (x : ℕ). bit_at x i) (sym same_word)) (w.part me).full
+              (wave.kept.full me)

@@ -29,7 +29,10 @@ module _ (state : State) (cell slot : ℕ) (value : Val) where
 
   -- the slots of another cell
   pub slots_else : (x : ℕ) → x ≢ cell → (after_slot.cells x).slots ≡ (state.cells x).slots
-  slots_else = put_at_elim (λ x held. x ≢ cell → held.slots ≡ (state.cells x).slots) state.cells cell _ (λ apart. absurd (apart refl)) (λ x other apart. refl)
+  slots_else = put_at_elim (λ x held. x ≢ cell → held.slots ≡ (state.cells x).slots) state.cells cell _ (λ apart.
+      absurd (apart refl)) (λ x other apart. refl)
 
   pub slots_here : (after_slot.cells cell).slots ≡ put_at (state.cells cell).slots slot value
-  slots_here = ap (λ (same : Bool). (if same then record (state.cells cell) { slots = put_at (state.cells cell).slots slot value } else state.cells cell).slots) (eq-eqb cell cell refl)
+  slots_here = ap (λ (same : Bool).
+      (if same then record (state.cells cell) { slots = put_at (state.cells cell).slots slot value } else state.cells
+      cell).slots) (eq-eqb cell cell refl)

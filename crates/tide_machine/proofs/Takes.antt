@@ -47,8 +47,10 @@ free_is_unowed layout state p index own = by region.Free index own refl
     by _ _ (own_pair t k at one has) e = omega (arith, e)
     by _ _ (own_element c a k at is has) e = omega (arith, e)
 
-module _ (layout : Layout) (shapes : ShapeLists) (limits : IsWithinLimits layout) (empty_shape : slice_get shapes 0 ≡ Some []) (w : World) (me : ℕ)
-    (inside : me < parties) (wave : RunningWave layout shapes w) (block k : ℕ) (few : k < 64) (within : 64 * block + k < cell_count layout) where
+module _ (layout : Layout) (shapes : ShapeLists) (limits : IsWithinLimits layout)
+    (empty_shape : slice_get shapes 0 ≡ Some []) (w : World) (me : ℕ)
+    (inside : me < parties) (wave : RunningWave layout shapes w) (block k : ℕ) (few : k < 64)
+        (within : 64 * block + k < cell_count layout) where
   abbrev cell : ℕ
   cell = 64 * block + k
 
@@ -62,46 +64,64 @@ module _ (layout : Layout) (shapes : ShapeLists) (limits : IsWithinLimits layout
   its_bit = omega (arith, few)
 
   pub same_word : wave.words.settled region.Free block ≡ read
-  same_word = sym (wave.words.same region.Free block refl (λ p x owes. free_is_unowed layout (state_after layout w.log) p block (wave.words.owns p region.Free block x owes)))
+  same_word = sym (wave.words.same region.Free block refl (λ p x owes.
+      free_is_unowed layout (state_after layout w.log) p block (wave.words.owns p region.Free block x owes)))
 
   -- the bit of the settled words is cleared
-  put : IsBitPut layout wave.words.settled (write wave.words.settled region.Free block (bit_and read (all_but k))) region.Free block k 0
+  put : IsBitPut layout wave.words.settled (write wave.words.settled region.Free block (bit_and read (all_but k)))
+      region.Free block k 0
   put = record {
-    others = λ other apart index below. write-other_region wave.words.settled region.Free other block index (bit_and read (all_but k)) apart;
-    other_words = λ at below apart. write-other_index wave.words.settled region.Free block at (bit_and read (all_but k)) apart;
-    bits = λ other below. ap (λ (x : ℕ). bit_at x other) (write-same wave.words.settled region.Free block (bit_and read (all_but k)))
-        ∙ without_bit-is read k few other below ∙ ap (λ (x : ℕ). if other == k then 0 else bit_at x other) (sym same_word);
+    others = λ other apart index below. write-other_region wave.words.settled region.Free other block index
+        (bit_and read (all_but k)) apart;
+    other_words = λ at below apart. write-other_index wave.words.settled region.Free block at
+        (bit_and read (all_but k)) apart;
+    bits = λ other below. ap (λ (x : ℕ). bit_at x other)
+        (write-same wave.words.settled region.Free block (bit_and read (all_but k)))
+        ∙ without_bit-is read k few other below ∙
+            ap (λ (x : ℕ). if other == k then 0 else bit_at x other) (sym same_word);
   }
 
   -- by an operation that takes a cell
-  taken : (op : Op) (dst : ℕ) → MayCall layout shapes w me op (Born cell) None → dst < layout.registers → filled_register op ≡ Some dst →
-      after_call (state_after layout w.log) me op (Born cell) None ≡ put_register (put_cell (state_after layout w.log) cell (blank_cell live)) me dst (Cell cell) →
+  taken : (op : Op) (dst : ℕ) → MayCall layout shapes w me op (Born cell) None → dst < layout.registers →
+      filled_register op ≡ Some dst →
+      after_call (state_after layout w.log) me op (Born cell) None ≡ put_register
+          (put_cell (state_after layout w.log) cell (blank_cell live)) me dst (Cell cell) →
       ((state_after layout w.log).cells cell).status ≡ free → (bit_at read k == 1) ≡ true →
       RunningWave layout shapes (stepped layout shapes w me (TakeFree block k (Some op)))
   taken op dst may in_registers fills bears was_free set =
       subst (λ (b : Bool). RunningWave layout shapes (record {
         heap = write w.heap region.Free block (bit_and read (all_but k));
-        part = put_at w.part me (with_entry w.log (if b then Some (call_of me op (Born cell) None) else full_if_empty read (state_after layout w.log) me op)
-            (if b then record (called (owed_register layout me (filled_register op) (Cell cell)) (w.part me)) { duty = duty.Born cell; born = (w.part me).born + 1 }
+        part = put_at w.part me (with_entry w.log
+            (if b then Some (call_of me op (Born cell) None) else full_if_empty read (state_after layout w.log) me op)
+            (if b then record (called (owed_register layout me (filled_register op) (Cell cell)) (w.part me)) { duty =
+                duty.Born cell; born = (w.part me).born + 1 }
             else searched_view w.log block (Some op) read (w.part me)));
-        log = added w.log (if b then Some (call_of me op (Born cell) None) else full_if_empty read (state_after layout w.log) me op);
+        log = added w.log (if b then Some (call_of me op (Born cell) None) else full_if_empty read
+            (state_after layout w.log) me op);
       })) (sym set)
       (subst (λ (f : Option ℕ). RunningWave layout shapes (record {
         heap = write w.heap region.Free block (bit_and read (all_but k));
         part = put_at w.part me (with_entry w.log (Some (call_of me op (Born cell) None))
-            (record (called (owed_register layout me f (Cell cell)) (w.part me)) { duty = duty.Born cell; born = (w.part me).born + 1 }));
+            (record (called (owed_register layout me f (Cell cell)) (w.part me)) { duty = duty.Born cell; born =
+                (w.part me).born + 1 }));
         log = added w.log (Some (call_of me op (Born cell) None));
       })) (sym fills)
       (subst (λ (b : ℕ). RunningWave layout shapes (record {
         heap = write w.heap region.Free b (bit_and read (all_but k));
         part = put_at w.part me (with_entry w.log (Some (call_of me op (Born cell) None))
-            (record (called (owed_register layout me (Some dst) (Cell cell)) (w.part me)) { duty = duty.Born cell; born = (w.part me).born + 1 }));
+            (record (called (owed_register layout me (Some dst) (Cell cell)) (w.part me)) { duty = duty.Born cell;
+                born = (w.part me).born + 1 }));
         log = added w.log (Some (call_of me op (Born cell) None));
       })) in_block
-      (take_free layout shapes w me inside wave may.runner.runs may.between.duty may.between.owed may.between.growth empty_shape op dst cell (bit_and read (all_but k)) may.stands within
+      (take_free layout shapes w me inside wave may.runner.runs may.between.duty may.between.owed may.between.growth
+          empty_shape op dst cell (bit_and read (all_but k)) may.stands within
       (let most = few_cells layout limits in omega (arith, most, within)) in_registers bears was_free
-      (subst (λ (b : ℕ). IsBitPut layout wave.words.settled (write wave.words.settled region.Free b (bit_and read (all_but k))) region.Free b (cell % 64) 0) (sym in_block)
-      (subst (λ (i : ℕ). IsBitPut layout wave.words.settled (write wave.words.settled region.Free block (bit_and read (all_but k))) region.Free block i 0) (sym its_bit) put)))))
+      (subst (λ (b : ℕ). IsBitPut layout wave.words.settled
+          (write wave.words.settled region.Free b (bit_and read (all_but k))) region.Free b (cell % 64) 0)
+          (sym in_block)
+      (subst (λ (i : ℕ). IsBitPut layout wave.words.settled
+          (write wave.words.settled region.Free block (bit_and read (all_but k))) region.Free block i 0)
+          (sym its_bit) put)))))
 
   pub take : (op : Op) → MayTakeFree layout shapes w me block k read (Some op) → (bit_at read k == 1) ≡ true →
       RunningWave layout shapes (stepped layout shapes w me (TakeFree block k (Some op)))

@@ -26,7 +26,8 @@ pub data Mode : Type 0 where
 
 -- What the collector may do with a frozen heap: it enters the visits of a note, begins a cycle, pauses and ends one, and
 -- sweeps. What becomes of the words are the clauses of the calls that do it.
-pub data Enters (layout : Layout) (shapes : ShapeLists) (old : Heap) (history : List Event) : ℕ → Heap → List Event → ℕ → Type 0 where
+pub data Enters (layout : Layout) (shapes : ShapeLists) (old : Heap) (history : List Event) : ℕ → Heap → List Event →
+    ℕ → Type 0 where
   visits : (who visits left : ℕ) →
       Enters layout shapes old history (visits + left) old (history ++ plain (Visits who visits) ∷ []) left
   begins : (new : Heap) → is_marking old ≡ false → HasBegun layout old new →
@@ -35,7 +36,8 @@ pub data Enters (layout : Layout) (shapes : ShapeLists) (old : Heap) (history : 
       Enters layout shapes old history 0 new (history ++ plain (Pause visits) ∷ []) 0
   ends : (new : Heap) → is_marking old ≡ true → HasConverged layout old (state_after layout history) →
       HasEnded layout old new → Enters layout shapes old history 0 new (with_end layout old history) 0
-  sweeps : (new : Heap) (block : ℕ) → HasDead layout (state_after layout history) block → HasSwept layout old new block →
+  sweeps : (new : Heap) (block : ℕ) → HasDead layout (state_after layout history) block →
+      HasSwept layout old new block →
       Enters layout shapes old history 0 new (history ++ plain (Sweep block) ∷ []) 0
 
 -- The machine may come to this world by some schedule of steps whose kinds pass a test, of freezes, of entries and of
@@ -46,7 +48,8 @@ pub data Comes (layout : Layout) (shapes : ShapeLists) (test : Kind → Bool) : 
       IsAllowed layout shapes w me kind → Comes layout shapes test running (stepped layout shapes w me kind)
   freezes : (w : World) → Comes layout shapes test running w → ((p : ℕ) → (w.part p).runs ≡ false) →
       Comes layout shapes test (frozen (total (counted_in (w.heap region.Period 0)) w.part)) w
-  enters : (w : World) (before after : ℕ) (heap : Heap) (log : List Event) → Comes layout shapes test (frozen before) w →
+  enters : (w : World) (before after : ℕ) (heap : Heap) (log : List Event) →
+      Comes layout shapes test (frozen before) w →
       Enters layout shapes w.heap w.log before heap log after →
       Comes layout shapes test (frozen after) (record w { heap = heap; log = log })
   opens : (w : World) (run : ℕ) → Comes layout shapes test (frozen 0) w →

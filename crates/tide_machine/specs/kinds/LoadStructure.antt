@@ -11,7 +11,8 @@ use Rattle.tide_model.specs.Layout.{Layout}
 
 -- a nuked structure is a race
 abbrev pub structure_view : ℕ → View → View
-structure_view read v = record v { scan = in_scan v.scan (λ s. Some record s { first = Some read; raced = is_nuked read }) }
+structure_view read v = record v { scan =
+    in_scan v.scan (λ s. Some record s { first = Some read; raced = is_nuked read }) }
 
 -- the scan of the cell has no first reading
 pub record MayLoadStructure (layout : Layout) (w : World) (me cell : ℕ) : Type 0 where

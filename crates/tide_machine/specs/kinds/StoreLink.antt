@@ -21,5 +21,6 @@ linked_view cell word v = record (called [] v) { duty = barrier_for v.marks cell
 abbrev pub MayStoreLink : Layout → ShapeLists → World → ℕ → ℕ → ℕ → ℕ → Option Op → Type 0
 MayStoreLink layout shapes w me cell slot word (Some (Put src n val)) =
     (n ≡ slot) × (slot < slots_of (class_of layout cell)) × ((state_after layout w.log).registers me src ≡ Cell cell)
-    × (word ≡ val_word ((state_after layout w.log).registers me val)) × MayCall layout shapes w me (Put src n val) Done None
+    × (word ≡ val_word ((state_after layout w.log).registers me val)) ×
+        MayCall layout shapes w me (Put src n val) Done None
 MayStoreLink layout shapes w me cell slot word _ = ⊥

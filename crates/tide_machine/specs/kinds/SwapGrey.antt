@@ -14,7 +14,8 @@ use Rattle.tide_layout.specs.declared.region.Region.TheVariants as region
 -- the cells of the word are held; a word that is 0 counts for the round while the visitor holds nothing
 abbrev pub swapped_view : Region → ℕ → ℕ → View → View
 swapped_view grey block read v =
-    if read == 0 then record v { round = if rests_now v then record { region = grey; block = block } ∷ v.round else v.round }
+    if read == 0 then record v { round = if rests_now v then record { region = grey; block =
+        block } ∷ v.round else v.round }
     else record v { held = v.held ++ cells_in block read; round = [] }
 
 -- a visitor takes what is shared, and what mutators made grey

@@ -15,7 +15,8 @@ in_sweep (Some sweeping) change = change sweeping
 -- the block is claimed, if its word was the one expected
 abbrev pub claimed_view : ℕ → ℕ → ℕ → View → View
 claimed_view block old read v =
-    if read == old then record v { sweeping = Some record { block = block; dead = 0; given = false; zeroed = [] } } else v
+    if read == old then record v { sweeping = Some record { block = block; dead = 0; given = false; zeroed = [] } } else
+        v
 
 -- the dead cells or arrays are known
 abbrev pub dead_view : ℕ → View → View

@@ -66,7 +66,8 @@ pub record IsNextStructure (v : View) (cell old next : ℕ) : Type 0 where
 abbrev pub MayTakeArray : Layout → ShapeLists → World → ℕ → ℕ → ℕ → ℕ → ℕ → ℕ → Option Op → Type 0
 MayTakeArray layout shapes w me block k old next read (Some (Add src key val)) =
     RunsAsMutator layout w me × (k < 64)
-    × (bit_at read k ≡ 1 → IsNextStructure (w.part me) (cell_named ((state_after layout w.log).registers me src)) old next
+    × (bit_at read k ≡ 1 → IsNextStructure (w.part me) (cell_named ((state_after layout w.log).registers me src)) old
+        next
     × MayCall layout shapes w me (Add src key val) Done (Some (array_at layout block k)))
     × (read ≡ 0 → MayCall layout shapes w me (Add src key val)
     (Refused (Full (class_taken (state_after layout w.log) me (Add src key val)))) None)
