@@ -36,6 +36,7 @@ pub mod TakingCells
 pub mod Searching
 pub mod Takes
 pub mod Searches
+pub mod Claims
 pub mod Scheduling
 pub mod BusyRow
 pub mod PointRows

@@ -22,6 +22,8 @@ use Rattle.tide_machine.specs.Kind.{TakeFree}
 use Rattle.std.proofs.Common.{◌⊎◌, inl, inr, [], Some, None}
 use Rattle.std.specs.Prelude.{◌||◌}
 use Rattle.std.proofs.lemmas.Bool.{or_cases}
+use Rattle.tide_machine.proofs.Claims.{claims_kept}
+use Rattle.tide_machine.specs.Groups.{is_of_claims}
 
 -- whoever steps when
 pub whoever_steps : (layout : Layout) (shapes : ShapeLists) (test : Kind → Bool) →
@@ -43,16 +45,14 @@ whoever_steps layout shapes test keeps _ _ (opens w run came) =
 pub step_keeps : (layout : Layout) (shapes : ShapeLists) → IsWithinLimits layout → slice_get shapes 0 ≡ Some [] →
     (w : World) (me : ℕ) → me < parties → RunningWave layout shapes w → (kind : Kind) → has_law kind ≡ true →
     IsAllowed layout shapes w me kind → RunningWave layout shapes (stepped layout shapes w me kind)
-step_keeps layout shapes limits empty_shape w me inside wave kind is may = by_group (either is)
-  where
-    by_group : (is_of_first_group kind ≡ true) ⊎ (is_of_second_group kind ≡ true) →
-        RunningWave layout shapes (stepped layout shapes w me kind)
-    by_group (inl first) = first_group layout shapes w me inside wave kind first may
-    by_group (inr second) = second_group layout shapes limits empty_shape w me inside wave kind second may
-
-    either : (is_of_first_group kind || is_of_second_group kind) ≡ true → (is_of_first_group kind ≡ true) ⊎
-        (is_of_second_group kind ≡ true)
-    either = or_cases (is_of_first_group kind) (is_of_second_group kind)
+step_keeps layout shapes limits empty_shape w me inside wave kind is may =
+    elim (or_cases (is_of_first_group kind) (is_of_second_group kind || is_of_claims kind) is) [
+      | inl first ↦ first_group layout shapes w me inside wave kind first may
+      | inr rest ↦ elim (or_cases (is_of_second_group kind) (is_of_claims kind) rest) [
+        | inl second ↦ second_group layout shapes limits empty_shape w me inside wave kind second may
+        | inr claims ↦ claims_kept layout shapes limits empty_shape w me inside wave kind claims may
+      ]
+    ]
 
 -- so the wave holds in all schedules of such steps
 pub all_schedules : (layout : Layout) (shapes : ShapeLists) → IsWithinLimits layout → slice_get shapes 0 ≡ Some [] →

@@ -151,20 +151,13 @@ module _ (layout : Layout) (shapes : ShapeLists) (w : World) (me : ℕ) (inside 
   abbrev later : View
   later = record (w.part me) { full = full }
 
-  not_free : (p : ℕ) (at : Region) (index : ℕ) → IsOwnWord layout state p at index → after at index ≡ w.heap at index
-  not_free p _ _ (own_register r a b) = refl
-  not_free p _ _ (own_structure c at) = refl
-  not_free p _ _ (own_array c at) = refl
-  not_free p _ _ (own_pair t k at one has) = refl
-  not_free p _ _ (own_element c a k at is has) = refl
-
-  not_free_settled : (p : ℕ) (at : Region) (index : ℕ) → IsOwnWord layout state p at index →
-      write wave.words.settled region.Free block word at index ≡ wave.words.settled at index
-  not_free_settled p _ _ (own_register r a b) = refl
-  not_free_settled p _ _ (own_structure c at) = refl
-  not_free_settled p _ _ (own_array c at) = refl
-  not_free_settled p _ _ (own_pair t k at one has) = refl
-  not_free_settled p _ _ (own_element c a k at is has) = refl
+  not_free : (heap : Heap) (p : ℕ) (at : Region) (index : ℕ) → IsOwnWord layout state p at index →
+      write heap region.Free block word at index ≡ heap at index
+  not_free heap p _ _ (own_register r a b) = refl
+  not_free heap p _ _ (own_structure c at) = refl
+  not_free heap p _ _ (own_array c at) = refl
+  not_free heap p _ _ (own_pair t k at one has) = refl
+  not_free heap p _ _ (own_element c a k at is has) = refl
 
   words_after : RunningWordsRead layout shapes after (put_at w.part me later) state
   words_after = record {
@@ -174,15 +167,15 @@ module _ (layout : Layout) (shapes : ShapeLists) (w : World) (me : ℕ) (inside 
         (wave.words.same at index read (λ p x owes. free p x (back p at index x owes)));
     owed = each_put (λ p u. (at : Region) (index x : ℕ) → Owes u at index x →
         write wave.words.settled region.Free block word at index ≡ x) w.part me later
-        (λ at index x owes. not_free_settled me at index (wave.words.owns me at index x owes) ∙
+        (λ at index x owes. not_free wave.words.settled me at index (wave.words.owns me at index x owes) ∙
             wave.words.owed me at index x owes)
-        (λ p at index x owes. not_free_settled p at index (wave.words.owns p at index x owes) ∙
+        (λ p at index x owes. not_free wave.words.settled p at index (wave.words.owns p at index x owes) ∙
             wave.words.owed p at index x owes);
     known = each_put (λ p u. (at : Region) (index x : ℕ) → Contains u.known (owed_word at index x) →
         write wave.words.settled region.Free block word at index ≡ x) w.part me later
-        (λ at index x is. not_free_settled me at index (wave.kept.owns me at index x is) ∙
+        (λ at index x is. not_free wave.words.settled me at index (wave.kept.owns me at index x is) ∙
             wave.words.known me at index x is)
-        (λ p at index x is. not_free_settled p at index (wave.kept.owns p at index x is) ∙
+        (λ p at index x is. not_free wave.words.settled p at index (wave.kept.owns p at index x is) ∙
             wave.words.known p at index x is);
     owns = each_put (λ p u. (at : Region) (index x : ℕ) → Owes u at index x → IsOwnWord layout state p at index) w.part
         me later (wave.words.owns me) wave.words.owns;
@@ -240,8 +233,8 @@ module _ (layout : Layout) (shapes : ShapeLists) (w : World) (me : ℕ) (inside 
     growth = growth_after me later refl (w.part me).growth (wave.growths.knows me);
     growths = λ p apart. growth_after p (w.part p) refl (w.part p).growth (wave.growths.knows p);
     knows = λ at index x is. (wave.kept.reads me at index x is, wave.kept.owns me at index x is,
-        not_free me at index (wave.kept.owns me at index x is) ∙ wave.kept.known me at index x is);
-    knows_still = λ p at index x apart is. not_free p at index (wave.kept.owns p at index x is) ∙
+        not_free w.heap me at index (wave.kept.owns me at index x is) ∙ wave.kept.known me at index x is);
+    knows_still = λ p at index x apart is. not_free w.heap p at index (wave.kept.owns p at index x is) ∙
         wave.kept.known p at index x is;
     colours = wave.colours;
     balance = λ _ c in_c few. refl;

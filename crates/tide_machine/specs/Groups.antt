@@ -8,6 +8,7 @@ use Rattle.tide_machine.specs.Kind.{TakeFree}
 use Rattle.tide_machine.specs.World.{World}
 use Rattle.tide_layout.specs.declared.region.Region.TheVariants as region
 use Rattle.tide_machine.specs.Kind.{LoadFree}
+use Rattle.tide_machine.specs.Kind.{LoadClaim, TakeClaim, Release}
 
 -- a participant begins, hears and stops, a mutator retires, and works with its own words and with handles
 abbrev pub is_of_first_group : Kind → Bool
@@ -38,6 +39,13 @@ is_of_second_group (TakeFree block k made) = true
 is_of_second_group (StoreBorn cell word) = true
 is_of_second_group _ = false
 
+-- a mutator claims cells and gives claims back
+abbrev pub is_of_claims : Kind → Bool
+is_of_claims (LoadClaim cell made) = true
+is_of_claims (TakeClaim cell holder made) = true
+is_of_claims (Release cell made) = true
+is_of_claims _ = false
+
 -- the law of the kind is proved
 abbrev pub has_law : Kind → Bool
-has_law kind = is_of_first_group kind || is_of_second_group kind
+has_law kind = is_of_first_group kind || (is_of_second_group kind || is_of_claims kind)
