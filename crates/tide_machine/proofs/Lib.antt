@@ -40,3 +40,10 @@ pub mod Claims
 pub mod Scheduling
 pub mod BusyRow
 pub mod PointRows
+pub mod Rereading
+pub mod Scanning
+pub mod UnBlackening
+pub mod Blackening
+pub mod Publishing
+pub mod VisitorLoads
+pub mod Swapping
