@@ -47,3 +47,4 @@ pub mod Blackening
 pub mod Publishing
 pub mod VisitorLoads
 pub mod Swapping
+pub mod Visits

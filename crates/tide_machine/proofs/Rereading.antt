@@ -106,7 +106,7 @@ module _ (layout : Layout) (shapes : ShapeLists) (w : World) (me : ℕ) (inside 
     raced_scan = record scan { raced = true }
 
     -- the structure is the one that was read before
-    agrees : read ≡ first → RunningWave layout shapes (record { heap = w.heap; part = put_at w.part me (with_scan (w.part me) (still_open agreed_scan)); log = w.log })
+    pub agrees : read ≡ first → RunningWave layout shapes (record { heap = w.heap; part = put_at w.part me (with_scan (w.part me) (still_open agreed_scan)); log = w.log })
     agrees same = scan_step (still_open agreed_scan) record {
       at_hand = λ cell s is at. wave.hands.cells me cell (elim at [ | inl e ↦ scanned scan scans (of_agreed (λ s. s.cell ≡ cell → scan.cell ≡ cell) (λ e. e) s is e) | inr b ↦ buffered scan scans (of_agreed (λ s. Contains s.buffer cell → Contains scan.buffer cell) (λ b. b) s is b) ]);
       arrays = λ array s is has. wave.hands.arrays me array scan scans (of_agreed (λ s. s.array ≡ Some (array + 1) → scan.array ≡ Some (array + 1)) (λ e. e) s is has);
@@ -133,7 +133,7 @@ module _ (layout : Layout) (shapes : ShapeLists) (w : World) (me : ℕ) (inside 
           agreed = λ is. no_race;
         }
 
-    differs : read ≢ first → RunningWave layout shapes (record { heap = w.heap; part = put_at w.part me (with_scan (w.part me) (Some raced_scan)); log = w.log })
+    pub differs : read ≢ first → RunningWave layout shapes (record { heap = w.heap; part = put_at w.part me (with_scan (w.part me) (Some raced_scan)); log = w.log })
     differs apart = scan_step (Some raced_scan) record {
       at_hand = λ cell s is at. wave.hands.cells me cell (elim at [ | inl e ↦ scanned scan scans (of_raced (λ s. s.cell ≡ cell → scan.cell ≡ cell) (λ e. e) s is e) | inr b ↦ buffered scan scans (of_raced (λ s. Contains s.buffer cell → Contains scan.buffer cell) (λ b. b) s is b) ]);
       arrays = λ array s is has. wave.hands.arrays me array scan scans (of_raced (λ s. s.array ≡ Some (array + 1) → scan.array ≡ Some (array + 1)) (λ e. e) s is has);

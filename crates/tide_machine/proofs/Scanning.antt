@@ -139,7 +139,7 @@ module _ (layout : Layout) (shapes : ShapeLists) (w : World) (me : ℕ) (inside 
     }
 
     -- the white cell is made grey and held
-    marked_one : is_marked w.heap cell ≡ false → RunningWave layout shapes (record { heap = coloured w.heap cell Grey; part = put_at w.part me (with_scan (w.part me) (cell ∷ (w.part me).held) (still_open shorter)); log = w.log })
+    pub marked_one : is_marked w.heap cell ≡ false → RunningWave layout shapes (record { heap = coloured w.heap cell Grey; part = put_at w.part me (with_scan (w.part me) (cell ∷ (w.part me).held) (still_open shorter)); log = w.log })
     marked_one white = quiet_step layout shapes w.heap w.part w.log me wave (coloured w.heap cell Grey) (with_scan (w.part me) (cell ∷ (w.part me).held) (still_open shorter)) record {
       inside = inside;
       words = λ at index. unread_write w.heap region.Colour cell (colour_word (running_cycle w.heap) Grey) refl at index;

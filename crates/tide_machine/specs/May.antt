@@ -20,12 +20,13 @@ pub record RunsAsMutator (layout : Layout) (w : World) (me : ℕ) : Type 0 where
   pub is_mutator : me < layout.mutators
   pub runs : (w.part me).runs ≡ true
 
--- the participant is a visitor of the layout in its running part, while a cycle marks
+-- the participant is a visitor of the layout in its running part, while a cycle marks; it owes no push
 pub record RunsAsVisitor (layout : Layout) (w : World) (me : ℕ) : Type 0 where
   pub is_visitor : first_visitor ≤ me
   pub within : me < first_visitor + layout.visitors
   pub runs : (w.part me).runs ≡ true
   pub marks : (w.part me).marks ≡ true
+  pub idle : (w.part me).duty ≡ duty.Nothing
 
 -- a mutator stands between two of its calls: it owes no word, no barrier, no push and no colour, its call word tells all
 -- of its calls, and it grows no array

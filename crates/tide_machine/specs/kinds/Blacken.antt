@@ -7,7 +7,6 @@ use Rattle.tide_machine.specs.World.{World}
 use Rattle.tide_machine.specs.declared.view.View.{View}
 use Rattle.tide_model.specs.Layout.{Layout}
 use Rattle.tide_model.specs.Refused.{is_table}
-use Rattle.tide_machine.specs.declared.view.Duty.TheVariants as duty
 
 -- the visit is counted
 abbrev pub blackened_view : Layout → ℕ → View → View
@@ -18,10 +17,9 @@ blackened_view layout cell v = record v {
   scan = if is_table layout cell then None else Some (scan_of cell);
 }
 
--- the visitor holds the cell, scans none and owes no push
+-- the visitor holds the cell, and scans none
 pub record MayBlacken (layout : Layout) (w : World) (me cell cycle : ℕ) : Type 0 where
   pub runner : RunsAsVisitor layout w me
   pub has : Contains (w.part me).held cell
   pub scans_not : (w.part me).scan ≡ None
-  pub idle : (w.part me).duty ≡ duty.Nothing
   pub in_cycle : cycle ≡ (w.part me).cycle

@@ -3,7 +3,7 @@ use Rattle.std.specs.Prelude.{ℕ, ◌≡◌, ◌≢◌, ◌<◌, true, false}
 use Rattle.std.specs.Prelude.{None, Some}
 use Rattle.tide_machine.specs.May.{RunsAsVisitor}
 use Rattle.tide_machine.specs.Scanning.{in_scan, read_again}
-use Rattle.tide_machine.specs.Words.{count_of}
+use Rattle.tide_machine.specs.Words.{count_of, is_nuked}
 use Rattle.tide_machine.specs.World.{World}
 use Rattle.tide_machine.specs.declared.view.Scan.{Scan}
 use Rattle.tide_machine.specs.declared.view.View.{View}
@@ -22,6 +22,7 @@ pub record MayLoadAgain (layout : Layout) (w : World) (me cell : ℕ) : Type 0 w
   pub of_cell : scan.cell ≡ cell
   pub first : ℕ
   pub was_read : scan.first ≡ Some first
+  pub whole : is_nuked first ≡ false
   pub array : scan.array ≢ None
   pub slots : (slot : ℕ) → slot < slots_of (class_of layout cell) → is_among scan.slots slot ≡ true
   pub elements : (place : ℕ) → place < count_of first → is_among scan.elements place ≡ true

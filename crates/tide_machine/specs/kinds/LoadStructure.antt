@@ -1,5 +1,5 @@
 -- Load structure: a scan reads its cell's structure for the first time.
-use Rattle.std.specs.Prelude.{ℕ, ◌≡◌}
+use Rattle.std.specs.Prelude.{false, ℕ, ◌≡◌}
 use Rattle.std.specs.Prelude.{None, Some}
 use Rattle.tide_machine.specs.May.{RunsAsVisitor}
 use Rattle.tide_machine.specs.Scanning.{in_scan}
@@ -21,3 +21,5 @@ pub record MayLoadStructure (layout : Layout) (w : World) (me cell : ℕ) : Type
   pub is : (w.part me).scan ≡ Some scan
   pub of_cell : scan.cell ≡ cell
   pub first : scan.first ≡ None
+  pub goes_on : scan.raced ≡ false
+  pub once : scan.agreed ≡ false

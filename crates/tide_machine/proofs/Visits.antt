@@ -1,0 +1,151 @@
+-- The kinds of a visitor's scan, of a raced cell and of what is given back keep the wave.
+use Rattle.std.proofs.Common.{ℕ, zero, suc, ◌≡◌, ◌≢◌, ◌+◌, ◌*◌, ◌%◌, ◌<◌, ◌==◌, refl, sym, ◌∙◌, ap, subst, arith, Bool, true, false, List, [], ◌∷◌, inl, inr, Option, Some, None}
+use Rattle.std.specs.Prelude.{Contains, if◌then◌else◌}
+use Rattle.std.specs.Int.{bit_at}
+use Rattle.std.proofs.lemmas.Bool.{cases_Bool, cases_eq, eq-eqb, eqb-true, eqb-false}
+use Rattle.tide_layout.specs.declared.region.Region.TheVariants as region
+use Rattle.tide_machine.specs.declared.view.Duty.{Duty}
+use Rattle.tide_machine.specs.declared.view.Duty.TheVariants as duty
+use Rattle.tide_layout.specs.Slots.{index_of_slot}
+use Rattle.tide_machine.proofs.Colouring.{black_tells}
+use Rattle.tide_machine.specs.Duties.{OwesBarrier}
+use Rattle.tide_machine.specs.Groups.{is_of_visits}
+use Rattle.tide_machine.specs.Kind.{Kind, LoadStructure, LoadSlot, LoadAgain, LoadTarget, Mark, UnBlacken, PushRace, Publish}
+use Rattle.tide_machine.specs.Machine.{IsAllowed, stepped}
+use Rattle.tide_machine.specs.May.{RunsAsVisitor}
+use Rattle.tide_machine.specs.RunningWave.{RunningWave}
+use Rattle.tide_machine.specs.Scanning.{in_scan, still_open, read_again, leave_out}
+use Rattle.tide_machine.specs.Words.{count_of, is_nuked}
+use Rattle.tide_machine.specs.World.{World, parties}
+use Rattle.tide_machine.specs.declared.view.Scan.{Scan}
+use Rattle.tide_machine.specs.declared.view.Target.{Target}
+use Rattle.tide_machine.specs.declared.view.View.{View}
+use Rattle.tide_machine.specs.kinds.LoadAgain.{MayLoadAgain}
+use Rattle.tide_machine.specs.kinds.LoadSlot.{MayLoadSlot}
+use Rattle.tide_machine.specs.kinds.LoadStructure.{MayLoadStructure}
+use Rattle.tide_machine.specs.kinds.LoadTarget.{MayLoadTarget}
+use Rattle.tide_machine.specs.kinds.Mark.{MayMark}
+use Rattle.tide_machine.specs.kinds.Publish.{MayPublish}
+use Rattle.tide_machine.specs.kinds.PushRace.{MayPushRace}
+use Rattle.tide_machine.specs.kinds.UnBlacken.{MayUnBlacken}
+use Rattle.tide_machine.specs.points.Scans.{held, scanned, buffered}
+use Rattle.tide_model.specs.History.{state_after}
+use Rattle.tide_model.specs.Layout.{Layout, class_of, slots_of, cell_count, block_of_cell}
+use Rattle.tide_model.specs.Numbers.{put_at}
+use Rattle.tide_model.specs.Refused.{ShapeLists}
+use Rattle.tide_words.proofs.heap_laws.ReadingLaws.{live_within}
+use Rattle.tide_words.specs.declared.forms.colours.Colour.TheVariants.{Black, Grey}
+use Rattle.tide_words.specs.forms.ColourWord.{colour_word, is_marked_in, is_black_in}
+use Rattle.tide_words.specs.heap.Heap.{Heap, write}
+use Rattle.tide_words.specs.marking.Colours.{is_marking, running_cycle, is_black, IsBlack, coloured}
+use Rattle.tide_words.specs.marking.Marked.{is_marked}
+use Rattle.tide_model.specs.Numbers.{is_among}
+use Rattle.tide_machine.proofs.Loads.{load_same}
+use Rattle.tide_machine.proofs.Regreying.{push_race}
+use Rattle.tide_machine.proofs.Rereading.{agrees, differs}
+use Rattle.tide_machine.proofs.Scanning.{lost_mark, mark_finds_other, marked_one}
+use Rattle.tide_machine.proofs.UnBlackening.{un_blacken, un_blacken_finds_grey}
+use Rattle.tide_machine.proofs.Publishing.{publish}
+use Rattle.tide_machine.proofs.VisitorLoads.{load_structure, load_slot, load_target}
+
+module _ (layout : Layout) (shapes : ShapeLists) (w : World) (me : ℕ) (inside : me < parties) (wave : RunningWave layout shapes w) where
+  -- a visitor runs only while a cycle marks, and owes no barrier
+  marks_for : RunsAsVisitor layout w me → is_marking w.heap ≡ true
+  marks_for runner = sym (wave.numbers.told me runner.runs).0 ∙ runner.marks
+
+  no_barrier : RunsAsVisitor layout w me → (cell : ℕ) → OwesBarrier (w.part me).duty cell → ⊥
+  no_barrier runner cell owes = subst (λ (d : Duty). OwesBarrier d cell) runner.idle owes
+
+  -- what becomes of the view whose scan this is
+  in_view : (scan : Scan) → (w.part me).scan ≡ Some scan → (at : _) (index : ℕ) (change : Scan → Option Scan) →
+      RunningWave layout shapes (record { heap = w.heap; part = put_at w.part me (record (w.part me) { scan = change scan }); log = w.log }) →
+      RunningWave layout shapes (record {
+        heap = write w.heap at index (w.heap at index);
+        part = put_at w.part me (record (w.part me) { scan = in_scan (w.part me).scan change });
+        log = w.log;
+      })
+  in_view scan is at index change after = load_same layout shapes w.heap at index _ w.log
+      (subst (λ (o : Option Scan). RunningWave layout shapes (record { heap = w.heap; part = put_at w.part me (record (w.part me) { scan = in_scan o change }); log = w.log })) (sym is) after)
+
+  pub structure_loaded : (cell : ℕ) → MayLoadStructure layout w me cell → RunningWave layout shapes (stepped layout shapes w me (LoadStructure cell))
+  structure_loaded cell may =
+      subst (λ (c : ℕ). RunningWave layout shapes (stepped layout shapes w me (LoadStructure c))) may.of_cell
+      (in_view may.scan may.is region.Structure may.scan.cell (λ s. Some record s { first = Some (w.heap region.Structure may.scan.cell); raced = is_nuked (w.heap region.Structure may.scan.cell) })
+      (load_structure layout shapes w me inside wave may.runner.runs (marks_for may.runner) (no_barrier may.runner) may.scan may.is may.first may.once may.goes_on))
+
+  pub slot_loaded : (cell n : ℕ) → MayLoadSlot layout w me cell n → RunningWave layout shapes (stepped layout shapes w me (LoadSlot cell n))
+  slot_loaded cell n may =
+      subst (λ (c : ℕ). RunningWave layout shapes (stepped layout shapes w me (LoadSlot c n))) may.of_cell
+      (in_view may.scan may.is region.Slots (index_of_slot layout may.scan.cell n) _
+      (load_slot layout shapes w me inside wave may.runner.runs (marks_for may.runner) (no_barrier may.runner) may.scan may.is n may.once
+      (subst (λ (c : ℕ). n < slots_of (class_of layout c)) (sym may.of_cell) may.within)))
+
+  pub structure_loaded_again : (cell : ℕ) → MayLoadAgain layout w me cell → RunningWave layout shapes (stepped layout shapes w me (LoadAgain cell))
+  structure_loaded_again cell may =
+      subst (λ (c : ℕ). RunningWave layout shapes (stepped layout shapes w me (LoadAgain c))) may.of_cell
+      (in_view may.scan may.is region.Structure may.scan.cell (λ s. read_again read s s.first)
+      (subst (λ (f : Option ℕ). RunningWave layout shapes (record {
+        heap = w.heap; part = put_at w.part me (record (w.part me) { scan = read_again read may.scan f }); log = w.log;
+      })) (sym may.was_read) (by (read == may.first) refl)))
+    where
+      read : ℕ
+      read = w.heap region.Structure may.scan.cell
+
+      all_slots : (n : ℕ) → n < slots_of (class_of layout may.scan.cell) → is_among may.scan.slots n ≡ true
+      all_slots n below = may.slots n (subst (λ (c : ℕ). n < slots_of (class_of layout c)) may.of_cell below)
+
+      by : (b : Bool) → (read == may.first) ≡ b → RunningWave layout shapes (record {
+        heap = w.heap;
+        part = put_at w.part me (record (w.part me) { scan = if b then still_open (record may.scan { agreed = true }) else Some record may.scan { raced = true } });
+        log = w.log;
+      })
+      by true same = agrees layout shapes w me inside wave may.runner.runs (marks_for may.runner) (no_barrier may.runner) may.scan may.is may.first may.was_read
+          may.whole may.once may.goes_on all_slots may.elements (eqb-true read may.first same)
+      by false other = differs layout shapes w me inside wave may.runner.runs (marks_for may.runner) (no_barrier may.runner) may.scan may.is may.first may.was_read
+          may.whole may.once may.goes_on all_slots may.elements (eqb-false read may.first other)
+
+  -- the bit of a raced cell
+  pub race_pushed : (cell : ℕ) → MayPushRace w me cell → RunningWave layout shapes (stepped layout shapes w me (PushRace cell))
+  race_pushed cell may = push_race layout shapes w me inside wave may.runs
+      (λ other grows owes. subst (λ (d : Duty). OwesBarrier d other) may.owed owes) cell may.owed
+
+  pub published : (block mask : ℕ) → MayPublish layout w me block mask → RunningWave layout shapes (stepped layout shapes w me (Publish block mask))
+  published block mask may = publish layout shapes w me inside wave may.runner.runs (marks_for may.runner) block mask
+      (λ cell in_block set. subst (Contains (w.part me).held) (whole cell in_block) (may.held (cell % 64) (omega arith) set))
+    where
+      whole : (cell : ℕ) → block_of_cell cell ≡ block → 64 * block + cell % 64 ≡ cell
+      whole cell in_block = omega (arith, in_block)
+
+  -- a raced cell is made grey again, if it is black still
+  pub un_blackened : (cell cycle : ℕ) → MayUnBlacken layout w me cell cycle → RunningWave layout shapes (stepped layout shapes w me (UnBlacken cell cycle))
+  un_blackened cell cycle may =
+      subst (λ (c : ℕ). RunningWave layout shapes (stepped layout shapes w me (UnBlacken cell c))) (sym (may.in_cycle ∙ (wave.numbers.told me may.runner.runs).1))
+      (subst (λ (c : ℕ). RunningWave layout shapes (stepped layout shapes w me (UnBlacken c (running_cycle w.heap)))) may.of_cell
+      (subst (λ (b : Bool). RunningWave layout shapes (record {
+        heap = write w.heap region.Colour may.scan.cell (if b then colour_word (running_cycle w.heap) Grey else w.heap region.Colour may.scan.cell);
+        part = put_at w.part me (record (w.part me) { scan = None; races = (w.part me).races + 1; duty = if b then duty.PushRace may.scan.cell else (w.part me).duty });
+        log = w.log;
+      })) (sym (black_tells (running_cycle w.heap) (w.heap region.Colour may.scan.cell) (wave.colours may.scan.cell within))) (by (is_black w.heap may.scan.cell) refl)))
+    where
+      within : may.scan.cell < cell_count layout
+      within = live_within layout shapes wave.words.settled (state_after layout w.log) may.scan.cell wave.words.reads
+          (wave.hands.cells me may.scan.cell (scanned may.scan may.is refl))
+
+      by : (b : Bool) → is_black w.heap may.scan.cell ≡ b → RunningWave layout shapes (record {
+        heap = write w.heap region.Colour may.scan.cell (if b then colour_word (running_cycle w.heap) Grey else w.heap region.Colour may.scan.cell);
+        part = put_at w.part me (record (w.part me) { scan = None; races = (w.part me).races + 1; duty = if b then duty.PushRace may.scan.cell else (w.part me).duty });
+        log = w.log;
+      })
+      by true black = un_blacken layout shapes w me inside wave may.runner.runs (marks_for may.runner) may.runner.idle may.scan may.is may.raced black
+      by false isnt = load_same layout shapes w.heap region.Colour may.scan.cell _ w.log
+          (un_blacken_finds_grey layout shapes w me inside wave may.runner.runs (marks_for may.runner) may.runner.idle may.scan may.is may.raced isnt)
+
+  -- each of these kinds
+  pub visits_kept : (kind : Kind) → is_of_visits kind ≡ true → IsAllowed layout shapes w me kind → RunningWave layout shapes (stepped layout shapes w me kind)
+  visits_kept (LoadStructure cell) is may = structure_loaded cell may
+  visits_kept (LoadSlot cell n) is may = slot_loaded cell n may
+  visits_kept (LoadAgain cell) is may = structure_loaded_again cell may
+  visits_kept (UnBlacken cell cycle) is may = un_blackened cell cycle may
+  visits_kept (PushRace cell) is may = race_pushed cell may
+  visits_kept (Publish block mask) is may = published block mask may
+  visits_kept _ is may = absurd (cc)
