@@ -37,7 +37,6 @@ pub mod Searching
 pub mod Takes
 pub mod Searches
 pub mod Claims
-pub mod Scheduling
 pub mod BusyRow
 pub mod PointRows
 pub mod Rereading
@@ -48,3 +47,4 @@ pub mod Publishing
 pub mod VisitorLoads
 pub mod Swapping
 pub mod Visits
+pub mod Scheduling

@@ -24,6 +24,8 @@ use Rattle.std.specs.Prelude.{◌||◌}
 use Rattle.std.proofs.lemmas.Bool.{or_cases}
 use Rattle.tide_machine.proofs.Claims.{claims_kept}
 use Rattle.tide_machine.specs.Groups.{is_of_claims}
+use Rattle.tide_machine.proofs.Visits.{visits_kept}
+use Rattle.tide_machine.specs.Groups.{is_of_visits}
 
 -- whoever steps when
 pub whoever_steps : (layout : Layout) (shapes : ShapeLists) (test : Kind → Bool) →
@@ -46,11 +48,14 @@ pub step_keeps : (layout : Layout) (shapes : ShapeLists) → IsWithinLimits layo
     (w : World) (me : ℕ) → me < parties → RunningWave layout shapes w → (kind : Kind) → has_law kind ≡ true →
     IsAllowed layout shapes w me kind → RunningWave layout shapes (stepped layout shapes w me kind)
 step_keeps layout shapes limits empty_shape w me inside wave kind is may =
-    elim (or_cases (is_of_first_group kind) (is_of_second_group kind || is_of_claims kind) is) [
+    elim (or_cases (is_of_first_group kind) (is_of_second_group kind || (is_of_claims kind || is_of_visits kind)) is) [
       | inl first ↦ first_group layout shapes w me inside wave kind first may
-      | inr rest ↦ elim (or_cases (is_of_second_group kind) (is_of_claims kind) rest) [
+      | inr rest ↦ elim (or_cases (is_of_second_group kind) (is_of_claims kind || is_of_visits kind) rest) [
         | inl second ↦ second_group layout shapes limits empty_shape w me inside wave kind second may
-        | inr claims ↦ claims_kept layout shapes limits empty_shape w me inside wave kind claims may
+        | inr more ↦ elim (or_cases (is_of_claims kind) (is_of_visits kind) more) [
+          | inl claims ↦ claims_kept layout shapes limits empty_shape w me inside wave kind claims may
+          | inr visits ↦ visits_kept layout shapes w me inside wave kind visits may
+        ]
       ]
     ]
 

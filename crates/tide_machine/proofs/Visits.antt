@@ -140,11 +140,65 @@ module _ (layout : Layout) (shapes : ShapeLists) (w : World) (me : ℕ) (inside 
       by false isnt = load_same layout shapes w.heap region.Colour may.scan.cell _ w.log
           (un_blacken_finds_grey layout shapes w me inside wave may.runner.runs (marks_for may.runner) may.runner.idle may.scan may.is may.raced isnt)
 
+  -- a cell that was read and is marked leaves the buffer; else it is the scan's target
+  pub target_loaded : (cell : ℕ) → MayLoadTarget layout w me cell → RunningWave layout shapes (stepped layout shapes w me (LoadTarget cell))
+  target_loaded cell may =
+      in_view may.scan may.is region.Colour cell (λ s. if is_marked_in (w.part me).cycle (w.heap region.Colour cell)
+          then still_open (record s { buffer = leave_out cell s.buffer; target = None })
+          else Some record s { target = Some record { cell = cell; word = w.heap region.Colour cell } })
+      (by (is_marked_in (w.part me).cycle (w.heap region.Colour cell)) refl)
+    where
+      by : (b : Bool) → is_marked_in (w.part me).cycle (w.heap region.Colour cell) ≡ b → RunningWave layout shapes (record {
+        heap = w.heap;
+        part = put_at w.part me (record (w.part me) {
+          scan = if b then still_open (record may.scan { buffer = leave_out cell may.scan.buffer; target = None })
+              else Some record may.scan { target = Some record { cell = cell; word = w.heap region.Colour cell } };
+        });
+        log = w.log;
+      })
+      by true is = lost_mark layout shapes w me inside wave may.runner.runs (marks_for may.runner) may.scan may.is may.agreed cell may.has
+          (subst (λ (c : ℕ). is_marked_in c (w.heap region.Colour cell) ≡ true) (wave.numbers.told me may.runner.runs).1 is)
+      by false is = load_target layout shapes w me inside wave may.runner.runs (marks_for may.runner) (no_barrier may.runner) may.scan may.is cell may.has
+
+  -- the target is made grey and held, or another one has marked it
+  pub target_marked : (cell old cycle : ℕ) → MayMark layout w me cell old cycle → RunningWave layout shapes (stepped layout shapes w me (Mark cell old cycle))
+  target_marked cell old cycle may =
+      subst (λ (o : Option Scan). RunningWave layout shapes (record {
+        heap = write w.heap region.Colour cell (if read == old then colour_word cycle Grey else read);
+        part = put_at w.part me (record (w.part me) { held = if read == old then cell ∷ (w.part me).held else (w.part me).held; scan = in_scan o (λ s. still_open (record s { buffer = leave_out cell s.buffer; target = None })) });
+        log = w.log;
+      })) (sym may.is) (by (read == old) refl)
+    where
+      read : ℕ
+      read = w.heap region.Colour cell
+
+      same_cycle : cycle ≡ running_cycle w.heap
+      same_cycle = may.in_cycle ∙ (wave.numbers.told me may.runner.runs).1
+
+      by : (b : Bool) → (read == old) ≡ b → RunningWave layout shapes (record {
+        heap = write w.heap region.Colour cell (if b then colour_word cycle Grey else read);
+        part = put_at w.part me (record (w.part me) { held = if b then cell ∷ (w.part me).held else (w.part me).held; scan = still_open (record may.scan { buffer = leave_out cell may.scan.buffer; target = None }) });
+        log = w.log;
+      })
+      by true same =
+          subst (λ (c : ℕ). RunningWave layout shapes (record {
+            heap = write w.heap region.Colour cell (colour_word c Grey);
+            part = put_at w.part me (record (w.part me) { held = cell ∷ (w.part me).held; scan = still_open (record may.scan { buffer = leave_out cell may.scan.buffer; target = None }) });
+            log = w.log;
+          })) (sym same_cycle)
+          (marked_one layout shapes w me inside wave may.runner.runs (marks_for may.runner) may.scan may.is may.agreed cell may.has
+          (subst (λ (c : ℕ). is_marked_in c read ≡ false) same_cycle (ap (is_marked_in cycle) (eqb-true read old same) ∙ may.white)))
+      by false other = load_same layout shapes w.heap region.Colour cell _ w.log
+          (mark_finds_other layout shapes w me inside wave may.runner.runs (marks_for may.runner) may.scan may.is may.agreed cell may.has
+          (record { cell = cell; word = old }) may.target refl (eqb-false read old other))
+
   -- each of these kinds
   pub visits_kept : (kind : Kind) → is_of_visits kind ≡ true → IsAllowed layout shapes w me kind → RunningWave layout shapes (stepped layout shapes w me kind)
   visits_kept (LoadStructure cell) is may = structure_loaded cell may
   visits_kept (LoadSlot cell n) is may = slot_loaded cell n may
   visits_kept (LoadAgain cell) is may = structure_loaded_again cell may
+  visits_kept (LoadTarget cell) is may = target_loaded cell may
+  visits_kept (Mark cell old cycle) is may = target_marked cell old cycle may
   visits_kept (UnBlacken cell cycle) is may = un_blackened cell cycle may
   visits_kept (PushRace cell) is may = race_pushed cell may
   visits_kept (Publish block mask) is may = published block mask may

@@ -10,6 +10,7 @@ use Rattle.tide_layout.specs.declared.region.Region.TheVariants as region
 use Rattle.tide_machine.specs.Kind.{LoadFree}
 use Rattle.tide_machine.specs.Kind.{LoadClaim, TakeClaim, Release}
 use Rattle.tide_machine.specs.Kind.{LoadStructure, LoadSlot, LoadAgain, UnBlacken, PushRace, Publish}
+use Rattle.tide_machine.specs.Kind.{LoadTarget, Mark}
 
 -- a participant begins, hears and stops, a mutator retires, and works with its own words and with handles
 abbrev pub is_of_first_group : Kind → Bool
@@ -47,11 +48,14 @@ is_of_claims (TakeClaim cell holder made) = true
 is_of_claims (Release cell made) = true
 is_of_claims _ = false
 
--- a visitor reads the structure and the slots of the cell that it scans, gives up a raced cell, and publishes its stack
+-- a visitor reads the structure and the slots of the cell that it scans, marks what it read, gives up a raced cell, and
+-- publishes its stack
 abbrev pub is_of_visits : Kind → Bool
 is_of_visits (LoadStructure cell) = true
 is_of_visits (LoadSlot cell slot) = true
 is_of_visits (LoadAgain cell) = true
+is_of_visits (LoadTarget cell) = true
+is_of_visits (Mark cell old cycle) = true
 is_of_visits (UnBlacken cell cycle) = true
 is_of_visits (PushRace cell) = true
 is_of_visits (Publish block mask) = true
@@ -59,4 +63,4 @@ is_of_visits _ = false
 
 -- the law of the kind is proved
 abbrev pub has_law : Kind → Bool
-has_law kind = is_of_first_group kind || (is_of_second_group kind || is_of_claims kind)
+has_law kind = is_of_first_group kind || (is_of_second_group kind || (is_of_claims kind || is_of_visits kind))
