@@ -42,9 +42,8 @@ pub mod PointRows
 pub mod Rereading
 pub mod Scanning
 pub mod UnBlackening
-pub mod Blackening
+pub mod Stacks
 pub mod Publishing
 pub mod VisitorLoads
-pub mod Swapping
 pub mod Visits
 pub mod Scheduling
