@@ -1,10 +1,16 @@
 -- The wave holds wherever the machine may come, if each of the kinds that step keeps it.
-use Rattle.std.proofs.Common.{ℕ, ◌≡◌, ◌<◌, Bool, true}
-use Rattle.tide_machine.proofs.Entering.{FrozenMachine-entered}
-use Rattle.tide_machine.proofs.FirstGroup.{first_group}
-use Rattle.tide_machine.proofs.Freezing.{FrozenMachine-first, FrozenMachine-running}
-use Rattle.tide_machine.proofs.OpeningParts.{RunningWave-opened}
-use Rattle.tide_machine.specs.Groups.{is_of_first_group}
+use Rattle.std.proofs.Common.{ℕ, ◌≡◌, ◌<◌, Bool, true, inl, inr, [], Some}
+use Rattle.std.proofs.lemmas.Bool.{or_cases}
+use Rattle.std.specs.Prelude.{slice_get, ◌||◌}
+use Rattle.tide_layout.specs.Limits.{IsWithinLimits}
+use Rattle.tide_machine.proofs.freezes.Entering.{FrozenMachine-entered}
+use Rattle.tide_machine.proofs.freezes.Freezing.{FrozenMachine-first, FrozenMachine-running}
+use Rattle.tide_machine.proofs.freezes.OpeningParts.{RunningWave-opened}
+use Rattle.tide_machine.proofs.kinds.Claims.{claims_kept}
+use Rattle.tide_machine.proofs.kinds.FirstGroup.{first_group}
+use Rattle.tide_machine.proofs.kinds.SecondGroup.{second_group}
+use Rattle.tide_machine.proofs.kinds.Visits.{visits_kept}
+use Rattle.tide_machine.specs.Groups.{is_of_first_group, has_law, is_of_second_group, is_of_claims, is_of_visits}
 use Rattle.tide_machine.specs.Kind.{Kind}
 use Rattle.tide_machine.specs.Machine.{IsAllowed, stepped}
 use Rattle.tide_machine.specs.RunningWave.{RunningWave}
@@ -13,19 +19,6 @@ use Rattle.tide_machine.specs.World.{World, parties}
 use Rattle.tide_model.specs.Lawful.{IsLawful}
 use Rattle.tide_model.specs.Layout.{Layout}
 use Rattle.tide_model.specs.Refused.{ShapeLists}
-use Rattle.std.specs.Prelude.{slice_get}
-use Rattle.tide_layout.specs.Limits.{IsWithinLimits}
-use Rattle.tide_machine.proofs.SecondGroup.{second_group}
-use Rattle.tide_machine.proofs.Takes.{take}
-use Rattle.tide_machine.specs.Groups.{has_law, is_of_second_group}
-use Rattle.tide_machine.specs.Kind.{TakeFree}
-use Rattle.std.proofs.Common.{◌⊎◌, inl, inr, [], Some, None}
-use Rattle.std.specs.Prelude.{◌||◌}
-use Rattle.std.proofs.lemmas.Bool.{or_cases}
-use Rattle.tide_machine.proofs.Claims.{claims_kept}
-use Rattle.tide_machine.specs.Groups.{is_of_claims}
-use Rattle.tide_machine.proofs.Visits.{visits_kept}
-use Rattle.tide_machine.specs.Groups.{is_of_visits}
 
 -- whoever steps when
 pub whoever_steps : (layout : Layout) (shapes : ShapeLists) (test : Kind → Bool) →
@@ -39,7 +32,7 @@ whoever_steps layout shapes test keeps _ _ (freezes w came stopped) =
     FrozenMachine-running layout shapes w (whoever_steps layout shapes test keeps running w came) stopped
 whoever_steps layout shapes test keeps _ _ (enters w before after heap log came entry) =
     FrozenMachine-entered layout shapes w before after heap log
-        (whoever_steps layout shapes test keeps (frozen before) w came) entry
+    (whoever_steps layout shapes test keeps (frozen before) w came) entry
 whoever_steps layout shapes test keeps _ _ (opens w run came) =
     RunningWave-opened layout shapes w run (whoever_steps layout shapes test keeps (frozen 0) w came)
 

@@ -1,10 +1,10 @@
 -- What a view's duty and its growth say of a cell.
 use Rattle.std.specs.Prelude.{ℕ, ◌≡◌}
 use Rattle.tide_machine.specs.declared.view.Duty.{Duty}
-use Rattle.tide_machine.specs.declared.view.Growth.{Growth}
-use Rattle.tide_machine.specs.declared.view.View.{View}
 use Rattle.tide_machine.specs.declared.view.Duty.TheVariants as duty
+use Rattle.tide_machine.specs.declared.view.Growth.{Growth}
 use Rattle.tide_machine.specs.declared.view.Growth.TheVariants as growth
+use Rattle.tide_machine.specs.declared.view.View.{View}
 
 -- no barrier and no push is owed
 abbrev pub IsCalm : Duty → Type 0

@@ -1,7 +1,11 @@
 -- The machine while the heap is frozen: nobody runs, and the collector alone makes entries.
 use Rattle.std.specs.Prelude.{ℕ, ◌≡◌, ◌+◌, ◌≤◌, ◌<◌, ◌%◌, ◌^◌, true, false, List, [], None}
 use Rattle.tide_core.specs.FrozenWave.{call_count, MarkedIsRetained, BornIsMarked, blackened_count}
+use Rattle.tide_layout.specs.declared.region.Region.TheVariants as region
 use Rattle.tide_machine.specs.World.{World}
+use Rattle.tide_machine.specs.declared.view.Duty.TheVariants as duty
+use Rattle.tide_machine.specs.declared.view.Growth.TheVariants as growth
+use Rattle.tide_machine.specs.declared.view.Role.TheVariants.{Member}
 use Rattle.tide_machine.specs.declared.view.View.{View}
 use Rattle.tide_machine.specs.points.Marks.{SpanIsLive}
 use Rattle.tide_machine.specs.points.Seen.{IsKnown, ParkedIsEmpty}
@@ -17,10 +21,6 @@ use Rattle.tide_words.specs.heap.EmptyHeap.{empty_heap}
 use Rattle.tide_words.specs.heap.Heap.{Heap}
 use Rattle.tide_words.specs.marking.Colours.{is_marking, running_cycle}
 use Rattle.tide_words.specs.marking.Marking.{Marking}
-use Rattle.tide_layout.specs.declared.region.Region.TheVariants as region
-use Rattle.tide_machine.specs.declared.view.Duty.TheVariants as duty
-use Rattle.tide_machine.specs.declared.view.Growth.TheVariants as growth
-use Rattle.tide_machine.specs.declared.view.Role.TheVariants.{Member}
 
 -- The wave at a freeze in which visits are told by notes alone so far: it is `FrozenWave` but that so many cells more may
 -- be black than the entries say. What stood in the cycle is live, and the history is lawful.

@@ -1,16 +1,6 @@
 -- The kinds whose law is proved.
-use Rattle.std.specs.Prelude.{Bool, true, false}
-use Rattle.tide_machine.specs.Kind.{Kind, Split, Join, Activate, StoreStopped, Retire, LoadRegister, StoreRegister, LoadCall, StoreCall, LoadStrong, StoreStrong, LoadWeak, StoreWeak}
-use Rattle.tide_machine.specs.Kind.{LoadLink, StoreLink, LoadColour, Regrey, PushBit, StoreBorn}
-use Rattle.std.specs.Int.{bit_at}
-use Rattle.std.specs.Prelude.{◌==◌, ◌||◌, ℕ}
-use Rattle.tide_machine.specs.Kind.{TakeFree}
-use Rattle.tide_machine.specs.World.{World}
-use Rattle.tide_layout.specs.declared.region.Region.TheVariants as region
-use Rattle.tide_machine.specs.Kind.{LoadFree}
-use Rattle.tide_machine.specs.Kind.{LoadClaim, TakeClaim, Release}
-use Rattle.tide_machine.specs.Kind.{LoadStructure, LoadSlot, LoadAgain, UnBlacken, PushRace, Publish}
-use Rattle.tide_machine.specs.Kind.{LoadTarget, Mark}
+use Rattle.std.specs.Prelude.{Bool, true, false, ◌||◌}
+use Rattle.tide_machine.specs.Kind.{Kind, Split, Join, Activate, StoreStopped, Retire, LoadRegister, StoreRegister, LoadCall, StoreCall, LoadStrong, StoreStrong, LoadWeak, StoreWeak, LoadLink, StoreLink, LoadColour, Regrey, PushBit, StoreBorn, TakeFree, LoadFree, LoadClaim, TakeClaim, Release, LoadStructure, LoadSlot, LoadAgain, UnBlacken, PushRace, Publish, LoadTarget, Mark}
 
 -- a participant begins, hears and stops, a mutator retires, and works with its own words and with handles
 abbrev pub is_of_first_group : Kind → Bool

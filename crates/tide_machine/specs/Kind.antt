@@ -1,9 +1,9 @@
 -- The kinds of step: which word each is on, and what it does to it.
-use Rattle.std.specs.Prelude.{ℕ, ◌+◌, ◌-◌, Bool, List}
-use Rattle.std.specs.Prelude.{◌==◌, nat_lt, if◌then◌else◌, Option, bit_and, bit_or, None, Some}
+use Rattle.std.specs.Prelude.{ℕ, ◌+◌, ◌-◌, Bool, List, ◌==◌, nat_lt, if◌then◌else◌, Option, bit_and, bit_or, None, Some}
 use Rattle.tide_layout.specs.Region.{index_of_register}
 use Rattle.tide_layout.specs.Slots.{index_of_slot, index_of_element}
 use Rattle.tide_layout.specs.declared.region.Region.{Region}
+use Rattle.tide_layout.specs.declared.region.Region.TheVariants as region
 use Rattle.tide_machine.specs.Words.{all_but, bit_of}
 use Rattle.tide_machine.specs.World.{first_visitor}
 use Rattle.tide_machine.specs.declared.act.Act.{Act}
@@ -14,7 +14,6 @@ use Rattle.tide_model.specs.declared.op.Op.{Op}
 use Rattle.tide_words.specs.declared.forms.colours.Colour.TheVariants.{Black, Grey}
 use Rattle.tide_words.specs.forms.ColourWord.{colour_word}
 use Rattle.tide_words.specs.forms.Reference.{array_word, claim_word}
-use Rattle.tide_layout.specs.declared.region.Region.TheVariants as region
 
 -- What a ticket tells a participant of the open part: the history up to its Open, the part's number and how many calls
 -- each mutator has in it, and whether a cycle marks, and which.

@@ -1,17 +1,10 @@
 -- The machine of atomic steps: what each step does, and which are allowed.
-use Rattle.std.specs.Prelude.{ℕ}
-use Rattle.std.specs.Prelude.{Option}
-use Rattle.tide_machine.specs.Kind.{Kind, region_of, index_of, act_of, acted}
+use Rattle.std.specs.Prelude.{ℕ, Option}
+use Rattle.tide_machine.specs.Entries.{entry_of, added}
+use Rattle.tide_machine.specs.Kind.{Kind, region_of, index_of, act_of, acted, Split, Join, Activate, StoreStopped, Retire, LoadRegister, StoreRegister, LoadCall, StoreCall, LoadStrong, StoreStrong, LoadWeak, StoreWeak, LoadLink, StoreLink, LoadColour, Regrey, PushBit, LoadFree, TakeFree, StoreBorn, LoadPair, StorePair, StoreGroup, LoadClaim, TakeClaim, Release, LoadElement, StoreElement, TakeArray, Nuke, LoadOwnArray, StoreArray, LoadOwnStructure, StoreStructure, SwapGrey, Blacken, LoadStructure, LoadArray, LoadSlot, LoadElementOf, LoadAgain, LoadTarget, Mark, UnBlacken, PushRace, Publish, ClaimBlock, LoadDead, ZeroWord, GiveBits, Finish}
 use Rattle.tide_machine.specs.May.{RunsAsMutator}
 use Rattle.tide_machine.specs.Views.{view_after}
 use Rattle.tide_machine.specs.World.{World}
-use Rattle.tide_model.specs.History.{state_after}
-use Rattle.tide_model.specs.Layout.{Layout}
-use Rattle.tide_model.specs.Numbers.{put_at}
-use Rattle.tide_model.specs.Refused.{ShapeLists}
-use Rattle.tide_model.specs.declared.entry.Event.{Event}
-use Rattle.tide_words.specs.heap.Heap.{write}
-use Rattle.tide_machine.specs.Kind.{Split, Join, Activate, StoreStopped, Retire, LoadRegister, StoreRegister, LoadCall, StoreCall, LoadStrong, StoreStrong, LoadWeak, StoreWeak, LoadLink, StoreLink, LoadColour, Regrey, PushBit, LoadFree, TakeFree, StoreBorn, LoadPair, StorePair, StoreGroup, LoadClaim, TakeClaim, Release, LoadElement, StoreElement, TakeArray, Nuke, LoadOwnArray, StoreArray, LoadOwnStructure, StoreStructure, SwapGrey, Blacken, LoadStructure, LoadArray, LoadSlot, LoadElementOf, LoadAgain, LoadTarget, Mark, UnBlacken, PushRace, Publish, ClaimBlock, LoadDead, ZeroWord, GiveBits, Finish}
 use Rattle.tide_machine.specs.kinds.Activate.{MayActivate}
 use Rattle.tide_machine.specs.kinds.Blacken.{MayBlacken}
 use Rattle.tide_machine.specs.kinds.ClaimCell.{MayLoadClaim, MayTakeClaim}
@@ -46,7 +39,12 @@ use Rattle.tide_machine.specs.kinds.SwapGrey.{MaySwapGrey}
 use Rattle.tide_machine.specs.kinds.TakeArray.{MayTakeArray}
 use Rattle.tide_machine.specs.kinds.TakeFree.{MayTakeFree}
 use Rattle.tide_machine.specs.kinds.UnBlacken.{MayUnBlacken}
-use Rattle.tide_machine.specs.Entries.{entry_of, added}
+use Rattle.tide_model.specs.History.{state_after}
+use Rattle.tide_model.specs.Layout.{Layout}
+use Rattle.tide_model.specs.Numbers.{put_at}
+use Rattle.tide_model.specs.Refused.{ShapeLists}
+use Rattle.tide_model.specs.declared.entry.Event.{Event}
+use Rattle.tide_words.specs.heap.Heap.{write}
 
 -- the word that a step finds
 abbrev pub found : Layout → World → ℕ → Kind → ℕ

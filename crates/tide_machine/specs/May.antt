@@ -1,9 +1,11 @@
 -- What the conditions of several kinds of step have in common.
+use Rattle.std.specs.Prelude.{◌&&◌, if◌then◌else◌, ℕ, ◌≡◌, ◌<◌, ◌≤◌, ◌+◌, Bool, true, List, [], length, Option, None}
+use Rattle.tide_machine.specs.Entries.{call_of}
 use Rattle.tide_machine.specs.Words.{is_cell_word}
-use Rattle.std.specs.Prelude.{◌&&◌, if◌then◌else◌, ℕ, ◌≡◌, ◌<◌, ◌≤◌, ◌+◌, Bool, true, List, [], length}
-use Rattle.std.specs.Prelude.{Option, None}
 use Rattle.tide_machine.specs.World.{World, first_visitor}
 use Rattle.tide_machine.specs.declared.view.Duty.{Duty}
+use Rattle.tide_machine.specs.declared.view.Duty.TheVariants as duty
+use Rattle.tide_machine.specs.declared.view.Growth.TheVariants as growth
 use Rattle.tide_machine.specs.declared.view.Owed.{Owed}
 use Rattle.tide_machine.specs.declared.view.View.{View}
 use Rattle.tide_model.specs.Lawful.{Stands}
@@ -11,9 +13,6 @@ use Rattle.tide_model.specs.Layout.{Layout}
 use Rattle.tide_model.specs.Refused.{ShapeLists}
 use Rattle.tide_model.specs.declared.op.Op.{Op}
 use Rattle.tide_model.specs.declared.op.Reply.{Reply}
-use Rattle.tide_machine.specs.declared.view.Duty.TheVariants as duty
-use Rattle.tide_machine.specs.declared.view.Growth.TheVariants as growth
-use Rattle.tide_machine.specs.Entries.{call_of}
 
 -- the participant is a mutator of the layout in its running part
 pub record RunsAsMutator (layout : Layout) (w : World) (me : ℕ) : Type 0 where

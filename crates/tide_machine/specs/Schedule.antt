@@ -2,6 +2,7 @@
 use Rattle.std.specs.Prelude.{ℕ, ◌≡◌, ◌+◌, ◌<◌, ◌++◌, ◌∷◌, true, false, Bool, List, []}
 use Rattle.tide_core.specs.Entered.{HasBegun, HasPaused, HasEnded, HasSwept, with_begin, with_end, with_open}
 use Rattle.tide_cycle.specs.Converged.{HasConverged}
+use Rattle.tide_layout.specs.declared.region.Region.TheVariants as region
 use Rattle.tide_machine.specs.Frozen.{FrozenMachine, first_world}
 use Rattle.tide_machine.specs.Kind.{Kind}
 use Rattle.tide_machine.specs.Machine.{IsAllowed, stepped}
@@ -17,7 +18,6 @@ use Rattle.tide_model.specs.declared.entry.Entry.TheVariants.{Pause, Visits, Swe
 use Rattle.tide_model.specs.declared.entry.Event.{Event}
 use Rattle.tide_words.specs.heap.Heap.{Heap, write}
 use Rattle.tide_words.specs.marking.Colours.{is_marking}
-use Rattle.tide_layout.specs.declared.region.Region.TheVariants as region
 
 -- a part runs, or the heap is frozen, and so many visits are told by notes and not entered yet
 pub data Mode : Type 0 where

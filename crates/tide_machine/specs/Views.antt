@@ -1,13 +1,9 @@
 -- What a participant's view becomes by a step of its own, kind by kind.
-use Rattle.std.specs.Prelude.{ℕ, List, [], ◌∷◌, ◌++◌}
-use Rattle.std.specs.Prelude.{Option, None, Some}
+use Rattle.std.specs.Prelude.{ℕ, List, [], ◌∷◌, ◌++◌, Option, None, Some}
+use Rattle.tide_machine.specs.Entries.{entry_of}
 use Rattle.tide_machine.specs.Kind.{Kind, Split, Join, Activate, StoreStopped, Retire, LoadRegister, StoreRegister, LoadCall, StoreCall, LoadStrong, StoreStrong, LoadWeak, StoreWeak, LoadLink, StoreLink, LoadColour, Regrey, PushBit, LoadFree, TakeFree, StoreBorn, LoadPair, StorePair, StoreGroup, LoadClaim, TakeClaim, Release, LoadElement, StoreElement, TakeArray, Nuke, LoadOwnArray, StoreArray, LoadOwnStructure, StoreStructure, SwapGrey, Blacken, LoadStructure, LoadArray, LoadSlot, LoadElementOf, LoadAgain, LoadTarget, Mark, UnBlacken, PushRace, Publish, ClaimBlock, LoadDead, ZeroWord, GiveBits, Finish}
 use Rattle.tide_machine.specs.May.{called}
 use Rattle.tide_machine.specs.declared.view.View.{View}
-use Rattle.tide_model.specs.History.{state_after}
-use Rattle.tide_model.specs.Layout.{Layout}
-use Rattle.tide_model.specs.Refused.{ShapeLists}
-use Rattle.tide_model.specs.declared.entry.Event.{Event}
 use Rattle.tide_machine.specs.kinds.Activate.{begun_view}
 use Rattle.tide_machine.specs.kinds.Blacken.{blackened_view}
 use Rattle.tide_machine.specs.kinds.ClaimCell.{claim_view}
@@ -39,7 +35,10 @@ use Rattle.tide_machine.specs.kinds.Sweep.{claimed_view, dead_view, zeroed_view,
 use Rattle.tide_machine.specs.kinds.TakeArray.{array_view}
 use Rattle.tide_machine.specs.kinds.TakeFree.{taken_view}
 use Rattle.tide_machine.specs.kinds.UnBlacken.{un_blackened_view}
-use Rattle.tide_machine.specs.Entries.{entry_of}
+use Rattle.tide_model.specs.History.{state_after}
+use Rattle.tide_model.specs.Layout.{Layout}
+use Rattle.tide_model.specs.Refused.{ShapeLists}
+use Rattle.tide_model.specs.declared.entry.Event.{Event}
 
 -- the fields that a step changes, beside what its participant has seen
 abbrev pub changed : Layout → ShapeLists → List Event → ℕ → Kind → ℕ → View → View

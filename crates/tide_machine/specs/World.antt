@@ -1,13 +1,12 @@
 -- The machine's world: words, what each participant knows, and one history.
-use Rattle.std.specs.Prelude.{ℕ, ◌+◌, List}
-use Rattle.std.specs.Prelude.{◌==◌, if◌then◌else◌}
+use Rattle.std.specs.Prelude.{ℕ, ◌+◌, List, ◌==◌, if◌then◌else◌}
 use Rattle.tide_layout.specs.Slots.{total_below}
 use Rattle.tide_machine.specs.declared.view.Duty.{Duty}
+use Rattle.tide_machine.specs.declared.view.Duty.TheVariants as duty
 use Rattle.tide_machine.specs.declared.view.View.{View}
 use Rattle.tide_model.specs.declared.entry.Event.{Event}
 use Rattle.tide_words.specs.heap.Heap.{Heap}
 use Rattle.tide_words.specs.marking.Marking.{times_in}
-use Rattle.tide_machine.specs.declared.view.Duty.TheVariants as duty
 
 -- the words, what each participant knows, by its number, and the history
 pub record World : Type 0 where

@@ -1,6 +1,5 @@
 -- Blacken: a visitor colours a cell that it holds black, and begins to scan it; a table has nothing to scan.
-use Rattle.std.specs.Prelude.{ℕ, ◌≡◌, ◌+◌, []}
-use Rattle.std.specs.Prelude.{Contains, if◌then◌else◌, None, Some}
+use Rattle.std.specs.Prelude.{ℕ, ◌≡◌, ◌+◌, [], Contains, if◌then◌else◌, None, Some}
 use Rattle.tide_machine.specs.May.{RunsAsVisitor}
 use Rattle.tide_machine.specs.Scanning.{take_out, scan_of}
 use Rattle.tide_machine.specs.World.{World}

@@ -1,6 +1,6 @@
 -- Claim: a mutator loads a claim word, or exchanges it for its own.
-use Rattle.std.specs.Prelude.{ℕ, ◌≡◌, []}
-use Rattle.std.specs.Prelude.{◌==◌, if◌then◌else◌, Option, None, Some}
+use Rattle.std.specs.Prelude.{ℕ, ◌≡◌, [], ◌==◌, if◌then◌else◌, Option, None, Some}
+use Rattle.tide_machine.specs.Entries.{reply_of_call}
 use Rattle.tide_machine.specs.May.{RunsAsMutator, MayCall, called}
 use Rattle.tide_machine.specs.World.{World}
 use Rattle.tide_machine.specs.declared.view.View.{View}
@@ -11,7 +11,6 @@ use Rattle.tide_model.specs.declared.op.Op.{Op}
 use Rattle.tide_model.specs.declared.op.Op.TheVariants.{Claim}
 use Rattle.tide_model.specs.declared.op.Reply.TheVariants.{Done}
 use Rattle.tide_model.specs.declared.val.Val.TheVariants.{Cell}
-use Rattle.tide_machine.specs.Entries.{reply_of_call}
 
 -- a claim word that was loaded refuses the call, or says nothing
 abbrev pub claim_view : Option Op → View → View

@@ -1,14 +1,13 @@
 -- Join: a participant that doesn't run hears the ticket of the open part.
-use Rattle.std.specs.Prelude.{ℕ, ◌≡◌, ◌<◌, false}
-use Rattle.std.specs.Prelude.{filter}
+use Rattle.std.specs.Prelude.{ℕ, ◌≡◌, ◌<◌, false, filter}
+use Rattle.tide_layout.specs.declared.region.Region.TheVariants as region
 use Rattle.tide_machine.specs.Kind.{Ticket}
 use Rattle.tide_machine.specs.World.{World}
-use Rattle.tide_machine.specs.kinds.StoreStopped.{stopped_view}
 use Rattle.tide_machine.specs.declared.view.View.{View}
+use Rattle.tide_machine.specs.kinds.StoreStopped.{stopped_view}
 use Rattle.tide_model.specs.History.{is_call_of}
 use Rattle.tide_model.specs.Prefix.{IsPrefix}
 use Rattle.tide_words.specs.marking.Colours.{is_marking, running_cycle}
-use Rattle.tide_layout.specs.declared.region.Region.TheVariants as region
 
 -- it has seen what the ticket tells of the history, and knows what it tells of the part; it doesn't run yet
 abbrev pub joined_view : Ticket → View → View

@@ -1,7 +1,7 @@
 -- Load free word: a mutator looks for a free cell or array in a block of the class.
-use Rattle.std.specs.Prelude.{ℕ, ◌≡◌, ◌<◌, [], ◌∷◌, List, length}
-use Rattle.std.specs.Prelude.{◌==◌, if◌then◌else◌, Option, None, Some}
+use Rattle.std.specs.Prelude.{ℕ, ◌≡◌, ◌<◌, [], ◌∷◌, List, length, ◌==◌, if◌then◌else◌, Option, None, Some}
 use Rattle.tide_layout.specs.Region.{block_count}
+use Rattle.tide_machine.specs.Entries.{class_taken}
 use Rattle.tide_machine.specs.May.{RunsAsMutator, MayCall, called}
 use Rattle.tide_machine.specs.World.{World}
 use Rattle.tide_machine.specs.declared.view.View.{View}
@@ -12,7 +12,6 @@ use Rattle.tide_model.specs.declared.entry.Event.{Event}
 use Rattle.tide_model.specs.declared.op.Op.{Op}
 use Rattle.tide_model.specs.declared.op.Refusal.TheVariants.{Full}
 use Rattle.tide_model.specs.declared.op.Reply.TheVariants.{Refused}
-use Rattle.tide_machine.specs.Entries.{class_taken}
 
 -- a block in which nothing is free at this moment is one that was full
 abbrev pub looked_view : List Event → ℕ → ℕ → View → View

@@ -1,6 +1,5 @@
 -- Load slot: a scan reads a slot of its cell, or an element of the array that it read.
-use Rattle.std.specs.Prelude.{ℕ, ◌≡◌, ◌+◌, ◌<◌, ◌∷◌, false}
-use Rattle.std.specs.Prelude.{Some}
+use Rattle.std.specs.Prelude.{ℕ, ◌≡◌, ◌+◌, ◌<◌, ◌∷◌, false, Some}
 use Rattle.tide_machine.specs.May.{RunsAsVisitor}
 use Rattle.tide_machine.specs.Scanning.{in_scan, and_cell_of}
 use Rattle.tide_machine.specs.Words.{count_of}

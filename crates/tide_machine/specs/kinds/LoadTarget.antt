@@ -1,6 +1,5 @@
 -- Load target's colour: a scan whose readings agreed loads the colour of a cell that it read.
-use Rattle.std.specs.Prelude.{ℕ, ◌≡◌, true}
-use Rattle.std.specs.Prelude.{Contains, if◌then◌else◌, None, Some}
+use Rattle.std.specs.Prelude.{ℕ, ◌≡◌, true, Contains, if◌then◌else◌, None, Some}
 use Rattle.tide_machine.specs.May.{RunsAsVisitor}
 use Rattle.tide_machine.specs.Scanning.{in_scan, still_open, leave_out}
 use Rattle.tide_machine.specs.World.{World}

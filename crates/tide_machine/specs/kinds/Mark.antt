@@ -1,6 +1,5 @@
 -- Mark: a scan makes a cell grey over the colour word that it loaded, and holds it.
-use Rattle.std.specs.Prelude.{ℕ, ◌≡◌, ◌∷◌, true}
-use Rattle.std.specs.Prelude.{◌==◌, Contains, if◌then◌else◌, None, Some}
+use Rattle.std.specs.Prelude.{ℕ, ◌≡◌, ◌∷◌, true, ◌==◌, Contains, if◌then◌else◌, None, Some, false}
 use Rattle.tide_machine.specs.May.{RunsAsVisitor}
 use Rattle.tide_machine.specs.Scanning.{in_scan, still_open, leave_out}
 use Rattle.tide_machine.specs.World.{World}
@@ -8,7 +7,6 @@ use Rattle.tide_machine.specs.declared.view.Scan.{Scan}
 use Rattle.tide_machine.specs.declared.view.View.{View}
 use Rattle.tide_model.specs.Layout.{Layout}
 use Rattle.tide_words.specs.forms.ColourWord.{is_marked_in}
-use Rattle.std.specs.Prelude.{false}
 
 -- the one that made it grey holds it; where the word had changed another one marked it
 abbrev pub marked_view : ℕ → ℕ → ℕ → View → View

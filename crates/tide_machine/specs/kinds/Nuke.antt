@@ -1,13 +1,13 @@
 -- Nuke: a growth stores the structure's word with the mark that the array changes, once it owes no element.
 use Rattle.std.specs.Prelude.{ℕ, ◌≡◌, ◌+◌, []}
+use Rattle.tide_layout.specs.declared.region.Region.TheVariants as region
 use Rattle.tide_machine.specs.Duties.{nuked_growth}
 use Rattle.tide_machine.specs.May.{RunsAsMutator}
 use Rattle.tide_machine.specs.Owed.{Owes}
 use Rattle.tide_machine.specs.World.{World}
+use Rattle.tide_machine.specs.declared.view.Growth.TheVariants as growth
 use Rattle.tide_machine.specs.declared.view.View.{View}
 use Rattle.tide_model.specs.Layout.{Layout}
-use Rattle.tide_layout.specs.declared.region.Region.TheVariants as region
-use Rattle.tide_machine.specs.declared.view.Growth.TheVariants as growth
 
 -- the growth goes on
 abbrev pub nuked_view : View → View

@@ -1,14 +1,13 @@
 -- Regrey: a barrier that found its cell black makes it grey again, if it is black still.
-use Rattle.std.specs.Prelude.{ℕ, ◌≡◌, ◌<◌}
-use Rattle.std.specs.Prelude.{◌==◌, if◌then◌else◌}
+use Rattle.std.specs.Prelude.{ℕ, ◌≡◌, ◌<◌, ◌==◌, if◌then◌else◌}
 use Rattle.tide_machine.specs.Duties.{GrowsOn}
 use Rattle.tide_machine.specs.May.{RunsAsMutator}
 use Rattle.tide_machine.specs.World.{World}
+use Rattle.tide_machine.specs.declared.view.Duty.TheVariants as duty
 use Rattle.tide_machine.specs.declared.view.View.{View}
 use Rattle.tide_model.specs.Layout.{Layout, cell_count}
 use Rattle.tide_words.specs.declared.forms.colours.Colour.TheVariants.{Black}
 use Rattle.tide_words.specs.forms.ColourWord.{colour_word}
-use Rattle.tide_machine.specs.declared.view.Duty.TheVariants as duty
 
 -- the one that made the cell grey has to push it
 abbrev pub regreyed_view : ℕ → ℕ → ℕ → View → View

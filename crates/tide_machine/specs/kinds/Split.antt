@@ -1,8 +1,8 @@
 -- Split: a participant that has stopped copies its view for its note.
 use Rattle.std.specs.Prelude.{ℕ, ◌≡◌, false}
 use Rattle.tide_machine.specs.World.{World}
-use Rattle.tide_machine.specs.kinds.StoreStopped.{stopped_view}
 use Rattle.tide_machine.specs.declared.view.View.{View}
+use Rattle.tide_machine.specs.kinds.StoreStopped.{stopped_view}
 
 -- it has stopped in the part whose ticket it heard, and still doesn't run
 abbrev pub split_view : View → View

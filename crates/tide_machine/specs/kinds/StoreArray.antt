@@ -1,15 +1,14 @@
 -- Store array: a growth stores the new array in its cell; the claimer of a cell loads its array's word.
-use Rattle.std.specs.Prelude.{ℕ, ◌≡◌, ◌∷◌, []}
-use Rattle.std.specs.Prelude.{Contains}
+use Rattle.std.specs.Prelude.{ℕ, ◌≡◌, ◌∷◌, [], Contains}
+use Rattle.tide_layout.specs.declared.region.Region.TheVariants as region
 use Rattle.tide_machine.specs.Duties.{stored_growth}
 use Rattle.tide_machine.specs.May.{RunsAsMutator}
 use Rattle.tide_machine.specs.Owed.{owed_word, without_word}
 use Rattle.tide_machine.specs.World.{World}
+use Rattle.tide_machine.specs.declared.view.Growth.TheVariants as growth
 use Rattle.tide_machine.specs.declared.view.View.{View}
 use Rattle.tide_model.specs.History.{state_after}
 use Rattle.tide_model.specs.Layout.{Layout}
-use Rattle.tide_layout.specs.declared.region.Region.TheVariants as region
-use Rattle.tide_machine.specs.declared.view.Growth.TheVariants as growth
 
 -- the growth goes on, and the array's word is owed no more
 abbrev pub stored_array_view : ℕ → View → View

@@ -1,6 +1,5 @@
 -- Store link: a mutator stores a slot of a cell by Put, and owes the barrier on the cell where it stored a reference.
-use Rattle.std.specs.Prelude.{ℕ, ◌≡◌, ◌<◌, []}
-use Rattle.std.specs.Prelude.{Option, None, Some}
+use Rattle.std.specs.Prelude.{ℕ, ◌≡◌, ◌<◌, [], Option, None, Some}
 use Rattle.tide_machine.specs.May.{MayCall, called, barrier_for}
 use Rattle.tide_machine.specs.World.{World}
 use Rattle.tide_machine.specs.declared.view.View.{View}
@@ -22,5 +21,5 @@ abbrev pub MayStoreLink : Layout → ShapeLists → World → ℕ → ℕ → �
 MayStoreLink layout shapes w me cell slot word (Some (Put src n val)) =
     (n ≡ slot) × (slot < slots_of (class_of layout cell)) × ((state_after layout w.log).registers me src ≡ Cell cell)
     × (word ≡ val_word ((state_after layout w.log).registers me val)) ×
-        MayCall layout shapes w me (Put src n val) Done None
+    MayCall layout shapes w me (Put src n val) Done None
 MayStoreLink layout shapes w me cell slot word _ = ⊥

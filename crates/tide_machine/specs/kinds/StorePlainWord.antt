@@ -1,7 +1,7 @@
 -- Store plain word: the claimer of a table loads or stores the word of a pair, and a mutator stores a group word.
-use Rattle.std.specs.Prelude.{ℕ, ◌≡◌, ◌∷◌, true}
-use Rattle.std.specs.Prelude.{Contains, Option, None, Some}
+use Rattle.std.specs.Prelude.{ℕ, ◌≡◌, ◌∷◌, true, Contains, Option, None, Some}
 use Rattle.tide_layout.specs.Slots.{index_of_slot, HasSlot}
+use Rattle.tide_layout.specs.declared.region.Region.TheVariants as region
 use Rattle.tide_machine.specs.May.{RunsAsMutator, MayCall, called}
 use Rattle.tide_machine.specs.Owed.{owed_word, owed_register, filled_register}
 use Rattle.tide_machine.specs.Words.{value_of_pair}
@@ -15,7 +15,6 @@ use Rattle.tide_model.specs.declared.op.Op.TheVariants.{PairSet, PairGet, PairDe
 use Rattle.tide_model.specs.declared.op.Reply.TheVariants.{Done, Seen}
 use Rattle.tide_model.specs.declared.val.Val.TheVariants.{Cell}
 use Rattle.tide_words.specs.forms.PairWord.{pair_word}
-use Rattle.tide_layout.specs.declared.region.Region.TheVariants as region
 
 -- a pair's word is known, or PairGet saw its value
 abbrev pub paired_view : Layout → ℕ → ℕ → ℕ → ℕ → Option Op → View → View

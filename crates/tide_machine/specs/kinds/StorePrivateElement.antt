@@ -1,11 +1,12 @@
 -- Store private array word: the claimer of a cell loads or stores an element of its array, or of one that was just taken.
-use Rattle.std.specs.Prelude.{ℕ, ◌≡◌, ◌≤◌, ◌∷◌, [], length}
-use Rattle.std.specs.Prelude.{◌⊎◌, Contains, Option, None, Some}
+use Rattle.std.specs.Prelude.{ℕ, ◌≡◌, ◌≤◌, ◌∷◌, [], length, ◌⊎◌, Contains, Option, None, Some}
 use Rattle.tide_layout.specs.Slots.{index_of_element, HasElement}
+use Rattle.tide_layout.specs.declared.region.Region.TheVariants as region
 use Rattle.tide_machine.specs.May.{RunsAsMutator, MayCall, called, barrier_for}
 use Rattle.tide_machine.specs.Owed.{Owes, owed_word, without_word, owed_register, filled_register}
 use Rattle.tide_machine.specs.Words.{value_of, cell_named}
 use Rattle.tide_machine.specs.World.{World}
+use Rattle.tide_machine.specs.declared.view.Growth.TheVariants as growth
 use Rattle.tide_machine.specs.declared.view.View.{View}
 use Rattle.tide_model.specs.History.{state_after}
 use Rattle.tide_model.specs.Layout.{Layout}
@@ -15,8 +16,6 @@ use Rattle.tide_model.specs.declared.op.Op.{Op}
 use Rattle.tide_model.specs.declared.op.Op.TheVariants.{GetProp, SetProp}
 use Rattle.tide_model.specs.declared.op.Reply.TheVariants.{Done, Seen}
 use Rattle.tide_words.specs.forms.ValueWord.{val_word}
-use Rattle.tide_layout.specs.declared.region.Region.TheVariants as region
-use Rattle.tide_machine.specs.declared.view.Growth.TheVariants as growth
 
 -- an element's word is known, or GetProp saw its value
 abbrev pub element_view : Layout → ℕ → ℕ → ℕ → ℕ → Option Op → View → View

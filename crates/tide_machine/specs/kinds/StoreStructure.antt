@@ -1,11 +1,12 @@
 -- Store structure: a growth stores its cell's new structure, or Add does where the array has room; the claimer of a cell
 -- loads its structure's word.
-use Rattle.std.specs.Prelude.{ℕ, ◌≡◌, ◌+◌, ◌∷◌, ◌++◌, [], length}
-use Rattle.std.specs.Prelude.{Option, None, Some}
+use Rattle.std.specs.Prelude.{ℕ, ◌≡◌, ◌+◌, ◌∷◌, ◌++◌, [], length, Option, None, Some}
 use Rattle.tide_call.specs.ShapeWord.{whole_word, IsShapeWord}
+use Rattle.tide_layout.specs.declared.region.Region.TheVariants as region
 use Rattle.tide_machine.specs.May.{RunsAsMutator, MayCall, called, barrier_for}
 use Rattle.tide_machine.specs.Owed.{owed_word, without_word}
 use Rattle.tide_machine.specs.World.{World}
+use Rattle.tide_machine.specs.declared.view.Growth.TheVariants as growth
 use Rattle.tide_machine.specs.declared.view.View.{View}
 use Rattle.tide_model.specs.History.{state_after}
 use Rattle.tide_model.specs.Layout.{Layout}
@@ -16,8 +17,6 @@ use Rattle.tide_model.specs.declared.op.Op.TheVariants.{Add}
 use Rattle.tide_model.specs.declared.op.Reply.TheVariants.{Done}
 use Rattle.tide_model.specs.declared.val.Val.TheVariants.{Cell}
 use Rattle.tide_words.specs.forms.ValueWord.{val_word}
-use Rattle.tide_layout.specs.declared.region.Region.TheVariants as region
-use Rattle.tide_machine.specs.declared.view.Growth.TheVariants as growth
 
 -- the growth is over, or Add made a link whose barrier is owed
 abbrev pub structured_view : State → ℕ → ℕ → Option Op → View → View

@@ -1,12 +1,14 @@
 -- Take free bit, of an array: a growth begins, and owes the barrier, the new array's words, the array and the structure.
-use Rattle.std.specs.Prelude.{ℕ, ◌≡◌, ◌+◌, ◌*◌, ◌-◌, ◌<◌, ◌∷◌, [], suc, false, List, length}
 use Rattle.std.specs.Int.{bit_at}
-use Rattle.std.specs.Prelude.{◌==◌, if◌then◌else◌, Option, None, Some}
+use Rattle.std.specs.Prelude.{ℕ, ◌≡◌, ◌+◌, ◌*◌, ◌-◌, ◌<◌, ◌∷◌, [], suc, false, List, length, ◌==◌, if◌then◌else◌, Option, None, Some}
 use Rattle.tide_layout.specs.Region.{cell_block_count}
+use Rattle.tide_layout.specs.declared.region.Region.TheVariants as region
+use Rattle.tide_machine.specs.Entries.{class_taken}
 use Rattle.tide_machine.specs.May.{RunsAsMutator, MayCall, barrier_for}
 use Rattle.tide_machine.specs.Owed.{owed_word, owed_elements, Knows}
 use Rattle.tide_machine.specs.Words.{cell_named, count_of, is_nuked}
 use Rattle.tide_machine.specs.World.{World}
+use Rattle.tide_machine.specs.declared.view.Growth.TheVariants as growth
 use Rattle.tide_machine.specs.declared.view.View.{View}
 use Rattle.tide_machine.specs.kinds.LoadFree.{searched_view}
 use Rattle.tide_model.specs.History.{state_after}
@@ -21,9 +23,6 @@ use Rattle.tide_model.specs.declared.op.Reply.TheVariants.{Done, Refused}
 use Rattle.tide_model.specs.declared.val.Val.{Val}
 use Rattle.tide_words.specs.forms.Reference.{array_word}
 use Rattle.tide_words.specs.forms.ValueWord.{val_word}
-use Rattle.tide_layout.specs.declared.region.Region.TheVariants as region
-use Rattle.tide_machine.specs.declared.view.Growth.TheVariants as growth
-use Rattle.tide_machine.specs.Entries.{class_taken}
 
 -- the array of a block of arrays that has this bit
 abbrev pub array_at : Layout → ℕ → ℕ → ℕ
@@ -67,7 +66,7 @@ abbrev pub MayTakeArray : Layout → ShapeLists → World → ℕ → ℕ → �
 MayTakeArray layout shapes w me block k old next read (Some (Add src key val)) =
     RunsAsMutator layout w me × (k < 64)
     × (bit_at read k ≡ 1 → IsNextStructure (w.part me) (cell_named ((state_after layout w.log).registers me src)) old
-        next
+    next
     × MayCall layout shapes w me (Add src key val) Done (Some (array_at layout block k)))
     × (read ≡ 0 → MayCall layout shapes w me (Add src key val)
     (Refused (Full (class_taken (state_after layout w.log) me (Add src key val)))) None)

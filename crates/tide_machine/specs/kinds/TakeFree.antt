@@ -1,10 +1,11 @@
 -- Take free bit: a mutator clears a free bit, and the cell is born if the bit was set.
-use Rattle.std.specs.Prelude.{ℕ, ◌≡◌, ◌+◌, ◌*◌, ◌<◌, List}
 use Rattle.std.specs.Int.{bit_at}
-use Rattle.std.specs.Prelude.{◌==◌, if◌then◌else◌, Option, None, Some}
+use Rattle.std.specs.Prelude.{ℕ, ◌≡◌, ◌+◌, ◌*◌, ◌<◌, List, ◌==◌, if◌then◌else◌, Option, None, Some}
+use Rattle.tide_machine.specs.Entries.{class_taken}
 use Rattle.tide_machine.specs.May.{RunsAsMutator, MayCall, called}
 use Rattle.tide_machine.specs.Owed.{owed_register, filled_register}
 use Rattle.tide_machine.specs.World.{World}
+use Rattle.tide_machine.specs.declared.view.Duty.TheVariants as duty
 use Rattle.tide_machine.specs.declared.view.View.{View}
 use Rattle.tide_machine.specs.kinds.LoadFree.{searched_view}
 use Rattle.tide_model.specs.History.{state_after}
@@ -16,15 +17,12 @@ use Rattle.tide_model.specs.declared.op.Op.TheVariants.{Alloc, Table}
 use Rattle.tide_model.specs.declared.op.Refusal.TheVariants.{Full}
 use Rattle.tide_model.specs.declared.op.Reply.TheVariants.{Born, Refused}
 use Rattle.tide_model.specs.declared.val.Val.TheVariants.{Cell}
-use Rattle.tide_machine.specs.declared.view.Duty.TheVariants as duty
-use Rattle.tide_machine.specs.Entries.{class_taken}
 
 -- the taker owes the cell's register and its colour; a take that was lost is one that looked
 abbrev pub taken_view : Layout → List Event → ℕ → ℕ → ℕ → Option Op → ℕ → View → View
 taken_view layout log me block k None read v = v
 taken_view layout log me block k (Some op) read v =
-    if bit_at read k == 1 then record (called (owed_register layout me (filled_register op) (Cell (64 * block + k))) v)
-        {
+    if bit_at read k == 1 then record (called (owed_register layout me (filled_register op) (Cell (64 * block + k))) v) {
       duty = duty.Born (64 * block + k);
       born = v.born + 1;
     }

@@ -1,6 +1,5 @@
 -- The point on cells that were born in the cycle, and those whose colour is still owed.
-use Rattle.std.specs.Prelude.{ℕ, ◌≡◌, ◌≢◌, true, false, List}
-use Rattle.std.specs.Prelude.{◌⊎◌, Some, Contains}
+use Rattle.std.specs.Prelude.{ℕ, ◌≡◌, ◌≢◌, true, false, List, ◌⊎◌, Some, Contains, ◌<◌}
 use Rattle.tide_core.specs.FrozenWave.{is_born_in_cycle}
 use Rattle.tide_machine.specs.Duties.{OwesColour}
 use Rattle.tide_machine.specs.Scanning.{Place}
@@ -10,7 +9,6 @@ use Rattle.tide_model.specs.Cycle.{cycle_span}
 use Rattle.tide_model.specs.Graph.{IsRetained, no_cell}
 use Rattle.tide_model.specs.History.{state_after}
 use Rattle.tide_model.specs.Layout.{Layout, cell_count}
-use Rattle.std.specs.Prelude.{◌<◌}
 use Rattle.tide_model.specs.References.{IsLive}
 use Rattle.tide_model.specs.State.{State}
 use Rattle.tide_model.specs.declared.entry.Event.{Event}

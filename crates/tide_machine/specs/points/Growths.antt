@@ -1,11 +1,12 @@
 -- Points on growths of arrays, which change several words of a cell one after another.
-use Rattle.std.specs.Prelude.{ℕ, ◌≡◌, ◌+◌, ◌≤◌, true, false}
-use Rattle.std.specs.Prelude.{Contains, Some}
+use Rattle.std.specs.Prelude.{ℕ, ◌≡◌, ◌+◌, ◌≤◌, true, false, Contains, Some}
+use Rattle.tide_layout.specs.declared.region.Region.TheVariants as region
 use Rattle.tide_machine.specs.Duties.{GrowsAndOwes}
 use Rattle.tide_machine.specs.Owed.{Owes}
 use Rattle.tide_machine.specs.Scanning.{property}
 use Rattle.tide_machine.specs.Words.{count_of, is_nuked}
 use Rattle.tide_machine.specs.declared.view.Growth.{Growth}
+use Rattle.tide_machine.specs.declared.view.Growth.TheVariants as growth
 use Rattle.tide_machine.specs.declared.view.View.{View}
 use Rattle.tide_machine.specs.points.Links.{LinkAt}
 use Rattle.tide_model.specs.Layout.{Layout}
@@ -13,8 +14,6 @@ use Rattle.tide_model.specs.State.{State}
 use Rattle.tide_words.specs.forms.Reference.{array_word}
 use Rattle.tide_words.specs.heap.Heap.{Heap}
 use Rattle.tide_words.specs.marking.Colours.{is_marking}
-use Rattle.tide_layout.specs.declared.region.Region.TheVariants as region
-use Rattle.tide_machine.specs.declared.view.Growth.TheVariants as growth
 
 -- in a growth of a cell's array the claim is held, and the structure's word stands by the stage, and the next is owed
 pub record GrowthOn (heap : Heap) (state : State) (p : ℕ) (v : View) (cell old new word : ℕ) : Type 0 where

@@ -1,6 +1,5 @@
 -- Points on who holds grey cells.
-use Rattle.std.specs.Prelude.{ℕ, ◌≡◌, ◌+◌, ◌<◌, true, false, []}
-use Rattle.std.specs.Prelude.{None, if◌then◌else◌}
+use Rattle.std.specs.Prelude.{ℕ, ◌≡◌, ◌+◌, ◌<◌, true, false, [], None, if◌then◌else◌}
 use Rattle.tide_layout.specs.Region.{cell_block_count}
 use Rattle.tide_machine.specs.Duties.{IsCalm}
 use Rattle.tide_machine.specs.World.{total, holds}

@@ -1,6 +1,6 @@
 -- The point on links from black cells to unmarked ones, and who answers for them.
-use Rattle.std.specs.Prelude.{ℕ, ◌≡◌, ◌<◌, true, false, List, length}
-use Rattle.std.specs.Prelude.{◌⊎◌, Option, None, Some, Contains}
+use Rattle.std.specs.Prelude.{ℕ, ◌≡◌, ◌<◌, true, false, List, length, ◌⊎◌, Option, None, Some, Contains}
+use Rattle.tide_layout.specs.declared.region.Region.TheVariants as region
 use Rattle.tide_machine.specs.Duties.{OwesBarrier}
 use Rattle.tide_machine.specs.Scanning.{Place, slot, property, IsUnread, IsTrue}
 use Rattle.tide_machine.specs.declared.view.Scan.{Scan}
@@ -14,7 +14,6 @@ use Rattle.tide_model.specs.declared.val.Val.TheVariants.{Cell}
 use Rattle.tide_words.specs.heap.Heap.{Heap}
 use Rattle.tide_words.specs.marking.Colours.{is_marking, IsBlack}
 use Rattle.tide_words.specs.marking.Marked.{is_marked}
-use Rattle.tide_layout.specs.declared.region.Region.TheVariants as region
 
 -- a live cell holds the other at this place
 abbrev pub LinkAt : State → ℕ → Place → ℕ → Type 0

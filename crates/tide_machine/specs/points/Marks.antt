@@ -1,7 +1,7 @@
 -- Points on marked cells: that the cycle retains them, that what stood in the cycle is live, and how many are black.
-use Rattle.std.specs.Prelude.{ℕ, ◌≡◌, ◌+◌, ◌<◌, ◌≤◌, true, List}
-use Rattle.std.specs.Prelude.{◌==◌, Some, Contains, if◌then◌else◌}
+use Rattle.std.specs.Prelude.{ℕ, ◌≡◌, ◌+◌, ◌<◌, ◌≤◌, true, List, ◌==◌, Some, Contains, if◌then◌else◌}
 use Rattle.tide_core.specs.FrozenWave.{blackened_count}
+use Rattle.tide_layout.specs.declared.region.Region.TheVariants as region
 use Rattle.tide_machine.specs.Scanning.{IsTrue}
 use Rattle.tide_machine.specs.World.{total}
 use Rattle.tide_machine.specs.declared.view.Scan.{Scan}
@@ -15,7 +15,6 @@ use Rattle.tide_model.specs.Since.{visits_since}
 use Rattle.tide_model.specs.declared.entry.Event.{Event}
 use Rattle.tide_words.specs.heap.Heap.{Heap}
 use Rattle.tide_words.specs.marking.Colours.{is_marking, IsMarked}
-use Rattle.tide_layout.specs.declared.region.Region.TheVariants as region
 
 -- what stood at some moment of the cycle that marks retains each marked cell, and so what a scan will mark
 pub record RunningMarkedIsRetained (layout : Layout) (heap : Heap) (part : ℕ → View) (log : List Event) : Type 0 where

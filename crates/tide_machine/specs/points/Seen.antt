@@ -1,6 +1,8 @@
 -- Points on what each participant has seen of the history, and on the words that tell of parts, cycles and calls.
-use Rattle.std.specs.Prelude.{ℕ, ◌≡◌, ◌<◌, ◌%◌, ◌^◌, true, false, List, [], length}
-use Rattle.std.specs.Prelude.{None, filter, Contains}
+use Rattle.std.specs.Prelude.{ℕ, ◌≡◌, ◌<◌, ◌%◌, ◌^◌, true, false, List, [], length, None, filter, Contains}
+use Rattle.tide_layout.specs.declared.region.Region.TheVariants as region
+use Rattle.tide_machine.specs.declared.view.Duty.TheVariants as duty
+use Rattle.tide_machine.specs.declared.view.Growth.TheVariants as growth
 use Rattle.tide_machine.specs.declared.view.View.{View}
 use Rattle.tide_model.specs.Cycle.{begin_count}
 use Rattle.tide_model.specs.History.{is_call_of, is_open}
@@ -11,9 +13,6 @@ use Rattle.tide_model.specs.Since.{is_call, since}
 use Rattle.tide_model.specs.declared.entry.Event.{Event}
 use Rattle.tide_words.specs.heap.Heap.{Heap}
 use Rattle.tide_words.specs.marking.Colours.{is_marking, running_cycle}
-use Rattle.tide_layout.specs.declared.region.Region.TheVariants as region
-use Rattle.tide_machine.specs.declared.view.Duty.TheVariants as duty
-use Rattle.tide_machine.specs.declared.view.Growth.TheVariants as growth
 
 -- each participant has seen a beginning of the history, and its own entries are all that the history has of it
 pub record IsKnown (log : List Event) (part : ℕ → View) : Type 0 where

@@ -1,6 +1,5 @@
 -- Points on what the words say of the store while calls still owe some of them.
-use Rattle.std.specs.Prelude.{ℕ, ◌≡◌, ◌≤◌, true, List, length}
-use Rattle.std.specs.Prelude.{Contains}
+use Rattle.std.specs.Prelude.{ℕ, ◌≡◌, ◌≤◌, true, List, length, Contains}
 use Rattle.tide_layout.specs.declared.region.Region.{Region}
 use Rattle.tide_machine.specs.Owed.{Owes, Knows, IsOwnWord, owed_word}
 use Rattle.tide_machine.specs.declared.view.View.{View}

@@ -1,0 +1,3 @@
+-- Worked worlds.
+pub mod BusyRow
+pub mod PointRows
