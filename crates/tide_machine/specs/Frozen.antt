@@ -22,7 +22,8 @@ use Rattle.tide_words.specs.heap.Heap.{Heap}
 use Rattle.tide_words.specs.marking.Colours.{is_marking, running_cycle}
 use Rattle.tide_words.specs.marking.Marking.{Marking}
 
--- The wave at a freeze in which visits are told by notes alone so far: it is `FrozenWave` but that so many cells more may
+-- The wave at a freeze in which visits are told by notes alone so far: it is `FrozenWave` but that so many cells
+-- more may
 -- be black than the entries say. What stood in the cycle is live, and the history is lawful.
 pub record FrozenWith (layout : Layout) (shapes : ShapeLists) (heap : Heap) (history : List Event) (unentered : ℕ)
     : Type 0 where

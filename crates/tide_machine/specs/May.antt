@@ -27,7 +27,8 @@ pub record RunsAsVisitor (layout : Layout) (w : World) (me : ℕ) : Type 0 where
   pub marks : (w.part me).marks ≡ true
   pub idle : (w.part me).duty ≡ duty.Nothing
 
--- a mutator stands between two of its calls: it owes no word, no barrier, no push and no colour, its call word tells all
+-- a mutator stands between two of its calls: it owes no word, no barrier, no push and no colour, its call word
+-- tells all
 -- of its calls, and it grows no array
 pub record IsBetweenCalls (v : View) : Type 0 where
   pub owed : v.owed ≡ []

@@ -47,7 +47,8 @@ module _ (layout : Layout) (shapes : ShapeLists) (w : World) (me : ℕ) (inside 
       record {
         inside = inside;
         runs = runs;
-        words = λ at index. unread_write w.heap region.Colour cell (colour_word (running_cycle w.heap) Black) refl at index;
+        words = λ at index. unread_write w.heap region.Colour cell (colour_word (running_cycle w.heap) Black) refl at
+            index;
         period = refl;
         call_words = λ p. refl;
         colours = colours_coloured layout w.heap cell Black (omega arith) wave.colours;
@@ -57,7 +58,8 @@ module _ (layout : Layout) (shapes : ShapeLists) (w : World) (me : ℕ) (inside 
               | inl same ↦
                   let was = ap {B = ℕ} (λ (b : Bool). if b then 1 else 0) (ap (is_grey w.heap) same ∙
                   (unmarked_is_neither w.heap cell a.white).1) in
-                  let now = ap {B = ℕ} (λ (b : Bool). if b then 1 else 0) (ap (is_grey (coloured w.heap cell Black)) same ∙
+                  let now = ap {B = ℕ} (λ (b : Bool). if b then 1 else 0)
+                      (ap (is_grey (coloured w.heap cell Black)) same ∙
                   black_is_not_grey (coloured w.heap cell Black) cell (is_black-made w.heap cell)) in
                   omega (arith, none, was, now)
               | inr apart ↦ (let grey = ap {B = ℕ} (λ (b : Bool). if b then 1 else 0)
@@ -86,7 +88,8 @@ module _ (layout : Layout) (shapes : ShapeLists) (w : World) (me : ℕ) (inside 
         born = λ _ other o. inr (subst (IsMarked (coloured w.heap cell Black)) (was_mine other o)
             (black_is_marked (coloured w.heap cell Black) cell (is_black-made w.heap cell)));
         owes = λ other o. absurd o;
-        counted = λ _. count_where-le (λ c. is_black (coloured w.heap cell Black) c && not (is_born_in_cycle w.log c)) (λ c.
+        counted = λ _. count_where-le (λ c. is_black (coloured w.heap cell Black) c && not (is_born_in_cycle w.log c))
+            (λ c.
             is_black w.heap c && not (is_born_in_cycle w.log c)) (cell_count layout) (λ other both. fewer other both);
       }
     where
@@ -128,7 +131,8 @@ module _ (layout : Layout) (shapes : ShapeLists) (w : World) (me : ℕ) (inside 
             put_at w.part me (with_duty (w.part me) duty.Nothing);
         log = w.log;
       })
-  born_white idle = duty_step layout shapes w.heap w.part w.log me wave (coloured w.heap cell White) duty.Nothing record {
+  born_white idle = duty_step layout shapes w.heap w.part w.log me wave (coloured w.heap cell White) duty.Nothing record
+      {
     inside = inside;
     runs = runs;
     words = λ at index. unread_write w.heap region.Colour cell (colour_word (running_cycle w.heap) White) refl at index;

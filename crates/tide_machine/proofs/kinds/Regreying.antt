@@ -65,7 +65,8 @@ module _ (layout : Layout) (shapes : ShapeLists) (w : World) (me : ℕ) (inside 
       (duty.Push cell) record {
         inside = inside;
         runs = runs;
-        words = λ at index. unread_write w.heap region.Colour cell (colour_word (running_cycle w.heap) Grey) refl at index;
+        words = λ at index. unread_write w.heap region.Colour cell (colour_word (running_cycle w.heap) Grey) refl at
+            index;
         period = refl;
         call_words = λ p. refl;
         colours = colours_coloured layout w.heap cell Grey (omega arith) wave.colours;
@@ -101,7 +102,8 @@ module _ (layout : Layout) (shapes : ShapeLists) (w : World) (me : ℕ) (inside 
             inl (sym (marked_before_grey w.heap cell other (black_is_marked w.heap cell black)) ∙ now);
         born = λ _ other owes. absurd (was_born (duty.Regrey cell word) other is owes);
         owes = λ other owes. absurd owes;
-        counted = λ marks. count_where-le (λ c. is_black (coloured w.heap cell Grey) c && not (is_born_in_cycle w.log c))
+        counted = λ marks. count_where-le (λ c.
+            is_black (coloured w.heap cell Grey) c && not (is_born_in_cycle w.log c))
             (λ c. is_black w.heap c && not (is_born_in_cycle w.log c)) (cell_count layout)
             (λ other both. let parts = and_parts (is_black (coloured w.heap cell Grey) other)
             (not (is_born_in_cycle w.log other)) both in

@@ -150,7 +150,8 @@ module _ (layout : Layout) (shapes : ShapeLists) (heap : Heap) (part : ℕ → V
         cycle = refl;
         begun = refl;
         period = refl;
-        calls = calls_view layout heap (write heap region.Stopped index word) part me (part me) refl (λ p. refl) wave.calls;
+        calls = calls_view layout heap (write heap region.Stopped index word) part me (part me) refl (λ p.
+            refl) wave.calls;
         ran = runs;
         runs = runs;
         colours = wave.colours;

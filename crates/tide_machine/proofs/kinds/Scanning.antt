@@ -1,5 +1,5 @@
 -- The steps of a scan keep the invariant.
-use Rattle.std.proofs.Common.{ℕ, zero, suc, ◌≡◌, ◌≢◌, ◌+◌, ◌<◌, ◌⊎◌, ◌==◌, refl, sym, ◌∙◌, ap, subst, arith, Bool, true, false, List, [], ◌∷◌, ◌++◌, inl, inr, Option, Some, None}
+use Rattle.std.proofs.Common.{ℕ, ◌≡◌, ◌≢◌, ◌+◌, ◌<◌, ◌⊎◌, ◌==◌, refl, sym, ◌∙◌, ap, subst, arith, Bool, true, false, List, [], ◌∷◌, ◌++◌, inl, inr, Option, Some, None}
 use Rattle.std.proofs.lemmas.Bool.{cases_eq, eq-eqb, ne_eqb, and_parts, and_from}
 use Rattle.std.proofs.lemmas.List.Elements.{filter-append, Contains-append_cases, Contains-append_left, Contains-append_right}
 use Rattle.std.proofs.lemmas.List.Sums.{sum_by-append}
@@ -33,14 +33,7 @@ use Rattle.tide_words.specs.forms.ColourWord.{colour_word}
 use Rattle.tide_words.specs.marking.Colours.{coloured, is_marking, running_cycle, is_grey, is_black, IsMarked}
 use Rattle.tide_words.specs.marking.Marked.{is_marked}
 use Rattle.tide_words.specs.marking.Marking.{times_in}
-
--- what stands in a list of one
-pub in_one : (x y : ℕ) → Contains (x ∷ []) y → x ≡ y
-in_one x y (zero, below, is) = is
-in_one x y (suc k, below, is) = absurd (omega (arith, below))
-
-is_in_one : (x : ℕ) → Contains (x ∷ []) x
-is_in_one x = (0, omega arith, refl)
+use Rattle.tide_machine.proofs.steps.Lists.{in_one}
 
 -- another cell than the one that is left out stays, and none comes
 leave_out-one : (cell x : ℕ) (cells : List ℕ) →
@@ -193,7 +186,8 @@ module _ (layout : Layout) (shapes : ShapeLists) (w : World) (me : ℕ) (inside 
                 let one = ap {B = ℕ} (λ (b : Bool). if b then 1 else 0) (eq-eqb cell other (sym same)) in
                 let not_grey = ap {B = ℕ} (λ (b : Bool). if b then 1 else 0) (ap (is_grey w.heap) same ∙
                 (unmarked_is_neither w.heap cell white).1) in
-                let grey = ap {B = ℕ} (λ (b : Bool). if b then 1 else 0) (ap (is_grey (coloured w.heap cell Grey)) same ∙
+                let grey = ap {B = ℕ} (λ (b : Bool). if b then 1 else 0)
+                    (ap (is_grey (coloured w.heap cell Grey)) same ∙
                 is_grey-made w.heap cell) in
                 let more = times_in-first (w.part me).held cell other in
                 omega (arith, one, not_grey, grey, more)
@@ -207,7 +201,8 @@ module _ (layout : Layout) (shapes : ShapeLists) (w : World) (me : ℕ) (inside 
           at_hand = λ other at. still_at_hand other at;
           arrays = λ array other is has_it.
               of_shorter (λ s. s.array ≡ Some (array + 1) → ((state_after layout w.log).arrays array ≡ live) ⊎
-              ((state_after layout w.log).arrays array ≡ spent)) (wave.hands.arrays me array scan scans) other is has_it;
+              ((state_after layout w.log).arrays array ≡ spent)) (wave.hands.arrays me array scan scans) other is
+                  has_it;
           scanned = λ other is. of_shorter (λ s. IsMarked (coloured w.heap cell Grey) s.cell ×
               ScanKnows layout w.heap (state_after layout w.log) s ×
               ((c : ℕ) → Contains s.buffer c → IsTrue s (w.heap region.Structure s.cell) →
@@ -315,7 +310,8 @@ module _ (layout : Layout) (shapes : ShapeLists) (w : World) (me : ℕ) (inside 
           begun = refl;
           period = refl;
           calls =
-              calls_view layout w.heap w.heap w.part me (with_scan (w.part me) (w.part me).held (still_open shorter)) refl
+              calls_view layout w.heap w.heap w.part me (with_scan (w.part me) (w.part me).held (still_open shorter))
+                  refl
               (λ p. refl) wave.calls;
           ran = runs;
           runs = runs;
@@ -325,7 +321,8 @@ module _ (layout : Layout) (shapes : ShapeLists) (w : World) (me : ℕ) (inside 
           at_hand = λ other at. left_at_hand other at;
           arrays = λ array other is has_it.
               of_shorter (λ s. s.array ≡ Some (array + 1) → ((state_after layout w.log).arrays array ≡ live) ⊎
-              ((state_after layout w.log).arrays array ≡ spent)) (wave.hands.arrays me array scan scans) other is has_it;
+              ((state_after layout w.log).arrays array ≡ spent)) (wave.hands.arrays me array scan scans) other is
+                  has_it;
           scanned = λ other is. of_shorter (λ s. IsMarked w.heap s.cell ×
               ScanKnows layout w.heap (state_after layout w.log) s ×
               ((c : ℕ) → Contains s.buffer c → IsTrue s (w.heap region.Structure s.cell) →

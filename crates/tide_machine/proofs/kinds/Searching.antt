@@ -1,4 +1,5 @@
--- A mutator looks for something free: a block that shows nothing is full at that moment, a take may be lost, and a call may
+-- A mutator looks for something free: a block that shows nothing is full at that moment, a take may be lost, and a
+-- call may
 -- be refused for room. The wave is kept.
 use Rattle.std.proofs.Common.{ℕ, ◌≡◌, ◌+◌, ◌%◌, ◌<◌, ◌≤◌, ◌==◌, refl, sym, ◌∙◌, ap, subst, arith, Bool, true, false, List, inl, inr, Option, Some, None, length}
 use Rattle.std.proofs.lemmas.Bool.{cases_Bool, cases_eq}
@@ -169,7 +170,8 @@ module _ (layout : Layout) (shapes : ShapeLists) (w : World) (me : ℕ) (inside 
           wave.words.known me at index x is)
           (λ p at index x is. not_free wave.words.settled p at index (wave.kept.owns p at index x is) ∙
           wave.words.known p at index x is);
-      owns = each_put (λ p u. (at : Region) (index x : ℕ) → Owes u at index x → IsOwnWord layout state p at index) w.part
+      owns = each_put (λ p u. (at : Region) (index x : ℕ) → Owes u at index x → IsOwnWord layout state p at index)
+          w.part
           me later (wave.words.owns me) wave.words.owns;
     }
       where

@@ -1,6 +1,7 @@
--- A world that isn't idle: while a cycle marks a mutator takes a cell, links it, makes it grey by its barrier, and links it
+-- A world that isn't idle: while a cycle marks a mutator takes a cell, links it, makes it grey by its barrier, and
+-- links it
 -- again. The wave holds there, with a grey cell in a grey word and a barrier that is owed.
-use Rattle.std.proofs.Common.{ℕ, zero, suc, ◌≡◌, ◌≤◌, refl, arith, true, [], ◌∷◌, Some, None}
+use Rattle.std.proofs.Common.{ap, ◌∙◌, false, ℕ, zero, suc, ◌≡◌, ◌≤◌, refl, arith, true, [], ◌∷◌, Some, None}
 use Rattle.tide_core.specs.Entered.{HasBegun, with_begin, with_open}
 use Rattle.tide_cycle.proofs.BeginLaws
 use Rattle.tide_cycle.specs.Frames.{LeftByBegin}
@@ -27,6 +28,12 @@ use Rattle.tide_words.proofs.heap_laws.HeapLaws.{write-other_region}
 use Rattle.tide_words.specs.heap.EmptyHeap.{empty_heap}
 use Rattle.tide_words.specs.heap.Heap.{write}
 use Rattle.tide_words.specs.marking.Colours.{is_marking, is_grey}
+use Rattle.tide_machine.specs.Frozen.{FrozenMachine}
+use Rattle.tide_machine.specs.Kind.{StoreStopped}
+use Rattle.tide_machine.specs.Schedule.{freezes}
+use Rattle.tide_machine.specs.declared.view.View.{View}
+use Rattle.tide_machine.proofs.steps.Frames.{put_else}
+use Rattle.tide_machine.specs.Kind.{Kind}
 
 pub limits : IsWithinLimits small
 limits = record {
@@ -113,7 +120,7 @@ came_activated = steps joined 0 Activate came_joined (omega arith) refl record {
 }
 
 -- a cell is taken while the cycle marks
-abbrev taken : World
+abbrev pub taken : World
 taken = stepped small no_shapes activated 0 (TakeFree 0 0 (Some (Alloc 0 0)))
 
 came_taken : Comes small no_shapes has_law running taken
@@ -166,7 +173,7 @@ came_told = steps coloured_black 0 (StoreCall 1 None) came_coloured (omega arith
 )
 
 -- the cell holds itself, and the barrier is owed
-abbrev linked : World
+abbrev pub linked : World
 linked = stepped small no_shapes told 0 (StoreLink 0 0 2 (Some (Put 0 0 0)))
 
 came_linked : Comes small no_shapes has_law running linked
@@ -266,3 +273,62 @@ busy_is = (refl, refl, refl, refl)
 pub busy_log : busy.log ≡ plain (Begin 1) ∷ plain (Open 1 16) ∷ plain (Call 0 (Alloc 0 0) (Born 0))
     ∷ plain (Call 0 (Put 0 0 0) Done) ∷ plain (Call 0 (Put 0 1 0) Done) ∷ []
 busy_log = refl
+
+-- the barrier finds the cell grey, and nothing more is owed; the call word tells the call, and the mutator stops
+abbrev paid : World
+paid = stepped small no_shapes busy 0 (LoadColour 0)
+
+came_paid : Comes small no_shapes has_law running paid
+came_paid = steps busy 0 (LoadColour 0) came_busy (omega arith) refl record {
+  runner = record { is_mutator = omega arith; runs = refl }; owed = refl; grown = λ none. none;
+}
+
+abbrev told_all : World
+told_all = stepped small no_shapes paid 0 (StoreCall 3 None)
+
+came_told_all : Comes small no_shapes has_law running told_all
+came_told_all = steps paid 0 (StoreCall 3 None) came_paid (omega arith) refl (
+  record { is_mutator = omega arith; runs = refl }, refl,
+)
+
+abbrev pub stopped : World
+stopped = stepped small no_shapes told_all 0 (StoreStopped 1)
+
+pub came_stopped : Comes small no_shapes has_law running stopped
+came_stopped = steps told_all 0 (StoreStopped 1) came_told_all (omega arith) refl record {
+  runs = refl;
+  rests = record { held = refl; scan = refl; between = record { owed = refl; duty = refl; growth = refl; calls =
+      refl } };
+  of_part = refl;
+}
+
+-- then nobody runs, and the heap is frozen with the grey cell in its word
+nobody_runs : (p : ℕ) → (stopped.part p).runs ≡ false
+nobody_runs zero = refl
+nobody_runs (suc p) = ap (λ (v : View). v.runs) (
+        other told_all (StoreStopped 1) ∙
+        other paid (StoreCall 3 None) ∙
+        other busy (LoadColour 0) ∙
+        other told_again (StoreLink 0 1 2 (Some (Put 0 1 0))) ∙
+        other pushed (StoreCall 2 None) ∙
+        other regreyed (PushBit 0) ∙
+        other loaded (Regrey 0 1) ∙
+        other linked (LoadColour 0) ∙
+        other told (StoreLink 0 0 2 (Some (Put 0 0 0))) ∙
+        other coloured_black (StoreCall 1 None) ∙
+        other registered (StoreBorn 0 4) ∙
+        other taken (StoreRegister 0 2 None) ∙
+        other activated (TakeFree 0 0 (Some (Alloc 0 0))) ∙
+        other joined (Activate) ∙
+        other opened (Join ticket))
+  where
+    other : (w : World) (kind : Kind) → (stepped small no_shapes w 0 kind).part (suc p) ≡ w.part (suc p)
+    other w kind = put_else w.part 0 (suc p) _ (λ e. omega (arith, e))
+
+pub frozen_has_the_wave : FrozenMachine small no_shapes stopped 0
+frozen_has_the_wave = all_schedules small no_shapes limits refl (frozen 0) stopped
+    (freezes stopped came_stopped nobody_runs)
+
+pub frozen_is : (stopped.heap region.GreyMutator 0 ≡ 1) × (stopped.heap region.Call 0 ≡ 3) ×
+    (stopped.heap region.Stopped 0 ≡ 1)
+frozen_is = (refl, refl, refl)

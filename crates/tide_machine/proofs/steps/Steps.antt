@@ -160,7 +160,8 @@ module _ (layout : Layout) (shapes : ShapeLists) (old : Heap) (part : ℕ → Vi
     black_after marks source place cell link black white =
         elim (s.black (sym marking ∙ marks) source place cell link black white) [
           | inl mine ↦ excused source place cell mine
-          | inr before ↦ other before (wave.black.excused (sym marking ∙ marks) source place cell link before.0 before.1)
+          | inr before ↦ other before (wave.black.excused (sym marking ∙ marks) source place cell link before.0
+              before.1)
         ]
       where
         turned : Excuses new source place cell w ⊎ ((p : ℕ) × (p ≢ me) × OwesBarrier (part p).duty source) →

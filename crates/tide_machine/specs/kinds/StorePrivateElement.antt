@@ -1,4 +1,5 @@
--- Store private array word: the claimer of a cell loads or stores an element of its array, or of one that was just taken.
+-- Store private array word: the claimer of a cell loads or stores an element of its array, or of one that was just
+-- taken.
 use Rattle.std.specs.Prelude.{ℕ, ◌≡◌, ◌≤◌, ◌∷◌, [], length, ◌⊎◌, Contains, Option, None, Some}
 use Rattle.tide_layout.specs.Slots.{index_of_element, HasElement}
 use Rattle.tide_layout.specs.declared.region.Region.TheVariants as region
@@ -51,7 +52,8 @@ MayLoadElement layout shapes w me array place read (Some (GetProp dst src key)) 
     IsOwnElement layout w me array place × MayCall layout shapes w me (GetProp dst src key) (Seen (value_of read)) None
 MayLoadElement layout shapes w me array place read (Some _) = ⊥
 
--- A growth stores the elements that it owes, before it nukes the structure. An element past the cell's keys says nothing
+-- A growth stores the elements that it owes, before it nukes the structure. An element past the cell's keys says
+-- nothing
 -- yet. SetProp stores one that has a property.
 abbrev pub MayStoreElement : Layout → ShapeLists → World → ℕ → ℕ → ℕ → ℕ → Option Op → Type 0
 MayStoreElement layout shapes w me array place word None =

@@ -1,4 +1,5 @@
--- Store structure: a growth stores its cell's new structure, or Add does where the array has room; the claimer of a cell
+-- Store structure: a growth stores its cell's new structure, or Add does where the array has room; the claimer of a
+-- cell
 -- loads its structure's word.
 use Rattle.std.specs.Prelude.{ℕ, ◌≡◌, ◌+◌, ◌∷◌, ◌++◌, [], length, Option, None, Some}
 use Rattle.tide_call.specs.ShapeWord.{whole_word, IsShapeWord}

@@ -1,4 +1,5 @@
--- Take free bit, of an array: a growth begins, and owes the barrier, the new array's words, the array and the structure.
+-- Take free bit, of an array: a growth begins, and owes the barrier, the new array's words, the array and the
+-- structure.
 use Rattle.std.specs.Int.{bit_at}
 use Rattle.std.specs.Prelude.{ℕ, ◌≡◌, ◌+◌, ◌*◌, ◌-◌, ◌<◌, ◌∷◌, [], suc, false, List, length, ◌==◌, if◌then◌else◌, Option, None, Some}
 use Rattle.tide_layout.specs.Region.{cell_block_count}

@@ -9,7 +9,8 @@ use Rattle.tide_words.specs.heap.Heap.{Heap}
 use Rattle.tide_words.specs.marking.Colours.{is_marking, is_grey}
 use Rattle.tide_words.specs.marking.Marking.{bits_of, HasNoGreys}
 
--- while a cycle marks, a cell is grey exactly where it has a holder, and then it has one: a bit of a grey word, or a view
+-- while a cycle marks, a cell is grey exactly where it has a holder, and then it has one: a bit of a grey word, or
+-- a view
 pub record RunningGreyIsHeld (layout : Layout) (heap : Heap) (part : ℕ → View) : Type 0 where
   pub held : is_marking heap ≡ true → (cell : ℕ) → cell < cell_count layout →
       bits_of heap cell + total (holds cell) part ≡ (if is_grey heap cell then 1 else 0)
