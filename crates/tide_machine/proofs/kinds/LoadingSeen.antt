@@ -1,4 +1,4 @@
--- A load that makes a call, whose answer goes to a register that is owed from then on, keeps the invariant.
+-- A load that makes a call, whose answer goes to a register that is owed from then on, keeps the wave.
 use Rattle.std.proofs.Common.{ℕ, zero, suc, ◌≡◌, ◌≢◌, ◌<◌, ◌==◌, refl, sym, ◌∙◌, ap, subst, arith, Bool, true, false, List, [], ◌∷◌, ◌++◌, inl, inr, None}
 use Rattle.std.proofs.lemmas.Bool.{cases_Bool, eqb-true, and_parts}
 use Rattle.std.specs.Prelude.{Contains, if◌then◌else◌, ◌&&◌}

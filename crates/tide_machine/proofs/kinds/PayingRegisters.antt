@@ -1,4 +1,4 @@
--- The store of an owed register word keeps the invariant.
+-- The store of an owed register word keeps the wave.
 use Rattle.std.proofs.Common.{ℕ, ◌≡◌, ◌≢◌, ◌+◌, ◌<◌, ◌⊎◌, ◌==◌, refl, ◌∙◌, ap, subst, arith, Bool, true, false, [], inl, inr, Option, Some, None}
 use Rattle.std.proofs.lemmas.Bool.{cases_Bool, cases_eq, eqb-true, and_parts}
 use Rattle.std.specs.Prelude.{if◌then◌else◌, ◌&&◌, not}

@@ -1,4 +1,4 @@
--- The barrier's exchange, and the bit that it sets, keep the invariant.
+-- The barrier's exchange, and the bit that it sets, keep the wave.
 use Rattle.std.proofs.Common.{ℕ, ◌≡◌, ◌<◌, ◌≤◌, ◌==◌, refl, sym, ◌∙◌, ap, subst, arith, Bool, true, false, inl, inr}
 use Rattle.std.proofs.lemmas.Bool.{cases_eq, eq-eqb, eqb-true, ne_eqb, cases_Bool, and_parts, and_from}
 use Rattle.std.specs.Int.{bit_at}

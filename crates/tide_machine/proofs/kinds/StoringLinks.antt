@@ -1,4 +1,4 @@
--- The store of a slot keeps the invariant.
+-- The store of a slot keeps the wave.
 use Rattle.std.proofs.Common.{ℕ, ◌≡◌, ◌≢◌, ◌<◌, ◌⊎◌, ◌==◌, refl, sym, ◌∙◌, ap, subst, arith, Bool, true, List, [], ◌∷◌, ◌++◌, inl, inr, Option, Some, None, length}
 use Rattle.std.proofs.lemmas.Bool.{cases_Bool, cases_eq, eq-eqb, ne_eqb}
 use Rattle.std.specs.Prelude.{Contains, if◌then◌else◌, ◌&&◌}

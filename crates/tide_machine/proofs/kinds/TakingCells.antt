@@ -1,4 +1,4 @@
--- The take of a free bit, at which a cell is born, keeps the invariant.
+-- The take of a free bit, at which a cell is born, keeps the wave.
 use Rattle.std.proofs.Common.{ℕ, ◌≡◌, ◌≢◌, ◌+◌, ◌%◌, ◌<◌, ◌==◌, refl, sym, ◌∙◌, ap, subst, arith, Bool, true, false, List, [], ◌∷◌, ◌++◌, inl, inr, Some, None}
 use Rattle.std.proofs.lemmas.Bool.{cases_Bool, cases_eq, eq-eqb, ne_eqb, eqb-true, and_parts}
 use Rattle.std.specs.Prelude.{Contains, if◌then◌else◌, ◌&&◌, slice_get}

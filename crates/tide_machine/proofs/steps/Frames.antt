@@ -1,4 +1,4 @@
--- One law for each point of the invariant: what a change of one view has to show for the point to survive it.
+-- One law for each point of the wave: what a change of one view has to show for the point to survive it.
 use Rattle.std.proofs.Common.{ℕ, zero, suc, ◌≡◌, ◌≢◌, ◌+◌, ◌<◌, ◌≤◌, ◌⊎◌, refl, sym, ◌∙◌, ap, subst, arith, Bool, true, List, inl, inr}
 use Rattle.std.proofs.lemmas.Bool.{eq-eqb, ne_eqb, cases_eq}
 use Rattle.std.specs.Prelude.{if◌then◌else◌, filter, ◌%◌, ◌^◌}

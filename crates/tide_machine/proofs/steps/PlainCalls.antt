@@ -1,4 +1,4 @@
--- A call that leaves all cells and arrays as they were keeps the invariant: one on a register, a handle, a claim,
+-- A call that leaves all cells and arrays as they were keeps the wave: one on a register, a handle, a claim,
 -- or none.
 use Rattle.std.proofs.Common.{ℕ, ◌≡◌, ◌≢◌, ◌+◌, ◌<◌, ◌≤◌, refl, sym, ◌∙◌, ap, subst, arith, Bool, true, false, List, [], ◌∷◌, ◌++◌, inl, inr, None}
 use Rattle.std.proofs.lemmas.Bool.{cases_Bool}

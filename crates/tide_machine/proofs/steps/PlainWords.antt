@@ -1,4 +1,4 @@
--- A call that writes one word of a register, a handle or a claim keeps the invariant, by the reading law of its
+-- A call that writes one word of a register, a handle or a claim keeps the wave, by the reading law of its
 -- operation.
 use Rattle.std.proofs.Common.{ℕ, ◌≡◌, ◌≢◌, ◌<◌, ◌==◌, refl, sym, ◌∙◌, ap, subst, arith, Bool, true, false, List, [], ◌∷◌, ◌++◌, inl, inr, None}
 use Rattle.std.proofs.lemmas.Bool.{cases_Bool, eqb-true, ne_eqb, and_parts}

@@ -1,4 +1,4 @@
--- The second reading of a structure keeps the invariant.
+-- The second reading of a structure keeps the wave.
 use Rattle.std.proofs.Common.{ℕ, ◌≡◌, ◌≢◌, ◌+◌, ◌<◌, ◌≤◌, ◌⊎◌, refl, sym, ap, subst, arith, true, false, inl, inr, Option, Some}
 use Rattle.std.proofs.lemmas.Bool.{cases_lt}
 use Rattle.std.specs.Prelude.{Contains}

@@ -1,4 +1,4 @@
--- A step that makes no entry keeps the invariant. What it shows of words and scans is said of each other view apart.
+-- A step that makes no entry keeps the wave. What it shows of words and scans is said of each other view apart.
 use Rattle.std.proofs.Common.{ℕ, ◌≡◌, ◌≢◌, ◌+◌, ◌<◌, ◌≤◌, ◌⊎◌, refl, sym, ◌∙◌, ap, subst, arith, true, false, List, [], inl, inr, Option, Some, None, length}
 use Rattle.std.proofs.lemmas.Bool.{cases_Bool}
 use Rattle.std.specs.Prelude.{Contains, filter, if◌then◌else◌, ◌&&◌, not}
