@@ -6,6 +6,7 @@ pub mod Stacks
 pub mod Colouring
 pub mod GreyBits
 pub mod Barriers
+pub mod GrowthsKept
 pub mod Owning
 pub mod Growing
 pub mod Frames

@@ -44,6 +44,7 @@ use Rattle.tide_model.specs.declared.val.Val.TheVariants.{Cell}
 use Rattle.tide_words.proofs.heap_laws.HeapLaws.{write-same}
 use Rattle.tide_words.specs.forms.ValueWord.{val_word, HasU32}
 use Rattle.tide_words.specs.heap.Heap.{Heap, write}
+use Rattle.tide_machine.proofs.steps.GrowthsKept.{growth_kept}
 
 -- what stands in a list of one word
 one_owed : (x y : Owed) → Contains (x ∷ []) y → x ≡ y
@@ -155,43 +156,6 @@ module _ (layout : Layout) (shapes : ShapeLists) (w : World) (me : ℕ) (inside 
           (subst (λ (l : List Owed). Contains l (owed_word at index x)) owes_nothing owes).1 in
           omega (arith, below))) (λ p apart at index x owes. owes)
 
-  growth_after : (p : ℕ) (g : Growth) → GrowthKnows w.heap state p (w.part p) g →
-      GrowthKnows w.heap after p (w.part p) g
-  growth_after p growth.Nothing k = tt
-  growth_after p (growth.Filling c array a b) k = (
-    record {
-      claimed = k.0.claimed;
-      stands = k.0.stands;
-      even = k.0.even;
-      fresh = k.0.fresh;
-      more = k.0.more;
-      owes =
-          k.0.owes;
-    },
-    k.1,
-  )
-  growth_after p (growth.Nuked c array a b) k = (
-    record {
-      claimed = k.0.claimed;
-      stands = k.0.stands;
-      even = k.0.even;
-      fresh = k.0.fresh;
-      more = k.0.more;
-      owes =
-          k.0.owes;
-    },
-    k.1,
-  )
-  growth_after p (growth.Stored c array a b) k = record {
-    claimed = k.claimed;
-    stands = k.stands;
-    even = k.even;
-    fresh =
-        k.fresh;
-    more = k.more;
-    owes = k.owes;
-  }
-
   link_before : (x : ℕ) (place : Place) (target : ℕ) → LinkAt after x place target → LinkAt state x place target
   link_before x (slot n) target link = link
   link_before x (property n) target link = link
@@ -224,7 +188,8 @@ module _ (layout : Layout) (shapes : ShapeLists) (w : World) (me : ℕ) (inside 
     beyond = λ marks x n target link past. inr (link, past);
     awaited = λ c owes. absurd (no_colour c owes);
     growth = subst (GrowthKnows w.heap after me later) (sym grows_not) tt;
-    growths = λ p apart. growth_after p (w.part p).growth (wave.growths.knows p);
+    growths = λ p apart. growth_kept w.heap w.heap state after p (w.part p) (w.part p) (λ c. refl) (λ c at. at) (λ c x o. o)
+        (λ c x o. o) (w.part p).growth (wave.growths.knows p);
     owns = λ p at index apart. own_still p at index;
     hidden = λ p c apart alive h. record {
       registers = λ who register not_p active is. elim (register_after state me dst value who register (Cell c) is) [

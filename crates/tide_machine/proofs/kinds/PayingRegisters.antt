@@ -30,6 +30,7 @@ use Rattle.tide_model.specs.Numbers.{put_at}
 use Rattle.tide_model.specs.Refused.{ShapeLists}
 use Rattle.tide_model.specs.State.{State}
 use Rattle.tide_words.specs.heap.Heap.{Heap, write}
+use Rattle.tide_machine.proofs.steps.GrowthsKept.{growth_kept}
 
 module _ (layout : Layout) (shapes : ShapeLists) (w : World) (me : ℕ) (inside : me < parties)
     (wave : RunningWave layout shapes w) (runs : (w.part me).runs ≡ true)
@@ -77,59 +78,6 @@ module _ (layout : Layout) (shapes : ShapeLists) (w : World) (me : ℕ) (inside 
   stays_owed at index x other = in_filter (λ (o : Owed). not (is_at region.Registers idx o)) (w.part me).owed
       (owed_word at index x) (ap not other)
 
-  on : (c a b x : ℕ) → GrowthOn w.heap state me (w.part me) c a b x → GrowthOn new state me later c a b x
-  on c a b x g = record {
-    claimed = g.claimed;
-    stands = g.stands;
-    even = g.even;
-    fresh = g.fresh;
-    more = g.more;
-    owes =
-        stays_owed region.Structure c b refl g.owes;
-  }
-
-  growth_mine : (g : Growth) → GrowthKnows w.heap state me (w.part me) g → GrowthKnows new state me later g
-  growth_mine growth.Nothing g = tt
-  growth_mine (growth.Filling c array a b) g = (on c a b a g.0, stays_owed region.Array c (array + 1) refl g.1)
-  growth_mine (growth.Nuked c array a b) g = (on c a b (a + 1) g.0, stays_owed region.Array c (array + 1) refl g.1)
-  growth_mine (growth.Stored c array a b) g = on c a b (a + 1) g
-
-  growth_else : (p : ℕ) → (g : Growth) → GrowthKnows w.heap state p (w.part p) g → GrowthKnows new state p (w.part p) g
-  growth_else p growth.Nothing g = tt
-  growth_else p (growth.Filling c a b d) g = (
-    record {
-      claimed = g.0.claimed;
-      stands = g.0.stands;
-      even = g.0.even;
-      fresh = g.0.fresh;
-      more = g.0.more;
-      owes =
-          g.0.owes;
-    },
-    g.1,
-  )
-  growth_else p (growth.Nuked c a b d) g = (
-    record {
-      claimed = g.0.claimed;
-      stands = g.0.stands;
-      even = g.0.even;
-      fresh = g.0.fresh;
-      more = g.0.more;
-      owes =
-          g.0.owes;
-    },
-    g.1,
-  )
-  growth_else p (growth.Stored c a b d) g = record {
-    claimed = g.claimed;
-    stands = g.stands;
-    even = g.even;
-    fresh =
-        g.fresh;
-    more = g.more;
-    owes = g.owes;
-  }
-
   pub pay_register : RunningWave layout shapes (record { heap = new; part = put_at w.part me later; log = w.log })
   pay_register = any_step layout shapes w.heap w.part w.log me wave new later record {
     inside = inside;
@@ -144,8 +92,11 @@ module _ (layout : Layout) (shapes : ShapeLists) (w : World) (me : ℕ) (inside 
     calls = calls_view layout w.heap new w.part me later refl (λ p. refl) wave.calls;
     told = λ _. wave.numbers.told me runs;
     empties = λ is. absurd (cc);
-    growth = growth_mine (w.part me).growth (wave.growths.knows me);
-    growths = λ p apart. growth_else p (w.part p).growth (wave.growths.knows p);
+    growth = growth_kept w.heap new state state me (w.part me) later (λ c. refl) (λ c at. at)
+        (λ c x. stays_owed region.Structure c x refl) (λ c x. stays_owed region.Array c x refl) (w.part me).growth
+        (wave.growths.knows me);
+    growths = λ p apart. growth_kept w.heap new state state p (w.part p) (w.part p) (λ c. refl) (λ c at. at) (λ c x o. o)
+        (λ c x o. o) (w.part p).growth (wave.growths.knows p);
     knows = λ at index x is. from_none (owed_word at index x) is;
     knows_still = λ p at index x apart is. alone p at index apart (wave.kept.owns p at index x is) ∙
         wave.kept.known p at index x is;

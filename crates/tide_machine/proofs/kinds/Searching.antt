@@ -42,6 +42,7 @@ use Rattle.tide_words.proofs.heap_laws.Parts.{RootsRead-same, SameRoots-write}
 use Rattle.tide_words.specs.forms.Reference.{array_word}
 use Rattle.tide_words.specs.heap.Heap.{Heap, write}
 use Rattle.tide_words.specs.heap.Reading.{IsNamedAmong, ReadsAs, status_by}
+use Rattle.tide_machine.proofs.steps.GrowthsKept.{growth_kept}
 
 -- nothing of a block is free whose word of free bits is 0
 not_free_by : (word dead_word k : ℕ) (otherwise : Status) → word ≡ 0 → is_free otherwise ≡ false →
@@ -192,32 +193,6 @@ module _ (layout : Layout) (shapes : ShapeLists) (w : World) (me : ℕ) (inside 
       array = s.array;
     }
 
-    on : (p : ℕ) (u : View) → u.owed ≡ (w.part p).owed → (c a b x : ℕ) → GrowthOn w.heap state p (w.part p) c a b x →
-        GrowthOn after state p u c a b x
-    on p u same_owed c a b x g = record {
-      claimed = g.claimed;
-      stands = g.stands;
-      even = g.even;
-      fresh = g.fresh;
-      more = g.more;
-      owes = subst (λ (l : List Owed). Contains l (owed_word region.Structure c b)) (sym same_owed) g.owes;
-    }
-
-    growth_after : (p : ℕ) (u : View) → u.owed ≡ (w.part p).owed → (g : Growth) →
-        GrowthKnows w.heap state p (w.part p) g → GrowthKnows after state p u g
-    growth_after p u same_owed growth.Nothing k = tt
-    growth_after p u same_owed (growth.Filling c array a b) k = (
-      on p u same_owed c a b a k.0,
-      subst (λ (l : List Owed).
-          Contains l (owed_word region.Array c (array_word (Some array)))) (sym same_owed) k.1,
-    )
-    growth_after p u same_owed (growth.Nuked c array a b) k = (
-      on p u same_owed c a b (a + 1) k.0,
-      subst (λ (l : List Owed). Contains l (owed_word region.Array c (array_word (Some array))))
-          (sym same_owed) k.1,
-    )
-    growth_after p u same_owed (growth.Stored c array a b) k = on p u same_owed c a b (a + 1) k
-
     excuse_same : (source : ℕ) (place : Place) (cell : ℕ) → Excuses w.heap source place cell (w.part me) →
         Excuses after source place cell later
     excuse_same source place cell (inl owes) = inl owes
@@ -240,8 +215,10 @@ module _ (layout : Layout) (shapes : ShapeLists) (w : World) (me : ℕ) (inside 
       told = λ _. wave.numbers.told me runs;
       calls = calls_view layout w.heap after w.part me later refl (λ p. refl) wave.calls;
       empties = λ is. absurd (cc);
-      growth = growth_after me later refl (w.part me).growth (wave.growths.knows me);
-      growths = λ p apart. growth_after p (w.part p) refl (w.part p).growth (wave.growths.knows p);
+      growth = growth_kept w.heap after state state me (w.part me) later (λ c. refl) (λ c at. at) (λ c x o. o)
+          (λ c x o. o) (w.part me).growth (wave.growths.knows me);
+      growths = λ p apart. growth_kept w.heap after state state p (w.part p) (w.part p) (λ c. refl) (λ c at. at)
+          (λ c x o. o) (λ c x o. o) (w.part p).growth (wave.growths.knows p);
       knows = λ at index x is. (
         wave.kept.reads me at index x is,
         wave.kept.owns me at index x is,

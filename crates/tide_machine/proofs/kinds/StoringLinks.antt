@@ -50,6 +50,7 @@ use Rattle.tide_words.proofs.heap_laws.ReadingLaws.{live_within, HasSlot-class}
 use Rattle.tide_words.specs.forms.ValueWord.{val_word, HasU32}
 use Rattle.tide_words.specs.heap.Heap.{Heap, write}
 use Rattle.tide_words.specs.heap.Reading.{ReadsAs}
+use Rattle.tide_machine.proofs.steps.GrowthsKept.{growth_kept}
 
 module _ (layout : Layout) (shapes : ShapeLists) (w : World) (me : ℕ) (inside : me < parties)
     (wave : RunningWave layout shapes w) (runs : (w.part me).runs ≡ true)
@@ -203,43 +204,6 @@ module _ (layout : Layout) (shapes : ShapeLists) (w : World) (me : ℕ) (inside 
     ap (λ (f : ℕ → Val). f n) (sym (as_before x).properties) ∙ is,
   )
 
-  of_growth : (p : ℕ) (g : Growth) → GrowthKnows w.heap state p (w.part p) g →
-      GrowthKnows new (put_slot state (Cell cell) slot_number value) p (w.part p) g
-  of_growth p growth.Nothing k = tt
-  of_growth p (growth.Filling c array a b) k = (
-    record {
-      claimed = k.0.claimed;
-      stands = k.0.stands;
-      even = k.0.even;
-      fresh = k.0.fresh;
-      more = k.0.more;
-      owes =
-          k.0.owes;
-    },
-    k.1,
-  )
-  of_growth p (growth.Nuked c array a b) k = (
-    record {
-      claimed = k.0.claimed;
-      stands = k.0.stands;
-      even = k.0.even;
-      fresh = k.0.fresh;
-      more = k.0.more;
-      owes =
-          k.0.owes;
-    },
-    k.1,
-  )
-  of_growth p (growth.Stored c array a b) k = record {
-    claimed = k.claimed;
-    stands = k.stands;
-    even = k.even;
-    fresh =
-        k.fresh;
-    more = k.more;
-    owes = k.owes;
-  }
-
   state_after_store : OfState layout shapes w.heap w.part w.log me wave (Put src slot_number val) Done None new later
       (put_slot state (Cell cell) slot_number value)
   state_after_store = record {
@@ -268,7 +232,8 @@ module _ (layout : Layout) (shapes : ShapeLists) (w : World) (me : ℕ) (inside 
     beyond = λ marks x n target link past. inr (same_property x n target link, past);
     awaited = λ c owes. absurd (colour_barrier ((w.part me).marks && is_cell_word word) cell c owes);
     growth = subst (GrowthKnows new (put_slot state (Cell cell) slot_number value) me later) (sym grows_not) tt;
-    growths = λ p apart. of_growth p (w.part p).growth (wave.growths.knows p);
+    growths = λ p apart. growth_kept w.heap new state (put_slot state (Cell cell) slot_number value) p (w.part p) (w.part p)
+        (λ c. refl) (λ c at. at) (λ c x o. o) (λ c x o. o) (w.part p).growth (wave.growths.knows p);
     owns = own_still;
     hidden = λ p c apart is_live h. record {
       registers = h.registers;

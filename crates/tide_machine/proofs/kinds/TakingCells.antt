@@ -48,6 +48,7 @@ use Rattle.tide_words.proofs.heap_laws.HeapLaws.{write-same, write-other_region}
 use Rattle.tide_words.specs.forms.ValueWord.{val_word}
 use Rattle.tide_words.specs.heap.Heap.{Heap, write}
 use Rattle.tide_words.specs.heap.Written.{IsBitPut}
+use Rattle.tide_machine.proofs.steps.GrowthsKept.{growth_kept}
 
 module _ (layout : Layout) (shapes : ShapeLists) (w : World) (me : ℕ) (inside : me < parties)
     (wave : RunningWave layout shapes w) (runs : (w.part me).runs ≡ true)
@@ -199,42 +200,6 @@ module _ (layout : Layout) (shapes : ShapeLists) (w : World) (me : ℕ) (inside 
       LinkAt state x place target
   link_before = Births.no_link layout shapes w wave me op dst cell bears was_free within stands.is_active
 
-  growth_after : (p : ℕ) (g : Growth) → GrowthKnows w.heap state p (w.part p) g → GrowthKnows new after p (w.part p) g
-  growth_after p growth.Nothing k = tt
-  growth_after p (growth.Filling c array a b) k = (
-    record {
-      claimed = k.0.claimed;
-      stands = k.0.stands;
-      even = k.0.even;
-      fresh = k.0.fresh;
-      more = k.0.more;
-      owes =
-          k.0.owes;
-    },
-    k.1,
-  )
-  growth_after p (growth.Nuked c array a b) k = (
-    record {
-      claimed = k.0.claimed;
-      stands = k.0.stands;
-      even = k.0.even;
-      fresh = k.0.fresh;
-      more = k.0.more;
-      owes =
-          k.0.owes;
-    },
-    k.1,
-  )
-  growth_after p (growth.Stored c array a b) k = record {
-    claimed = k.claimed;
-    stands = k.stands;
-    even = k.even;
-    fresh =
-        k.fresh;
-    more = k.more;
-    owes = k.owes;
-  }
-
   of_state : OfState layout shapes w.heap w.part w.log me wave op (Born cell) None new later after
   of_state = record {
     words = words_after;
@@ -258,7 +223,8 @@ module _ (layout : Layout) (shapes : ShapeLists) (w : World) (me : ℕ) (inside 
         (ap (λ (x : CellState). x.status)
         (Births.cell_here layout shapes w wave me op dst cell bears was_free within stands.is_active));
     growth = subst (GrowthKnows new after me later) (sym grows_not) tt;
-    growths = λ p apart. growth_after p (w.part p).growth (wave.growths.knows p);
+    growths = λ p apart. growth_kept w.heap new state after p (w.part p) (w.part p) (λ c. refl) (λ c at. at) (λ c x o. o)
+        (λ c x o. o) (w.part p).growth (wave.growths.knows p);
     owns = λ p at index apart. own_still p at index;
     hidden = λ p c apart alive h. let other : c ≢ cell = λ e. not_live (subst (IsLive state) e alive) in record {
       registers = λ who register not_p active is.

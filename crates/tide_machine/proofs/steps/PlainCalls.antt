@@ -41,6 +41,7 @@ use Rattle.tide_model.specs.declared.op.Reply.{Reply}
 use Rattle.tide_model.specs.declared.val.Val.{Val}
 use Rattle.tide_model.specs.declared.val.Val.TheVariants.{Cell}
 use Rattle.tide_words.specs.heap.Heap.{Heap}
+use Rattle.tide_machine.proofs.steps.GrowthsKept.{growth_kept}
 
 -- the regions that such a call writes
 abbrev pub is_changed : Region → Bool
@@ -103,26 +104,6 @@ module _ (layout : Layout) (shapes : ShapeLists) (w : World) (me : ℕ) (inside 
     own_still p _ _ apart (own_element c a k at is has) =
         own_element c a k (subst (λ (l : List ℕ). Contains l c) (sym (s.claims_else p apart)) at) is has
 
-    on : (p : ℕ) → p ≢ me → (c a b x : ℕ) → GrowthOn w.heap state p (w.part p) c a b x →
-        GrowthOn new after p (w.part p) c a b x
-    on p apart c a b x g = record {
-      claimed =
-          subst (λ (l : List ℕ). Contains l c) (sym (s.claims_else p apart)) g.claimed;
-      stands =
-          s.same region.Structure c refl ∙ g.stands;
-      even = g.even;
-      fresh = g.fresh;
-      more = g.more;
-      owes = g.owes;
-    }
-
-    growth_after : (p : ℕ) → p ≢ me → (g : Growth) → GrowthKnows w.heap state p (w.part p) g →
-        GrowthKnows new after p (w.part p) g
-    growth_after p apart growth.Nothing k = tt
-    growth_after p apart (growth.Filling c array a b) k = (on p apart c a b a k.0, k.1)
-    growth_after p apart (growth.Nuked c array a b) k = (on p apart c a b (a + 1) k.0, k.1)
-    growth_after p apart (growth.Stored c array a b) k = on p apart c a b (a + 1) k
-
     link_before : (x : ℕ) (place : Place) (target : ℕ) → LinkAt after x place target → LinkAt state x place target
     link_before x (slot n) target link = link
     link_before x (property n) target link = link
@@ -159,7 +140,9 @@ module _ (layout : Layout) (shapes : ShapeLists) (w : World) (me : ℕ) (inside 
       beyond = λ marks x n target link past. inr (link, subst (λ (word : ℕ). count_of word ≤ n) (structure x) past);
       awaited = λ c owes. absurd (no_colour c owes);
       growth = subst (GrowthKnows new after me (later owed)) (sym grows_not) tt;
-      growths = λ p apart. growth_after p apart (w.part p).growth (wave.growths.knows p);
+      growths = λ p apart. growth_kept w.heap new state after p (w.part p) (w.part p) (λ c. s.same region.Structure c refl)
+          (λ c. subst (λ (l : List ℕ). Contains l c) (sym (s.claims_else p apart))) (λ c x o. o) (λ c x o. o)
+          (w.part p).growth (wave.growths.knows p);
       owns = λ p at index apart. own_still p at index apart;
       hidden = λ p c apart alive h. let now = s.hidden p c apart alive h in record {
         registers = now.0;
