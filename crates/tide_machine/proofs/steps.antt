@@ -7,6 +7,7 @@ pub mod Colouring
 pub mod GreyBits
 pub mod Barriers
 pub mod GrowthsKept
+pub mod ScansKept
 pub mod Owning
 pub mod Growing
 pub mod Frames

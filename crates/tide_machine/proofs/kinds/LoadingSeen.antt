@@ -45,6 +45,7 @@ use Rattle.tide_words.proofs.heap_laws.HeapLaws.{write-same}
 use Rattle.tide_words.specs.forms.ValueWord.{val_word, HasU32}
 use Rattle.tide_words.specs.heap.Heap.{Heap, write}
 use Rattle.tide_machine.proofs.steps.GrowthsKept.{growth_kept}
+use Rattle.tide_machine.proofs.steps.ScansKept.{scan_kept}
 
 -- what stands in a list of one word
 one_owed : (x y : Owed) → Contains (x ∷ []) y → x ≡ y
@@ -174,16 +175,9 @@ module _ (layout : Layout) (shapes : ShapeLists) (w : World) (me : ℕ) (inside 
         (RefsAreLive-call layout shapes state me op (Seen value) None wave.refs stands.is_active stands.answers);
     alive = λ x is. is;
     arrays = λ array is. is;
-    scans = λ p scan is. let k = wave.scans.knows p scan is in record {
-      unread = k.unread;
-      array_after = k.array_after;
-      grows = k.grows;
-      nuked = k.nuked;
-      array = k.array;
-      room = k.room;
-      agreed = k.agreed;
-      names_live = k.names_live;
-    };
+    scans = λ p scan is. scan_kept layout w.heap w.heap state after
+        (λ c. refl) (λ c. refl) (λ i. refl) (λ c is_live. is_live) scan
+        (wave.scans.knows p scan is);
     links = λ marks x place target link black white. inr (link_before x place target link);
     beyond = λ marks x n target link past. inr (link, past);
     awaited = λ c owes. absurd (no_colour c owes);

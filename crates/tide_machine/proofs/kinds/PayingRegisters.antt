@@ -31,6 +31,7 @@ use Rattle.tide_model.specs.Refused.{ShapeLists}
 use Rattle.tide_model.specs.State.{State}
 use Rattle.tide_words.specs.heap.Heap.{Heap, write}
 use Rattle.tide_machine.proofs.steps.GrowthsKept.{growth_kept}
+use Rattle.tide_machine.proofs.steps.ScansKept.{scan_kept}
 
 module _ (layout : Layout) (shapes : ShapeLists) (w : World) (me : ℕ) (inside : me < parties)
     (wave : RunningWave layout shapes w) (runs : (w.part me).runs ≡ true)
@@ -60,18 +61,6 @@ module _ (layout : Layout) (shapes : ShapeLists) (w : World) (me : ℕ) (inside 
         (eqb-true (tag at) (tag region.Registers) parts.0) (eqb-true index idx parts.1)))
     | inr isnt ↦ ap (λ (b : Bool). if b then word else w.heap at index) isnt
   ]
-
-  knows_after : (scan : Scan) → ScanKnows layout w.heap state scan → ScanKnows layout new state scan
-  knows_after scan s = record {
-    unread = s.unread;
-    array_after = s.array_after;
-    grows = s.grows;
-    nuked = s.nuked;
-    room = s.room;
-    agreed = s.agreed;
-    names_live = s.names_live;
-    array = s.array;
-  }
 
   stays_owed : (at : Region) (index x : ℕ) → is_at region.Registers idx (owed_word at index x) ≡ false →
       Owes (w.part me) at index x → Owes later at index x
@@ -118,10 +107,12 @@ module _ (layout : Layout) (shapes : ShapeLists) (w : World) (me : ℕ) (inside 
     arrays = λ a scan is. wave.hands.arrays me a scan is;
     scanned = λ scan is. (
       wave.retained.scanned me scan is,
-      knows_after scan (wave.scans.knows me scan is),
+      scan_kept layout w.heap new state state (λ c. refl) (λ c. refl) (λ i. refl) (λ c is_live. is_live) scan
+        (wave.scans.knows me scan is),
       λ c at holds. wave.retained.buffered me c scan is at holds,
     );
-    scans = λ p scan apart is. knows_after scan (wave.scans.knows p scan is);
+    scans = λ p scan apart is. scan_kept layout w.heap new state state (λ c. refl) (λ c. refl) (λ i. refl) (λ c is_live. is_live) scan
+        (wave.scans.knows p scan is);
     truer = λ p scan apart is holds. holds;
     black = λ marks source place target link black white.
         inr (black, white, λ e. inl (same_excuse source place target e));

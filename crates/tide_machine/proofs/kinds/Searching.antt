@@ -43,6 +43,7 @@ use Rattle.tide_words.specs.forms.Reference.{array_word}
 use Rattle.tide_words.specs.heap.Heap.{Heap, write}
 use Rattle.tide_words.specs.heap.Reading.{IsNamedAmong, ReadsAs, status_by}
 use Rattle.tide_machine.proofs.steps.GrowthsKept.{growth_kept}
+use Rattle.tide_machine.proofs.steps.ScansKept.{scan_kept}
 
 -- nothing of a block is free whose word of free bits is 0
 not_free_by : (word dead_word k : ℕ) (otherwise : Status) → word ≡ 0 → is_free otherwise ≡ false →
@@ -181,18 +182,6 @@ module _ (layout : Layout) (shapes : ShapeLists) (w : World) (me : ℕ) (inside 
         back = put_at_elim (λ p u. (at : Region) (index x : ℕ) → Owes (w.part p) at index x →
             Owes u at index x) w.part me later (λ at index x o. o) (λ p apart at index x o. o)
 
-    knows_after : (scan : Scan) → ScanKnows layout w.heap state scan → ScanKnows layout after state scan
-    knows_after scan s = record {
-      unread = s.unread;
-      array_after = s.array_after;
-      grows = s.grows;
-      nuked = s.nuked;
-      room = s.room;
-      agreed = s.agreed;
-      names_live = s.names_live;
-      array = s.array;
-    }
-
     excuse_same : (source : ℕ) (place : Place) (cell : ℕ) → Excuses w.heap source place cell (w.part me) →
         Excuses after source place cell later
     excuse_same source place cell (inl owes) = inl owes
@@ -244,10 +233,12 @@ module _ (layout : Layout) (shapes : ShapeLists) (w : World) (me : ℕ) (inside 
       arrays = λ a scan is. wave.hands.arrays me a scan is;
       scanned = λ scan is. (
         wave.retained.scanned me scan is,
-        knows_after scan (wave.scans.knows me scan is),
+        scan_kept layout w.heap after state state (λ c. refl) (λ c. refl) (λ i. refl) (λ c is_live. is_live) scan
+          (wave.scans.knows me scan is),
         λ c at holds. wave.retained.buffered me c scan is at holds,
       );
-      scans = λ p scan apart is. knows_after scan (wave.scans.knows p scan is);
+      scans = λ p scan apart is. scan_kept layout w.heap after state state (λ c. refl) (λ c. refl) (λ i. refl) (λ c is_live. is_live) scan
+          (wave.scans.knows p scan is);
       truer = λ p scan apart is holds. holds;
       black = λ marks source place target link black white.
           inr (black, white, λ e. inl (excuse_same source place target e));

@@ -51,6 +51,7 @@ use Rattle.tide_words.specs.forms.ValueWord.{val_word, HasU32}
 use Rattle.tide_words.specs.heap.Heap.{Heap, write}
 use Rattle.tide_words.specs.heap.Reading.{ReadsAs}
 use Rattle.tide_machine.proofs.steps.GrowthsKept.{growth_kept}
+use Rattle.tide_machine.proofs.steps.ScansKept.{scan_kept}
 
 module _ (layout : Layout) (shapes : ShapeLists) (w : World) (me : ℕ) (inside : me < parties)
     (wave : RunningWave layout shapes w) (runs : (w.part me).runs ≡ true)
@@ -212,17 +213,9 @@ module _ (layout : Layout) (shapes : ShapeLists) (w : World) (me : ℕ) (inside 
         (RefsAreLive-call layout shapes state me (Put src slot_number val) Done None wave.refs active stands.answers);
     alive = λ x is. (as_before x).status ∙ is;
     arrays = λ array is. is;
-    scans = λ p scan is. let k = wave.scans.knows p scan is in record {
-      unread = k.unread;
-      array_after = k.array_after;
-      grows = k.grows;
-      nuked = k.nuked;
-      array = k.array;
-      room = k.room;
-      agreed = k.agreed;
-      names_live = λ first array place c a b below names. (as_before c).status ∙
-          k.names_live first array place c a b below names;
-    };
+    scans = λ p scan is. scan_kept layout w.heap new state (put_slot state (Cell cell) slot_number value)
+        (λ c. refl) (λ c. refl) (λ i. refl) (λ c is_live. (as_before c).status ∙ is_live) scan
+        (wave.scans.knows p scan is);
     links = λ marks x place target link black white. elim (link_after x place target link) [
       | inl fresh ↦ inl (subst (OwesBarrier later.duty) (sym fresh.0)
           (owes_barrier (w.part me).marks (is_cell_word word) cell ((wave.numbers.told me runs).0 ∙ marks)

@@ -49,6 +49,7 @@ use Rattle.tide_words.specs.forms.ValueWord.{val_word}
 use Rattle.tide_words.specs.heap.Heap.{Heap, write}
 use Rattle.tide_words.specs.heap.Written.{IsBitPut}
 use Rattle.tide_machine.proofs.steps.GrowthsKept.{growth_kept}
+use Rattle.tide_machine.proofs.steps.ScansKept.{scan_kept}
 
 module _ (layout : Layout) (shapes : ShapeLists) (w : World) (me : ℕ) (inside : me < parties)
     (wave : RunningWave layout shapes w) (runs : (w.part me).runs ≡ true)
@@ -207,16 +208,9 @@ module _ (layout : Layout) (shapes : ShapeLists) (w : World) (me : ℕ) (inside 
         (Born cell) None wave.refs stands.is_active stands.answers);
     alive = still;
     arrays = λ array is. is;
-    scans = λ p scan is. let k = wave.scans.knows p scan is in record {
-      unread = k.unread;
-      array_after = k.array_after;
-      grows = k.grows;
-      nuked = k.nuked;
-      array = k.array;
-      room = k.room;
-      agreed = k.agreed;
-      names_live = λ first array place c a b below names. still c (k.names_live first array place c a b below names);
-    };
+    scans = λ p scan is. scan_kept layout w.heap new state after
+        (λ c. refl) (λ c. refl) (λ i. refl) still scan
+        (wave.scans.knows p scan is);
     links = λ marks x place target link black white. inr (link_before x place target link).1;
     beyond = λ marks x n target link past. inr ((link_before x (property n) target link).1, past);
     awaited = λ c owes. subst (IsLive after) owes

@@ -42,6 +42,7 @@ use Rattle.tide_model.specs.declared.val.Val.{Val}
 use Rattle.tide_model.specs.declared.val.Val.TheVariants.{Cell}
 use Rattle.tide_words.specs.heap.Heap.{Heap}
 use Rattle.tide_machine.proofs.steps.GrowthsKept.{growth_kept}
+use Rattle.tide_machine.proofs.steps.ScansKept.{scan_kept}
 
 -- the regions that such a call writes
 abbrev pub is_changed : Region → Bool
@@ -121,21 +122,9 @@ module _ (layout : Layout) (shapes : ShapeLists) (w : World) (me : ℕ) (inside 
           (RefsAreLive-call layout shapes state me op reply None wave.refs stands.is_active stands.answers);
       alive = λ x is. is;
       arrays = λ array is. is;
-      scans = λ p scan is. let k = wave.scans.knows p scan is in record {
-        unread = k.unread;
-        array_after = k.array_after;
-        room = k.room;
-        agreed = k.agreed;
-        grows = λ first e. (let o = ap count_of (structure scan.cell) in let g = k.grows first e in
-            omega (arith, o, g));
-        nuked = λ first e same nuked. ap is_nuked (structure scan.cell) ∙
-            k.nuked first e (same ∙ ap count_of (structure scan.cell)) nuked;
-        array = λ word has holds. s.same region.Array scan.cell refl ∙
-            k.array word has (subst (IsStill scan.first) (structure scan.cell) holds);
-        names_live = λ first array place c a b below names.
-            k.names_live first array place c a b below
-            (sym (s.same region.Elements (index_of_element layout array place) refl) ∙ names);
-      };
+      scans = λ p scan is. scan_kept layout w.heap new state after
+          structure (λ c. s.same region.Array c refl) (λ i. s.same region.Elements i refl) (λ c is_live. is_live) scan
+          (wave.scans.knows p scan is);
       links = λ marks x place target link black white. inr (link_before x place target link);
       beyond = λ marks x n target link past. inr (link, subst (λ (word : ℕ). count_of word ≤ n) (structure x) past);
       awaited = λ c owes. absurd (no_colour c owes);

@@ -43,6 +43,8 @@ use Rattle.tide_words.specs.heap.Heap.{Heap}
 use Rattle.tide_words.specs.marking.Colours.{is_marking, is_grey, is_black, IsBlack, IsMarked}
 use Rattle.tide_words.specs.marking.Marked.{is_marked}
 use Rattle.tide_words.specs.marking.Marking.{bits_of, HasNoGreys, NoLaterColours}
+use Rattle.tide_machine.proofs.steps.ScansKept.{scan_kept}
+use Rattle.tide_machine.proofs.steps.GrowthsKept.{growth_kept}
 
 abbrev found : ℕ → ℕ → Found
 found block moment = record { block = block; moment = moment }
@@ -126,21 +128,8 @@ module _ (layout : Layout) (shapes : ShapeLists) (old : Heap) (part : ℕ → Vi
 
     knows_same : (scan : Scan) → ScanKnows layout old (state_after layout log) scan →
         ScanKnows layout new (state_after layout log) scan
-    knows_same scan k = record {
-      unread = k.unread;
-      array_after = k.array_after;
-      grows = λ first is. subst (λ (word : ℕ). count_of first ≤ count_of word) (sym (structure scan.cell))
-          (k.grows first is);
-      nuked = λ first is. subst (λ (word : ℕ). count_of first ≡ count_of word → is_nuked first ≡ true →
-          is_nuked word ≡ true) (sym (structure scan.cell)) (k.nuked first is);
-      array = λ word is still. s.words region.Array scan.cell refl ∙
-          k.array word is (subst (IsStill scan.first) (structure scan.cell) still);
-      room = k.room;
-      names_live = λ first array place cell is has below names.
-          k.names_live first array place cell is has below
-          (sym (s.words region.Elements (index_of_element layout array place) refl) ∙ names);
-      agreed = k.agreed;
-    }
+    knows_same = scan_kept layout old new (state_after layout log) (state_after layout log) structure
+        (λ c. s.words region.Array c refl) (λ i. s.words region.Elements i refl) (λ c is_live. is_live)
 
     true_same : (scan : Scan) → IsTrue scan (new region.Structure scan.cell) →
         IsTrue scan (old region.Structure scan.cell)
@@ -176,30 +165,11 @@ module _ (layout : Layout) (shapes : ShapeLists) (old : Heap) (part : ℕ → Vi
     growth_same : (p : ℕ) (u : View) → u.owed ≡ (part p).owed → u.growth ≡ (part p).growth →
         GrowthKnows new (state_after layout log) p u u.growth
     growth_same p u same_owed same_growth = subst (GrowthKnows new (state_after layout log) p u) (sym same_growth)
-        (of_growth (part p).growth (wave.growths.knows p))
+        (growth_kept old new (state_after layout log) (state_after layout log) p (part p) u structure (λ c at. at)
+        (λ c x. owes region.Structure c x) (λ c x. owes region.Array c x) (part p).growth (wave.growths.knows p))
       where
         owes : (at : Region) (index word : ℕ) → Owes (part p) at index word → Owes u at index word
         owes at index word = subst (λ (o : List Owed). Contains o (owed_word at index word)) (sym same_owed)
-
-        on : (cell old_word new_word word : ℕ) →
-            GrowthOn old (state_after layout log) p (part p) cell old_word new_word word →
-            GrowthOn new (state_after layout log) p u cell old_word new_word word
-        on cell old_word new_word word g = record {
-          claimed = g.claimed;
-          stands = structure cell ∙ g.stands;
-          even =
-              g.even;
-          fresh = g.fresh;
-          more = g.more;
-          owes = owes region.Structure cell new_word g.owes;
-        }
-
-        of_growth : (g : Growth) → GrowthKnows old (state_after layout log) p (part p) g →
-            GrowthKnows new (state_after layout log) p u g
-        of_growth growth.Nothing k = tt
-        of_growth (growth.Filling cell array a b) k = (on cell a b a k.0, owes region.Array cell (array + 1) k.1)
-        of_growth (growth.Nuked cell array a b) k = (on cell a b (a + 1) k.0, owes region.Array cell (array + 1) k.1)
-        of_growth (growth.Stored cell array a b) k = on cell a b (a + 1) k
 
     -- a view that runs began in this part
     counted_now : (u : View) → u.begun ≡ old region.Period 0 → counted_in (old region.Period 0) u ≡ u.visits
