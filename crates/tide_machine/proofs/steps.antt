@@ -21,3 +21,4 @@ pub mod Paying
 pub mod Loads
 pub mod Births
 pub mod Rereading
+pub mod OwnState

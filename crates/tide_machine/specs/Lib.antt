@@ -14,4 +14,5 @@ pub mod RunningWave
 pub mod Frozen
 pub mod Schedule
 pub mod Groups
+pub mod Own
 pub mod Laws
