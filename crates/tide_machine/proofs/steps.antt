@@ -22,3 +22,4 @@ pub mod Loads
 pub mod Births
 pub mod Rereading
 pub mod OwnState
+pub mod Moments

@@ -15,4 +15,5 @@ pub mod Frozen
 pub mod Schedule
 pub mod Groups
 pub mod Own
+pub mod Moment
 pub mod Laws

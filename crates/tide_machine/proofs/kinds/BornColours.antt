@@ -59,7 +59,7 @@ module _ (layout : Layout) (shapes : ShapeLists) (w : World) (me : ℕ) (inside 
                   let was = ap {B = ℕ} (λ (b : Bool). if b then 1 else 0) (ap (is_grey w.heap) same ∙
                   (unmarked_is_neither w.heap cell a.white).1) in
                   let now = ap {B = ℕ} (λ (b : Bool). if b then 1 else 0)
-                      (ap (is_grey (coloured w.heap cell Black)) same ∙
+                  (ap (is_grey (coloured w.heap cell Black)) same ∙
                   black_is_not_grey (coloured w.heap cell Black) cell (is_black-made w.heap cell)) in
                   omega (arith, none, was, now)
               | inr apart ↦ (let grey = ap {B = ℕ} (λ (b : Bool). if b then 1 else 0)

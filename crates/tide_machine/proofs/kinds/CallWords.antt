@@ -45,8 +45,12 @@ store_call_word layout shapes w me inside wave word may =
       balance = λ _ c in_c few. refl;
       rests = λ idle. (
         λ block within.
-            (let n = wave.rests.words idle block within in record { shared = n.shared; mutator = n.mutator; race =
-                n.race }),
+            (let n = wave.rests.words idle block within in record {
+              shared = n.shared;
+              mutator = n.mutator;
+              race =
+                  n.race;
+            }),
         wave.rests.held idle me,
         wave.rests.scans idle me,
         wave.rests.duties idle me,

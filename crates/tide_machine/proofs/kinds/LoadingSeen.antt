@@ -9,8 +9,10 @@ use Rattle.tide_layout.specs.declared.region.Region.{Region}
 use Rattle.tide_layout.specs.declared.region.Region.TheVariants as region
 use Rattle.tide_machine.proofs.steps.Calls.{OfState, call_step}
 use Rattle.tide_machine.proofs.steps.Frames.{calls_view, put_here}
+use Rattle.tide_machine.proofs.steps.GrowthsKept.{growth_kept}
 use Rattle.tide_machine.proofs.steps.Owning.{own_alone}
 use Rattle.tide_machine.proofs.steps.Registers.{register_after}
+use Rattle.tide_machine.proofs.steps.ScansKept.{scan_kept}
 use Rattle.tide_machine.specs.Duties.{OwesColour, IsCalm}
 use Rattle.tide_machine.specs.Entries.{call_of}
 use Rattle.tide_machine.specs.Owed.{Owes, IsOwnWord, own_register, own_structure, own_array, own_pair, own_element, owed_word}
@@ -19,7 +21,6 @@ use Rattle.tide_machine.specs.Scanning.{Place, slot, property}
 use Rattle.tide_machine.specs.World.{World, parties, pushes}
 use Rattle.tide_machine.specs.declared.view.Duty.{Duty}
 use Rattle.tide_machine.specs.declared.view.Duty.TheVariants as duty
-use Rattle.tide_machine.specs.declared.view.Growth.{Growth}
 use Rattle.tide_machine.specs.declared.view.Growth.TheVariants as growth
 use Rattle.tide_machine.specs.declared.view.Owed.{Owed}
 use Rattle.tide_machine.specs.declared.view.View.{View}
@@ -44,8 +45,6 @@ use Rattle.tide_model.specs.declared.val.Val.TheVariants.{Cell}
 use Rattle.tide_words.proofs.heap_laws.HeapLaws.{write-same}
 use Rattle.tide_words.specs.forms.ValueWord.{val_word, HasU32}
 use Rattle.tide_words.specs.heap.Heap.{Heap, write}
-use Rattle.tide_machine.proofs.steps.GrowthsKept.{growth_kept}
-use Rattle.tide_machine.proofs.steps.ScansKept.{scan_kept}
 
 -- what stands in a list of one word
 one_owed : (x y : Owed) → Contains (x ∷ []) y → x ≡ y
@@ -182,7 +181,8 @@ module _ (layout : Layout) (shapes : ShapeLists) (w : World) (me : ℕ) (inside 
     beyond = λ marks x n target link past. inr (link, past);
     awaited = λ c owes. absurd (no_colour c owes);
     growth = subst (GrowthKnows w.heap after me later) (sym grows_not) tt;
-    growths = λ p apart. growth_kept w.heap w.heap state after p (w.part p) (w.part p) (λ c. refl) (λ c at. at) (λ c x o. o)
+    growths = λ p apart. growth_kept w.heap w.heap state after p (w.part p) (w.part p) (λ c. refl) (λ c at.
+        at) (λ c x o. o)
         (λ c x o. o) (w.part p).growth (wave.growths.knows p);
     owns = λ p at index apart. own_still p at index;
     hidden = λ p c apart alive h. record {

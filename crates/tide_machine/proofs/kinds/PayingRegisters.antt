@@ -1,28 +1,27 @@
 -- The store of an owed register word keeps the wave.
-use Rattle.std.proofs.Common.{ℕ, ◌≡◌, ◌≢◌, ◌+◌, ◌<◌, ◌⊎◌, ◌==◌, refl, ◌∙◌, ap, subst, arith, Bool, true, false, [], inl, inr, Option, Some, None}
+use Rattle.std.proofs.Common.{ℕ, ◌≡◌, ◌≢◌, ◌<◌, ◌⊎◌, ◌==◌, refl, ◌∙◌, ap, subst, arith, Bool, true, false, [], inl, inr, Option, Some, None}
 use Rattle.std.proofs.lemmas.Bool.{cases_Bool, cases_eq, eqb-true, and_parts}
 use Rattle.std.specs.Prelude.{if◌then◌else◌, ◌&&◌, not}
 use Rattle.tide_layout.specs.Region.{tag, index_of_register}
 use Rattle.tide_layout.specs.declared.region.Region.{Region}
 use Rattle.tide_layout.specs.declared.region.Region.TheVariants as region
 use Rattle.tide_machine.proofs.steps.Frames.{calls_view}
+use Rattle.tide_machine.proofs.steps.GrowthsKept.{growth_kept}
 use Rattle.tide_machine.proofs.steps.Lists.{from_none}
 use Rattle.tide_machine.proofs.steps.Owning.{own_alone}
 use Rattle.tide_machine.proofs.steps.Paying.{words_paid, in_filter}
+use Rattle.tide_machine.proofs.steps.ScansKept.{scan_kept}
 use Rattle.tide_machine.proofs.steps.Steps.{any_step}
 use Rattle.tide_machine.specs.Duties.{GrowsAndOwes, OwesBarrier}
 use Rattle.tide_machine.specs.Owed.{is_at, Owes, IsOwnWord, owed_word, without_word}
 use Rattle.tide_machine.specs.RunningWave.{RunningWave}
 use Rattle.tide_machine.specs.Scanning.{Place}
 use Rattle.tide_machine.specs.World.{World, parties}
-use Rattle.tide_machine.specs.declared.view.Growth.{Growth}
-use Rattle.tide_machine.specs.declared.view.Growth.TheVariants as growth
 use Rattle.tide_machine.specs.declared.view.Owed.{Owed}
 use Rattle.tide_machine.specs.declared.view.Scan.{Scan}
 use Rattle.tide_machine.specs.declared.view.View.{View}
-use Rattle.tide_machine.specs.points.Growths.{GrowthKnows, GrowthOn}
 use Rattle.tide_machine.specs.points.Links.{Excuses, ScanExcuses}
-use Rattle.tide_machine.specs.points.Scans.{held, scanned, buffered, ScanKnows}
+use Rattle.tide_machine.specs.points.Scans.{held, scanned, buffered}
 use Rattle.tide_model.proofs.ClaimLaws.{ClaimsAreOwn-lawful}
 use Rattle.tide_model.specs.History.{state_after}
 use Rattle.tide_model.specs.Layout.{Layout}
@@ -30,8 +29,6 @@ use Rattle.tide_model.specs.Numbers.{put_at}
 use Rattle.tide_model.specs.Refused.{ShapeLists}
 use Rattle.tide_model.specs.State.{State}
 use Rattle.tide_words.specs.heap.Heap.{Heap, write}
-use Rattle.tide_machine.proofs.steps.GrowthsKept.{growth_kept}
-use Rattle.tide_machine.proofs.steps.ScansKept.{scan_kept}
 
 module _ (layout : Layout) (shapes : ShapeLists) (w : World) (me : ℕ) (inside : me < parties)
     (wave : RunningWave layout shapes w) (runs : (w.part me).runs ≡ true)
@@ -84,7 +81,8 @@ module _ (layout : Layout) (shapes : ShapeLists) (w : World) (me : ℕ) (inside 
     growth = growth_kept w.heap new state state me (w.part me) later (λ c. refl) (λ c at. at)
         (λ c x. stays_owed region.Structure c x refl) (λ c x. stays_owed region.Array c x refl) (w.part me).growth
         (wave.growths.knows me);
-    growths = λ p apart. growth_kept w.heap new state state p (w.part p) (w.part p) (λ c. refl) (λ c at. at) (λ c x o. o)
+    growths = λ p apart. growth_kept w.heap new state state p (w.part p) (w.part p) (λ c. refl) (λ c at. at) (λ c x o.
+        o)
         (λ c x o. o) (w.part p).growth (wave.growths.knows p);
     knows = λ at index x is. from_none (owed_word at index x) is;
     knows_still = λ p at index x apart is. alone p at index apart (wave.kept.owns p at index x is) ∙
@@ -108,10 +106,11 @@ module _ (layout : Layout) (shapes : ShapeLists) (w : World) (me : ℕ) (inside 
     scanned = λ scan is. (
       wave.retained.scanned me scan is,
       scan_kept layout w.heap new state state (λ c. refl) (λ c. refl) (λ i. refl) (λ c is_live. is_live) scan
-        (wave.scans.knows me scan is),
+          (wave.scans.knows me scan is),
       λ c at holds. wave.retained.buffered me c scan is at holds,
     );
-    scans = λ p scan apart is. scan_kept layout w.heap new state state (λ c. refl) (λ c. refl) (λ i. refl) (λ c is_live. is_live) scan
+    scans = λ p scan apart is. scan_kept layout w.heap new state state (λ c. refl) (λ c. refl) (λ i. refl) (λ c is_live.
+        is_live) scan
         (wave.scans.knows p scan is);
     truer = λ p scan apart is holds. holds;
     black = λ marks source place target link black white.

@@ -8,6 +8,7 @@ use Rattle.tide_core.specs.FrozenWave.{is_born_in_cycle}
 use Rattle.tide_layout.specs.declared.region.Region.TheVariants as region
 use Rattle.tide_machine.proofs.steps.Colouring.{unread_write, colours_coloured, black_before_grey, marked_after_grey, count_where-le, recoloured_one}
 use Rattle.tide_machine.proofs.steps.Frames.{calls_view}
+use Rattle.tide_machine.proofs.steps.Lists.{in_one}
 use Rattle.tide_machine.proofs.steps.Quiet.{quiet_step}
 use Rattle.tide_machine.specs.Duties.{OwesColour}
 use Rattle.tide_machine.specs.RunningWave.{RunningWave}
@@ -33,7 +34,6 @@ use Rattle.tide_words.specs.forms.ColourWord.{colour_word}
 use Rattle.tide_words.specs.marking.Colours.{coloured, is_marking, running_cycle, is_grey, is_black, IsMarked}
 use Rattle.tide_words.specs.marking.Marked.{is_marked}
 use Rattle.tide_words.specs.marking.Marking.{times_in}
-use Rattle.tide_machine.proofs.steps.Lists.{in_one}
 
 -- another cell than the one that is left out stays, and none comes
 leave_out-one : (cell x : ℕ) (cells : List ℕ) →
@@ -187,7 +187,7 @@ module _ (layout : Layout) (shapes : ShapeLists) (w : World) (me : ℕ) (inside 
                 let not_grey = ap {B = ℕ} (λ (b : Bool). if b then 1 else 0) (ap (is_grey w.heap) same ∙
                 (unmarked_is_neither w.heap cell white).1) in
                 let grey = ap {B = ℕ} (λ (b : Bool). if b then 1 else 0)
-                    (ap (is_grey (coloured w.heap cell Grey)) same ∙
+                (ap (is_grey (coloured w.heap cell Grey)) same ∙
                 is_grey-made w.heap cell) in
                 let more = times_in-first (w.part me).held cell other in
                 omega (arith, one, not_grey, grey, more)
@@ -202,7 +202,7 @@ module _ (layout : Layout) (shapes : ShapeLists) (w : World) (me : ℕ) (inside 
           arrays = λ array other is has_it.
               of_shorter (λ s. s.array ≡ Some (array + 1) → ((state_after layout w.log).arrays array ≡ live) ⊎
               ((state_after layout w.log).arrays array ≡ spent)) (wave.hands.arrays me array scan scans) other is
-                  has_it;
+              has_it;
           scanned = λ other is. of_shorter (λ s. IsMarked (coloured w.heap cell Grey) s.cell ×
               ScanKnows layout w.heap (state_after layout w.log) s ×
               ((c : ℕ) → Contains s.buffer c → IsTrue s (w.heap region.Structure s.cell) →
@@ -311,7 +311,7 @@ module _ (layout : Layout) (shapes : ShapeLists) (w : World) (me : ℕ) (inside 
           period = refl;
           calls =
               calls_view layout w.heap w.heap w.part me (with_scan (w.part me) (w.part me).held (still_open shorter))
-                  refl
+              refl
               (λ p. refl) wave.calls;
           ran = runs;
           runs = runs;
@@ -322,7 +322,7 @@ module _ (layout : Layout) (shapes : ShapeLists) (w : World) (me : ℕ) (inside 
           arrays = λ array other is has_it.
               of_shorter (λ s. s.array ≡ Some (array + 1) → ((state_after layout w.log).arrays array ≡ live) ⊎
               ((state_after layout w.log).arrays array ≡ spent)) (wave.hands.arrays me array scan scans) other is
-                  has_it;
+              has_it;
           scanned = λ other is. of_shorter (λ s. IsMarked w.heap s.cell ×
               ScanKnows layout w.heap (state_after layout w.log) s ×
               ((c : ℕ) → Contains s.buffer c → IsTrue s (w.heap region.Structure s.cell) →

@@ -1,7 +1,7 @@
 -- A mutator looks for something free: a block that shows nothing is full at that moment, a take may be lost, and a
 -- call may
 -- be refused for room. The wave is kept.
-use Rattle.std.proofs.Common.{ℕ, ◌≡◌, ◌+◌, ◌%◌, ◌<◌, ◌≤◌, ◌==◌, refl, sym, ◌∙◌, ap, subst, arith, Bool, true, false, List, inl, inr, Option, Some, None, length}
+use Rattle.std.proofs.Common.{ℕ, ◌≡◌, ◌%◌, ◌<◌, ◌≤◌, ◌==◌, refl, sym, ◌∙◌, ap, subst, arith, Bool, true, false, List, inl, inr, Option, Some, None, length}
 use Rattle.std.proofs.lemmas.Bool.{cases_Bool, cases_eq}
 use Rattle.std.proofs.lemmas.Nat.Bits.{bit_at-zero}
 use Rattle.std.specs.Int.{bit_at}
@@ -10,6 +10,8 @@ use Rattle.tide_layout.specs.Region.{tag}
 use Rattle.tide_layout.specs.declared.region.Region.{Region}
 use Rattle.tide_layout.specs.declared.region.Region.TheVariants as region
 use Rattle.tide_machine.proofs.steps.Frames.{calls_view, each_put}
+use Rattle.tide_machine.proofs.steps.GrowthsKept.{growth_kept}
+use Rattle.tide_machine.proofs.steps.ScansKept.{scan_kept}
 use Rattle.tide_machine.proofs.steps.Steps.{any_step}
 use Rattle.tide_machine.specs.Duties.{GrowsAndOwes}
 use Rattle.tide_machine.specs.Owed.{own_register, own_structure, own_array, own_pair, own_element, Owes, IsOwnWord, owed_word}
@@ -17,14 +19,10 @@ use Rattle.tide_machine.specs.RunningWave.{RunningWave}
 use Rattle.tide_machine.specs.Scanning.{Place}
 use Rattle.tide_machine.specs.World.{World, parties}
 use Rattle.tide_machine.specs.declared.view.Found.{Found}
-use Rattle.tide_machine.specs.declared.view.Growth.{Growth}
-use Rattle.tide_machine.specs.declared.view.Growth.TheVariants as growth
-use Rattle.tide_machine.specs.declared.view.Owed.{Owed}
 use Rattle.tide_machine.specs.declared.view.Scan.{Scan}
 use Rattle.tide_machine.specs.declared.view.View.{View}
-use Rattle.tide_machine.specs.points.Growths.{GrowthOn, GrowthKnows}
 use Rattle.tide_machine.specs.points.Links.{Excuses, ScanExcuses}
-use Rattle.tide_machine.specs.points.Scans.{ScanKnows, held, scanned, buffered}
+use Rattle.tide_machine.specs.points.Scans.{held, scanned, buffered}
 use Rattle.tide_machine.specs.points.SettledWords.{RunningWordsRead}
 use Rattle.tide_model.proofs.Histories.{moment_after_last-le}
 use Rattle.tide_model.proofs.ReferenceLaws.{put_at_elim}
@@ -39,11 +37,8 @@ use Rattle.tide_words.proofs.heap_laws.CellReading.{CellReads-kept}
 use Rattle.tide_words.proofs.heap_laws.Frames.{else-free}
 use Rattle.tide_words.proofs.heap_laws.HeapLaws.{write-same, write-other_index}
 use Rattle.tide_words.proofs.heap_laws.Parts.{RootsRead-same, SameRoots-write}
-use Rattle.tide_words.specs.forms.Reference.{array_word}
 use Rattle.tide_words.specs.heap.Heap.{Heap, write}
 use Rattle.tide_words.specs.heap.Reading.{IsNamedAmong, ReadsAs, status_by}
-use Rattle.tide_machine.proofs.steps.GrowthsKept.{growth_kept}
-use Rattle.tide_machine.proofs.steps.ScansKept.{scan_kept}
 
 -- nothing of a block is free whose word of free bits is 0
 not_free_by : (word dead_word k : ℕ) (otherwise : Status) → word ≡ 0 → is_free otherwise ≡ false →
@@ -234,10 +229,11 @@ module _ (layout : Layout) (shapes : ShapeLists) (w : World) (me : ℕ) (inside 
       scanned = λ scan is. (
         wave.retained.scanned me scan is,
         scan_kept layout w.heap after state state (λ c. refl) (λ c. refl) (λ i. refl) (λ c is_live. is_live) scan
-          (wave.scans.knows me scan is),
+            (wave.scans.knows me scan is),
         λ c at holds. wave.retained.buffered me c scan is at holds,
       );
-      scans = λ p scan apart is. scan_kept layout w.heap after state state (λ c. refl) (λ c. refl) (λ i. refl) (λ c is_live. is_live) scan
+      scans = λ p scan apart is. scan_kept layout w.heap after state state (λ c. refl) (λ c. refl) (λ i. refl)
+          (λ c is_live. is_live) scan
           (wave.scans.knows p scan is);
       truer = λ p scan apart is holds. holds;
       black = λ marks source place target link black white.

@@ -11,9 +11,11 @@ use Rattle.tide_layout.specs.declared.region.Region.TheVariants as region
 use Rattle.tide_machine.proofs.steps.Births
 use Rattle.tide_machine.proofs.steps.Calls.{OfState, call_step, is_uncalled}
 use Rattle.tide_machine.proofs.steps.Frames.{calls_view, put_here}
+use Rattle.tide_machine.proofs.steps.GrowthsKept.{growth_kept}
 use Rattle.tide_machine.proofs.steps.Lists.{in_one}
 use Rattle.tide_machine.proofs.steps.Owning.{own_alone}
 use Rattle.tide_machine.proofs.steps.Registers.{register_after}
+use Rattle.tide_machine.proofs.steps.ScansKept.{scan_kept}
 use Rattle.tide_machine.specs.Duties.{OwesBarrier, OwesColour}
 use Rattle.tide_machine.specs.Entries.{call_of}
 use Rattle.tide_machine.specs.Owed.{Owes, IsOwnWord, own_register, own_structure, own_array, own_pair, own_element, owed_word}
@@ -23,7 +25,6 @@ use Rattle.tide_machine.specs.Words.{cell_named}
 use Rattle.tide_machine.specs.World.{World, parties, pushes}
 use Rattle.tide_machine.specs.declared.view.Duty.{Duty}
 use Rattle.tide_machine.specs.declared.view.Duty.TheVariants as duty
-use Rattle.tide_machine.specs.declared.view.Growth.{Growth}
 use Rattle.tide_machine.specs.declared.view.Growth.TheVariants as growth
 use Rattle.tide_machine.specs.declared.view.Owed.{Owed}
 use Rattle.tide_machine.specs.declared.view.View.{View}
@@ -48,8 +49,6 @@ use Rattle.tide_words.proofs.heap_laws.HeapLaws.{write-same, write-other_region}
 use Rattle.tide_words.specs.forms.ValueWord.{val_word}
 use Rattle.tide_words.specs.heap.Heap.{Heap, write}
 use Rattle.tide_words.specs.heap.Written.{IsBitPut}
-use Rattle.tide_machine.proofs.steps.GrowthsKept.{growth_kept}
-use Rattle.tide_machine.proofs.steps.ScansKept.{scan_kept}
 
 module _ (layout : Layout) (shapes : ShapeLists) (w : World) (me : ℕ) (inside : me < parties)
     (wave : RunningWave layout shapes w) (runs : (w.part me).runs ≡ true)
@@ -217,7 +216,8 @@ module _ (layout : Layout) (shapes : ShapeLists) (w : World) (me : ℕ) (inside 
         (ap (λ (x : CellState). x.status)
         (Births.cell_here layout shapes w wave me op dst cell bears was_free within stands.is_active));
     growth = subst (GrowthKnows new after me later) (sym grows_not) tt;
-    growths = λ p apart. growth_kept w.heap new state after p (w.part p) (w.part p) (λ c. refl) (λ c at. at) (λ c x o. o)
+    growths = λ p apart. growth_kept w.heap new state after p (w.part p) (w.part p) (λ c. refl) (λ c at. at) (λ c x o.
+        o)
         (λ c x o. o) (w.part p).growth (wave.growths.knows p);
     owns = λ p at index apart. own_still p at index;
     hidden = λ p c apart alive h. let other : c ≢ cell = λ e. not_live (subst (IsLive state) e alive) in record {

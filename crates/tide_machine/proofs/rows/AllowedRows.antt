@@ -1,8 +1,8 @@
 -- Steps near to allowed ones, which are not allowed.
 use Rattle.std.proofs.Common.{ap, arith, Some, None}
 use Rattle.tide_layout.specs.declared.region.Region.TheVariants as region
-use Rattle.tide_machine.proofs.steps.Lists.{in_one}
 use Rattle.tide_machine.proofs.rows.BusyRow.{busy, taken, linked}
+use Rattle.tide_machine.proofs.steps.Lists.{in_one}
 use Rattle.tide_machine.specs.Kind.{StoreRegister, StoreStopped, Regrey, StoreBorn, StoreCall, StoreStrong}
 use Rattle.tide_machine.specs.Machine.{IsAllowed}
 use Rattle.tide_machine.specs.Owed.{owed_word}
@@ -14,8 +14,10 @@ use Rattle.tide_model.specs.declared.op.Op.TheVariants.{Move}
 -- a register's word that nobody owes
 unowed-register : IsAllowed small no_shapes taken 0 (StoreRegister 0 6 None) → ⊥
 unowed-register may =
-    (let same = ap (λ (o : Owed). o.word) (in_one (owed_word region.Registers 0 2) (owed_word region.Registers 0 6) may.1) in
+    (let same = ap (λ (o : Owed). o.word)
+        (in_one (owed_word region.Registers 0 2) (owed_word region.Registers 0 6) may.1) in
     absurd (omega (arith, same)))
+
 -- a stop while a barrier is owed
 owing-stop : IsAllowed small no_shapes busy 0 (StoreStopped 1) → ⊥
 owing-stop may = (let none = may.rests.between.duty in absurd (cc))

@@ -8,14 +8,16 @@ use Rattle.tide_cycle.specs.Frames.{LeftByBegin}
 use Rattle.tide_layout.specs.Limits.{IsWithinLimits}
 use Rattle.tide_layout.specs.declared.region.Region.TheVariants as region
 use Rattle.tide_machine.proofs.Scheduling.{all_schedules}
-use Rattle.tide_machine.specs.Frozen.{first_world}
+use Rattle.tide_machine.proofs.steps.Frames.{put_else}
+use Rattle.tide_machine.specs.Frozen.{first_world, FrozenMachine}
 use Rattle.tide_machine.specs.Groups.{has_law}
-use Rattle.tide_machine.specs.Kind.{Ticket, Join, Activate, TakeFree, StoreRegister, StoreBorn, StoreCall, StoreLink, LoadColour, Regrey, PushBit}
+use Rattle.tide_machine.specs.Kind.{Ticket, Join, Activate, TakeFree, StoreRegister, StoreBorn, StoreCall, StoreLink, LoadColour, Regrey, PushBit, StoreStopped, Kind}
 use Rattle.tide_machine.specs.Machine.{stepped}
 use Rattle.tide_machine.specs.RunningWave.{RunningWave}
-use Rattle.tide_machine.specs.Schedule.{Comes, running, frozen, at_first, steps, enters, opens, begins}
+use Rattle.tide_machine.specs.Schedule.{Comes, running, frozen, at_first, steps, enters, opens, begins, freezes}
 use Rattle.tide_machine.specs.World.{World}
 use Rattle.tide_machine.specs.declared.view.Duty.TheVariants as duty
+use Rattle.tide_machine.specs.declared.view.View.{View}
 use Rattle.tide_model.specs.History.{plain}
 use Rattle.tide_model.specs.Layout.{blocks_of}
 use Rattle.tide_model.specs.Prefix.{prefix_refl}
@@ -28,12 +30,6 @@ use Rattle.tide_words.proofs.heap_laws.HeapLaws.{write-other_region}
 use Rattle.tide_words.specs.heap.EmptyHeap.{empty_heap}
 use Rattle.tide_words.specs.heap.Heap.{write}
 use Rattle.tide_words.specs.marking.Colours.{is_marking, is_grey}
-use Rattle.tide_machine.specs.Frozen.{FrozenMachine}
-use Rattle.tide_machine.specs.Kind.{StoreStopped}
-use Rattle.tide_machine.specs.Schedule.{freezes}
-use Rattle.tide_machine.specs.declared.view.View.{View}
-use Rattle.tide_machine.proofs.steps.Frames.{put_else}
-use Rattle.tide_machine.specs.Kind.{Kind}
 
 pub limits : IsWithinLimits small
 limits = record {
@@ -280,7 +276,9 @@ paid = stepped small no_shapes busy 0 (LoadColour 0)
 
 came_paid : Comes small no_shapes has_law running paid
 came_paid = steps busy 0 (LoadColour 0) came_busy (omega arith) refl record {
-  runner = record { is_mutator = omega arith; runs = refl }; owed = refl; grown = λ none. none;
+  runner = record { is_mutator = omega arith; runs = refl };
+  owed = refl;
+  grown = λ none. none;
 }
 
 abbrev told_all : World
@@ -288,7 +286,8 @@ told_all = stepped small no_shapes paid 0 (StoreCall 3 None)
 
 came_told_all : Comes small no_shapes has_law running told_all
 came_told_all = steps paid 0 (StoreCall 3 None) came_paid (omega arith) refl (
-  record { is_mutator = omega arith; runs = refl }, refl,
+  record { is_mutator = omega arith; runs = refl },
+  refl,
 )
 
 abbrev pub stopped : World
@@ -297,8 +296,17 @@ stopped = stepped small no_shapes told_all 0 (StoreStopped 1)
 pub came_stopped : Comes small no_shapes has_law running stopped
 came_stopped = steps told_all 0 (StoreStopped 1) came_told_all (omega arith) refl record {
   runs = refl;
-  rests = record { held = refl; scan = refl; between = record { owed = refl; duty = refl; growth = refl; calls =
-      refl } };
+  rests = record {
+    held = refl;
+    scan = refl;
+    between = record {
+      owed = refl;
+      duty = refl;
+      growth = refl;
+      calls =
+          refl;
+    };
+  };
   of_part = refl;
 }
 
@@ -306,21 +314,21 @@ came_stopped = steps told_all 0 (StoreStopped 1) came_told_all (omega arith) ref
 nobody_runs : (p : ℕ) → (stopped.part p).runs ≡ false
 nobody_runs zero = refl
 nobody_runs (suc p) = ap (λ (v : View). v.runs) (
-        other told_all (StoreStopped 1) ∙
-        other paid (StoreCall 3 None) ∙
-        other busy (LoadColour 0) ∙
-        other told_again (StoreLink 0 1 2 (Some (Put 0 1 0))) ∙
-        other pushed (StoreCall 2 None) ∙
-        other regreyed (PushBit 0) ∙
-        other loaded (Regrey 0 1) ∙
-        other linked (LoadColour 0) ∙
-        other told (StoreLink 0 0 2 (Some (Put 0 0 0))) ∙
-        other coloured_black (StoreCall 1 None) ∙
-        other registered (StoreBorn 0 4) ∙
-        other taken (StoreRegister 0 2 None) ∙
-        other activated (TakeFree 0 0 (Some (Alloc 0 0))) ∙
-        other joined (Activate) ∙
-        other opened (Join ticket))
+    other told_all (StoreStopped 1) ∙
+    other paid (StoreCall 3 None) ∙
+    other busy (LoadColour 0) ∙
+    other told_again (StoreLink 0 1 2 (Some (Put 0 1 0))) ∙
+    other pushed (StoreCall 2 None) ∙
+    other regreyed (PushBit 0) ∙
+    other loaded (Regrey 0 1) ∙
+    other linked (LoadColour 0) ∙
+    other told (StoreLink 0 0 2 (Some (Put 0 0 0))) ∙
+    other coloured_black (StoreCall 1 None) ∙
+    other registered (StoreBorn 0 4) ∙
+    other taken (StoreRegister 0 2 None) ∙
+    other activated (TakeFree 0 0 (Some (Alloc 0 0))) ∙
+    other joined (Activate) ∙
+    other opened (Join ticket))
   where
     other : (w : World) (kind : Kind) → (stepped small no_shapes w 0 kind).part (suc p) ≡ w.part (suc p)
     other w kind = put_else w.part 0 (suc p) _ (λ e. omega (arith, e))

@@ -77,8 +77,8 @@ module _ (layout : Layout) (shapes : ShapeLists) (old : Heap) (part : ℕ → Vi
   abbrev pub after : State
   after = state_after layout longer
 
--- what the state after the call has to show; each is said of any state, so that a kind proves it of the one that
--- computes
+  -- what the state after the call has to show; each is said of any state, so that a kind proves it of the one that
+  -- computes
   pub record OfState (new : Heap) (w : View) (t : State) : Type 0 where
     pub words : RunningWordsRead layout shapes new (put_at part me w) t
     pub refs : RefsAreLive t

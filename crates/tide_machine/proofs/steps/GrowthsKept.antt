@@ -1,10 +1,10 @@
 -- What a growth knows stays known while the structures, the claim and what it owes of them stay.
-use Rattle.std.proofs.Common.{ℕ, ◌≡◌, ◌+◌, ◌∙◌, List, Some}
+use Rattle.std.proofs.Common.{ℕ, ◌≡◌, ◌+◌, ◌∙◌, Some}
 use Rattle.std.specs.Prelude.{Contains}
 use Rattle.tide_layout.specs.declared.region.Region.TheVariants as region
+use Rattle.tide_machine.specs.Owed.{Owes}
 use Rattle.tide_machine.specs.declared.view.Growth.{Growth}
 use Rattle.tide_machine.specs.declared.view.Growth.TheVariants as growth
-use Rattle.tide_machine.specs.Owed.{Owes}
 use Rattle.tide_machine.specs.declared.view.View.{View}
 use Rattle.tide_machine.specs.points.Growths.{GrowthKnows, GrowthOn}
 use Rattle.tide_model.specs.State.{State}

@@ -1,23 +1,22 @@
 -- A mutator's registers and claims, and whether it is active, follow from its own calls alone.
-use Rattle.tide_machine.specs.Own.{Own, own_of}
-use Rattle.std.proofs.Common.{ℕ, zero, suc, ◌≡◌, ◌≢◌, ◌+◌, ◌<◌, ◌≤◌, ◌==◌, refl, sym, ◌∙◌, ap, subst, arith, Bool, true, false, List, [], ◌∷◌, ◌++◌, drop}
+use Rattle.std.proofs.Common.{ℕ, ◌≡◌, ◌≢◌, ◌==◌, refl, sym, ◌∙◌, ap, subst, Bool, true, false, List, [], ◌∷◌, ◌++◌, drop}
+use Rattle.std.proofs.lemmas.Bool.{eq-eqb, ne_eqb, eqb-true}
 use Rattle.std.specs.Prelude.{if◌then◌else◌, filter, not, Option, Some, None}
-use Rattle.std.proofs.lemmas.Bool.{cases_Bool, eq-eqb, ne_eqb, eqb-true, eqb-false}
-use Rattle.tide_model.specs.declared.op.Op.{Op}
-use Rattle.tide_model.specs.declared.op.Op.TheVariants.{Alloc, Table, Get, Put, Move, Set, Drop, Claim, Release, Unclaim, Add, GetProp, SetProp, StrongSet, StrongGet, WeakSet, WeakGet, PairSet, PairGet, PairDel, Group, Collect, Retire}
-use Rattle.tide_model.specs.declared.op.Reply.{Reply}
-use Rattle.tide_model.specs.declared.op.Reply.TheVariants.{Done, Born, Seen, Asked, Refused}
-use Rattle.tide_model.specs.declared.val.Val.{Val}
-use Rattle.tide_model.specs.declared.val.Val.TheVariants.{Empty, Int, Cell}
-use Rattle.tide_model.specs.declared.entry.Entry.{Entry}
-use Rattle.tide_model.specs.declared.entry.Entry.TheVariants as entry
-use Rattle.tide_model.specs.declared.entry.Event.{Event}
-use Rattle.tide_machine.specs.Entries.{call_of}
+use Rattle.tide_machine.specs.Own.{Own, own_of}
 use Rattle.tide_model.specs.Applied.{after_call, put_register, put_slot, put_cell, put_claims, put_pair, put_property, add_property, at_cell}
 use Rattle.tide_model.specs.History.{after_event, state_from, state_after, is_call_of, after_entry}
 use Rattle.tide_model.specs.Layout.{Layout}
 use Rattle.tide_model.specs.Numbers.{put_at}
 use Rattle.tide_model.specs.State.{State, empty_state, blank_cell, live}
+use Rattle.tide_model.specs.declared.entry.Entry.{Entry}
+use Rattle.tide_model.specs.declared.entry.Entry.TheVariants as entry
+use Rattle.tide_model.specs.declared.entry.Event.{Event}
+use Rattle.tide_model.specs.declared.op.Op.{Op}
+use Rattle.tide_model.specs.declared.op.Op.TheVariants.{Alloc, Table, Get, Put, Move, Set, Drop, Claim, Release, Unclaim, Add, GetProp, SetProp, StrongSet, StrongGet, WeakSet, WeakGet, PairSet, PairGet, PairDel, Group, Retire}
+use Rattle.tide_model.specs.declared.op.Reply.{Reply}
+use Rattle.tide_model.specs.declared.op.Reply.TheVariants.{Done, Born, Seen}
+use Rattle.tide_model.specs.declared.val.Val.{Val}
+use Rattle.tide_model.specs.declared.val.Val.TheVariants.{Empty, Int, Cell}
 
 abbrev own_register : Own → ℕ → Val → Own
 own_register o register value = record o { registers = put_at o.registers register value }
@@ -130,7 +129,7 @@ other_claims : (p who : ℕ) (s : State) (value : Val) (change : ℕ → List �
     own_of p (at_cell s value (λ cell. put_claims s who (change cell))) ≡ own_of p s
 other_claims p who s value change apart = same_cell p s value (λ cell. put_claims s who (change cell))
     (λ cell. ap (λ (l : List ℕ). record { registers = s.registers p; claims = l; active = s.active p })
-        (put_other s.claims p who (change cell) apart))
+    (put_other s.claims p who (change cell) apart))
 
 pub other_call : (p who : ℕ) (s : State) (op : Op) (reply : Reply) (took : Option ℕ) → p ≢ who →
     own_of p (after_call s who op reply took) ≡ own_of p s
@@ -192,9 +191,9 @@ own_event : (layout : Layout) (p : ℕ) (s t : State) (event : Event) (e : Entry
     own_of p (after_entry layout s e event.took) ≡ own_of p (after_entry layout t e event.took)
 own_event layout p s t event (entry.Call who op reply) is same =
     subst (λ (w : ℕ). own_of p (after_call s w op reply event.took) ≡ own_of p (after_call t w op reply event.took))
-        (sym (eqb-true who p is))
+    (sym (eqb-true who p is))
     (own_call p s op reply event.took ∙ ap (λ (o : Own). own_after o op reply) same ∙
-        sym (own_call p t op reply event.took))
+    sym (own_call p t op reply event.took))
 own_event layout p s t event (entry.Begin cycle) is same = absurd (cc)
 own_event layout p s t event (entry.Pause visits) is same = absurd (cc)
 own_event layout p s t event (entry.Visits who visits) is same = absurd (cc)

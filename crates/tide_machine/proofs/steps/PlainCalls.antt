@@ -1,28 +1,28 @@
 -- A call that leaves all cells and arrays as they were keeps the wave: one on a register, a handle, a claim,
 -- or none.
-use Rattle.std.proofs.Common.{ℕ, ◌≡◌, ◌≢◌, ◌+◌, ◌<◌, ◌≤◌, refl, sym, ◌∙◌, ap, subst, arith, Bool, true, false, List, [], ◌∷◌, ◌++◌, inl, inr, None}
+use Rattle.std.proofs.Common.{ℕ, ◌≡◌, ◌≢◌, ◌<◌, ◌≤◌, refl, sym, ap, subst, Bool, true, false, List, [], ◌∷◌, ◌++◌, inl, inr, None}
 use Rattle.std.proofs.lemmas.Bool.{cases_Bool}
 use Rattle.std.specs.Prelude.{Contains}
 use Rattle.tide_core.specs.FrozenWave.{is_birth_of}
-use Rattle.tide_layout.specs.Slots.{index_of_element}
 use Rattle.tide_layout.specs.declared.region.Region.{Region}
 use Rattle.tide_layout.specs.declared.region.Region.TheVariants as region
 use Rattle.tide_machine.proofs.steps.Calls.{OfState, call_step, is_uncalled}
+use Rattle.tide_machine.proofs.steps.GrowthsKept.{growth_kept}
+use Rattle.tide_machine.proofs.steps.ScansKept.{scan_kept}
 use Rattle.tide_machine.specs.Duties.{OwesColour, IsCalm}
 use Rattle.tide_machine.specs.Entries.{call_of}
 use Rattle.tide_machine.specs.Owed.{IsOwnWord, own_register, own_structure, own_array, own_pair, own_element, owed_word}
 use Rattle.tide_machine.specs.RunningWave.{RunningWave}
 use Rattle.tide_machine.specs.Scanning.{Place, slot, property, IsStill}
-use Rattle.tide_machine.specs.Words.{count_of, is_nuked}
+use Rattle.tide_machine.specs.Words.{count_of}
 use Rattle.tide_machine.specs.World.{World, parties, pushes}
 use Rattle.tide_machine.specs.declared.view.Duty.{Duty}
 use Rattle.tide_machine.specs.declared.view.Duty.TheVariants as duty
-use Rattle.tide_machine.specs.declared.view.Growth.{Growth}
 use Rattle.tide_machine.specs.declared.view.Growth.TheVariants as growth
 use Rattle.tide_machine.specs.declared.view.Owed.{Owed}
 use Rattle.tide_machine.specs.declared.view.View.{View}
 use Rattle.tide_machine.specs.points.Births.{IsHidden}
-use Rattle.tide_machine.specs.points.Growths.{GrowthKnows, GrowthOn}
+use Rattle.tide_machine.specs.points.Growths.{GrowthKnows}
 use Rattle.tide_machine.specs.points.Links.{LinkAt}
 use Rattle.tide_machine.specs.points.Seen.{CallsAreTold}
 use Rattle.tide_machine.specs.points.SettledWords.{RunningWordsRead}
@@ -41,8 +41,6 @@ use Rattle.tide_model.specs.declared.op.Reply.{Reply}
 use Rattle.tide_model.specs.declared.val.Val.{Val}
 use Rattle.tide_model.specs.declared.val.Val.TheVariants.{Cell}
 use Rattle.tide_words.specs.heap.Heap.{Heap}
-use Rattle.tide_machine.proofs.steps.GrowthsKept.{growth_kept}
-use Rattle.tide_machine.proofs.steps.ScansKept.{scan_kept}
 
 -- the regions that such a call writes
 abbrev pub is_changed : Region → Bool
@@ -129,7 +127,8 @@ module _ (layout : Layout) (shapes : ShapeLists) (w : World) (me : ℕ) (inside 
       beyond = λ marks x n target link past. inr (link, subst (λ (word : ℕ). count_of word ≤ n) (structure x) past);
       awaited = λ c owes. absurd (no_colour c owes);
       growth = subst (GrowthKnows new after me (later owed)) (sym grows_not) tt;
-      growths = λ p apart. growth_kept w.heap new state after p (w.part p) (w.part p) (λ c. s.same region.Structure c refl)
+      growths = λ p apart. growth_kept w.heap new state after p (w.part p) (w.part p) (λ c.
+          s.same region.Structure c refl)
           (λ c. subst (λ (l : List ℕ). Contains l c) (sym (s.claims_else p apart))) (λ c x o. o) (λ c x o. o)
           (w.part p).growth (wave.growths.knows p);
       owns = λ p at index apart. own_still p at index apart;

@@ -4,25 +4,24 @@ use Rattle.std.proofs.lemmas.Bool.{cases_Bool}
 use Rattle.std.specs.Prelude.{Contains, if◌then◌else◌, ◌&&◌, not}
 use Rattle.tide_core.specs.FrozenWave.{is_born_in_cycle}
 use Rattle.tide_layout.specs.Region.{cell_block_count}
-use Rattle.tide_layout.specs.Slots.{index_of_element}
 use Rattle.tide_layout.specs.declared.region.Region.{Region}
 use Rattle.tide_layout.specs.declared.region.Region.TheVariants as region
 use Rattle.tide_machine.proofs.steps.Frames.{each_put}
+use Rattle.tide_machine.proofs.steps.GrowthsKept.{growth_kept}
+use Rattle.tide_machine.proofs.steps.ScansKept.{scan_kept}
 use Rattle.tide_machine.proofs.steps.Steps.{any_step}
 use Rattle.tide_machine.specs.Duties.{IsCalm, OwesBarrier, GrowsAndOwes, OwesColour}
 use Rattle.tide_machine.specs.Owed.{owed_word, Owes, IsOwnWord}
 use Rattle.tide_machine.specs.RunningWave.{RunningWave}
-use Rattle.tide_machine.specs.Scanning.{IsTrue, Place, IsStill}
-use Rattle.tide_machine.specs.Words.{count_of, is_nuked}
+use Rattle.tide_machine.specs.Scanning.{IsTrue, Place}
+use Rattle.tide_machine.specs.Words.{count_of}
 use Rattle.tide_machine.specs.World.{holds, parties}
 use Rattle.tide_machine.specs.declared.view.Found.{Found}
-use Rattle.tide_machine.specs.declared.view.Growth.{Growth}
-use Rattle.tide_machine.specs.declared.view.Growth.TheVariants as growth
 use Rattle.tide_machine.specs.declared.view.Owed.{Owed}
 use Rattle.tide_machine.specs.declared.view.Scan.{Scan}
 use Rattle.tide_machine.specs.declared.view.Target.{Target}
 use Rattle.tide_machine.specs.declared.view.View.{View}
-use Rattle.tide_machine.specs.points.Growths.{GrowthKnows, GrowthOn}
+use Rattle.tide_machine.specs.points.Growths.{GrowthKnows}
 use Rattle.tide_machine.specs.points.Links.{Excuses, ScanExcuses, LinkAt}
 use Rattle.tide_machine.specs.points.Marks.{counted_in}
 use Rattle.tide_machine.specs.points.Scans.{IsAtHand, ScanKnows}
@@ -43,8 +42,6 @@ use Rattle.tide_words.specs.heap.Heap.{Heap}
 use Rattle.tide_words.specs.marking.Colours.{is_marking, is_grey, is_black, IsBlack, IsMarked}
 use Rattle.tide_words.specs.marking.Marked.{is_marked}
 use Rattle.tide_words.specs.marking.Marking.{bits_of, HasNoGreys, NoLaterColours}
-use Rattle.tide_machine.proofs.steps.ScansKept.{scan_kept}
-use Rattle.tide_machine.proofs.steps.GrowthsKept.{growth_kept}
 
 abbrev found : ℕ → ℕ → Found
 found block moment = record { block = block; moment = moment }
