@@ -1,6 +1,6 @@
 //! What a participant knows: what it has seen of the history, what it owes, and what it is about.
 //!
-//! No value of these types is made. They are what a seat of a table of words has beside it, where contracts speak of it.
+//! No value of these types is made. They are what a seat of a table of words has beside it, for contracts to speak of.
 use std::collections::LinkedList;
 use tide_layout::Region;
 use tide_model::Event;
