@@ -1,0 +1,5 @@
+pub mod steps
+pub mod kinds
+pub mod freezes
+pub mod rows
+pub mod Scheduling

@@ -1,0 +1,4 @@
+-- Freezes, their entries, and openings.
+pub mod Freezing
+pub mod Entering
+pub mod OpeningParts

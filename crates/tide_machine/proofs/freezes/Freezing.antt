@@ -1,0 +1,165 @@
+-- The empty heap meets the wave at a freeze; a freeze leads to it, and an opening from it.
+use Rattle.std.proofs.Common.{ℕ, zero, suc, ◌≡◌, refl, sym, ◌∙◌, ap, subst, arith, true, false, List, [], inl, inr, length}
+use Rattle.std.proofs.lemmas.Bool.{cases_Bool}
+use Rattle.std.proofs.lemmas.List.Sums.{length-filter}
+use Rattle.std.specs.Prelude.{Contains, ◌%◌, ◌^◌}
+use Rattle.tide_layout.specs.Slots.{total_below}
+use Rattle.tide_layout.specs.declared.region.Region.{Region}
+use Rattle.tide_layout.specs.declared.region.Region.TheVariants.{Period}
+use Rattle.tide_layout.specs.declared.region.Region.TheVariants as region
+use Rattle.tide_machine.specs.Duties.{OwesBarrier, OwesColour}
+use Rattle.tide_machine.specs.Frozen.{FrozenWith, FrozenMachine, first_world}
+use Rattle.tide_machine.specs.Owed.{Owes, owed_word}
+use Rattle.tide_machine.specs.RunningWave.{RunningWave}
+use Rattle.tide_machine.specs.Scanning.{Place, slot, property}
+use Rattle.tide_machine.specs.World.{World, total, holds, parties, pushes}
+use Rattle.tide_machine.specs.declared.view.Duty.{Duty}
+use Rattle.tide_machine.specs.declared.view.Duty.TheVariants as duty
+use Rattle.tide_machine.specs.declared.view.Owed.{Owed}
+use Rattle.tide_machine.specs.points.Links.{LinkAt, ScanExcuses, IsExcused}
+use Rattle.tide_machine.specs.points.Marks.{SpanIsLive, counted_in}
+use Rattle.tide_model.proofs.Histories.{IsLawful-nil}
+use Rattle.tide_model.specs.Cycle.{cycle_span}
+use Rattle.tide_model.specs.Graph.{IsRetained, retained_in_closed, no_cell, in_slot, in_property}
+use Rattle.tide_model.specs.History.{is_call_of, state_after}
+use Rattle.tide_model.specs.Layout.{Layout}
+use Rattle.tide_model.specs.Prefix.{prefix_refl}
+use Rattle.tide_model.specs.References.{IsLive}
+use Rattle.tide_model.specs.Refused.{ShapeLists}
+use Rattle.tide_model.specs.declared.entry.Event.{Event}
+use Rattle.tide_words.proofs.heap_laws.Frames.{ReadsAs-same}
+use Rattle.tide_words.proofs.marking_laws.EmptyMarking.{Marking-empty}
+use Rattle.tide_words.specs.heap.Heap.{Heap}
+use Rattle.tide_words.specs.marking.Colours.{is_marking, IsBlack, IsMarked}
+use Rattle.tide_words.specs.marking.Marked.{is_marked}
+use Rattle.tide_words.specs.marking.Marking.{times_in}
+
+-- before anything happened the machine is frozen, and the wave holds
+pub FrozenMachine-first : (layout : Layout) (shapes : ShapeLists) → FrozenMachine layout shapes first_world 0
+FrozenMachine-first layout shapes = record {
+  wave = record {
+    lawful = IsLawful-nil layout shapes;
+    span = record {
+      roots = λ marks. absurd (cc);
+      links = λ marks. absurd (cc);
+      triples = λ marks. absurd (cc);
+      twins =
+          λ marks. absurd (cc);
+    };
+    marking = Marking-empty layout shapes;
+    cycle = omega arith;
+    period = refl;
+    calls = λ who within. refl;
+    retained = λ marks. absurd (cc);
+    born = λ marks. absurd (cc);
+    counted = λ marks. absurd (cc);
+  };
+  known = record { who = λ p. refl; seen = λ p. prefix_refl []; own = λ p. refl; told = λ p. refl };
+  stopped = λ p. refl;
+  parked = record {
+    held = λ p rests. refl;
+    scan = λ p rests. refl;
+    owed = λ p rests. refl;
+    duty = λ p rests. refl;
+    growth = λ p rests. refl;
+    known = λ p rests. refl;
+    full = λ p rests. refl;
+    calls = λ p rests. refl;
+  };
+}
+
+pub total_none : (f : ℕ → ℕ) (n : ℕ) → ((k : ℕ) → f k ≡ 0) → total_below f n ≡ 0
+total_none f zero none = refl
+total_none f (suc n) none = (let before = total_none f n none in let last = none n in omega (arith, before, last))
+
+-- what is retained while a cycle marks is live
+pub retained_is_live : (layout : Layout) (heap : Heap) (log : List Event) → SpanIsLive layout heap log →
+    is_marking heap ≡ true → (cell : ℕ) → IsRetained (cycle_span layout log) no_cell cell →
+    IsLive (state_after layout log) cell
+retained_is_live layout heap log span marks =
+    retained_in_closed (cycle_span layout log) no_cell (IsLive (state_after layout log)) record {
+      roots = span.roots marks;
+      further_cells = λ cell none. absurd none;
+      links = λ source cell alive link. (span.links marks source cell link).1;
+      pairs = λ table key cell one other triple. span.triples marks table key cell triple;
+      twins = λ one other alive twin. (span.twins marks one other twin).1;
+    }
+
+module _ (layout : Layout) (shapes : ShapeLists) (w : World) (wave : RunningWave layout shapes w) (parked : (p : ℕ) →
+    (w.part p).runs ≡ false) where
+  no_duty : (p : ℕ) → (w.part p).duty ≡ duty.Nothing
+  no_duty p = wave.parked.duty p (parked p)
+
+  nobody_owes : (p : ℕ) (at : Region) (index word : ℕ) → Owes (w.part p) at index word → ⊥
+  nobody_owes p at index word owes =
+      (let below = (subst (λ (l : List Owed). Contains l (owed_word at index word)) (wave.parked.owed p (parked p))
+      owes).1 in omega (arith, below))
+
+  holds_none : (cell p : ℕ) → holds cell (w.part p) ≡ 0
+  holds_none cell p =
+      let stack = ap (λ (l : List ℕ). times_in l cell) (wave.parked.held p (parked p)) in
+      let push = ap (λ (d : Duty). pushes d cell) (no_duty p) in
+      omega (arith, stack, push)
+
+  nobody_excuses : (source : ℕ) (place : Place) (cell : ℕ) → IsExcused w.heap w.part source place cell → ⊥
+  nobody_excuses source place cell ex = elim ex.excuse [
+    | inl owes ↦ subst (λ (d : Duty). OwesBarrier d source) (no_duty ex.by) owes
+    | inr answers ↦ subst (ScanExcuses w.heap source place cell) (wave.parked.scan ex.by (parked ex.by)) answers
+  ]
+
+  linked : (source cell : ℕ) → is_marking w.heap ≡ true → IsBlack w.heap source → (place : Place) →
+      LinkAt (state_after layout w.log) source place cell → IsMarked w.heap cell
+  linked source cell marks black place link = elim (cases_Bool (is_marked w.heap cell)) [
+    | inl is ↦ is
+    | inr isnt ↦ absurd (nobody_excuses source place cell (wave.black.excused marks source place cell link black isnt))
+  ]
+
+  pub FrozenWith-running : FrozenWith layout shapes w.heap w.log (total (counted_in (w.heap region.Period 0)) w.part)
+  FrozenWith-running = record {
+    lawful = wave.lawful;
+    cycle = wave.numbers.cycles;
+    period = wave.numbers.periods;
+    calls = λ who within. wave.calls who within ∙ ap (λ (n : ℕ). n % 2 ^ 64) (wave.parked.calls who (parked who)
+        ∙ ap length (sym (wave.known.own who)) ∙ length-filter (λ (event : Event). is_call_of who event.entry) w.log);
+    marking = record {
+      reads = ReadsAs-same layout shapes wave.words.settled w.heap (state_after layout w.log) (λ at read index below.
+          wave.words.same at index read (λ p word owes. nobody_owes p at index word owes)) wave.words.reads;
+      references = wave.refs;
+      few_cycles = wave.few_cycles;
+      colours = wave.colours;
+      held = record {
+        each_once = λ marks cell within.
+            let once = wave.held.held marks cell within in
+            let none = total_none (λ p. holds cell (w.part p)) parties (holds_none cell) in
+            let empty : times_in [] cell ≡ 0 = refl in
+            omega (arith, once, none, empty);
+        of_layout = λ cell at. absurd (let below = at.1 in omega (arith, below));
+        no_words = wave.rests.words;
+        no_cells = λ idle. refl;
+      };
+      black = λ marks source cell black link. elim link [
+        | in_slot n alive is ↦ linked source cell marks black (slot n) (alive, is)
+        | in_property n alive below is ↦ linked source cell marks black (property n) (alive, below, is)
+      ];
+      live = λ marks cell within is. retained_is_live layout w.heap w.log wave.span marks cell
+          (wave.retained.marked marks cell within is);
+    };
+    retained = wave.retained.marked;
+    span = wave.span;
+    born = λ marks cell within since. elim (wave.born.born marks cell within since) [
+      | inl is ↦ is
+      | inr owes ↦ absurd (subst (λ (d : Duty). OwesColour d cell) (no_duty owes.0) owes.1)
+    ];
+    counted = wave.counted.counted;
+  }
+
+-- once nobody runs the machine is frozen, with the visits that views count
+pub FrozenMachine-running : (layout : Layout) (shapes : ShapeLists) (w : World) → RunningWave layout shapes w →
+    ((p : ℕ) → (w.part p).runs ≡ false) →
+    FrozenMachine layout shapes w (total (counted_in (w.heap region.Period 0)) w.part)
+FrozenMachine-running layout shapes w wave parked = record {
+  wave = FrozenWith-running layout shapes w wave parked;
+  known = wave.known;
+  stopped = parked;
+  parked = wave.parked;
+}

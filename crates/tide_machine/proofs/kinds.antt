@@ -1,0 +1,24 @@
+-- The law of each kind.
+pub mod Activating
+pub mod Resting
+pub mod PayingRegisters
+pub mod StoringRoots
+pub mod CallWords
+pub mod Refusals
+pub mod SeenCalls
+pub mod LoadingSeen
+pub mod StoringLinks
+pub mod Regreying
+pub mod BornColours
+pub mod TakingCells
+pub mod Takes
+pub mod Searching
+pub mod Searches
+pub mod Claims
+pub mod VisitorLoads
+pub mod Scanning
+pub mod UnBlackening
+pub mod Publishing
+pub mod Visits
+pub mod FirstGroup
+pub mod SecondGroup

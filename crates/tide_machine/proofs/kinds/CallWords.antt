@@ -1,0 +1,86 @@
+-- A mutator stores its call word, which tells all of its calls: the wave is kept.
+use Rattle.std.proofs.Common.{ℕ, ◌≡◌, ◌<◌, refl, ◌∙◌, arith, inl, inr, None}
+use Rattle.std.specs.Prelude.{◌%◌, ◌^◌, length}
+use Rattle.tide_layout.specs.declared.region.Region.TheVariants as region
+use Rattle.tide_machine.proofs.steps.Colouring.{unread_write}
+use Rattle.tide_machine.proofs.steps.Quiet.{quiet_step}
+use Rattle.tide_machine.specs.Kind.{StoreCall}
+use Rattle.tide_machine.specs.Machine.{stepped}
+use Rattle.tide_machine.specs.RunningWave.{RunningWave}
+use Rattle.tide_machine.specs.World.{World, parties}
+use Rattle.tide_machine.specs.declared.view.View.{View}
+use Rattle.tide_machine.specs.kinds.RegisterCall.{MayStoreCall}
+use Rattle.tide_machine.specs.points.Scans.{held, scanned, buffered}
+use Rattle.tide_model.proofs.ReferenceLaws.{put_at_elim}
+use Rattle.tide_model.specs.Layout.{Layout}
+use Rattle.tide_model.specs.Refused.{ShapeLists}
+use Rattle.tide_words.proofs.heap_laws.HeapLaws.{write-same, write-other_index}
+use Rattle.tide_words.specs.heap.Heap.{Heap, write}
+
+pub store_call_word : (layout : Layout) (shapes : ShapeLists) (w : World) (me : ℕ) → me < parties →
+    RunningWave layout shapes w →
+    (word : ℕ) → MayStoreCall layout shapes w me word None →
+    RunningWave layout shapes (stepped layout shapes w me (StoreCall word None))
+store_call_word layout shapes w me inside wave word may =
+    quiet_step layout shapes w.heap w.part w.log me wave new later record {
+      inside = inside;
+      words = λ at i. unread_write w.heap region.Call me word refl at i;
+      who = refl;
+      seen = refl;
+      mine = refl;
+      owed = refl;
+      known = refl;
+      full = refl;
+      growth = refl;
+      marks = refl;
+      cycle = refl;
+      begun = refl;
+      period = refl;
+      calls = put_at_elim (λ p u. p < layout.mutators → new region.Call p ≡ u.calls % 2 ^ 64) w.part me later
+          (λ within. write-same w.heap region.Call me word ∙ may.1)
+          (λ p apart within. write-other_index w.heap region.Call me p word apart ∙ wave.calls p within);
+      ran = may.0.runs;
+      runs = may.0.runs;
+      colours = wave.colours;
+      balance = λ _ c in_c few. refl;
+      rests = λ idle. (
+        λ block within.
+            (let n = wave.rests.words idle block within in record {
+              shared = n.shared;
+              mutator = n.mutator;
+              race =
+                  n.race;
+            }),
+        wave.rests.held idle me,
+        wave.rests.scans idle me,
+        wave.rests.duties idle me,
+      );
+      at_hand = λ c at. wave.hands.cells me c (elim at [
+        | held is ↦ held is
+        | scanned scan is e ↦
+            scanned scan is e
+        | buffered scan is e ↦ buffered scan is e
+      ]);
+      arrays = λ a scan is. wave.hands.arrays me a scan is;
+      scanned = λ scan is. (
+        wave.retained.scanned me scan is,
+        wave.scans.knows me scan is,
+        λ c at holds.
+            wave.retained.buffered me c scan is at holds,
+      );
+      black = λ marks source place target link black white. inr (black, white, λ e. inl e);
+      grows = λ c g. record { grows = g.grows; owes = g.owes };
+      stays = λ _ c is. is;
+      recoloured = λ _ c in_c. inl refl;
+      aims = λ scan target is. wave.targets.right me scan target is;
+      marked = λ _ c in_c is. inl is;
+      born = λ _ c owes. inl owes;
+      owes = λ c owes. (owes, λ marks. (wave.born.owed marks me c owes).white);
+      counted = λ _. omega arith;
+    }
+  where
+    new : Heap
+    new = write w.heap region.Call me word
+
+    later : View
+    later = record (w.part me) { calls = length (w.part me).mine }

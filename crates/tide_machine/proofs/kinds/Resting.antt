@@ -1,0 +1,223 @@
+-- A participant that owes and holds nothing stops, learns what a ticket says, or hands out its note.
+use Rattle.std.proofs.Common.{ℕ, ◌⊎◌, ◌≡◌, ◌<◌, ◌==◌, refl, sym, ◌∙◌, ap, subst, arith, Bool, true, false, List, [], inl, inr, Some}
+use Rattle.std.proofs.lemmas.Bool.{cases_eq}
+use Rattle.std.specs.Prelude.{Contains, filter, if◌then◌else◌}
+use Rattle.tide_layout.specs.declared.region.Region.{Region}
+use Rattle.tide_layout.specs.declared.region.Region.TheVariants as region
+use Rattle.tide_machine.proofs.steps.Colouring.{unread_write}
+use Rattle.tide_machine.proofs.steps.Frames.{calls_view, each_put, put_here}
+use Rattle.tide_machine.proofs.steps.Lists.{nothing_in}
+use Rattle.tide_machine.proofs.steps.Quiet.{quiet_step}
+use Rattle.tide_machine.proofs.steps.Steps.{any_step}
+use Rattle.tide_machine.specs.Duties.{GrowsAndOwes}
+use Rattle.tide_machine.specs.May.{Rests}
+use Rattle.tide_machine.specs.Owed.{Owes, IsOwnWord, owed_word}
+use Rattle.tide_machine.specs.RunningWave.{RunningWave}
+use Rattle.tide_machine.specs.World.{parties}
+use Rattle.tide_machine.specs.declared.view.Scan.{Scan}
+use Rattle.tide_machine.specs.declared.view.View.{View}
+use Rattle.tide_machine.specs.points.Growths.{GrowthKnows}
+use Rattle.tide_machine.specs.points.Scans.{held, scanned, buffered}
+use Rattle.tide_machine.specs.points.SettledWords.{RunningWordsRead}
+use Rattle.tide_model.proofs.ReferenceLaws.{put_at_elim}
+use Rattle.tide_model.specs.History.{state_after, is_call_of}
+use Rattle.tide_model.specs.Layout.{Layout}
+use Rattle.tide_model.specs.Numbers.{put_at}
+use Rattle.tide_model.specs.Prefix.{IsPrefix}
+use Rattle.tide_model.specs.Refused.{ShapeLists}
+use Rattle.tide_model.specs.declared.entry.Event.{Event}
+use Rattle.tide_words.specs.heap.Heap.{Heap, write}
+
+module _ (layout : Layout) (shapes : ShapeLists) (heap : Heap) (part : ℕ → View) (log : List Event) (me : ℕ)
+    (inside : me < parties)
+    (wave : RunningWave layout shapes (record { heap = heap; part = part; log = log })) (rests : Rests (part me)) where
+  none_scans : {X : Type 0} (scan : Scan) → (part me).scan ≡ Some scan → X
+  none_scans scan is = (let none = rests.scan in absurd (cc))
+
+  module _ (seen : List Event) (period ticket run cycle : ℕ) (marks : Bool) (heard : (seen ≡ (part me).seen) ⊎
+      (IsPrefix seen log × (filter (λ event. is_call_of me event.entry) seen ≡ (part me).mine))) where
+    abbrev later : View
+    later = record (part me) {
+      runs = false;
+      seen = seen;
+      period = period;
+      ticket = ticket;
+      run = run;
+      marks = marks;
+      cycle = cycle;
+      known = [];
+      full = [];
+    }
+
+    words_after : RunningWordsRead layout shapes heap (put_at part me later) (state_after layout log)
+    words_after = record {
+      settled = wave.words.settled;
+      reads = wave.words.reads;
+      same = λ at index read free. wave.words.same at index read (λ p word owes.
+          free p word (put_at_elim (λ p u. (at : Region) (index word : ℕ) → Owes (part p) at index word →
+          Owes u at index word) part me later (λ at index word o. o) (λ p apart at index word o.
+          o) p at index word owes));
+      owed = each_put (λ p u. (at : Region) (index word : ℕ) → Owes u at index word →
+          wave.words.settled at index ≡ word) part me later (wave.words.owed me) wave.words.owed;
+      known = each_put (λ p u. (at : Region) (index word : ℕ) → Contains u.known (owed_word at index word) →
+          wave.words.settled at index ≡ word) part me later (λ at index word is.
+          absurd (nothing_in (owed_word at index word) is)) wave.words.known;
+      owns = each_put (λ p u. (at : Region) (index word : ℕ) → Owes u at index word →
+          IsOwnWord layout (state_after layout log) p at index) part me later (wave.words.owns me) wave.words.owns;
+    }
+
+    -- it doesn't run, whatever it has heard
+    pub rest_step : RunningWave layout shapes (record { heap = heap; part = put_at part me later; log = log })
+    rest_step = any_step layout shapes heap part log me wave heap later record {
+      inside = inside;
+      phase = refl;
+      period = refl;
+      calls = calls_view layout heap heap part me later refl (λ p. refl) wave.calls;
+      words = words_after;
+      who = refl;
+      seen = heard;
+      mine = refl;
+      knows = λ at index word is. absurd (nothing_in (owed_word at index word) is);
+      knows_still = λ p at index word apart is. wave.kept.known p at index word is;
+      finds = λ block moment is. absurd (let below = is.1 in omega (arith, below));
+      told = λ is. absurd (cc);
+      empties = λ _. (
+        rests.held,
+        rests.scan,
+        rests.between.owed,
+        rests.between.duty,
+        rests.between.growth,
+        refl,
+        refl,
+        rests.between.calls,
+      );
+      colours = wave.colours;
+      balance = λ _ c in_c few. refl;
+      rests = λ idle. (
+        wave.rests.words idle,
+        wave.rests.held idle me,
+        wave.rests.scans idle me,
+        wave.rests.duties idle me,
+      );
+      at_hand = λ c at. wave.hands.cells me c (elim at [
+        | held is ↦ held is
+        | scanned scan is e ↦
+            scanned scan is e
+        | buffered scan is e ↦ buffered scan is e
+      ]);
+      arrays = λ a scan is. none_scans scan is;
+      scanned = λ scan is. none_scans scan is;
+      growth = subst (GrowthKnows heap (state_after layout log) me later) (sym rests.between.growth) tt;
+      growths = λ p apart. wave.growths.knows p;
+      scans = λ p scan apart is. wave.scans.knows p scan is;
+      truer = λ p scan apart is holds. holds;
+      black = λ marks source place target link black white. inr (black, white, λ e. inl e);
+      stays = λ _ c is. is;
+      recoloured = λ _ c in_c. inl refl;
+      aims = λ scan target is. none_scans scan is;
+      marked = λ _ c in_c is. inl is;
+      born = λ _ c owes. inl owes;
+      owes = λ c owes. (owes, λ marks. (wave.born.owed marks me c owes).white);
+      counted = λ _. omega arith;
+      beyond = λ marks source n target link past.
+          let (p, g) = wave.grows.beyond marks source n target link past in
+          elim (cases_eq p me) [
+            | inl same ↦ (let mine = subst (λ (q : ℕ). GrowsAndOwes (part q) source) same g in
+                inl (record { grows = mine.grows; owes = mine.owes }))
+            | inr apart ↦ inr (p, apart, g)
+          ];
+    }
+
+  -- a word of the region Stopped says nothing
+  stored : (part me).runs ≡ true → (index word : ℕ) →
+      RunningWave layout shapes (record {
+        heap = write heap region.Stopped index word;
+        part = put_at part me (part me);
+        log = log;
+      })
+  stored runs index word = quiet_step layout shapes heap part log me wave (write heap region.Stopped index word)
+      (part me) record {
+        inside = inside;
+        words = λ at i. unread_write heap region.Stopped index word refl at i;
+        who = refl;
+        seen = refl;
+        mine = refl;
+        owed = refl;
+        known = refl;
+        full = refl;
+        growth = refl;
+        marks = refl;
+        cycle = refl;
+        begun = refl;
+        period = refl;
+        calls = calls_view layout heap (write heap region.Stopped index word) part me (part me) refl (λ p.
+            refl) wave.calls;
+        ran = runs;
+        runs = runs;
+        colours = wave.colours;
+        balance = λ _ c in_c few. refl;
+        rests = λ idle. (
+          λ block within.
+              (let n = wave.rests.words idle block within in record {
+                shared = n.shared;
+                mutator = n.mutator;
+                race =
+                    n.race;
+              }),
+          wave.rests.held idle me,
+          wave.rests.scans idle me,
+          wave.rests.duties idle me,
+        );
+        at_hand = λ c at. wave.hands.cells me c at;
+        arrays = λ a scan is. none_scans scan is;
+        scanned = λ scan is. none_scans scan is;
+        black = λ marks source place target link black white. inr (black, white, λ e. inl e);
+        grows = λ c g. g;
+        stays = λ _ c is. is;
+        recoloured = λ _ c in_c. inl refl;
+        aims = λ scan target is. none_scans scan is;
+        marked = λ _ c in_c is. inl is;
+        born = λ _ c owes. inl owes;
+        owes = λ c owes. (owes, λ marks. (wave.born.owed marks me c owes).white);
+        counted = λ _. omega arith;
+      }
+
+-- twice at one place is once
+pub put_twice : (part : ℕ → View) (me : ℕ) (v w : View) → put_at (put_at part me v) me w ≡ put_at part me w
+put_twice part me v w = λ i p. at p i
+  where
+    by_test : (b : Bool) (w x y : View) → (if b then w else (if b then x else y)) ≡ (if b then w else y)
+    by_test true w x y = refl
+    by_test false w x y = refl
+
+    at : (p : ℕ) → put_at (put_at part me v) me w p ≡ put_at part me w p
+    at p = by_test (p == me) w v (part p)
+
+pub put_same : (part : ℕ → View) (me : ℕ) → put_at part me (part me) me ≡ part me
+put_same part me = put_here part me (part me)
+
+-- the store that it has stopped
+pub stop : (layout : Layout) (shapes : ShapeLists) (heap : Heap) (part : ℕ → View) (log : List Event) (me : ℕ) →
+    me < parties →
+    RunningWave layout shapes (record { heap = heap; part = part; log = log }) → (part me).runs ≡ true →
+    Rests (part me) → (index word : ℕ) →
+    RunningWave layout shapes (record {
+      heap = write heap region.Stopped index word;
+      part =
+          put_at part me (record (part me) { runs = false; known = []; full = [] });
+      log = log;
+    })
+stop layout shapes heap part log me inside wave runs rests index word =
+    let same = put_same part me in
+    let once = stored layout shapes heap part log me inside wave rests runs index word in
+    let v = put_at part me (part me) me in
+    let after = rest_step layout shapes (write heap region.Stopped index word) (put_at part me (part me)) log me inside
+    once (subst Rests (sym same) rests) v.seen v.period v.ticket v.run v.cycle v.marks (inl refl) in
+    subst (λ (q : ℕ → View). RunningWave layout shapes (record {
+      heap = write heap region.Stopped index word;
+      part = q;
+      log = log;
+    }))
+    (ap (put_at (put_at part me (part me)) me)
+    (ap (λ (x : View). record x { runs = false; known = []; full = [] }) same) ∙
+    put_twice part me (part me) (record (part me) { runs = false; known = []; full = [] })) after

@@ -1,0 +1,178 @@
+-- A raced cell is made grey again, and its scan is over.
+use Rattle.std.proofs.Common.{ℕ, ◌≡◌, ◌+◌, ◌<◌, refl, sym, ◌∙◌, ap, subst, arith, Bool, true, false, inl, inr, Some, None}
+use Rattle.std.proofs.lemmas.Bool.{cases_eq, eq-eqb, ne_eqb, and_parts, and_from}
+use Rattle.std.specs.Prelude.{if◌then◌else◌, ◌&&◌, not}
+use Rattle.tide_core.specs.FrozenWave.{is_born_in_cycle}
+use Rattle.tide_layout.specs.declared.region.Region.TheVariants as region
+use Rattle.tide_machine.proofs.steps.Colouring.{unread_write, colours_coloured, black_before_grey, marked_after_grey, marked_before_grey, count_where-le, recoloured_one}
+use Rattle.tide_machine.proofs.steps.Frames.{calls_view}
+use Rattle.tide_machine.proofs.steps.Quiet.{quiet_step}
+use Rattle.tide_machine.specs.Duties.{OwesBarrier, OwesColour}
+use Rattle.tide_machine.specs.RunningWave.{RunningWave}
+use Rattle.tide_machine.specs.World.{World, parties, pushes}
+use Rattle.tide_machine.specs.declared.view.Duty.{Duty}
+use Rattle.tide_machine.specs.declared.view.Duty.TheVariants as duty
+use Rattle.tide_machine.specs.declared.view.Scan.{Scan}
+use Rattle.tide_machine.specs.declared.view.View.{View}
+use Rattle.tide_machine.specs.points.Links.{ScanExcuses}
+use Rattle.tide_machine.specs.points.Scans.{held, scanned, buffered}
+use Rattle.tide_model.specs.Layout.{Layout, cell_count}
+use Rattle.tide_model.specs.Numbers.{put_at}
+use Rattle.tide_model.specs.Refused.{ShapeLists}
+use Rattle.tide_words.proofs.marking_laws.ColourLaws.{is_grey-made, is_grey-other, black_is_not_grey, black_is_marked, grey_is_marked}
+use Rattle.tide_words.specs.declared.forms.colours.Colour.TheVariants.{Grey}
+use Rattle.tide_words.specs.forms.ColourWord.{colour_word}
+use Rattle.tide_words.specs.marking.Colours.{coloured, is_marking, running_cycle, is_grey, is_black, IsBlack}
+
+module _ (layout : Layout) (shapes : ShapeLists) (w : World) (me : ℕ) (inside : me < parties)
+    (wave : RunningWave layout shapes w) (runs : (w.part me).runs ≡ true) (marks : is_marking w.heap ≡ true)
+    (idle : (w.part me).duty ≡ duty.Nothing) (scan : Scan) (scans : (w.part me).scan ≡ Some scan)
+    (raced : scan.raced ≡ true) where
+  abbrev cell : ℕ
+  cell = scan.cell
+
+  abbrev later : View
+  later = record (w.part me) { scan = None; races = (w.part me).races + 1; duty = duty.PushRace cell }
+
+  no_scan : {X : Type 0} (other : Scan) → later.scan ≡ Some other → X
+  no_scan other is = absurd (cc)
+
+  -- the cell is black still
+  pub un_blacken : IsBlack w.heap cell →
+      RunningWave layout shapes (record {
+        heap = coloured w.heap cell Grey;
+        part = put_at w.part me later;
+        log =
+            w.log;
+      })
+  un_blacken black_now = quiet_step layout shapes w.heap w.part w.log me wave (coloured w.heap cell Grey) later record {
+    inside = inside;
+    words = λ at index. unread_write w.heap region.Colour cell (colour_word (running_cycle w.heap) Grey) refl at index;
+    who = refl;
+    seen = refl;
+    mine = refl;
+    owed = refl;
+    known = refl;
+    full = refl;
+    growth = refl;
+    marks = refl;
+    cycle =
+        refl;
+    begun = refl;
+    period = refl;
+    calls =
+        calls_view layout w.heap (coloured w.heap cell Grey) w.part me later refl (λ p. refl) wave.calls;
+    ran = runs;
+    runs = runs;
+    colours = colours_coloured layout w.heap cell Grey (omega arith) wave.colours;
+    balance = λ _ other in_other few.
+        let none = ap (λ (d : Duty). pushes d other) idle in
+        elim (cases_eq other cell) [
+          | inl same ↦
+              let one = ap {B = ℕ} (λ (b : Bool). if b then 1 else 0) (eq-eqb cell other (sym same)) in
+              let not_grey = ap {B = ℕ} (λ (b : Bool). if b then 1 else 0) (ap (is_grey w.heap) same ∙
+              black_is_not_grey w.heap cell black_now) in
+              let grey = ap {B = ℕ} (λ (b : Bool). if b then 1 else 0) (ap (is_grey (coloured w.heap cell Grey)) same ∙
+              is_grey-made w.heap cell) in
+              omega (arith, none, one, not_grey, grey)
+          | inr apart ↦
+              let no_one = ap {B = ℕ} (λ (b : Bool). if b then 1 else 0) (ne_eqb cell other (λ e. apart (sym e))) in
+              let grey = ap {B = ℕ} (λ (b : Bool). if b then 1 else 0) (is_grey-other w.heap cell other Grey apart) in
+              omega (arith, none, no_one, grey)
+        ];
+    rests = λ rest. absurd (cc);
+    at_hand = λ other at. wave.hands.cells me other (elim at [
+      | held is ↦ held is
+      | scanned s is e ↦
+          no_scan s is
+      | buffered s is e ↦ no_scan s is
+    ]);
+    arrays = λ array s is. no_scan s is;
+    scanned = λ s is. no_scan s is;
+    black = λ _ source place target link black white.
+        let before = black_before_grey w.heap cell source black in
+        inr (
+          before.1,
+          sym (marked_before_grey w.heap cell target (black_is_marked w.heap cell black_now)) ∙ white,
+          λ e.
+              elim e [
+                | inl owes ↦ absurd (subst (λ (d : Duty). OwesBarrier d source) idle owes)
+                | inr answers ↦ absurd (before.0 (sym (subst (ScanExcuses w.heap source place target) scans answers).0))
+              ],
+        );
+    grows = λ c g. absurd (subst (λ (d : Duty). OwesBarrier d c) idle g.owes);
+    stays = λ _ other. marked_after_grey w.heap cell other;
+    recoloured = λ _ other in_other.
+        recoloured_one w.heap cell other Grey
+        (grey_is_marked (coloured w.heap cell Grey) cell (is_grey-made w.heap cell));
+    aims = λ s target is. no_scan s is;
+    marked = λ _ other in_other now.
+        inl (sym (marked_before_grey w.heap cell other (black_is_marked w.heap cell black_now)) ∙ now);
+    born = λ _ other owes. absurd (subst (λ (d : Duty). OwesColour d other) idle owes);
+    owes = λ other owes. absurd owes;
+    counted = λ _. (let few = count_where-le (λ c.
+        is_black (coloured w.heap cell Grey) c && not (is_born_in_cycle w.log c)) (λ c.
+        is_black w.heap c && not (is_born_in_cycle w.log c)) (cell_count layout)
+        (λ other both. let parts = and_parts (is_black (coloured w.heap cell Grey) other)
+        (not (is_born_in_cycle w.log other)) both in
+        and_from (is_black w.heap other) (not (is_born_in_cycle w.log other))
+        (black_before_grey w.heap cell other parts.0).1 parts.1) in omega (arith, few));
+  }
+
+  abbrev done : View
+  done = record (w.part me) { scan = None; races = (w.part me).races + 1 }
+
+  done_no_scan : {X : Type 0} (other : Scan) → done.scan ≡ Some other → X
+  done_no_scan other is = absurd (cc)
+
+  -- the cell is grey by now: another has it
+  pub un_blacken_finds_grey : is_black w.heap cell ≡ false →
+      RunningWave layout shapes (record { heap = w.heap; part = put_at w.part me done; log = w.log })
+  un_blacken_finds_grey not_black = quiet_step layout shapes w.heap w.part w.log me wave w.heap done record {
+    inside = inside;
+    words = λ at index read. refl;
+    who = refl;
+    seen = refl;
+    mine = refl;
+    owed = refl;
+    known = refl;
+    full = refl;
+    growth = refl;
+    marks = refl;
+    cycle =
+        refl;
+    begun = refl;
+    period = refl;
+    calls = calls_view layout w.heap w.heap w.part me done refl (λ p.
+        refl) wave.calls;
+    ran = runs;
+    runs = runs;
+    colours = wave.colours;
+    balance = λ _ other in_other few. refl;
+    rests = λ rest. absurd (cc);
+    at_hand = λ other at. wave.hands.cells me other (elim at [
+      | held is ↦ held is
+      | scanned s is e ↦
+          done_no_scan s is
+      | buffered s is e ↦ done_no_scan s is
+    ]);
+    arrays = λ array s is. done_no_scan s is;
+    scanned = λ s is. done_no_scan s is;
+    black = λ _ source place target link black white. inr (
+      black,
+      white,
+      λ e. inl (elim e [
+        | inl owes ↦ inl owes
+        | inr answers ↦ (let same = (subst (ScanExcuses w.heap source place target) scans answers).0 in let clash =
+            ap (is_black w.heap) same in absurd (cc))
+      ]),
+    );
+    grows = λ c g. record { grows = g.grows; owes = g.owes };
+    stays = λ _ other is. is;
+    recoloured = λ _ other in_other. inl refl;
+    aims = λ s target is. done_no_scan s is;
+    marked = λ _ other in_other is. inl is;
+    born = λ _ other owes. inl owes;
+    owes = λ other owes. (owes, λ _. (wave.born.owed marks me other owes).white);
+    counted = λ _. omega arith;
+  }

@@ -1,0 +1,4 @@
+-- Worked worlds.
+pub mod BusyRow
+pub mod PointRows
+pub mod AllowedRows

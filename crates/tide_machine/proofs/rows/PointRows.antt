@@ -1,0 +1,164 @@
+-- Worlds near to one that has the wave, each of which breaks one of its points.
+use Rattle.std.proofs.Common.{ℕ, refl, arith, false, List, [], ◌∷◌, Some, inl, inr}
+use Rattle.tide_layout.specs.declared.region.Region.TheVariants as region
+use Rattle.tide_machine.proofs.Scheduling.{all_schedules}
+use Rattle.tide_machine.proofs.freezes.Freezing.{retained_is_live}
+use Rattle.tide_machine.proofs.rows.BusyRow.{busy, opened, came_opened, limits}
+use Rattle.tide_machine.proofs.steps.Lists.{is_in_one, nothing_in}
+use Rattle.tide_machine.specs.Frozen.{newcomer}
+use Rattle.tide_machine.specs.Owed.{owed_word, Owes}
+use Rattle.tide_machine.specs.Scanning.{scan_of, slot}
+use Rattle.tide_machine.specs.Schedule.{running}
+use Rattle.tide_machine.specs.declared.view.Duty.TheVariants as duty
+use Rattle.tide_machine.specs.declared.view.Growth.TheVariants as growth
+use Rattle.tide_machine.specs.declared.view.Scan.{Scan}
+use Rattle.tide_machine.specs.declared.view.View.{View}
+use Rattle.tide_machine.specs.points.Births.{RunningBornIsMarked}
+use Rattle.tide_machine.specs.points.Growths.{GrowthsAreRight}
+use Rattle.tide_machine.specs.points.Holders.{RunningGreyIsHeld, RestsWhereIdle}
+use Rattle.tide_machine.specs.points.Links.{RunningBlackPointsToMarked}
+use Rattle.tide_machine.specs.points.Marks.{RunningMarkedIsRetained, RunningBlackIsCounted}
+use Rattle.tide_machine.specs.points.Scans.{HandsAreLive, held, ScansAreRight, TargetsAreRight}
+use Rattle.tide_machine.specs.points.Seen.{IsKnown, NumbersRead, CallsAreTold, HasCallsAlone, ParkedIsEmpty}
+use Rattle.tide_machine.specs.points.SettledWords.{RunningWordsRead, OwnIsKept}
+use Rattle.tide_model.proofs.ReferenceLaws.{put_at_elim}
+use Rattle.tide_model.specs.History.{plain, state_after}
+use Rattle.tide_model.specs.Numbers.{put_at}
+use Rattle.tide_model.specs.Refused.{no_shapes}
+use Rattle.tide_model.specs.Rows.{small}
+use Rattle.tide_model.specs.declared.entry.Entry.TheVariants.{Begin, Open, Call}
+use Rattle.tide_model.specs.declared.entry.Event.{Event}
+use Rattle.tide_model.specs.declared.op.Op.TheVariants.{Alloc, Put}
+use Rattle.tide_model.specs.declared.op.Reply.TheVariants.{Born, Done}
+use Rattle.tide_words.specs.heap.EmptyHeap.{empty_heap}
+use Rattle.tide_words.specs.heap.Heap.{Heap, write}
+
+-- one participant with this view, and nobody else
+abbrev alone : View → ℕ → View
+alone v = put_at newcomer 0 v
+
+-- the mutator of the busy world
+abbrev mutator : View
+mutator = busy.part 0
+
+-- the history has calls of a mutator that it doesn't know of
+known-less : IsKnown busy.log (alone (record mutator { mine = [] })) → ⊥
+known-less point = (let own = point.own 0 in absurd (cc))
+
+-- the word of the period tells a part that wasn't opened
+numbers-later : NumbersRead (write busy.heap region.Period 0 2) busy.part busy.log → ⊥
+numbers-later point = (let periods = point.periods in absurd (omega (arith, periods)))
+
+-- the word of the phase tells a cycle that didn't begin
+numbers-other_cycle : NumbersRead (write busy.heap region.Phase 0 5) busy.part busy.log → ⊥
+numbers-other_cycle point = (let cycles = point.cycles in absurd (omega (arith, cycles)))
+
+-- a call word tells a call too many
+calls-more : CallsAreTold small (write busy.heap region.Call 0 3) busy.part → ⊥
+calls-more point = (let word = point 0 (omega arith) in absurd (omega (arith, word)))
+
+-- a cycle begins in the midst of a part
+alone-begins : HasCallsAlone (plain (Open 1 16) ∷ plain (Begin 1) ∷ []) → ⊥
+alone-begins point = (let is = point (plain (Begin 1)) (is_in_one (plain (Begin 1))) in absurd (cc))
+
+-- a mutator has stopped, and owes its barrier
+parked-owes : ParkedIsEmpty (alone (record mutator { runs = false })) → ⊥
+parked-owes point = (let none = point.duty 0 refl in absurd (cc))
+
+-- or its call word lacks its last call
+parked-untold : ParkedIsEmpty (alone (record mutator { runs = false; duty = duty.Nothing })) → ⊥
+parked-untold point = (let all = point.calls 0 refl in absurd (omega (arith, all)))
+
+-- a register's word isn't stored, and nobody owes it
+words-unpaid : RunningWordsRead small no_shapes (write busy.heap region.Registers 0 0) (alone mutator)
+    (state_after small busy.log) → ⊥
+words-unpaid point =
+    let word = (point.reads.roots.registers 0 0 (omega arith) (omega arith)).is_word in
+    let same = point.same region.Registers 0 refl nobody in
+    absurd (omega (arith, word, same))
+  where
+    nobody : (p word : ℕ) → Owes (alone mutator p) region.Registers 0 word → ⊥
+    nobody p word = put_at_elim (λ p u. Owes u region.Registers 0 word → ⊥) newcomer 0 mutator
+        (nothing_in (owed_word region.Registers 0 word)) (λ p apart. nothing_in (owed_word region.Registers 0 word)) p
+
+-- a mutator knows a word that stands no more
+kept-changed : OwnIsKept small busy.heap (alone (record mutator { known = owed_word region.Registers 0 6 ∷ [] }))
+    busy.log → ⊥
+kept-changed point =
+    (let word = point.known 0 region.Registers 0 6 (is_in_one (owed_word region.Registers 0 6)) in
+    absurd (omega (arith, word)))
+
+-- a grey cell has its bit in two grey words
+held-twice : RunningGreyIsHeld small (write busy.heap region.GreyShared 0 1) busy.part → ⊥
+held-twice point = (let once = point.held refl 0 (omega arith) in absurd (omega (arith, once)))
+
+-- or in none
+held-by_none : RunningGreyIsHeld small (write busy.heap region.GreyMutator 0 0) newcomer → ⊥
+held-by_none point = (let once = point.held refl 0 (omega arith) in absurd (omega (arith, once)))
+
+-- no cycle marks, and a bit is left in a grey word
+rests-bit : RestsWhereIdle small (write busy.heap region.Phase 0 2) newcomer → ⊥
+rests-bit point = (let none = (point.words refl 0 (omega arith)).mutator in absurd (omega (arith, none)))
+
+-- a visitor holds a cell that is free
+hands-free : HandsAreLive small (alone (record (newcomer 0) { held = 5 ∷ [] })) busy.log → ⊥
+hands-free point = (let alive = point.cells 0 5 (held (is_in_one 5)) in absurd (cc))
+
+-- a scan has read an element, and no structure
+abbrev hasty : Scan
+hasty = record (scan_of 0) { elements = 0 ∷ [] }
+
+scans-hasty : ScansAreRight small busy.heap (alone (record (newcomer 0) { scan = Some hasty })) busy.log → ⊥
+scans-hasty point = (let none = (point.knows 0 hasty refl).unread refl in absurd (cc))
+
+-- a scan is about to mark a cell over a colour word that it hasn't, and the cell isn't marked
+abbrev aiming : Scan
+aiming = record (scan_of 0) { target = Some record { cell = 1; word = 1 } }
+
+targets-missed : TargetsAreRight small busy.heap (alone (record (newcomer 0) { scan = Some aiming })) → ⊥
+targets-missed point = elim (point.right 0 aiming (record { cell = 1; word = 1 }) refl refl).1 [
+  | inl word ↦ omega (arith, word)
+  | inr marked ↦ absurd (cc)
+]
+
+-- a growth of an array of a cell that isn't claimed
+growths-unclaimed : GrowthsAreRight busy.heap (alone (record (newcomer 0) { growth = growth.Filling 0 0 0 2 }))
+    (state_after small busy.log) → ⊥
+growths-unclaimed point = (let claimed = (point.knows 0).0.claimed in absurd (nothing_in 0 claimed))
+
+-- two cells are born, then a cycle begins, and the first one, which is black, gets the other, which is white
+abbrev linked_late : List Event
+linked_late = plain (Call 0 (Alloc 0 0) (Born 0)) ∷ plain (Call 0 (Alloc 1 0) (Born 1)) ∷ plain (Begin 1) ∷ plain
+    (Open 1 16)
+    ∷ plain (Call 0 (Put 0 0 1) Done) ∷ []
+
+abbrev one_black : Heap
+one_black = write (write empty_heap region.Phase 0 3) region.Colour 0 4
+
+-- nobody owes the barrier
+black-unexcused : RunningBlackPointsToMarked small one_black newcomer linked_late → ⊥
+black-unexcused point = elim (point.excused refl 0 (slot 0) 1 (refl, refl) refl refl).excuse [
+  | inl owes ↦
+      owes
+  | inr scans ↦ scans
+]
+
+-- no visit was counted
+counted-less : RunningBlackIsCounted small one_black newcomer linked_late → ⊥
+counted-less point = (let few = point.counted refl in absurd (omega (arith, few)))
+
+-- a cell is black that was never born
+retained-never : RunningMarkedIsRetained small (write opened.heap region.Colour 5 4) newcomer opened.log → ⊥
+retained-never point =
+    let wave = all_schedules small no_shapes limits refl running opened came_opened in
+    let alive = retained_is_live small opened.heap opened.log wave.span refl 5 (point.marked refl 5 (omega arith) refl)
+    in
+    absurd (cc)
+
+-- a cell was born in the cycle, it is white, and nobody owes its colour
+abbrev born_white : List Event
+born_white = plain (Begin 1) ∷ plain (Open 1 16) ∷ plain (Call 0 (Alloc 0 0) (Born 0)) ∷ []
+
+born-white : RunningBornIsMarked small (write (write empty_heap region.Phase 0 3) region.Colour 0 5) newcomer born_white
+    → ⊥
+born-white point = elim (point.born refl 0 (omega arith) refl) [ inl marked ↦ absurd (cc) | inr owes ↦ owes.1 ]

@@ -1,0 +1,25 @@
+-- How a step keeps the points, whatever its kind.
+pub mod Lists
+pub mod Registers
+pub mod SlotCells
+pub mod Stacks
+pub mod Colouring
+pub mod GreyBits
+pub mod Barriers
+pub mod GrowthsKept
+pub mod ScansKept
+pub mod Owning
+pub mod Growing
+pub mod Frames
+pub mod Steps
+pub mod Quiet
+pub mod Duties
+pub mod Calls
+pub mod PlainCalls
+pub mod PlainWords
+pub mod Paying
+pub mod Loads
+pub mod Births
+pub mod Rereading
+pub mod OwnState
+pub mod Moments

@@ -1,0 +1,133 @@
+-- A step that changes the duty of its view alone, beside words that the reading doesn't look at.
+use Rattle.std.proofs.Common.{ℕ, ◌≡◌, ◌+◌, ◌<◌, ◌≤◌, ◌⊎◌, refl, sym, ◌∙◌, arith, true, false, inl, inr, Some, List}
+use Rattle.std.specs.Prelude.{if◌then◌else◌, ◌&&◌, not}
+use Rattle.tide_core.specs.FrozenWave.{is_born_in_cycle}
+use Rattle.tide_layout.specs.Region.{cell_block_count}
+use Rattle.tide_layout.specs.declared.region.Region.{Region}
+use Rattle.tide_layout.specs.declared.region.Region.TheVariants as region
+use Rattle.tide_machine.proofs.steps.Frames.{calls_view}
+use Rattle.tide_machine.proofs.steps.Quiet.{quiet_step}
+use Rattle.tide_machine.specs.Duties.{IsCalm, OwesBarrier, GrowsOn, OwesColour}
+use Rattle.tide_machine.specs.RunningWave.{RunningWave}
+use Rattle.tide_machine.specs.Scanning.{Place}
+use Rattle.tide_machine.specs.World.{parties, pushes}
+use Rattle.tide_machine.specs.declared.view.Duty.{Duty}
+use Rattle.tide_machine.specs.declared.view.Scan.{Scan}
+use Rattle.tide_machine.specs.declared.view.View.{View}
+use Rattle.tide_machine.specs.points.Links.{LinkAt}
+use Rattle.tide_machine.specs.points.Scans.{held, scanned, buffered}
+use Rattle.tide_model.specs.History.{state_after}
+use Rattle.tide_model.specs.Layout.{Layout, cell_count}
+use Rattle.tide_model.specs.Numbers.{put_at, count_where}
+use Rattle.tide_model.specs.Refused.{ShapeLists}
+use Rattle.tide_model.specs.declared.entry.Event.{Event}
+use Rattle.tide_words.proofs.heap_laws.Frames.{is_read}
+use Rattle.tide_words.specs.heap.Heap.{Heap}
+use Rattle.tide_words.specs.marking.Colours.{is_marking, is_grey, is_black, IsBlack, IsMarked}
+use Rattle.tide_words.specs.marking.Marked.{is_marked}
+use Rattle.tide_words.specs.marking.Marking.{bits_of, HasNoGreys, NoLaterColours}
+
+-- the view with another duty
+abbrev pub with_duty : View → Duty → View
+with_duty v d = record v { duty = d }
+
+module _ (layout : Layout) (shapes : ShapeLists) (old : Heap) (part : ℕ → View) (log : List Event) (me : ℕ)
+    (wave : RunningWave layout shapes (record { heap = old; part = part; log = log })) where
+  pub record ShowsDuty (new : Heap) (d : Duty) : Type 0 where
+    pub inside : me < parties
+    pub runs : (part me).runs ≡ true
+    pub words : (at : Region) (index : ℕ) → is_read at ≡ true → new at index ≡ old at index
+    pub period : new region.Period 0 ≡ old region.Period 0
+    pub call_words : (p : ℕ) → new region.Call p ≡ old region.Call p
+    pub colours : NoLaterColours layout new
+    pub balance : is_marking old ≡ true → (cell : ℕ) → cell < cell_count layout →
+        bits_of old cell + pushes (part me).duty cell ≤ (if is_grey old cell then 1 else 0) →
+        bits_of new cell + pushes d cell + (if is_grey old cell then 1 else 0) ≡ bits_of old cell + pushes
+        (part me).duty cell + (if is_grey new cell then 1 else 0)
+    pub rests : is_marking old ≡ false → ((block : ℕ) → block < cell_block_count layout → HasNoGreys new block) ×
+        IsCalm d
+    pub black : is_marking old ≡ true → (source : ℕ) (place : Place) (cell : ℕ) →
+        LinkAt (state_after layout log) source place cell → IsBlack new source → is_marked new cell ≡ false →
+        OwesBarrier d source ⊎ (IsBlack old source × (is_marked old cell ≡ false) ×
+        (OwesBarrier (part me).duty source → OwesBarrier d source))
+    -- a barrier that a growth owes is owed still
+    pub grows : (cell : ℕ) → GrowsOn (part me).growth cell → OwesBarrier (part me).duty cell → OwesBarrier d cell
+    pub stays : is_marking old ≡ true → (cell : ℕ) → IsMarked old cell → IsMarked new cell
+    pub recoloured : is_marking old ≡ true → (cell : ℕ) → cell < cell_count layout →
+        (new region.Colour cell ≡ old region.Colour cell) ⊎ IsMarked new cell
+    pub marked : is_marking old ≡ true → (cell : ℕ) → cell < cell_count layout → IsMarked new cell → IsMarked old cell ⊎
+        OwesColour (part me).duty cell
+    pub born : is_marking old ≡ true → (cell : ℕ) → OwesColour (part me).duty cell → OwesColour d cell ⊎
+        IsMarked new cell
+    pub owes : (cell : ℕ) → OwesColour d cell → OwesColour (part me).duty cell ×
+        (is_marking old ≡ true → is_marked new cell ≡ false)
+    pub counted : is_marking old ≡ true → count_where (λ cell. is_black new cell && not (is_born_in_cycle log cell))
+        (cell_count layout)
+        ≤ count_where (λ cell. is_black old cell && not (is_born_in_cycle log cell)) (cell_count layout)
+
+  pub duty_step : (new : Heap) (d : Duty) → ShowsDuty new d →
+      RunningWave layout shapes (record { heap = new; part = put_at part me (with_duty (part me) d); log = log })
+  duty_step new d s = quiet_step layout shapes old part log me wave new (with_duty (part me) d) record {
+    inside = s.inside;
+    words = s.words;
+    who = refl;
+    seen = refl;
+    mine = refl;
+    owed = refl;
+    known = refl;
+    full = refl;
+    growth = refl;
+    marks = refl;
+    cycle = refl;
+    begun = refl;
+    period = s.period;
+    calls = calls_view layout old new part me (with_duty (part me) d) refl s.call_words wave.calls;
+    ran = s.runs;
+    runs = s.runs;
+    colours = s.colours;
+    balance = λ marks cell within few. (let even = s.balance marks cell within (omega (arith, few)) in
+        omega (arith, even));
+    rests = λ idle. ((s.rests idle).0, wave.rests.held idle me, wave.rests.scans idle me, (s.rests idle).1);
+    at_hand = λ cell at. wave.hands.cells me cell (elim at [
+      | held is ↦ held is
+      | scanned scan is at ↦ scanned scan is at
+      | buffered scan is at ↦ buffered scan is at
+    ]);
+    arrays = λ array scan. wave.hands.arrays me array scan;
+    scanned = λ scan is. (
+      s.stays (marks_by scan is) scan.cell (wave.retained.scanned me scan is),
+      wave.scans.knows me scan is,
+      λ cell at. wave.retained.buffered me cell scan is at,
+    );
+    black = λ marks source place cell link black white. elim (s.black marks source place cell link black white) [
+      | inl owes ↦ inl (inl owes)
+      | inr before ↦ inr (
+        before.0,
+        before.1,
+        λ excuse.
+            inl (elim excuse [ inl owes ↦ inl (before.2 owes) | inr scans ↦ inr scans ]),
+      )
+    ];
+    grows = λ cell g. record { grows = g.grows; owes = s.grows cell g.grows g.owes };
+    stays = s.stays;
+    recoloured = s.recoloured;
+    aims = λ scan target. wave.targets.right me scan target;
+    marked = λ marks cell within is. elim (s.marked marks cell within is) [
+      | inl before ↦ inl before
+      | inr owes ↦ inr (
+        (wave.born.owed marks me cell owes).kept,
+        λ p other also.
+            other (sym (wave.born.once p cell also) ∙ wave.born.once me cell owes),
+      )
+    ];
+    born = s.born;
+    owes = s.owes;
+    counted = λ marks. (let few = s.counted marks in omega (arith, few));
+  }
+    where
+      marks_by : (scan : Scan) → (part me).scan ≡ Some scan → is_marking old ≡ true
+      marks_by scan is = elim (Rattle.std.proofs.lemmas.Bool.cases_Bool (is_marking old)) [
+        | inl marks ↦
+            marks
+        | inr idle ↦ (let none = wave.rests.scans idle me in absurd (cc))
+      ]

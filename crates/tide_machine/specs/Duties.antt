@@ -1,0 +1,56 @@
+-- What a view's duty and its growth say of a cell.
+use Rattle.std.specs.Prelude.{ℕ, ◌≡◌}
+use Rattle.tide_machine.specs.declared.view.Duty.{Duty}
+use Rattle.tide_machine.specs.declared.view.Duty.TheVariants as duty
+use Rattle.tide_machine.specs.declared.view.Growth.{Growth}
+use Rattle.tide_machine.specs.declared.view.Growth.TheVariants as growth
+use Rattle.tide_machine.specs.declared.view.View.{View}
+
+-- no barrier and no push is owed
+abbrev pub IsCalm : Duty → Type 0
+IsCalm duty.Nothing = Unit {0}
+IsCalm (duty.Born cell) = Unit {0}
+IsCalm (duty.Barrier cell) = ⊥
+IsCalm (duty.Regrey cell word) = ⊥
+IsCalm (duty.Push cell) = ⊥
+IsCalm (duty.PushRace cell) = ⊥
+
+-- the barrier on the cell is owed
+abbrev pub OwesBarrier : Duty → ℕ → Type 0
+OwesBarrier (duty.Barrier c) cell = c ≡ cell
+OwesBarrier (duty.Regrey c word) cell = c ≡ cell
+OwesBarrier duty.Nothing cell = ⊥
+OwesBarrier (duty.Push c) cell = ⊥
+OwesBarrier (duty.Born c) cell = ⊥
+OwesBarrier (duty.PushRace c) cell = ⊥
+
+-- the colour of the cell, which was just taken, is owed
+abbrev pub OwesColour : Duty → ℕ → Type 0
+OwesColour (duty.Born c) cell = c ≡ cell
+OwesColour _ cell = ⊥
+
+-- a growth of the cell's array is under way
+abbrev pub GrowsOn : Growth → ℕ → Type 0
+GrowsOn growth.Nothing cell = ⊥
+GrowsOn (growth.Filling c array old new) cell = c ≡ cell
+GrowsOn (growth.Nuked c array old new) cell = c ≡ cell
+GrowsOn (growth.Stored c array old new) cell = c ≡ cell
+
+-- the view grows the cell's array, and owes the barrier on the cell
+pub record GrowsAndOwes (v : View) (cell : ℕ) : Type 0 where
+  pub grows : GrowsOn v.growth cell
+  pub owes : OwesBarrier v.duty cell
+
+-- the structure is nuked, in a growth
+abbrev pub nuked_growth : Growth → Growth
+nuked_growth (growth.Filling cell array old new) = growth.Nuked cell array old new
+nuked_growth growth.Nothing = growth.Nothing
+nuked_growth (growth.Nuked cell array old new) = growth.Nuked cell array old new
+nuked_growth (growth.Stored cell array old new) = growth.Stored cell array old new
+
+-- the array is stored, in a growth
+abbrev pub stored_growth : Growth → Growth
+stored_growth (growth.Nuked cell array old new) = growth.Stored cell array old new
+stored_growth growth.Nothing = growth.Nothing
+stored_growth (growth.Filling cell array old new) = growth.Filling cell array old new
+stored_growth (growth.Stored cell array old new) = growth.Stored cell array old new

@@ -1,0 +1,86 @@
+-- The machine while the heap is frozen: nobody runs, and the collector alone makes entries.
+use Rattle.std.specs.Prelude.{ℕ, ◌≡◌, ◌+◌, ◌≤◌, ◌<◌, ◌%◌, ◌^◌, true, false, List, [], None}
+use Rattle.tide_core.specs.FrozenWave.{call_count, MarkedIsRetained, BornIsMarked, blackened_count}
+use Rattle.tide_layout.specs.declared.region.Region.TheVariants as region
+use Rattle.tide_machine.specs.World.{World}
+use Rattle.tide_machine.specs.declared.view.Duty.TheVariants as duty
+use Rattle.tide_machine.specs.declared.view.Growth.TheVariants as growth
+use Rattle.tide_machine.specs.declared.view.Role.TheVariants.{Member}
+use Rattle.tide_machine.specs.declared.view.View.{View}
+use Rattle.tide_machine.specs.points.Marks.{SpanIsLive}
+use Rattle.tide_machine.specs.points.Seen.{IsKnown, ParkedIsEmpty}
+use Rattle.tide_model.specs.Cycle.{begin_count}
+use Rattle.tide_model.specs.History.{state_after, is_begin}
+use Rattle.tide_model.specs.Lawful.{IsLawful}
+use Rattle.tide_model.specs.Layout.{Layout}
+use Rattle.tide_model.specs.Periods.{open_count}
+use Rattle.tide_model.specs.Refused.{ShapeLists}
+use Rattle.tide_model.specs.Since.{visits_since}
+use Rattle.tide_model.specs.declared.entry.Event.{Event}
+use Rattle.tide_words.specs.heap.EmptyHeap.{empty_heap}
+use Rattle.tide_words.specs.heap.Heap.{Heap}
+use Rattle.tide_words.specs.marking.Colours.{is_marking, running_cycle}
+use Rattle.tide_words.specs.marking.Marking.{Marking}
+
+-- The wave at a freeze in which visits are told by notes alone so far: it is `FrozenWave` but that so many cells
+-- more may
+-- be black than the entries say. What stood in the cycle is live, and the history is lawful.
+pub record FrozenWith (layout : Layout) (shapes : ShapeLists) (heap : Heap) (history : List Event) (unentered : ℕ)
+    : Type 0 where
+  pub lawful : IsLawful layout shapes history
+  pub span : SpanIsLive layout heap history
+  pub marking : Marking layout shapes heap (state_after layout history) []
+  pub cycle : running_cycle heap ≡ begin_count history
+  pub period : heap region.Period 0 ≡ open_count history
+  pub calls : (who : ℕ) → who < layout.mutators → heap region.Call who ≡ call_count who history % 2 ^ 64
+  pub retained : is_marking heap ≡ true → MarkedIsRetained layout heap history
+  pub born : is_marking heap ≡ true → BornIsMarked layout heap history
+  pub counted : is_marking heap ≡ true → blackened_count layout heap history ≤ visits_since is_begin history + unentered
+
+-- the machine is frozen: nobody runs, and the wave at a freeze holds but for visits that aren't entered yet
+pub record FrozenMachine (layout : Layout) (shapes : ShapeLists) (w : World) (unentered : ℕ) : Type 0 where
+  pub wave : FrozenWith layout shapes w.heap w.log unentered
+  pub known : IsKnown w.log w.part
+  pub stopped : (p : ℕ) → (w.part p).runs ≡ false
+  pub parked : ParkedIsEmpty w.part
+
+-- a participant that knows nothing yet
+abbrev pub newcomer : ℕ → View
+newcomer p = record {
+  role = Member;
+  who = p;
+  seen = [];
+  mine = [];
+  calls = 0;
+  period = 0;
+  ticket = 0;
+  run = 0;
+  marks = false;
+  cycle = 0;
+  runs = false;
+  begun = 0;
+  born = 0;
+  visits = 0;
+  races = 0;
+  round = [];
+  owed = [];
+  known = [];
+  duty = duty.Nothing;
+  growth = growth.Nothing;
+  held = [];
+  scan = None;
+  full = [];
+  sweeping = None;
+  left = false;
+  frozen = false;
+  words = [];
+  base = [];
+  notes = [];
+  gone = [];
+  next = 0;
+  ledger = 0;
+}
+
+-- the world before anything happened
+abbrev pub first_world : World
+first_world = record { heap = empty_heap; part = newcomer; log = [] }

@@ -1,0 +1,56 @@
+-- The kinds whose law is proved.
+use Rattle.std.specs.Prelude.{Bool, true, false, ◌||◌}
+use Rattle.tide_machine.specs.Kind.{Kind, Split, Join, Activate, StoreStopped, Retire, LoadRegister, StoreRegister, LoadCall, StoreCall, LoadStrong, StoreStrong, LoadWeak, StoreWeak, LoadLink, StoreLink, LoadColour, Regrey, PushBit, StoreBorn, TakeFree, LoadFree, LoadClaim, TakeClaim, Release, LoadStructure, LoadSlot, LoadAgain, UnBlacken, PushRace, Publish, LoadTarget, Mark}
+
+-- a participant begins, hears and stops, a mutator retires, and works with its own words and with handles
+abbrev pub is_of_first_group : Kind → Bool
+is_of_first_group Split = true
+is_of_first_group (Join ticket) = true
+is_of_first_group Activate = true
+is_of_first_group (StoreStopped period) = true
+is_of_first_group (Retire made) = true
+is_of_first_group (LoadRegister register) = true
+is_of_first_group (StoreRegister register word made) = true
+is_of_first_group LoadCall = true
+is_of_first_group (StoreCall word made) = true
+is_of_first_group (LoadStrong handle made) = true
+is_of_first_group (StoreStrong handle word made) = true
+is_of_first_group (LoadWeak handle made) = true
+is_of_first_group (StoreWeak handle word made) = true
+is_of_first_group _ = false
+
+-- a mutator works with slots, pays the barrier, takes a cell or finds none, and colours a new one
+abbrev pub is_of_second_group : Kind → Bool
+is_of_second_group (LoadLink cell slot made) = true
+is_of_second_group (StoreLink cell slot word made) = true
+is_of_second_group (LoadColour cell) = true
+is_of_second_group (Regrey cell cycle) = true
+is_of_second_group (PushBit cell) = true
+is_of_second_group (LoadFree block made) = true
+is_of_second_group (TakeFree block k made) = true
+is_of_second_group (StoreBorn cell word) = true
+is_of_second_group _ = false
+
+-- a mutator claims cells and gives claims back
+abbrev pub is_of_claims : Kind → Bool
+is_of_claims (LoadClaim cell made) = true
+is_of_claims (TakeClaim cell holder made) = true
+is_of_claims (Release cell made) = true
+is_of_claims _ = false
+
+-- a visitor reads the structure and the slots of the cell that it scans, marks what it read, gives up a raced cell, and
+-- publishes its stack
+abbrev pub is_of_visits : Kind → Bool
+is_of_visits (LoadStructure cell) = true
+is_of_visits (LoadSlot cell slot) = true
+is_of_visits (LoadAgain cell) = true
+is_of_visits (LoadTarget cell) = true
+is_of_visits (Mark cell old cycle) = true
+is_of_visits (UnBlacken cell cycle) = true
+is_of_visits (PushRace cell) = true
+is_of_visits (Publish block mask) = true
+is_of_visits _ = false
+
+-- the law of the kind is proved
+abbrev pub has_law : Kind → Bool
+has_law kind = is_of_first_group kind || (is_of_second_group kind || (is_of_claims kind || is_of_visits kind))

@@ -1,0 +1,31 @@
+-- Join: a participant that doesn't run hears the ticket of the open part.
+use Rattle.std.specs.Prelude.{ℕ, ◌≡◌, ◌<◌, false, filter}
+use Rattle.tide_layout.specs.declared.region.Region.TheVariants as region
+use Rattle.tide_machine.specs.Kind.{Ticket}
+use Rattle.tide_machine.specs.World.{World}
+use Rattle.tide_machine.specs.declared.view.View.{View}
+use Rattle.tide_machine.specs.kinds.StoreStopped.{stopped_view}
+use Rattle.tide_model.specs.History.{is_call_of}
+use Rattle.tide_model.specs.Prefix.{IsPrefix}
+use Rattle.tide_words.specs.marking.Colours.{is_marking, running_cycle}
+
+-- it has seen what the ticket tells of the history, and knows what it tells of the part; it doesn't run yet
+abbrev pub joined_view : Ticket → View → View
+joined_view t v = record (stopped_view v) {
+  seen = t.seen;
+  ticket = t.period;
+  run = t.run;
+  marks = t.marks;
+  cycle = t.cycle;
+}
+
+-- the ticket is of the open part, and what it tells of the history is as much as the participant has seen, or more
+pub record MayJoin (w : World) (me : ℕ) (t : Ticket) : Type 0 where
+  pub rests : (w.part me).runs ≡ false
+  pub later : (w.part me).period < t.period
+  pub period : t.period ≡ w.heap region.Period 0
+  pub marks : t.marks ≡ is_marking w.heap
+  pub cycle : t.cycle ≡ running_cycle w.heap
+  pub told : IsPrefix t.seen w.log
+  pub longer : IsPrefix (w.part me).seen t.seen
+  pub own : filter (λ event. is_call_of me event.entry) t.seen ≡ (w.part me).mine

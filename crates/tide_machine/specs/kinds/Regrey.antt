@@ -1,0 +1,24 @@
+-- Regrey: a barrier that found its cell black makes it grey again, if it is black still.
+use Rattle.std.specs.Prelude.{ℕ, ◌≡◌, ◌<◌, ◌==◌, if◌then◌else◌}
+use Rattle.tide_machine.specs.Duties.{GrowsOn}
+use Rattle.tide_machine.specs.May.{RunsAsMutator}
+use Rattle.tide_machine.specs.World.{World}
+use Rattle.tide_machine.specs.declared.view.Duty.TheVariants as duty
+use Rattle.tide_machine.specs.declared.view.View.{View}
+use Rattle.tide_model.specs.Layout.{Layout, cell_count}
+use Rattle.tide_words.specs.declared.forms.colours.Colour.TheVariants.{Black}
+use Rattle.tide_words.specs.forms.ColourWord.{colour_word}
+
+-- the one that made the cell grey has to push it
+abbrev pub regreyed_view : ℕ → ℕ → ℕ → View → View
+regreyed_view cell cycle read v =
+    record v { duty = if read == colour_word cycle Black then duty.Push cell else duty.Nothing }
+
+-- the barrier found the cell black in the cycle that marks
+pub record MayRegrey (layout : Layout) (w : World) (me cell cycle : ℕ) : Type 0 where
+  pub runner : RunsAsMutator layout w me
+  pub word : ℕ
+  pub owed : (w.part me).duty ≡ duty.Regrey cell word
+  pub within : cell < cell_count layout
+  pub in_cycle : cycle ≡ (w.part me).cycle
+  pub grown : GrowsOn (w.part me).growth cell → ⊥

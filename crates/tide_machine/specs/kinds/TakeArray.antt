@@ -1,0 +1,74 @@
+-- Take free bit, of an array: a growth begins, and owes the barrier, the new array's words, the array and the
+-- structure.
+use Rattle.std.specs.Int.{bit_at}
+use Rattle.std.specs.Prelude.{ℕ, ◌≡◌, ◌+◌, ◌*◌, ◌-◌, ◌<◌, ◌∷◌, [], suc, false, List, length, ◌==◌, if◌then◌else◌, Option, None, Some}
+use Rattle.tide_layout.specs.Region.{cell_block_count}
+use Rattle.tide_layout.specs.declared.region.Region.TheVariants as region
+use Rattle.tide_machine.specs.Entries.{class_taken}
+use Rattle.tide_machine.specs.May.{RunsAsMutator, MayCall, barrier_for}
+use Rattle.tide_machine.specs.Owed.{owed_word, owed_elements, Knows}
+use Rattle.tide_machine.specs.Words.{cell_named, count_of, is_nuked}
+use Rattle.tide_machine.specs.World.{World}
+use Rattle.tide_machine.specs.declared.view.Growth.TheVariants as growth
+use Rattle.tide_machine.specs.declared.view.View.{View}
+use Rattle.tide_machine.specs.kinds.LoadFree.{searched_view}
+use Rattle.tide_model.specs.History.{state_after}
+use Rattle.tide_model.specs.Layout.{Layout}
+use Rattle.tide_model.specs.Refused.{ShapeLists}
+use Rattle.tide_model.specs.State.{State}
+use Rattle.tide_model.specs.declared.entry.Event.{Event}
+use Rattle.tide_model.specs.declared.op.Op.{Op}
+use Rattle.tide_model.specs.declared.op.Op.TheVariants.{Add}
+use Rattle.tide_model.specs.declared.op.Refusal.TheVariants.{Full}
+use Rattle.tide_model.specs.declared.op.Reply.TheVariants.{Done, Refused}
+use Rattle.tide_model.specs.declared.val.Val.{Val}
+use Rattle.tide_words.specs.forms.Reference.{array_word}
+use Rattle.tide_words.specs.forms.ValueWord.{val_word}
+
+-- the array of a block of arrays that has this bit
+abbrev pub array_at : Layout → ℕ → ℕ → ℕ
+array_at layout block k = 64 * (block - cell_block_count layout) + k
+
+-- the properties of a cell with one more at their end
+abbrev pub properties_with : State → ℕ → Val → ℕ → Val
+properties_with state cell value place =
+    if place == length (state.cells cell).keys then value else (state.cells cell).properties place
+
+-- the view in the growth of a cell's array
+abbrev pub grown_view : Layout → State → ℕ → ℕ → Val → ℕ → ℕ → View → View
+grown_view layout state cell array value old next v = record v {
+  owed = owed_word region.Structure cell next ∷ owed_word region.Array cell (array_word (Some array))
+      ∷ owed_elements layout (properties_with state cell value) array (suc (length (state.cells cell).keys));
+  growth = growth.Filling cell array old next;
+  duty = barrier_for v.marks cell (val_word value);
+  known = [];
+  full = [];
+}
+
+-- the array is taken, or the take was lost and is one that looked
+abbrev pub array_view : Layout → List Event → State → ℕ → ℕ → ℕ → ℕ → ℕ → Option Op → ℕ → View → View
+array_view layout log state me block k old next None read v = v
+array_view layout log state me block k old next (Some (Add src key val)) read v =
+    if bit_at read k == 1 then
+    grown_view layout state (cell_named (state.registers me src)) (array_at layout block k) (state.registers me val)
+    old next v
+    else searched_view log block (Some (Add src key val)) read v
+array_view layout log state me block k old next (Some _) read v = v
+
+-- The mutator knows the structure's word, and the next one has one property more. The old structure is whole.
+pub record IsNextStructure (v : View) (cell old next : ℕ) : Type 0 where
+  pub knows : Knows v region.Structure cell old
+  pub even : is_nuked old ≡ false
+  pub fresh : is_nuked next ≡ false
+  pub more : count_of next ≡ count_of old + 1
+
+-- a free bit of a block of arrays is cleared by Add
+abbrev pub MayTakeArray : Layout → ShapeLists → World → ℕ → ℕ → ℕ → ℕ → ℕ → ℕ → Option Op → Type 0
+MayTakeArray layout shapes w me block k old next read (Some (Add src key val)) =
+    RunsAsMutator layout w me × (k < 64)
+    × (bit_at read k ≡ 1 → IsNextStructure (w.part me) (cell_named ((state_after layout w.log).registers me src)) old
+    next
+    × MayCall layout shapes w me (Add src key val) Done (Some (array_at layout block k)))
+    × (read ≡ 0 → MayCall layout shapes w me (Add src key val)
+    (Refused (Full (class_taken (state_after layout w.log) me (Add src key val)))) None)
+MayTakeArray layout shapes w me block k old next read _ = ⊥

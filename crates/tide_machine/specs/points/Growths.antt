@@ -1,0 +1,43 @@
+-- Points on growths of arrays, which change several words of a cell one after another.
+use Rattle.std.specs.Prelude.{ℕ, ◌≡◌, ◌+◌, ◌≤◌, true, false, Contains, Some}
+use Rattle.tide_layout.specs.declared.region.Region.TheVariants as region
+use Rattle.tide_machine.specs.Duties.{GrowsAndOwes}
+use Rattle.tide_machine.specs.Owed.{Owes}
+use Rattle.tide_machine.specs.Scanning.{property}
+use Rattle.tide_machine.specs.Words.{count_of, is_nuked}
+use Rattle.tide_machine.specs.declared.view.Growth.{Growth}
+use Rattle.tide_machine.specs.declared.view.Growth.TheVariants as growth
+use Rattle.tide_machine.specs.declared.view.View.{View}
+use Rattle.tide_machine.specs.points.Links.{LinkAt}
+use Rattle.tide_model.specs.Layout.{Layout}
+use Rattle.tide_model.specs.State.{State}
+use Rattle.tide_words.specs.forms.Reference.{array_word}
+use Rattle.tide_words.specs.heap.Heap.{Heap}
+use Rattle.tide_words.specs.marking.Colours.{is_marking}
+
+-- in a growth of a cell's array the claim is held, and the structure's word stands by the stage, and the next is owed
+pub record GrowthOn (heap : Heap) (state : State) (p : ℕ) (v : View) (cell old new word : ℕ) : Type 0 where
+  pub claimed : Contains (state.claims p) cell
+  pub stands : heap region.Structure cell ≡ word
+  pub even : is_nuked old ≡ false
+  pub fresh : is_nuked new ≡ false
+  pub more : count_of new ≡ count_of old + 1
+  pub owes : Owes v region.Structure cell new
+
+-- what is known at each stage: until the array is stored, its word is owed too
+abbrev pub GrowthKnows : Heap → State → ℕ → View → Growth → Type 0
+GrowthKnows heap state p v growth.Nothing = Unit {0}
+GrowthKnows heap state p v (growth.Filling cell array old new) =
+    GrowthOn heap state p v cell old new old × Owes v region.Array cell (array_word (Some array))
+GrowthKnows heap state p v (growth.Nuked cell array old new) =
+    GrowthOn heap state p v cell old new (old + 1) × Owes v region.Array cell (array_word (Some array))
+GrowthKnows heap state p v (growth.Stored cell array old new) = GrowthOn heap state p v cell old new (old + 1)
+
+-- that is known of each growth
+pub record GrowthsAreRight (heap : Heap) (part : ℕ → View) (state : State) : Type 0 where
+  pub knows : (p : ℕ) → GrowthKnows heap state p (part p) (part p).growth
+
+-- a link of a property that the structure's word doesn't tell yet is one of a growth, which owes the barrier
+pub record RunningGrowthIsOwed (layout : Layout) (heap : Heap) (part : ℕ → View) (state : State) : Type 0 where
+  pub beyond : is_marking heap ≡ true → (source n cell : ℕ) → LinkAt state source (property n) cell →
+      count_of (heap region.Structure source) ≤ n → (p : ℕ) × GrowsAndOwes (part p) source
