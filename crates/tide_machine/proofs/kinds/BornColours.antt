@@ -131,8 +131,7 @@ module _ (layout : Layout) (shapes : ShapeLists) (w : World) (me : ℕ) (inside 
             put_at w.part me (with_duty (w.part me) duty.Nothing);
         log = w.log;
       })
-  born_white idle = duty_step layout shapes w.heap w.part w.log me wave (coloured w.heap cell White) duty.Nothing record
-      {
+  born_white idle = duty_step layout shapes w.heap w.part w.log me wave (coloured w.heap cell White) duty.Nothing record {
     inside = inside;
     runs = runs;
     words = λ at index. unread_write w.heap region.Colour cell (colour_word (running_cycle w.heap) White) refl at index;

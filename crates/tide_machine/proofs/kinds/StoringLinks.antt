@@ -248,8 +248,7 @@ module _ (layout : Layout) (shapes : ShapeLists) (w : World) (me : ℕ) (inside 
 
   pub store_link : RunningWave layout shapes
       (stepped layout shapes w me (StoreLink cell slot_number word (Some (Put src slot_number val))))
-  store_link = (call_step layout shapes w.heap w.part w.log me wave (Put src slot_number val) Done None new later record
-      {
+  store_link = (call_step layout shapes w.heap w.part w.log me wave (Put src slot_number val) Done None new later record {
     inside = inside;
     runs = runs;
     still_runs = runs;

@@ -169,8 +169,7 @@ module _ (layout : Layout) (shapes : ShapeLists) (w : World) (me : ℕ) (inside 
   retire Retire may =
       plain_word layout shapes w me inside wave may.runner.runs may.between.duty may.between.owed may.between.growth
       Retire Done (λ c. refl) may.stands
-      (put_at state.active me false) state.registers state.claims state.strong state.weak true region.Active me 0 record
-          {
+      (put_at state.active me false) state.registers state.claims state.strong state.weak true region.Active me 0 record {
         changes = refl;
         no_call = refl;
         becomes = refl;

@@ -143,8 +143,7 @@ module _ (layout : Layout) (shapes : ShapeLists) (w : World) (me : ℕ) (inside 
             λ cell at holds.
                 wave.retained.buffered me cell scan scans at truly,
           );
-      excuses = λ source place cell link white e. inl (let old = subst (ScanExcuses w.heap source place cell) scans e in
-          (
+      excuses = λ source place cell link white e. inl (let old = subst (ScanExcuses w.heap source place cell) scans e in (
         old.0,
         λ holds. elim (old.1 (subst (λ (c : ℕ). IsTrue scan (w.heap region.Structure c)) old.0 truly))
             [ inl u ↦ inl (u.0, unread_same place u.1) | inr at ↦ inr at ],
@@ -233,8 +232,7 @@ module _ (layout : Layout) (shapes : ShapeLists) (w : World) (me : ℕ) (inside 
                   | inr now ↦ linked_now scan.cell cell (in_slot n alive (slot_names cell now))
                 ],
           );
-      excuses = λ source place cell link white e. inl (let old = subst (ScanExcuses w.heap source place cell) scans e in
-          (
+      excuses = λ source place cell link white e. inl (let old = subst (ScanExcuses w.heap source place cell) scans e in (
         old.0,
         λ holds. slot_answers place cell (subst (λ (c : ℕ). LinkAt state c place cell) (sym old.0) link)
             (old.1 holds),

@@ -15,7 +15,7 @@ use Rattle.tide_model.specs.declared.op.Op.TheVariants.{Move}
 unowed-register : IsAllowed small no_shapes taken 0 (StoreRegister 0 6 None) → ⊥
 unowed-register may =
     (let same = ap (λ (o : Owed). o.word)
-        (in_one (owed_word region.Registers 0 2) (owed_word region.Registers 0 6) may.1) in
+    (in_one (owed_word region.Registers 0 2) (owed_word region.Registers 0 6) may.1) in
     absurd (omega (arith, same)))
 
 -- a stop while a barrier is owed

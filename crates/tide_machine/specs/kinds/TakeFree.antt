@@ -22,8 +22,7 @@ use Rattle.tide_model.specs.declared.val.Val.TheVariants.{Cell}
 abbrev pub taken_view : Layout → List Event → ℕ → ℕ → ℕ → Option Op → ℕ → View → View
 taken_view layout log me block k None read v = v
 taken_view layout log me block k (Some op) read v =
-    if bit_at read k == 1 then record (called (owed_register layout me (filled_register op) (Cell (64 * block + k))) v)
-        {
+    if bit_at read k == 1 then record (called (owed_register layout me (filled_register op) (Cell (64 * block + k))) v) {
       duty = duty.Born (64 * block + k);
       born = v.born + 1;
     }
