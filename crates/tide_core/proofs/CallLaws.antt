@@ -565,6 +565,14 @@ module _ (layout : Layout) (shapes : ShapeLists) (old new : Heap) (history : Lis
         omega (arith, before, fewer, visits);
   }
 
+-- a call keeps marking in the state that it leaves
+pub Marking-called : (layout : Layout) (shapes : ShapeLists) (old new : Heap) (state : State) (who : ℕ) (operation : Op) (reply : Reply)
+    (took : Option ℕ) → StandsIn layout shapes state who operation reply took → HasCalled layout shapes old new state who operation reply took →
+    Marking layout shapes old state [] → Marking layout shapes new (after_call state who operation reply took) []
+Marking-called layout shapes old new state who operation reply took stands called before =
+    Marking-counted layout shapes called.settled new (after_call state who operation reply took) who called.counts
+    (Marking-coloured layout shapes old called.stored called.settled state who operation before reply took stands called.words called.marks)
+
 pub call_keeps_wave : CallKeepsWave
 call_keeps_wave layout shapes old new history who operation reply took limits empty_shape lawful stands wave called =
     FrozenWave-called layout shapes old new history who operation reply took (record {

@@ -1,5 +1,5 @@
 //! `call`: an operation of a mutator, from the decision to the count of its calls.
-ghost use Rattle.std.specs.Prelude.{◌≡◌, ◌<◌, ◌∷◌, ◌++◌, Bool, false, length, nat_le, ℕ, List};
+ghost use Rattle.std.specs.Prelude.{◌≡◌, ◌<◌, ◌∷◌, ◌++◌, [], Bool, false, length, nat_le, ℕ, List};
 ghost use Rattle.tide_layout.specs.Region.{word_count};
 ghost use Rattle.tide_model.specs.Answer.{IsAnswer};
 ghost use Rattle.tide_model.specs.Applied.{after_call};
@@ -17,6 +17,7 @@ ghost use Rattle.tide_call.specs.declared.plan.Plan.TheVariants.{Claim as ToClai
 ghost use Rattle.tide_core.specs.Called.{HasCalled, with_call};
 ghost use Rattle.tide_core.specs.FrozenWave.{FrozenWave};
 ghost use Rattle.tide_words.specs.heap.Heap.{heap_of};
+ghost use Rattle.tide_words.specs.marking.Marking.{Marking};
 ghost use Rattle.tide_call.specs.Acting.{IsCounted};
 ghost use Rattle.tide_word_store.specs.Acting.{claims_after};
 ghost use Rattle.tide_word_store.specs.MayCall.{MayCall};
@@ -80,6 +81,10 @@ pub fn call<W: Words, S: ShapeTable>(
         (heap_of layout.now (W.words words.old)) claims.old who op state →
         HasCalled layout.now (S.lists shapes.now) (heap_of layout.now (W.words words.old))
         (heap_of layout.now (W.words words.new)) state who op result.reply result.took }
+    ensures leaves { (state : State) → MayCall layout.now (S.lists shapes.now)
+        (heap_of layout.now (W.words words.old)) claims.old who op state →
+        Marking layout.now (S.lists shapes.now) (heap_of layout.now (W.words words.new))
+        (after_call state who op result.reply result.took) [] }
     ensures room { (state : State) → MayCall layout.now (S.lists shapes.now)
         (heap_of layout.now (W.words words.old)) claims.old who op state →
         (class : ℕ) → result.reply ≡ Refused (Full class) → (block : ℕ) → IsBlockOf layout.now class block →

@@ -10,7 +10,7 @@ use Rattle.tide_words.specs.heap.Heap.{Heap, heap_of}
 use Rattle.tide_call.specs.Acting.{Acts}
 use Rattle.tide_call.specs.Callers.{Caller}
 use Rattle.tide_call.specs.declared.plan.Plan.TheVariants.{Refuse}
-use Rattle.tide_core.proofs.CallLaws.{call_keeps_wave}
+use Rattle.tide_core.proofs.CallLaws.{Marking-called, call_keeps_wave}
 use Rattle.tide_word_store.specs.Acting.{IsClassFull}
 use Rattle.tide_word_store.specs.MayCall.{MayCall}
 use Rattle.tide_word_store.specs.Needed.{FitsPlan}
@@ -90,6 +90,22 @@ returns-clause-answers g c = λ state may. (comes g c state may).answers
 
 pub returns-clause-called : goal.returns-clause-called
 returns-clause-called g c = λ state may. (comes g c state may).called
+
+pub returns-clause-leaves : goal.returns-clause-leaves
+returns-clause-leaves g c = λ state may.
+    let table : IsShapeTable (g.S.ShapeTable.lists c.args.shapes.now) =
+    subst (λ (one : Caller). IsShapeTable one.shapes) c.new-caller.ensures.caller c.new-caller.ensures.table in
+    let comes_here = comes g c state may in
+    Marking-called c.args.layout.now (g.S.ShapeTable.lists c.args.shapes.now) (old g c) (new g c) state c.args.who c.args.op c.act-called.result.reply
+    c.act-called.result.took (record {
+      limits = c.mutators.ensures.limits;
+      empty_shape = table.empty;
+      is_mutator = may.is_mutator;
+      is_active = may.is_active;
+      fits = may.fits;
+      answers = comes_here.answers;
+      claims = may.own;
+    }) comes_here.called may.marking
 
 pub returns-clause-room : goal.returns-clause-room
 returns-clause-room g c = λ state may class is. (comes g c state may).room class (room g c class is)
