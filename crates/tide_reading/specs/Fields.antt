@@ -19,15 +19,6 @@ required_or field (Some value) = Ok value
 abbrev pub required : Field → Members → Result Data Fault
 required field table = required_or field (get_member (name_of field) table)
 
--- what is there of a field that isn't read, which is bad
-abbrev pub absent_or : Field → Option Data → Result (Unit {0}) Fault
-absent_or field None = Ok tt
-absent_or field (Some value) = Err (Bad field)
-
--- a field that isn't read may not be there
-abbrev pub absent : Field → Members → Result (Unit {0}) Fault
-absent field table = absent_or field (get_member (name_of field) table)
-
 -- the number of an integer from the least to the most
 abbrev pub number_within : ℕ → ℕ → Data → Option ℕ
 number_within least most (integer (pos n)) = if nat_le least n && nat_le n most then Some n else None

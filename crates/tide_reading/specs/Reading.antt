@@ -10,7 +10,7 @@ use Rattle.tide_work.specs.declared.field.Field.{Field}
 use Rattle.tide_work.specs.declared.field.Field.TheVariants.{Registers, Strong, Weak, Blocks, Arrays, Period, Headroom, Trigger, Shapes, Mutator}
 use Rattle.tide_reading.specs.declared.reading.TheConstants.{MAX_BYTES}
 use Rattle.tide_work.specs.declared.settings.Settings.{Settings}
-use Rattle.tide_reading.specs.Fields.{absent, number_of_field, number_or_zero, five_of_field, five_or_zeros, has_only}
+use Rattle.tide_reading.specs.Fields.{number_of_field, number_or_zero, five_of_field, five_or_zeros, has_only}
 use Rattle.tide_work.specs.OpLimits.{limits_with}
 use Rattle.tide_reading.specs.Scripts.{mutators_of, script_texts, scripts_of}
 use Rattle.tide_reading.specs.Shapes.{declared_in}
@@ -35,8 +35,8 @@ settings_of document = do
   arrays ← five_or_zeros Arrays 64 document
   period ← number_of_field Period 4 65536 document
   headroom ← number_of_field Headroom 1 1000000 document
-  trigger ← absent Trigger document
-  Ok (record { registers = registers; strong = strong; weak = weak; blocks = blocks; arrays = arrays; period = period; headroom = headroom; trigger = 0 })
+  trigger ← number_or_zero Trigger 1000000 document
+  Ok (record { registers = registers; strong = strong; weak = weak; blocks = blocks; arrays = arrays; period = period; headroom = headroom; trigger = trigger })
 
 -- the fields that a document may have
 abbrev pub document_fields : List Field

@@ -6,7 +6,7 @@ ghost use Rattle.toml.specs.Data.{get_member};
 ghost use Rattle.toml.specs.View.{view, table_view};
 ghost use Rattle.tide_work.specs.FieldNames.{name_of};
 ghost use Rattle.tide_work.specs.Work.{AreOfFive, IsBetween};
-ghost use Rattle.tide_reading.specs.Fields.{required, absent, number_within, values_of, values_within, values_in, number_in, number_of_field, number_or_zero, five_in, five_of_field, five_or_zeros, member_names, is_name_of, has_only};
+ghost use Rattle.tide_reading.specs.Fields.{required, number_within, values_of, values_within, values_in, number_in, number_of_field, number_or_zero, five_in, five_of_field, five_or_zeros, member_names, is_name_of, has_only};
 
 use tide_work::{Fault, Field};
 use toml::{Table, Value};
@@ -23,16 +23,6 @@ pub(crate) fn required(table: &Table, field: Field) -> Result<&Value, Fault>
     ensures { result_map_both (λ v. view v.now) (λ fault. fault) result ≡ required field (table_view table.now) }
 {
     value_of(table, field).ok_or(Fault::Missing { field })
-}
-
-/// Refuses a field that isn't read.
-pub(crate) fn absent(table: &Table, field: Field) -> Result<(), Fault>
-    ensures { result ≡ absent field (table_view table.now) }
-{
-    match value_of(table, field) {
-        Some(_) => Err(Fault::Bad { field }),
-        None => Ok(()),
-    }
 }
 
 /// The number of a value that is an integer from `least` to `most`.

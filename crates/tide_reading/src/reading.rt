@@ -7,7 +7,7 @@ ghost use Rattle.tide_reading.specs.Steps.{Gives};
 ghost use Rattle.tide_work.specs.Work.{AreKeys, ArePaths, AreSettings};
 
 use crate::fields::{
-    absent, five_of_field, five_or_zeros, has_only, number_of_field, number_or_zero,
+    five_of_field, five_or_zeros, has_only, number_of_field, number_or_zero,
 };
 use crate::scripts::{mutators_of, scripts_of, texts_of_each};
 use crate::shapes::declared_in;
@@ -89,7 +89,7 @@ fn settings_of(document: &Table) -> Result<Settings, Fault>
     let arrays = five_or_zeros(document, Field::Arrays, 64)?;
     let period = number_of_field(document, Field::Period, 4, 65_536)?;
     let headroom = number_of_field(document, Field::Headroom, 1, 1_000_000)?;
-    absent(document, Field::Trigger)?;
+    let trigger = number_or_zero(document, Field::Trigger, 1_000_000)?;
     Ok(Settings {
         registers: registers as u8,
         strong: strong as u16,
@@ -98,7 +98,7 @@ fn settings_of(document: &Table) -> Result<Settings, Fault>
         arrays,
         period,
         headroom,
-        trigger: 0,
+        trigger,
     })
 }
 

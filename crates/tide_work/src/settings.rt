@@ -17,6 +17,6 @@ pub struct Settings {
     pub period: u32,
     /// How many cells may be born while a cycle marks before it has to end, 1 to 1,000,000.
     pub headroom: u32,
-    /// How many newly born cells begin a cycle, up to 1,000,000; 0 where none begins by itself. No document has it yet.
+    /// How many newly born cells begin a cycle, up to 1,000,000; 0 where none begins by itself.
     pub trigger: u32,
 }
