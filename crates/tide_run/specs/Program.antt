@@ -46,7 +46,7 @@ pub record ToldFault (old new : Option (List ℕ)) (held held' : Option (List �
 pub record RanInput (old new : Option (List ℕ)) (ran : Ran) : Type 0 where
   pub work : Work
   pub reads : ReadWork old new work
-  pub is_run : IsRunOf work ran
+  pub is_run : IsRunOf work work.settings.trigger ran
 
 -- the status of a program that ran nothing
 abbrev pub stop_status : Stop → ℕ
