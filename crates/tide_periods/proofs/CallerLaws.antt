@@ -24,7 +24,7 @@ use Rattle.tide_model.proofs.Histories.{take-append-short, calls_of-append, retr
 use Rattle.tide_model.proofs.Cycles.{take-all}
 use Rattle.tide_periods.specs.Asking.{IsAskable, IsAt, IsMutatorAt, Standing, WasDone, claims_after, after_reply, next_of, op_or_leave, IsAskedBy, of_script, asks_unclaim, asks_retire}
 use Rattle.tide_periods.specs.Store.{Setting}
-use Rattle.tide_periods.specs.Recorded.{IsAtRest, MadeCall, MayAsk, Recorded}
+use Rattle.tide_periods.specs.Recorded.{IsSettled, MadeCall, MayAsk, Recorded}
 use Rattle.tide_model.proofs.ActiveLaws.{active_after-call}
 use Rattle.tide_model.proofs.CallLaws.{unclaim_is_done, retire_is_done, length_without_first, nothing_of_no_length}
 
@@ -86,11 +86,11 @@ next_cases ops standing claims = elim (slice_get_cases ops standing.done).1 [
 
 -- the next operation may be asked for
 pub MayAsk-next : (recorded : Recorded) (who : ℕ) (ops : List Op) (standing : Standing) (calls : List (Op × Reply)) →
-    IsAtRest recorded → IsMutatorAt recorded who ops standing calls → standing.retired ≡ false → MayAsk recorded who (next_of ops standing (length (recorded.state.claims who)))
-MayAsk-next recorded who ops standing calls at_rest at stays =
+    IsSettled recorded → IsMutatorAt recorded who ops standing calls → standing.retired ≡ false → MayAsk recorded who (next_of ops standing (length (recorded.state.claims who)))
+MayAsk-next recorded who ops standing calls settled at stays =
     record {
       is_mutator = at.is_mutator;
-      is_active = ap (λ (s : State). s.active who) (sym at_rest.leaves) ∙ at.active ∙ ap not stays;
+      is_active = ap (λ (s : State). s.active who) (sym settled.leaves) ∙ at.active ∙ ap not stays;
       fits = fits;
       released = released;
     }
@@ -221,9 +221,9 @@ IsAt-next ops standing script claims op reply total total' held' at (retires ove
 
 -- a call of its next operation takes a mutator on
 pub IsMutatorAt-called : (old new : Recorded) (who : ℕ) (ops : List Op) (standing : Standing) (calls : List (Op × Reply)) (op : Op) (reply : Reply) →
-    IsAtRest old → IsMutatorAt old who ops standing calls → standing.retired ≡ false → op ≡ next_of ops standing (length (old.state.claims who)) → MadeCall old new who op reply →
+    IsSettled old → IsMutatorAt old who ops standing calls → standing.retired ≡ false → op ≡ next_of ops standing (length (old.state.claims who)) → MadeCall old new who op reply →
     IsMutatorAt new who ops (after_reply ops standing op reply) (calls ++ (op, reply) ∷ [])
-IsMutatorAt-called old new who ops standing calls op reply at_rest at stays is made =
+IsMutatorAt-called old new who ops standing calls op reply settled at stays is made =
     elim next [
       | an_operation within some at_place ↦
           grown (claims_after new.setting.layout new.history who) (length new.history) (omega arith)
@@ -274,10 +274,10 @@ IsMutatorAt-called old new who ops standing calls op reply at_rest at stays is m
 
     leaves : state_after new.setting.layout new.history ≡ after_call old.state who op reply made.took
     leaves = ap (λ (s : Setting). state_after s.layout new.history) made.same ∙ ap (state_after old.setting.layout) made.history
-        ∙ state_after-push old.setting.layout old.history (called who op reply made.took) ∙ ap (λ (s : State). after_call s who op reply made.took) at_rest.leaves
+        ∙ state_after-push old.setting.layout old.history (called who op reply made.took) ∙ ap (λ (s : State). after_call s who op reply made.took) settled.leaves
 
     was_active : old.state.active who ≡ true
-    was_active = ap (λ (s : State). s.active who) (sym at_rest.leaves) ∙ at.active ∙ ap not stays
+    was_active = ap (λ (s : State). s.active who) (sym settled.leaves) ∙ at.active ∙ ap not stays
 
     active_now : (state_after new.setting.layout new.history).active who ≡ not (is_retire op)
     active_now = ap (λ (s : State). s.active who) leaves ∙ (elim next [
@@ -297,7 +297,7 @@ IsMutatorAt-called old new who ops standing calls op reply at_rest at stays is m
     held_now = ap (λ (s : State). length (s.claims who)) leaves
 
     held_old : claims_after old.setting.layout old.history who ≡ claims
-    held_old = ap (λ (s : State). length (s.claims who)) at_rest.leaves
+    held_old = ap (λ (s : State). length (s.claims who)) settled.leaves
 
     asked_now : IsAskedBy ops op
     asked_now = elim next [

@@ -11,7 +11,7 @@ use Rattle.tide_model.specs.Periods.{EndsInTime, IsSwept, open_count}
 use Rattle.tide_model.specs.Refused.{ShapeLists}
 use Rattle.tide_model.specs.Each.{Each}
 use Rattle.tide_model.specs.Since.{born_since, is_birth, since, visits_in, visits_since}
-use Rattle.tide_model.specs.State.{State, CellState, Status, Phase, free, live, spent, dead, is_live, is_dead, marking, blank_cell}
+use Rattle.tide_model.specs.State.{State, CellState, Status, Phase, idle, free, live, spent, dead, is_live, is_dead, marking, blank_cell}
 use Rattle.tide_model.specs.Graph.{graph_of, IsRetained, is_further, no_cell, retained_more}
 use Rattle.tide_model.specs.History.{plain, state_from, state_after, after_event, after_end, swept_all, swept_cell, swept_status, is_this_array, is_array_of, unless_spent, is_begin, is_open}
 use Rattle.tide_model.specs.Cycle.{HasDead, dead_cell, dead_array, StandsEnd, begin_count, cycle_span, live_count}
@@ -26,7 +26,7 @@ use Rattle.tide_layout.specs.Region.{block_count}
 use Rattle.tide_collect.specs.Collecting.{IsFreed, IsDeadWithin}
 use Rattle.tide_periods.specs.Store.{Setting, blocks_in}
 use Rattle.tide_periods.specs.declared.told.Told.{Told}
-use Rattle.tide_periods.specs.Recorded.{IsAtRest, RanCycle, Recorded}
+use Rattle.tide_periods.specs.Recorded.{IsSettled, RanCycle, Recorded}
 use Rattle.tide_periods.specs.Told.{AreCounted, IsCounted, events_of, uncounted}
 use Rattle.tide_model.proofs.SinceLaws.{count-push}
 
@@ -262,40 +262,41 @@ AreCounted-cycle layout told history cycle freed kept blocks tells are is =
     (λ c f e. is ∙ ap (λ (h : List Event). live_count layout (state_after layout (h ++ plain (End cycle freed) ∷ []))) (sym events)))
 
 -- a whole cycle was run and recorded
-pub RanCycle-did : (old new : Recorded) (freed : List ℕ) (kept : ℕ) (is_swept : ℕ → Bool) → IsAtRest old → IsCollected old.setting.layout old.state freed is_swept kept →
+pub RanCycle-did : (old new : Recorded) (told more : List Told) (freed : List ℕ) (kept : ℕ) (is_swept : ℕ → Bool) → IsSettled old →
+    old.state.phase ≡ idle → events_of told ≡ old.history → IsCollected old.setting.layout old.state freed is_swept kept →
     new.state ≡ swept_all (after_end old.state freed) → new.setting ≡ old.setting → new.cycles ≡ old.cycles + 1 → new.parts ≡ old.parts → new.blocks ≡ old.blocks →
-    events_of new.told ≡ new.history → new.told ≡ cycle_told old.told (old.cycles + 1) freed kept (swept_blocks old.setting.layout is_swept) →
-    RanCycle old new
-RanCycle-did old new freed kept is_swept recorded collected state same cycles parts blocks tells told = record {
-  at_rest = record {
-    tells = tells;
-    counted = subst (λ (s : Setting). AreCounted s.layout new.told) (sym same) (subst (AreCounted layout) (sym told)
-        (AreCounted-cycle layout old.told old.history number freed kept (swept_blocks layout is_swept) recorded.tells recorded.counted (sym count)));
-    lawful = subst (λ (s : Setting). IsLawful s.layout s.shapes new.history) (sym same) (subst (IsLawful layout shapes) (sym history) last.lawful);
-    ends = subst (λ (s : Setting). Each (EndsInTime s.layout) new.history) (sym same) (subst (Each (EndsInTime layout)) (sym history) last.ends);
-    leaves = ap (λ (s : Setting). state_after s.layout new.history) same ∙ leaves;
-    begun = ap begin_count history ∙ last.begun ∙ sym cycles;
-    opens = ap open_count history ∙ last.opened ∙ sym parts;
+    events_of more ≡ new.history → more ≡ cycle_told told (old.cycles + 1) freed kept (swept_blocks old.setting.layout is_swept) →
+    RanCycle old new × (AreCounted old.setting.layout told → AreCounted new.setting.layout more)
+RanCycle-did old new told more freed kept is_swept recorded rests tells_old collected state same cycles parts blocks tells is_told = (
+  record {
+    settled = record {
+      lawful = subst (λ (s : Setting). IsLawful s.layout s.shapes new.history) (sym same) (subst (IsLawful layout shapes) (sym history) last.lawful);
+      ends = subst (λ (s : Setting). Each (EndsInTime s.layout) new.history) (sym same) (subst (Each (EndsInTime layout)) (sym history) last.ends);
+      leaves = ap (λ (s : Setting). state_after s.layout new.history) same ∙ leaves;
+      begun = ap begin_count history ∙ last.begun ∙ sym cycles;
+      opens = ap open_count history ∙ last.opened ∙ sym parts;
+      swept = subst (λ (s : Setting). IsSwept s.layout new.history) (sym same)
+          (λ block has. swept_has_none layout (after_end old.state freed) block (subst (λ (s : State). HasDead layout s block) (leaves ∙ state) has));
+      few = λ who. subst (λ (s : State). length (s.claims who) ≤ 8) (sym state) (recorded.few who);
+      blocks = blocks ∙ recorded.blocks ∙ ap blocks_in (sym same);
+    };
+    same = same;
+    cycles = cycles;
+    parts = parts;
+    visits = kept;
+    freed = freed;
+    blocks = swept_blocks layout is_swept;
+    history = history
+        ∙ ap (λ (front : List Event). front ++ sweeps)
+        (append_assoc h1 (plain (Pause kept) ∷ []) (plain (End number freed) ∷ []) ∙ append_assoc old.history (plain (Begin number) ∷ []) (plain (Pause kept) ∷ plain (End number freed) ∷ []))
+        ∙ append_assoc old.history (plain (Begin number) ∷ plain (Pause kept) ∷ plain (End number freed) ∷ []) sweeps
+        ∙ ap (λ (n : ℕ). old.history ++ ((plain (Begin (n + 1)) ∷ plain (Pause kept) ∷ plain (End (n + 1) freed) ∷ []) ++ sweeps)) (sym recorded.begun);
+    active = ap (λ (s : State). s.active) state;
+    claims = ap (λ (s : State). s.claims) state;
     rests = ap (λ (s : State). s.phase) state;
-    swept = subst (λ (s : Setting). IsSwept s.layout new.history) (sym same)
-        (λ block has. swept_has_none layout (after_end old.state freed) block (subst (λ (s : State). HasDead layout s block) (leaves ∙ state) has));
-    few = λ who. subst (λ (s : State). length (s.claims who) ≤ 8) (sym state) (recorded.few who);
-    blocks = blocks ∙ recorded.blocks ∙ ap blocks_in (sym same);
-  };
-  same = same;
-  cycles = cycles;
-  parts = parts;
-  visits = kept;
-  freed = freed;
-  blocks = swept_blocks layout is_swept;
-  history = history
-      ∙ ap (λ (front : List Event). front ++ sweeps)
-      (append_assoc h1 (plain (Pause kept) ∷ []) (plain (End number freed) ∷ []) ∙ append_assoc old.history (plain (Begin number) ∷ []) (plain (Pause kept) ∷ plain (End number freed) ∷ []))
-      ∙ append_assoc old.history (plain (Begin number) ∷ plain (Pause kept) ∷ plain (End number freed) ∷ []) sweeps
-      ∙ ap (λ (n : ℕ). old.history ++ ((plain (Begin (n + 1)) ∷ plain (Pause kept) ∷ plain (End (n + 1) freed) ∷ []) ++ sweeps)) (sym recorded.begun);
-  active = ap (λ (s : State). s.active) state;
-  claims = ap (λ (s : State). s.claims) state;
-}
+  },
+  counted,
+)
   where
     layout : Layout
     layout = old.setting.layout
@@ -313,7 +314,7 @@ RanCycle-did old new freed kept is_swept recorded collected state same cycles pa
     marks = record old.state { phase = marking number }
 
     history : new.history ≡ (((old.history ++ plain (Begin number) ∷ []) ++ plain (Pause kept) ∷ []) ++ plain (End number freed) ∷ []) ++ sweeps
-    history = sym tells ∙ ap events_of told ∙ events_of-cycle old.told old.history number freed kept (swept_blocks layout is_swept) recorded.tells
+    history = sym tells ∙ ap events_of is_told ∙ events_of-cycle told old.history number freed kept (swept_blocks layout is_swept) tells_old
 
     h1 : List Event
     h1 = old.history ++ plain (Begin number) ∷ []
@@ -324,7 +325,7 @@ RanCycle-did old new freed kept is_swept recorded collected state same cycles pa
     began : IsSoFar layout shapes h1 marks number old.parts
     began = IsSoFar-push layout shapes old.history old.state marks old.cycles number old.parts old.parts (plain (Begin number))
         (record { lawful = recorded.lawful; ends = recorded.ends; leaves = recorded.leaves; begun = recorded.begun; opened = recorded.opens })
-        (refl, record { is_idle = ap (λ (s : State). s.phase) recorded.leaves ∙ recorded.rests; is_next = ap (λ (n : ℕ). n + 1) (sym recorded.begun) })
+        (refl, record { is_idle = ap (λ (s : State). s.phase) recorded.leaves ∙ rests; is_next = ap (λ (n : ℕ). n + 1) (sym recorded.begun) })
         (record { kept = λ cycle f e. absurd (cc); swept = λ cycle f e. absurd (cc) }) refl refl (add-zero old.parts)
 
     paused : IsSoFar layout shapes h2 marks number old.parts
@@ -369,3 +370,7 @@ RanCycle-did old new freed kept is_swept recorded collected state same cycles pa
 
     leaves : state_after layout new.history ≡ new.state
     leaves = ap (state_after layout) history ∙ last.leaves ∙ all_swept ∙ sym state
+
+    counted : AreCounted layout told → AreCounted new.setting.layout more
+    counted are = subst (λ (s : Setting). AreCounted s.layout more) (sym same) (subst (AreCounted layout) (sym is_told)
+        (AreCounted-cycle layout told old.history number freed kept (swept_blocks layout is_swept) tells_old are (sym count)))

@@ -19,19 +19,25 @@ use Rattle.tide_model.specs.Periods.{is_must, is_over, IsSwept, next_run, open_c
 use Rattle.tide_model.specs.Script.{calls_of, retry_after_all, retry_of}
 use Rattle.tide_model.specs.Share.{IsShare, has_ended}
 use Rattle.tide_model.specs.Since.{born_since, is_end}
-use Rattle.tide_model.specs.State.{State}
+use Rattle.tide_model.specs.State.{State, idle}
 use Rattle.tide_model.proofs.Histories.{calls_of-append}
 use Rattle.tide_model.proofs.PeriodLaws.{marks_of-append}
 use Rattle.tide_periods.specs.declared.caller.Caller.{Caller}
 use Rattle.tide_periods.specs.Part.{AreCallers, RanPart}
 use Rattle.tide_periods.specs.Periods.{RanFreeze, RanPeriod}
 use Rattle.tide_periods.specs.Store.{Setting}
-use Rattle.tide_periods.specs.Recorded.{IsAtRest, OpenedPart, RanCycle, Recorded}
+use Rattle.tide_periods.specs.Recorded.{IsSettled, OpenedPart, RanCycle, Recorded}
 use Rattle.tide_periods.proofs.Parting.{IsShare-by}
 
--- no cycle marks where the store is at rest
-pub rests_after : (recorded : Recorded) → IsAtRest recorded → marks_after recorded.setting.layout recorded.history ≡ false
-rests_after recorded at_rest = ap (λ (s : State). is_marking_phase s.phase) at_rest.leaves ∙ ap is_marking_phase at_rest.rests
+-- no cycle marks where the state says so
+rests_after : (recorded : Recorded) → IsSettled recorded → recorded.state.phase ≡ idle → marks_after recorded.setting.layout recorded.history ≡ false
+rests_after recorded settled rests = ap (λ (s : State). is_marking_phase s.phase) settled.leaves ∙ ap is_marking_phase rests
+
+-- so the next part has all calls of a period
+run_at_rest : (pace : Pace) (recorded : Recorded) → IsSettled recorded → recorded.state.phase ≡ idle →
+    pace.period ≡ next_run pace recorded.setting.layout recorded.history
+run_at_rest pace recorded settled rests =
+    sym (ap (λ (b : Bool). if b then running_share pace (born_since is_begin recorded.history) else pace.period) (rests_after recorded settled rests))
 
 -- none is due by itself where the trigger is 0
 no_trigger : (pace : Pace) (layout : Layout) (history : List Event) → pace.trigger ≡ 0 → is_due pace layout history ≡ false
@@ -52,9 +58,10 @@ calls_of-sweeps who [] = refl
 calls_of-sweeps who (block ∷ blocks) = calls_of-sweeps who blocks
 
 -- a freeze that is one whole cycle
-pub RanFreeze-cycle : (old new : Recorded) → IsAtRest old → RanCycle old new → RanFreeze old new true
-RanFreeze-cycle old new recorded ran = record {
-  at_rest = ran.at_rest;
+pub RanFreeze-cycle : (old new : Recorded) (pace : Pace) → IsSettled old → old.state.phase ≡ idle → 0 < pace.period → RanCycle old new →
+    RanFreeze old new pace true pace.period
+RanFreeze-cycle old new pace recorded rests some ran = record {
+  settled = ran.settled;
   same = ran.same;
   cycles = let e = ran.cycles in omega (arith, e);
   parts = ran.parts;
@@ -63,11 +70,11 @@ RanFreeze-cycle old new recorded ran = record {
   quiet = λ who. calls_of-append who marks sweeps ∙ calls_of-sweeps who ran.blocks;
   active = ran.active;
   claims = ran.claims;
-  is_freeze = λ pace run none. record {
+  is_freeze = λ run. record {
     old = [];
     new = entries;
     are = marks_of-append marks sweeps ∙ ap (λ (more : List Entry). entries ++ more) (marks_of-sweeps ran.blocks) ∙ append-nil entries;
-    goes_on = λ marks_now. (let clash : true ≡ false = sym marks_now ∙ rests_after old recorded in absurd (cc));
+    goes_on = λ marks_now. (let clash : true ≡ false = sym marks_now ∙ rests_after old recorded rests in absurd (cc));
     rests = λ _. refl;
     begins = λ _. record {
       paused = record { visits = ran.visits; freed = Some ran.freed };
@@ -76,6 +83,8 @@ RanFreeze-cycle old new recorded ran = record {
     };
     stays = λ clash. absurd (cc);
   };
+  next = run_at_rest pace new ran.settled ran.rests;
+  some = some;
 }
   where
     number : ℕ
@@ -91,9 +100,10 @@ RanFreeze-cycle old new recorded ran = record {
     sweeps = map (λ block. plain (Sweep block)) ran.blocks
 
 -- a freeze in which nothing happens
-pub RanFreeze-rest : (old : Recorded) → IsAtRest old → RanFreeze old old false
-RanFreeze-rest old at_rest = record {
-  at_rest = at_rest;
+pub RanFreeze-rest : (old : Recorded) (pace : Pace) → IsSettled old → old.state.phase ≡ idle → 0 < pace.period → pace.trigger ≡ 0 →
+    RanFreeze old old pace false pace.period
+RanFreeze-rest old pace settled rests some none = record {
+  settled = settled;
   same = refl;
   cycles = omega arith;
   parts = refl;
@@ -102,15 +112,17 @@ RanFreeze-rest old at_rest = record {
   quiet = λ who. refl;
   active = refl;
   claims = refl;
-  is_freeze = λ pace run none. record {
+  is_freeze = λ run. record {
     old = [];
     new = [];
     are = refl;
-    goes_on = λ marks_now. (let clash : true ≡ false = sym marks_now ∙ rests_after old at_rest in absurd (cc));
+    goes_on = λ marks_now. (let clash : true ≡ false = sym marks_now ∙ rests_after old settled rests in absurd (cc));
     rests = λ _. refl;
     begins = λ due. (let clash : true ≡ false = sym due ∙ no_trigger pace old.setting.layout old.history none in absurd (cc));
     stays = λ _. refl;
   };
+  next = run_at_rest pace old settled rests;
+  some = some;
 }
 
 -- an open part is no call
@@ -137,11 +149,11 @@ any_below-some test (suc n) k below passes = step (k == n) refl (λ less. any_be
     step false same earlier = let apart = eqb-false k n same in ap (λ (b : Bool). b || test n) (earlier (omega (arith, apart, below)))
 
 -- a part was opened and run, and frozen after
-pub RanPeriod-by : (old begun ran new : Recorded) (pace : Pace) (run : ℕ) (stopped must : Bool) → IsAtRest old → is_over old.setting.layout old.history ≡ false →
-    pace.period ≡ run → pace.trigger ≡ 0 → OpenedPart old begun run → RanPart begun ran run stopped → RanFreeze ran new must →
-    must ≡ (stopped || is_over ran.setting.layout ran.history) → RanPeriod old new pace
-RanPeriod-by old begun ran new pace run stopped must recorded goes_on is_run no_trigger opens part froze is_must' = record {
-  at_rest = froze.at_rest;
+pub RanPeriod-by : (old begun ran new : Recorded) (pace : Pace) (run next : ℕ) (stopped must : Bool) → is_over old.setting.layout old.history ≡ false →
+    run ≡ next_run pace old.setting.layout old.history → OpenedPart old begun run → RanPart begun ran run stopped → RanFreeze ran new pace must next →
+    must ≡ (stopped || is_over ran.setting.layout ran.history) → RanPeriod old new pace next
+RanPeriod-by old begun ran new pace run next stopped must goes_on is_run opens part froze is_must' = record {
+  settled = froze.settled;
   same = froze.same ∙ settings;
   cycles = let e = froze.cycles in let f = part.counts.cycles in let h = opens.cycles in omega (arith, e, f, h);
   parts = froze.parts ∙ part.counts.parts ∙ opens.parts;
@@ -158,10 +170,12 @@ RanPeriod-by old begun ran new pace run stopped must recorded goes_on is_run no_
     freeze = subst (λ (m : Bool). IsFreeze pace layout (after_part pace layout old.history period) (next_run pace layout old.history) m (marks_of froze.freeze)) is_must_now
         (subst (λ (h : List Event). IsFreeze pace layout h (next_run pace layout old.history) must (marks_of froze.freeze)) ran_history
         (subst (λ (s : Setting). IsFreeze pace s.layout ran.history (next_run pace layout old.history) must (marks_of froze.freeze)) settings
-        (froze.is_freeze pace (next_run pace layout old.history) no_trigger)));
+        (froze.is_freeze (next_run pace layout old.history))));
     swept = subst (IsSwept layout) (froze.history ∙ ap (λ (h : List Event). h ++ froze.freeze) ran_history)
-        (subst (λ (s : Setting). IsSwept s.layout new.history) (froze.same ∙ settings) froze.at_rest.swept);
+        (subst (λ (s : Setting). IsSwept s.layout new.history) (froze.same ∙ settings) froze.settled.swept);
   };
+  next = froze.next;
+  some = froze.some;
 }
   where
     layout : Layout
@@ -174,7 +188,7 @@ RanPeriod-by old begun ran new pace run stopped must recorded goes_on is_run no_
     settings = part.same ∙ opens.same
 
     runs : next_run pace layout old.history ≡ run
-    runs = ap (λ (b : Bool). if b then running_share pace (born_since is_begin old.history) else pace.period) (rests_after old recorded) ∙ is_run
+    runs = sym is_run
 
     is_opened : begun.history ≡ opened pace layout old.history
     is_opened = opens.history ∙ ap (λ (r : ℕ). old.history ++ plain (Open (open_count old.history + 1) r) ∷ []) (sym runs)

@@ -27,7 +27,7 @@ use Rattle.tide_periods.specs.Asking.{IsAskable, IsCaller, IsMutatorAt, Standing
 use Rattle.tide_periods.specs.Left.{left_at, left_by, left_of, total_by}
 use Rattle.tide_periods.specs.Part.{RanShare}
 use Rattle.tide_periods.specs.Store.{Setting}
-use Rattle.tide_periods.specs.Recorded.{IsAtRest, MadeCall, Recorded}
+use Rattle.tide_periods.specs.Recorded.{IsSettled, MadeCall, Recorded}
 use Rattle.tide_model.proofs.CallLaws.{length_without_first}
 use Rattle.tide_periods.proofs.CallerLaws.{IsNext, an_operation, unclaims, retires, called, next_cases, not_first, not_full_past}
 
@@ -104,10 +104,10 @@ claims_after-others layout history events who other apart all =
     ap (λ (s : State). s.claims who) (state_after-append layout history events) ∙ claims_from-others layout (state_after layout history) who other events apart all
 
 -- another mutator's share leaves what this one claims
-pub claims_after-share : (now new : Recorded) (run who other : ℕ) (stopped : Bool) → who ≢ other → IsAtRest now → RanShare now new run other stopped →
+pub claims_after-share : (now new : Recorded) (run who other : ℕ) (stopped : Bool) → who ≢ other → IsSettled now → RanShare now new run other stopped →
     new.state.claims who ≡ now.state.claims who
 claims_after-share now new run who other stopped apart recorded ran =
-    ap (λ (s : State). s.claims who) (sym ran.at_rest.leaves)
+    ap (λ (s : State). s.claims who) (sym ran.settled.leaves)
     ∙ ap (λ (s : Setting). (state_after s.layout new.history).claims who) ran.same
     ∙ ap (λ (h : List Event). (state_after now.setting.layout h).claims who) ran.history
     ∙ ap (λ (s : State). s.claims who) (state_after-append now.setting.layout now.history ran.events)
@@ -125,7 +125,7 @@ left-some ops standing claims stays =
 
 -- a call leaves at least one less
 pub left-called : (old new : Recorded) (who : ℕ) (ops : List Op) (standing : Standing) (calls : List (Op × Reply)) (op : Op) (reply : Reply) →
-    IsAtRest old → IsMutatorAt old who ops standing calls → standing.retired ≡ false → op ≡ next_of ops standing (length (old.state.claims who)) → MadeCall old new who op reply →
+    IsSettled old → IsMutatorAt old who ops standing calls → standing.retired ≡ false → op ≡ next_of ops standing (length (old.state.claims who)) → MadeCall old new who op reply →
     left_at ops (after_reply ops standing op reply) (length (new.state.claims who)) + 1 ≤ left_at ops standing (length (old.state.claims who))
 left-called old new who ops standing calls op reply recorded at stays is made =
     subst (λ (r : Bool). left_at ops (after_reply ops standing op reply) (length (new.state.claims who)) + 1 ≤ left_by r (nat_lt standing.done (length ops)) standing.retry more claims) (sym stays)
@@ -141,10 +141,10 @@ left-called old new who ops standing calls op reply recorded at stays is made =
     next = subst (IsNext ops standing.done claims) (sym is) (next_cases ops standing claims)
 
     few : length (new.state.claims who) ≤ 8
-    few = made.at_rest.few who
+    few = made.settled.few who
 
     leaves : new.state ≡ after_call old.state who op reply made.took
-    leaves = sym made.at_rest.leaves ∙ ap (λ (s : Setting). state_after s.layout new.history) made.same ∙ ap (state_after old.setting.layout) made.history
+    leaves = sym made.settled.leaves ∙ ap (λ (s : Setting). state_after s.layout new.history) made.same ∙ ap (state_after old.setting.layout) made.history
         ∙ state_after-push old.setting.layout old.history (called who op reply made.took) ∙ ap (λ (s : State). after_call s who op reply made.took) recorded.leaves
 
     -- whether it is a first refusal, and whether operations are left before and after
@@ -233,7 +233,7 @@ total_by-share one other (first ∷ callers) (suc at) caller old found same =
     omega (arith, here, later)
 
 -- the caller's, after it recorded the reply
-pub left-took : (old new : Recorded) (caller took : Caller) (op : Op) (reply : Reply) → IsAtRest old → IsCaller old caller → caller.retired ≡ false →
+pub left-took : (old new : Recorded) (caller took : Caller) (op : Op) (reply : Reply) → IsSettled old → IsCaller old caller → caller.retired ≡ false →
     op ≡ next_of caller.ops.items (standing_of caller) (length (old.state.claims caller.who)) → MadeCall old new caller.who op reply → TookReply caller took op reply →
     left_of new.state.claims took + 1 ≤ left_of old.state.claims caller
 left-took old new caller took op reply recorded at stays is made record' =

@@ -8,11 +8,11 @@ use Rattle.tide_model.specs.Script.{calls_of, retry_of}
 use Rattle.tide_model.specs.Share.{IsShare, MayCall, has_ended}
 use Rattle.tide_model.specs.Each.{Each}
 use Rattle.tide_model.specs.Since.{is_call}
-use Rattle.tide_periods.specs.Recorded.{HasSameCounts, IsAtRest, Recorded}
+use Rattle.tide_periods.specs.Recorded.{HasSameCounts, IsSettled, Recorded}
 
 -- the calls that a mutator made so far in a part, the last of which ended its share or not
 pub record IsSharing (old now : Recorded) (run who made : ℕ) (ended : Bool) : Type 0 where
-  pub at_rest : IsAtRest now
+  pub settled : IsSettled now
   pub same : now.setting ≡ old.setting
   pub counts : HasSameCounts old now
   pub events : List Event
@@ -24,7 +24,7 @@ pub record IsSharing (old now : Recorded) (run who made : ℕ) (ended : Bool) : 
 
 -- the first mutators made their calls of a part, one after another, and the others none
 pub record IsPartway (old now : Recorded) (run count : ℕ) (ended : Bool) : Type 0 where
-  pub at_rest : IsAtRest now
+  pub settled : IsSettled now
   pub same : now.setting ≡ old.setting
   pub counts : HasSameCounts old now
   pub part : List Event

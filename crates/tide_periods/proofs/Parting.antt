@@ -29,7 +29,7 @@ use Rattle.tide_periods.specs.Asking.{IsAskable, IsAt, IsCaller, IsMutatorAt, St
 use Rattle.tide_periods.proofs.PartLoops.{IsPartway}
 use Rattle.tide_periods.specs.Part.{AreCallers, RanShare}
 use Rattle.tide_periods.specs.Store.{Setting}
-use Rattle.tide_periods.specs.Recorded.{IsAtRest, Recorded}
+use Rattle.tide_periods.specs.Recorded.{IsSettled, Recorded}
 use Rattle.tide_model.proofs.ActiveLaws.{active_after-call}
 use Rattle.tide_periods.proofs.LeftLaws.{from-others, claims_after-others}
 use Rattle.tide_periods.proofs.Sharing.{retry_of-events}
@@ -110,9 +110,9 @@ IsShare-by run retry retry' active active' calls calls' e1 e2 e3 share =
     subst (λ (r : Option Op). IsShare run r active' calls') e1 (subst (λ (a : Bool). IsShare run retry a calls') e2 (subst (IsShare run retry active) e3 share))
 
 -- no mutator made a call yet
-pub IsPartway-nothing : (old : Recorded) (run : ℕ) → IsAtRest old → IsPartway old old run 0 false
-IsPartway-nothing old run at_rest = record {
-  at_rest = at_rest;
+pub IsPartway-nothing : (old : Recorded) (run : ℕ) → IsSettled old → IsPartway old old run 0 false
+IsPartway-nothing old run settled = record {
+  settled = settled;
   same = refl;
   counts = record { cycles = refl; parts = refl };
   part = [];
@@ -127,7 +127,7 @@ IsPartway-nothing old run at_rest = record {
 pub IsPartway-share : (old now new : Recorded) (run count : ℕ) (ended stopped : Bool) → IsPartway old now run count ended → RanShare now new run count stopped →
     IsPartway old new run (suc count) (ended || stopped)
 IsPartway-share old now new run count ended stopped way ran = record {
-  at_rest = ran.at_rest;
+  settled = ran.settled;
   same = ran.same ∙ way.same;
   counts = record { cycles = ran.counts.cycles ∙ way.counts.cycles; parts = ran.counts.parts ∙ way.counts.parts };
   part = way.part ++ ran.events;
@@ -225,7 +225,7 @@ IsMutatorAt-others now new run who other stopped ops standing calls apart ran at
 
 -- the callers stand where they stood, after entries of which none is a call or changes who is active and what is claimed
 pub AreCallers-same : (now new : Recorded) (callers : List Caller) (events : List Event) → new.setting ≡ now.setting → new.history ≡ now.history ++ events →
-    ((who : ℕ) → calls_of who events ≡ []) → IsAtRest now → IsAtRest new → new.state.active ≡ now.state.active → new.state.claims ≡ now.state.claims → AreCallers now callers → AreCallers new callers
+    ((who : ℕ) → calls_of who events ≡ []) → IsSettled now → IsSettled new → new.state.active ≡ now.state.active → new.state.claims ≡ now.state.claims → AreCallers now callers → AreCallers new callers
 AreCallers-same now new callers events same history quiet rest_now rest_new active held are = record {
   one_each = are.one_each ∙ ap (λ (s : Setting). s.layout.mutators) (sym same);
   each = λ k c found.

@@ -1,6 +1,5 @@
 -- How what a recorder knows grows by one entry.
-use Rattle.std.proofs.Common.{ℕ, ◌≡◌, ◌+◌, refl, sym, ◌∙◌, ap, subst, List, [], ◌∷◌, ◌++◌, add-zero}
-use Rattle.std.proofs.lemmas.List.{map-append}
+use Rattle.std.proofs.Common.{ℕ, ◌≡◌, ◌+◌, refl, sym, ◌∙◌, ap, subst, true, false, List, [], ◌∷◌, ◌++◌, add-zero}
 use Rattle.std.specs.Prelude.{Option, if◌then◌else◌}
 use Rattle.tide_model.specs.declared.op.Op.{Op}
 use Rattle.tide_model.specs.declared.op.Reply.{Reply}
@@ -17,13 +16,14 @@ use Rattle.tide_model.specs.Layout.{Layout, IsBlockOf}
 use Rattle.tide_model.specs.Periods.{EndsInTime, open_count}
 use Rattle.tide_model.specs.Room.{IsFullBlock}
 use Rattle.tide_model.specs.Each.{Each}
-use Rattle.tide_model.specs.State.{State, idle}
+use Rattle.tide_model.specs.State.{State}
+use Rattle.tide_model.specs.Since.{is_end}
 use Rattle.tide_model.proofs.Histories.{IsLawful-push, push_cases, state_after-push}
 use Rattle.tide_model.proofs.SinceLaws.{count-push}
 use Rattle.tide_periods.specs.declared.told.Told.{Told}
 use Rattle.tide_periods.specs.Store.{Setting, blocks_in}
-use Rattle.tide_periods.specs.Told.{AreCounted, IsCounted, events_of, uncounted}
-use Rattle.tide_periods.specs.Recorded.{IsAtRest, MadeCall, MayAsk, OpenedPart, Recorded}
+use Rattle.tide_periods.specs.Told.{AreCounted, IsCounted, StandsIdle, events_of, uncounted}
+use Rattle.tide_periods.specs.Recorded.{IsSettled, MadeCall, MayAsk, OpenedPart, Recorded}
 use Rattle.tide_model.proofs.PhaseLaws.{phase_after-call}
 use Rattle.tide_model.proofs.Windows.{StandsFull-now}
 use Rattle.tide_model.proofs.CallKeeps.{HasFewClaims, HasFewClaims-call, HasNoNewDead, HasNoNewDead-call, same_dead}
@@ -34,7 +34,6 @@ abbrev pub recorded_of : Setting → State → List Told → ℕ → ℕ → ℕ
 recorded_of setting state told cycles parts blocks = record {
   setting = setting;
   state = state;
-  told = told;
   history = events_of told;
   cycles = cycles;
   parts = parts;
@@ -46,17 +45,12 @@ IsSwept-grown : (layout : Layout) (one other : State) → HasNoNewDead one other
 IsSwept-grown layout one other none clean block (dead_cell cell within at is) = clean block (dead_cell cell within at (none.cells cell is))
 IsSwept-grown layout one other none clean block (dead_array array within at is) = clean block (dead_array array within at (none.arrays array is))
 
--- one entry more, after which the store is at rest and swept
-pub IsAtRest-event : (old new : Recorded) (one : Told) → IsAtRest old → new.setting ≡ old.setting → new.history ≡ old.history ++ one.event ∷ [] →
-    new.told ≡ old.told ++ one ∷ [] → IsCounted old.setting.layout old.history one →
-    new.state ≡ after_event old.setting.layout old.state one.event → new.cycles ≡ old.cycles + (if is_begin one.event.entry then 1 else 0) → new.parts ≡ old.parts + (if is_open one.event.entry then 1 else 0) →
-    new.blocks ≡ old.blocks → Stands old.setting.layout old.setting.shapes old.history one.event → EndsInTime old.setting.layout old.history one.event → new.state.phase ≡ idle →
-    HasNoNewDead old.state new.state → HasFewClaims new.state → IsAtRest new
-IsAtRest-event old new one recorded same history told counted state cycles parts blocks stands ends rests dead few = record {
-  tells = ap events_of told ∙ map-append (λ t. t.event) old.told (one ∷ []) ∙ ap (λ (h : List Event). h ++ one.event ∷ []) recorded.tells ∙ sym history;
-  counted = subst (λ (s : Setting). AreCounted s.layout new.told) (sym same) (subst (AreCounted layout) (sym told)
-      (push_cases (λ before t. IsCounted layout (events_of before) t) old.told one recorded.counted
-      (subst (λ (h : List Event). IsCounted layout h one) (sym recorded.tells) counted)));
+-- one entry more, after which nothing is dead
+pub IsSettled-event : (old new : Recorded) (event : Event) → IsSettled old → new.setting ≡ old.setting → new.history ≡ old.history ++ event ∷ [] →
+    new.state ≡ after_event old.setting.layout old.state event → new.cycles ≡ old.cycles + (if is_begin event.entry then 1 else 0) → new.parts ≡ old.parts + (if is_open event.entry then 1 else 0) →
+    new.blocks ≡ old.blocks → Stands old.setting.layout old.setting.shapes old.history event → EndsInTime old.setting.layout old.history event →
+    HasNoNewDead old.state new.state → HasFewClaims new.state → IsSettled new
+IsSettled-event old new event recorded same history state cycles parts blocks stands ends dead few = record {
   lawful = subst (λ (s : Setting). IsLawful s.layout s.shapes new.history) (sym same)
       (subst (IsLawful layout old.setting.shapes) (sym history) (IsLawful-push layout old.setting.shapes old.history event recorded.lawful stands));
   ends = subst (λ (s : Setting). Each (EndsInTime s.layout) new.history) (sym same)
@@ -64,7 +58,6 @@ IsAtRest-event old new one recorded same history told counted state cycles parts
   leaves = leaves;
   begun = ap begin_count history ∙ count-push (λ e. is_begin e.entry) old.history event ∙ ap (λ (n : ℕ). n + (if is_begin event.entry then 1 else 0)) recorded.begun ∙ sym cycles;
   opens = ap open_count history ∙ count-push (λ e. is_open e.entry) old.history event ∙ ap (λ (n : ℕ). n + (if is_open event.entry then 1 else 0)) recorded.opens ∙ sym parts;
-  rests = rests;
   swept = subst (λ (s : Setting). (block : ℕ) → HasDead s.layout (state_after s.layout new.history) block → ⊥) (sym same)
       (subst (λ (s : State). (block : ℕ) → HasDead layout s block → ⊥) (sym leaves_here)
       (IsSwept-grown layout old.state new.state dead (subst (λ (s : State). (block : ℕ) → HasDead layout s block → ⊥) recorded.leaves recorded.swept)));
@@ -75,9 +68,6 @@ IsAtRest-event old new one recorded same history told counted state cycles parts
     layout : Layout
     layout = old.setting.layout
 
-    event : Event
-    event = one.event
-
     leaves_here : state_after layout new.history ≡ new.state
     leaves_here = ap (state_after layout) history ∙ state_after-push layout old.history event ∙ ap (λ (s : State). after_event layout s event) recorded.leaves ∙ sym state
 
@@ -85,13 +75,13 @@ IsAtRest-event old new one recorded same history told counted state cycles parts
     leaves = ap (λ (s : Setting). state_after s.layout new.history) same ∙ leaves_here
 
 -- a call was made and recorded
-pub MadeCall-did : (old new : Recorded) (who : ℕ) (op : Op) (reply : Reply) (took : Option ℕ) → IsAtRest old → MayAsk old who op →
+pub MadeCall-did : (old new : Recorded) (who : ℕ) (op : Op) (reply : Reply) (took : Option ℕ) → IsSettled old → MayAsk old who op →
     IsAnswer old.setting.layout old.setting.shapes old.state who op reply took → new.state ≡ after_call old.state who op reply took →
     ((class : ℕ) → reply ≡ Refused (Full class) → (block : ℕ) → IsBlockOf old.setting.layout class block → IsFullBlock old.setting.layout old.state block) →
-    new.setting ≡ old.setting → new.history ≡ old.history ++ called who op reply took ∷ [] → new.told ≡ old.told ++ uncounted (called who op reply took) ∷ [] → new.cycles ≡ old.cycles → new.parts ≡ old.parts → new.blocks ≡ old.blocks →
+    new.setting ≡ old.setting → new.history ≡ old.history ++ called who op reply took ∷ [] → new.cycles ≡ old.cycles → new.parts ≡ old.parts → new.blocks ≡ old.blocks →
     MadeCall old new who op reply
-MadeCall-did old new who op reply took recorded may answers state room same history told cycles parts blocks = record {
-  at_rest = IsAtRest-event old new (uncounted (called who op reply took)) recorded same history told (λ cycle freed is. absurd (cc)) state (cycles ∙ sym (add-zero old.cycles)) (parts ∙ sym (add-zero old.parts)) blocks (record {
+MadeCall-did old new who op reply took recorded may answers state room same history cycles parts blocks = record {
+  settled = IsSettled-event old new (called who op reply took) recorded same history state (cycles ∙ sym (add-zero old.cycles)) (parts ∙ sym (add-zero old.parts)) blocks (record {
     is_mutator = may.is_mutator;
     is_active = ap (λ (s : State). s.active who) recorded.leaves ∙ may.is_active;
     fits = may.fits;
@@ -100,7 +90,6 @@ MadeCall-did old new who op reply took recorded may answers state room same hist
         (λ block of_class. subst (λ (s : State). IsFullBlock old.setting.layout s block) (sym recorded.leaves) (room class is block of_class));
   })
       (record { kept = λ cycle freed is. absurd (cc); swept = λ cycle freed is. absurd (cc) })
-      (ap (λ (s : State). s.phase) state ∙ phase_after-call old.state who op reply took ∙ recorded.rests)
       (subst (HasNoNewDead old.state) (sym state) (HasNoNewDead-call old.state who op reply took))
       (subst HasFewClaims (sym state) (HasFewClaims-call old.setting.layout old.setting.shapes old.state who op reply took recorded.few answers));
   same = same;
@@ -111,15 +100,40 @@ MadeCall-did old new who op reply took recorded may answers state room same hist
 }
 
 -- a part was opened and recorded
-pub OpenedPart-did : (old new : Recorded) (run number : ℕ) → IsAtRest old → number ≡ old.parts + 1 → new.state ≡ old.state → new.setting ≡ old.setting →
-    new.history ≡ old.history ++ plain (Open number run) ∷ [] → new.told ≡ old.told ++ uncounted (plain (Open number run)) ∷ [] → new.cycles ≡ old.cycles → new.parts ≡ old.parts + 1 → new.blocks ≡ old.blocks → OpenedPart old new run
-OpenedPart-did old new run number recorded numbered state same history told cycles parts blocks = record {
-  at_rest = IsAtRest-event old new (uncounted (plain (Open number run))) recorded same history told (λ cycle freed is. absurd (cc)) state (cycles ∙ sym (add-zero old.cycles)) parts blocks refl
+pub OpenedPart-did : (old new : Recorded) (run number : ℕ) → IsSettled old → number ≡ old.parts + 1 → new.state ≡ old.state → new.setting ≡ old.setting →
+    new.history ≡ old.history ++ plain (Open number run) ∷ [] → new.cycles ≡ old.cycles → new.parts ≡ old.parts + 1 → new.blocks ≡ old.blocks → OpenedPart old new run
+OpenedPart-did old new run number recorded numbered state same history cycles parts blocks = record {
+  settled = IsSettled-event old new (plain (Open number run)) recorded same history state (cycles ∙ sym (add-zero old.cycles)) parts blocks refl
       (record { kept = λ cycle freed is. absurd (cc); swept = λ cycle freed is. absurd (cc) })
-      (ap (λ (s : State). s.phase) state ∙ recorded.rests) (subst (HasNoNewDead old.state) (sym state) (same_dead old.state)) (subst HasFewClaims (sym state) recorded.few);
+      (subst (HasNoNewDead old.state) (sym state) (same_dead old.state)) (subst HasFewClaims (sym state) recorded.few);
   same = same;
   state = state;
   cycles = cycles;
   parts = parts;
   history = history ∙ ap (λ (n : ℕ). old.history ++ plain (Open n run) ∷ []) (numbered ∙ ap (λ (n : ℕ). n + 1) (sym recorded.opens));
+}
+
+-- what is told grows by an event that ends no cycle
+AreCounted-other : (layout : Layout) (told more : List Told) (one : Told) → AreCounted layout told → more ≡ told ++ one ∷ [] →
+    is_end one.event.entry ≡ false → AreCounted layout more
+AreCounted-other layout told more one are is other =
+    subst (AreCounted layout) (sym is)
+    (push_cases (λ before t. IsCounted layout (events_of before) t) told one are
+    (λ cycle freed ends. absurd (let clash : true ≡ false = ap is_end (sym ends) ∙ other in cc)))
+
+-- a call, or an opened part, leaves what holds beside what is recorded
+pub StandsIdle-called : (layout layout_now : Layout) (state state_now : State) (told more : List Told) (who : ℕ) (op : Op) (reply : Reply) (took : Option ℕ) →
+    StandsIdle layout state told → layout_now ≡ layout → state_now ≡ after_call state who op reply took →
+    more ≡ told ++ uncounted (called who op reply took) ∷ [] → StandsIdle layout_now state_now more
+StandsIdle-called layout layout_now state state_now told more who op reply took stands same is is_told = record {
+  rests = ap (λ (s : State). s.phase) is ∙ phase_after-call state who op reply took ∙ stands.rests;
+  counted = subst (λ (l : Layout). AreCounted l more) (sym same)
+      (AreCounted-other layout told more (uncounted (called who op reply took)) stands.counted is_told refl);
+}
+
+pub StandsIdle-opened : (layout : Layout) (state : State) (told more : List Told) (number run : ℕ) →
+    StandsIdle layout state told → more ≡ told ++ uncounted (plain (Open number run)) ∷ [] → StandsIdle layout state more
+StandsIdle-opened layout state told more number run stands is_told = record {
+  rests = stands.rests;
+  counted = AreCounted-other layout told more (uncounted (plain (Open number run))) stands.counted is_told refl;
 }

@@ -12,7 +12,7 @@ use Rattle.tide_model.specs.declared.entry.Event.{Event}
 use Rattle.tide_model.specs.Cycle.{live_count}
 use Rattle.tide_model.specs.History.{state_after}
 use Rattle.tide_model.specs.Pace.{Pace}
-use Rattle.tide_model.specs.Periods.{ArePeriods, IsLegal, one_more}
+use Rattle.tide_model.specs.Periods.{ArePeriods, IsLegal, next_run, one_more}
 use Rattle.tide_model.specs.Script.{calls_of}
 use Rattle.tide_model.specs.Whole.{IsWhole}
 use Rattle.tide_periods.specs.declared.caller.Caller.{Caller}
@@ -24,22 +24,22 @@ use Rattle.tide_periods.specs.Periods.{RanAll, RanPeriod}
 use Rattle.tide_periods.specs.Run.{HasRun}
 use Rattle.tide_periods.specs.Store.{Setting}
 use Rattle.tide_periods.specs.Told.{AreCounted, events_of, pair_of}
-use Rattle.tide_periods.specs.Recorded.{IsAtRest, Recorded}
+use Rattle.tide_periods.specs.Recorded.{IsSettled, Recorded}
 use Rattle.tide_periods.proofs.Freezing.{is_over-callers}
 
 -- one more period
-pub ArePeriods-ran : (old new : Recorded) (pace : Pace) → RanPeriod old new pace → ArePeriods pace old.setting.layout old.history → ArePeriods pace new.setting.layout new.history
-ArePeriods-ran old new pace ran periods =
+pub ArePeriods-ran : (old new : Recorded) (pace : Pace) (run : ℕ) → RanPeriod old new pace run → ArePeriods pace old.setting.layout old.history → ArePeriods pace new.setting.layout new.history
+ArePeriods-ran old new pace run ran periods =
     subst (λ (s : Setting). ArePeriods pace s.layout new.history) (sym ran.same)
     (subst (ArePeriods pace old.setting.layout) (sym ran.history) (one_more old.history ran.period periods ran.stands))
 
 -- all mutators have retired
-pub RanAll-over : (recorded : Recorded) (pace : Pace) (callers : List Caller) → IsAtRest recorded → AreCallers recorded callers → ArePeriods pace recorded.setting.layout recorded.history →
+pub RanAll-over : (recorded : Recorded) (pace : Pace) (callers : List Caller) → IsSettled recorded → AreCallers recorded callers → ArePeriods pace recorded.setting.layout recorded.history →
     list_all (λ caller. caller.retired) callers ≡ true → RanAll recorded pace callers
-RanAll-over recorded pace callers at_rest are periods all = record {
-  at_rest = at_rest;
+RanAll-over recorded pace callers settled are periods all = record {
+  settled = settled;
   callers' = are;
-  scheduled = record { periods = periods; ends = at_rest.ends; over = sym (is_over-callers recorded callers are) ∙ all };
+  scheduled = record { periods = periods; ends = settled.ends; over = sym (is_over-callers recorded callers are) ∙ all };
   scripts = scripts;
 }
   where
@@ -76,12 +76,12 @@ found_before f (x ∷ xs) (suc place) y is = found_before f xs place y is
 
 -- what a run leaves, from the mutators when all have retired
 pub HasRun-over : (setting : Setting) (pace : Pace) (scripts : List (List Op)) (recorded : Recorded) (callers : List Caller) (told : List Told) (calls : List (List Answered)) (live : ℕ) →
-    RanAll recorded pace callers → recorded.setting ≡ setting → scripts_of callers ≡ scripts → told ≡ recorded.told → calls ≡ map (λ caller. caller.calls.items) callers →
+    RanAll recorded pace callers → recorded.setting ≡ setting → scripts_of callers ≡ scripts → events_of told ≡ recorded.history → AreCounted recorded.setting.layout told → calls ≡ map (λ caller. caller.calls.items) callers →
     live ≡ live_count recorded.setting.layout recorded.state → HasRun setting pace scripts told calls live
-HasRun-over setting pace scripts recorded callers told calls live ran same own_scripts is_told are living =
+HasRun-over setting pace scripts recorded callers told calls live ran same own_scripts history counted are living =
     subst (λ (s : Setting). HasRun s pace scripts told calls live) same (record {
-      legal = subst (IsLegal pace recorded.setting.layout recorded.setting.shapes) (sym history) (record { lawful = ran.at_rest.lawful; scheduled = ran.scheduled });
-      counted = subst (AreCounted recorded.setting.layout) (sym is_told) ran.at_rest.counted;
+      legal = subst (IsLegal pace recorded.setting.layout recorded.setting.shapes) (sym history) (record { lawful = ran.settled.lawful; scheduled = ran.scheduled });
+      counted = counted;
       whole = λ who ops found.
           let one = found_before (λ (c : Caller). c.ops.items) callers who ops (ap (λ (lists : List (List Op)). slice_get lists who) own_scripts ∙ found) in
           subst (λ (h : List Event). IsWhole recorded.setting.layout h who ops) (sym history)
@@ -97,8 +97,9 @@ HasRun-over setting pace scripts recorded callers told calls live ran same own_s
           subst (λ (o : List Op). All (λ call. IsAskedBy o call.0) (calls_of who (events_of told))) one.2
           (subst (All (λ call. IsAskedBy one.0.ops.items call.0))
           (sym known.1.are ∙ ap (λ (w : ℕ). calls_of w recorded.history) known.0 ∙ ap (calls_of who) (sym history)) known.1.asked);
-      living = living ∙ ap (live_count recorded.setting.layout) (sym ran.at_rest.leaves) ∙ ap (λ (h : List Event). live_count recorded.setting.layout (state_after recorded.setting.layout h)) (sym history);
+      living = living ∙ ap (live_count recorded.setting.layout) (sym ran.settled.leaves) ∙ ap (λ (h : List Event). live_count recorded.setting.layout (state_after recorded.setting.layout h)) (sym history);
     })
-  where
-    history : events_of told ≡ recorded.history
-    history = ap events_of is_told ∙ ran.at_rest.tells
+
+-- before anything happened a part has all calls of a period
+pub run_of_nothing : (pace : Pace) (recorded : Recorded) → recorded.history ≡ [] → pace.period ≡ next_run pace recorded.setting.layout recorded.history
+run_of_nothing pace recorded nothing = ap (next_run pace recorded.setting.layout) (sym nothing)

@@ -17,14 +17,14 @@ use Rattle.tide_periods.specs.Told.{pair_of}
 use Rattle.tide_periods.specs.Asking.{IsCaller, IsMutatorAt, Standing, TookReply, after_reply, next_of, op_or_leave, standing_of}
 use Rattle.tide_periods.proofs.PartLoops.{IsSharing}
 use Rattle.tide_periods.specs.Part.{RanShare}
-use Rattle.tide_periods.specs.Recorded.{IsAtRest, MadeCall, Recorded}
+use Rattle.tide_periods.specs.Recorded.{IsSettled, MadeCall, Recorded}
 use Rattle.tide_model.proofs.PeriodLaws.{Each-nil}
 use Rattle.tide_periods.proofs.CallerLaws.{IsMutatorAt-called, called, calls_of-push, retry_after-flag, is_some-flag}
 
 -- no call was made yet
-pub IsSharing-nothing : (old : Recorded) (run who : ℕ) → IsAtRest old → IsSharing old old run who 0 false
-IsSharing-nothing old run who at_rest = record {
-  at_rest = at_rest;
+pub IsSharing-nothing : (old : Recorded) (run who : ℕ) → IsSettled old → IsSharing old old run who 0 false
+IsSharing-nothing old run who settled = record {
+  settled = settled;
   same = refl;
   counts = record { cycles = refl; parts = refl };
   events = [];
@@ -44,7 +44,7 @@ pub IsSharing-called : (old now new : Recorded) (run who made : ℕ) (ops : List
     IsSharing old now run who made false → made < run → IsMutatorAt now who ops standing calls → op ≡ next_of ops standing claims → MadeCall now new who op reply →
     IsSharing old new run who (made + 1) (is_asked reply || (not standing.retry && is_full_reply reply))
 IsSharing-called old now new run who made ops standing calls claims op reply sharing below at is call = record {
-  at_rest = call.at_rest;
+  settled = call.settled;
   same = call.same ∙ sharing.same;
   counts = record { cycles = call.counts.cycles ∙ sharing.counts.cycles; parts = call.counts.parts ∙ sharing.counts.parts };
   events = sharing.events ++ event ∷ [];
@@ -82,7 +82,7 @@ IsSharing-called old now new run who made ops standing calls claims op reply sha
 pub RanShare-over : (old new : Recorded) (run who made : ℕ) → IsSharing old new run who made false →
     (made < run → (state_after new.setting.layout new.history).active who ≡ false) → RanShare old new run who false
 RanShare-over old new run who made sharing fewer = record {
-  at_rest = sharing.at_rest;
+  settled = sharing.settled;
   same = sharing.same;
   counts = sharing.counts;
   events = sharing.events;
@@ -95,7 +95,7 @@ RanShare-over old new run who made sharing fewer = record {
 -- the last call ended the share
 pub RanShare-stops : (old new : Recorded) (run who made : ℕ) → IsSharing old new run who made true → RanShare old new run who true
 RanShare-stops old new run who made sharing = record {
-  at_rest = sharing.at_rest;
+  settled = sharing.settled;
   same = sharing.same;
   counts = sharing.counts;
   events = sharing.events;
@@ -115,7 +115,7 @@ IsMutatorAt-by recorded who who' ops ops' standing standing' calls calls' e1 e2 
     (subst (IsMutatorAt recorded who ops standing) e4 at)))
 
 -- a caller that recorded the reply to its call
-pub IsCaller-took : (old new : Recorded) (caller took : Caller) (op : Op) (reply : Reply) → IsAtRest old → IsCaller old caller → caller.retired ≡ false →
+pub IsCaller-took : (old new : Recorded) (caller took : Caller) (op : Op) (reply : Reply) → IsSettled old → IsCaller old caller → caller.retired ≡ false →
     op ≡ next_of caller.ops.items (standing_of caller) (length (old.state.claims caller.who)) → MadeCall old new caller.who op reply → TookReply caller took op reply →
     IsCaller new took
 IsCaller-took old new caller took op reply recorded at stays is made record' =

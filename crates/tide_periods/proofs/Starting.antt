@@ -15,9 +15,11 @@ use Rattle.tide_periods.specs.declared.caller.Caller.{Caller}
 use Rattle.tide_periods.specs.Asking.{AreNew, IsAskable, IsMutatorAt, IsNew, Standing, standing_of, IsAskedBy}
 use Rattle.tide_periods.specs.Left.{left_by, left_of, total_by}
 use Rattle.tide_periods.specs.Part.{AreCallers}
-use Rattle.tide_periods.specs.Recorded.{IsAtRest, Recorded}
+use Rattle.tide_periods.specs.Recorded.{IsSettled, Recorded}
 use Rattle.tide_periods.specs.Store.{Setting, blocks_in}
-use Rattle.tide_periods.specs.Told.{IsCounted, events_of, pair_of}
+use Rattle.tide_model.specs.Layout.{Layout}
+use Rattle.tide_periods.specs.declared.told.Told.{Told}
+use Rattle.tide_periods.specs.Told.{AreCounted, IsCounted, StandsIdle, events_of, pair_of}
 
 slice_get-push : {X : Type 0} (xs : List X) (x : X) (k : ℕ) (y : X) → slice_get (xs ++ x ∷ []) k ≡ Some y → (slice_get xs k ≡ Some y) ⊎ ((k ≡ length xs) × (x ≡ y))
 slice_get-push [] x zero y is = inr (refl, cc)
@@ -110,18 +112,15 @@ total-few claims (caller ∷ callers) few short =
     let later = total-few claims callers few (All-tail (λ (ops : List Op). length ops ≤ 65536) caller.ops.items (map (λ (c : Caller). c.ops.items) callers) short) in
     omega (arith, here, later)
 
--- a store on which nothing was run is at rest and swept
-pub IsAtRest-nothing : (setting : Setting) (state : State) (blocks : ℕ) → state ≡ empty_state → blocks ≡ blocks_in setting →
-    IsAtRest (record { setting = setting; state = state; told = []; history = []; cycles = 0; parts = 0; blocks = blocks })
-IsAtRest-nothing setting state blocks empty counted = record {
-  tells = refl;
-  counted = Each-nil (λ before one. IsCounted setting.layout (events_of before) one);
+-- a store on which nothing was run is settled
+pub IsSettled-nothing : (setting : Setting) (state : State) (blocks : ℕ) → state ≡ empty_state → blocks ≡ blocks_in setting →
+    IsSettled (record { setting = setting; state = state; history = []; cycles = 0; parts = 0; blocks = blocks })
+IsSettled-nothing setting state blocks empty counted = record {
   lawful = Each-nil (Stands setting.layout setting.shapes);
   ends = Each-nil (EndsInTime setting.layout);
   leaves = sym empty;
   begun = refl;
   opens = refl;
-  rests = ap (λ (s : State). s.phase) empty;
   swept = none_dead;
   few = λ who. subst (λ (s : State). length (s.claims who) ≤ 8) (sym empty) (omega arith);
   blocks = counted;
@@ -130,3 +129,10 @@ IsAtRest-nothing setting state blocks empty counted = record {
     none_dead : IsSwept setting.layout []
     none_dead block (dead_cell cell within at is) = absurd (cc)
     none_dead block (dead_array array within at is) = absurd (cc)
+
+-- nothing was told yet, and no cycle marks
+pub StandsIdle-nothing : (layout : Layout) (state : State) (told : List Told) → state ≡ empty_state → told ≡ [] → StandsIdle layout state told
+StandsIdle-nothing layout state told empty none = record {
+  rests = ap (λ (s : State). s.phase) empty;
+  counted = subst (AreCounted layout) (sym none) (Each-nil (λ before one. IsCounted layout (events_of before) one));
+}

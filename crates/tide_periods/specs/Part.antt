@@ -9,11 +9,11 @@ use Rattle.tide_model.specs.Share.{IsShare, has_ended}
 use Rattle.tide_model.specs.Since.{is_call}
 use Rattle.tide_periods.specs.declared.caller.Caller.{Caller}
 use Rattle.tide_periods.specs.Asking.{IsCaller}
-use Rattle.tide_periods.specs.Recorded.{HasSameCounts, IsAtRest, Recorded}
+use Rattle.tide_periods.specs.Recorded.{HasSameCounts, IsSettled, Recorded}
 
 -- a mutator made its calls of a part
 pub record RanShare (old new : Recorded) (run who : ℕ) (ended : Bool) : Type 0 where
-  pub at_rest : IsAtRest new
+  pub settled : IsSettled new
   pub same : new.setting ≡ old.setting
   pub counts : HasSameCounts old new
   pub events : List Event
@@ -31,7 +31,7 @@ pub record AreCallers (recorded : Recorded) (callers : List Caller) : Type 0 whe
 
 -- each mutator made its share of the calls of a part
 pub record RanPart (old new : Recorded) (run : ℕ) (ended : Bool) : Type 0 where
-  pub at_rest : IsAtRest new
+  pub settled : IsSettled new
   pub same : new.setting ≡ old.setting
   pub counts : HasSameCounts old new
   pub part : List Event

@@ -1,23 +1,24 @@
 -- What a freeze, a period and a run did.
-use Rattle.std.specs.Prelude.{ℕ, ◌≡◌, ◌+◌, ◌≤◌, ◌++◌, Bool, List, [], slice_get, Some}
+use Rattle.std.specs.Prelude.{ℕ, ◌≡◌, ◌+◌, ◌<◌, ◌≤◌, ◌++◌, Bool, List, [], slice_get, Some}
 use Rattle.tide_model.specs.declared.entry.Event.{Event}
 use Rattle.tide_model.specs.Freeze.{IsFreeze, marks_of}
 use Rattle.tide_model.specs.Pace.{Pace}
-use Rattle.tide_model.specs.Periods.{IsScheduled, Period, StandsPeriod, after_period}
+use Rattle.tide_model.specs.Periods.{IsScheduled, Period, StandsPeriod, after_period, next_run}
 use Rattle.tide_model.specs.Script.{calls_of}
 use Rattle.tide_model.specs.Whole.{IsWhole}
 use Rattle.tide_periods.specs.declared.caller.Caller.{Caller}
-use Rattle.tide_periods.specs.declared.periods.Pacing.{Pacing}
+use Rattle.tide_periods.specs.declared.pacing.Pacing.{Pacing}
 use Rattle.tide_periods.specs.Part.{AreCallers}
-use Rattle.tide_periods.specs.Recorded.{IsAtRest, Recorded}
+use Rattle.tide_periods.specs.Recorded.{IsSettled, Recorded}
 
 -- the numbers of a run
 abbrev pub pace_of : Pacing → Pace
-pace_of pacing = record { period = pacing.period; headroom = pacing.headroom; trigger = 0 }
+pace_of pacing = record { period = pacing.period; headroom = pacing.headroom; trigger = pacing.trigger }
 
--- a freeze of a store that can't mark across parts
-pub record RanFreeze (old new : Recorded) (is_must : Bool) : Type 0 where
-  pub at_rest : IsAtRest new
+-- A freeze did what the schedule asks for after any running part. Each mutator has so many calls in the next part, and
+-- at least one.
+pub record RanFreeze (old new : Recorded) (pace : Pace) (is_must : Bool) (run : ℕ) : Type 0 where
+  pub settled : IsSettled new
   pub same : new.setting ≡ old.setting
   pub cycles : new.cycles ≤ old.cycles + 1
   pub parts : new.parts ≡ old.parts
@@ -26,22 +27,25 @@ pub record RanFreeze (old new : Recorded) (is_must : Bool) : Type 0 where
   pub quiet : (who : ℕ) → calls_of who freeze ≡ []
   pub active : new.state.active ≡ old.state.active
   pub claims : new.state.claims ≡ old.state.claims
-  pub is_freeze : (pace : Pace) (run : ℕ) → pace.trigger ≡ 0 →
-      IsFreeze pace old.setting.layout old.history run is_must (marks_of freeze)
+  pub is_freeze : (last : ℕ) → IsFreeze pace old.setting.layout old.history last is_must (marks_of freeze)
+  pub next : run ≡ next_run pace new.setting.layout new.history
+  pub some : 0 < run
 
--- a part was opened and run, and frozen after
-pub record RanPeriod (old new : Recorded) (pace : Pace) : Type 0 where
-  pub at_rest : IsAtRest new
+-- a part was opened and run, and frozen after; each mutator has so many calls in the next part, and at least one
+pub record RanPeriod (old new : Recorded) (pace : Pace) (run : ℕ) : Type 0 where
+  pub settled : IsSettled new
   pub same : new.setting ≡ old.setting
   pub cycles : new.cycles ≤ old.cycles + 1
   pub parts : new.parts ≡ old.parts + 1
   pub period : Period
   pub history : new.history ≡ after_period pace old.setting.layout old.history period
   pub stands : StandsPeriod pace old.setting.layout old.history period
+  pub next : run ≡ next_run pace new.setting.layout new.history
+  pub some : 0 < run
 
 -- all was run
 pub record RanAll (recorded : Recorded) (pace : Pace) (callers : List Caller) : Type 0 where
-  pub at_rest : IsAtRest recorded
+  pub settled : IsSettled recorded
   pub callers' : AreCallers recorded callers
   pub scheduled : IsScheduled pace recorded.setting.layout recorded.history
   pub scripts : (who : ℕ) (caller : Caller) → slice_get callers who ≡ Some caller →

@@ -12,30 +12,24 @@ use Rattle.tide_model.specs.Lawful.{FitsLayout, IsLawful}
 use Rattle.tide_model.specs.Periods.{EndsInTime, IsSwept, open_count}
 use Rattle.tide_model.specs.Each.{Each}
 use Rattle.tide_model.specs.State.{State, idle}
-use Rattle.tide_periods.specs.declared.told.Told.{Told}
 use Rattle.tide_periods.specs.Store.{Setting, blocks_in}
-use Rattle.tide_periods.specs.Told.{AreCounted, events_of}
 
 -- a store, and the history of what was run on it
 pub record Recorded : Type 0 where
   pub setting : Setting
   pub state : State
-  pub told : List Told
   pub history : List Event
   pub cycles : ℕ
   pub parts : ℕ
   pub blocks : ℕ
 
--- The history is lawful and told whole, its cycles end in time, and it leaves the store as it is: at rest and swept.
-pub record IsAtRest (recorded : Recorded) : Type 0 where
-  pub tells : events_of recorded.told ≡ recorded.history
-  pub counted : AreCounted recorded.setting.layout recorded.told
+-- The history is lawful, its cycles end in time, and it leaves the store as it is: nothing is dead. A cycle may mark.
+pub record IsSettled (recorded : Recorded) : Type 0 where
   pub lawful : IsLawful recorded.setting.layout recorded.setting.shapes recorded.history
   pub ends : Each (EndsInTime recorded.setting.layout) recorded.history
   pub leaves : state_after recorded.setting.layout recorded.history ≡ recorded.state
   pub begun : begin_count recorded.history ≡ recorded.cycles
   pub opens : open_count recorded.history ≡ recorded.parts
-  pub rests : recorded.state.phase ≡ idle
   pub swept : IsSwept recorded.setting.layout recorded.history
   pub few : (who : ℕ) → length (recorded.state.claims who) ≤ 8
   pub blocks : recorded.blocks ≡ blocks_in recorded.setting
@@ -54,7 +48,7 @@ pub record HasSameCounts (old new : Recorded) : Type 0 where
 
 -- a call was made
 pub record MadeCall (old new : Recorded) (who : ℕ) (op : Op) (reply : Reply) : Type 0 where
-  pub at_rest : IsAtRest new
+  pub settled : IsSettled new
   pub same : new.setting ≡ old.setting
   pub counts : HasSameCounts old new
   pub took : Option ℕ
@@ -63,7 +57,7 @@ pub record MadeCall (old new : Recorded) (who : ℕ) (op : Op) (reply : Reply) :
 
 -- a part was opened
 pub record OpenedPart (old new : Recorded) (run : ℕ) : Type 0 where
-  pub at_rest : IsAtRest new
+  pub settled : IsSettled new
   pub same : new.setting ≡ old.setting
   pub state : new.state ≡ old.state
   pub cycles : new.cycles ≡ old.cycles
@@ -72,7 +66,7 @@ pub record OpenedPart (old new : Recorded) (run : ℕ) : Type 0 where
 
 -- a whole cycle was run
 pub record RanCycle (old new : Recorded) : Type 0 where
-  pub at_rest : IsAtRest new
+  pub settled : IsSettled new
   pub same : new.setting ≡ old.setting
   pub cycles : new.cycles ≡ old.cycles + 1
   pub parts : new.parts ≡ old.parts
@@ -84,3 +78,4 @@ pub record RanCycle (old new : Recorded) : Type 0 where
       ++ map (λ block. plain (Sweep block)) blocks)
   pub active : new.state.active ≡ old.state.active
   pub claims : new.state.claims ≡ old.state.claims
+  pub rests : new.state.phase ≡ idle

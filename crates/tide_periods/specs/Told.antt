@@ -8,6 +8,7 @@ use Rattle.tide_model.specs.Cycle.{live_count}
 use Rattle.tide_model.specs.Each.{Each}
 use Rattle.tide_model.specs.History.{state_after}
 use Rattle.tide_model.specs.Layout.{Layout}
+use Rattle.tide_model.specs.State.{State, idle}
 use Rattle.tide_periods.specs.declared.told.Answered.{Answered}
 use Rattle.tide_periods.specs.declared.told.Told.{Told}
 
@@ -31,3 +32,9 @@ AreCounted layout told = Each (λ before one. IsCounted layout (events_of before
 -- an operation with its reply
 abbrev pub pair_of : Answered → Op × Reply
 pair_of answered = (answered.op, answered.reply)
+
+-- What holds between two entries of a store that runs whole cycles alone, beside what is recorded: no cycle marks, and
+-- each end is told with the right number.
+pub record StandsIdle (layout : Layout) (state : State) (told : List Told) : Type 0 where
+  pub rests : state.phase ≡ idle
+  pub counted : AreCounted layout told

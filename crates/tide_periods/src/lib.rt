@@ -6,6 +6,7 @@
 #![tactic(auto)]
 
 mod caller;
+mod pacing;
 mod part;
 mod periods;
 mod plain;
@@ -15,7 +16,7 @@ mod run;
 mod store;
 mod told;
 
-pub use periods::Pacing;
+pub use pacing::Pacing;
 pub use recorder::Recorder;
 pub use recording::Recording;
 pub use run::{Finished, operations_in, run_on};

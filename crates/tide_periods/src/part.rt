@@ -4,7 +4,7 @@ ghost use Rattle.std.specs.List.{list_all};
 ghost use Rattle.tide_periods.specs.Asking.{scripts_of, IsCaller};
 ghost use Rattle.tide_periods.specs.Left.{left_of, total_left};
 ghost use Rattle.tide_periods.specs.Part.{AreCallers, RanPart, RanShare};
-ghost use Rattle.tide_periods.specs.Recorded.{IsAtRest};
+ghost use Rattle.tide_periods.specs.Recorded.{IsSettled};
 
 use crate::caller::Caller;
 use crate::recorder::Recorder;
@@ -16,7 +16,7 @@ pub(crate) fn run_share<T: Recorder>(
     caller: &mut Caller,
     run: u32,
 ) -> Result<bool, Memory>
-    requires at_rest { IsAtRest (T.recorded recorder.old) }
+    requires settled { IsSettled (T.recorded recorder.old) }
     requires stands { T.stands recorder.old }
     requires caller { IsCaller (T.recorded recorder.old) caller.old }
     ensures ran { IfOk result (RanShare (T.recorded recorder.old) (T.recorded recorder.new) run caller.old.who) }
@@ -49,7 +49,7 @@ pub(crate) fn run_part<T: Recorder>(
     callers: &mut [Caller],
     run: u32,
 ) -> Result<bool, Memory>
-    requires at_rest { IsAtRest (T.recorded recorder.old) }
+    requires settled { IsSettled (T.recorded recorder.old) }
     requires stands { T.stands recorder.old }
     requires callers { AreCallers (T.recorded recorder.old) callers.old }
     ensures ran { IfOk result (RanPart (T.recorded recorder.old) (T.recorded recorder.new) run) }

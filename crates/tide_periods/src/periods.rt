@@ -1,25 +1,19 @@
 //! Periods: a part is opened and run, a freeze follows, until each mutator has retired.
-ghost use Rattle.std.specs.Prelude.{◌≡◌, ◌-◌, ◌<◌, ◌^◌, false, [], length, OnOk};
+ghost use Rattle.std.specs.Prelude.{◌≡◌, ◌-◌, ◌<◌, ◌^◌, false, [], length, IfOk, OnOk};
 ghost use Rattle.std.specs.List.{list_all};
-ghost use Rattle.tide_model.specs.Periods.{is_over};
+ghost use Rattle.tide_model.specs.Periods.{is_over, next_run};
 ghost use Rattle.tide_periods.specs.Asking.{scripts_of};
 ghost use Rattle.tide_periods.specs.Left.{total_left};
 ghost use Rattle.tide_periods.specs.Part.{AreCallers};
-ghost use Rattle.tide_periods.specs.Periods.{pace_of, RanAll, RanFreeze, RanPeriod};
-ghost use Rattle.tide_periods.specs.Recorded.{IsAtRest};
+ghost use Rattle.tide_periods.specs.Periods.{pace_of, RanAll, RanPeriod};
+ghost use Rattle.tide_periods.specs.Recorded.{IsSettled};
 
 use crate::caller::Caller;
+use crate::pacing::Pacing;
 use crate::part::run_part;
 use crate::recorder::Recorder;
 use std::alloc::Global;
 use tide_model::Memory;
-
-/// A workload's numbers for the schedule.
-#[derive(Clone, Copy, Debug)]
-pub struct Pacing {
-    pub period: u32,
-    pub headroom: u32,
-}
 
 fn are_all_retired(callers: &[Caller]) -> bool
     ensures { result ≡ list_all (λ caller. caller.retired) callers.now }
@@ -27,50 +21,38 @@ fn are_all_retired(callers: &[Caller]) -> bool
     callers.iter().all(|caller| caller.retired)
 }
 
-/// The freeze after a part: one whole cycle where it is a must, and else nothing.
-pub(crate) fn freeze<T: Recorder>(
-    recorder: &mut T,
-    is_must: bool,
-    alloc: Global,
-) -> Result<(), Memory>
-    requires at_rest { IsAtRest (T.recorded recorder.old) }
-    requires stands { T.stands recorder.old }
-    requires room { (T.recorded recorder.old).cycles < 2 ^ 60 }
-    ensures ran { OnOk result (RanFreeze (T.recorded recorder.old) (T.recorded recorder.new) is_must) }
-    ensures stands { OnOk result (T.stands recorder.new) }
-{
-    if is_must {
-        recorder.cycle(alloc)?;
-    }
-    Ok(())
-}
-
-/// Opens a part, runs it, and freezes.
+/// Opens a part in which each mutator has so many calls, runs it, and freezes. Answers how many it has in the next one.
 pub(crate) fn run_period<T: Recorder>(
     recorder: &mut T,
     callers: &mut [Caller],
+    run: u32,
     pacing: Pacing,
     alloc: Global,
-) -> Result<(), Memory>
-    requires at_rest { IsAtRest (T.recorded recorder.old) }
+) -> Result<u32, Memory>
+    requires settled { IsSettled (T.recorded recorder.old) }
     requires stands { T.stands recorder.old }
     requires callers { AreCallers (T.recorded recorder.old) callers.old }
     requires goes_on { is_over (T.recorded recorder.old).setting.layout (T.recorded recorder.old).history ≡ false }
     requires room { (T.recorded recorder.old).cycles < 2 ^ 60 }
     requires few { (T.recorded recorder.old).parts < 2 ^ 32 - 1 }
-    requires pacing { 0 < pacing.period }
-    ensures ran { OnOk result (RanPeriod (T.recorded recorder.old) (T.recorded recorder.new) (pace_of pacing)) }
-    ensures stands { OnOk result (T.stands recorder.new) }
-    ensures left { OnOk result
-        (total_left (T.recorded recorder.new) callers.new < total_left (T.recorded recorder.old) callers.old) }
-    ensures callers { OnOk result (AreCallers (T.recorded recorder.new) callers.new) }
-    ensures scripts { OnOk result (scripts_of callers.new ≡ scripts_of callers.old) }
+    requires run { run ≡ next_run (pace_of pacing) (T.recorded recorder.old).setting.layout
+        (T.recorded recorder.old).history }
+    requires calls { 0 < run }
+    requires period { 0 < pacing.period }
+    requires paces { T.paces pacing }
+    ensures ran { IfOk result (λ next.
+        RanPeriod (T.recorded recorder.old) (T.recorded recorder.new) (pace_of pacing) next) }
+    ensures stands { IfOk result (λ next. T.stands recorder.new) }
+    ensures left { IfOk result (λ next.
+        total_left (T.recorded recorder.new) callers.new < total_left (T.recorded recorder.old) callers.old) }
+    ensures callers { IfOk result (λ next. AreCallers (T.recorded recorder.new) callers.new) }
+    ensures scripts { IfOk result (λ next. scripts_of callers.new ≡ scripts_of callers.old) }
 {
-    recorder.open(pacing.period)?;
-    let stopped = run_part(recorder, callers, pacing.period)?;
+    recorder.open(run)?;
+    let stopped = run_part(recorder, callers, run)?;
     let is_over = are_all_retired(callers);
-    freeze(recorder, stopped || is_over, alloc)?;
-    Ok(())
+    let next = recorder.freeze(stopped || is_over, pacing, alloc)?;
+    Ok(next)
 }
 
 /// Runs periods until each mutator has retired.
@@ -80,11 +62,12 @@ pub(crate) fn run_periods<T: Recorder>(
     pacing: Pacing,
     alloc: Global,
 ) -> Result<(), Memory>
-    requires at_rest { IsAtRest (T.recorded recorder.old) }
+    requires settled { IsSettled (T.recorded recorder.old) }
     requires stands { T.stands recorder.old }
     requires callers { AreCallers (T.recorded recorder.old) callers.old }
     requires nothing { (T.recorded recorder.old).history ≡ [] }
-    requires pacing { 0 < pacing.period }
+    requires period { 0 < pacing.period }
+    requires paces { T.paces pacing }
     requires cycles { (T.recorded recorder.old).cycles ≡ 0 }
     requires parts { (T.recorded recorder.old).parts ≡ 0 }
     requires room { total_left (T.recorded recorder.old) callers.old < 2 ^ 32 - 1 }
@@ -94,8 +77,9 @@ pub(crate) fn run_periods<T: Recorder>(
     ensures same { OnOk result ((T.recorded recorder.new).setting ≡ (T.recorded recorder.old).setting) }
     ensures scripts { OnOk result (scripts_of callers.new ≡ scripts_of callers.old) }
 {
+    let mut run = pacing.period;
     while !are_all_retired(callers) {
-        run_period(recorder, callers, pacing, alloc)?;
+        run = run_period(recorder, callers, run, pacing, alloc)?;
     }
     Ok(())
 }

@@ -1,8 +1,12 @@
 //! A store with the history of what was run on it, as a part and a freeze use it.
 ghost use Rattle.std.specs.Prelude.{◌≡◌, ◌-◌, ◌^◌, ◌<◌, ◌++◌, ◌∷◌, [], length, IfOk, OnOk};
 ghost use Rattle.tide_model.specs.Cycle.{live_count};
-ghost use Rattle.tide_periods.specs.Recorded.{IsAtRest, MadeCall, MayAsk, OpenedPart, RanCycle, Recorded};
+ghost use Rattle.tide_periods.specs.declared.pacing.Pacing.{Pacing};
+ghost use Rattle.tide_periods.specs.Periods.{pace_of, RanFreeze};
+ghost use Rattle.tide_periods.specs.Recorded.{IsSettled, MadeCall, MayAsk, OpenedPart, Recorded};
+ghost use Rattle.tide_periods.specs.Told.{AreCounted, events_of};
 
+use crate::pacing::Pacing;
 use crate::told::Told;
 use std::alloc::Global;
 use tide_model::{Memory, Op, Reply};
@@ -37,7 +41,7 @@ pub trait Recorder {
 
     /// Makes a call and records it.
     fn call(&mut self, who: u32, op: Op) -> Result<Reply, Memory>
-        requires at_rest { IsAtRest (recorded self.old) }
+        requires settled { IsSettled (recorded self.old) }
         requires stands { stands self.old }
         requires asks { MayAsk (recorded self.old) who op }
         ensures made { IfOk result (λ reply. MadeCall (recorded self.old) (recorded self.new) who op reply) }
@@ -51,27 +55,37 @@ pub trait Recorder {
 
     /// Opens a part, in which each mutator makes at most `run` calls.
     fn open(&mut self, run: u32) -> Result<(), Memory>
-        requires at_rest { IsAtRest (recorded self.old) }
+        requires settled { IsSettled (recorded self.old) }
         requires stands { stands self.old }
         requires few { (recorded self.old).parts < 2 ^ 32 - 1 }
         ensures opened { OnOk result (OpenedPart (recorded self.old) (recorded self.new) run) }
         ensures stands { OnOk result (stands self.new) };
 
-    /// Runs a whole cycle and records it.
-    fn cycle(&mut self, alloc: Global) -> Result<(), Memory>
-        requires at_rest { IsAtRest (recorded self.old) }
+    /// With which numbers the store can be run.
+    ghost paces: { Pacing → Type 0 };
+
+    /// Freezes after a part, does what the schedule asks for, and records it. Answers how many calls each mutator has
+    /// in the next part.
+    fn freeze(&mut self, is_must: bool, pacing: Pacing, alloc: Global) -> Result<u32, Memory>
+        requires settled { IsSettled (recorded self.old) }
         requires stands { stands self.old }
         requires room { (recorded self.old).cycles < 2 ^ 60 }
-        ensures ran { OnOk result (RanCycle (recorded self.old) (recorded self.new)) }
-        ensures stands { OnOk result (stands self.new) };
+        requires some { 0 < pacing.period }
+        requires paces { paces pacing }
+        ensures ran { IfOk result (λ run. RanFreeze (recorded self.old) (recorded self.new) (pace_of pacing) is_must run) }
+        ensures stands { IfOk result (λ run. stands self.new) };
 
     /// How many cells live.
     fn live(&mut self) -> u32
         requires stands { stands self.old }
         ensures live { result ≡ live_count (recorded self.old).setting.layout (recorded self.old).state }
-        ensures same { recorded self.new ≡ recorded self.old };
+        ensures same { recorded self.new ≡ recorded self.old }
+        ensures stands { stands self.new };
 
-    /// Each event that was recorded, in order.
-    fn into_told(self) -> Vec<Told>
-        ensures { result.items ≡ (recorded self).told };
+    /// Each event that was recorded, in order, and beside each end of a cycle how many cells it kept.
+    fn into_told(self, alloc: Global) -> Result<Vec<Told>, Memory>
+        requires settled { IsSettled (recorded self) }
+        requires stands { stands self }
+        ensures told { IfOk result (λ told. events_of told.items ≡ (recorded self).history) }
+        ensures counted { IfOk result (λ told. AreCounted (recorded self).setting.layout told.items) };
 }

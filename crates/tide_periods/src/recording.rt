@@ -1,14 +1,15 @@
 //! A store, and what was run on it, told event by event.
-ghost use Rattle.std.specs.Prelude.{◌≡◌, ◌++◌, ◌∷◌, [], false, map, slice_index_or, IfOk, OnOk};
+ghost use Rattle.std.specs.Prelude.{◌≡◌, ◌<◌, ◌^◌, ◌++◌, ◌∷◌, [], false, map, slice_index_or, IfOk, OnOk};
 ghost use Rattle.tide_model.specs.declared.entry.Entry.TheVariants.{Sweep};
 ghost use Rattle.tide_model.specs.Cycle.{live_count};
 ghost use Rattle.tide_model.specs.History.{plain};
 ghost use Rattle.tide_model.specs.Numbers.{numbers_where};
 ghost use Rattle.tide_model.specs.State.{empty_state};
-ghost use Rattle.tide_periods.specs.Recorded.{IsAtRest};
+ghost use Rattle.tide_periods.specs.Recorded.{IsSettled, RanCycle};
 ghost use Rattle.tide_periods.specs.Store.{blocks_in};
-ghost use Rattle.tide_periods.specs.Told.{events_of, uncounted};
+ghost use Rattle.tide_periods.specs.Told.{events_of, uncounted, StandsIdle};
 
+use crate::pacing::Pacing;
 use crate::recorder::{Recorder, append, with_room};
 use crate::store::Store;
 use crate::told::Told;
@@ -54,14 +55,16 @@ impl<S: Store + Drop> Recorder for Recording<S> {
     ghost recorded = { λ s. record {
       setting = S.setting s.store;
       state = S.state s.store;
-      told = s.told.items;
       history = events_of s.told.items;
       cycles = s.cycles;
       parts = s.parts;
       blocks = s.blocks;
     } };
 
-    ghost stands = { λ _. Unit {0} };
+    ghost stands = { λ s. StandsIdle (S.setting s.store).layout (S.state s.store) s.told.items };
+
+    /// No cycle of it begins by itself.
+    ghost paces = { λ pacing. pacing.trigger ≡ 0 };
 
     fn call(&mut self, who: u32, op: Op) -> Result<Reply, Memory> {
         let reply = self.store.call(who, op);
@@ -83,7 +86,58 @@ impl<S: Store + Drop> Recorder for Recording<S> {
         Ok(())
     }
 
-    fn cycle(&mut self, alloc: Global) -> Result<(), Memory> {
+    fn freeze(&mut self, is_must: bool, pacing: Pacing, alloc: Global) -> Result<u32, Memory> {
+        if is_must {
+            self.cycle(alloc)?;
+        }
+        Ok(pacing.period)
+    }
+
+    fn live(&mut self) -> u32 {
+        self.store.live()
+    }
+
+    fn into_told(self, _alloc: Global) -> Result<Vec<Told>, Memory> {
+        let Recording {
+            store: _,
+            told,
+            cycles: _,
+            parts: _,
+            blocks: _,
+        } = self;
+        Ok(told)
+    }
+}
+
+impl<S: Store + Drop> Recording<S> {
+    /// A store on which nothing was run yet, which has so many blocks, with room for so many events.
+    pub fn new(alloc: Global, store: S, blocks: u32, room: usize) -> Result<Recording<S>, Memory>
+        requires empty { S.state store ≡ empty_state }
+        requires blocks { blocks ≡ blocks_in (S.setting store) }
+        ensures stands { IfOk result (λ new. ⟦<Recording<S> as Recorder>⟧.stands new) }
+        ensures settled { IfOk result (λ new. IsSettled (⟦<Recording<S> as Recorder>⟧.recorded new)) }
+        ensures nothing { IfOk result (λ new. (⟦<Recording<S> as Recorder>⟧.recorded new).history ≡ []) }
+        ensures setting { IfOk result (λ new. (⟦<Recording<S> as Recorder>⟧.recorded new).setting ≡ S.setting store) }
+    {
+        let told = with_room(alloc, room)?;
+        Ok(Recording {
+            store,
+            told,
+            cycles: 0,
+            parts: 0,
+            blocks,
+        })
+    }
+
+    /// Runs a whole cycle and records it.
+    fn cycle(&mut self, alloc: Global) -> Result<(), Memory>
+        requires settled { IsSettled (⟦<Recording<S> as Recorder>⟧.recorded self.old) }
+        requires stands { ⟦<Recording<S> as Recorder>⟧.stands self.old }
+        requires room { (⟦<Recording<S> as Recorder>⟧.recorded self.old).cycles < 2 ^ 60 }
+        ensures ran { OnOk result (RanCycle (⟦<Recording<S> as Recorder>⟧.recorded self.old)
+            (⟦<Recording<S> as Recorder>⟧.recorded self.new)) }
+        ensures stands { OnOk result (⟦<Recording<S> as Recorder>⟧.stands self.new) }
+    {
         let freed = self.store.collect(alloc)?;
         let kept = self.store.live();
         self.cycles += 1;
@@ -96,41 +150,5 @@ impl<S: Store + Drop> Recorder for Recording<S> {
         append(&mut self.told, Told { event, kept })?;
         tell_sweeps(&mut self.told, &self.store, self.blocks)?;
         Ok(())
-    }
-
-    fn live(&mut self) -> u32 {
-        self.store.live()
-    }
-
-    fn into_told(self) -> Vec<Told> {
-        let Recording {
-            store: _,
-            told,
-            cycles: _,
-            parts: _,
-            blocks: _,
-        } = self;
-        told
-    }
-}
-
-impl<S: Store + Drop> Recording<S> {
-    /// A store on which nothing was run yet, which has so many blocks, with room for so many events.
-    pub fn new(alloc: Global, store: S, blocks: u32, room: usize) -> Result<Recording<S>, Memory>
-        requires empty { S.state store ≡ empty_state }
-        requires blocks { blocks ≡ blocks_in (S.setting store) }
-        ensures stands { IfOk result (λ new. ⟦<Recording<S> as Recorder>⟧.stands new) }
-        ensures at_rest { IfOk result (λ new. IsAtRest (⟦<Recording<S> as Recorder>⟧.recorded new)) }
-        ensures nothing { IfOk result (λ new. (⟦<Recording<S> as Recorder>⟧.recorded new).history ≡ []) }
-        ensures setting { IfOk result (λ new. (⟦<Recording<S> as Recorder>⟧.recorded new).setting ≡ S.setting store) }
-    {
-        let told = with_room(alloc, room)?;
-        Ok(Recording {
-            store,
-            told,
-            cycles: 0,
-            parts: 0,
-            blocks,
-        })
     }
 }

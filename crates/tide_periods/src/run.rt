@@ -2,11 +2,12 @@
 ghost use Rattle.std.specs.Prelude.{◌≡◌, ◌≤◌, ◌<◌, [], All, length, map, IfOk};
 ghost use Rattle.tide_periods.specs.Asking.{IsAskable};
 ghost use Rattle.tide_periods.specs.Periods.{pace_of};
-ghost use Rattle.tide_periods.specs.Recorded.{IsAtRest};
+ghost use Rattle.tide_periods.specs.Recorded.{IsSettled};
 ghost use Rattle.tide_periods.specs.Run.{HasRun};
 
 use crate::caller::{Caller, callers_of};
-use crate::periods::{Pacing, run_periods};
+use crate::pacing::Pacing;
+use crate::periods::run_periods;
 use crate::recorder::{Recorder, append};
 use crate::told::{Answered, Told};
 use std::alloc::Global;
@@ -46,15 +47,16 @@ fn calls_of_each(alloc: Global, callers: Vec<Caller>) -> Result<Vec<Vec<Answered
 
 /// Runs these scripts, one for each mutator, on a store on which nothing was run yet.
 ///
-/// Mutators make their calls of a part one after another, and a cycle is run whole in the freeze after a part in which
-/// a mutator asked for one, was first refused for room or, as the last, retired. No cycle begins by itself.
+/// Mutators make their calls of a part one after another. In the freeze after it the cycle that marks goes on, and a
+/// whole one is run after a part in which a mutator asked for one, was first refused for room or, as the last, retired;
+/// else one begins where the trigger asks for it.
 pub fn run_on<T: Recorder + Drop>(
     alloc: Global,
     recorder: T,
     scripts: Vec<Vec<Op>>,
     pacing: Pacing,
 ) -> Result<Finished, Memory>
-    requires at_rest { IsAtRest (T.recorded recorder) }
+    requires settled { IsSettled (T.recorded recorder) }
     requires stands { T.stands recorder }
     requires nothing { (T.recorded recorder).history ≡ [] }
     requires mutators { length scripts.items ≡ (T.recorded recorder).setting.layout.mutators }
@@ -62,7 +64,8 @@ pub fn run_on<T: Recorder + Drop>(
     requires few { length scripts.items ≤ 16 }
     requires short { All (λ ops. length ops ≤ 65536) (map (λ ops. ops.items) scripts.items) }
     requires askable { All (All (IsAskable (T.recorded recorder).setting.layout)) (map (λ ops. ops.items) scripts.items) }
-    requires pacing { 0 < pacing.period }
+    requires period { 0 < pacing.period }
+    requires paces { T.paces pacing }
     ensures { IfOk result (λ finished. HasRun (T.recorded recorder).setting (pace_of pacing)
         (map (λ ops. ops.items) scripts.items)
         finished.told.items (map (λ own. own.items) finished.calls.items) finished.live) }
@@ -71,7 +74,7 @@ pub fn run_on<T: Recorder + Drop>(
     let mut callers = callers_of(alloc, scripts)?;
     run_periods(&mut recorder, callers.as_mut_slice(), pacing, alloc)?;
     let live = recorder.live();
-    let told = recorder.into_told();
+    let told = recorder.into_told(alloc)?;
     let calls = calls_of_each(alloc, callers)?;
     Ok(Finished { told, calls, live })
 }

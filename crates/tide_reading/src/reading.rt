@@ -6,9 +6,7 @@ ghost use Rattle.tide_reading.specs.Reading.{document_or, load_with, settings_of
 ghost use Rattle.tide_reading.specs.Steps.{Gives};
 ghost use Rattle.tide_work.specs.Work.{AreKeys, ArePaths, AreSettings};
 
-use crate::fields::{
-    five_of_field, five_or_zeros, has_only, number_of_field, number_or_zero,
-};
+use crate::fields::{five_of_field, five_or_zeros, has_only, number_of_field, number_or_zero};
 use crate::scripts::{mutators_of, scripts_of, texts_of_each};
 use crate::shapes::declared_in;
 use std::alloc::Global;

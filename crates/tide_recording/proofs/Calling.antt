@@ -5,23 +5,34 @@ use Rattle.std.proofs.lemmas.List.{get_or-set_other, get_or-set_same, length-set
 use Rattle.std.proofs.lemmas.Bool.{eq-eqb, eqb-false, eqb-true}
 use Rattle.std.proofs.lemmas.List.Elements.{All-cons, All-nil}
 use Rattle.std.proofs.lemmas.Option.{get_or_from_slice_get, slice_get-get_or, slice_get_within}
-use Rattle.std.specs.Prelude.{All, Option, Some, slice_get, ◌==◌, ◌≢◌}
+use Rattle.std.specs.Prelude.{All, Option, Some, slice_get, ◌==◌, ◌≢◌, if◌then◌else◌}
 use Rattle.tide_model.specs.declared.entry.Event.{Event}
 use Rattle.tide_model.specs.declared.op.Op.{Op}
 use Rattle.tide_model.specs.declared.op.Reply.{Reply}
 use Rattle.tide_model.specs.Cycle.{begin_count}
 use Rattle.tide_model.specs.History.{is_begin, is_call_of, is_open, state_after}
+use Rattle.tide_layout.specs.Region.{word_count}
+use Rattle.tide_model.specs.Lawful.{StandsCall}
 use Rattle.tide_model.specs.Layout.{Layout}
-use Rattle.tide_model.specs.Periods.{open_count}
+use Rattle.tide_model.specs.Periods.{EndsInTime, open_count}
+use Rattle.tide_model.specs.Refused.{ShapeLists}
+use Rattle.tide_model.specs.Since.{is_born_reply, is_end}
 use Rattle.tide_model.specs.State.{State}
 use Rattle.tide_model.proofs.ClaimLaws.{ClaimsAreOwn-lawful}
+use Rattle.tide_model.proofs.Histories.{IsLawful-push, push_cases}
 use Rattle.tide_model.proofs.SinceLaws.{count-push}
-use Rattle.tide_shape.specs.Lists.{lists_of}
+use Rattle.tide_words.specs.heap.Heap.{heap_of}
+use Rattle.tide_core.specs.FrozenWave.{FrozenWave}
+use Rattle.tide_freeze.specs.declared.births.Births.{Births}
+use Rattle.tide_freeze.specs.Births.{AreBornIn}
+use Rattle.tide_freeze.specs.Frozen.{IsFrozen}
+use Rattle.tide_freeze.specs.Laws.{any_cells}
+use Rattle.tide_freeze.proofs.BirthLaws.{born-push}
 use Rattle.tide_periods.proofs.CallerLaws.{called}
 use Rattle.tide_periods.proofs.LeftLaws.{claims_after-others}
-use Rattle.tide_periods.specs.Recorded.{IsAtRest, MayAsk}
+use Rattle.tide_periods.specs.Recorded.{IsSettled, MayAsk}
 use Rattle.tide_recording.specs.declared.words.RecordedWords.{RecordedWords}
-use Rattle.tide_recording.specs.Kept.{HoldsClaims, StandsWhole, heap_in, history_in, recorded_in, state_in}
+use Rattle.tide_recording.specs.Kept.{HoldsClaims, StandsWhole, heap_in, history_in, recorded_in, shapes_in, state_in}
 use Rattle.tide_word_store.specs.MayCall.{MayCall}
 
 -- a call begins no cycle and opens no part
@@ -73,11 +84,11 @@ HoldsClaims-called layout history claims own who op reply took holds below is = 
 
 -- who may ask for a call may make it, with its list of claims
 pub MayCall-asked : (store : RecordedWords) (who : ℕ) (op : Op) (held : List ℕ) → held ≡ get_or store.claims.items who [] →
-    IsAtRest (recorded_in store) → StandsWhole store → MayAsk (recorded_in store) who op →
-    MayCall store.layout (lists_of store.shapes) (heap_in store) held who op (state_in store)
-MayCall-asked store who op held is at_rest stands asks = record {
-  marking = stands.wave.marking;
-  own = ClaimsAreOwn-lawful store.layout (lists_of store.shapes) (history_in store) at_rest.lawful;
+    IsSettled (recorded_in store) → StandsWhole store → MayAsk (recorded_in store) who op →
+    MayCall store.layout (shapes_in store) (heap_in store) held who op (state_in store)
+MayCall-asked store who op held is settled stands asks = record {
+  marking = stands.frozen.wave.marking;
+  own = ClaimsAreOwn-lawful store.layout (shapes_in store) (history_in store) settled.lawful;
   is_mutator = asks.is_mutator;
   is_active = asks.is_active;
   claims = stands.claims.are who held
@@ -86,3 +97,29 @@ MayCall-asked store who op held is at_rest stands asks = record {
   fits = asks.fits;
   released = asks.released;
 }
+
+-- after a call that may stand, whose words have the wave, the words may be frozen
+pub IsFrozen-called : (layout : Layout) (shapes : ShapeLists) (words words_now : List ℕ) (history : List Event) (who : ℕ) (op : Op) (reply : Reply)
+    (took : Option ℕ) → IsFrozen layout shapes words history any_cells → StandsCall layout shapes history who op reply took →
+    FrozenWave layout shapes (heap_of layout words_now) (history ++ called who op reply took ∷ []) → length words_now ≡ word_count layout →
+    IsFrozen layout shapes words_now (history ++ called who op reply took ∷ []) any_cells
+IsFrozen-called layout shapes words words_now history who op reply took frozen stands wave all_words = record {
+  all_words = all_words;
+  wave = wave;
+  lawful = IsLawful-push layout shapes history (called who op reply took) frozen.lawful stands;
+  ends = push_cases (EndsInTime layout) history (called who op reply took) frozen.ends
+      (record { kept = λ cycle freed e. absurd (cc); swept = λ cycle freed e. absurd (cc) });
+  blacks = tt;
+}
+
+-- a call adds its birth to both counts
+pub AreBornIn-called : (history : List Event) (who : ℕ) (op : Op) (reply : Reply) (took : Option ℕ) (births births_now : Births) →
+    births_now ≡ record {
+      in_cycle = births.in_cycle + (if is_born_reply reply then 1 else 0);
+      since_end = births.since_end + (if is_born_reply reply then 1 else 0);
+    } →
+    AreBornIn history births → AreBornIn (history ++ called who op reply took ∷ []) births_now
+AreBornIn-called history who op reply took births births_now is are = subst (AreBornIn (history ++ called who op reply took ∷ [])) (sym is) (record {
+  in_cycle = ap (λ (n : ℕ). n + (if is_born_reply reply then 1 else 0)) are.in_cycle ∙ sym (born-push is_begin history (called who op reply took) refl);
+  since_end = ap (λ (n : ℕ). n + (if is_born_reply reply then 1 else 0)) are.since_end ∙ sym (born-push is_end history (called who op reply took) refl);
+})

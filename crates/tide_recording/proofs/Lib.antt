@@ -1,7 +1,5 @@
 -- The lemmas of this crate.
 pub mod Calling
-pub mod Cycling
-pub mod Ending
+pub mod FrozenParts
 pub mod Opening
-pub mod Sweeping
-pub mod Telling
+pub mod ReportLaws

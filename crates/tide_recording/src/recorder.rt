@@ -1,25 +1,57 @@
 //! `RecordedWords` as a recorder: what a run asks of the store that it stands on.
-ghost use Rattle.tide_recording.specs.Kept.{recorded_in, StandsWhole};
+ghost use Rattle.std.specs.Prelude.{◌≡◌, ◌+◌, if◌then◌else◌, OnOk};
+ghost use Rattle.tide_model.specs.Since.{is_born_reply};
+ghost use Rattle.tide_recording.specs.Kept.{recorded_in, IsPace, StandsWhole};
 
-use crate::cycle::tell_event;
-use crate::words::RecordedWords;
+use crate::telling::told_of;
+use crate::words::{RecordedWords, append};
 use std::alloc::Global;
+use tide_freeze::Births;
 use tide_model::{Entry, Event, Memory, Op, Reply};
-use tide_periods::{Recorder, Told};
+use tide_periods::{Pacing, Recorder, Told};
 use tide_word_store::call;
+
+/// Counts the cell that a call bore, if it bore one.
+fn count_birth(births: &mut Births, reply: Reply) -> Result<(), Memory>
+    ensures { OnOk result (births.new ≡ record {
+      in_cycle = births.old.in_cycle + (if is_born_reply reply then 1 else 0);
+      since_end = births.old.since_end + (if is_born_reply reply then 1 else 0);
+    }) }
+{
+    let born = u32::from(matches!(reply, Reply::Born { .. }));
+    let Some(in_cycle) = births.in_cycle.checked_add(born) else {
+        return Err(Memory);
+    };
+    let Some(since_end) = births.since_end.checked_add(born) else {
+        return Err(Memory);
+    };
+    births.in_cycle = in_cycle;
+    births.since_end = since_end;
+    Ok(())
+}
 
 impl Recorder for RecordedWords {
     ghost recorded = { recorded_in };
 
     ghost stands = { StandsWhole };
 
+    ghost paces = { IsPace };
+
     fn call(&mut self, who: u32, op: Op) -> Result<Reply, Memory> {
         let held = &mut self.claims[who as usize];
-        let called = call(&mut self.words, &self.layout, &self.shapes, held, who, op);
+        let called = call(
+            &mut self.chronicle.words,
+            &self.layout,
+            &self.chronicle.shapes,
+            held,
+            who,
+            op,
+        );
         let reply = called.reply;
         let entry = Entry::Call { who, op, reply };
         let took = called.took;
-        tell_event(&mut self.told, Event { entry, took }, 0)?;
+        append(&mut self.chronicle.events, Event { entry, took })?;
+        count_birth(&mut self.births, reply)?;
         Ok(reply)
     }
 
@@ -31,24 +63,24 @@ impl Recorder for RecordedWords {
         self.open_part(run)
     }
 
-    fn cycle(&mut self, alloc: Global) -> Result<(), Memory> {
-        self.run_cycle(alloc)
+    fn freeze(&mut self, is_must: bool, pacing: Pacing, _alloc: Global) -> Result<u32, Memory> {
+        self.freeze_part(is_must, pacing)
     }
 
     fn live(&mut self) -> u32 {
         self.count_live()
     }
 
-    fn into_told(self) -> Vec<Told> {
+    fn into_told(self, alloc: Global) -> Result<Vec<Told>, Memory> {
         let RecordedWords {
             layout: _,
-            shapes: _,
-            words: _,
+            chronicle,
             claims: _,
-            told,
+            births: _,
             greys: _,
-            report: _,
+            report,
         } = self;
-        told
+        let told = told_of(alloc, chronicle.into_events(), &report)?;
+        Ok(told)
     }
 }

@@ -1,31 +1,32 @@
 //! `RecordedWords`: the words of a heap with the history of what was run on them. It knows no operation.
 ghost use Rattle.std.specs.Prelude.{◌≡◌, ◌<◌, ◌-◌, ◌^◌, ◌++◌, ◌∷◌, [], replicate, IfOk, OnOk};
 ghost use Rattle.tide_model.specs.Cycle.{live_count};
-ghost use Rattle.tide_periods.specs.Recorded.{IsAtRest, OpenedPart};
+ghost use Rattle.tide_periods.specs.Recorded.{IsSettled, OpenedPart};
 ghost use Rattle.tide_shape.specs.Lists.{lists_of};
 ghost use Rattle.tide_recording.specs.Kept.{recorded_in, StandsWhole};
 
-use crate::cycle::{new_report, tell};
 use std::alloc::Global;
 use tide_call::Claims;
 use tide_cycle::Report;
+use tide_freeze::{Births, Chronicle};
 use tide_layout::{Layout, Region};
-use tide_model::{Entry, Memory};
-use tide_periods::Told;
+use tide_model::{Entry, Event, Memory};
 use tide_shape::Shapes;
-use tide_words::{GreyList, VecWords, Words, is_live, store_word};
+use tide_words::{GreyList, Words, is_live, store_word};
+
+/// How many cycles a report has room for at first; a freeze gives it more.
+const CYCLES: u32 = 64;
 
 /// The words of a heap, with the history of what was run on them.
 ///
-/// Each mutator's claims are kept in their order, which no word tells. The list of grey cells and the report of cycles
-/// have their room from the start, so that a call takes memory for what is told of it alone.
+/// Each mutator's claims are kept in their order, which no word tells. The births are counted, and the report has each
+/// cycle that ended. The list of grey cells has its room from the start, so that a call takes memory for its event alone.
 #[derive(Drop)]
 pub struct RecordedWords {
     pub(crate) layout: Layout,
-    pub(crate) shapes: Shapes,
-    pub(crate) words: VecWords,
+    pub(crate) chronicle: Chronicle,
     pub(crate) claims: Vec<Claims>,
-    pub(crate) told: Vec<Told>,
+    pub(crate) births: Births,
     pub(crate) greys: GreyList,
     pub(crate) report: Report,
 }
@@ -48,13 +49,6 @@ fn no_claims(alloc: Global, mutators: u8) -> Result<Vec<Claims>, Memory>
     Ok(claims)
 }
 
-/// An empty list with room for so many events.
-fn with_room(alloc: Global, room: usize) -> Result<Vec<Told>, Memory>
-    ensures { IfOk result (λ told. told.items ≡ []) }
-{
-    Vec::with_capacity(alloc, room).map_err(|_| Memory)
-}
-
 impl RecordedWords {
     /// The words of the empty heap, on which nothing was run yet, with room for so many events.
     pub fn new(
@@ -63,23 +57,22 @@ impl RecordedWords {
         shapes: Shapes,
         room: usize,
     ) -> Result<RecordedWords, Memory>
+        requires no_visitors { layout.visitors ≡ 0 }
         ensures stands { IfOk result StandsWhole }
-        ensures at_rest { IfOk result (λ new. IsAtRest (recorded_in new)) }
+        ensures settled { IfOk result (λ new. IsSettled (recorded_in new)) }
         ensures nothing { IfOk result (λ new. (recorded_in new).history ≡ []) }
         ensures layout { IfOk result (λ new. (recorded_in new).setting.layout ≡ layout) }
         ensures shapes { IfOk result (λ new. (recorded_in new).setting.shapes ≡ lists_of shapes) }
     {
-        let words = VecWords::new(alloc, &layout)?;
+        let chronicle = Chronicle::new(alloc, &layout, shapes, room)?;
         let claims = no_claims(alloc, layout.mutators())?;
-        let told = with_room(alloc, room)?;
         let greys = GreyList::new(alloc, layout.cells())?;
-        let report = new_report(alloc, &layout)?;
+        let report = Report::new(alloc, CYCLES, 2 * layout.cells())?;
         Ok(RecordedWords {
             layout,
-            shapes,
-            words,
+            chronicle,
             claims,
-            told,
+            births: Births::none(),
             greys,
             report,
         })
@@ -87,22 +80,26 @@ impl RecordedWords {
 
     /// Opens a part: one word tells its number.
     pub(crate) fn open_part(&mut self, run: u32) -> Result<(), Memory>
-        requires at_rest { IsAtRest (recorded_in self.old) }
+        requires settled { IsSettled (recorded_in self.old) }
         requires stands { StandsWhole self.old }
         requires few { (recorded_in self.old).parts < 2 ^ 32 - 1 }
         ensures opened { OnOk result (OpenedPart (recorded_in self.old) (recorded_in self.new) run) }
         ensures stands { OnOk result (StandsWhole self.new) }
     {
-        let last = self.words.load(self.layout.place(Region::Period, 0));
+        let last = self
+            .chronicle
+            .words
+            .load(self.layout.place(Region::Period, 0));
         let number = last as u32 + 1;
         store_word(
-            &mut self.words,
+            &mut self.chronicle.words,
             &self.layout,
             Region::Period,
             0,
             u64::from(number),
         );
-        tell(&mut self.told, Entry::Open { number, run })?;
+        let entry = Entry::Open { number, run };
+        append(&mut self.chronicle.events, Event { entry, took: None })?;
         Ok(())
     }
 
@@ -111,10 +108,11 @@ impl RecordedWords {
         requires stands { StandsWhole self.old }
         ensures live { result ≡ live_count (recorded_in self.old).setting.layout (recorded_in self.old).state }
         ensures same { recorded_in self.new ≡ recorded_in self.old }
+        ensures stands { StandsWhole self.new }
     {
         let mut count = 0;
         for cell in 0..self.layout.cells() {
-            if is_live(&mut self.words, &self.layout, cell) {
+            if is_live(&mut self.chronicle.words, &self.layout, cell) {
                 count += 1;
             }
         }

@@ -128,13 +128,13 @@ IsOutcome-ran work layout keys setting pace scripts told calls live report ran s
     })
 
 -- what a run left is a run of the workload
-pub IsRunOf-ran : (work : Work) (result : Ran) (setting : Setting) (pace : Pace) (scripts : List (List Op)) (told : List Told) (calls : List (List Answered)) (live : ℕ) →
-    HasRun setting pace scripts told calls live → pace ≡ pace_of_work work → setting.layout ≡ layout_of_work work → setting.shapes ≡ shapes_of_paths work.paths →
-    scripts ≡ work.scripts → result.layout ≡ layout_of_work work → result.keys ≡ work.keys → result.history ≡ events_of told → IsRunOf work result
-IsRunOf-ran work result setting pace scripts told calls live ran paced same shaped own layout keys history = record {
+pub IsRunOf-ran : (work : Work) (trigger : ℕ) (result : Ran) (setting : Setting) (pace : Pace) (scripts : List (List Op)) (told : List Told) (calls : List (List Answered)) (live : ℕ) →
+    HasRun setting pace scripts told calls live → pace ≡ pace_of_work work trigger → setting.layout ≡ layout_of_work work → setting.shapes ≡ shapes_of_paths work.paths →
+    scripts ≡ work.scripts → result.layout ≡ layout_of_work work → result.keys ≡ work.keys → result.history ≡ events_of told → IsRunOf work trigger result
+IsRunOf-ran work trigger result setting pace scripts told calls live ran paced same shaped own layout keys history = record {
   layout = layout;
   keys = keys;
-  legal = subst (IsLegal (pace_of_work work) (layout_of_work work) (shapes_of_paths work.paths)) (sym history)
+  legal = subst (IsLegal (pace_of_work work trigger) (layout_of_work work) (shapes_of_paths work.paths)) (sym history)
       (subst (λ (p : Pace). IsLegal p (layout_of_work work) (shapes_of_paths work.paths) (events_of told)) paced
       (subst (λ (l : Layout). IsLegal pace l (shapes_of_paths work.paths) (events_of told)) same
       (subst (λ (s : ShapeLists). IsLegal pace setting.layout s (events_of told)) shaped ran.legal)));

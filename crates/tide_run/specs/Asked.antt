@@ -23,13 +23,17 @@ abbrev pub IsAskedFor : Option ℕ → Option (List ℕ) → Option (List ℕ) �
 IsAskedFor (Some number) old new work = (work ≡ made number) × Keeps old new
 IsAskedFor None old new work = ReadWork old new work
 
+-- the trigger of a run that options ask for: that of the workload, and 0 of a plain run
+abbrev pub trigger_for : Options → Work → ℕ
+trigger_for options work = if options.plain then 0 else work.settings.trigger
+
 -- the run is one of the workload that the options ask for
 pub record RanAsked (asked : Option Options) (old new : Option (List ℕ)) (ran : Ran) : Type 0 where
   pub options : Options
   pub are_asked : asked ≡ Some options
   pub work : Work
   pub is_asked_for : IsAskedFor options.make old new work
-  pub is_run : IsRunOf work ran
+  pub is_run : IsRunOf work (trigger_for options work) ran
 
 -- what is printed of a run: its summary where the workload was generated, and else its text
 abbrev pub printed_as : Bool → Ran → List ℕ

@@ -32,15 +32,16 @@ layout_with settings mutators = record {
 abbrev pub layout_of_work : Work → Layout
 layout_of_work work = layout_with work.settings (length work.scripts)
 
--- the numbers of a workload's periods; the plain store can't mark across parts, so no cycle begins by itself there
-abbrev pub pace_of_work : Work → Pace
-pace_of_work work = record { period = work.settings.period; headroom = work.settings.headroom; trigger = 0 }
+-- the numbers of a workload's periods, with this trigger
+abbrev pub pace_of_work : Work → ℕ → Pace
+pace_of_work work trigger = record { period = work.settings.period; headroom = work.settings.headroom; trigger = trigger }
 
--- A run of a workload: its history is legal in the layout and with the shapes that the workload asks for, its keys
--- have the workload's names, and each mutator asked for all that it was to ask for.
-pub record IsRunOf (work : Work) (ran : Ran) : Type 0 where
+-- A run of a workload with this trigger: its history is legal in the layout and with the shapes that the workload asks
+-- for, its keys have the workload's names, and each mutator asked for all that it was to ask for. The plain store can't
+-- mark across parts, so that its trigger is 0: no cycle begins by itself there. Words have the workload's.
+pub record IsRunOf (work : Work) (trigger : ℕ) (ran : Ran) : Type 0 where
   pub layout : ran.layout ≡ layout_of_work work
   pub keys : ran.keys ≡ work.keys
-  pub legal : IsLegal (pace_of_work work) (layout_of_work work) (shapes_of_paths work.paths) ran.history
+  pub legal : IsLegal (pace_of_work work trigger) (layout_of_work work) (shapes_of_paths work.paths) ran.history
   pub whole : (mutator : ℕ) (ops : List Op) → slice_get work.scripts mutator ≡ Some ops →
       IsWhole (layout_of_work work) ran.history mutator ops

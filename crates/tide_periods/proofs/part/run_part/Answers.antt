@@ -39,7 +39,7 @@ loop-caller-preserved g c =
     (slice_get-get_or callers at c.caller-item.result below)
     (λ k x apart found.
     let other = c.loop-caller.invariant.callers.each k x found in
-    claims_after-share now new c.args.run x.who at stopped (λ same. apart (sym other.0 ∙ same)) c.loop-caller.invariant.way.at_rest ran) in
+    claims_after-share now new c.args.run x.who at stopped (λ same. apart (sym other.0 ∙ same)) c.loop-caller.invariant.way.settled ran) in
     record {
       way = subst (λ (n : ℕ). IsPartway old new c.args.run n c.if-branch.ended) (sym (add-one at))
           (subst (IsPartway old new c.args.run (suc at)) ended

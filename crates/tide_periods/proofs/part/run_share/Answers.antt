@@ -17,7 +17,7 @@ call-requires-clause-asks g c =
     let is : c.next-op.result ≡ next_of caller.ops.items (standing_of caller) (length (now.state.claims caller.who)) =
     c.next-op.ensures ∙ ap (next_of caller.ops.items (standing_of caller)) c.claims.ensures in
     subst (MayAsk now caller.who) (sym is)
-    (MayAsk-next now caller.who caller.ops.items (standing_of caller) (map pair_of caller.calls.items) c.loop-made.invariant.sharing.at_rest c.loop-made.invariant.caller c.if-caller.false)
+    (MayAsk-next now caller.who caller.ops.items (standing_of caller) (map pair_of caller.calls.items) c.loop-made.invariant.sharing.settled c.loop-made.invariant.caller c.if-caller.false)
 
 pub returns-then-branch-clause-ran : goal.returns-then-branch-clause-ran
 returns-then-branch-clause-ran g c =
@@ -37,7 +37,7 @@ pub returns-then-branch-clause-caller : goal.returns-then-branch-clause-caller
 returns-then-branch-clause-caller g c =
     let now = g.T.Recorder.recorded c.loop-made.recorder in
     let caller = c.loop-made.caller in
-    IsCaller-took now (g.T.Recorder.recorded c.call.new.self) caller c.take.new.self c.next-op.result c.in_ok-reply.reply c.loop-made.invariant.sharing.at_rest c.loop-made.invariant.caller
+    IsCaller-took now (g.T.Recorder.recorded c.call.new.self) caller c.take.new.self c.next-op.result c.in_ok-reply.reply c.loop-made.invariant.sharing.settled c.loop-made.invariant.caller
     c.if-caller.false (c.next-op.ensures ∙ ap (next_of caller.ops.items (standing_of caller)) c.claims.ensures) c.in_ok-reply.ensures.made c.in_ok-take.ensures.took
 
 pub loop-made-preserved : goal.loop-made-preserved
@@ -53,9 +53,9 @@ loop-made-preserved g c =
     c.next-op.result c.in_ok-reply.reply c.loop-made.invariant.sharing c.loop-made-test.true at c.next-op.ensures made in
     record {
       sharing = subst (IsSharing old new c.args.run who (c.loop-made._made + 1)) (sym c.in_ok-take.ensures.stops ∙ c.if-branch.false) sharing;
-      caller = IsCaller-took now new caller c.take.new.self c.next-op.result c.in_ok-reply.reply c.loop-made.invariant.sharing.at_rest c.loop-made.invariant.caller
+      caller = IsCaller-took now new caller c.take.new.self c.next-op.result c.in_ok-reply.reply c.loop-made.invariant.sharing.settled c.loop-made.invariant.caller
           c.if-caller.false (c.next-op.ensures ∙ ap (next_of caller.ops.items (standing_of caller)) c.claims.ensures) c.in_ok-reply.ensures.made c.in_ok-take.ensures.took;
-      left = (let fewer = left-took now new caller c.take.new.self c.next-op.result c.in_ok-reply.reply c.loop-made.invariant.sharing.at_rest c.loop-made.invariant.caller
+      left = (let fewer = left-took now new caller c.take.new.self c.next-op.result c.in_ok-reply.reply c.loop-made.invariant.sharing.settled c.loop-made.invariant.caller
           c.if-caller.false (c.next-op.ensures ∙ ap (next_of caller.ops.items (standing_of caller)) c.claims.ensures) c.in_ok-reply.ensures.made c.in_ok-take.ensures.took in
           let before = c.loop-made.invariant.left in omega (arith, fewer, before));
       stands = c.in_ok-reply.ensures.stands;
@@ -68,7 +68,7 @@ returns-then-branch-clause-left g c =
     let now = g.T.Recorder.recorded c.loop-made.recorder in
     let new = g.T.Recorder.recorded c.call.new.self in
     let caller = c.loop-made.caller in
-    let fewer = left-took now new caller c.take.new.self c.next-op.result c.in_ok-reply.reply c.loop-made.invariant.sharing.at_rest c.loop-made.invariant.caller
+    let fewer = left-took now new caller c.take.new.self c.next-op.result c.in_ok-reply.reply c.loop-made.invariant.sharing.settled c.loop-made.invariant.caller
     c.if-caller.false (c.next-op.ensures ∙ ap (next_of caller.ops.items (standing_of caller)) c.claims.ensures) c.in_ok-reply.ensures.made c.in_ok-take.ensures.took in
     let before = c.loop-made.invariant.left in
     omega (arith, fewer, before)
@@ -78,7 +78,7 @@ returns-then-branch-clause-fewer g c some stays =
     let now = g.T.Recorder.recorded c.loop-made.recorder in
     let new = g.T.Recorder.recorded c.call.new.self in
     let caller = c.loop-made.caller in
-    let fewer = left-took now new caller c.take.new.self c.next-op.result c.in_ok-reply.reply c.loop-made.invariant.sharing.at_rest c.loop-made.invariant.caller
+    let fewer = left-took now new caller c.take.new.self c.next-op.result c.in_ok-reply.reply c.loop-made.invariant.sharing.settled c.loop-made.invariant.caller
     c.if-caller.false (c.next-op.ensures ∙ ap (next_of caller.ops.items (standing_of caller)) c.claims.ensures) c.in_ok-reply.ensures.made c.in_ok-take.ensures.took in
     let before = c.loop-made.invariant.left in
     omega (arith, fewer, before)

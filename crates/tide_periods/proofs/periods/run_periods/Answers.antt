@@ -3,12 +3,12 @@ use Rattle.std.proofs.Common.{◌∙◌, refl, sym, arith, subst}
 use Rattle.tide_model.specs.Periods.{ArePeriods, no_period}
 use Rattle.tide_periods.specs.Periods.{pace_of}
 use Rattle.tide_periods.proofs.Freezing.{is_over-callers}
-use Rattle.tide_periods.proofs.Running.{ArePeriods-ran, RanAll-over}
+use Rattle.tide_periods.proofs.Running.{ArePeriods-ran, RanAll-over, run_of_nothing}
 use Rattle.tide_periods.proofs.periods.run_periods.Goals as goal
 
 pub loop-pacing-init : goal.loop-pacing-init
 loop-pacing-init g c = record {
-  at_rest = c.requires.at_rest;
+  settled = c.requires.settled;
   stands = c.requires.stands;
   same = refl;
   scripts = refl;
@@ -16,6 +16,8 @@ loop-pacing-init g c = record {
   periods = subst (ArePeriods (pace_of c.args.pacing) (g.T.Recorder.recorded c.args.recorder.now).setting.layout) (sym c.requires.nothing) no_period;
   cycles = omega arith;
   left = omega arith;
+  run = run_of_nothing (pace_of c.args.pacing) (g.T.Recorder.recorded c.args.recorder.now) c.requires.nothing;
+  some = c.requires.period;
 }
 
 pub run_period-requires-clause-goes_on : goal.run_period-requires-clause-goes_on
@@ -26,21 +28,23 @@ pub loop-pacing-preserved : goal.loop-pacing-preserved
 loop-pacing-preserved g c =
     let old = g.T.Recorder.recorded c.loop-pacing.recorder in
     let new = g.T.Recorder.recorded c.run_period.new.recorder in
-    let ran = c.in_ok-run_period.ensures.ran in
-    let fewer = c.in_ok-run_period.ensures.left in
+    let ran = c.in_ok-run.ensures.ran in
+    let fewer = c.in_ok-run.ensures.left in
     let cycles = ran.cycles in
     let parts = ran.parts in
     let had = c.loop-pacing.invariant.cycles in
     let left = c.loop-pacing.invariant.left in
     record {
-      at_rest = ran.at_rest;
-      stands = c.in_ok-run_period.ensures.stands;
+      settled = ran.settled;
+      stands = c.in_ok-run.ensures.stands;
       same = ran.same ∙ c.loop-pacing.invariant.same;
-      scripts = c.in_ok-run_period.ensures.scripts ∙ c.loop-pacing.invariant.scripts;
-      callers = c.in_ok-run_period.ensures.callers;
-      periods = ArePeriods-ran old new (pace_of c.args.pacing) ran c.loop-pacing.invariant.periods;
+      scripts = c.in_ok-run.ensures.scripts ∙ c.loop-pacing.invariant.scripts;
+      callers = c.in_ok-run.ensures.callers;
+      periods = ArePeriods-ran old new (pace_of c.args.pacing) c.in_ok-run.run' ran c.loop-pacing.invariant.periods;
       cycles = omega (arith, cycles, parts, had);
       left = omega (arith, parts, left, fewer);
+      run = ran.next;
+      some = ran.some;
     }
 
 pub returns : goal.returns
@@ -48,6 +52,6 @@ returns g c = record {
   stands = c.loop-pacing.invariant.stands;
   same = c.loop-pacing.invariant.same;
   scripts = c.loop-pacing.invariant.scripts;
-  ran = RanAll-over (g.T.Recorder.recorded c.loop-pacing.recorder) (pace_of c.args.pacing) c.loop-pacing.callers c.loop-pacing.invariant.at_rest c.loop-pacing.invariant.callers
+  ran = RanAll-over (g.T.Recorder.recorded c.loop-pacing.recorder) (pace_of c.args.pacing) c.loop-pacing.callers c.loop-pacing.invariant.settled c.loop-pacing.invariant.callers
       c.loop-pacing.invariant.periods (sym c.are_all_retired.ensures ∙ c.loop-pacing-test.false);
 }

@@ -10,6 +10,7 @@ use Rattle.tide_periods.specs.Left.{total_by}
 use Rattle.tide_periods.specs.Part.{AreCallers}
 use Rattle.tide_periods.specs.Periods.{pace_of}
 use Rattle.tide_periods.specs.Recorded.{Recorded}
+use Rattle.tide_periods.specs.Told.{AreCounted}
 use Rattle.tide_periods.proofs.Running.{HasRun-over}
 use Rattle.tide_periods.proofs.Starting.{AreCallers-nothing, total-few}
 use Rattle.tide_periods.proofs.run.run_on.Goals as goal
@@ -26,10 +27,10 @@ run_periods-requires-clause-callers g c =
     (AreCallers-nothing recorded callers scripts c.requires.nothing new count c.requires.askable)
 
 pub run_periods-requires-clause-cycles : goal.run_periods-requires-clause-cycles
-run_periods-requires-clause-cycles g c = sym c.requires.at_rest.begun ∙ ap begin_count c.requires.nothing
+run_periods-requires-clause-cycles g c = sym c.requires.settled.begun ∙ ap begin_count c.requires.nothing
 
 pub run_periods-requires-clause-parts : goal.run_periods-requires-clause-parts
-run_periods-requires-clause-parts g c = sym c.requires.at_rest.opens ∙ ap open_count c.requires.nothing
+run_periods-requires-clause-parts g c = sym c.requires.settled.opens ∙ ap open_count c.requires.nothing
 
 pub run_periods-requires-clause-room : goal.run_periods-requires-clause-room
 run_periods-requires-clause-room g c =
@@ -38,7 +39,7 @@ run_periods-requires-clause-room g c =
     let claims = (g.T.Recorder.recorded c.args.recorder).state.claims in
     let count : length callers ≡ length c.args.scripts.items =
     sym (length-map callers (λ (c' : Caller). c'.ops.items)) ∙ ap length new.scripts_are ∙ length-map c.args.scripts.items (λ ops. ops.items) in
-    let total = total-few claims callers c.requires.at_rest.few (subst (All (λ (ops : List Op). length ops ≤ 65536)) (sym new.scripts_are) c.requires.short) in
+    let total = total-few claims callers c.requires.settled.few (subst (All (λ (ops : List Op). length ops ≤ 65536)) (sym new.scripts_are) c.requires.short) in
     let few = c.requires.few in
     subst (λ (cs : List Caller). total_by claims cs < 4294967295) (sym c.as_mut_slice.ensures.value) (omega (arith, total, count, few))
 
@@ -53,8 +54,9 @@ returns g c =
     let as_many : length new ≡ length c.as_mut_slice.result.now = sym (length-map new script) ∙ ap length ran.scripts ∙ length-map c.as_mut_slice.result.now script in
     let whole = with_items_is callers new (omega (arith, as_many, c.as_mut_slice.ensures.len)) in
     HasRun-over (g.T.Recorder.recorded c.args.recorder).setting (pace_of c.args.pacing) (map (λ ops. ops.items) c.args.scripts.items) recorded c.run_periods.new.callers
-    c.into_told-told.result.items (map (λ own. own.items) c.in_ok-calls.calls.items) c.live-live.result
+    c.in_ok-told.told.items (map (λ own. own.items) c.in_ok-calls.calls.items) c.live-live.result
     ran.ran ran.same
     (ran.scripts ∙ ap scripts_of c.as_mut_slice.ensures.value ∙ c.in_ok-callers.ensures.scripts_are)
-    (c.into_told-told.ensures ∙ ap (λ (r : Recorded). r.told) c.live-live.ensures.same)
+    (c.in_ok-told.ensures.told ∙ ap (λ (r : Recorded). r.history) c.live-live.ensures.same)
+    (subst (λ (r : Recorded). AreCounted r.setting.layout c.in_ok-told.told.items) c.live-live.ensures.same c.in_ok-told.ensures.counted)
     (c.in_ok-calls.ensures ∙ ap (map (λ (x : Caller). x.calls.items)) whole) c.live-live.ensures.live

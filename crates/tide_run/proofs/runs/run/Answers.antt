@@ -9,7 +9,7 @@ pub run_with-requires-clause-layout : goal.run_with-requires-clause-layout
 run_with-requires-clause-layout g c =
     let work = c.args.load.now in
     c.in_ok-recorder.ensures.layout ∙ c.layout_with-layout.ensures
-    ∙ ap (λ (s : Settings). layout_with s c.mutators.result) c.settings.ensures.value
+    ∙ ap (λ (s : Settings). layout_with s c.mutators.result) c.settings-settings.ensures.value
     ∙ ap (layout_with work.settings) c.mutators.ensures.count
 
 pub run_with-requires-clause-shapes : goal.run_with-requires-clause-shapes

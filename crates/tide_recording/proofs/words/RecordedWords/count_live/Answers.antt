@@ -34,7 +34,7 @@ loop-cell-preserved c =
     record {
       count = counted ∙ ap (λ (n : ℕ). n + (if is_live_at (heap_in self) cell then 1 else 0)) c.loop-cell.invariant.count
           ∙ ap (count_where (is_live_at (heap_in self))) (sym (add-one cell));
-      same = ap (λ (words : List ℕ). record c.loop-cell.self { words = words }) c.is_live.ensures.same ∙ c.loop-cell.invariant.same;
+      same = ap (λ (words : List ℕ). record c.loop-cell.self { chronicle = record c.loop-cell.self.chronicle { words = words } }) c.is_live.ensures.same ∙ c.loop-cell.invariant.same;
     }
   where
     add_zero : (n : ℕ) → n + 0 ≡ n
@@ -43,7 +43,7 @@ loop-cell-preserved c =
 pub returns-clause-live : goal.returns-clause-live
 returns-clause-live c =
     let self = c.args.self.now in
-    let reads = c.requires.stands.wave.marking.reads in
+    let reads = c.requires.stands.frozen.wave.marking.reads in
     let end : c.loop-cell.cell ≡ cell_count self.layout = (let count = c.cells-cell-end.ensures.count in let stop = c.loop-cell-test.false in
     let within = c.loop-cell.auto.cell-end in omega (arith, count, stop, within)) in
     c.loop-cell.invariant.count ∙ ap (count_where (is_live_at (heap_in self))) end

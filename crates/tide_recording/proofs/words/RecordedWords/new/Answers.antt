@@ -1,38 +1,38 @@
 -- Answers to the goals of words::RecordedWords::new.
-use Rattle.std.proofs.Common.{◌∙◌, ◌≤◌, sym, ap, subst, arith, List, replicate, []}
+use Rattle.std.proofs.Common.{ℕ, ◌∙◌, ◌≤◌, sym, ap, subst, arith, List, replicate, []}
+use Rattle.tide_model.specs.declared.entry.Event.{Event}
 use Rattle.tide_model.specs.History.{state_after}
 use Rattle.tide_model.specs.Layout.{cell_count}
-use Rattle.tide_shape.specs.Lists.{lists_of}
-use Rattle.tide_words.specs.heap.Heap.{heap_of}
+use Rattle.tide_model.specs.Refused.{ShapeLists}
 use Rattle.tide_words.specs.marking.Greys.{Greys}
-use Rattle.tide_core.specs.FrozenWave.{FrozenWave}
-use Rattle.tide_periods.specs.declared.told.Told.{Told}
-use Rattle.tide_periods.specs.Told.{events_of}
+use Rattle.tide_cycle.specs.Reports.{Reported}
+use Rattle.tide_freeze.specs.Births.{AreBornIn}
+use Rattle.tide_freeze.specs.Frozen.{IsFrozen}
+use Rattle.tide_freeze.specs.Laws.{any_cells}
 use Rattle.tide_recording.specs.Kept.{HoldsClaims}
-use Rattle.tide_recording.proofs.Opening.{FrozenWave-fresh, HoldsClaims-nothing, IsAtRest-fresh}
+use Rattle.tide_recording.proofs.Opening.{HoldsClaims-nothing, IsSettled-fresh, TellsEnds-nothing}
+use Rattle.tide_shape.specs.Lists.{lists_of}
 use Rattle.tide_recording.proofs.words.RecordedWords.new.Goals as goal
 
 pub returns-clause-stands : goal.returns-clause-stands
 returns-clause-stands c =
     let layout = c.args.layout in
-    let words = c.in_ok-words.words in
+    let chronicle = c.in_ok-chronicle.chronicle in
     let claims = c.in_ok-claims.claims.items in
-    let none = c.in_ok-told.ensures in
+    let none = c.in_ok-chronicle.ensures.history in
     record {
-      ready = record {
-        all_words = c.in_ok-words.ensures.all_words;
-        empty = ap (λ (greys : Greys). greys.cells) c.in_ok-greys.ensures;
-        room = subst (λ (greys : Greys). cell_count layout ≤ greys.cap) (sym c.in_ok-greys.ensures)
-            (let count = c.cells.ensures.count in omega (arith, count));
-      };
-      wave = subst (λ (told : List Told). FrozenWave layout (lists_of c.args.shapes) (heap_of layout words) (events_of told)) (sym none)
-          (FrozenWave-fresh layout (lists_of c.args.shapes) words c.in_ok-words.ensures);
-      claims = subst (λ (told : List Told). HoldsClaims layout (state_after layout (events_of told)) claims) (sym none)
+      frozen = subst (λ (h : List Event). IsFrozen layout (lists_of chronicle.shapes) chronicle.words h any_cells) (sym none)
+          (subst (λ (s : ShapeLists). IsFrozen layout s chronicle.words [] any_cells) (sym c.in_ok-chronicle.ensures.shapes) c.in_ok-chronicle.ensures.frozen);
+      claims = subst (λ (h : List Event). HoldsClaims layout (state_after layout h) claims) (sym none)
           (HoldsClaims-nothing layout claims (c.in_ok-claims.ensures ∙ ap (λ n. replicate n []) c.mutators.ensures.count));
+      births = subst (λ (h : List Event). AreBornIn h c.none.result) (sym none) c.none.ensures;
+      told = TellsEnds-nothing layout chronicle.events.items c.in_ok-report.report none (ap (λ (r : Reported). r.cycles) c.in_ok-report.ensures);
+      empty = ap (λ (greys : Greys). greys.cells) c.in_ok-greys.ensures;
+      room = subst (λ (greys : Greys). cell_count layout ≤ greys.cap) (sym c.in_ok-greys.ensures)
+          (let count = c.cells.ensures.count in omega (arith, count));
+      no_visitors = c.requires.no_visitors;
     }
 
-pub returns-clause-at_rest : goal.returns-clause-at_rest
-returns-clause-at_rest c = IsAtRest-fresh c.args.layout (lists_of c.args.shapes) c.in_ok-told.told.items c.in_ok-told.ensures
-
-pub returns-clause-nothing : goal.returns-clause-nothing
-returns-clause-nothing c = ap events_of c.in_ok-told.ensures
+pub returns-clause-settled : goal.returns-clause-settled
+returns-clause-settled c =
+    IsSettled-fresh c.args.layout (lists_of c.in_ok-chronicle.chronicle.shapes) c.in_ok-chronicle.chronicle.events.items c.in_ok-chronicle.ensures.history

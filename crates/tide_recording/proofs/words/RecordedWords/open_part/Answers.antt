@@ -2,64 +2,68 @@
 use Rattle.std.proofs.Common.{ℕ, ◌≡◌, ◌+◌, ◌∙◌, refl, sym, ap, subst, List, [], ◌∷◌, ◌++◌}
 use Rattle.std.specs.Prelude.{slice_index}
 use Rattle.tide_model.specs.declared.entry.Entry.TheVariants.{Open}
+use Rattle.tide_model.specs.declared.entry.Event.{Event}
 use Rattle.tide_model.specs.Cycle.{begin_count}
 use Rattle.tide_model.specs.History.{plain, state_after}
 use Rattle.tide_model.specs.Periods.{open_count}
 use Rattle.tide_model.specs.State.{State}
-use Rattle.tide_shape.specs.Lists.{lists_of}
+use Rattle.tide_model.proofs.Histories.{state_after-push}
 use Rattle.tide_words.specs.heap.Heap.{heap_of}
 use Rattle.tide_core.specs.Entered.{HasOpened}
-use Rattle.tide_core.specs.FrozenWave.{FrozenWave}
-use Rattle.tide_core.proofs.EntryLaws.{FrozenWave-opened}
-use Rattle.tide_periods.specs.declared.told.Told.{Told}
-use Rattle.tide_periods.specs.Told.{events_of, uncounted}
+use Rattle.tide_freeze.specs.Births.{AreBornIn}
+use Rattle.tide_freeze.specs.Frozen.{IsFrozen}
+use Rattle.tide_freeze.specs.Laws.{any_cells}
+use Rattle.tide_freeze.specs.Told.{TellsEnds}
+use Rattle.tide_freeze.proofs.RunningLaws.{open_keeps_births, open_keeps_frozen, part_keeps_report}
 use Rattle.tide_periods.proofs.RecordedLaws.{OpenedPart-did}
-use Rattle.tide_recording.specs.Kept.{history_in, recorded_in, state_in}
-use Rattle.tide_recording.proofs.Cycling.{HoldsClaims-same}
+use Rattle.tide_recording.specs.Kept.{history_in, recorded_in, recorded_of, shapes_in, state_in}
+use Rattle.tide_recording.proofs.FrozenParts.{HoldsClaims-same}
 use Rattle.tide_recording.proofs.Opening.{HasOpened-written, counts-opened}
-use Rattle.tide_recording.proofs.Telling.{events_of-push, state_after-told}
 use Rattle.tide_recording.proofs.words.RecordedWords.open_part.Goals as goal
 
 pub returns-clause-opened : goal.returns-clause-opened
 returns-clause-opened c =
     let self = c.args.self.now in
     let number = c.load-last.result + 1 in
-    let one = uncounted (plain (Open number c.args.run)) in
     let last : c.load-last.result ≡ open_count (history_in self) =
-    c.load-last.ensures.word ∙ ap (slice_index self.words) c.place.ensures.place ∙ c.requires.stands.wave.period in
-    let new = record self { words = c.store_word.new.words; told = c.tell.new.told } in
-    let history : history_in new ≡ history_in self ++ plain (Open number c.args.run) ∷ [] =
-    ap events_of c.in_ok-tell.ensures ∙ events_of-push self.told.items one in
-    let state : state_in new ≡ state_in self =
-    ap (λ (told : List Told). state_after self.layout (events_of told)) c.in_ok-tell.ensures ∙ state_after-told self.layout self.told.items one in
+    c.load-last.ensures.word ∙ ap (slice_index self.chronicle.words) c.place.ensures.place ∙ c.requires.stands.frozen.wave.period in
+    let history = c.in_ok-append.ensures in
     let counts = counts-opened (history_in self) number c.args.run in
-    OpenedPart-did (recorded_in self) (recorded_in new) c.args.run number c.requires.at_rest (ap (λ (n : ℕ). n + 1) last) state refl history c.in_ok-tell.ensures
+    OpenedPart-did (recorded_in self) (recorded_of self.layout (shapes_in self) c.append.new.list.items) c.args.run number c.requires.settled (ap (λ (n : ℕ). n + 1) last)
+    (ap (state_after self.layout) history ∙ state_after-push self.layout (history_in self) (plain (Open number c.args.run))) refl history
     (ap begin_count history ∙ counts.0) (ap open_count history ∙ counts.1) refl
 
 pub returns-clause-stands : goal.returns-clause-stands
 returns-clause-stands c =
     let self = c.args.self.now in
     let layout = self.layout in
-    let number = c.load-last.result + 1 in
-    let one = uncounted (plain (Open number c.args.run)) in
+    let shapes = shapes_in self in
+    let run = c.args.run in
     let stands = c.requires.stands in
     let last : c.load-last.result ≡ open_count (history_in self) =
-    c.load-last.ensures.word ∙ ap (slice_index self.words) c.place.ensures.place ∙ stands.wave.period in
-    let old = heap_of layout self.words in
-    let new = heap_of layout c.store_word.new.words in
-    let history : events_of c.tell.new.told.items ≡ history_in self ++ plain (Open (open_count (history_in self) + 1) c.args.run) ∷ [] =
-    ap events_of c.in_ok-tell.ensures ∙ events_of-push self.told.items one
-    ∙ ap (λ (n : ℕ). history_in self ++ plain (Open (n + 1) c.args.run) ∷ []) last in
-    let state : state_after layout (events_of c.tell.new.told.items) ≡ state_in self =
-    ap (λ (told : List Told). state_after layout (events_of told)) c.in_ok-tell.ensures ∙ state_after-told layout self.told.items one in
-    let written : HasOpened layout old new number = subst (HasOpened layout old new) c.from.ensures
+    c.load-last.ensures.word ∙ ap (slice_index self.chronicle.words) c.place.ensures.place ∙ stands.frozen.wave.period in
+    let old = heap_of layout self.chronicle.words in
+    let now = c.store_word.new.words in
+    let new = heap_of layout now in
+    let event : Event = plain (Open (open_count (history_in self) + 1) run) in
+    let history : c.append.new.list.items ≡ history_in self ++ event ∷ [] =
+    c.in_ok-append.ensures ∙ ap (λ (n : ℕ). history_in self ++ plain (Open (n + 1) run) ∷ []) last in
+    let state : state_after layout c.append.new.list.items ≡ state_in self =
+    ap (state_after layout) history ∙ state_after-push layout (history_in self) event in
+    let written : HasOpened layout old new (c.load-last.result + 1) = subst (HasOpened layout old new) c.from.ensures
     (subst (λ (words : List ℕ). HasOpened layout (heap_of layout words) new c.from.result) c.load-last.ensures.same
     (HasOpened-written layout (heap_of layout c.load-last.new.self) new c.from.result c.store_word.ensures.written)) in
     record {
-      ready = record { all_words = c.store_word.ensures.all_words; empty = stands.ready.empty; room = stands.ready.room };
-      wave = subst (FrozenWave layout (lists_of self.shapes) new) (sym history)
-          (FrozenWave-opened layout (lists_of self.shapes) old new (history_in self) c.args.run stands.wave
-          (subst (HasOpened layout old new) (ap (λ (n : ℕ). n + 1) last) written));
-      claims = HoldsClaims-same layout (state_in self) (state_after layout (events_of c.tell.new.told.items)) self.claims.items
+      frozen = subst (λ (h : List Event). IsFrozen layout shapes now h any_cells) (sym history)
+          (open_keeps_frozen layout shapes self.chronicle.words now (history_in self) run stands.frozen
+          (subst (HasOpened layout old new) (ap (λ (n : ℕ). n + 1) last) written) c.store_word.ensures.all_words);
+      claims = HoldsClaims-same layout (state_in self) (state_after layout c.append.new.list.items) self.claims.items
           (ap (λ (s : State). s.claims) state) stands.claims;
+      births = subst (λ (h : List Event). AreBornIn h self.births) (sym history)
+          (open_keeps_births (history_in self) (open_count (history_in self) + 1) run self.births stands.births);
+      told = subst (λ (h : List Event). TellsEnds layout h self.report) (sym history)
+          (part_keeps_report layout (history_in self) (event ∷ []) self.report refl stands.told);
+      empty = stands.empty;
+      room = stands.room;
+      no_visitors = stands.no_visitors;
     }

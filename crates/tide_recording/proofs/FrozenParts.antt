@@ -1,0 +1,80 @@
+-- What a freeze leaves of words that keep a history, as a run sees it.
+use Rattle.std.proofs.Common.{ℕ, ◌≡◌, ◌+◌, ◌*◌, ◌<◌, ◌≤◌, ◌∙◌, arith, refl, sym, ap, subst, Bool, true, List, ◌++◌, length}
+use Rattle.std.specs.Prelude.{All, map}
+use Rattle.std.specs.List.{list_all}
+use Rattle.tide_model.specs.declared.entry.Event.{Event}
+use Rattle.tide_model.specs.Each.{Each}
+use Rattle.tide_model.specs.History.{state_after, state_from}
+use Rattle.tide_model.specs.Layout.{Layout, cell_count}
+use Rattle.tide_model.specs.Lawful.{IsLawful}
+use Rattle.tide_model.specs.Pace.{Pace}
+use Rattle.tide_model.specs.Periods.{EndsInTime, IsSwept, next_run, open_count}
+use Rattle.tide_model.specs.Refused.{ShapeLists}
+use Rattle.tide_model.specs.State.{State, empty_state}
+use Rattle.tide_model.proofs.Histories.{state_from-append}
+use Rattle.tide_cycle.specs.Reports.{LiesWithin, Reported}
+use Rattle.tide_freeze.specs.Freezing.{HasFrozen}
+use Rattle.tide_freeze.specs.Told.{HasRoomForEnds, TellsEnds, ended_by, ended_in}
+use Rattle.tide_freeze.proofs.QuietLaws.{HasFrozen-quiet, calls_of-quiet, is_quiet, kept_by_quiet, open_count-quiet}
+use Rattle.tide_periods.specs.Periods.{RanFreeze}
+use Rattle.tide_periods.specs.Recorded.{IsSettled}
+use Rattle.tide_recording.specs.Kept.{HoldsClaims, recorded_of}
+
+-- a freeze that did what the schedule asks for is one of a run
+pub RanFreeze-frozen : (pace : Pace) (layout : Layout) (shapes : ShapeLists) (here after : List Event) (is_must : Bool) (run : ℕ) →
+    IsSettled (recorded_of layout shapes here) → HasFrozen pace layout here after is_must → IsLawful layout shapes after →
+    Each (EndsInTime layout) after → IsSwept layout after → run ≡ next_run pace layout after →
+    RanFreeze (recorded_of layout shapes here) (recorded_of layout shapes after) pace is_must run
+RanFreeze-frozen pace layout shapes here after is_must run settled frozen lawful ends swept is_run = record {
+  settled = record {
+    lawful = lawful;
+    ends = ends;
+    leaves = refl;
+    begun = refl;
+    opens = refl;
+    swept = swept;
+    few = λ who. subst (λ (claims : ℕ → List ℕ). length (claims who) ≤ 8) (sym claims) (settled.few who);
+    blocks = refl;
+  };
+  same = refl;
+  cycles = frozen.cycles;
+  parts = ap open_count frozen.entered ∙ open_count-quiet here frozen.events quiet;
+  freeze = frozen.events;
+  history = frozen.entered;
+  quiet = λ who. calls_of-quiet who frozen.events quiet;
+  active = ap (λ (s : State). s.active) grown ∙ kept.0;
+  claims = claims;
+  is_freeze = frozen.is_freeze;
+  next = is_run;
+  some = subst (λ (n : ℕ). 0 < n) (sym is_run) frozen.calls;
+}
+  where
+    quiet : list_all (λ e. is_quiet e.entry) frozen.events ≡ true
+    quiet = HasFrozen-quiet pace layout here after is_must frozen
+
+    grown : state_after layout after ≡ state_from layout (state_after layout here) frozen.events
+    grown = ap (state_after layout) frozen.entered ∙ state_from-append layout empty_state here frozen.events
+
+    kept : ((state_from layout (state_after layout here) frozen.events).active ≡ (state_after layout here).active)
+        × ((state_from layout (state_after layout here) frozen.events).claims ≡ (state_after layout here).claims)
+    kept = kept_by_quiet layout (state_after layout here) frozen.events quiet
+
+    claims : (state_after layout after).claims ≡ (state_after layout here).claims
+    claims = ap (λ (s : State). s.claims) grown ∙ kept.1
+
+-- a mutator's lists are the claims of each state that claims the same
+pub HoldsClaims-same : (layout : Layout) (one other : State) (claims : List (List ℕ)) → other.claims ≡ one.claims →
+    HoldsClaims layout one claims → HoldsClaims layout other claims
+HoldsClaims-same layout one other claims same holds = record {
+  one_each = holds.one_each;
+  are = λ who own at. ap (λ (of : ℕ → List ℕ). of who) same ∙ holds.are who own at;
+}
+
+-- a report tells the same with more room
+pub TellsEnds-same : (layout : Layout) (history : List Event) (one other : Reported) → other.cycles ≡ one.cycles → other.ids ≡ one.ids →
+    TellsEnds layout history one → TellsEnds layout history other
+TellsEnds-same layout history one other cycles ids tells = record {
+  within = subst (λ (cells : List ℕ). All (LiesWithin cells) other.cycles) (sym ids)
+      (subst (All (LiesWithin one.ids)) (sym cycles) tells.within);
+  are = ap (λ (cells : List ℕ). map (ended_by cells) other.cycles) ids ∙ ap (map (ended_by one.ids)) cycles ∙ tells.are;
+}
