@@ -32,7 +32,7 @@ layout_with settings mutators = record {
 abbrev pub layout_of_work : Work → Layout
 layout_of_work work = layout_with work.settings (length work.scripts)
 
--- the numbers of a workload's periods; the plain store can't mark across parts, so no cycle begins by itself there
+-- the numbers of a workload's periods; no store of a run marks across parts yet, so no cycle begins by itself
 abbrev pub pace_of_work : Work → Pace
 pace_of_work work = record { period = work.settings.period; headroom = work.settings.headroom; trigger = 0 }
 
