@@ -77,4 +77,5 @@ TellsEnds-same layout history one other cycles ids tells = record {
   within = subst (λ (cells : List ℕ). All (LiesWithin cells) other.cycles) (sym ids)
       (subst (All (LiesWithin one.ids)) (sym cycles) tells.within);
   are = ap (λ (cells : List ℕ). map (ended_by cells) other.cycles) ids ∙ ap (map (ended_by one.ids)) cycles ∙ tells.are;
+  all = ids ∙ tells.all;
 }

@@ -71,9 +71,10 @@ counts-opened history number run = (
 
 -- an empty report tells the ends of no history
 pub TellsEnds-nothing : (layout : Layout) (history : List Event) (report : Reported) → history ≡ [] → report.cycles ≡ [] →
-    TellsEnds layout history report
-TellsEnds-nothing layout history report none no_cycles =
+    report.ids ≡ [] → TellsEnds layout history report
+TellsEnds-nothing layout history report none no_cycles no_ids =
     subst (λ (h : List Event). TellsEnds layout h report) (sym none) (record {
       within = subst (All (LiesWithin report.ids)) (sym no_cycles) (All-nil (LiesWithin report.ids));
       are = ap (map (ended_by report.ids)) no_cycles;
+      all = no_ids;
     })

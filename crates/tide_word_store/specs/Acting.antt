@@ -1,5 +1,5 @@
 -- What the parts of acting on a plan do to the words.
-use Rattle.std.specs.Prelude.{ℕ, ◌≡◌, ◌+◌, ◌==◌, not, List, [], ◌∷◌, ◌++◌, drop, filter}
+use Rattle.std.specs.Prelude.{ℕ, ◌≡◌, ◌+◌, ◌==◌, not, true, List, [], ◌∷◌, ◌++◌, drop, filter}
 use Rattle.tide_layout.specs.Slots.{index_of_element}
 use Rattle.tide_layout.specs.declared.region.Region.TheVariants.{Elements, Free, Structure}
 use Rattle.tide_model.specs.declared.op.Op.{Op}
@@ -8,6 +8,7 @@ use Rattle.tide_model.specs.declared.op.Reply.{Reply}
 use Rattle.tide_model.specs.declared.op.Reply.TheVariants.{Done}
 use Rattle.tide_model.specs.declared.val.Val.{Val}
 use Rattle.tide_model.specs.Layout.{IsBlockOf, Layout}
+use Rattle.tide_words.specs.forms.StructureWord.{structure_word}
 use Rattle.tide_words.specs.forms.ValueWord.{val_word}
 use Rattle.tide_words.specs.heap.Heap.{Heap}
 use Rattle.tide_words.specs.heap.Written.{IsWritten}
@@ -26,6 +27,10 @@ IsClassFull layout heap class = (block : ℕ) → IsBlockOf layout class block �
 abbrev pub HasBorn : Layout → Heap → Heap → ℕ → ℕ → ℕ → Type 0
 HasBorn layout old new who dst cell =
     (taken : Heap) × Bears layout old who dst cell taken × HasBornColour layout taken new cell
+
+-- the structure's word of a cell whose array is about to change: its shape and count until then, with the mark
+abbrev pub nuked_word : Addition → ℕ
+nuked_word addition = structure_word (record { shape = addition.shape; count = addition.count; nuked = true })
 
 -- a property was added in the cell's array
 abbrev pub HasAppended : Layout → Heap → Heap → Addition → ℕ → Val → Type 0

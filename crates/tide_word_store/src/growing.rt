@@ -9,7 +9,7 @@ ghost use Rattle.tide_call.specs.PlanWords.{IsFreeArrayIn};
 ghost use Rattle.tide_call.specs.ShapeWord.{whole_word};
 ghost use Rattle.tide_words.specs.heap.Heap.{heap_of};
 ghost use Rattle.tide_words.specs.heap.Written.{IsWritten};
-ghost use Rattle.tide_word_store.specs.Acting.{HasAppended, IsClassFull};
+ghost use Rattle.tide_word_store.specs.Acting.{HasAppended, IsClassFull, nuked_word};
 ghost use Rattle.tide_word_store.specs.Needed.{HasRoomFor, MayGrow};
 
 use crate::storing::store_element;
@@ -55,8 +55,8 @@ fn nuke<W: Words>(words: &mut W, layout: &Layout, addition: Addition)
     requires few { addition.count < 64 }
     ensures all_words { length (W.words words.new) ≡ word_count layout.now }
     ensures same_rest { W.rest words.new ≡ W.rest words.old }
-    ensures written { (word : ℕ) × IsWritten layout.now (heap_of layout.now (W.words words.old))
-        (heap_of layout.now (W.words words.new)) StructureRegion addition.cell word }
+    ensures written { IsWritten layout.now (heap_of layout.now (W.words words.old))
+        (heap_of layout.now (W.words words.new)) StructureRegion addition.cell (nuked_word addition) }
 {
     let structure = Structure {
         shape: addition.shape,

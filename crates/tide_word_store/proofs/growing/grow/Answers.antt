@@ -7,6 +7,7 @@ use Rattle.tide_words.specs.forms.ValueWord.{val_word}
 use Rattle.tide_words.specs.heap.Heap.{heap_of}
 use Rattle.std.specs.Prelude.{Some}
 use Rattle.tide_call.proofs.reading_laws.GrowthSteps.{growths_in_order}
+use Rattle.tide_word_store.specs.Acting.{nuked_word}
 use Rattle.tide_word_store.proofs.ActingLaws.{written_as}
 use Rattle.tide_word_store.proofs.growing.grow.Goals as goal
 
@@ -37,8 +38,7 @@ returns-clause-grown g c =
     let nuked = heap_of layout (g.W.Words.words c.nuke.new.words) in
     let moved = heap_of layout (g.W.Words.words c.store_word.new.words) in
     let new = heap_of layout (g.W.Words.words c.store_shape.new.words) in
-    let (word, nuke) = c.nuke.ensures.written in
-    growths_in_order layout old freed copied stored nuked moved new addition.cell taken c.args.array addition.count addition.next word c.args.value
+    growths_in_order layout old freed copied stored nuked moved new addition.cell taken c.args.array addition.count addition.next (nuked_word addition) c.args.value
     c.requires.may.cell_within (record {
       array_within = c.in_ok-taken.ensures.free.within;
       element_within = (
@@ -47,6 +47,6 @@ returns-clause-grown g c =
           omega (arith, wide, holds));
     }) c.in_ok-taken.ensures.taken c.copy.ensures.copied
     (written_as layout copied stored Elements _ _ (val_word c.args.value) c.val_word.ensures c.store_element.ensures.written)
-    nuke
+    c.nuke.ensures.written
     (written_as layout nuked moved Array addition.cell _ (array_word (Some taken)) c.array_word.ensures c.store_word.ensures.written)
     c.store_shape.ensures.written

@@ -26,7 +26,8 @@ returns-clause-stands c =
       claims = subst (λ (h : List Event). HoldsClaims layout (state_after layout h) claims) (sym none)
           (HoldsClaims-nothing layout claims (c.in_ok-claims.ensures ∙ ap (λ n. replicate n []) c.mutators.ensures.count));
       births = subst (λ (h : List Event). AreBornIn h c.none.result) (sym none) c.none.ensures;
-      told = TellsEnds-nothing layout chronicle.events.items c.in_ok-report.report none (ap (λ (r : Reported). r.cycles) c.in_ok-report.ensures);
+      told = TellsEnds-nothing layout chronicle.events.items c.in_ok-report.report none (ap (λ (r : Reported). r.cycles) c.in_ok-report.ensures)
+          (ap (λ (r : Reported). r.ids) c.in_ok-report.ensures);
       empty = ap (λ (greys : Greys). greys.cells) c.in_ok-greys.ensures;
       room = subst (λ (greys : Greys). cell_count layout ≤ greys.cap) (sym c.in_ok-greys.ensures)
           (let count = c.cells.ensures.count in omega (arith, count));
