@@ -37,8 +37,6 @@ pub enum Grouping {
     Drawn,
     /// Each cell with the one beside it, in groups whose numbers all have one slot for their own.
     Crowded,
-    /// Each cell with the one beside it, in groups whose numbers have 64 slots for their own by both factors.
-    Sought,
 }
 
 /// Which cells are marked before a run.
@@ -75,36 +73,6 @@ fn cells_in_turn(alloc: Global, grouping: Grouping) -> Result<Vec<u32>, AllocErr
         })?;
     }
     Ok(cells)
-}
-
-/// The slot of its own that a number has by a factor, of the most that there are.
-fn own_slot(number: u32, factor: u32) -> u32 {
-    let mixed = number.wrapping_mul(factor);
-    (mixed ^ (mixed >> 15)) % 32_768
-}
-
-/// A number whose own slot by the factor 1 is the lowest six bits of an index.
-fn crowding_number(index: u32) -> u32 {
-    let high = index / 64;
-    (high << 15) | ((index % 64) ^ (high % 32_768))
-}
-
-/// The numbers of groups, one for each two cells. None of those that are sought is 0.
-fn group_numbers(alloc: Global, grouping: Grouping) -> Result<Vec<u32>, AllocError> {
-    let mut numbers = Vec::new(alloc);
-    let mut sought = (64..1 << 23)
-        .map(crowding_number)
-        .filter(|number| own_slot(*number, 0x9E37_79B9) < 64);
-    for pair in 1..=CELLS / 2 {
-        numbers.push(match grouping {
-            Grouping::Alone => 0,
-            Grouping::Together => 1,
-            Grouping::Crowded => pair * 32_769,
-            Grouping::Sought => sought.next().unwrap_or(1),
-            _ => pair,
-        })?;
-    }
-    Ok(numbers)
 }
 
 /// Puts cells into an order that is drawn.
@@ -155,12 +123,16 @@ impl Runs {
         if grouping == Grouping::Drawn {
             shuffle(cells.as_mut_slice());
         }
-        let numbers = group_numbers(alloc, grouping)?;
-        for (twins, number) in cells.chunks(2).zip(&numbers) {
-            for cell in twins {
-                heap.take_cell(*cell);
-                heap.set(Region::Group, *cell, u64::from(*number));
-            }
+        for at in 0..cells.len() {
+            let cell = cells[at];
+            let number = match grouping {
+                Grouping::Alone => 0,
+                Grouping::Together => 1,
+                Grouping::Crowded => (at as u64 / 2 % 32_768 + 1) * 32_769,
+                _ => at as u64 / 2 + 1,
+            };
+            heap.take_cell(cell);
+            heap.set(Region::Group, cell, number);
         }
         Ok(Runs {
             heap,
