@@ -9,7 +9,7 @@ ghost use Rattle.tide_words.specs.heap.Heap.{heap_of};
 use crate::bench::cycle_marks;
 use check_heap::Heap;
 use std::alloc::{AllocError, Global};
-use tide_cycle::{Report, begin, end, pause};
+use tide_cycle::{Report, begin, end, has_room_to_end, pause};
 use tide_solver::Solved;
 use tide_sweep::{has_dead, sweep};
 use tide_words::{GreyList, MAX_CELLS, Region, Words, word_phase};
@@ -69,7 +69,7 @@ pub fn end_in(heap: &mut Heap, report: &mut Report) -> Option<u32>
     ensures ended { IfSome result (λ _. HasEnded heap.old.layout (heap_of heap.old.layout heap.old.words)
         (heap_of heap.old.layout heap.new.words)) }
 {
-    if !cycle_marks(heap) || !report.has_room(&heap.layout) {
+    if !cycle_marks(heap) || !has_room_to_end(report, &heap.layout) {
         return None;
     }
     Some(end(&mut heap.words, &heap.layout, report))

@@ -1,7 +1,8 @@
 -- A whole cycle stands after any call, ends in time, and leaves all swept.
 use Rattle.std.proofs.Common.{ℕ, zero, suc, ◌≡◌, ◌+◌, ◌≤◌, ◌<◌, refl, sym, ◌∙◌, ap, subst, arith, Bool, true, false, List, [], ◌∷◌, ◌++◌, append_assoc, append-nil, add-zero, length, drop}
 use Rattle.std.proofs.lemmas.List.{map-append}
-use Rattle.std.specs.Prelude.{map, ◌||◌, ◌↔◌, if◌then◌else◌, count_by, sum_by}
+use Rattle.std.specs.List.{list_all}
+use Rattle.std.specs.Prelude.{map, not, ◌||◌, ◌↔◌, if◌then◌else◌, count_by, sum_by}
 use Rattle.tide_model.specs.declared.entry.Entry.TheVariants.{Begin, Pause, End, Sweep}
 use Rattle.tide_model.specs.declared.entry.Event.{Event}
 use Rattle.tide_model.specs.Layout.{Layout, cell_count}
@@ -10,7 +11,7 @@ use Rattle.tide_model.specs.Numbers.{is_among, numbers_where}
 use Rattle.tide_model.specs.Periods.{EndsInTime, IsSwept, open_count}
 use Rattle.tide_model.specs.Refused.{ShapeLists}
 use Rattle.tide_model.specs.Each.{Each}
-use Rattle.tide_model.specs.Since.{born_since, is_birth, since, visits_in, visits_since}
+use Rattle.tide_model.specs.Since.{born_since, is_birth, is_end, since, visits_in, visits_since}
 use Rattle.tide_model.specs.State.{State, CellState, Status, Phase, idle, free, live, spent, dead, is_live, is_dead, marking, blank_cell}
 use Rattle.tide_model.specs.Graph.{graph_of, IsRetained, is_further, no_cell, retained_more}
 use Rattle.tide_model.specs.History.{plain, state_from, state_after, after_event, after_end, swept_all, swept_cell, swept_status, is_this_array, is_array_of, unless_spent, is_begin, is_open}
@@ -24,10 +25,11 @@ use Rattle.tide_model.proofs.Cycles.{state_from-sweeps, phase_within}
 use Rattle.tide_model.proofs.ReferencesInCycles.{state_from-swept_in_layout}
 use Rattle.tide_layout.specs.Region.{block_count}
 use Rattle.tide_collect.specs.Collecting.{IsFreed, IsDeadWithin}
+use Rattle.tide_report.specs.Ends.{TellsEnds}
+use Rattle.tide_report.specs.Reports.{Reported, with_line}
+use Rattle.tide_report.proofs.EndLaws.{TellsEnds-end, TellsEnds-other, TellsEnds-part, TellsEnds-room}
 use Rattle.tide_periods.specs.Store.{Setting, blocks_in}
-use Rattle.tide_periods.specs.declared.told.Told.{Told}
 use Rattle.tide_periods.specs.Recorded.{IsSettled, RanCycle, Recorded}
-use Rattle.tide_periods.specs.Told.{AreCounted, IsCounted, events_of, uncounted}
 use Rattle.tide_model.proofs.SinceLaws.{count-push}
 
 -- what the end of a cycle leaves doesn't depend on the phase
@@ -209,65 +211,39 @@ swept_has_none layout state block (dead_array array within at is) = by (state.ar
     by spent d = absurd (cc)
     by dead d = absurd (cc)
 
--- what is told of a cycle: its beginning, its pause, its end with the cells that it kept, and its sweeps
-abbrev pub cycle_told : List Told → ℕ → List ℕ → ℕ → List ℕ → List Told
-cycle_told told cycle freed kept blocks =
-    (((told ++ uncounted (plain (Begin cycle)) ∷ []) ++ uncounted (plain (Pause kept)) ∷ []) ++ record { event = plain (End cycle freed); kept = kept } ∷ [])
-    ++ map (λ block. uncounted (plain (Sweep block))) blocks
+-- a history with a whole cycle behind it: its beginning, its pause, its end and its sweeps
+abbrev pub with_cycle : List Event → ℕ → List ℕ → ℕ → List ℕ → List Event
+with_cycle history cycle freed kept blocks =
+    (((history ++ plain (Begin cycle) ∷ []) ++ plain (Pause kept) ∷ []) ++ plain (End cycle freed) ∷ [])
+    ++ map (λ block. plain (Sweep block)) blocks
 
-events_of-push : (told : List Told) (one : Told) (history : List Event) → events_of told ≡ history → events_of (told ++ one ∷ []) ≡ history ++ one.event ∷ []
-events_of-push told one history tells = map-append (λ t. t.event) told (one ∷ []) ∙ ap (λ (h : List Event). h ++ one.event ∷ []) tells
+sweeps_end_none : (blocks : List ℕ) → list_all (λ event. not (is_end event.entry)) (map (λ block. plain (Sweep block)) blocks) ≡ true
+sweeps_end_none [] = refl
+sweeps_end_none (block ∷ blocks) = sweeps_end_none blocks
 
-events_of-sweeps : (blocks : List ℕ) → events_of (map (λ block. uncounted (plain (Sweep block))) blocks) ≡ map (λ block. plain (Sweep block)) blocks
-events_of-sweeps [] = refl
-events_of-sweeps (block ∷ blocks) = ap (λ (rest : List Event). plain (Sweep block) ∷ rest) (events_of-sweeps blocks)
-
--- the events of a cycle that is told
-events_of-cycle : (told : List Told) (history : List Event) (cycle : ℕ) (freed : List ℕ) (kept : ℕ) (blocks : List ℕ) → events_of told ≡ history →
-    events_of (cycle_told told cycle freed kept blocks)
-    ≡ (((history ++ plain (Begin cycle) ∷ []) ++ plain (Pause kept) ∷ []) ++ plain (End cycle freed) ∷ []) ++ map (λ block. plain (Sweep block)) blocks
-events_of-cycle told history cycle freed kept blocks tells =
-    let begun = events_of-push told (uncounted (plain (Begin cycle))) history tells in
-    let paused = events_of-push (told ++ uncounted (plain (Begin cycle)) ∷ []) (uncounted (plain (Pause kept))) (history ++ plain (Begin cycle) ∷ []) begun in
-    let ended = events_of-push ((told ++ uncounted (plain (Begin cycle)) ∷ []) ++ uncounted (plain (Pause kept)) ∷ []) (record { event = plain (End cycle freed); kept = kept })
-    ((history ++ plain (Begin cycle) ∷ []) ++ plain (Pause kept) ∷ []) paused in
-    map-append (λ t. t.event)
-    (((told ++ uncounted (plain (Begin cycle)) ∷ []) ++ uncounted (plain (Pause kept)) ∷ []) ++ record { event = plain (End cycle freed); kept = kept } ∷ [])
-    (map (λ block. uncounted (plain (Sweep block))) blocks)
-    ∙ ap (λ (h : List Event). h ++ events_of (map (λ block. uncounted (plain (Sweep block))) blocks)) ended
-    ∙ ap (λ (h : List Event). (((history ++ plain (Begin cycle) ∷ []) ++ plain (Pause kept) ∷ []) ++ plain (End cycle freed) ∷ []) ++ h) (events_of-sweeps blocks)
-
-AreCounted-push : (layout : Layout) (told : List Told) (one : Told) → AreCounted layout told → IsCounted layout (events_of told) one → AreCounted layout (told ++ one ∷ [])
-AreCounted-push layout told one are is = push_cases (λ before t. IsCounted layout (events_of before) t) told one are is
-
-AreCounted-sweeps : (layout : Layout) (told : List Told) (blocks : List ℕ) → AreCounted layout told → AreCounted layout (told ++ map (λ block. uncounted (plain (Sweep block))) blocks)
-AreCounted-sweeps layout told [] are = subst (AreCounted layout) (sym (append-nil told)) are
-AreCounted-sweeps layout told (block ∷ blocks) are =
-    subst (AreCounted layout) (append_assoc told (uncounted (plain (Sweep block)) ∷ []) (map (λ b. uncounted (plain (Sweep b))) blocks))
-    (AreCounted-sweeps layout (told ++ uncounted (plain (Sweep block)) ∷ []) blocks
-    (AreCounted-push layout told (uncounted (plain (Sweep block))) are (λ cycle freed is. absurd (cc))))
-
--- a cycle is told with the cells that it kept
-AreCounted-cycle : (layout : Layout) (told : List Told) (history : List Event) (cycle : ℕ) (freed : List ℕ) (kept : ℕ) (blocks : List ℕ) → events_of told ≡ history →
-    AreCounted layout told → kept ≡ live_count layout (state_after layout (((history ++ plain (Begin cycle) ∷ []) ++ plain (Pause kept) ∷ []) ++ plain (End cycle freed) ∷ [])) →
-    AreCounted layout (cycle_told told cycle freed kept blocks)
-AreCounted-cycle layout told history cycle freed kept blocks tells are is =
-    let began = told ++ uncounted (plain (Begin cycle)) ∷ [] in
-    let paused = began ++ uncounted (plain (Pause kept)) ∷ [] in
-    let one = AreCounted-push layout told (uncounted (plain (Begin cycle))) are (λ c f e. absurd (cc)) in
-    let two = AreCounted-push layout began (uncounted (plain (Pause kept))) one (λ c f e. absurd (cc)) in
-    let events = events_of-push began (uncounted (plain (Pause kept))) (history ++ plain (Begin cycle) ∷ []) (events_of-push told (uncounted (plain (Begin cycle))) history tells) in
-    AreCounted-sweeps layout (paused ++ record { event = plain (End cycle freed); kept = kept } ∷ []) blocks
-    (AreCounted-push layout paused (record { event = plain (End cycle freed); kept = kept }) two
-    (λ c f e. is ∙ ap (λ (h : List Event). live_count layout (state_after layout (h ++ plain (End cycle freed) ∷ []))) (sym events)))
+-- a report with one line more tells the end of that cycle too
+TellsEnds-cycle : (layout : Layout) (history : List Event) (cycle : ℕ) (freed : List ℕ) (kept : ℕ) (blocks : List ℕ) (report report_now : Reported) →
+    report_now.cycles ≡ (with_line report cycle kept freed).cycles → report_now.ids ≡ report.ids ++ freed → TellsEnds layout history report →
+    kept ≡ live_count layout (state_after layout (((history ++ plain (Begin cycle) ∷ []) ++ plain (Pause kept) ∷ []) ++ plain (End cycle freed) ∷ [])) →
+    TellsEnds layout (with_cycle history cycle freed kept blocks) report_now
+TellsEnds-cycle layout history cycle freed kept blocks report report_now lines ids tells is =
+    let began = history ++ plain (Begin cycle) ∷ [] in
+    let paused = began ++ plain (Pause kept) ∷ [] in
+    let ended = paused ++ plain (End cycle freed) ∷ [] in
+    TellsEnds-part layout ended (map (λ block. plain (Sweep block)) blocks) report_now (sweeps_end_none blocks)
+    (TellsEnds-room layout ended (with_line report cycle kept freed) report_now lines ids
+    (TellsEnds-end layout paused cycle kept freed report is
+    (TellsEnds-other layout began (Pause kept) report refl
+    (TellsEnds-other layout history (Begin cycle) report refl tells))))
 
 -- a whole cycle was run and recorded
-pub RanCycle-did : (old new : Recorded) (told more : List Told) (freed : List ℕ) (kept : ℕ) (is_swept : ℕ → Bool) → IsSettled old →
-    old.state.phase ≡ idle → events_of told ≡ old.history → IsCollected old.setting.layout old.state freed is_swept kept →
+pub RanCycle-did : (old new : Recorded) (report report_now : Reported) (freed : List ℕ) (kept : ℕ) (is_swept : ℕ → Bool) → IsSettled old →
+    old.state.phase ≡ idle → IsCollected old.setting.layout old.state freed is_swept kept →
     new.state ≡ swept_all (after_end old.state freed) → new.setting ≡ old.setting → new.cycles ≡ old.cycles + 1 → new.parts ≡ old.parts → new.blocks ≡ old.blocks →
-    events_of more ≡ new.history → more ≡ cycle_told told (old.cycles + 1) freed kept (swept_blocks old.setting.layout is_swept) →
-    RanCycle old new × (AreCounted old.setting.layout told → AreCounted new.setting.layout more)
-RanCycle-did old new told more freed kept is_swept recorded rests tells_old collected state same cycles parts blocks tells is_told = (
+    new.history ≡ with_cycle old.history (old.cycles + 1) freed kept (swept_blocks old.setting.layout is_swept) →
+    report_now.cycles ≡ (with_line report (old.cycles + 1) kept freed).cycles → report_now.ids ≡ report.ids ++ freed →
+    RanCycle old new × (TellsEnds old.setting.layout old.history report → TellsEnds new.setting.layout new.history report_now)
+RanCycle-did old new report report_now freed kept is_swept recorded rests collected state same cycles parts blocks history lines ids = (
   record {
     settled = record {
       lawful = subst (λ (s : Setting). IsLawful s.layout s.shapes new.history) (sym same) (subst (IsLawful layout shapes) (sym history) last.lawful);
@@ -295,7 +271,7 @@ RanCycle-did old new told more freed kept is_swept recorded rests tells_old coll
     claims = ap (λ (s : State). s.claims) state;
     rests = ap (λ (s : State). s.phase) state;
   },
-  counted,
+  told,
 )
   where
     layout : Layout
@@ -312,9 +288,6 @@ RanCycle-did old new told more freed kept is_swept recorded rests tells_old coll
 
     marks : State
     marks = record old.state { phase = marking number }
-
-    history : new.history ≡ (((old.history ++ plain (Begin number) ∷ []) ++ plain (Pause kept) ∷ []) ++ plain (End number freed) ∷ []) ++ sweeps
-    history = sym tells ∙ ap events_of is_told ∙ events_of-cycle told old.history number freed kept (swept_blocks layout is_swept) tells_old
 
     h1 : List Event
     h1 = old.history ++ plain (Begin number) ∷ []
@@ -371,6 +344,6 @@ RanCycle-did old new told more freed kept is_swept recorded rests tells_old coll
     leaves : state_after layout new.history ≡ new.state
     leaves = ap (state_after layout) history ∙ last.leaves ∙ all_swept ∙ sym state
 
-    counted : AreCounted layout told → AreCounted new.setting.layout more
-    counted are = subst (λ (s : Setting). AreCounted s.layout more) (sym same) (subst (AreCounted layout) (sym is_told)
-        (AreCounted-cycle layout told old.history number freed kept (swept_blocks layout is_swept) tells_old are (sym count)))
+    told : TellsEnds layout old.history report → TellsEnds new.setting.layout new.history report_now
+    told tells = subst (λ (s : Setting). TellsEnds s.layout new.history report_now) (sym same) (subst (λ (h : List Event). TellsEnds layout h report_now) (sym history)
+        (TellsEnds-cycle layout old.history number freed kept (swept_blocks layout is_swept) report report_now lines ids tells (sym count)))

@@ -22,7 +22,7 @@ use Rattle.tide_model.specs.State.{State}
 use Rattle.tide_model.proofs.Histories.{state_after-append, state_after-push}
 use Rattle.tide_model.proofs.ReferenceLaws.{after_call-refused}
 use Rattle.tide_periods.specs.declared.caller.Caller.{Caller}
-use Rattle.tide_periods.specs.Told.{pair_of}
+use Rattle.tide_periods.specs.Answered.{pair_of}
 use Rattle.tide_periods.specs.Asking.{IsAskable, IsCaller, IsMutatorAt, Standing, after_reply, TookReply, next_of, standing_of}
 use Rattle.tide_periods.specs.Left.{left_at, left_by, left_of, total_by}
 use Rattle.tide_periods.specs.Part.{RanShare}

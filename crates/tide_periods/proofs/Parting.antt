@@ -24,7 +24,7 @@ use Rattle.tide_model.specs.Since.{is_call}
 use Rattle.tide_model.specs.State.{State}
 use Rattle.tide_model.proofs.Histories.{calls_of-append, state_after-append, take-append-short}
 use Rattle.tide_periods.specs.declared.caller.Caller.{Caller}
-use Rattle.tide_periods.specs.Told.{pair_of}
+use Rattle.tide_periods.specs.Answered.{pair_of}
 use Rattle.tide_periods.specs.Asking.{IsAskable, IsAt, IsCaller, IsMutatorAt, Standing, claims_after, standing_of}
 use Rattle.tide_periods.proofs.PartLoops.{IsPartway}
 use Rattle.tide_periods.specs.Part.{AreCallers, RanShare}

@@ -17,24 +17,24 @@ use Rattle.tide_model.specs.Periods.{EndsInTime, open_count}
 use Rattle.tide_model.specs.Room.{IsFullBlock}
 use Rattle.tide_model.specs.Each.{Each}
 use Rattle.tide_model.specs.State.{State}
-use Rattle.tide_model.specs.Since.{is_end}
 use Rattle.tide_model.proofs.Histories.{IsLawful-push, push_cases, state_after-push}
 use Rattle.tide_model.proofs.SinceLaws.{count-push}
-use Rattle.tide_periods.specs.declared.told.Told.{Told}
 use Rattle.tide_periods.specs.Store.{Setting, blocks_in}
-use Rattle.tide_periods.specs.Told.{AreCounted, IsCounted, StandsIdle, events_of, uncounted}
-use Rattle.tide_periods.specs.Recorded.{IsSettled, MadeCall, MayAsk, OpenedPart, Recorded}
+use Rattle.tide_report.specs.Ends.{TellsEnds}
+use Rattle.tide_report.specs.Reports.{Reported}
+use Rattle.tide_report.proofs.EndLaws.{TellsEnds-other, TellsEnds-part}
+use Rattle.tide_periods.specs.Recorded.{IsSettled, MadeCall, MayAsk, OpenedPart, Recorded, StandsIdle}
 use Rattle.tide_model.proofs.PhaseLaws.{phase_after-call}
 use Rattle.tide_model.proofs.Windows.{StandsFull-now}
 use Rattle.tide_model.proofs.CallKeeps.{HasFewClaims, HasFewClaims-call, HasNoNewDead, HasNoNewDead-call, same_dead}
 use Rattle.tide_periods.proofs.CallerLaws.{called}
 
--- what contracts see of a store and of what was told of it
-abbrev pub recorded_of : Setting → State → List Told → ℕ → ℕ → ℕ → Recorded
-recorded_of setting state told cycles parts blocks = record {
+-- what contracts see of a store and of its history
+abbrev pub recorded_of : Setting → State → List Event → ℕ → ℕ → ℕ → Recorded
+recorded_of setting state history cycles parts blocks = record {
   setting = setting;
   state = state;
-  history = events_of told;
+  history = history;
   cycles = cycles;
   parts = parts;
   blocks = blocks;
@@ -113,27 +113,21 @@ OpenedPart-did old new run number recorded numbered state same history cycles pa
   history = history ∙ ap (λ (n : ℕ). old.history ++ plain (Open n run) ∷ []) (numbered ∙ ap (λ (n : ℕ). n + 1) (sym recorded.opens));
 }
 
--- what is told grows by an event that ends no cycle
-AreCounted-other : (layout : Layout) (told more : List Told) (one : Told) → AreCounted layout told → more ≡ told ++ one ∷ [] →
-    is_end one.event.entry ≡ false → AreCounted layout more
-AreCounted-other layout told more one are is other =
-    subst (AreCounted layout) (sym is)
-    (push_cases (λ before t. IsCounted layout (events_of before) t) told one are
-    (λ cycle freed ends. absurd (let clash : true ≡ false = ap is_end (sym ends) ∙ other in cc)))
-
 -- a call, or an opened part, leaves what holds beside what is recorded
-pub StandsIdle-called : (layout layout_now : Layout) (state state_now : State) (told more : List Told) (who : ℕ) (op : Op) (reply : Reply) (took : Option ℕ) →
-    StandsIdle layout state told → layout_now ≡ layout → state_now ≡ after_call state who op reply took →
-    more ≡ told ++ uncounted (called who op reply took) ∷ [] → StandsIdle layout_now state_now more
-StandsIdle-called layout layout_now state state_now told more who op reply took stands same is is_told = record {
+pub StandsIdle-called : (layout layout_now : Layout) (state state_now : State) (history more : List Event) (report : Reported) (who : ℕ) (op : Op) (reply : Reply) (took : Option ℕ) →
+    StandsIdle layout state history report → layout_now ≡ layout → state_now ≡ after_call state who op reply took →
+    more ≡ history ++ called who op reply took ∷ [] → StandsIdle layout_now state_now more report
+StandsIdle-called layout layout_now state state_now history more report who op reply took stands same is is_more = record {
   rests = ap (λ (s : State). s.phase) is ∙ phase_after-call state who op reply took ∙ stands.rests;
-  counted = subst (λ (l : Layout). AreCounted l more) (sym same)
-      (AreCounted-other layout told more (uncounted (called who op reply took)) stands.counted is_told refl);
+  told = subst (λ (l : Layout). TellsEnds l more report) (sym same)
+      (subst (λ (h : List Event). TellsEnds layout h report) (sym is_more)
+      (TellsEnds-part layout history (called who op reply took ∷ []) report refl stands.told));
 }
 
-pub StandsIdle-opened : (layout : Layout) (state : State) (told more : List Told) (number run : ℕ) →
-    StandsIdle layout state told → more ≡ told ++ uncounted (plain (Open number run)) ∷ [] → StandsIdle layout state more
-StandsIdle-opened layout state told more number run stands is_told = record {
+pub StandsIdle-opened : (layout : Layout) (state : State) (history more : List Event) (report : Reported) (number run : ℕ) →
+    StandsIdle layout state history report → more ≡ history ++ plain (Open number run) ∷ [] → StandsIdle layout state more report
+StandsIdle-opened layout state history more report number run stands is_more = record {
   rests = stands.rests;
-  counted = AreCounted-other layout told more (uncounted (plain (Open number run))) stands.counted is_told refl;
+  told = subst (λ (h : List Event). TellsEnds layout h report) (sym is_more)
+      (TellsEnds-other layout history (Open number run) report refl stands.told);
 }

@@ -16,14 +16,15 @@ use Rattle.tide_model.specs.Periods.{ArePeriods, IsLegal, next_run, one_more}
 use Rattle.tide_model.specs.Script.{calls_of}
 use Rattle.tide_model.specs.Whole.{IsWhole}
 use Rattle.tide_periods.specs.declared.caller.Caller.{Caller}
-use Rattle.tide_periods.specs.declared.told.Answered.{Answered}
-use Rattle.tide_periods.specs.declared.told.Told.{Told}
+use Rattle.tide_periods.specs.declared.answered.Answered.{Answered}
+use Rattle.tide_report.specs.Ends.{TellsEnds}
+use Rattle.tide_report.specs.Reports.{Reported}
 use Rattle.tide_periods.specs.Asking.{IsAskedBy, claims_after, scripts_of}
 use Rattle.tide_periods.specs.Part.{AreCallers}
 use Rattle.tide_periods.specs.Periods.{RanAll, RanPeriod}
 use Rattle.tide_periods.specs.Run.{HasRun}
 use Rattle.tide_periods.specs.Store.{Setting}
-use Rattle.tide_periods.specs.Told.{AreCounted, events_of, pair_of}
+use Rattle.tide_periods.specs.Answered.{pair_of}
 use Rattle.tide_periods.specs.Recorded.{IsSettled, Recorded}
 use Rattle.tide_periods.proofs.Freezing.{is_over-callers}
 
@@ -75,29 +76,29 @@ found_before f (x ∷ xs) zero y is = (x, refl, (let same : Some (f x) ≡ Some 
 found_before f (x ∷ xs) (suc place) y is = found_before f xs place y is
 
 -- what a run leaves, from the mutators when all have retired
-pub HasRun-over : (setting : Setting) (pace : Pace) (scripts : List (List Op)) (recorded : Recorded) (callers : List Caller) (told : List Told) (calls : List (List Answered)) (live : ℕ) →
-    RanAll recorded pace callers → recorded.setting ≡ setting → scripts_of callers ≡ scripts → events_of told ≡ recorded.history → AreCounted recorded.setting.layout told → calls ≡ map (λ caller. caller.calls.items) callers →
-    live ≡ live_count recorded.setting.layout recorded.state → HasRun setting pace scripts told calls live
-HasRun-over setting pace scripts recorded callers told calls live ran same own_scripts history counted are living =
-    subst (λ (s : Setting). HasRun s pace scripts told calls live) same (record {
-      legal = subst (IsLegal pace recorded.setting.layout recorded.setting.shapes) (sym history) (record { lawful = ran.settled.lawful; scheduled = ran.scheduled });
-      counted = counted;
+pub HasRun-over : (setting : Setting) (pace : Pace) (scripts : List (List Op)) (recorded : Recorded) (callers : List Caller) (history : List Event) (report : Reported) (calls : List (List Answered)) (live : ℕ) →
+    RanAll recorded pace callers → recorded.setting ≡ setting → scripts_of callers ≡ scripts → history ≡ recorded.history → TellsEnds recorded.setting.layout history report → calls ≡ map (λ caller. caller.calls.items) callers →
+    live ≡ live_count recorded.setting.layout recorded.state → HasRun setting pace scripts history report calls live
+HasRun-over setting pace scripts recorded callers history report calls live ran same own_scripts is told are living =
+    subst (λ (s : Setting). HasRun s pace scripts history report calls live) same (record {
+      legal = subst (IsLegal pace recorded.setting.layout recorded.setting.shapes) (sym is) (record { lawful = ran.settled.lawful; scheduled = ran.scheduled });
+      told = told;
       whole = λ who ops found.
           let one = found_before (λ (c : Caller). c.ops.items) callers who ops (ap (λ (lists : List (List Op)). slice_get lists who) own_scripts ∙ found) in
-          subst (λ (h : List Event). IsWhole recorded.setting.layout h who ops) (sym history)
+          subst (λ (h : List Event). IsWhole recorded.setting.layout h who ops) (sym is)
           (subst (IsWhole recorded.setting.layout recorded.history who) one.2 (ran.scripts who one.0 one.1));
       one_each = ap length are ∙ length-map callers (λ (c : Caller). c.calls.items) ∙ ran.callers'.one_each;
       calls_are = λ who own found.
           let one = found_before (λ (c : Caller). c.calls.items) callers who own (ap (λ (lists : List (List Answered)). slice_get lists who) (sym are) ∙ found) in
           let known = ran.callers'.each who one.0 one.1 in
-          ap (map pair_of) (sym one.2) ∙ sym known.1.are ∙ ap (λ (w : ℕ). calls_of w recorded.history) known.0 ∙ ap (calls_of who) (sym history);
+          ap (map pair_of) (sym one.2) ∙ sym known.1.are ∙ ap (λ (w : ℕ). calls_of w recorded.history) known.0 ∙ ap (calls_of who) (sym is);
       asked = λ who ops found.
           let one = found_before (λ (c : Caller). c.ops.items) callers who ops (ap (λ (lists : List (List Op)). slice_get lists who) own_scripts ∙ found) in
           let known = ran.callers'.each who one.0 one.1 in
-          subst (λ (o : List Op). All (λ call. IsAskedBy o call.0) (calls_of who (events_of told))) one.2
+          subst (λ (o : List Op). All (λ call. IsAskedBy o call.0) (calls_of who history)) one.2
           (subst (All (λ call. IsAskedBy one.0.ops.items call.0))
-          (sym known.1.are ∙ ap (λ (w : ℕ). calls_of w recorded.history) known.0 ∙ ap (calls_of who) (sym history)) known.1.asked);
-      living = living ∙ ap (live_count recorded.setting.layout) (sym ran.settled.leaves) ∙ ap (λ (h : List Event). live_count recorded.setting.layout (state_after recorded.setting.layout h)) (sym history);
+          (sym known.1.are ∙ ap (λ (w : ℕ). calls_of w recorded.history) known.0 ∙ ap (calls_of who) (sym is)) known.1.asked);
+      living = living ∙ ap (live_count recorded.setting.layout) (sym ran.settled.leaves) ∙ ap (λ (h : List Event). live_count recorded.setting.layout (state_after recorded.setting.layout h)) (sym is);
     })
 
 -- before anything happened a part has all calls of a period

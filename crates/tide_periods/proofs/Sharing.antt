@@ -13,7 +13,7 @@ use Rattle.tide_model.specs.Each.{Each}
 use Rattle.tide_model.proofs.Histories.{calls_of-append, push_cases, retry_after_all-append}
 use Rattle.tide_model.proofs.PeriodLaws.{has_ended-push}
 use Rattle.tide_periods.specs.declared.caller.Caller.{Caller}
-use Rattle.tide_periods.specs.Told.{pair_of}
+use Rattle.tide_periods.specs.Answered.{pair_of}
 use Rattle.tide_periods.specs.Asking.{IsCaller, IsMutatorAt, Standing, TookReply, after_reply, next_of, op_or_leave, standing_of}
 use Rattle.tide_periods.proofs.PartLoops.{IsSharing}
 use Rattle.tide_periods.specs.Part.{RanShare}

@@ -15,11 +15,12 @@ use Rattle.tide_periods.specs.declared.caller.Caller.{Caller}
 use Rattle.tide_periods.specs.Asking.{AreNew, IsAskable, IsMutatorAt, IsNew, Standing, standing_of, IsAskedBy}
 use Rattle.tide_periods.specs.Left.{left_by, left_of, total_by}
 use Rattle.tide_periods.specs.Part.{AreCallers}
-use Rattle.tide_periods.specs.Recorded.{IsSettled, Recorded}
+use Rattle.tide_periods.specs.Recorded.{IsSettled, Recorded, StandsIdle}
 use Rattle.tide_periods.specs.Store.{Setting, blocks_in}
 use Rattle.tide_model.specs.Layout.{Layout}
-use Rattle.tide_periods.specs.declared.told.Told.{Told}
-use Rattle.tide_periods.specs.Told.{AreCounted, IsCounted, StandsIdle, events_of, pair_of}
+use Rattle.tide_report.specs.Reports.{Reported}
+use Rattle.tide_report.proofs.EndLaws.{TellsEnds-nothing}
+use Rattle.tide_periods.specs.Answered.{pair_of}
 
 slice_get-push : {X : Type 0} (xs : List X) (x : X) (k : ℕ) (y : X) → slice_get (xs ++ x ∷ []) k ≡ Some y → (slice_get xs k ≡ Some y) ⊎ ((k ≡ length xs) × (x ≡ y))
 slice_get-push [] x zero y is = inr (refl, cc)
@@ -130,9 +131,10 @@ IsSettled-nothing setting state blocks empty counted = record {
     none_dead block (dead_cell cell within at is) = absurd (cc)
     none_dead block (dead_array array within at is) = absurd (cc)
 
--- nothing was told yet, and no cycle marks
-pub StandsIdle-nothing : (layout : Layout) (state : State) (told : List Told) → state ≡ empty_state → told ≡ [] → StandsIdle layout state told
-StandsIdle-nothing layout state told empty none = record {
+-- nothing was run yet, and no cycle marks
+pub StandsIdle-nothing : (layout : Layout) (state : State) (history : List Event) (report : Reported) → state ≡ empty_state → history ≡ [] →
+    report.cycles ≡ [] → report.ids ≡ [] → StandsIdle layout state history report
+StandsIdle-nothing layout state history report empty none no_cycles no_ids = record {
   rests = ap (λ (s : State). s.phase) empty;
-  counted = subst (AreCounted layout) (sym none) (Each-nil (λ before one. IsCounted layout (events_of before) one));
+  told = TellsEnds-nothing layout history report none no_cycles no_ids;
 }

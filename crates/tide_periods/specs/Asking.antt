@@ -11,7 +11,7 @@ use Rattle.tide_model.specs.Script.{is_retire, retry_of}
 use Rattle.tide_model.specs.Script.{calls_of, is_full_reply, script_of}
 use Rattle.tide_periods.specs.declared.caller.Caller.{Caller}
 use Rattle.tide_periods.specs.Recorded.{Recorded}
-use Rattle.tide_periods.specs.Told.{pair_of}
+use Rattle.tide_periods.specs.Answered.{pair_of}
 
 -- an operation, or what comes when all are done: to give up claims, and then to retire
 abbrev pub op_or_leave : Option Op → ℕ → Op

@@ -1,4 +1,5 @@
 -- The definitions of this crate.
+pub mod Answered
 pub mod Asking
 pub mod Left
 pub mod Part
@@ -6,4 +7,3 @@ pub mod Periods
 pub mod Recorded
 pub mod Run
 pub mod Store
-pub mod Told

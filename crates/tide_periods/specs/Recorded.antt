@@ -11,7 +11,10 @@ use Rattle.tide_model.specs.History.{plain, state_after}
 use Rattle.tide_model.specs.Lawful.{FitsLayout, IsLawful}
 use Rattle.tide_model.specs.Periods.{EndsInTime, IsSwept, open_count}
 use Rattle.tide_model.specs.Each.{Each}
+use Rattle.tide_model.specs.Layout.{Layout}
 use Rattle.tide_model.specs.State.{State, idle}
+use Rattle.tide_report.specs.Ends.{TellsEnds}
+use Rattle.tide_report.specs.Reports.{Reported}
 use Rattle.tide_periods.specs.Store.{Setting, blocks_in}
 
 -- a store, and the history of what was run on it
@@ -33,6 +36,12 @@ pub record IsSettled (recorded : Recorded) : Type 0 where
   pub swept : IsSwept recorded.setting.layout recorded.history
   pub few : (who : ℕ) → length (recorded.state.claims who) ≤ 8
   pub blocks : recorded.blocks ≡ blocks_in recorded.setting
+
+-- What holds between two entries of a store that runs whole cycles alone, beside what is recorded: no cycle marks, and
+-- the report tells the ends of the history.
+pub record StandsIdle (layout : Layout) (state : State) (history : List Event) (report : Reported) : Type 0 where
+  pub rests : state.phase ≡ idle
+  pub told : TellsEnds layout history report
 
 -- the mutator may make the call
 pub record MayAsk (recorded : Recorded) (who : ℕ) (op : Op) : Type 0 where

@@ -5,8 +5,8 @@ ghost use Rattle.tide_model.specs.Script.{is_retire};
 ghost use Rattle.tide_model.specs.Share.{is_asked};
 ghost use Rattle.tide_periods.specs.Asking.{next_of, standing_of, AreNew, TookReply};
 
+use crate::answered::Answered;
 use crate::recorder::{append, with_room};
-use crate::told::Answered;
 use std::alloc::Global;
 use tide_model::{Memory, Op, Refusal, Reply};
 

@@ -4,12 +4,12 @@ ghost use Rattle.tide_model.specs.Cycle.{live_count};
 ghost use Rattle.tide_periods.specs.declared.pacing.Pacing.{Pacing};
 ghost use Rattle.tide_periods.specs.Periods.{pace_of, RanFreeze};
 ghost use Rattle.tide_periods.specs.Recorded.{IsSettled, MadeCall, MayAsk, OpenedPart, Recorded};
-ghost use Rattle.tide_periods.specs.Told.{AreCounted, events_of};
+ghost use Rattle.tide_report.specs.Ends.{TellsEnds};
 
 use crate::pacing::Pacing;
-use crate::told::Told;
 use std::alloc::Global;
-use tide_model::{Memory, Op, Reply};
+use tide_model::{Event, Memory, Op, Reply};
+use tide_report::Report;
 
 /// An empty list with room for so many.
 pub(crate) fn with_room<T>(alloc: Global, room: usize) -> Result<Vec<T>, Memory>
@@ -82,10 +82,10 @@ pub trait Recorder {
         ensures same { recorded self.new ≡ recorded self.old }
         ensures stands { stands self.new };
 
-    /// Each event that was recorded, in order, and beside each end of a cycle how many cells it kept.
-    fn into_told(self, alloc: Global) -> Result<Vec<Told>, Memory>
+    /// Each event that was recorded, in order, and the report of the cycles that ended.
+    fn into_parts(self) -> (Vec<Event>, Report)
         requires settled { IsSettled (recorded self) }
         requires stands { stands self }
-        ensures told { IfOk result (λ told. events_of told.items ≡ (recorded self).history) }
-        ensures counted { IfOk result (λ told. AreCounted (recorded self).setting.layout told.items) };
+        ensures history { result.0.items ≡ (recorded self).history }
+        ensures report { TellsEnds (recorded self).setting.layout (recorded self).history result.1 };
 }

@@ -1,26 +1,26 @@
-//! A store, and what was run on it, told event by event.
+//! A store, and what was run on it, event by event, with the report of its cycles.
 ghost use Rattle.std.specs.Prelude.{◌≡◌, ◌<◌, ◌^◌, ◌++◌, ◌∷◌, [], false, map, slice_index_or, IfOk, OnOk};
 ghost use Rattle.tide_model.specs.declared.entry.Entry.TheVariants.{Sweep};
 ghost use Rattle.tide_model.specs.Cycle.{live_count};
 ghost use Rattle.tide_model.specs.History.{plain};
 ghost use Rattle.tide_model.specs.Numbers.{numbers_where};
 ghost use Rattle.tide_model.specs.State.{empty_state};
-ghost use Rattle.tide_periods.specs.Recorded.{IsSettled, RanCycle};
+ghost use Rattle.tide_periods.specs.Recorded.{IsSettled, RanCycle, StandsIdle};
 ghost use Rattle.tide_periods.specs.Store.{blocks_in};
-ghost use Rattle.tide_periods.specs.Told.{events_of, uncounted, StandsIdle};
 
 use crate::pacing::Pacing;
 use crate::recorder::{Recorder, append, with_room};
 use crate::store::Store;
-use crate::told::Told;
 use std::alloc::Global;
 use tide_model::{Entry, Event, Ids, Memory, Op, Reply};
+use tide_report::Report;
 
 /// A store, and what was run on it.
 #[derive(Drop)]
 pub struct Recording<S: Store> {
     store: S,
-    told: Vec<Told>,
+    events: Vec<Event>,
+    report: Report,
     /// How many cycles began.
     cycles: u64,
     /// How many parts were opened.
@@ -29,23 +29,22 @@ pub struct Recording<S: Store> {
     blocks: u32,
 }
 
-/// Tells an entry that took no array, beside which no number stands.
-fn tell(told: &mut Vec<Told>, entry: Entry) -> Result<(), Memory>
-    ensures { OnOk result (told.new.items ≡ told.old.items ++ uncounted (plain entry) ∷ []) }
+/// Adds an entry that took no array.
+fn enter(events: &mut Vec<Event>, entry: Entry) -> Result<(), Memory>
+    ensures { OnOk result (events.new.items ≡ events.old.items ++ plain entry ∷ []) }
 {
-    let event = Event { entry, took: None };
-    append(told, Told { event, kept: 0 })
+    append(events, Event { entry, took: None })
 }
 
-/// Tells the sweeps of the last collection.
-fn tell_sweeps<S: Store>(told: &mut Vec<Told>, store: &S, blocks: u32) -> Result<(), Memory>
+/// Adds the sweeps of the last collection.
+fn enter_sweeps<S: Store>(events: &mut Vec<Event>, store: &S, blocks: u32) -> Result<(), Memory>
     requires { blocks ≡ blocks_in (S.setting store.now) }
-    ensures { OnOk result (told.new.items ≡ told.old.items ++ map (λ block. uncounted (plain (Sweep block)))
+    ensures { OnOk result (events.new.items ≡ events.old.items ++ map (λ block. plain (Sweep block))
         (numbers_where (λ block. slice_index_or (S.sweeps store.now) block false) blocks)) }
 {
     for block in 0..blocks {
         if store.swept(block) {
-            tell(told, Entry::Sweep { block })?;
+            enter(events, Entry::Sweep { block })?;
         }
     }
     Ok(())
@@ -55,13 +54,13 @@ impl<S: Store + Drop> Recorder for Recording<S> {
     ghost recorded = { λ s. record {
       setting = S.setting s.store;
       state = S.state s.store;
-      history = events_of s.told.items;
+      history = s.events.items;
       cycles = s.cycles;
       parts = s.parts;
       blocks = s.blocks;
     } };
 
-    ghost stands = { λ s. StandsIdle (S.setting s.store).layout (S.state s.store) s.told.items };
+    ghost stands = { λ s. StandsIdle (S.setting s.store).layout (S.state s.store) s.events.items s.report };
 
     /// No cycle of it begins by itself.
     ghost paces = { λ pacing. pacing.trigger ≡ 0 };
@@ -70,8 +69,7 @@ impl<S: Store + Drop> Recorder for Recording<S> {
         let reply = self.store.call(who, op);
         let took = self.store.taken();
         let entry = Entry::Call { who, op, reply };
-        let event = Event { entry, took };
-        append(&mut self.told, Told { event, kept: 0 })?;
+        append(&mut self.events, Event { entry, took })?;
         Ok(reply)
     }
 
@@ -82,7 +80,7 @@ impl<S: Store + Drop> Recorder for Recording<S> {
     fn open(&mut self, run: u32) -> Result<(), Memory> {
         self.parts += 1;
         let number = self.parts;
-        tell(&mut self.told, Entry::Open { number, run })?;
+        enter(&mut self.events, Entry::Open { number, run })?;
         Ok(())
     }
 
@@ -97,15 +95,16 @@ impl<S: Store + Drop> Recorder for Recording<S> {
         self.store.live()
     }
 
-    fn into_told(self, _alloc: Global) -> Result<Vec<Told>, Memory> {
+    fn into_parts(self) -> (Vec<Event>, Report) {
         let Recording {
             store: _,
-            told,
+            events,
+            report,
             cycles: _,
             parts: _,
             blocks: _,
         } = self;
-        Ok(told)
+        (events, report)
     }
 }
 
@@ -119,10 +118,12 @@ impl<S: Store + Drop> Recording<S> {
         ensures nothing { IfOk result (λ new. (⟦<Recording<S> as Recorder>⟧.recorded new).history ≡ []) }
         ensures setting { IfOk result (λ new. (⟦<Recording<S> as Recorder>⟧.recorded new).setting ≡ S.setting store) }
     {
-        let told = with_room(alloc, room)?;
+        let events = with_room(alloc, room)?;
+        let report = Report::new(alloc, 0, 0)?;
         Ok(Recording {
             store,
-            told,
+            events,
+            report,
             cycles: 0,
             parts: 0,
             blocks,
@@ -142,13 +143,12 @@ impl<S: Store + Drop> Recording<S> {
         let kept = self.store.live();
         self.cycles += 1;
         let cycle = self.cycles;
-        tell(&mut self.told, Entry::Begin { cycle })?;
-        tell(&mut self.told, Entry::Pause { visits: kept })?;
+        enter(&mut self.events, Entry::Begin { cycle })?;
+        enter(&mut self.events, Entry::Pause { visits: kept })?;
+        self.report.push(cycle, kept, freed.as_slice())?;
         let freed = Ids::new(freed);
-        let entry = Entry::End { cycle, freed };
-        let event = Event { entry, took: None };
-        append(&mut self.told, Told { event, kept })?;
-        tell_sweeps(&mut self.told, &self.store, self.blocks)?;
+        enter(&mut self.events, Entry::End { cycle, freed })?;
+        enter_sweeps(&mut self.events, &self.store, self.blocks)?;
         Ok(())
     }
 }

@@ -5,19 +5,22 @@ ghost use Rattle.tide_periods.specs.Periods.{pace_of};
 ghost use Rattle.tide_periods.specs.Recorded.{IsSettled};
 ghost use Rattle.tide_periods.specs.Run.{HasRun};
 
+use crate::answered::Answered;
 use crate::caller::{Caller, callers_of};
 use crate::pacing::Pacing;
 use crate::periods::run_periods;
 use crate::recorder::{Recorder, append};
-use crate::told::{Answered, Told};
 use std::alloc::Global;
-use tide_model::{Memory, Op};
+use tide_model::{Event, Memory, Op};
+use tide_report::Report;
 
 /// What a run leaves.
 #[derive(Debug, Drop)]
 pub struct Finished {
     /// Each event in order.
-    pub told: Vec<Told>,
+    pub events: Vec<Event>,
+    /// The cycles that ended, and the cells that each freed.
+    pub report: Report,
     /// Each mutator's calls, in the order of the mutators.
     pub calls: Vec<Vec<Answered>>,
     /// How many cells live at the end.
@@ -68,13 +71,18 @@ pub fn run_on<T: Recorder + Drop>(
     requires paces { T.paces pacing }
     ensures { IfOk result (λ finished. HasRun (T.recorded recorder).setting (pace_of pacing)
         (map (λ ops. ops.items) scripts.items)
-        finished.told.items (map (λ own. own.items) finished.calls.items) finished.live) }
+        finished.events.items finished.report (map (λ own. own.items) finished.calls.items) finished.live) }
 {
     let mut recorder = recorder;
     let mut callers = callers_of(alloc, scripts)?;
     run_periods(&mut recorder, callers.as_mut_slice(), pacing, alloc)?;
     let live = recorder.live();
-    let told = recorder.into_told(alloc)?;
+    let (events, report) = recorder.into_parts();
     let calls = calls_of_each(alloc, callers)?;
-    Ok(Finished { told, calls, live })
+    Ok(Finished {
+        events,
+        report,
+        calls,
+        live,
+    })
 }

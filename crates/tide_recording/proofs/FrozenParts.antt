@@ -1,6 +1,5 @@
 -- What a freeze leaves of words that keep a history, as a run sees it.
 use Rattle.std.proofs.Common.{ℕ, ◌≡◌, ◌+◌, ◌*◌, ◌<◌, ◌≤◌, ◌∙◌, arith, refl, sym, ap, subst, Bool, true, List, ◌++◌, length}
-use Rattle.std.specs.Prelude.{All, map}
 use Rattle.std.specs.List.{list_all}
 use Rattle.tide_model.specs.declared.entry.Event.{Event}
 use Rattle.tide_model.specs.Each.{Each}
@@ -12,9 +11,7 @@ use Rattle.tide_model.specs.Periods.{EndsInTime, IsSwept, next_run, open_count}
 use Rattle.tide_model.specs.Refused.{ShapeLists}
 use Rattle.tide_model.specs.State.{State, empty_state}
 use Rattle.tide_model.proofs.Histories.{state_from-append}
-use Rattle.tide_cycle.specs.Reports.{LiesWithin, Reported}
 use Rattle.tide_freeze.specs.Freezing.{HasFrozen}
-use Rattle.tide_freeze.specs.Told.{HasRoomForEnds, TellsEnds, ended_by, ended_in}
 use Rattle.tide_freeze.proofs.QuietLaws.{HasFrozen-quiet, calls_of-quiet, is_quiet, kept_by_quiet, open_count-quiet}
 use Rattle.tide_periods.specs.Periods.{RanFreeze}
 use Rattle.tide_periods.specs.Recorded.{IsSettled}
@@ -68,14 +65,4 @@ pub HoldsClaims-same : (layout : Layout) (one other : State) (claims : List (Lis
 HoldsClaims-same layout one other claims same holds = record {
   one_each = holds.one_each;
   are = λ who own at. ap (λ (of : ℕ → List ℕ). of who) same ∙ holds.are who own at;
-}
-
--- a report tells the same with more room
-pub TellsEnds-same : (layout : Layout) (history : List Event) (one other : Reported) → other.cycles ≡ one.cycles → other.ids ≡ one.ids →
-    TellsEnds layout history one → TellsEnds layout history other
-TellsEnds-same layout history one other cycles ids tells = record {
-  within = subst (λ (cells : List ℕ). All (LiesWithin cells) other.cycles) (sym ids)
-      (subst (All (LiesWithin one.ids)) (sym cycles) tells.within);
-  are = ap (λ (cells : List ℕ). map (ended_by cells) other.cycles) ids ∙ ap (map (ended_by one.ids)) cycles ∙ tells.are;
-  all = ids ∙ tells.all;
 }

@@ -2,4 +2,3 @@
 pub mod Calling
 pub mod FrozenParts
 pub mod Opening
-pub mod ReportLaws

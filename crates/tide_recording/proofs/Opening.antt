@@ -17,8 +17,6 @@ use Rattle.tide_words.specs.heap.Heap.{Heap}
 use Rattle.tide_words.specs.heap.Written.{IsWritten}
 use Rattle.tide_core.specs.Entered.{HasOpened}
 use Rattle.tide_periods.specs.Recorded.{IsSettled}
-use Rattle.tide_cycle.specs.Reports.{LiesWithin, Reported}
-use Rattle.tide_freeze.specs.Told.{TellsEnds, ended_by}
 use Rattle.tide_periods.proofs.Starting.{IsSettled-nothing}
 use Rattle.tide_recording.specs.Kept.{HoldsClaims, recorded_of}
 
@@ -68,13 +66,3 @@ counts-opened history number run = (
   (let more = count-push (λ e. is_begin e.entry) history (plain (Open number run)) in omega (arith, more)),
   count-push (λ e. is_open e.entry) history (plain (Open number run)),
 )
-
--- an empty report tells the ends of no history
-pub TellsEnds-nothing : (layout : Layout) (history : List Event) (report : Reported) → history ≡ [] → report.cycles ≡ [] →
-    report.ids ≡ [] → TellsEnds layout history report
-TellsEnds-nothing layout history report none no_cycles no_ids =
-    subst (λ (h : List Event). TellsEnds layout h report) (sym none) (record {
-      within = subst (All (LiesWithin report.ids)) (sym no_cycles) (All-nil (LiesWithin report.ids));
-      are = ap (map (ended_by report.ids)) no_cycles;
-      all = no_ids;
-    })

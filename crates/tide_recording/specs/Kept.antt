@@ -13,7 +13,7 @@ use Rattle.tide_words.specs.heap.Heap.{Heap, heap_of}
 use Rattle.tide_freeze.specs.Births.{AreBornIn}
 use Rattle.tide_freeze.specs.Frozen.{IsFrozen}
 use Rattle.tide_freeze.specs.Laws.{any_cells}
-use Rattle.tide_freeze.specs.Told.{TellsEnds}
+use Rattle.tide_report.specs.Ends.{TellsEnds}
 use Rattle.tide_periods.specs.declared.pacing.Pacing.{Pacing}
 use Rattle.tide_periods.specs.Recorded.{Recorded}
 use Rattle.tide_recording.specs.declared.words.RecordedWords.{RecordedWords}

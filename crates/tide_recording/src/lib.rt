@@ -8,7 +8,6 @@
 
 mod freezing;
 mod recorder;
-mod telling;
 mod words;
 
 pub use words::RecordedWords;

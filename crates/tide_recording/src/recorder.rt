@@ -3,12 +3,12 @@ ghost use Rattle.std.specs.Prelude.{◌≡◌, ◌+◌, if◌then◌else◌, OnO
 ghost use Rattle.tide_model.specs.Since.{is_born_reply};
 ghost use Rattle.tide_recording.specs.Kept.{recorded_in, IsPace, StandsWhole};
 
-use crate::telling::told_of;
 use crate::words::{RecordedWords, append};
 use std::alloc::Global;
 use tide_freeze::Births;
 use tide_model::{Entry, Event, Memory, Op, Reply};
-use tide_periods::{Pacing, Recorder, Told};
+use tide_periods::{Pacing, Recorder};
+use tide_report::Report;
 use tide_word_store::call;
 
 /// Counts the cell that a call bore, if it bore one.
@@ -71,7 +71,7 @@ impl Recorder for RecordedWords {
         self.count_live()
     }
 
-    fn into_told(self, alloc: Global) -> Result<Vec<Told>, Memory> {
+    fn into_parts(self) -> (Vec<Event>, Report) {
         let RecordedWords {
             layout: _,
             chronicle,
@@ -80,7 +80,6 @@ impl Recorder for RecordedWords {
             greys: _,
             report,
         } = self;
-        let told = told_of(alloc, chronicle.into_events(), &report)?;
-        Ok(told)
+        (chronicle.into_events(), report)
     }
 }

@@ -7,10 +7,10 @@ ghost use Rattle.tide_recording.specs.Kept.{recorded_in, StandsWhole};
 
 use std::alloc::Global;
 use tide_call::Claims;
-use tide_cycle::Report;
 use tide_freeze::{Births, Chronicle};
 use tide_layout::{Layout, Region};
 use tide_model::{Entry, Event, Memory};
+use tide_report::Report;
 use tide_shape::Shapes;
 use tide_words::{GreyList, Words, is_live, store_word};
 

@@ -3,5 +3,4 @@ pub mod Causes
 pub mod Copies
 pub mod Counted
 pub mod Printed
-pub mod Reported
 pub mod RunLaws

@@ -17,13 +17,13 @@ use Rattle.tide_model.specs.State.{State, empty_state}
 use Rattle.tide_model.specs.History.{after_event}
 use Rattle.tide_model.specs.Cycle.{live_count}
 use Rattle.tide_model.specs.Script.{calls_of}
-use Rattle.tide_periods.specs.declared.told.Answered.{Answered}
-use Rattle.tide_periods.specs.declared.told.Told.{Told}
-use Rattle.tide_periods.specs.Told.{events_of, AreCounted, pair_of}
+use Rattle.tide_periods.specs.declared.answered.Answered.{Answered}
+use Rattle.tide_periods.specs.Answered.{pair_of}
+use Rattle.tide_report.specs.declared.report.CycleLine.{CycleLine}
+use Rattle.tide_report.specs.Ends.{CycleEnd, end_of, ends_at, ends_from, ends_in, ends_of}
+use Rattle.tide_report.specs.Reports.{Reported}
 use Rattle.tide_workload.specs.Words.{cycle_line, end_line, cycles_from, call_lines, mutator_text, mutators_text}
-use Rattle.tide_run.specs.Printing.{answered_line, told_line}
-use Rattle.tide_run.specs.Report.{CycleEnd, entry_end, ends_from, told_end}
-use Rattle.tide_run.proofs.Reported.{ends_told}
+use Rattle.tide_run.specs.Printing.{answered_line, reported_line}
 
 -- all bytes are a part of themselves, and stay so where what is held stays
 pub kept_is_part : (a b c : Option (List ℕ)) (bytes : List ℕ) → Appends a b bytes → Keeps b c → AppendsPart a c bytes
@@ -46,38 +46,35 @@ abbrev line_of : CycleEnd → List ℕ
 line_of ended = cycle_line ended.number ended.kept ended.freed
 
 -- an entry prints the line of the end that it is
-entry_prints : (entry : Entry) (kept : ℕ) → end_line entry kept ≡ flat_map line_of (entry_end entry kept)
-entry_prints (Call who op reply) kept = refl
-entry_prints (Begin cycle) kept = refl
-entry_prints (Pause visits) kept = refl
-entry_prints (Visits who visits) kept = refl
-entry_prints (End cycle freed) kept = sym (append-nil (cycle_line cycle kept freed))
-entry_prints (Sweep block) kept = refl
-entry_prints (Open number run) kept = refl
+entry_prints : (layout : Layout) (after : State) (entry : Entry) → end_line entry (live_count layout after) ≡ flat_map line_of (ends_at layout after entry)
+entry_prints layout after (Call who op reply) = refl
+entry_prints layout after (Begin cycle) = refl
+entry_prints layout after (Pause visits) = refl
+entry_prints layout after (Visits who visits) = refl
+entry_prints layout after (End cycle freed) = sym (append-nil (cycle_line cycle (live_count layout after) freed))
+entry_prints layout after (Sweep block) = refl
+entry_prints layout after (Open number run) = refl
 
 -- the lines of cycles are those of their ends
 cycles_print : (layout : Layout) (state : State) (events : List Event) → cycles_from layout state events ≡ flat_map line_of (ends_from layout state events)
 cycles_print layout state [] = refl
 cycles_print layout state (event ∷ events) =
     let next = after_event layout state event in
-    let own = entry_end event.entry (live_count layout next) in
-    ap (λ (line : List ℕ). line ++ cycles_from layout next events) (entry_prints event.entry (live_count layout next))
+    let own = ends_at layout next event.entry in
+    ap (λ (line : List ℕ). line ++ cycles_from layout next events) (entry_prints layout next event.entry)
     ∙ ap (λ (rest : List ℕ). flat_map line_of own ++ rest) (cycles_print layout next events)
     ∙ sym (flat_map-append line_of own (ends_from layout next events))
 
--- the lines of what was told are those of the ends that were told
-told_prints : (told : List Told) → flat_map told_line told ≡ flat_map line_of (flat_map told_end told)
-told_prints [] = refl
-told_prints (one ∷ told) =
-    ap (λ (line : List ℕ). line ++ flat_map told_line told) (entry_prints one.event.entry one.kept)
-    ∙ ap (λ (rest : List ℕ). flat_map line_of (told_end one) ++ rest) (told_prints told)
-    ∙ sym (flat_map-append line_of (told_end one) (flat_map told_end told))
+-- the lines of a report are those of the ends that it tells
+report_prints : (ids : List ℕ) (cycles : List CycleLine) → flat_map (reported_line ids) cycles ≡ flat_map line_of (map (end_of ids) cycles)
+report_prints ids [] = refl
+report_prints ids (line ∷ cycles) = ap (λ (rest : List ℕ). reported_line ids line ++ rest) (report_prints ids cycles)
 
--- what was told prints the cycles of its history
-pub cycles_text : (layout : Layout) (history : List Event) (told : List Told) → events_of told ≡ history → AreCounted layout told →
-    flat_map told_line told ≡ cycles_from layout empty_state history
-cycles_text layout history told is counted =
-    told_prints told ∙ ap (flat_map line_of) (ends_told layout told counted) ∙ sym (cycles_print layout empty_state (events_of told)) ∙ ap (cycles_from layout empty_state) is
+-- a report that tells the ends of a history prints its cycles
+pub cycles_text : (layout : Layout) (history : List Event) (report : Reported) → ends_of report ≡ ends_in layout history →
+    flat_map (reported_line report.ids) report.cycles ≡ cycles_from layout empty_state history
+cycles_text layout history report tells =
+    report_prints report.ids report.cycles ∙ ap (flat_map line_of) tells ∙ sym (cycles_print layout empty_state history)
 
 -- the calls print their lines
 calls_printed : (keys : List (List ℕ)) (calls : List Answered) → call_lines keys (map pair_of calls) ≡ flat_map (answered_line keys) calls

@@ -2,7 +2,6 @@
 use Rattle.std.proofs.Common.{ℕ, ◌≡◌, ◌<◌, refl, sym, ◌∙◌, ap, subst, arith, List, [], ◌∷◌, length, get_or, Vec, Global}
 use Rattle.std.proofs.lemmas.List.Elements.{All-cons, All-get_or, All-head, All-nil, All-tail, All-weaker}
 use Rattle.std.proofs.lemmas.Option.{slice_get_within, slice_get-get_or}
-use Rattle.std.specs.List.{flat_map}
 use Rattle.std.specs.Prelude.{All, map, slice_get, Some}
 use Rattle.tide_model.specs.declared.op.Op.{Op}
 use Rattle.tide_model.specs.declared.op.Op.TheVariants.{Alloc, Table, Get, Put, Move, Set, Drop, Claim, Release, Unclaim, Add, GetProp, SetProp, StrongSet, StrongGet, WeakSet, WeakGet, PairSet, PairGet, PairDel, Group, Collect, Retire}
@@ -12,19 +11,17 @@ use Rattle.tide_model.specs.Pace.{Pace}
 use Rattle.tide_model.specs.Periods.{IsLegal}
 use Rattle.tide_model.specs.Refused.{ShapeLists}
 use Rattle.tide_model.specs.Whole.{IsWhole}
-use Rattle.tide_periods.specs.declared.told.Answered.{Answered}
-use Rattle.tide_periods.specs.declared.told.Told.{Told}
+use Rattle.tide_periods.specs.declared.answered.Answered.{Answered}
 use Rattle.tide_periods.specs.Asking.{IsAskable, IsAskedBy, of_script, asks_unclaim, asks_retire}
 use Rattle.tide_periods.specs.Run.{HasRun}
 use Rattle.tide_periods.specs.Store.{Setting}
-use Rattle.tide_periods.specs.Told.{events_of, pair_of}
+use Rattle.tide_report.specs.Reports.{Reported}
+use Rattle.tide_periods.specs.Answered.{pair_of}
 use Rattle.tide_shape.specs.Shapes.{shapes_of_paths}
 use Rattle.tide_workload.specs.Words.{HasText, IsOperation, Settings, Work, limits_of, limits_with}
 use Rattle.tide_run.specs.declared.outcome.Kept.TheVariants.{Own}
 use Rattle.tide_run.specs.Outcome.{IsOutcome}
-use Rattle.tide_run.specs.Report.{Reported, ends_of, freed_in, told_end}
 use Rattle.tide_run.specs.Runs.{IsRunOf, Ran, layout_of_work, layout_with, pace_of_work}
-use Rattle.tide_run.proofs.Reported.{ends_told}
 
 -- a workload's operation may be asked for
 IsAskable-operation : (settings : Settings) (keys : List (List ℕ)) (mutators : ℕ) (op : Op) → IsOperation (limits_with settings keys) op → IsAskable (layout_with settings mutators) op
@@ -101,12 +98,12 @@ All-before f P [] all = All-nil (λ x. P (f x))
 All-before f P (x ∷ xs) all = All-cons (λ y. P (f y)) x xs (All-head P (f x) (map f xs) all) (All-before f P xs (All-tail P (f x) (map f xs) all))
 
 -- what a run left is an outcome
-pub IsOutcome-ran : (work : Work) (layout : Layout) (keys : List (List ℕ)) (setting : Setting) (pace : Pace) (scripts : List (List Op)) (told : Vec Told Global)
-    (calls : List (List Answered)) (live : ℕ) (report : Reported) → HasRun setting pace scripts told.items calls live → setting.layout ≡ layout → keys ≡ work.keys →
-    length scripts ≡ layout.mutators → All (All (IsOperation (limits_of work))) scripts → ends_of report ≡ flat_map told_end told.items →
-    report.ids ≡ freed_in (flat_map told_end told.items) → IsOutcome layout keys (Own told) calls live report
-IsOutcome-ran work layout keys setting pace scripts told calls live report ran same names one_each within reported ids =
-    subst (λ (l : Layout). IsOutcome l keys (Own told) calls live report) same (record {
+pub IsOutcome-ran : (work : Work) (layout : Layout) (keys : List (List ℕ)) (setting : Setting) (pace : Pace) (scripts : List (List Op)) (events : Vec Event Global) (report : Reported)
+    (calls : List (List Answered)) (live : ℕ) → HasRun setting pace scripts events.items report calls live → setting.layout ≡ layout → keys ≡ work.keys →
+    length scripts ≡ layout.mutators → All (All (IsOperation (limits_of work))) scripts →
+    IsOutcome layout keys (Own (record { events = events })) calls live report
+IsOutcome-ran work layout keys setting pace scripts events report calls live ran same names one_each within =
+    subst (λ (l : Layout). IsOutcome l keys (Own (record { events = events })) calls live report) same (record {
       one_each = ran.one_each;
       calls_are = ran.calls_are;
       texts = λ who own found.
@@ -121,25 +118,23 @@ IsOutcome-ran work layout keys setting pace scripts told calls live report ran s
           let asked = subst (All (λ call. IsAskedBy ops call.0)) (sym (ran.calls_are who own found)) (ran.asked who ops (slice_get-get_or scripts who [] below)) in
           All-weaker (λ (call : Answered). IsAskedBy ops call.op) (λ call. HasText keys call.op) (λ call. HasText-asked keys ops call.op texts) own
           (All-before pair_of (λ call. IsAskedBy ops call.0) own asked);
-      counted = ran.counted;
       living = ran.living;
-      reports = reported ∙ ends_told setting.layout told.items ran.counted;
-      reported_ids = ids ∙ ap freed_in (ends_told setting.layout told.items ran.counted);
+      told = ran.told;
     })
 
 -- what a run left is a run of the workload
-pub IsRunOf-ran : (work : Work) (trigger : ℕ) (result : Ran) (setting : Setting) (pace : Pace) (scripts : List (List Op)) (told : List Told) (calls : List (List Answered)) (live : ℕ) →
-    HasRun setting pace scripts told calls live → pace ≡ pace_of_work work trigger → setting.layout ≡ layout_of_work work → setting.shapes ≡ shapes_of_paths work.paths →
-    scripts ≡ work.scripts → result.layout ≡ layout_of_work work → result.keys ≡ work.keys → result.history ≡ events_of told → IsRunOf work trigger result
-IsRunOf-ran work trigger result setting pace scripts told calls live ran paced same shaped own layout keys history = record {
+pub IsRunOf-ran : (work : Work) (trigger : ℕ) (result : Ran) (setting : Setting) (pace : Pace) (scripts : List (List Op)) (events : List Event) (report : Reported) (calls : List (List Answered)) (live : ℕ) →
+    HasRun setting pace scripts events report calls live → pace ≡ pace_of_work work trigger → setting.layout ≡ layout_of_work work → setting.shapes ≡ shapes_of_paths work.paths →
+    scripts ≡ work.scripts → result.layout ≡ layout_of_work work → result.keys ≡ work.keys → result.history ≡ events → IsRunOf work trigger result
+IsRunOf-ran work trigger result setting pace scripts events report calls live ran paced same shaped own layout keys history = record {
   layout = layout;
   keys = keys;
   legal = subst (IsLegal (pace_of_work work trigger) (layout_of_work work) (shapes_of_paths work.paths)) (sym history)
-      (subst (λ (p : Pace). IsLegal p (layout_of_work work) (shapes_of_paths work.paths) (events_of told)) paced
-      (subst (λ (l : Layout). IsLegal pace l (shapes_of_paths work.paths) (events_of told)) same
-      (subst (λ (s : ShapeLists). IsLegal pace setting.layout s (events_of told)) shaped ran.legal)));
+      (subst (λ (p : Pace). IsLegal p (layout_of_work work) (shapes_of_paths work.paths) events) paced
+      (subst (λ (l : Layout). IsLegal pace l (shapes_of_paths work.paths) events) same
+      (subst (λ (s : ShapeLists). IsLegal pace setting.layout s events) shaped ran.legal)));
   whole = λ mutator ops found.
       subst (λ (h : List Event). IsWhole (layout_of_work work) h mutator ops) (sym history)
-      (subst (λ (l : Layout). IsWhole l (events_of told) mutator ops) same
+      (subst (λ (l : Layout). IsWhole l events mutator ops) same
       (ran.whole mutator ops (ap (λ (lists : List (List Op)). slice_get lists mutator) own ∙ found)));
 }

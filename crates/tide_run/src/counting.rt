@@ -4,16 +4,15 @@ ghost use Rattle.tide_model.specs.declared.op.Reply.{Reply};
 ghost use Rattle.tide_workload.specs.Words.{counts_of, counts_with, reply_in};
 
 use crate::outcome::Outcome;
-use tide_model::{Entry, Memory};
-use tide_periods::Told;
+use tide_model::{Entry, Event, Memory};
 use tide_workload::Counts;
 
 /// Counts the reply of an event that is a call, and nothing of another.
-fn count_told(counts: &mut Counts, told: &Told) -> Result<(), Memory>
+fn count_event(counts: &mut Counts, event: &Event) -> Result<(), Memory>
     ensures { OnOk result ((mutators live : ℕ) → (replies : List Reply) → counts.old ≡ counts_with mutators replies live →
-        counts.new ≡ counts_with mutators (replies ++ reply_in told.now.event.entry) live) }
+        counts.new ≡ counts_with mutators (replies ++ reply_in event.now.entry) live) }
 {
-    match &told.event.entry {
+    match &event.entry {
         Entry::Call { reply, .. } => counts.add(*reply),
         _ => Ok(()),
     }
@@ -24,9 +23,9 @@ pub fn counts_of(outcome: &Outcome) -> Result<Counts, Memory>
     ensures { IfOk result (λ counts. counts ≡ counts_of outcome.now.layout outcome.now.history) }
 {
     let mut counts = Counts::new(outcome.mutators(), outcome.live());
-    let events = outcome.told();
-    for told in events {
-        count_told(&mut counts, told)?;
+    let events = outcome.events();
+    for event in events {
+        count_event(&mut counts, event)?;
     }
     Ok(counts)
 }

@@ -10,12 +10,11 @@ mod counting;
 mod outcome;
 mod printing;
 mod program;
-mod report;
 mod runs;
 mod starting;
 
-pub use outcome::{Kept, Outcome};
+pub use outcome::{Kept, Outcome, Told};
 pub use program::{Ended, riptide};
-pub use report::{CycleLine, Report};
 pub use runs::{plain, run};
-pub use tide_periods::{Answered, Told};
+pub use tide_periods::Answered;
+pub use tide_report::{CycleLine, Report};

@@ -1,16 +1,23 @@
 //! The outcome of a run.
 ghost use Rattle.std.specs.Prelude.{◌≡◌, ◌<◌, ℕ, All, map};
 
-use crate::report::Report;
 use std::marker::Model;
 use tide_layout::Layout;
-use tide_periods::{Answered, Finished, Told};
+use tide_model::Event;
+use tide_periods::{Answered, Finished};
+use tide_report::Report;
+
+/// A history that a run kept itself: its events, in order.
+#[derive(Debug, Drop)]
+pub struct Told {
+    pub(crate) events: Vec<Event>,
+}
 
 /// Where a run's history was kept.
 #[derive(Debug, Drop)]
 pub enum Kept {
-    /// By the run itself, event by event.
-    Own(Vec<Told>),
+    /// By the run itself.
+    Own(Told),
 }
 
 /// A run's history, its replies, its cycles and what lives at its end.
@@ -45,22 +52,28 @@ impl Outcome {
     ghost use Rattle.tide_model.specs.Cycle.{live_count};
     ghost use Rattle.tide_model.specs.History.{state_after};
     ghost use Rattle.tide_model.specs.Script.{calls_of};
-    ghost use Rattle.tide_periods.specs.Told.{events_of, AreCounted, pair_of};
+    ghost use Rattle.tide_periods.specs.Answered.{pair_of};
+    ghost use Rattle.tide_report.specs.Ends.{all_freed, ends_in, ends_of};
     ghost use Rattle.tide_workload.specs.Words.{HasText};
     ghost use Rattle.tide_run.specs.Outcome.{ran_of, IsOutcome};
-    ghost use Rattle.tide_run.specs.Report.{ends_in, ends_of, freed_in};
 
     /// The outcome of a run that left this.
-    pub(crate) fn new(layout: Layout, names: Vec<Vec<u8>>, ran: Finished, report: Report) -> Outcome
-        requires { IsOutcome layout (map (λ name. name.items) names.items) (Kept.Own ran.told)
-            (map (λ own. own.items) ran.calls.items) ran.live report }
-        ensures { result ≡ ran_of layout (map (λ name. name.items) names.items) (Kept.Own ran.told) }
+    pub(crate) fn new(layout: Layout, names: Vec<Vec<u8>>, ran: Finished) -> Outcome
+        requires { IsOutcome layout (map (λ name. name.items) names.items) (Kept.Own (record { events = ran.events }))
+            (map (λ own. own.items) ran.calls.items) ran.live ran.report }
+        ensures { result ≡ ran_of layout (map (λ name. name.items) names.items)
+            (Kept.Own (record { events = ran.events })) }
     {
-        let Finished { told, calls, live } = ran;
+        let Finished {
+            events,
+            report,
+            calls,
+            live,
+        } = ran;
         Outcome {
             layout,
             names,
-            kept: Kept::Own(told),
+            kept: Kept::Own(Told { events }),
             calls,
             live,
             report,
@@ -93,7 +106,7 @@ impl Outcome {
     /// The cycles that ended, and the cells that each freed.
     pub fn report(&self) -> &Report
         ensures ends { ends_of result.now ≡ ends_in self.now.layout self.now.history }
-        ensures ids { result.now.ids ≡ freed_in (ends_in self.now.layout self.now.history) }
+        ensures ids { result.now.ids ≡ all_freed (ends_in self.now.layout self.now.history) }
     {
         &self.report
     }
@@ -106,12 +119,11 @@ impl Outcome {
     }
 
     /// What was run, event by event.
-    pub(crate) fn told(&self) -> &[Told]
-        ensures told { events_of result.now ≡ self.now.history }
-        ensures counted { AreCounted self.now.layout result.now }
+    pub(crate) fn events(&self) -> &[Event]
+        ensures { result.now ≡ self.now.history }
     {
         match &self.kept {
-            Kept::Own(told) => told.as_slice(),
+            Kept::Own(told) => told.events.as_slice(),
         }
     }
 }

@@ -1,16 +1,16 @@
 //! Printing a run.
-ghost use Rattle.std.specs.Prelude.{◌≡◌, ◌<◌, All, OnOk, OnErr};
+ghost use Rattle.std.specs.Prelude.{◌≡◌, ◌<◌, ◌+◌, ◌≤◌, length, All, OnOk, OnErr};
 ghost use Rattle.std.specs.List.{flat_map};
 ghost use Rattle.std.specs.Io.KnownBytes.{Appends};
 ghost use Rattle.tide_io.specs.Faults.{AppendsPart, HasCause};
 ghost use Rattle.tide_workload.specs.Words.{HasText, cycles_from, mutator_text, mutators_text, summary_text, text_of};
 ghost use Rattle.tide_model.specs.State.{empty_state};
-ghost use Rattle.tide_run.specs.Printing.{answered_line, told_line};
+ghost use Rattle.tide_run.specs.Printing.{answered_line, reported_line};
 
 use crate::outcome::Outcome;
 use tide_io::{Failed, Sink};
-use tide_model::Entry;
-use tide_periods::{Answered, Told};
+use tide_periods::Answered;
+use tide_report::{CycleLine, Report};
 use tide_workload::{
     Counts, Workload, write_call, write_cycle, write_live, write_mutator, write_summary,
 };
@@ -30,26 +30,28 @@ fn write_calls<K: Sink>(out: &mut K, load: &Workload, calls: &[Answered]) -> Res
     Ok(())
 }
 
-/// Writes the line of an event that ended a cycle, and nothing of another.
-fn write_told<K: Sink>(out: &mut K, told: &Told) -> Result<(), Failed>
-    ensures whole { OnOk result (Appends (K.held out.old) (K.held out.new) (told_line told.now)) }
-    ensures part { OnErr result (AppendsPart (K.held out.old) (K.held out.new) (told_line told.now)) }
+/// Writes the line of a cycle of a report.
+fn write_reported<K: Sink>(out: &mut K, report: &Report, line: &CycleLine) -> Result<(), Failed>
+    requires within { line.now.first + line.now.freed ≤ length report.now.ids }
+    ensures whole { OnOk result (Appends (K.held out.old) (K.held out.new) (reported_line report.now.ids line.now)) }
+    ensures part { OnErr result (AppendsPart (K.held out.old) (K.held out.new)
+        (reported_line report.now.ids line.now)) }
     ensures cause { HasCause (K.faults out.old) (K.faults out.new) result }
 {
-    match &told.event.entry {
-        Entry::End { cycle, freed } => write_cycle(out, *cycle, told.kept, freed.as_slice()),
-        _ => Ok(()),
-    }
+    write_cycle(out, line.number, line.kept, report.ids_of(*line))
 }
 
-/// Writes the line of each cycle.
-fn write_cycles<K: Sink>(out: &mut K, told: &[Told]) -> Result<(), Failed>
-    ensures whole { OnOk result (Appends (K.held out.old) (K.held out.new) (flat_map told_line told.now)) }
-    ensures part { OnErr result (AppendsPart (K.held out.old) (K.held out.new) (flat_map told_line told.now)) }
+/// Writes the line of each cycle of a report.
+fn write_cycles<K: Sink>(out: &mut K, report: &Report) -> Result<(), Failed>
+    ensures whole { OnOk result (Appends (K.held out.old) (K.held out.new) (flat_map
+        (reported_line report.now.ids) report.now.cycles)) }
+    ensures part { OnErr result (AppendsPart (K.held out.old) (K.held out.new) (flat_map
+        (reported_line report.now.ids) report.now.cycles)) }
     ensures cause { HasCause (K.faults out.old) (K.faults out.new) result }
 {
-    for one in told {
-        write_told(out, one)?;
+    let lines = report.cycles();
+    for line in lines {
+        write_reported(out, report, line)?;
     }
     Ok(())
 }
@@ -96,7 +98,7 @@ fn write_cycles_of<K: Sink>(out: &mut K, outcome: &Outcome) -> Result<(), Failed
         (cycles_from outcome.now.layout empty_state outcome.now.history)) }
     ensures cause { HasCause (K.faults out.old) (K.faults out.new) result }
 {
-    write_cycles(out, outcome.told())
+    write_cycles(out, outcome.report())
 }
 
 /// Writes the text of a run.

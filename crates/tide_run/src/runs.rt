@@ -6,7 +6,6 @@ ghost use Rattle.tide_workload.specs.Words.{IsOperation, MAX_OPS, limits_of};
 ghost use Rattle.tide_run.specs.Runs.{IsRunOf, layout_of_work};
 
 use crate::outcome::Outcome;
-use crate::report::report_of;
 use crate::starting::{copied_scripts, layout_with, names_of, shapes_from};
 use std::alloc::Global;
 use std::marker::Sync;
@@ -41,8 +40,7 @@ fn run_with<T: Recorder + Drop>(
     let layout = layout_with(load.settings(), load.mutators());
     let names = names_of(alloc, load)?;
     let ran = run_on(alloc, recorder, scripts, pacing)?;
-    let report = report_of(alloc, ran.told.as_slice())?;
-    Ok(Outcome::new(layout, names, ran, report))
+    Ok(Outcome::new(layout, names, ran))
 }
 
 /// The numbers of a workload's periods, with this trigger.

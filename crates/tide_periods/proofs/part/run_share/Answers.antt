@@ -1,7 +1,7 @@
 -- Answers to the goals of part::run_share.
 use Rattle.std.proofs.Common.{◌∙◌, arith, ap, sym, subst, ◌≡◌, ◌+◌, length}
 use Rattle.std.specs.Prelude.{map}
-use Rattle.tide_periods.specs.Told.{pair_of}
+use Rattle.tide_periods.specs.Answered.{pair_of}
 use Rattle.tide_periods.specs.Asking.{next_of, standing_of, IsMutatorAt}
 use Rattle.tide_periods.proofs.PartLoops.{IsSharing}
 use Rattle.tide_periods.specs.Recorded.{MadeCall, MayAsk}

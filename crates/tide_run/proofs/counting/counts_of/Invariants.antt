@@ -4,9 +4,9 @@ use Rattle.std.specs.List.{flat_map}
 use Rattle.tide_model.specs.Cycle.{live_count}
 use Rattle.tide_model.specs.History.{state_after}
 use Rattle.tide_workload.specs.Words.{counts_with}
-use Rattle.tide_run.proofs.Counted.{told_reply}
+use Rattle.tide_run.proofs.Counted.{event_reply}
 use Rattle.tide_run.proofs.counting.counts_of.Given as goal
 
-abbrev pub invariant-loop-told : goal.invariant-loop-told
-invariant-loop-told l = l.counts ≡ counts_with l.outcome.layout.mutators (flat_map told_reply (take l.told-index l.events))
+abbrev pub invariant-loop-event : goal.invariant-loop-event
+invariant-loop-event l = l.counts ≡ counts_with l.outcome.layout.mutators (flat_map event_reply (take l.event-index l.events))
     (live_count l.outcome.layout (state_after l.outcome.layout l.outcome.history))

@@ -9,9 +9,9 @@ use Rattle.tide_run.proofs.printing.write_cycles_of.Goals as goal
 pub returns-clause-whole : goal.returns-clause-whole
 returns-clause-whole g c =
     subst (λ (text : List ℕ). OnOk c.write_cycles.result (Appends (g.K.Sink.held c.args.out.now) (g.K.Sink.held c.write_cycles.new.out) text))
-    (cycles_text c.args.outcome.now.layout c.args.outcome.now.history c.told.result.now c.told.ensures.told c.told.ensures.counted) c.write_cycles.ensures.whole
+    (cycles_text c.args.outcome.now.layout c.args.outcome.now.history c.report.result.now c.report.ensures.ends) c.write_cycles.ensures.whole
 
 pub returns-clause-part : goal.returns-clause-part
 returns-clause-part g c =
     subst (λ (text : List ℕ). OnErr c.write_cycles.result (AppendsPart (g.K.Sink.held c.args.out.now) (g.K.Sink.held c.write_cycles.new.out) text))
-    (cycles_text c.args.outcome.now.layout c.args.outcome.now.history c.told.result.now c.told.ensures.told c.told.ensures.counted) c.write_cycles.ensures.part
+    (cycles_text c.args.outcome.now.layout c.args.outcome.now.history c.report.result.now c.report.ensures.ends) c.write_cycles.ensures.part

@@ -1,16 +1,12 @@
 -- Answers to the goals of runs::run_with.
-use Rattle.std.proofs.Common.{ℕ, List, ◌≡◌, ◌∙◌, sym, ap, subst, length, map, All, Vec, Global}
+use Rattle.std.proofs.Common.{ℕ, ◌≡◌, ◌∙◌, sym, ap, subst, length, map, All, Vec, Global}
 use Rattle.std.proofs.lemmas.List.{length-map}
-use Rattle.std.specs.List.{flat_map}
 use Rattle.tide_model.specs.declared.op.Op.{Op}
 use Rattle.tide_model.specs.Layout.{Layout}
-use Rattle.tide_model.specs.Pace.{Pace}
 use Rattle.tide_periods.specs.Periods.{pace_of}
-use Rattle.tide_periods.specs.declared.told.Told.{Told}
 use Rattle.tide_periods.specs.Asking.{IsAskable}
 use Rattle.tide_periods.specs.Store.{Setting}
 use Rattle.tide_workload.specs.Words.{Settings}
-use Rattle.tide_run.specs.Report.{freed_in, told_end}
 use Rattle.tide_run.specs.Runs.{Ran, layout_of_work, layout_with}
 use Rattle.tide_run.proofs.RunLaws.{AreAskable, IsOutcome-ran, IsRunOf-ran}
 use Rattle.tide_run.proofs.runs.run_with.Goals as goal
@@ -37,10 +33,9 @@ new-requires g c =
     let as_many : length scripts ≡ c.layout_with-layout.result.mutators =
     ap length c.requires.scripts ∙ ap (λ (l : Layout). l.mutators) (sym layout) in
     IsOutcome-ran work c.layout_with-layout.result (map (λ name. name.items) c.in_ok-names.names.items) setting
-    (pace_of c.args.pacing) scripts ran.told (map (λ own. own.items) ran.calls.items) ran.live c.in_ok-report.report c.in_ok-ran.ensures
+    (pace_of c.args.pacing) scripts ran.events ran.report (map (λ own. own.items) ran.calls.items) ran.live c.in_ok-ran.ensures
     (c.requires.layout ∙ sym layout)
-    c.in_ok-names.ensures as_many c.requires.within (c.in_ok-report.ensures.ends ∙ ap (flat_map told_end) c.as_slice.ensures.value)
-    (c.in_ok-report.ensures.ids ∙ ap (λ (told : List Told). freed_in (flat_map told_end told)) c.as_slice.ensures.value)
+    c.in_ok-names.ensures as_many c.requires.within
 
 pub returns : goal.returns
 returns g c =
@@ -51,7 +46,7 @@ returns g c =
     ∙ ap (layout_with work.settings) c.mutators.ensures.count in
     record {
       run = IsRunOf-ran work c.args.pacing.trigger c.new.result setting (pace_of c.args.pacing) (map (λ (ops : Vec Op Global). ops.items) c.args.scripts.items)
-          ran.told.items (map (λ own. own.items) ran.calls.items) ran.live c.in_ok-ran.ensures (ap (λ (n : ℕ). record { period = n; headroom = c.args.pacing.headroom; trigger = c.args.pacing.trigger }) c.requires.period
+          ran.events.items ran.report (map (λ own. own.items) ran.calls.items) ran.live c.in_ok-ran.ensures (ap (λ (n : ℕ). record { period = n; headroom = c.args.pacing.headroom; trigger = c.args.pacing.trigger }) c.requires.period
           ∙ ap (λ (n : ℕ). record { period = work.settings.period; headroom = n; trigger = c.args.pacing.trigger }) c.requires.headroom) c.requires.layout
           c.requires.shapes c.requires.scripts
           (ap (λ (r : Ran). r.layout) c.new.ensures ∙ layout) (ap (λ (r : Ran). r.keys) c.new.ensures ∙ c.in_ok-names.ensures) (ap (λ (r : Ran). r.history) c.new.ensures);

@@ -10,8 +10,8 @@ pub returns-in_ok-cycle-clause-ran : goal.returns-in_ok-cycle-clause-ran
 returns-in_ok-cycle-clause-ran g c =
     let self = c.args.self.now in
     let now = c.cycle.new.self in
-    let old : Recorded = recorded_of (g.S.Store.setting self.store) (g.S.Store.state self.store) self.told.items self.cycles self.parts self.blocks in
-    let new : Recorded = recorded_of (g.S.Store.setting now.store) (g.S.Store.state now.store) now.told.items now.cycles now.parts now.blocks in
+    let old : Recorded = recorded_of (g.S.Store.setting self.store) (g.S.Store.state self.store) self.events.items self.cycles self.parts self.blocks in
+    let new : Recorded = recorded_of (g.S.Store.setting now.store) (g.S.Store.state now.store) now.events.items now.cycles now.parts now.blocks in
     let pace = pace_of c.args.pacing in
     subst (λ (must : Bool). RanFreeze old new pace must c.args.pacing.period) (sym c.if-is_must.true)
     (RanFreeze-cycle old new pace c.requires.settled c.requires.stands.rests c.requires.some c.in_ok-cycle.ensures.ran)
@@ -19,7 +19,7 @@ returns-in_ok-cycle-clause-ran g c =
 pub returns-else-is_must-clause-ran : goal.returns-else-is_must-clause-ran
 returns-else-is_must-clause-ran g c =
     let self = c.args.self.now in
-    let old : Recorded = recorded_of (g.S.Store.setting self.store) (g.S.Store.state self.store) self.told.items self.cycles self.parts self.blocks in
+    let old : Recorded = recorded_of (g.S.Store.setting self.store) (g.S.Store.state self.store) self.events.items self.cycles self.parts self.blocks in
     let pace = pace_of c.args.pacing in
     subst (λ (must : Bool). RanFreeze old old pace must c.args.pacing.period) (sym c.if-is_must.false)
     (RanFreeze-rest old pace c.requires.settled c.requires.stands.rests c.requires.some c.requires.paces)

@@ -11,7 +11,7 @@ use Rattle.tide_model.proofs.Histories.{state_after-push}
 use Rattle.tide_freeze.specs.Births.{AreBornIn}
 use Rattle.tide_freeze.specs.Frozen.{IsFrozen}
 use Rattle.tide_freeze.specs.Laws.{any_cells}
-use Rattle.tide_freeze.specs.Told.{TellsEnds}
+use Rattle.tide_report.specs.Ends.{TellsEnds}
 use Rattle.tide_freeze.proofs.RunningLaws.{part_keeps_report}
 use Rattle.tide_periods.proofs.CallerLaws.{called}
 use Rattle.tide_periods.proofs.RecordedLaws.{MadeCall-did}

@@ -9,13 +9,14 @@ use Rattle.std.specs.Prelude.{◌≤◌}
 use Rattle.tide_periods.specs.Periods.{RanFreeze, pace_of}
 use Rattle.tide_periods.specs.Recorded.{Recorded}
 use Rattle.tide_recording.specs.Kept.{history_in, recorded_in, recorded_of, shapes_in, state_in}
-use Rattle.tide_recording.proofs.FrozenParts.{HoldsClaims-same, RanFreeze-frozen, TellsEnds-same}
+use Rattle.tide_report.proofs.EndLaws.{TellsEnds-room}
+use Rattle.tide_recording.proofs.FrozenParts.{HoldsClaims-same, RanFreeze-frozen}
 use Rattle.tide_recording.proofs.words.RecordedWords.freeze_part.Goals as goal
 
 pub freeze-requires-clause-told : goal.freeze-requires-clause-told
 freeze-requires-clause-told c =
     let self = c.args.self.now in
-    TellsEnds-same self.layout (history_in self) self.report c.make_room.new.self c.make_room.ensures.cycles c.make_room.ensures.ids c.requires.stands.told
+    TellsEnds-room self.layout (history_in self) self.report c.make_room.new.self c.make_room.ensures.cycles c.make_room.ensures.ids c.requires.stands.told
 
 pub freeze-requires-clause-ends : goal.freeze-requires-clause-ends
 freeze-requires-clause-ends c = record {

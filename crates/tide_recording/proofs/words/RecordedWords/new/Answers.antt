@@ -5,12 +5,13 @@ use Rattle.tide_model.specs.History.{state_after}
 use Rattle.tide_model.specs.Layout.{cell_count}
 use Rattle.tide_model.specs.Refused.{ShapeLists}
 use Rattle.tide_words.specs.marking.Greys.{Greys}
-use Rattle.tide_cycle.specs.Reports.{Reported}
+use Rattle.tide_report.specs.Reports.{Reported}
 use Rattle.tide_freeze.specs.Births.{AreBornIn}
 use Rattle.tide_freeze.specs.Frozen.{IsFrozen}
 use Rattle.tide_freeze.specs.Laws.{any_cells}
 use Rattle.tide_recording.specs.Kept.{HoldsClaims}
-use Rattle.tide_recording.proofs.Opening.{HoldsClaims-nothing, IsSettled-fresh, TellsEnds-nothing}
+use Rattle.tide_report.proofs.EndLaws.{TellsEnds-nothing}
+use Rattle.tide_recording.proofs.Opening.{HoldsClaims-nothing, IsSettled-fresh}
 use Rattle.tide_shape.specs.Lists.{lists_of}
 use Rattle.tide_recording.proofs.words.RecordedWords.new.Goals as goal
 

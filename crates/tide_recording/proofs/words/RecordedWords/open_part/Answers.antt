@@ -13,7 +13,7 @@ use Rattle.tide_core.specs.Entered.{HasOpened}
 use Rattle.tide_freeze.specs.Births.{AreBornIn}
 use Rattle.tide_freeze.specs.Frozen.{IsFrozen}
 use Rattle.tide_freeze.specs.Laws.{any_cells}
-use Rattle.tide_freeze.specs.Told.{TellsEnds}
+use Rattle.tide_report.specs.Ends.{TellsEnds}
 use Rattle.tide_freeze.proofs.RunningLaws.{open_keeps_births, open_keeps_frozen, part_keeps_report}
 use Rattle.tide_periods.proofs.RecordedLaws.{OpenedPart-did}
 use Rattle.tide_recording.specs.Kept.{history_in, recorded_in, recorded_of, shapes_in, state_in}

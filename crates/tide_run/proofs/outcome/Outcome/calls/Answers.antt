@@ -3,7 +3,7 @@ use Rattle.std.proofs.Common.{ℕ, ◌<◌, ◌∙◌, ap, sym, subst, arith, le
 use Rattle.std.proofs.lemmas.List.{length-map}
 use Rattle.std.proofs.lemmas.Option.{slice_get-map, slice_get-get_or}
 use Rattle.std.specs.Prelude.{All, option_map}
-use Rattle.tide_periods.specs.declared.told.Answered.{Answered}
+use Rattle.tide_periods.specs.declared.answered.Answered.{Answered}
 use Rattle.tide_workload.specs.Words.{HasText}
 use Rattle.tide_run.specs.Runs.{Ran}
 use Rattle.tide_run.proofs.outcome.Outcome.calls.Goals as goal
