@@ -12,8 +12,8 @@
   those of docs/seconds.txt, which docs/seconds.py measures.
 
 It also refuses a crates.txt in which a crate stands above one that it stands on, a README.md of a crate that names
-others than crates.txt under "What it stands on", and a reading order that names a definition that the clauses of
-`riptide` don't rest on, or leaves out a fact (a name in CamelCase) that they do.
+others than crates.txt under "What it stands on", a reading order that names a definition that the clauses of `riptide`
+don't rest on, or leaves out a fact (a name in CamelCase) that they do, and an edit that doesn't fit its file any more.
 """
 import re
 import sys
@@ -71,6 +71,23 @@ def files_of(crate, part):
     """The files of a crate's src/, specs/ or proofs/."""
     ending = "*.rt" if part == "src" else "*.antt"
     return sorted((TOP / "crates" / crate / part).rglob(ending))
+
+
+def edits_that_miss():
+    """Edits with an `old:` text that, after the pairs before it, isn't in its file just once: which, and how often."""
+    for edit in sorted([*TOP.glob("crates/*/must-fail/*.edit"), *TOP.glob("crates/*/wrong/*.edit")]):
+        texts, path, old = {}, None, ""
+        for line in edit.read_text().splitlines():
+            word, _, rest = line.partition(":")
+            rest = rest.removeprefix(" ")
+            if word == "file":
+                path = edit.parent.parent / rest
+                texts.setdefault(path, path.read_text() if path.is_file() else "")
+            elif word == "old" and texts[path].count(old := rest) != 1:
+                yield f"{edit.relative_to(TOP)}: {rest!r} stands {texts[path].count(old)} times in {path.name}"
+                break
+            elif word == "new":
+                texts[path] = texts[path].replace(old, rest)
 
 
 # The definitions of specs/
@@ -328,6 +345,9 @@ def main():
     for name in readmes_differ():
         differ = 1
         print(f"crates/{name}/README.md doesn't say what it stands on as crates.txt does")
+    for miss in edits_that_miss():
+        differ = 1
+        print(miss)
     for path, text in pages().items():
         if path.exists() and path.read_text() == text:
             continue
