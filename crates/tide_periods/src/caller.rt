@@ -83,7 +83,13 @@ impl Caller {
     }
 }
 
-/// The mutators that ask for these operations, of which none has made a call.
+/// The most calls that a mutator with so many operations makes: each of them at most twice, as only the first refusal for
+/// room is tried again, then eight unclaims and one retirement.
+pub(crate) fn most_calls(operations: usize) -> usize {
+    operations.saturating_mul(2).saturating_add(9)
+}
+
+/// The mutators that ask for these operations, of which none has made a call. Each has room for its calls.
 pub(crate) fn callers_of(alloc: Global, scripts: Vec<Vec<Op>>) -> Result<Vec<Caller>, Memory>
     requires { length scripts.items ≤ 16 }
     ensures { IfOk result (λ callers. AreNew callers.items (map (λ ops. ops.items) scripts.items)) }
@@ -91,7 +97,7 @@ pub(crate) fn callers_of(alloc: Global, scripts: Vec<Vec<Op>>) -> Result<Vec<Cal
     let mut callers = Vec::new(alloc);
     let mut who = 0;
     for ops in scripts {
-        let calls = with_room(alloc, ops.len())?;
+        let calls = with_room(alloc, most_calls(ops.len()))?;
         append(
             &mut callers,
             Caller {

@@ -14,6 +14,7 @@ mod periods;
 mod plain;
 mod recorder;
 mod recording;
+mod room;
 mod run;
 mod store;
 
@@ -21,5 +22,6 @@ pub use answered::Answered;
 pub use pacing::Pacing;
 pub use recorder::Recorder;
 pub use recording::Recording;
-pub use run::{Finished, operations_in, run_on};
+pub use room::{Room, room_for};
+pub use run::{Finished, run_on};
 pub use store::Store;

@@ -9,7 +9,7 @@ use crate::answered::Answered;
 use crate::caller::{Caller, callers_of};
 use crate::pacing::Pacing;
 use crate::periods::run_periods;
-use crate::recorder::{Recorder, append};
+use crate::recorder::{Recorder, append, with_room};
 use std::alloc::Global;
 use tide_model::{Event, Memory, Op};
 use tide_report::Report;
@@ -27,21 +27,16 @@ pub struct Finished {
     pub live: u32,
 }
 
-/// How many operations there are, and so about how many events: the least room that a run of them needs.
-pub fn operations_in(scripts: &[Vec<Op>]) -> usize {
-    let mut count = 0usize;
-    for ops in scripts {
-        count = count.saturating_add(ops.len());
-    }
-    count
-}
-
-/// Each caller's calls.
-fn calls_of_each(alloc: Global, callers: Vec<Caller>) -> Result<Vec<Vec<Answered>>, Memory>
+/// Each caller's calls, in a list that is empty yet.
+fn calls_of_each(
+    list: Vec<Vec<Answered>>,
+    callers: Vec<Caller>,
+) -> Result<Vec<Vec<Answered>>, Memory>
+    requires { list.items ≡ [] }
     ensures { IfOk result (λ calls.
         map (λ own. own.items) calls.items ≡ map (λ caller. caller.calls.items) callers.items) }
 {
-    let mut calls = Vec::new(alloc);
+    let mut calls = list;
     for caller in callers {
         append(&mut calls, caller.into_calls())?;
     }
@@ -52,7 +47,7 @@ fn calls_of_each(alloc: Global, callers: Vec<Caller>) -> Result<Vec<Vec<Answered
 ///
 /// Mutators make their calls of a part one after another. In the freeze after it the cycle that marks goes on, and a
 /// whole one is run after a part in which a mutator asked for one, was first refused for room or, as the last, retired;
-/// else one begins where the trigger asks for it.
+/// else one begins where the trigger asks for it. Room for the calls is made before the first of them.
 pub fn run_on<T: Recorder + Drop>(
     alloc: Global,
     recorder: T,
@@ -74,11 +69,12 @@ pub fn run_on<T: Recorder + Drop>(
         finished.events.items finished.report (map (λ own. own.items) finished.calls.items) finished.live) }
 {
     let mut recorder = recorder;
+    let list = with_room(alloc, scripts.len())?;
     let mut callers = callers_of(alloc, scripts)?;
     run_periods(&mut recorder, callers.as_mut_slice(), pacing, alloc)?;
     let live = recorder.live();
     let (events, report) = recorder.into_parts();
-    let calls = calls_of_each(alloc, callers)?;
+    let calls = calls_of_each(list, callers)?;
     Ok(Finished {
         events,
         report,

@@ -12,6 +12,8 @@ use Rattle.tide_model.specs.Refused.{ShapeLists}
 use Rattle.tide_model.specs.State.{State, empty_state}
 use Rattle.tide_model.proofs.Histories.{state_from-append}
 use Rattle.tide_freeze.specs.Freezing.{HasFrozen}
+use Rattle.tide_freeze.specs.Frozen.{IsFrozen}
+use Rattle.tide_freeze.specs.Laws.{any_cells}
 use Rattle.tide_freeze.proofs.QuietLaws.{HasFrozen-quiet, calls_of-quiet, is_quiet, kept_by_quiet, open_count-quiet}
 use Rattle.tide_periods.specs.Periods.{RanFreeze}
 use Rattle.tide_periods.specs.Recorded.{IsSettled}
@@ -66,3 +68,12 @@ HoldsClaims-same layout one other claims same holds = record {
   one_each = holds.one_each;
   are = λ who own at. ap (λ (of : ℕ → List ℕ). of who) same ∙ holds.are who own at;
 }
+
+-- words, shapes and a history that were added to are those that may be frozen
+pub IsFrozen-added : (layout : Layout) (shapes shapes_now : ShapeLists) (words words_now : List ℕ) (history history_now : List Event) →
+    shapes_now ≡ shapes → words_now ≡ words → history_now ≡ history → IsFrozen layout shapes words history any_cells →
+    IsFrozen layout shapes_now words_now history_now any_cells
+IsFrozen-added layout shapes shapes_now words words_now history history_now same_shapes same added frozen =
+    subst (λ (s : ShapeLists). IsFrozen layout s words_now history_now any_cells) (sym same_shapes)
+    (subst (λ (ws : List ℕ). IsFrozen layout shapes ws history_now any_cells) (sym same)
+    (subst (λ (h : List Event). IsFrozen layout shapes words h any_cells) (sym added) frozen))

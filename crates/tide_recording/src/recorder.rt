@@ -3,7 +3,7 @@ ghost use Rattle.std.specs.Prelude.{◌≡◌, ◌+◌, if◌then◌else◌, OnO
 ghost use Rattle.tide_model.specs.Since.{is_born_reply};
 ghost use Rattle.tide_recording.specs.Kept.{recorded_in, IsPace, StandsWhole};
 
-use crate::words::{RecordedWords, append};
+use crate::words::RecordedWords;
 use std::alloc::Global;
 use tide_freeze::Births;
 use tide_model::{Entry, Event, Memory, Op, Reply};
@@ -50,7 +50,7 @@ impl Recorder for RecordedWords {
         let reply = called.reply;
         let entry = Entry::Call { who, op, reply };
         let took = called.took;
-        append(&mut self.chronicle.events, Event { entry, took })?;
+        self.chronicle.add(Event { entry, took })?;
         count_birth(&mut self.births, reply)?;
         Ok(reply)
     }

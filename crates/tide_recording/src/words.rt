@@ -10,17 +10,16 @@ use tide_call::Claims;
 use tide_freeze::{Births, Chronicle};
 use tide_layout::{Layout, Region};
 use tide_model::{Entry, Event, Memory};
+use tide_periods::Room;
 use tide_report::Report;
 use tide_shape::Shapes;
 use tide_words::{GreyList, Words, is_live, store_word};
 
-/// How many cycles a report has room for at first; a freeze gives it more.
-const CYCLES: u32 = 64;
-
 /// The words of a heap, with the history of what was run on them.
 ///
 /// Each mutator's claims are kept in their order, which no word tells. The births are counted, and the report has each
-/// cycle that ended. The list of grey cells has its room from the start, so that a call takes memory for its event alone.
+/// cycle that ended. The list of grey cells has its room from the start, and so have the report and the list of events,
+/// as much as the room says that they were made with.
 #[derive(Drop)]
 pub struct RecordedWords {
     pub(crate) layout: Layout,
@@ -32,10 +31,15 @@ pub struct RecordedWords {
 }
 
 /// One more at the end of a list.
-pub(crate) fn append<T: Drop>(list: &mut Vec<T>, item: T) -> Result<(), Memory>
+fn append<T: Drop>(list: &mut Vec<T>, item: T) -> Result<(), Memory>
     ensures { OnOk result (list.new.items ≡ list.old.items ++ item ∷ []) }
 {
     list.push(item).map_err(|_| Memory)
+}
+
+/// A count, or the largest of 32 bits where it is larger.
+fn capped(count: usize) -> u32 {
+    u32::try_from(count).unwrap_or(u32::MAX)
 }
 
 /// No claims, for each of so many mutators.
@@ -50,12 +54,12 @@ fn no_claims(alloc: Global, mutators: u8) -> Result<Vec<Claims>, Memory>
 }
 
 impl RecordedWords {
-    /// The words of the empty heap, on which nothing was run yet, with room for so many events.
+    /// The words of the empty heap, on which nothing was run yet, with this room for what a run leaves.
     pub fn new(
         alloc: Global,
         layout: Layout,
         shapes: Shapes,
-        room: usize,
+        room: Room,
     ) -> Result<RecordedWords, Memory>
         requires no_visitors { layout.visitors ≡ 0 }
         ensures stands { IfOk result StandsWhole }
@@ -64,10 +68,12 @@ impl RecordedWords {
         ensures layout { IfOk result (λ new. (recorded_in new).setting.layout ≡ layout) }
         ensures shapes { IfOk result (λ new. (recorded_in new).setting.shapes ≡ lists_of shapes) }
     {
-        let chronicle = Chronicle::new(alloc, &layout, shapes, room)?;
+        let chronicle = Chronicle::new(alloc, &layout, shapes, room.events)?;
         let claims = no_claims(alloc, layout.mutators())?;
         let greys = GreyList::new(alloc, layout.cells())?;
-        let report = Report::new(alloc, CYCLES, 2 * layout.cells())?;
+        let ends = capped(room.ends);
+        let freed = capped(room.births).saturating_add(2 * layout.cells());
+        let report = Report::new(alloc, ends, freed)?;
         Ok(RecordedWords {
             layout,
             chronicle,
@@ -99,7 +105,7 @@ impl RecordedWords {
             u64::from(number),
         );
         let entry = Entry::Open { number, run };
-        append(&mut self.chronicle.events, Event { entry, took: None })?;
+        self.chronicle.add(Event { entry, took: None })?;
         Ok(())
     }
 

@@ -11,7 +11,7 @@ use std::alloc::Global;
 use std::marker::Sync;
 use std::thread::Threads;
 use tide_model::{Memory, Op, Turnstile};
-use tide_periods::{Pacing, Recorder, Recording, operations_in, run_on};
+use tide_periods::{Pacing, Recorder, Recording, room_for, run_on};
 use tide_plain::PlainStore;
 use tide_recording::RecordedWords;
 use tide_workload::{Settings, Workload};
@@ -64,9 +64,9 @@ pub fn plain(alloc: Global, load: &Workload) -> Result<Outcome, Memory>
     let layout = layout_with(load.settings(), load.mutators());
     let shapes = shapes_from(alloc, load.paths())?;
     let scripts = copied_scripts(alloc, load)?;
-    let room = operations_in(scripts.as_slice());
+    let room = room_for(scripts.as_slice());
     let store = PlainStore::new(alloc, layout, shapes)?;
-    let recorder = Recording::new(alloc, store, layout.block_count(), room)?;
+    let recorder = Recording::new(alloc, store, layout.block_count(), room.events)?;
     let pacing = pacing_with(load.settings(), 0);
     let outcome = run_with(alloc, load, scripts, recorder, pacing)?;
     Ok(outcome)
@@ -92,7 +92,7 @@ pub fn run<R: Threads + Sync, T: Turnstile>(
     let layout = layout_with(settings, load.mutators());
     let shapes = shapes_from(alloc, load.paths())?;
     let scripts = copied_scripts(alloc, load)?;
-    let room = operations_in(scripts.as_slice());
+    let room = room_for(scripts.as_slice());
     let recorder = RecordedWords::new(alloc, layout, shapes, room)?;
     let pacing = pacing_with(settings, settings.trigger);
     let outcome = run_with(alloc, load, scripts, recorder, pacing)?;

@@ -13,10 +13,13 @@ use Rattle.tide_freeze.specs.Frozen.{IsFrozen}
 use Rattle.tide_freeze.specs.Laws.{any_cells}
 use Rattle.tide_report.specs.Ends.{TellsEnds}
 use Rattle.tide_freeze.proofs.RunningLaws.{part_keeps_report}
+use Rattle.tide_model.specs.Refused.{ShapeLists}
+use Rattle.tide_periods.specs.Recorded.{MadeCall}
 use Rattle.tide_periods.proofs.CallerLaws.{called}
 use Rattle.tide_periods.proofs.RecordedLaws.{MadeCall-did}
 use Rattle.tide_recording.specs.Kept.{HoldsClaims, history_in, recorded_in, recorded_of, shapes_in, state_in}
 use Rattle.tide_recording.proofs.Calling.{AreBornIn-called, HoldsClaims-called, IsFrozen-called, MayCall-asked, counts-called}
+use Rattle.tide_recording.proofs.FrozenParts.{IsFrozen-added}
 use Rattle.tide_recording.proofs.recorder.RecordedWordsRecorder.call.Goals as goal
 
 pub call-called-requires-clause-known : goal.call-called-requires-clause-known
@@ -38,13 +41,15 @@ returns-clause-made c =
     let count = c.requires.stands.claims.one_each in
     let held : c.index_mut-held.result.now ≡ get_or self.claims.items c.args.who [] = grind (arith, common_steps, below, count) in
     let may = MayCall-asked self c.args.who c.args.op c.index_mut-held.result.now held c.requires.settled c.requires.stands c.requires.asks in
-    let history = c.in_ok-append.ensures in
+    let after = c.add.new.self.events.items in
+    let history = c.in_ok-add.ensures.added in
     let counts = counts-called (history_in self) c.args.who c.args.op reply took in
-    MadeCall-did (recorded_in self) (recorded_of self.layout (shapes_in self) c.append.new.list.items) c.args.who c.args.op reply took c.requires.settled c.requires.asks
+    subst (λ (s : ShapeLists). MadeCall (recorded_in self) (recorded_of self.layout s after) c.args.who c.args.op reply) (sym c.in_ok-add.ensures.shapes)
+    (MadeCall-did (recorded_in self) (recorded_of self.layout (shapes_in self) after) c.args.who c.args.op reply took c.requires.settled c.requires.asks
     (c.call-called.ensures.answers (state_in self) may)
     (ap (state_after self.layout) history ∙ state_after-push self.layout (history_in self) (called c.args.who c.args.op reply took))
     (c.call-called.ensures.room (state_in self) may) refl history
-    (ap begin_count history ∙ counts.0) (ap open_count history ∙ counts.1) refl
+    (ap begin_count history ∙ counts.0) (ap open_count history ∙ counts.1) refl)
 
 pub returns-clause-stands : goal.returns-clause-stands
 returns-clause-stands c =
@@ -61,7 +66,7 @@ returns-clause-stands c =
     let count = stands.claims.one_each in
     let held : c.index_mut-held.result.now ≡ get_or self.claims.items who [] = grind (arith, common_steps, below, count) in
     let may = MayCall-asked self who op c.index_mut-held.result.now held c.requires.settled stands asks in
-    let history : c.append.new.list.items ≡ history_in self ++ called who op reply took ∷ [] = c.in_ok-append.ensures in
+    let history : c.add.new.self.events.items ≡ history_in self ++ called who op reply took ∷ [] = c.in_ok-add.ensures.added in
     let now = c.call-called.new.words in
     let own = c.call-called.new.claims in
     let frozen : IsFrozen layout shapes now (history_in self ++ called who op reply took ∷ []) any_cells =
@@ -72,7 +77,8 @@ returns-clause-stands c =
     HoldsClaims-called layout (history_in self) self.claims.items own who op reply took stands.claims asks.is_mutator
     (ap (λ (s : State). s.claims who) (state_after-push layout (history_in self) (called who op reply took)) ∙ c.call-called.ensures.claims (state_in self) may) in
     record {
-      frozen = subst (λ (h : List Event). IsFrozen layout shapes now h any_cells) (sym history) frozen;
+      frozen = IsFrozen-added layout shapes _ now _ (history_in self ++ called who op reply took ∷ []) _ c.in_ok-add.ensures.shapes c.in_ok-add.ensures.same history
+          frozen;
       claims = subst (λ (h : List Event). HoldsClaims layout (state_after layout h) (set self.claims.items who own)) (sym history) claims;
       births = subst (λ (h : List Event). AreBornIn h c.count_birth.new.births) (sym history)
           (AreBornIn-called (history_in self) who op reply took self.births c.count_birth.new.births c.in_ok-count_birth.ensures stands.births);
