@@ -92,7 +92,7 @@ of_runs() { # GROUPS MARKED
 echo
 echo "| Groups of cells | Marked | Groups | Ephemerons | Times as long |"
 echo "|---|---|---|---|---|"
-for groups in alone together beside apart drawn crowded; do
+for groups in alone together beside apart drawn crowded worst; do
     for marked in nothing few half cells all; do
         [ -x "$words" ] && of_runs $groups $marked
     done

@@ -22,6 +22,9 @@ const CELLS: u32 = 20_480;
 
 const TABLES: u32 = 16_384;
 
+/// For each factor by which `Groups` tells slots, a number whose multiples nearly all have one slot for their own.
+const CROWDED: [u64; 3] = [81_007, 18_456, 7_037];
+
 /// Which cells are in groups together.
 #[derive(Clone, Copy, Debug, PartialEq, Eq)]
 pub enum Grouping {
@@ -35,8 +38,10 @@ pub enum Grouping {
     Apart,
     /// Each cell with one that was drawn.
     Drawn,
-    /// Each cell with the one beside it, in groups whose numbers all have one slot for their own.
+    /// Each cell with the one beside it, in groups whose numbers crowd by the first factor of `Groups`.
     Crowded,
+    /// Each cell with the one beside it, in groups of which some crowd by each of its factors.
+    Worst,
 }
 
 /// Which cells are marked before a run.
@@ -128,7 +133,8 @@ impl Runs {
             let number = match grouping {
                 Grouping::Alone => 0,
                 Grouping::Together => 1,
-                Grouping::Crowded => (at as u64 / 2 % 32_768 + 1) * 32_769,
+                Grouping::Crowded => (at as u64 / 2 % 10_240 + 1) * CROWDED[0],
+                Grouping::Worst => (at as u64 / 6 % 10_240 + 1) * CROWDED[at / 2 % 3],
                 _ => at as u64 / 2 + 1,
             };
             heap.take_cell(cell);
