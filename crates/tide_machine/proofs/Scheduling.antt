@@ -8,9 +8,11 @@ use Rattle.tide_machine.proofs.freezes.Freezing.{FrozenMachine-first, FrozenMach
 use Rattle.tide_machine.proofs.freezes.OpeningParts.{RunningWave-opened}
 use Rattle.tide_machine.proofs.kinds.Claims.{claims_kept}
 use Rattle.tide_machine.proofs.kinds.FirstGroup.{first_group}
+use Rattle.tide_machine.proofs.kinds.PairGroup.{pairs_kept}
+use Rattle.tide_machine.proofs.kinds.PropertyGroup.{properties_kept}
 use Rattle.tide_machine.proofs.kinds.SecondGroup.{second_group}
 use Rattle.tide_machine.proofs.kinds.Visits.{visits_kept}
-use Rattle.tide_machine.specs.Groups.{is_of_first_group, has_law, is_of_second_group, is_of_claims, is_of_visits}
+use Rattle.tide_machine.specs.Groups.{is_of_first_group, has_law, is_of_second_group, is_of_claims, is_of_visits, is_of_pairs, is_of_properties}
 use Rattle.tide_machine.specs.Kind.{Kind}
 use Rattle.tide_machine.specs.Machine.{IsAllowed, stepped}
 use Rattle.tide_machine.specs.RunningWave.{RunningWave}
@@ -33,23 +35,33 @@ whoever_steps layout shapes test keeps _ _ (freezes w came stopped) =
 whoever_steps layout shapes test keeps _ _ (enters w before after heap log came entry) =
     FrozenMachine-entered layout shapes w before after heap log
     (whoever_steps layout shapes test keeps (frozen before) w came) entry
-whoever_steps layout shapes test keeps _ _ (opens w run came) =
-    RunningWave-opened layout shapes w run (whoever_steps layout shapes test keeps (frozen 0) w came)
+whoever_steps layout shapes test keeps _ _ (opens w run came may) =
+    RunningWave-opened layout shapes w run (whoever_steps layout shapes test keeps (frozen 0) w came) may
 
 -- each step whose law is proved keeps the wave
 pub step_keeps : (layout : Layout) (shapes : ShapeLists) → IsWithinLimits layout → slice_get shapes 0 ≡ Some [] →
     (w : World) (me : ℕ) → me < parties → RunningWave layout shapes w → (kind : Kind) → has_law kind ≡ true →
     IsAllowed layout shapes w me kind → RunningWave layout shapes (stepped layout shapes w me kind)
 step_keeps layout shapes limits empty_shape w me inside wave kind is may =
-    elim (or_cases (is_of_first_group kind) (is_of_second_group kind || (is_of_claims kind || is_of_visits kind)) is) [
+    elim (or_cases (is_of_first_group kind) (is_of_second_group kind || (is_of_claims kind || (is_of_visits kind ||
+    (is_of_pairs kind || is_of_properties kind)))) is) [
       | inl first ↦ first_group layout shapes w me inside wave kind first may
-      | inr rest ↦ elim (or_cases (is_of_second_group kind) (is_of_claims kind || is_of_visits kind) rest) [
-        | inl second ↦ second_group layout shapes limits empty_shape w me inside wave kind second may
-        | inr more ↦ elim (or_cases (is_of_claims kind) (is_of_visits kind) more) [
-          | inl claims ↦ claims_kept layout shapes limits empty_shape w me inside wave kind claims may
-          | inr visits ↦ visits_kept layout shapes w me inside wave kind visits may
-        ]
-      ]
+      | inr rest ↦ elim (or_cases (is_of_second_group kind) (is_of_claims kind || (is_of_visits kind ||
+          (is_of_pairs kind || is_of_properties kind))) rest) [
+            | inl second ↦ second_group layout shapes limits empty_shape w me inside wave kind second may
+            | inr more ↦ elim (or_cases (is_of_claims kind) (is_of_visits kind ||
+                (is_of_pairs kind || is_of_properties kind)) more) [
+                  | inl claims ↦ claims_kept layout shapes limits empty_shape w me inside wave kind claims may
+                  | inr left ↦ elim (or_cases (is_of_visits kind) (is_of_pairs kind || is_of_properties kind) left) [
+                    | inl visits ↦ visits_kept layout shapes w me inside wave kind visits may
+                    | inr last ↦ elim (or_cases (is_of_pairs kind) (is_of_properties kind) last) [
+                      | inl pairs ↦ pairs_kept layout shapes limits empty_shape w me inside wave kind pairs may
+                      | inr properties ↦
+                          properties_kept layout shapes limits empty_shape w me inside wave kind properties may
+                    ]
+                  ]
+                ]
+          ]
     ]
 
 -- so the wave holds in all schedules of such steps

@@ -2,3 +2,5 @@
 pub mod Freezing
 pub mod Entering
 pub mod OpeningParts
+pub mod Progress
+pub mod RestingSweeps

@@ -1,4 +1,6 @@
 -- Worked worlds.
 pub mod BusyRow
 pub mod PointRows
+pub mod StoreRows
+pub mod WitnessRows
 pub mod AllowedRows

@@ -1,5 +1,5 @@
 -- What a view's duty and its growth say of a cell.
-use Rattle.std.specs.Prelude.{ℕ, ◌≡◌}
+use Rattle.std.specs.Prelude.{ℕ, ◌≡◌, Bool, true, false}
 use Rattle.tide_machine.specs.declared.view.Duty.{Duty}
 use Rattle.tide_machine.specs.declared.view.Duty.TheVariants as duty
 use Rattle.tide_machine.specs.declared.view.Growth.{Growth}
@@ -35,6 +35,13 @@ GrowsOn growth.Nothing cell = ⊥
 GrowsOn (growth.Filling c array old new) cell = c ≡ cell
 GrowsOn (growth.Nuked c array old new) cell = c ≡ cell
 GrowsOn (growth.Stored c array old new) cell = c ≡ cell
+
+-- a growth is under way
+abbrev pub is_growing : Growth → Bool
+is_growing growth.Nothing = false
+is_growing (growth.Filling cell array old new) = true
+is_growing (growth.Nuked cell array old new) = true
+is_growing (growth.Stored cell array old new) = true
 
 -- the view grows the cell's array, and owes the barrier on the cell
 pub record GrowsAndOwes (v : View) (cell : ℕ) : Type 0 where

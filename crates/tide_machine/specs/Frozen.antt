@@ -1,6 +1,7 @@
 -- The machine while the heap is frozen: nobody runs, and the collector alone makes entries.
 use Rattle.std.specs.Prelude.{ℕ, ◌≡◌, ◌+◌, ◌≤◌, ◌<◌, ◌%◌, ◌^◌, true, false, List, [], None}
 use Rattle.tide_core.specs.FrozenWave.{call_count, MarkedIsRetained, BornIsMarked, blackened_count}
+use Rattle.tide_cycle.specs.GreyWords.{IsShared}
 use Rattle.tide_layout.specs.declared.region.Region.TheVariants as region
 use Rattle.tide_machine.specs.World.{World}
 use Rattle.tide_machine.specs.declared.view.Duty.TheVariants as duty
@@ -8,11 +9,12 @@ use Rattle.tide_machine.specs.declared.view.Growth.TheVariants as growth
 use Rattle.tide_machine.specs.declared.view.Role.TheVariants.{Member}
 use Rattle.tide_machine.specs.declared.view.View.{View}
 use Rattle.tide_machine.specs.points.Marks.{SpanIsLive}
-use Rattle.tide_machine.specs.points.Seen.{IsKnown, ParkedIsEmpty}
+use Rattle.tide_machine.specs.points.Seen.{IsKnown, WhoLeftIsInactive, ParkedIsEmpty}
+use Rattle.tide_machine.specs.points.Sweeps.{SweptAreBelow, TakenAreClean}
 use Rattle.tide_model.specs.Cycle.{begin_count}
 use Rattle.tide_model.specs.History.{state_after, is_begin}
 use Rattle.tide_model.specs.Lawful.{IsLawful}
-use Rattle.tide_model.specs.Layout.{Layout}
+use Rattle.tide_model.specs.Layout.{Layout, cell_count}
 use Rattle.tide_model.specs.Periods.{open_count}
 use Rattle.tide_model.specs.Refused.{ShapeLists}
 use Rattle.tide_model.specs.Since.{visits_since}
@@ -22,9 +24,9 @@ use Rattle.tide_words.specs.heap.Heap.{Heap}
 use Rattle.tide_words.specs.marking.Colours.{is_marking, running_cycle}
 use Rattle.tide_words.specs.marking.Marking.{Marking}
 
--- The wave at a freeze in which visits are told by notes alone so far: it is `FrozenWave` but that so many cells
--- more may
--- be black than the entries say. What stood in the cycle is live, and the history is lawful.
+-- The wave at a freeze in which visits are told by notes alone so far: it is `FrozenWave` but that so many cells more
+-- may be black than the entries say. What stood in the cycle is live, and the history is lawful. Nothing is dead in a
+-- block whose sweep was taken.
 pub record FrozenWith (layout : Layout) (shapes : ShapeLists) (heap : Heap) (history : List Event) (unentered : ℕ)
     : Type 0 where
   pub lawful : IsLawful layout shapes history
@@ -36,13 +38,24 @@ pub record FrozenWith (layout : Layout) (shapes : ShapeLists) (heap : Heap) (his
   pub retained : is_marking heap ≡ true → MarkedIsRetained layout heap history
   pub born : is_marking heap ≡ true → BornIsMarked layout heap history
   pub counted : is_marking heap ≡ true → blackened_count layout heap history ≤ visits_since is_begin history + unentered
+  pub swept : SweptAreBelow layout heap
+  pub clean : TakenAreClean layout heap (state_after layout history)
 
 -- the machine is frozen: nobody runs, and the wave at a freeze holds but for visits that aren't entered yet
 pub record FrozenMachine (layout : Layout) (shapes : ShapeLists) (w : World) (unentered : ℕ) : Type 0 where
   pub wave : FrozenWith layout shapes w.heap w.log unentered
   pub known : IsKnown w.log w.part
+  pub begun : (p : ℕ) → (w.part p).begun ≤ w.heap region.Period 0
+  pub left : WhoLeftIsInactive w.part (state_after layout w.log)
   pub stopped : (p : ℕ) → (w.part p).runs ≡ false
   pub parked : ParkedIsEmpty w.part
+
+-- A part of so many calls may be opened: where a cycle marks and the layout has visitors, they run for some calls, and
+-- a cell has its bit in a shared grey word for them.
+abbrev pub MayOpen : Layout → Heap → ℕ → Type 0
+MayOpen layout heap run =
+    is_marking heap ≡ true → 0 < layout.visitors →
+    (0 < run) × ((cell : ℕ) × (cell < cell_count layout) × IsShared heap cell)
 
 -- a participant that knows nothing yet
 abbrev pub newcomer : ℕ → View

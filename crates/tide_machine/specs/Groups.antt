@@ -1,6 +1,6 @@
 -- The kinds whose law is proved.
 use Rattle.std.specs.Prelude.{Bool, true, false, ◌||◌}
-use Rattle.tide_machine.specs.Kind.{Kind, Split, Join, Activate, StoreStopped, Retire, LoadRegister, StoreRegister, LoadCall, StoreCall, LoadStrong, StoreStrong, LoadWeak, StoreWeak, LoadLink, StoreLink, LoadColour, Regrey, PushBit, StoreBorn, TakeFree, LoadFree, LoadClaim, TakeClaim, Release, LoadStructure, LoadSlot, LoadAgain, UnBlacken, PushRace, Publish, LoadTarget, Mark}
+use Rattle.tide_machine.specs.Kind.{Kind, Split, Join, Activate, StoreStopped, Retire, LoadRegister, StoreRegister, LoadCall, StoreCall, LoadStrong, StoreStrong, LoadWeak, StoreWeak, LoadLink, StoreLink, LoadColour, Regrey, PushBit, StoreBorn, TakeFree, LoadFree, LoadClaim, TakeClaim, Release, SwapGrey, Blacken, LoadStructure, LoadArray, LoadElementOf, LoadSlot, LoadAgain, UnBlacken, PushRace, Publish, LoadTarget, Mark, LoadPair, StorePair, StoreGroup, LoadOwnArray, LoadOwnStructure, LoadElement, StoreElement, TakeArray, Nuke, StoreArray, StoreStructure}
 
 -- a participant begins, hears and stops, a mutator retires, and works with its own words and with handles
 abbrev pub is_of_first_group : Kind → Bool
@@ -38,10 +38,14 @@ is_of_claims (TakeClaim cell holder made) = true
 is_of_claims (Release cell made) = true
 is_of_claims _ = false
 
--- a visitor reads the structure and the slots of the cell that it scans, marks what it read, gives up a raced cell, and
--- publishes its stack
+-- a visitor takes grey cells and makes one black, reads the structure, the slots and the array of the cell that it
+-- scans, marks what it read, gives up a raced cell, and publishes its stack
 abbrev pub is_of_visits : Kind → Bool
+is_of_visits (SwapGrey grey block) = true
+is_of_visits (Blacken cell cycle) = true
 is_of_visits (LoadStructure cell) = true
+is_of_visits (LoadArray cell) = true
+is_of_visits (LoadElementOf array place) = true
 is_of_visits (LoadSlot cell slot) = true
 is_of_visits (LoadAgain cell) = true
 is_of_visits (LoadTarget cell) = true
@@ -51,6 +55,26 @@ is_of_visits (PushRace cell) = true
 is_of_visits (Publish block mask) = true
 is_of_visits _ = false
 
+-- a mutator stores the group of a cell, and works with the pairs of a table that it claims
+abbrev pub is_of_pairs : Kind → Bool
+is_of_pairs (LoadPair table place made) = true
+is_of_pairs (StorePair table place word made) = true
+is_of_pairs (StoreGroup cell word made) = true
+is_of_pairs _ = false
+
+-- a mutator works with the structure, the array and the properties of a cell that it claims
+abbrev pub is_of_properties : Kind → Bool
+is_of_properties (LoadOwnArray cell) = true
+is_of_properties (LoadOwnStructure cell) = true
+is_of_properties (LoadElement array place made) = true
+is_of_properties (StoreElement array place word made) = true
+is_of_properties (TakeArray block k old next made) = true
+is_of_properties (Nuke cell word) = true
+is_of_properties (StoreArray cell array) = true
+is_of_properties (StoreStructure cell word made) = true
+is_of_properties _ = false
+
 -- the law of the kind is proved
 abbrev pub has_law : Kind → Bool
-has_law kind = is_of_first_group kind || (is_of_second_group kind || (is_of_claims kind || is_of_visits kind))
+has_law kind = is_of_first_group kind || (is_of_second_group kind || (is_of_claims kind || (is_of_visits kind
+    || (is_of_pairs kind || is_of_properties kind))))

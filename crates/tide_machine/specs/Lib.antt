@@ -13,6 +13,7 @@ pub mod points
 pub mod RunningWave
 pub mod Frozen
 pub mod Schedule
+pub mod Progress
 pub mod Groups
 pub mod Own
 pub mod Moment

@@ -27,9 +27,8 @@ pub record RunsAsVisitor (layout : Layout) (w : World) (me : ℕ) : Type 0 where
   pub marks : (w.part me).marks ≡ true
   pub idle : (w.part me).duty ≡ duty.Nothing
 
--- a mutator stands between two of its calls: it owes no word, no barrier, no push and no colour, its call word
--- tells all
--- of its calls, and it grows no array
+-- a mutator stands between two of its calls: it owes no word, no barrier, no push and no colour, its call word tells
+-- all of its calls, and it grows no array
 pub record IsBetweenCalls (v : View) : Type 0 where
   pub owed : v.owed ≡ []
   pub duty : v.duty ≡ duty.Nothing
@@ -43,10 +42,11 @@ pub record MayCall (layout : Layout) (shapes : ShapeLists) (w : World) (me : ℕ
   pub between : IsBetweenCalls (w.part me)
   pub stands : Stands layout shapes w.log (call_of me op reply took)
 
--- a participant holds, scans and owes nothing
+-- a participant holds, scans, sweeps and owes nothing
 pub record Rests (v : View) : Type 0 where
   pub held : v.held ≡ []
   pub scan : v.scan ≡ None
+  pub sweeping : v.sweeping ≡ None
   pub between : IsBetweenCalls v
 
 -- a view after a call of its own: it owes these words, and what it knew of words is of the past

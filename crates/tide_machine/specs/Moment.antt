@@ -18,8 +18,8 @@ use Rattle.tide_words.specs.heap.Heap.{Heap}
 use Rattle.tide_words.specs.heap.Reading.{ReadsAs}
 
 -- A step of this view found this word after this history. The words, with all owed ones stored, read as the state after
--- it; what the view knows stands there, and so does the word that was found, where no other may owe it. The view has seen
--- a beginning of the history, with all of its own calls, and the blocks that it found full were so.
+-- it; what the view knows stands there, and so does the word that was found, where no other may owe it. The view has
+-- seen a beginning of the history, with all of its own calls, and the blocks that it found full were so.
 pub record Moment (layout : Layout) (shapes : ShapeLists) (v : View) (log : List Event) (at : Region) (index read : ℕ)
     : Type 0 where
   pub before : IsPrefix v.seen log

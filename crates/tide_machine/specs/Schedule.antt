@@ -3,7 +3,7 @@ use Rattle.std.specs.Prelude.{ℕ, ◌≡◌, ◌+◌, ◌<◌, ◌++◌, ◌∷
 use Rattle.tide_core.specs.Entered.{HasBegun, HasPaused, HasEnded, HasSwept, with_begin, with_end, with_open}
 use Rattle.tide_cycle.specs.Converged.{HasConverged}
 use Rattle.tide_layout.specs.declared.region.Region.TheVariants as region
-use Rattle.tide_machine.specs.Frozen.{FrozenMachine, first_world}
+use Rattle.tide_machine.specs.Frozen.{FrozenMachine, MayOpen, first_world}
 use Rattle.tide_machine.specs.Kind.{Kind}
 use Rattle.tide_machine.specs.Machine.{IsAllowed, stepped}
 use Rattle.tide_machine.specs.RunningWave.{RunningWave}
@@ -24,9 +24,8 @@ pub data Mode : Type 0 where
   running : Mode
   frozen : ℕ → Mode
 
--- What the collector may do with a frozen heap: it enters the visits of a note, begins a cycle, pauses and ends
--- one, and
--- sweeps. What becomes of the words are the clauses of the calls that do it.
+-- What the collector may do with a frozen heap: it enters the visits of a note, begins a cycle, pauses and ends one,
+-- and sweeps. What becomes of the words are the clauses of the calls that do it.
 pub data Enters (layout : Layout) (shapes : ShapeLists) (old : Heap) (history : List Event) : ℕ → Heap → List Event →
     ℕ → Type 0 where
   visits : (who visits left : ℕ) →
@@ -53,7 +52,7 @@ pub data Comes (layout : Layout) (shapes : ShapeLists) (test : Kind → Bool) : 
       Comes layout shapes test (frozen before) w →
       Enters layout shapes w.heap w.log before heap log after →
       Comes layout shapes test (frozen after) (record w { heap = heap; log = log })
-  opens : (w : World) (run : ℕ) → Comes layout shapes test (frozen 0) w →
+  opens : (w : World) (run : ℕ) → Comes layout shapes test (frozen 0) w → MayOpen layout w.heap run →
       Comes layout shapes test running
       (record w { heap = write w.heap region.Period 0 (open_count w.log + 1); log = with_open w.log run })
 

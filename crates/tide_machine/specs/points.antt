@@ -1,3 +1,4 @@
+pub mod Arrays
 pub mod Births
 pub mod Growths
 pub mod Holders
@@ -6,3 +7,6 @@ pub mod Marks
 pub mod Scans
 pub mod Seen
 pub mod SettledWords
+pub mod Sweeps
+pub mod Tables
+pub mod Witness

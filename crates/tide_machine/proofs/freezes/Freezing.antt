@@ -18,14 +18,16 @@ use Rattle.tide_machine.specs.declared.view.Duty.TheVariants as duty
 use Rattle.tide_machine.specs.declared.view.Owed.{Owed}
 use Rattle.tide_machine.specs.points.Links.{LinkAt, ScanExcuses, IsExcused}
 use Rattle.tide_machine.specs.points.Marks.{SpanIsLive, counted_in}
+use Rattle.tide_machine.specs.points.Sweeps.{Sweeps}
 use Rattle.tide_model.proofs.Histories.{IsLawful-nil}
-use Rattle.tide_model.specs.Cycle.{cycle_span}
+use Rattle.tide_model.specs.Cycle.{cycle_span, HasDead, dead_cell, dead_array}
 use Rattle.tide_model.specs.Graph.{IsRetained, retained_in_closed, no_cell, in_slot, in_property}
 use Rattle.tide_model.specs.History.{is_call_of, state_after}
 use Rattle.tide_model.specs.Layout.{Layout}
 use Rattle.tide_model.specs.Prefix.{prefix_refl}
 use Rattle.tide_model.specs.References.{IsLive}
 use Rattle.tide_model.specs.Refused.{ShapeLists}
+use Rattle.tide_model.specs.State.{empty_state}
 use Rattle.tide_model.specs.declared.entry.Event.{Event}
 use Rattle.tide_words.proofs.heap_laws.Frames.{ReadsAs-same}
 use Rattle.tide_words.proofs.marking_laws.EmptyMarking.{Marking-empty}
@@ -53,7 +55,11 @@ FrozenMachine-first layout shapes = record {
     retained = λ marks. absurd (cc);
     born = λ marks. absurd (cc);
     counted = λ marks. absurd (cc);
+    swept = record { last = λ block within. omega arith; ended = λ marks. absurd (cc) };
+    clean = λ block within taken has. none_dead block has;
   };
+  begun = λ p. omega arith;
+  left = λ p. refl;
   known = record { who = λ p. refl; seen = λ p. prefix_refl []; own = λ p. refl; told = λ p. refl };
   stopped = λ p. refl;
   parked = record {
@@ -65,8 +71,13 @@ FrozenMachine-first layout shapes = record {
     known = λ p rests. refl;
     full = λ p rests. refl;
     calls = λ p rests. refl;
+    sweeping = λ p rests. refl;
   };
 }
+  where
+    none_dead : (block : ℕ) → HasDead layout empty_state block → ⊥
+    none_dead block (dead_cell cell within of_block is) = absurd (cc)
+    none_dead block (dead_array array within of_block is) = absurd (cc)
 
 pub total_none : (f : ℕ → ℕ) (n : ℕ) → ((k : ℕ) → f k ≡ 0) → total_below f n ≡ 0
 total_none f zero none = refl
@@ -100,6 +111,9 @@ module _ (layout : Layout) (shapes : ShapeLists) (w : World) (wave : RunningWave
       let stack = ap (λ (l : List ℕ). times_in l cell) (wave.parked.held p (parked p)) in
       let push = ap (λ (d : Duty). pushes d cell) (no_duty p) in
       omega (arith, stack, push)
+
+  nobody_sweeps : (block : ℕ) → (p : ℕ) × Sweeps (w.part p) block → ⊥
+  nobody_sweeps block (p, s) = (let none = wave.parked.sweeping p (parked p) in let is = s.is in absurd (cc))
 
   nobody_excuses : (source : ℕ) (place : Place) (cell : ℕ) → IsExcused w.heap w.part source place cell → ⊥
   nobody_excuses source place cell ex = elim ex.excuse [
@@ -151,6 +165,8 @@ module _ (layout : Layout) (shapes : ShapeLists) (w : World) (wave : RunningWave
       | inr owes ↦ absurd (subst (λ (d : Duty). OwesColour d cell) (no_duty owes.0) owes.1)
     ];
     counted = wave.counted.counted;
+    swept = wave.swept;
+    clean = λ block within taken has. nobody_sweeps block (wave.sweeps.named block within taken has);
   }
 
 -- once nobody runs the machine is frozen, with the visits that views count
@@ -160,6 +176,8 @@ pub FrozenMachine-running : (layout : Layout) (shapes : ShapeLists) (w : World) 
 FrozenMachine-running layout shapes w wave parked = record {
   wave = FrozenWith-running layout shapes w wave parked;
   known = wave.known;
+  begun = wave.numbers.begun;
+  left = wave.left;
   stopped = parked;
   parked = wave.parked;
 }

@@ -2,33 +2,40 @@
 use Rattle.std.proofs.Common.{ℕ, ◌≡◌, ◌+◌, ◌≤◌, refl, sym, ◌∙◌, ap, subst, arith, Bool, true, false, List, [], ◌∷◌, ◌++◌, inl, inr, Some, length, append-nil}
 use Rattle.std.proofs.lemmas.List.Elements.{filter-append}
 use Rattle.std.proofs.lemmas.List.Sums.{length-filter}
-use Rattle.std.specs.Prelude.{Contains, filter, ◌&&◌, not, ◌%◌, ◌^◌}
+use Rattle.std.specs.Prelude.{Contains, filter, if◌then◌else◌, ◌&&◌, ◌<◌, not, ◌%◌, ◌^◌}
 use Rattle.tide_core.proofs.PointLaws.{retained-push}
 use Rattle.tide_core.specs.Entered.{with_open}
 use Rattle.tide_core.specs.FrozenWave.{is_born_in_cycle}
+use Rattle.tide_cycle.specs.GreyWords.{IsShared}
 use Rattle.tide_layout.specs.declared.region.Region.TheVariants as region
 use Rattle.tide_machine.proofs.freezes.Freezing.{total_none}
+use Rattle.tide_machine.proofs.steps.ArraysKept.{arrays_read}
+use Rattle.tide_machine.proofs.steps.BareTables.{TablesAreBare-lawful}
 use Rattle.tide_machine.proofs.steps.Colouring.{count_where-le}
 use Rattle.tide_machine.proofs.steps.Growing
 use Rattle.tide_machine.proofs.steps.Lists.{nothing_in}
+use Rattle.tide_machine.proofs.steps.SweepsKept.{swept_kept}
 use Rattle.tide_machine.specs.Duties.{OwesColour, IsCalm}
-use Rattle.tide_machine.specs.Frozen.{FrozenMachine, FrozenWith}
+use Rattle.tide_machine.specs.Frozen.{FrozenMachine, FrozenWith, MayOpen}
 use Rattle.tide_machine.specs.Owed.{owed_word}
 use Rattle.tide_machine.specs.RunningWave.{RunningWave}
 use Rattle.tide_machine.specs.Scanning.{Place, slot, property}
 use Rattle.tide_machine.specs.Words.{count_of}
-use Rattle.tide_machine.specs.World.{World, holds, parties, pushes}
+use Rattle.tide_machine.specs.World.{World, first_visitor, holds, parties, pushes}
 use Rattle.tide_machine.specs.declared.view.Duty.{Duty}
 use Rattle.tide_machine.specs.declared.view.Scan.{Scan}
 use Rattle.tide_machine.specs.declared.view.View.{View}
+use Rattle.tide_machine.specs.points.Arrays.{ArraysStand}
 use Rattle.tide_machine.specs.points.Growths.{GrowthKnows}
 use Rattle.tide_machine.specs.points.Links.{LinkAt}
 use Rattle.tide_machine.specs.points.Scans.{IsAtHand, held, scanned, buffered}
-use Rattle.tide_machine.specs.points.Seen.{IsKnown, ParkedIsEmpty}
+use Rattle.tide_machine.specs.points.Seen.{IsKnown, WhoLeftIsInactive, ParkedIsEmpty}
+use Rattle.tide_machine.specs.points.Sweeps.{Sweeps}
+use Rattle.tide_machine.specs.points.Witness.{IsLeft, in_word}
 use Rattle.tide_model.proofs.Cycles.{graph_in_span}
 use Rattle.tide_model.proofs.Histories.{IsLawful-push, state_after-push, moment_after_last-le}
 use Rattle.tide_model.proofs.SinceLaws.{count-push, since-none}
-use Rattle.tide_model.specs.Cycle.{cycle_span}
+use Rattle.tide_model.specs.Cycle.{cycle_span, HasDead}
 use Rattle.tide_model.specs.Graph.{IsLink, in_slot, in_property, IsRoot, IsTriple, AreTwins, IsWithin, graph_of}
 use Rattle.tide_model.specs.History.{is_open, plain, state_after, is_begin, is_call_of, moment_after_last}
 use Rattle.tide_model.specs.Layout.{Layout, cell_count}
@@ -44,12 +51,13 @@ use Rattle.tide_words.proofs.heap_laws.Frames.{ReadsAs-write_unread}
 use Rattle.tide_words.proofs.heap_laws.ReadingLaws.{live_within}
 use Rattle.tide_words.specs.heap.Heap.{Heap, write}
 use Rattle.tide_words.specs.heap.Reading.{ReadsAs}
-use Rattle.tide_words.specs.marking.Colours.{is_black}
+use Rattle.tide_words.specs.marking.Colours.{is_black, is_grey, is_marking}
 use Rattle.tide_words.specs.marking.Marking.{times_in}
 
 module _ (layout : Layout) (shapes : ShapeLists) (heap : Heap) (part : ℕ → View) (before : List Event) (run : ℕ)
     (wave : FrozenWith layout shapes heap before 0) (known : IsKnown before part) (empty : ParkedIsEmpty part)
-    (parked : (p : ℕ) → (part p).runs ≡ false) where
+    (parked : (p : ℕ) → (part p).runs ≡ false) (earlier : (p : ℕ) → (part p).begun ≤ heap region.Period 0)
+    (left : WhoLeftIsInactive part (state_after layout before)) (may : MayOpen layout heap run) where
   abbrev number : ℕ
   number = open_count before + 1
 
@@ -67,6 +75,31 @@ module _ (layout : Layout) (shapes : ShapeLists) (heap : Heap) (part : ℕ → V
 
   no_scan : {X : Type 0} (p : ℕ) (scan : Scan) → (part p).scan ≡ Some scan → X
   no_scan p scan is = (let none = empty.scan p (parked p) in absurd (cc))
+
+  no_sweep : {X : Type 0} (p block : ℕ) → Sweeps (part p) block → X
+  no_sweep p block s = (let none = empty.sweeping p (parked p) in let is = s.is in absurd (cc))
+
+  reads_still : ReadsAs layout shapes new (state_after layout before)
+  reads_still = ReadsAs-write_unread layout shapes heap (state_after layout before) region.Period 0 number refl
+      wave.marking.reads
+
+  -- a cell with a bit in a shared word is grey, and the first visitor hasn't begun in the part that is opened
+  for_first : is_marking heap ≡ true → 0 < layout.visitors →
+      (cell : ℕ) × (cell < cell_count layout) × IsShared heap cell → IsLeft layout new part
+  for_first marks visitors (cell, within, shared) = record {
+    cell = cell;
+    within = within;
+    grey = by (is_grey heap cell) refl;
+    who = first_visitor;
+    is_visitor = (omega arith, omega (arith, visitors));
+    left = in_word shared (inl (λ same. let b = earlier first_visitor in let period = wave.period in
+        omega (arith, b, period, same)));
+  }
+    where
+      by : (b : Bool) → is_grey heap cell ≡ b → b ≡ true
+      by true is = refl
+      by false isnt = (let once = wave.marking.held.each_once marks cell within in
+          let none = ap {B = ℕ} (λ (b : Bool). if b then 1 else 0) isnt in absurd (omega (arith, once, none, shared)))
 
   born_same : (cell : ℕ) → is_born_in_cycle log cell ≡ is_born_in_cycle before cell
   born_same = Growing.born-same layout before (plain (Open number run)) refl (λ cell. refl)
@@ -91,12 +124,11 @@ module _ (layout : Layout) (shapes : ShapeLists) (heap : Heap) (part : ℕ → V
       periods = (let counted = count-push (λ e. is_open e.entry) before (plain (Open number run)) in
           omega (arith, counted));
       told = λ p runs. (let rests = parked p in absurd (cc));
+      begun = λ p. (let b = earlier p in let period = wave.period in omega (arith, b, period));
     };
     words = record {
       settled = new;
-      reads = subst (ReadsAs layout shapes new) (sym same_state)
-          (ReadsAs-write_unread layout shapes heap (state_after layout before) region.Period 0 number refl
-          wave.marking.reads);
+      reads = subst (ReadsAs layout shapes new) (sym same_state) reads_still;
       same = λ at index read free. refl;
       owed = λ p at index word owes. absurd
           (nothing (part p).owed (owed_word at index word) (empty.owed p (parked p)) owes);
@@ -194,6 +226,20 @@ module _ (layout : Layout) (shapes : ShapeLists) (heap : Heap) (part : ℕ → V
           (λ c both. subst (λ (b : Bool). (is_black heap c && not b) ≡ true) (born_same c) both) in
           omega (arith, was, same, few);
     };
+    waits = λ marks visitors none. for_first marks visitors (may marks visitors).1;
+    arrays = subst (ArraysStand layout new) (sym same_state) (arrays_read layout shapes new (state_after layout before)
+        reads_still wave.marking.references);
+    bare = TablesAreBare-lawful layout shapes log
+        (IsLawful-push layout shapes before (plain (Open number run)) wave.lawful refl);
+    swept = swept_kept layout heap new refl (λ block within. refl) wave.swept;
+    sweeps = record {
+      taken = λ p block s. no_sweep p block s;
+      owner = λ block. 0;
+      once = λ p block s. no_sweep p block s;
+      named = λ block within taken has. absurd (wave.clean block within (taken.0, taken.1)
+          (subst (λ (t : State). HasDead layout t block) same_state has));
+    };
+    left = subst (WhoLeftIsInactive part) (sym same_state) left;
     scans = record { knows = λ p scan is. no_scan p scan is };
     grows = record {
       beyond = λ marks source n cell link past.
@@ -238,11 +284,11 @@ module _ (layout : Layout) (shapes : ShapeLists) (heap : Heap) (part : ℕ → V
 
 -- a part is opened
 pub RunningWave-opened : (layout : Layout) (shapes : ShapeLists) (w : World) (run : ℕ) →
-    FrozenMachine layout shapes w 0 →
+    FrozenMachine layout shapes w 0 → MayOpen layout w.heap run →
     RunningWave layout shapes (record w {
       heap = write w.heap region.Period 0 (open_count w.log + 1);
       log =
           with_open w.log run;
     })
-RunningWave-opened layout shapes w run f =
-    open_part layout shapes w.heap w.part w.log run f.wave f.known f.parked f.stopped
+RunningWave-opened layout shapes w run f may =
+    open_part layout shapes w.heap w.part w.log run f.wave f.known f.parked f.stopped f.begun f.left may

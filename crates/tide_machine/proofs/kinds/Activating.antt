@@ -7,6 +7,8 @@ use Rattle.tide_layout.specs.declared.region.Region.TheVariants as region
 use Rattle.tide_machine.proofs.steps.Frames.{calls_view, each_put}
 use Rattle.tide_machine.proofs.steps.Lists.{nothing_in}
 use Rattle.tide_machine.proofs.steps.Steps.{any_step}
+use Rattle.tide_machine.proofs.steps.SweepsKept.{sweeps_kept}
+use Rattle.tide_machine.proofs.steps.Waiting.{left_kept}
 use Rattle.tide_machine.specs.Duties.{GrowsAndOwes}
 use Rattle.tide_machine.specs.Owed.{Owes, IsOwnWord, owed_word}
 use Rattle.tide_machine.specs.RunningWave.{RunningWave}
@@ -18,9 +20,10 @@ use Rattle.tide_machine.specs.points.Growths.{GrowthKnows}
 use Rattle.tide_machine.specs.points.Marks.{counted_in}
 use Rattle.tide_machine.specs.points.Scans.{held, scanned, buffered}
 use Rattle.tide_machine.specs.points.SettledWords.{RunningWordsRead}
+use Rattle.tide_machine.specs.points.Witness.{IsLeftFor, in_word, in_hand, shared_round}
 use Rattle.tide_model.proofs.ReferenceLaws.{put_at_elim}
 use Rattle.tide_model.specs.History.{state_after}
-use Rattle.tide_model.specs.Layout.{Layout}
+use Rattle.tide_model.specs.Layout.{Layout, block_of_cell}
 use Rattle.tide_model.specs.Numbers.{put_at}
 use Rattle.tide_model.specs.Refused.{ShapeLists}
 use Rattle.tide_words.specs.marking.Colours.{is_marking, running_cycle}
@@ -77,6 +80,14 @@ module _ (layout : Layout) (shapes : ShapeLists) (w : World) (me : ℕ) (inside 
     knows_still = λ p at index word apart is. wave.kept.known p at index word is;
     finds = λ block moment is. absurd (let below = is.1 in omega (arith, below));
     told = λ _. (marks_are, cycle_is, of_part);
+    begins = omega (arith, of_part);
+    left = refl;
+    waits = left_kept layout w.heap w.heap w.part me later refl refl (λ _ c in_c is. is) (λ c is. is)
+        (λ is_one none. let more = counts first_or_again in omega (arith, more, none)) round_anew wave.waits;
+    stands = wave.arrays;
+    swept = wave.swept;
+    sweeps = sweeps_kept layout w.heap w.heap w.part me later (state_after layout w.log) (state_after layout w.log) refl
+        (λ block. refl) refl (λ block has. has) wave.sweeps;
     empties = λ is. absurd (cc);
     colours = wave.colours;
     balance = λ _ c in_c few. refl;
@@ -115,6 +126,11 @@ module _ (layout : Layout) (shapes : ShapeLists) (w : World) (me : ℕ) (inside 
         ];
   }
     where
+      -- its round begins anew
+      round_anew : (cell : ℕ) → IsLeftFor w.heap (w.part me) cell → IsLeftFor w.heap later cell
+      round_anew cell (in_word bit how) = in_word bit (inr (λ at. nothing_in (shared_round (block_of_cell cell)) at))
+      round_anew cell (in_hand has lacks) = in_hand has (λ at. nothing_in (shared_round (block_of_cell cell)) at)
+
       now : counted_in (w.heap region.Period 0) later ≡ visits
       now = ap {B = ℕ} (λ (b : Bool). if b then visits else 0)
           (eq-eqb (w.part me).ticket (w.heap region.Period 0) of_part)

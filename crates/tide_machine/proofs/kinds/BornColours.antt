@@ -17,10 +17,10 @@ use Rattle.tide_model.specs.History.{state_after}
 use Rattle.tide_model.specs.Layout.{Layout, cell_count}
 use Rattle.tide_model.specs.Numbers.{put_at}
 use Rattle.tide_model.specs.Refused.{ShapeLists}
-use Rattle.tide_words.proofs.marking_laws.ColourLaws.{is_black-made, is_black-other, is_grey-other, is_marked-other, black_is_not_grey, black_is_marked, unmarked_is_neither}
+use Rattle.tide_words.proofs.marking_laws.ColourLaws.{is_black-made, is_black-other, is_grey-other, is_marked-other, black_is_not_grey, black_is_marked, unmarked_is_neither, grey_is_marked}
 use Rattle.tide_words.specs.declared.forms.colours.Colour.TheVariants.{Black, White}
 use Rattle.tide_words.specs.forms.ColourWord.{colour_word}
-use Rattle.tide_words.specs.marking.Colours.{coloured, is_marking, running_cycle, is_grey, is_black, IsMarked}
+use Rattle.tide_words.specs.marking.Colours.{coloured, is_marking, running_cycle, is_grey, is_black, IsMarked, IsGrey}
 use Rattle.tide_words.specs.marking.Marked.{is_marked}
 
 module _ (layout : Layout) (shapes : ShapeLists) (w : World) (me : ℕ) (inside : me < parties)
@@ -51,6 +51,9 @@ module _ (layout : Layout) (shapes : ShapeLists) (w : World) (me : ℕ) (inside 
             index;
         period = refl;
         call_words = λ p. refl;
+        swept = λ block. refl;
+        greys = λ _ other in_other is. still_grey other is;
+        shared = λ c is. is;
         colours = colours_coloured layout w.heap cell Black (omega arith) wave.colours;
         balance = λ _ other in_other few.
             let none = ap (λ (d : Duty). pushes d other) owes in
@@ -96,6 +99,14 @@ module _ (layout : Layout) (shapes : ShapeLists) (w : World) (me : ℕ) (inside 
       a : AwaitsColour layout w.heap w.log me cell
       a = wave.born.owed marks me cell mine
 
+      -- a grey cell is another: the one that is born wasn't marked
+      still_grey : (other : ℕ) → IsGrey w.heap other → IsGrey (coloured w.heap cell Black) other
+      still_grey other is = elim (cases_eq other cell) [
+        | inl same ↦ (let white = ap (is_marked w.heap) same ∙ a.white in let marked = grey_is_marked w.heap other is in
+            absurd (cc))
+        | inr apart ↦ is_grey-other w.heap cell other Black apart ∙ is
+      ]
+
       unmarked_before : (target : ℕ) → is_marked (coloured w.heap cell Black) target ≡ false →
           is_marked w.heap target ≡ false
       unmarked_before target white = elim (cases_eq target cell) [
@@ -131,25 +142,29 @@ module _ (layout : Layout) (shapes : ShapeLists) (w : World) (me : ℕ) (inside 
             put_at w.part me (with_duty (w.part me) duty.Nothing);
         log = w.log;
       })
-  born_white idle = duty_step layout shapes w.heap w.part w.log me wave (coloured w.heap cell White) duty.Nothing record {
-    inside = inside;
-    runs = runs;
-    words = λ at index. unread_write w.heap region.Colour cell (colour_word (running_cycle w.heap) White) refl at index;
-    period = refl;
-    call_words = λ p. refl;
-    colours = colours_coloured layout w.heap cell White (omega arith) wave.colours;
-    balance = λ marks. absurd (cc);
-    rests = λ _. (
-      (λ block within. let none = wave.rests.words idle block within in
-          record { shared = none.shared; mutator = none.mutator; race = none.race }),
-      tt,
-    );
-    black = λ marks. absurd (cc);
-    grows = λ c g o. absurd (no_barrier c o);
-    stays = λ marks. absurd (cc);
-    recoloured = λ marks. absurd (cc);
-    marked = λ marks. absurd (cc);
-    born = λ marks. absurd (cc);
-    owes = λ other o. absurd o;
-    counted = λ marks. absurd (cc);
-  }
+  born_white idle = duty_step layout shapes w.heap w.part w.log me wave (coloured w.heap cell White) duty.Nothing
+      record {
+        inside = inside;
+        runs = runs;
+        words = λ at index. unread_write w.heap region.Colour cell (colour_word (running_cycle w.heap) White) refl at index;
+        period = refl;
+        call_words = λ p. refl;
+        swept = λ block. refl;
+        greys = λ marks. absurd (cc);
+        shared = λ c is. is;
+        colours = colours_coloured layout w.heap cell White (omega arith) wave.colours;
+        balance = λ marks. absurd (cc);
+        rests = λ _. (
+          (λ block within. let none = wave.rests.words idle block within in
+              record { shared = none.shared; mutator = none.mutator; race = none.race }),
+          tt,
+        );
+        black = λ marks. absurd (cc);
+        grows = λ c g o. absurd (no_barrier c o);
+        stays = λ marks. absurd (cc);
+        recoloured = λ marks. absurd (cc);
+        marked = λ marks. absurd (cc);
+        born = λ marks. absurd (cc);
+        owes = λ other o. absurd o;
+        counted = λ marks. absurd (cc);
+      }

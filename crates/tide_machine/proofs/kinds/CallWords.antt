@@ -4,6 +4,7 @@ use Rattle.std.specs.Prelude.{◌%◌, ◌^◌, length}
 use Rattle.tide_layout.specs.declared.region.Region.TheVariants as region
 use Rattle.tide_machine.proofs.steps.Colouring.{unread_write}
 use Rattle.tide_machine.proofs.steps.Quiet.{quiet_step}
+use Rattle.tide_machine.proofs.steps.Waiting.{left_quiet}
 use Rattle.tide_machine.specs.Kind.{StoreCall}
 use Rattle.tide_machine.specs.Machine.{stepped}
 use Rattle.tide_machine.specs.RunningWave.{RunningWave}
@@ -36,6 +37,12 @@ store_call_word layout shapes w me inside wave word may =
       cycle = refl;
       begun = refl;
       period = refl;
+      left = refl;
+      sweeping = refl;
+      swept = λ block. refl;
+      waits = left_quiet layout w.heap new w.part me later refl refl (λ _ c in_c is. is) (λ c is. is) refl refl refl
+          refl
+          wave.waits;
       calls = put_at_elim (λ p u. p < layout.mutators → new region.Call p ≡ u.calls % 2 ^ 64) w.part me later
           (λ within. write-same w.heap region.Call me word ∙ may.1)
           (λ p apart within. write-other_index w.heap region.Call me p word apart ∙ wave.calls p within);

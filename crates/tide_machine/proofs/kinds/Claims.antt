@@ -95,6 +95,8 @@ module _ (layout : Layout) (shapes : ShapeLists) (limits : IsWithinLimits layout
             }) wave.refs words wave.words.reads);
         alone = λ p apart own. not_own p cell own;
         claims_else = λ p apart. else_claims p apart;
+        active_else = λ p apart. refl;
+        left_is = wave.left me;
         hidden = λ p c apart alive h. (
           h.registers,
           h.strong,

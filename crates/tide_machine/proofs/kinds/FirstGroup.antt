@@ -28,6 +28,7 @@ pub parked_rests : (layout : Layout) (shapes : ShapeLists) (w : World) (me : ℕ
 parked_rests layout shapes w me wave parked = record {
   held = wave.parked.held me parked;
   scan = wave.parked.scan me parked;
+  sweeping = wave.parked.sweeping me parked;
   between = record {
     owed = wave.parked.owed me parked;
     duty = wave.parked.duty me parked;

@@ -1,14 +1,15 @@
 -- A load that makes a call, whose answer goes to a register that is owed from then on, keeps the wave.
 use Rattle.std.proofs.Common.{ℕ, zero, suc, ◌≡◌, ◌≢◌, ◌<◌, ◌==◌, refl, sym, ◌∙◌, ap, subst, arith, Bool, true, false, List, [], ◌∷◌, ◌++◌, inl, inr, None}
 use Rattle.std.proofs.lemmas.Bool.{cases_Bool, eqb-true, and_parts}
-use Rattle.std.specs.Prelude.{Contains, if◌then◌else◌, ◌&&◌}
+use Rattle.std.specs.Prelude.{Contains, if◌then◌else◌, ◌&&◌, not}
 use Rattle.tide_call.proofs.reading_laws.RootReading.{Reading-register}
 use Rattle.tide_layout.proofs.Places.{tag-injective}
 use Rattle.tide_layout.specs.Region.{tag, index_of_register}
 use Rattle.tide_layout.specs.declared.region.Region.{Region}
 use Rattle.tide_layout.specs.declared.region.Region.TheVariants as region
+use Rattle.tide_machine.proofs.steps.ArraysKept.{arrays_kept}
 use Rattle.tide_machine.proofs.steps.Calls.{OfState, call_step}
-use Rattle.tide_machine.proofs.steps.Frames.{calls_view, put_here}
+use Rattle.tide_machine.proofs.steps.Frames.{calls_view, put_here, each_put}
 use Rattle.tide_machine.proofs.steps.GrowthsKept.{growth_kept}
 use Rattle.tide_machine.proofs.steps.Owning.{own_alone}
 use Rattle.tide_machine.proofs.steps.Registers.{register_after}
@@ -31,6 +32,7 @@ use Rattle.tide_machine.specs.points.SettledWords.{RunningWordsRead}
 use Rattle.tide_model.proofs.ClaimLaws.{ClaimsAreOwn-lawful}
 use Rattle.tide_model.proofs.ReferenceLaws.{put_at_elim, RefsAreLive-call}
 use Rattle.tide_model.specs.Applied.{put_register, after_call}
+use Rattle.tide_model.specs.Cycle.{HasDead, dead_cell, dead_array}
 use Rattle.tide_model.specs.History.{state_after}
 use Rattle.tide_model.specs.Lawful.{Stands}
 use Rattle.tide_model.specs.Layout.{Layout}
@@ -181,9 +183,9 @@ module _ (layout : Layout) (shapes : ShapeLists) (w : World) (me : ℕ) (inside 
     beyond = λ marks x n target link past. inr (link, past);
     awaited = λ c owes. absurd (no_colour c owes);
     growth = subst (GrowthKnows w.heap after me later) (sym grows_not) tt;
-    growths = λ p apart. growth_kept w.heap w.heap state after p (w.part p) (w.part p) (λ c. refl) (λ c at.
-        at) (λ c x o. o)
-        (λ c x o. o) (w.part p).growth (wave.growths.knows p);
+    growths = λ p apart. growth_kept w.heap w.heap state after p (w.part p) (w.part p) (λ c mine. refl) (λ c mine.
+        refl) (λ c at. at)
+        (λ c a mine is. is) (λ c x o. o) (λ c x o. o) (λ i x o. o) (w.part p).growth (wave.growths.knows p);
     owns = λ p at index apart. own_still p at index;
     hidden = λ p c apart alive h. record {
       registers = λ who register not_p active is. elim (register_after state me dst value who register (Cell c) is) [
@@ -197,7 +199,15 @@ module _ (layout : Layout) (shapes : ShapeLists) (w : World) (me : ℕ) (inside 
       linked = λ x place link. h.linked x place (link_before x place c link);
       blank = λ place target link. h.blank place target (link_before c place target link);
     };
+    stands = arrays_kept layout w.heap w.heap state after (λ c. refl) (λ c. refl) (λ i. refl) (λ array. refl)
+        (λ c array alive is. (alive, refl, refl, refl)) wave.arrays;
+    inactive = each_put (λ p u. u.left ≡ not (state.active p)) w.part me later (wave.left me) wave.left;
+    dead = λ block has. still_dead block has;
   }
+    where
+      still_dead : (block : ℕ) → HasDead layout after block → HasDead layout state block
+      still_dead block (dead_cell c in_cells of_block is) = dead_cell c in_cells of_block is
+      still_dead block (dead_array a in_arrays of_block is) = dead_array a in_arrays of_block is
 
   -- it serves each load that answers what it sees: of a slot, a handle, a pair and an element
   pub load_seen : RunningWave layout shapes (record {
@@ -222,6 +232,8 @@ module _ (layout : Layout) (shapes : ShapeLists) (w : World) (me : ℕ) (inside 
     period = refl;
     calls = calls_view layout w.heap w.heap w.part me later refl (λ p. refl) wave.calls;
     held = refl;
+    round = refl;
+    sweeping = refl;
     scan = refl;
     known = refl;
     full = refl;

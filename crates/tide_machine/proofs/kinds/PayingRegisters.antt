@@ -5,13 +5,16 @@ use Rattle.std.specs.Prelude.{if◌then◌else◌, ◌&&◌, not}
 use Rattle.tide_layout.specs.Region.{tag, index_of_register}
 use Rattle.tide_layout.specs.declared.region.Region.{Region}
 use Rattle.tide_layout.specs.declared.region.Region.TheVariants as region
+use Rattle.tide_machine.proofs.steps.ArraysKept.{arrays_kept}
 use Rattle.tide_machine.proofs.steps.Frames.{calls_view}
 use Rattle.tide_machine.proofs.steps.GrowthsKept.{growth_kept}
 use Rattle.tide_machine.proofs.steps.Lists.{from_none}
 use Rattle.tide_machine.proofs.steps.Owning.{own_alone}
-use Rattle.tide_machine.proofs.steps.Paying.{words_paid, in_filter}
+use Rattle.tide_machine.proofs.steps.Paying.{words_paid, in_filter, filter_was}
 use Rattle.tide_machine.proofs.steps.ScansKept.{scan_kept}
 use Rattle.tide_machine.proofs.steps.Steps.{any_step}
+use Rattle.tide_machine.proofs.steps.SweepsKept.{swept_kept, sweeps_kept}
+use Rattle.tide_machine.proofs.steps.Waiting.{left_quiet}
 use Rattle.tide_machine.specs.Duties.{GrowsAndOwes, OwesBarrier}
 use Rattle.tide_machine.specs.Owed.{is_at, Owes, IsOwnWord, owed_word, without_word}
 use Rattle.tide_machine.specs.RunningWave.{RunningWave}
@@ -64,6 +67,10 @@ module _ (layout : Layout) (shapes : ShapeLists) (w : World) (me : ℕ) (inside 
   stays_owed at index x other = in_filter (λ (o : Owed). not (is_at region.Registers idx o)) (w.part me).owed
       (owed_word at index x) (ap not other)
 
+  was_owed : (at : Region) (index x : ℕ) → Owes later at index x → Owes (w.part me) at index x
+  was_owed at index x owes = (filter_was (λ (o : Owed). not (is_at region.Registers idx o)) (w.part me).owed
+      (owed_word at index x) owes).0
+
   pub pay_register : RunningWave layout shapes (record { heap = new; part = put_at w.part me later; log = w.log })
   pay_register = any_step layout shapes w.heap w.part w.log me wave new later record {
     inside = inside;
@@ -77,13 +84,23 @@ module _ (layout : Layout) (shapes : ShapeLists) (w : World) (me : ℕ) (inside 
     period = refl;
     calls = calls_view layout w.heap new w.part me later refl (λ p. refl) wave.calls;
     told = λ _. wave.numbers.told me runs;
+    begins = wave.numbers.begun me;
+    left = refl;
+    waits = left_quiet layout w.heap new w.part me later refl refl (λ _ c in_c is. is) (λ c is. is) refl refl refl refl
+        wave.waits;
+    stands = arrays_kept layout w.heap new state state (λ c. refl) (λ c. refl) (λ i. refl) (λ array. refl)
+        (λ c array alive is. (alive, refl, refl, refl)) wave.arrays;
+    swept = swept_kept layout w.heap new refl (λ block within. refl) wave.swept;
+    sweeps = sweeps_kept layout w.heap new w.part me later state state refl (λ block. refl) refl (λ block has. has)
+        wave.sweeps;
     empties = λ is. absurd (cc);
-    growth = growth_kept w.heap new state state me (w.part me) later (λ c. refl) (λ c at. at)
-        (λ c x. stays_owed region.Structure c x refl) (λ c x. stays_owed region.Array c x refl) (w.part me).growth
+    growth = growth_kept w.heap new state state me (w.part me) later (λ c mine. refl) (λ c mine. refl) (λ c at. at)
+        (λ c a mine is. is) (λ c x. stays_owed region.Structure c x refl) (λ c x. stays_owed region.Array c x refl)
+        (λ i x o. was_owed region.Elements i x o) (w.part me).growth
         (wave.growths.knows me);
-    growths = λ p apart. growth_kept w.heap new state state p (w.part p) (w.part p) (λ c. refl) (λ c at. at) (λ c x o.
-        o)
-        (λ c x o. o) (w.part p).growth (wave.growths.knows p);
+    growths = λ p apart. growth_kept w.heap new state state p (w.part p) (w.part p) (λ c mine. refl) (λ c mine. refl)
+        (λ c at. at)
+        (λ c a mine is. is) (λ c x o. o) (λ c x o. o) (λ i x o. o) (w.part p).growth (wave.growths.knows p);
     knows = λ at index x is. from_none (owed_word at index x) is;
     knows_still = λ p at index x apart is. alone p at index apart (wave.kept.owns p at index x is) ∙
         wave.kept.known p at index x is;

@@ -1,6 +1,6 @@
 -- Held cells are given back to a shared grey word.
 use Rattle.std.proofs.Common.{ℕ, ◌≡◌, ◌+◌, ◌%◌, ◌<◌, ◌≤◌, ◌==◌, refl, sym, ◌∙◌, ap, arith, Bool, true, false, List, [], ◌∷◌, inl, inr}
-use Rattle.std.proofs.lemmas.Bool.{cases_eq, eq-eqb, ne_eqb, and_from}
+use Rattle.std.proofs.lemmas.Bool.{cases_eq, eq-eqb, ne_eqb, and_from, eqb-true}
 use Rattle.std.proofs.lemmas.Nat.Bits.{bit_at_or, bit_at-lt}
 use Rattle.std.specs.Int.{bit_at}
 use Rattle.std.specs.Prelude.{Contains, if◌then◌else◌, ◌&&◌, not, filter, bit_or, max}
@@ -8,13 +8,15 @@ use Rattle.tide_layout.specs.declared.region.Region.TheVariants as region
 use Rattle.tide_machine.proofs.kinds.Scanning.{times_in-first}
 use Rattle.tide_machine.proofs.steps.Colouring.{unread_write}
 use Rattle.tide_machine.proofs.steps.Frames.{calls_view}
-use Rattle.tide_machine.proofs.steps.Paying.{filter_was}
+use Rattle.tide_machine.proofs.steps.Paying.{filter_was, in_filter}
 use Rattle.tide_machine.proofs.steps.Quiet.{quiet_step}
 use Rattle.tide_machine.proofs.steps.Stacks.{times_in-some}
+use Rattle.tide_machine.proofs.steps.Waiting.{left_kept, SharedBit}
 use Rattle.tide_machine.specs.RunningWave.{RunningWave}
 use Rattle.tide_machine.specs.World.{World, parties}
 use Rattle.tide_machine.specs.declared.view.View.{View}
 use Rattle.tide_machine.specs.points.Scans.{held, scanned, buffered}
+use Rattle.tide_machine.specs.points.Witness.{IsLeftFor, in_word, in_hand}
 use Rattle.tide_model.specs.Layout.{Layout, block_of_cell}
 use Rattle.tide_model.specs.Numbers.{put_at}
 use Rattle.tide_model.specs.Refused.{ShapeLists}
@@ -143,6 +145,11 @@ module _ (layout : Layout) (shapes : ShapeLists) (w : World) (me : ℕ) (inside 
         refl;
     begun = refl;
     period = refl;
+    left = refl;
+    sweeping = refl;
+    swept = λ block. refl;
+    waits = left_kept layout w.heap new w.part me later refl refl (λ _ c in_c is. is) bit_stays (λ is_one none. none)
+        given_back wave.waits;
     calls = calls_view layout w.heap new w.part me later refl (λ p.
         refl) wave.calls;
     ran = runs;
@@ -211,6 +218,43 @@ module _ (layout : Layout) (shapes : ShapeLists) (w : World) (me : ℕ) (inside 
     counted = λ _. omega arith;
   }
     where
+      bit_stays : (cell : ℕ) → SharedBit w.heap cell → SharedBit new cell
+      bit_stays cell set =
+          let now = bit_now cell in
+          let few = bit_at-lt (new region.GreyShared (block_of_cell cell)) (cell % 64) in
+          let more = bigger (block_of_cell cell == block) (bit_at (w.heap region.GreyShared (block_of_cell cell))
+          (cell % 64)) (bit_at mask (cell % 64)) in
+          omega (arith, now, few, more, set)
+        where
+          bigger : (b : Bool) (one other : ℕ) → one ≤ (if b then max one other else one)
+          bigger true one other = omega arith
+          bigger false one other = omega arith
+
+      -- a cell that is held no more has its bit in the word, which the round lacks
+      given_back : (cell : ℕ) → IsLeftFor w.heap (w.part me) cell → IsLeftFor new later cell
+      given_back cell (in_word bit how) = in_word (bit_stays cell bit) how
+      given_back cell (in_hand has lacks) = by (stays cell) refl
+        where
+          by : (b : Bool) → stays cell ≡ b → IsLeftFor new later cell
+          by true stays_is = in_hand (in_filter stays (w.part me).held cell stays_is has) lacks
+          by false gone = in_word (bit_set (block_of_cell cell == block) refl (bit_at mask (cell % 64) == 1) refl gone)
+              (inr lacks)
+            where
+              bit_set : (a : Bool) → (block_of_cell cell == block) ≡ a → (c : Bool) →
+                  (bit_at mask (cell % 64) == 1) ≡ c → not ((block_of_cell cell == block) &&
+                  (bit_at mask (cell % 64) == 1)) ≡ false → SharedBit new cell
+              bit_set true in_block true set none =
+                  let now = bit_now cell in
+                  let word = ap {B = ℕ} (λ (b : Bool).
+                  if b then max (bit_at (w.heap region.GreyShared (block_of_cell cell)) (cell % 64))
+                  (bit_at mask (cell % 64)) else bit_at (w.heap region.GreyShared (block_of_cell cell)) (cell % 64))
+                  in_block in
+                  let one = eqb-true (bit_at mask (cell % 64)) 1 set in
+                  let few = bit_at-lt (w.heap region.GreyShared (block_of_cell cell)) (cell % 64) in
+                  omega (arith, now, word, one, few)
+              bit_set true in_block false set none = absurd (cc)
+              bit_set false in_block c set none = absurd (cc)
+
       stays_if : (b : Bool) (n : ℕ) → (if not (b && false) then n else 0) ≡ n
       stays_if true n = refl
       stays_if false n = refl

@@ -104,6 +104,8 @@ module _ (layout : Layout) (shapes : ShapeLists) (w : World) (me : ℕ) (inside 
           kept = λ p at index x apart is. words at index (wave.kept.reads p at index x is) ∙
               wave.kept.known p at index x is;
           claims_else = λ p apart. refl;
+          active_else = λ p apart. refl;
+          left_is = wave.left me;
           hidden = λ p c apart alive h. (h.registers, h.strong, h.weak, h.claims);
         }
 

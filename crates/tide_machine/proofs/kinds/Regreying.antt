@@ -5,7 +5,7 @@ use Rattle.std.specs.Int.{bit_at}
 use Rattle.std.specs.Prelude.{if◌then◌else◌, ◌&&◌, not, bit_or, ◌%◌}
 use Rattle.tide_core.specs.FrozenWave.{is_born_in_cycle}
 use Rattle.tide_layout.specs.declared.region.Region.TheVariants as region
-use Rattle.tide_machine.proofs.steps.Colouring.{unread_write, write_same, colours_coloured, black_before_grey, marked_after_grey, marked_before_grey, count_where-le, recoloured_one, black_in_word, word_in_black}
+use Rattle.tide_machine.proofs.steps.Colouring.{unread_write, write_same, colours_coloured, black_before_grey, marked_after_grey, marked_before_grey, count_where-le, recoloured_one, black_in_word, word_in_black, grey_after_grey}
 use Rattle.tide_machine.proofs.steps.Duties.{with_duty, duty_step}
 use Rattle.tide_machine.proofs.steps.GreyBits.{bit_pushed}
 use Rattle.tide_machine.specs.Duties.{OwesBarrier, GrowsOn, OwesColour, IsCalm}
@@ -69,6 +69,9 @@ module _ (layout : Layout) (shapes : ShapeLists) (w : World) (me : ℕ) (inside 
             index;
         period = refl;
         call_words = λ p. refl;
+        swept = λ block. refl;
+        greys = λ _ other in_other is. grey_after_grey w.heap cell other is;
+        shared = λ c is. is;
         colours = colours_coloured layout w.heap cell Grey (omega arith) wave.colours;
         balance = λ _ other in_other few. elim (cases_eq other cell) [
           | inl same ↦
@@ -124,6 +127,9 @@ module _ (layout : Layout) (shapes : ShapeLists) (w : World) (me : ℕ) (inside 
     words = λ at index read. refl;
     period = refl;
     call_words = λ p. refl;
+    swept = λ block. refl;
+    greys = λ _ other in_other is. is;
+    shared = λ c is. is;
     colours = wave.colours;
     balance = λ _ other in_other few. (let none = ap (λ (d : Duty). pushes d other) is in omega (arith, none));
     rests = λ idle. (wave.rests.words idle, tt);
@@ -207,6 +213,9 @@ module _ (layout : Layout) (shapes : ShapeLists) (w : World) (me : ℕ) (inside 
             (bit_or (w.heap region.GreyMutator (block_of_cell cell)) (bit_of cell)) refl at index;
         period = refl;
         call_words = λ p. refl;
+        swept = λ block. refl;
+        greys = λ _ other in_other is. is;
+        shared = λ c is. is;
         colours = wave.colours;
         balance = λ _ other in_other few.
             let one = ap (λ (d : Duty). pushes d other) is in
@@ -244,6 +253,9 @@ module _ (layout : Layout) (shapes : ShapeLists) (w : World) (me : ℕ) (inside 
             (bit_or (w.heap region.GreyRace (block_of_cell cell)) (bit_of cell)) refl at index;
         period = refl;
         call_words = λ p. refl;
+        swept = λ block. refl;
+        greys = λ _ other in_other is. is;
+        shared = λ c is. is;
         colours = wave.colours;
         balance = λ _ other in_other few.
             let one = ap (λ (d : Duty). pushes d other) is in
@@ -297,6 +309,9 @@ module _ (layout : Layout) (shapes : ShapeLists) (w : World) (me : ℕ) (inside 
             words = λ at index read. refl;
             period = refl;
             call_words = λ p. refl;
+            swept = λ block. refl;
+            greys = λ _ other in_other is. is;
+            shared = λ c is. is;
             colours = wave.colours;
             balance = λ _ other in_other few. (let none = ap (λ (d : Duty). pushes d other) is in let after =
                 no_push test other in omega (arith, none, after));

@@ -9,6 +9,8 @@ use Rattle.tide_machine.proofs.steps.Frames.{calls_view, each_put, put_here}
 use Rattle.tide_machine.proofs.steps.Lists.{nothing_in}
 use Rattle.tide_machine.proofs.steps.Quiet.{quiet_step}
 use Rattle.tide_machine.proofs.steps.Steps.{any_step}
+use Rattle.tide_machine.proofs.steps.SweepsKept.{sweeps_kept}
+use Rattle.tide_machine.proofs.steps.Waiting.{left_quiet}
 use Rattle.tide_machine.specs.Duties.{GrowsAndOwes}
 use Rattle.tide_machine.specs.May.{Rests}
 use Rattle.tide_machine.specs.Owed.{Owes, IsOwnWord, owed_word}
@@ -81,6 +83,14 @@ module _ (layout : Layout) (shapes : ShapeLists) (heap : Heap) (part : ℕ → V
       knows_still = λ p at index word apart is. wave.kept.known p at index word is;
       finds = λ block moment is. absurd (let below = is.1 in omega (arith, below));
       told = λ is. absurd (cc);
+      begins = wave.numbers.begun me;
+      left = refl;
+      waits = left_quiet layout heap heap part me later refl refl (λ _ c in_c is. is) (λ c is. is) refl refl refl refl
+          wave.waits;
+      stands = wave.arrays;
+      swept = wave.swept;
+      sweeps = sweeps_kept layout heap heap part me later (state_after layout log) (state_after layout log) refl (λ
+          block. refl) refl (λ block has. has) wave.sweeps;
       empties = λ _. (
         rests.held,
         rests.scan,
@@ -90,6 +100,7 @@ module _ (layout : Layout) (shapes : ShapeLists) (heap : Heap) (part : ℕ → V
         refl,
         refl,
         rests.between.calls,
+        rests.sweeping,
       );
       colours = wave.colours;
       balance = λ _ c in_c few. refl;
@@ -150,6 +161,12 @@ module _ (layout : Layout) (shapes : ShapeLists) (heap : Heap) (part : ℕ → V
         cycle = refl;
         begun = refl;
         period = refl;
+        left = refl;
+        sweeping = refl;
+        swept = λ block. refl;
+        waits = left_quiet layout heap (write heap region.Stopped index word) part me (part me) refl refl (λ _ c in_c
+            is.
+            is) (λ c is. is) refl refl refl refl wave.waits;
         calls = calls_view layout heap (write heap region.Stopped index word) part me (part me) refl (λ p.
             refl) wave.calls;
         ran = runs;

@@ -6,10 +6,11 @@ use Rattle.std.proofs.lemmas.List.Sums.{sum_by-append}
 use Rattle.std.specs.Prelude.{Contains, if◌then◌else◌, ◌&&◌, not}
 use Rattle.tide_core.specs.FrozenWave.{is_born_in_cycle}
 use Rattle.tide_layout.specs.declared.region.Region.TheVariants as region
-use Rattle.tide_machine.proofs.steps.Colouring.{unread_write, colours_coloured, black_before_grey, marked_after_grey, count_where-le, recoloured_one}
+use Rattle.tide_machine.proofs.steps.Colouring.{unread_write, colours_coloured, black_before_grey, marked_after_grey, count_where-le, recoloured_one, grey_after_grey}
 use Rattle.tide_machine.proofs.steps.Frames.{calls_view}
 use Rattle.tide_machine.proofs.steps.Lists.{in_one}
 use Rattle.tide_machine.proofs.steps.Quiet.{quiet_step}
+use Rattle.tide_machine.proofs.steps.Waiting.{left_kept, left_quiet}
 use Rattle.tide_machine.specs.Duties.{OwesColour}
 use Rattle.tide_machine.specs.RunningWave.{RunningWave}
 use Rattle.tide_machine.specs.Scanning.{IsTrue, Place, leave_out, open_scan, still_open}
@@ -19,6 +20,7 @@ use Rattle.tide_machine.specs.declared.view.Target.{Target}
 use Rattle.tide_machine.specs.declared.view.View.{View}
 use Rattle.tide_machine.specs.points.Links.{ScanExcuses}
 use Rattle.tide_machine.specs.points.Scans.{IsAtHand, held, scanned, buffered, ScanKnows}
+use Rattle.tide_machine.specs.points.Witness.{IsLeftFor, in_word, in_hand}
 use Rattle.tide_model.specs.Cycle.{cycle_span}
 use Rattle.tide_model.specs.Graph.{by_link, IsRetained, no_cell}
 use Rattle.tide_model.specs.History.{state_after}
@@ -176,6 +178,13 @@ module _ (layout : Layout) (shapes : ShapeLists) (w : World) (me : ℕ) (inside 
               refl;
           begun = refl;
           period = refl;
+          left = refl;
+          sweeping = refl;
+          swept = λ block. refl;
+          waits = left_kept layout w.heap (coloured w.heap cell Grey) w.part me
+              (with_scan (w.part me) (cell ∷ (w.part me).held) (still_open shorter)) refl refl
+              (λ _ other in_other is. grey_after_grey w.heap cell other is) (λ c is. is) (λ is_one none. none) one_more
+              wave.waits;
           calls = calls_view layout w.heap (coloured w.heap cell Grey) w.part me
               (with_scan (w.part me) (cell ∷ (w.part me).held) (still_open shorter)) refl (λ p. refl) wave.calls;
           ran = runs;
@@ -255,6 +264,12 @@ module _ (layout : Layout) (shapes : ShapeLists) (w : World) (me : ℕ) (inside 
               (black_before_grey w.heap cell other parts.0).1 parts.1) in omega (arith, few));
         }
       where
+        one_more : (other : ℕ) → IsLeftFor w.heap (w.part me) other → IsLeftFor (coloured w.heap cell Grey)
+            (with_scan (w.part me) (cell ∷ (w.part me).held) (still_open shorter)) other
+        one_more other (in_word bit how) = in_word bit how
+        one_more other (in_hand is lacks) =
+            in_hand (Contains-append_right (cell ∷ []) (w.part me).held other is) lacks
+
         kept : IsRetained (cycle_span layout w.log) no_cell cell
         kept = by_link scan.cell cell
             (wave.retained.marked marks scan.cell
@@ -309,6 +324,12 @@ module _ (layout : Layout) (shapes : ShapeLists) (w : World) (me : ℕ) (inside 
               refl;
           begun = refl;
           period = refl;
+          left = refl;
+          sweeping = refl;
+          swept = λ block. refl;
+          waits = left_quiet layout w.heap w.heap w.part me
+              (with_scan (w.part me) (w.part me).held (still_open shorter)) refl refl (λ _ c in_c is. is) (λ c is. is)
+              refl refl refl refl wave.waits;
           calls =
               calls_view layout w.heap w.heap w.part me (with_scan (w.part me) (w.part me).held (still_open shorter))
               refl

@@ -112,21 +112,16 @@ module _ (layout : Layout) (shapes : ShapeLists) (w : World) (me : ℕ) (inside 
       by false is = load_nothing layout shapes w me wave region.Free block
 
   -- a take of a bit that isn't set
-  pub lost : (k : ℕ) → k < 64 → (o : Op) →
+  pub lost_bit : (k : ℕ) → k < 64 → (o : Op) →
       (read ≡ 0 → MayCall layout shapes w me o (Refused (Full (class_taken state me o))) None) →
       (bit_at read k == 1) ≡ false →
-      RunningWave layout shapes (stepped layout shapes w me (TakeFree block k (Some o)))
-  lost k few o may clear =
-      subst (λ (set : Bool). RunningWave layout shapes (record {
+      RunningWave layout shapes (record {
         heap = write w.heap region.Free block (bit_and read (all_but k));
-        part = put_at w.part me (with_entry w.log
-            (if set then Some (call_of me o (Born (64 * block + k)) None) else full_if_empty read state me o)
-            (if set then record (called (owed_register layout me (filled_register o) (Cell (64 * block + k)))
-            (w.part me)) { duty = duty.Born (64 * block + k); born = (w.part me).born + 1 }
-            else searched_view w.log block (Some o) read (w.part me)));
-        log = added w.log (if set then Some (call_of me o (Born (64 * block + k)) None) else full_if_empty read state me
-            o);
-      })) (sym clear) (by (read == 0) refl)
+        part = put_at w.part me (with_entry w.log (full_if_empty read state me o)
+            (searched_view w.log block (Some o) read (w.part me)));
+        log = added w.log (full_if_empty read state me o);
+      })
+  lost_bit k few o may clear = by (read == 0) refl
     where
       same_bits : (i : ℕ) → i < 64 → bit_at (bit_and read (all_but k)) i ≡ bit_at read i
       same_bits i below = without_bit-is read k few i below ∙ elim (cases_eq i k) [
@@ -159,3 +154,19 @@ module _ (layout : Layout) (shapes : ShapeLists) (w : World) (me : ℕ) (inside 
       by false is = looks layout shapes w me inside wave runs block (bit_and read (all_but k))
           (λ i below. same_bits i below ∙ ap (λ (x : ℕ). bit_at x i) (sym same_word)) (w.part me).full
           (wave.kept.full me)
+
+  pub lost : (k : ℕ) → k < 64 → (o : Op) →
+      (read ≡ 0 → MayCall layout shapes w me o (Refused (Full (class_taken state me o))) None) →
+      (bit_at read k == 1) ≡ false →
+      RunningWave layout shapes (stepped layout shapes w me (TakeFree block k (Some o)))
+  lost k few o may clear =
+      subst (λ (set : Bool). RunningWave layout shapes (record {
+        heap = write w.heap region.Free block (bit_and read (all_but k));
+        part = put_at w.part me (with_entry w.log
+            (if set then Some (call_of me o (Born (64 * block + k)) None) else full_if_empty read state me o)
+            (if set then record (called (owed_register layout me (filled_register o) (Cell (64 * block + k)))
+            (w.part me)) { duty = duty.Born (64 * block + k); born = (w.part me).born + 1 }
+            else searched_view w.log block (Some o) read (w.part me)));
+        log = added w.log (if set then Some (call_of me o (Born (64 * block + k)) None) else full_if_empty read state me
+            o);
+      })) (sym clear) (lost_bit k few o may clear)

@@ -1,6 +1,5 @@
--- A mutator looks for something free: a block that shows nothing is full at that moment, a take may be lost, and a
--- call may
--- be refused for room. The wave is kept.
+-- A mutator looks for something free: a block that shows nothing is full at that moment, a take may be lost, and a call
+-- may be refused for room. The wave is kept.
 use Rattle.std.proofs.Common.{ℕ, ◌≡◌, ◌%◌, ◌<◌, ◌≤◌, ◌==◌, refl, sym, ◌∙◌, ap, subst, arith, Bool, true, false, List, inl, inr, Option, Some, None, length}
 use Rattle.std.proofs.lemmas.Bool.{cases_Bool, cases_eq}
 use Rattle.std.proofs.lemmas.Nat.Bits.{bit_at-zero}
@@ -9,10 +8,13 @@ use Rattle.std.specs.Prelude.{Contains, if◌then◌else◌, ◌&&◌}
 use Rattle.tide_layout.specs.Region.{tag}
 use Rattle.tide_layout.specs.declared.region.Region.{Region}
 use Rattle.tide_layout.specs.declared.region.Region.TheVariants as region
+use Rattle.tide_machine.proofs.steps.ArraysKept.{arrays_kept}
 use Rattle.tide_machine.proofs.steps.Frames.{calls_view, each_put}
 use Rattle.tide_machine.proofs.steps.GrowthsKept.{growth_kept}
 use Rattle.tide_machine.proofs.steps.ScansKept.{scan_kept}
 use Rattle.tide_machine.proofs.steps.Steps.{any_step}
+use Rattle.tide_machine.proofs.steps.SweepsKept.{swept_kept, sweeps_kept}
+use Rattle.tide_machine.proofs.steps.Waiting.{left_quiet}
 use Rattle.tide_machine.specs.Duties.{GrowsAndOwes}
 use Rattle.tide_machine.specs.Owed.{own_register, own_structure, own_array, own_pair, own_element, Owes, IsOwnWord, owed_word}
 use Rattle.tide_machine.specs.RunningWave.{RunningWave}
@@ -197,12 +199,22 @@ module _ (layout : Layout) (shapes : ShapeLists) (w : World) (me : ℕ) (inside 
       mine = refl;
       finds = finds;
       told = λ _. wave.numbers.told me runs;
+      begins = wave.numbers.begun me;
+      left = refl;
+      waits = left_quiet layout w.heap after w.part me later refl refl (λ _ c in_c is. is) (λ c is. is) refl refl refl
+          refl wave.waits;
+      stands = arrays_kept layout w.heap after state state (λ c. refl) (λ c. refl) (λ i. refl) (λ array. refl)
+          (λ c array alive is. (alive, refl, refl, refl)) wave.arrays;
+      swept = swept_kept layout w.heap after refl (λ b within. refl) wave.swept;
+      sweeps = sweeps_kept layout w.heap after w.part me later state state refl (λ b. refl) refl (λ b has. has)
+          wave.sweeps;
       calls = calls_view layout w.heap after w.part me later refl (λ p. refl) wave.calls;
       empties = λ is. absurd (cc);
-      growth = growth_kept w.heap after state state me (w.part me) later (λ c. refl) (λ c at. at) (λ c x o. o)
-          (λ c x o. o) (w.part me).growth (wave.growths.knows me);
-      growths = λ p apart. growth_kept w.heap after state state p (w.part p) (w.part p) (λ c. refl) (λ c at. at)
-          (λ c x o. o) (λ c x o. o) (w.part p).growth (wave.growths.knows p);
+      growth = growth_kept w.heap after state state me (w.part me) later (λ c mine. refl) (λ c mine. refl) (λ c at. at)
+          (λ c a mine is. is) (λ c x o. o) (λ c x o. o) (λ i x o. o) (w.part me).growth (wave.growths.knows me);
+      growths = λ p apart. growth_kept w.heap after state state p (w.part p) (w.part p) (λ c mine. refl) (λ c mine.
+          refl) (λ c at. at)
+          (λ c a mine is. is) (λ c x o. o) (λ c x o. o) (λ i x o. o) (w.part p).growth (wave.growths.knows p);
       knows = λ at index x is. (
         wave.kept.reads me at index x is,
         wave.kept.owns me at index x is,

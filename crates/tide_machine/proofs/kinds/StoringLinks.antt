@@ -1,7 +1,7 @@
 -- The store of a slot keeps the wave.
 use Rattle.std.proofs.Common.{ℕ, ◌≡◌, ◌≢◌, ◌<◌, ◌⊎◌, ◌==◌, refl, sym, ◌∙◌, ap, subst, arith, Bool, true, List, [], ◌∷◌, ◌++◌, inl, inr, Option, Some, None, length}
 use Rattle.std.proofs.lemmas.Bool.{cases_Bool, cases_eq, eq-eqb, ne_eqb}
-use Rattle.std.specs.Prelude.{Contains, if◌then◌else◌, ◌&&◌}
+use Rattle.std.specs.Prelude.{Contains, if◌then◌else◌, ◌&&◌, not}
 use Rattle.tide_call.proofs.reading_laws.SlotReading.{Reading-slot}
 use Rattle.tide_layout.proofs.Places.{tag-injective}
 use Rattle.tide_layout.proofs.SlotPlaces.{index_of_slot-alone}
@@ -9,6 +9,7 @@ use Rattle.tide_layout.specs.Region.{tag}
 use Rattle.tide_layout.specs.Slots.{index_of_slot}
 use Rattle.tide_layout.specs.declared.region.Region.{Region}
 use Rattle.tide_layout.specs.declared.region.Region.TheVariants as region
+use Rattle.tide_machine.proofs.steps.ArraysKept.{arrays_kept}
 use Rattle.tide_machine.proofs.steps.Barriers.{pushes_barrier, colour_barrier, calm_barrier, owes_barrier, cell_word_is}
 use Rattle.tide_machine.proofs.steps.Calls.{OfState, call_step, is_uncalled}
 use Rattle.tide_machine.proofs.steps.Frames.{each_put, calls_view}
@@ -35,6 +36,7 @@ use Rattle.tide_machine.specs.points.Links.{LinkAt}
 use Rattle.tide_machine.specs.points.SettledWords.{RunningWordsRead}
 use Rattle.tide_model.proofs.ReferenceLaws.{put_at_elim, RefsAreLive-call}
 use Rattle.tide_model.specs.Applied.{put_slot}
+use Rattle.tide_model.specs.Cycle.{HasDead, dead_cell, dead_array}
 use Rattle.tide_model.specs.History.{state_after}
 use Rattle.tide_model.specs.Lawful.{Stands}
 use Rattle.tide_model.specs.Layout.{Layout, cell_count, class_of, slots_of}
@@ -226,7 +228,9 @@ module _ (layout : Layout) (shapes : ShapeLists) (w : World) (me : ℕ) (inside 
     growth = subst (GrowthKnows new (put_slot state (Cell cell) slot_number value) me later) (sym grows_not) tt;
     growths = λ p apart. growth_kept w.heap new state (put_slot state (Cell cell) slot_number value) p (w.part p)
         (w.part p)
-        (λ c. refl) (λ c at. at) (λ c x o. o) (λ c x o. o) (w.part p).growth (wave.growths.knows p);
+        (λ c mine. refl) (λ c mine. refl) (λ c at. at)
+        (λ c a mine is. (as_before c).array ∙ is) (λ c x o. o) (λ c x o. o) (λ i x o. o) (w.part p).growth
+        (wave.growths.knows p);
     owns = own_still;
     hidden = λ p c apart is_live h. record {
       registers = h.registers;
@@ -244,45 +248,65 @@ module _ (layout : Layout) (shapes : ShapeLists) (w : World) (me : ℕ) (inside 
         | inr before ↦ h.blank place target before
       ];
     };
+    stands = arrays_kept layout w.heap new state (put_slot state (Cell cell) slot_number value) (λ c. refl) (λ c. refl)
+        (λ i. refl) (λ array. refl)
+        (λ c array alive is. (
+          sym (as_before c).status ∙ alive,
+          (as_before c).keys,
+          (as_before c).properties,
+          (as_before c).array,
+        ))
+        wave.arrays;
+    inactive = each_put (λ p u. u.left ≡ not (state.active p)) w.part me later (wave.left me) wave.left;
+    dead = λ block has. still_dead block has;
   }
+    where
+      still_dead : (block : ℕ) → HasDead layout (put_slot state (Cell cell) slot_number value) block →
+          HasDead layout state block
+      still_dead block (dead_cell c in_cells of_block is) =
+          dead_cell c in_cells of_block (sym (as_before c).status ∙ is)
+      still_dead block (dead_array a in_arrays of_block is) = dead_array a in_arrays of_block is
 
   pub store_link : RunningWave layout shapes
       (stepped layout shapes w me (StoreLink cell slot_number word (Some (Put src slot_number val))))
-  store_link = (call_step layout shapes w.heap w.part w.log me wave (Put src slot_number val) Done None new later record {
-    inside = inside;
-    runs = runs;
-    still_runs = runs;
-    uncalled = λ at index is. uncalled_else at index is;
-    stands = stands;
-    who = refl;
-    seen = refl;
-    mine = refl;
-    marks = refl;
-    cycle = refl;
-    begun = refl;
-    visits = refl;
-    period = refl;
-    calls = calls_view layout w.heap new w.part me later refl (λ p. refl) wave.calls;
-    held = refl;
-    scan = refl;
-    known = refl;
-    full = refl;
-    pushes_none = λ c. (ap (λ d. pushes d c) idle, pushes_barrier ((w.part me).marks && is_cell_word word) cell c);
-    calm = λ rests. calm_barrier (w.part me).marks (is_cell_word word) cell ((wave.numbers.told me runs).0 ∙ rests);
-    grows = λ c g. absurd (subst (λ d. OwesBarrier d c) idle g.owes);
-    barrier = λ c owes. absurd (subst (λ d. OwesBarrier d c) idle owes);
-    kept = λ p at index other apart is. own_else w.heap p at index (wave.kept.owns p at index other is) ∙
-        wave.kept.known p at index other is;
-    truer = λ p scan is holds. holds;
-    born_before = λ c owes. subst (λ d. OwesColour d c) idle owes;
-    born = λ c born. absurd (cc);
-    awaits = λ marks c owes. absurd (colour_barrier ((w.part me).marks && is_cell_word word) cell c owes);
-    owner = wave.born.owner;
-    once = λ c owes. absurd (colour_barrier ((w.part me).marks && is_cell_word word) cell c owes);
-    once_others = λ p c apart. wave.born.once p c;
-    state = subst (λ (x : Val). OfState layout shapes w.heap w.part w.log me wave (Put src slot_number val) Done None
-        new later (put_slot state x slot_number value)) (sym source) state_after_store;
-  })
+  store_link = (call_step layout shapes w.heap w.part w.log me wave (Put src slot_number val) Done None new later
+      record {
+        inside = inside;
+        runs = runs;
+        still_runs = runs;
+        uncalled = λ at index is. uncalled_else at index is;
+        stands = stands;
+        who = refl;
+        seen = refl;
+        mine = refl;
+        marks = refl;
+        cycle = refl;
+        begun = refl;
+        visits = refl;
+        period = refl;
+        calls = calls_view layout w.heap new w.part me later refl (λ p. refl) wave.calls;
+        held = refl;
+        round = refl;
+        sweeping = refl;
+        scan = refl;
+        known = refl;
+        full = refl;
+        pushes_none = λ c. (ap (λ d. pushes d c) idle, pushes_barrier ((w.part me).marks && is_cell_word word) cell c);
+        calm = λ rests. calm_barrier (w.part me).marks (is_cell_word word) cell ((wave.numbers.told me runs).0 ∙ rests);
+        grows = λ c g. absurd (subst (λ d. OwesBarrier d c) idle g.owes);
+        barrier = λ c owes. absurd (subst (λ d. OwesBarrier d c) idle owes);
+        kept = λ p at index other apart is. own_else w.heap p at index (wave.kept.owns p at index other is) ∙
+            wave.kept.known p at index other is;
+        truer = λ p scan is holds. holds;
+        born_before = λ c owes. subst (λ d. OwesColour d c) idle owes;
+        born = λ c born. absurd (cc);
+        awaits = λ marks c owes. absurd (colour_barrier ((w.part me).marks && is_cell_word word) cell c owes);
+        owner = wave.born.owner;
+        once = λ c owes. absurd (colour_barrier ((w.part me).marks && is_cell_word word) cell c owes);
+        once_others = λ p c apart. wave.born.once p c;
+        state = subst (λ (x : Val). OfState layout shapes w.heap w.part w.log me wave (Put src slot_number val) Done None
+            new later (put_slot state x slot_number value)) (sym source) state_after_store;
+      })
     where
       uncalled_else : (at : Region) (index : ℕ) → is_uncalled at ≡ true → new at index ≡ w.heap at index
       uncalled_else at index is = write-other_region w.heap region.Slots at (index_of_slot layout cell slot_number)

@@ -1,5 +1,7 @@
 -- A register or a handle is stored by its call, or a mutator retires: the wave is kept.
-use Rattle.std.proofs.Common.{ℕ, ◌≡◌, ◌≢◌, ◌<◌, ◌==◌, refl, sym, subst, Bool, true, false, Some, None, inl, inr}
+use Rattle.std.proofs.Common.{ℕ, ◌≡◌, ◌≢◌, ◌<◌, ◌==◌, refl, sym, subst, Bool, true, false, Some, None, inl, inr, ap}
+use Rattle.std.proofs.lemmas.Bool.{eq-eqb}
+use Rattle.std.specs.Prelude.{not, if◌then◌else◌}
 use Rattle.tide_call.proofs.reading_laws.RootReading.{Reading-register, Reading-strong, Reading-weak, Reading-retire}
 use Rattle.tide_layout.specs.Region.{tag, index_of_register}
 use Rattle.tide_layout.specs.declared.region.Region.{Region}
@@ -69,6 +71,8 @@ module _ (layout : Layout) (shapes : ShapeLists) (w : World) (me : ℕ) (inside 
             region.Registers region.Registers (index_of_register layout me dst) (index_of_register layout me dst) own
             (own_register dst may.stands.is_mutator within) refl refl);
         claims_else = λ p apart. refl;
+        active_else = λ p apart. refl;
+        left_is = wave.left me;
         hidden = λ p c apart alive h. (
           (λ who register not_p active is. elim (register_after state me dst value who register (Cell c) is) [
             | inl now ↦ unseen p c apart h now
@@ -124,6 +128,8 @@ module _ (layout : Layout) (shapes : ShapeLists) (w : World) (me : ℕ) (inside 
             (wave.words.reads.roots.registers me val may.stands.is_mutator may.stands.fits.1).number;
         alone = λ p apart. not_own region.Strong refl refl refl refl refl p at;
         claims_else = λ p apart. refl;
+        active_else = λ p apart. refl;
+        left_is = wave.left me;
         hidden = λ p c apart alive h. (
           h.registers,
           put_at_elim (λ n (held : Val). held ≡ Cell c → ⊥) state.strong at (state.registers me val)
@@ -154,6 +160,8 @@ module _ (layout : Layout) (shapes : ShapeLists) (w : World) (me : ℕ) (inside 
             (wave.words.reads.roots.registers me val may.stands.is_mutator may.stands.fits.1).number;
         alone = λ p apart. not_own region.Weak refl refl refl refl refl p at;
         claims_else = λ p apart. refl;
+        active_else = λ p apart. refl;
+        left_is = wave.left me;
         hidden = λ p c apart alive h. (
           h.registers,
           h.strong,
@@ -169,13 +177,16 @@ module _ (layout : Layout) (shapes : ShapeLists) (w : World) (me : ℕ) (inside 
   retire Retire may =
       plain_word layout shapes w me inside wave may.runner.runs may.between.duty may.between.owed may.between.growth
       Retire Done (λ c. refl) may.stands
-      (put_at state.active me false) state.registers state.claims state.strong state.weak true region.Active me 0 record {
+      (put_at state.active me false) state.registers state.claims state.strong state.weak true region.Active me 0
+      record {
         changes = refl;
         no_call = refl;
         becomes = refl;
         reads = Reading-retire layout shapes wave.words.settled state wave.words.reads me may.stands.is_mutator;
         alone = λ p apart. not_own region.Active refl refl refl refl refl p me;
         claims_else = λ p apart. refl;
+        active_else = λ p apart. active_of p apart;
+        left_is = sym (ap not (ap (λ (b : Bool). if b then false else state.active me) (eq-eqb me me refl)));
         hidden = λ p c apart alive h. (
           (λ who register not_p active is. h.registers who register not_p (was_active who active) is),
           h.strong,
@@ -184,6 +195,10 @@ module _ (layout : Layout) (shapes : ShapeLists) (w : World) (me : ℕ) (inside 
         );
       }
     where
+      active_of : (p : ℕ) → p ≢ me → put_at state.active me false p ≡ state.active p
+      active_of = put_at_elim (λ p (b : Bool). p ≢ me → b ≡ state.active p) state.active me false (λ apart.
+          absurd (apart refl)) (λ p other apart. refl)
+
       was_active : (who : ℕ) → put_at state.active me false who ≡ true → state.active who ≡ true
       was_active = put_at_elim (λ who (b : Bool). b ≡ true → state.active who ≡ true) state.active me false (λ e.
           absurd (cc)) (λ who other e. e)

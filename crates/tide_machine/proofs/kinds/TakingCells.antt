@@ -1,16 +1,17 @@
 -- The take of a free bit, at which a cell is born, keeps the wave.
 use Rattle.std.proofs.Common.{ℕ, ◌≡◌, ◌≢◌, ◌+◌, ◌%◌, ◌<◌, ◌==◌, refl, sym, ◌∙◌, ap, subst, arith, Bool, true, false, List, [], ◌∷◌, ◌++◌, inl, inr, Some, None}
 use Rattle.std.proofs.lemmas.Bool.{cases_Bool, cases_eq, eq-eqb, ne_eqb, eqb-true, and_parts}
-use Rattle.std.specs.Prelude.{Contains, if◌then◌else◌, ◌&&◌, slice_get}
+use Rattle.std.specs.Prelude.{Contains, if◌then◌else◌, ◌&&◌, slice_get, not}
 use Rattle.tide_call.proofs.reading_laws.BirthReading.{Reading-birth}
 use Rattle.tide_call.proofs.reading_laws.RootReading.{Reading-register}
 use Rattle.tide_layout.proofs.Places.{tag-injective}
 use Rattle.tide_layout.specs.Region.{tag, index_of_register}
 use Rattle.tide_layout.specs.declared.region.Region.{Region}
 use Rattle.tide_layout.specs.declared.region.Region.TheVariants as region
+use Rattle.tide_machine.proofs.steps.ArraysKept.{arrays_kept}
 use Rattle.tide_machine.proofs.steps.Births
 use Rattle.tide_machine.proofs.steps.Calls.{OfState, call_step, is_uncalled}
-use Rattle.tide_machine.proofs.steps.Frames.{calls_view, put_here}
+use Rattle.tide_machine.proofs.steps.Frames.{calls_view, put_here, each_put}
 use Rattle.tide_machine.proofs.steps.GrowthsKept.{growth_kept}
 use Rattle.tide_machine.proofs.steps.Lists.{in_one}
 use Rattle.tide_machine.proofs.steps.Owning.{own_alone}
@@ -35,6 +36,7 @@ use Rattle.tide_machine.specs.points.SettledWords.{RunningWordsRead}
 use Rattle.tide_model.proofs.ClaimLaws.{ClaimsAreOwn-lawful}
 use Rattle.tide_model.proofs.ReferenceLaws.{put_at_elim, RefsAreLive-call}
 use Rattle.tide_model.specs.Applied.{after_call, put_register, put_cell}
+use Rattle.tide_model.specs.Cycle.{HasDead, dead_cell, dead_array}
 use Rattle.tide_model.specs.History.{state_after}
 use Rattle.tide_model.specs.Lawful.{Stands}
 use Rattle.tide_model.specs.Layout.{Layout, cell_count, block_of_cell}
@@ -216,9 +218,10 @@ module _ (layout : Layout) (shapes : ShapeLists) (w : World) (me : ℕ) (inside 
         (ap (λ (x : CellState). x.status)
         (Births.cell_here layout shapes w wave me op dst cell bears was_free within stands.is_active));
     growth = subst (GrowthKnows new after me later) (sym grows_not) tt;
-    growths = λ p apart. growth_kept w.heap new state after p (w.part p) (w.part p) (λ c. refl) (λ c at. at) (λ c x o.
-        o)
-        (λ c x o. o) (w.part p).growth (wave.growths.knows p);
+    growths = λ p apart. growth_kept w.heap new state after p (w.part p) (w.part p) (λ c mine. refl) (λ c mine. refl)
+        (λ c at. at)
+        (λ c a mine is. ap (λ (x : CellState). x.array) (else_same c (claimed_else p c mine)) ∙ is) (λ c x o. o)
+        (λ c x o. o) (λ i x o. o) (w.part p).growth (wave.growths.knows p);
     owns = λ p at index apart. own_still p at index;
     hidden = λ p c apart alive h. let other : c ≢ cell = λ e. not_live (subst (IsLive state) e alive) in record {
       registers = λ who register not_p active is.
@@ -239,7 +242,42 @@ module _ (layout : Layout) (shapes : ShapeLists) (w : World) (me : ℕ) (inside 
       ];
       blank = λ place target link. h.blank place target (link_before c place target link).1;
     };
+    stands = arrays_kept layout w.heap new state after (λ c. refl) (λ c. refl) (λ i. refl) (λ array. refl) was_there
+        wave.arrays;
+    inactive = each_put (λ p u. u.left ≡ not (state.active p)) w.part me later (wave.left me) wave.left;
+    dead = λ block has. still_dead block has;
   }
+    where
+      -- a free cell's array word is 0, and nobody owes it
+      no_array : w.heap region.Array cell ≡ 0
+      no_array = wave.words.same region.Array cell refl (λ p x owes.
+          unclaimed p (wave.words.owns p region.Array cell x owes)) ∙
+          ((wave.words.reads.parts.cells cell within).zeroed was_free).array
+        where
+          unclaimed : (p : ℕ) → IsOwnWord layout state p region.Array cell → ⊥
+          unclaimed p (own_array c at) = not_live (wave.refs.claimed p c at)
+
+      was_there : (c array : ℕ) → IsLive after c → new region.Array c ≡ array + 1 → IsLive state c ×
+          ((after.cells c).keys ≡ (state.cells c).keys) × ((after.cells c).properties ≡ (state.cells c).properties) ×
+          ((after.cells c).array ≡ (state.cells c).array)
+      was_there c array is_live is = elim (cases_eq c cell) [
+        | inl same ↦ (let word = ap (w.heap region.Array) same ∙ no_array in absurd (omega (arith, word, is)))
+        | inr apart ↦ (
+          ap (λ (x : CellState). x.status) (sym (else_same c apart)) ∙ is_live,
+          ap (λ (x : CellState). x.keys) (else_same c apart),
+          ap (λ (x : CellState). x.properties) (else_same c apart),
+          ap (λ (x : CellState). x.array) (else_same c apart),
+        )
+      ]
+
+      still_dead : (block : ℕ) → HasDead layout after block → HasDead layout state block
+      still_dead block (dead_array a in_arrays of_block is) = dead_array a in_arrays of_block is
+      still_dead block (dead_cell c in_cells of_block is) = elim (cases_eq c cell) [
+        | inl same ↦ (let alive = ap (λ (x : CellState). x.status) (ap after.cells same ∙
+            Births.cell_here layout shapes w wave me op dst cell bears was_free within stands.is_active) in
+            absurd (cc))
+        | inr apart ↦ dead_cell c in_cells of_block (ap (λ (x : CellState). x.status) (sym (else_same c apart)) ∙ is)
+      ]
 
   pub take_free : RunningWave layout shapes (record {
     heap = new;
@@ -265,6 +303,8 @@ module _ (layout : Layout) (shapes : ShapeLists) (w : World) (me : ℕ) (inside 
     period = refl;
     calls = calls_view layout w.heap new w.part me later refl (λ p. refl) wave.calls;
     held = refl;
+    round = refl;
+    sweeping = refl;
     scan = refl;
     known = refl;
     full = refl;

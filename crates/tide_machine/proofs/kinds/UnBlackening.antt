@@ -4,9 +4,10 @@ use Rattle.std.proofs.lemmas.Bool.{cases_eq, eq-eqb, ne_eqb, and_parts, and_from
 use Rattle.std.specs.Prelude.{if◌then◌else◌, ◌&&◌, not}
 use Rattle.tide_core.specs.FrozenWave.{is_born_in_cycle}
 use Rattle.tide_layout.specs.declared.region.Region.TheVariants as region
-use Rattle.tide_machine.proofs.steps.Colouring.{unread_write, colours_coloured, black_before_grey, marked_after_grey, marked_before_grey, count_where-le, recoloured_one}
+use Rattle.tide_machine.proofs.steps.Colouring.{unread_write, colours_coloured, black_before_grey, marked_after_grey, marked_before_grey, count_where-le, recoloured_one, grey_after_grey}
 use Rattle.tide_machine.proofs.steps.Frames.{calls_view}
 use Rattle.tide_machine.proofs.steps.Quiet.{quiet_step}
+use Rattle.tide_machine.proofs.steps.Waiting.{left_quiet}
 use Rattle.tide_machine.specs.Duties.{OwesBarrier, OwesColour}
 use Rattle.tide_machine.specs.RunningWave.{RunningWave}
 use Rattle.tide_machine.specs.World.{World, parties, pushes}
@@ -60,6 +61,11 @@ module _ (layout : Layout) (shapes : ShapeLists) (w : World) (me : ℕ) (inside 
         refl;
     begun = refl;
     period = refl;
+    left = refl;
+    sweeping = refl;
+    swept = λ block. refl;
+    waits = left_quiet layout w.heap (coloured w.heap cell Grey) w.part me later refl refl
+        (λ _ other in_other is. grey_after_grey w.heap cell other is) (λ c is. is) refl refl refl refl wave.waits;
     calls =
         calls_view layout w.heap (coloured w.heap cell Grey) w.part me later refl (λ p. refl) wave.calls;
     ran = runs;
@@ -143,6 +149,12 @@ module _ (layout : Layout) (shapes : ShapeLists) (w : World) (me : ℕ) (inside 
         refl;
     begun = refl;
     period = refl;
+    left = refl;
+    sweeping = refl;
+    swept = λ block. refl;
+    waits = left_quiet layout w.heap w.heap w.part me done refl refl (λ _ c in_c is. is) (λ c is. is) refl refl refl
+        refl
+        wave.waits;
     calls = calls_view layout w.heap w.heap w.part me done refl (λ p.
         refl) wave.calls;
     ran = runs;

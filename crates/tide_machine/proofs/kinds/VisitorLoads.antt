@@ -65,7 +65,8 @@ and_cell_was word cells c at = by_test (is_cell_word word) refl at
       | inr later ↦ inl later
     ]
 
-among_more : (n k : ℕ) (xs : List ℕ) → k ≢ n → is_among xs k ≡ false → is_among (n ∷ xs) k ≡ false
+-- a place that isn't read yet is none of one more
+pub among_more : (n k : ℕ) (xs : List ℕ) → k ≢ n → is_among xs k ≡ false → is_among (n ∷ xs) k ≡ false
 among_more n k xs apart isnt = ap (λ (b : Bool). b || is_among xs k) (ne_eqb k n apart) ∙ isnt
 
 module _ (layout : Layout) (shapes : ShapeLists) (w : World) (me : ℕ) (inside : me < parties)
@@ -143,11 +144,12 @@ module _ (layout : Layout) (shapes : ShapeLists) (w : World) (me : ℕ) (inside 
             λ cell at holds.
                 wave.retained.buffered me cell scan scans at truly,
           );
-      excuses = λ source place cell link white e. inl (let old = subst (ScanExcuses w.heap source place cell) scans e in (
-        old.0,
-        λ holds. elim (old.1 (subst (λ (c : ℕ). IsTrue scan (w.heap region.Structure c)) old.0 truly))
-            [ inl u ↦ inl (u.0, unread_same place u.1) | inr at ↦ inr at ],
-      ));
+      excuses = λ source place cell link white e. inl (let old = subst (ScanExcuses w.heap source place cell) scans e
+          in (
+            old.0,
+            λ holds. elim (old.1 (subst (λ (c : ℕ). IsTrue scan (w.heap region.Structure c)) old.0 truly))
+                [ inl u ↦ inl (u.0, unread_same place u.1) | inr at ↦ inr at ],
+          ));
       aims = λ s target is aims. wave.targets.right me scan target scans
           (of_some with_first (λ s. s.target ≡ Some target → scan.target ≡ Some target) (λ e. e) s is aims);
     }
@@ -232,11 +234,12 @@ module _ (layout : Layout) (shapes : ShapeLists) (w : World) (me : ℕ) (inside 
                   | inr now ↦ linked_now scan.cell cell (in_slot n alive (slot_names cell now))
                 ],
           );
-      excuses = λ source place cell link white e. inl (let old = subst (ScanExcuses w.heap source place cell) scans e in (
-        old.0,
-        λ holds. slot_answers place cell (subst (λ (c : ℕ). LinkAt state c place cell) (sym old.0) link)
-            (old.1 holds),
-      ));
+      excuses = λ source place cell link white e. inl (let old = subst (ScanExcuses w.heap source place cell) scans e
+          in (
+            old.0,
+            λ holds. slot_answers place cell (subst (λ (c : ℕ). LinkAt state c place cell) (sym old.0) link)
+                (old.1 holds),
+          ));
       aims = λ s target is aims. wave.targets.right me scan target scans
           (of_some with_slot (λ s. s.target ≡ Some target → scan.target ≡ Some target) (λ e. e) s is aims);
     }

@@ -2,11 +2,14 @@
 use Rattle.std.proofs.Common.{ℕ, ◌≡◌, ◌+◌, ◌*◌, ◌%◌, ◌<◌, ◌==◌, refl, sym, ◌∙◌, ap, subst, arith, Bool, true, false, ◌∷◌, Option, Some, None}
 use Rattle.std.proofs.lemmas.Bool.{eqb-true, eqb-false}
 use Rattle.std.specs.Prelude.{Contains, if◌then◌else◌}
-use Rattle.tide_layout.specs.Slots.{index_of_slot}
+use Rattle.tide_layout.specs.Slots.{index_of_slot, index_of_element}
 use Rattle.tide_layout.specs.declared.region.Region.TheVariants as region
+use Rattle.tide_machine.proofs.kinds.ArrayLoads.{load_array, load_element}
+use Rattle.tide_machine.proofs.kinds.Blackening.{blacken}
 use Rattle.tide_machine.proofs.kinds.Publishing.{publish}
 use Rattle.tide_machine.proofs.kinds.Regreying.{push_race}
 use Rattle.tide_machine.proofs.kinds.Scanning.{lost_mark, mark_finds_other, marked_one}
+use Rattle.tide_machine.proofs.kinds.Swapping.{swap_grey}
 use Rattle.tide_machine.proofs.kinds.UnBlackening.{un_blacken, un_blacken_finds_grey}
 use Rattle.tide_machine.proofs.kinds.VisitorLoads.{load_structure, load_slot, load_target}
 use Rattle.tide_machine.proofs.steps.Colouring.{black_tells}
@@ -14,7 +17,7 @@ use Rattle.tide_machine.proofs.steps.Loads.{load_same}
 use Rattle.tide_machine.proofs.steps.Rereading.{agrees, differs}
 use Rattle.tide_machine.specs.Duties.{OwesBarrier}
 use Rattle.tide_machine.specs.Groups.{is_of_visits}
-use Rattle.tide_machine.specs.Kind.{Kind, LoadStructure, LoadSlot, LoadAgain, LoadTarget, Mark, UnBlacken, PushRace, Publish}
+use Rattle.tide_machine.specs.Kind.{Kind, LoadStructure, LoadSlot, LoadAgain, LoadTarget, Mark, UnBlacken, PushRace, Publish, SwapGrey, Blacken, LoadArray, LoadElementOf}
 use Rattle.tide_machine.specs.Machine.{IsAllowed, stepped}
 use Rattle.tide_machine.specs.May.{RunsAsVisitor}
 use Rattle.tide_machine.specs.RunningWave.{RunningWave}
@@ -24,8 +27,10 @@ use Rattle.tide_machine.specs.World.{World, parties}
 use Rattle.tide_machine.specs.declared.view.Duty.{Duty}
 use Rattle.tide_machine.specs.declared.view.Duty.TheVariants as duty
 use Rattle.tide_machine.specs.declared.view.Scan.{Scan}
+use Rattle.tide_machine.specs.kinds.Blacken.{MayBlacken}
 use Rattle.tide_machine.specs.kinds.LoadAgain.{MayLoadAgain}
-use Rattle.tide_machine.specs.kinds.LoadSlot.{MayLoadSlot}
+use Rattle.tide_machine.specs.kinds.LoadArray.{MayLoadArray}
+use Rattle.tide_machine.specs.kinds.LoadSlot.{MayLoadSlot, MayLoadElementOf}
 use Rattle.tide_machine.specs.kinds.LoadStructure.{MayLoadStructure}
 use Rattle.tide_machine.specs.kinds.LoadTarget.{MayLoadTarget}
 use Rattle.tide_machine.specs.kinds.Mark.{MayMark}
@@ -127,6 +132,31 @@ module _ (layout : Layout) (shapes : ShapeLists) (w : World) (me : ℕ) (inside 
       by false other = differs layout shapes w me inside wave may.runner.runs (marks_for may.runner)
           (no_barrier may.runner) may.scan may.is may.first may.was_read
           may.whole may.once may.goes_on all_slots may.elements (eqb-false read may.first other)
+
+  pub array_loaded : (cell : ℕ) → MayLoadArray layout w me cell →
+      RunningWave layout shapes (stepped layout shapes w me (LoadArray cell))
+  array_loaded cell may =
+      subst (λ (c : ℕ). RunningWave layout shapes (stepped layout shapes w me (LoadArray c))) may.of_cell
+      (in_view may.scan may.is region.Array may.scan.cell (λ s.
+      Some record s { array = Some (w.heap region.Array may.scan.cell) })
+      (load_array layout shapes w me inside wave may.runner.runs (marks_for may.runner) (no_barrier may.runner) may.scan
+      may.is may.once may.array may.read))
+
+  pub element_loaded : (array place : ℕ) → MayLoadElementOf layout w me array place →
+      RunningWave layout shapes (stepped layout shapes w me (LoadElementOf array place))
+  element_loaded array place may =
+      in_view may.scan may.is region.Elements (index_of_element layout array place) _
+      (load_element layout shapes w me inside wave may.runner.runs (marks_for may.runner) (no_barrier may.runner)
+      may.scan may.is may.once may.first array place may.was_read may.of_array may.within)
+
+  -- a held cell is made black
+  pub blackened : (cell cycle : ℕ) → MayBlacken layout w me cell cycle →
+      RunningWave layout shapes (stepped layout shapes w me (Blacken cell cycle))
+  blackened cell cycle may =
+      subst (λ (c : ℕ). RunningWave layout shapes (stepped layout shapes w me (Blacken cell c)))
+      (sym (may.in_cycle ∙ (wave.numbers.told me may.runner.runs).1))
+      (blacken layout shapes w me inside wave may.runner.runs (marks_for may.runner)
+      (may.runner.is_visitor, may.runner.within) may.scans_not cell may.has)
 
   -- the bit of a raced cell
   pub race_pushed : (cell : ℕ) → MayPushRace w me cell →
@@ -261,7 +291,12 @@ module _ (layout : Layout) (shapes : ShapeLists) (w : World) (me : ℕ) (inside 
   -- each of these kinds
   pub visits_kept : (kind : Kind) → is_of_visits kind ≡ true → IsAllowed layout shapes w me kind →
       RunningWave layout shapes (stepped layout shapes w me kind)
+  visits_kept (SwapGrey grey block) is may =
+      swap_grey layout shapes w me inside wave (marks_for may.runner) block grey may
+  visits_kept (Blacken cell cycle) is may = blackened cell cycle may
   visits_kept (LoadStructure cell) is may = structure_loaded cell may
+  visits_kept (LoadArray cell) is may = array_loaded cell may
+  visits_kept (LoadElementOf array place) is may = element_loaded array place may
   visits_kept (LoadSlot cell n) is may = slot_loaded cell n may
   visits_kept (LoadAgain cell) is may = structure_loaded_again cell may
   visits_kept (LoadTarget cell) is may = target_loaded cell may

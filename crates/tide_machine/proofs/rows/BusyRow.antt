@@ -1,6 +1,5 @@
 -- A world that isn't idle: while a cycle marks a mutator takes a cell, links it, makes it grey by its barrier, and
--- links it
--- again. The wave holds there, with a grey cell in a grey word and a barrier that is owed.
+-- links it again. The wave holds there, with a grey cell in a grey word and a barrier that is owed.
 use Rattle.std.proofs.Common.{ap, ◌∙◌, false, ℕ, zero, suc, ◌≡◌, ◌≤◌, refl, arith, true, [], ◌∷◌, Some, None}
 use Rattle.tide_core.specs.Entered.{HasBegun, with_begin, with_open}
 use Rattle.tide_cycle.proofs.BeginLaws
@@ -81,7 +80,7 @@ abbrev pub opened : World
 opened = record begun { heap = write begun.heap region.Period 0 1; log = with_open begun.log 16 }
 
 pub came_opened : Comes small no_shapes has_law running opened
-came_opened = opens begun 16 came_begun
+came_opened = opens begun 16 came_begun (λ marks none. absurd (omega (arith, none)))
 
 -- its ticket
 abbrev ticket : Ticket
@@ -299,6 +298,7 @@ came_stopped = steps told_all 0 (StoreStopped 1) came_told_all (omega arith) ref
   rests = record {
     held = refl;
     scan = refl;
+    sweeping = refl;
     between = record {
       owed = refl;
       duty = refl;

@@ -53,6 +53,10 @@ numbers-later point = (let periods = point.periods in absurd (omega (arith, peri
 numbers-other_cycle : NumbersRead (write busy.heap region.Phase 0 5) busy.part busy.log → ⊥
 numbers-other_cycle point = (let cycles = point.cycles in absurd (omega (arith, cycles)))
 
+-- a participant began in a part that wasn't opened yet
+numbers-begun_early : NumbersRead busy.heap (alone (record (newcomer 0) { begun = 2 })) busy.log → ⊥
+numbers-begun_early point = (let few = point.begun 0 in absurd (omega (arith, few)))
+
 -- a call word tells a call too many
 calls-more : CallsAreTold small (write busy.heap region.Call 0 3) busy.part → ⊥
 calls-more point = (let word = point 0 (omega arith) in absurd (omega (arith, word)))

@@ -122,10 +122,11 @@ module _ (layout : Layout) (shapes : ShapeLists) (w : World) (wave : RunningWave
     kept = is_root cell ((graph_in_span layout log (moment_after_last (λ event. is_begin event.entry) log)
         (moment_after_last-le (λ event. is_begin event.entry) log)).roots cell
         (subst (λ (t : State). IsRoot t cell) (sym is_after) (in_register me dst active own_register)));
-    alone = λ source link. elim (Growing.link_cases layout w.log (call_of me op (Born cell) None) refl source cell link) [
-      | inl earlier ↦ not_live (wave.span.links marks source cell earlier).1
-      | inr now ↦ no_graph_link source (subst (λ (t : State). IsLink t source cell) is_after now)
-    ];
+    alone = λ source link. elim (Growing.link_cases layout w.log (call_of me op (Born cell) None) refl source cell
+        link) [
+          | inl earlier ↦ not_live (wave.span.links marks source cell earlier).1
+          | inr now ↦ no_graph_link source (subst (λ (t : State). IsLink t source cell) is_after now)
+        ];
     hidden = subst (λ (t : State). IsHidden t me cell) (sym is_after) hidden;
   }
     where

@@ -6,10 +6,13 @@ use Rattle.tide_core.proofs.PointLaws.{retained-push}
 use Rattle.tide_core.specs.FrozenWave.{is_birth_of, is_born_in_cycle}
 use Rattle.tide_layout.specs.declared.region.Region.{Region}
 use Rattle.tide_layout.specs.declared.region.Region.TheVariants as region
+use Rattle.tide_machine.proofs.steps.BareTables.{TablesAreBare-lawful}
 use Rattle.tide_machine.proofs.steps.Colouring.{count_where-le}
 use Rattle.tide_machine.proofs.steps.Frames.{each_put, put_here, put_else, total_below-put, held_view}
 use Rattle.tide_machine.proofs.steps.Growing
 use Rattle.tide_machine.proofs.steps.Lists.{nothing_in}
+use Rattle.tide_machine.proofs.steps.SweepsKept.{swept_kept, sweeps_kept}
+use Rattle.tide_machine.proofs.steps.Waiting.{left_quiet}
 use Rattle.tide_machine.specs.Duties.{IsCalm, OwesBarrier, GrowsAndOwes, OwesColour}
 use Rattle.tide_machine.specs.Entries.{call_of}
 use Rattle.tide_machine.specs.Owed.{IsOwnWord, owed_word}
@@ -23,17 +26,18 @@ use Rattle.tide_machine.specs.declared.view.Growth.TheVariants as growth
 use Rattle.tide_machine.specs.declared.view.Owed.{Owed}
 use Rattle.tide_machine.specs.declared.view.Scan.{Scan}
 use Rattle.tide_machine.specs.declared.view.View.{View}
+use Rattle.tide_machine.specs.points.Arrays.{ArraysStand}
 use Rattle.tide_machine.specs.points.Births.{IsHidden, AwaitsColour, RunningBornIsMarked}
 use Rattle.tide_machine.specs.points.Growths.{GrowthKnows}
 use Rattle.tide_machine.specs.points.Links.{IsExcused, Excuses, ScanExcuses, LinkAt}
 use Rattle.tide_machine.specs.points.Marks.{counted_in}
 use Rattle.tide_machine.specs.points.Scans.{IsAtHand, held, scanned, buffered, ScanKnows}
-use Rattle.tide_machine.specs.points.Seen.{CallsAreTold}
+use Rattle.tide_machine.specs.points.Seen.{CallsAreTold, WhoLeftIsInactive}
 use Rattle.tide_machine.specs.points.SettledWords.{RunningWordsRead}
 use Rattle.tide_model.proofs.Histories.{IsLawful-push, state_after-push}
 use Rattle.tide_model.proofs.ReferenceLaws.{put_at_elim}
 use Rattle.tide_model.specs.Applied.{after_call}
-use Rattle.tide_model.specs.Cycle.{cycle_span}
+use Rattle.tide_model.specs.Cycle.{cycle_span, HasDead}
 use Rattle.tide_model.specs.Graph.{IsRetained, no_cell, IsRoot, IsLink, in_register, claimed, in_handle, in_slot, in_property}
 use Rattle.tide_model.specs.History.{state_after, state_at, is_call_of}
 use Rattle.tide_model.specs.Lawful.{Stands}
@@ -62,6 +66,7 @@ is_uncalled region.Colour = true
 is_uncalled region.GreyShared = true
 is_uncalled region.GreyMutator = true
 is_uncalled region.GreyRace = true
+is_uncalled region.Swept = true
 is_uncalled _ = false
 
 module _ (layout : Layout) (shapes : ShapeLists) (old : Heap) (part : ℕ → View) (log : List Event) (me : ℕ)
@@ -100,6 +105,10 @@ module _ (layout : Layout) (shapes : ShapeLists) (old : Heap) (part : ℕ → Vi
     pub owns : (p : ℕ) (at : Region) (index : ℕ) → p ≢ me → IsOwnWord layout before p at index →
         IsOwnWord layout t p at index
     pub hidden : (p cell : ℕ) → p ≢ me → IsLive before cell → IsHidden before p cell → IsHidden t p cell
+    pub stands : ArraysStand layout new t
+    pub inactive : WhoLeftIsInactive (put_at part me w) t
+    -- a call leaves nothing dead
+    pub dead : (block : ℕ) → HasDead layout t block → HasDead layout before block
 
   pub record ShowsCall (new : Heap) (w : View) : Type 0 where
     pub inside : me < parties
@@ -117,6 +126,8 @@ module _ (layout : Layout) (shapes : ShapeLists) (old : Heap) (part : ℕ → Vi
     pub period : new region.Period 0 ≡ old region.Period 0
     pub calls : CallsAreTold layout new (put_at part me w)
     pub held : w.held ≡ (part me).held
+    pub round : w.round ≡ (part me).round
+    pub sweeping : w.sweeping ≡ (part me).sweeping
     pub scan : w.scan ≡ (part me).scan
     pub known : w.known ≡ []
     pub full : w.full ≡ []
@@ -263,6 +274,9 @@ module _ (layout : Layout) (shapes : ShapeLists) (old : Heap) (part : ℕ → Vi
               s.begun ∙ t.2 ∙ sym s.period,
             ))
             (λ p is. let t = wave.numbers.told p is in (t.0 ∙ sym marking, t.1 ∙ sym running, t.2 ∙ sym s.period));
+        begun = each_put (λ p u. u.begun ≤ new region.Period 0) part me w
+            (let b = wave.numbers.begun me in let same = s.begun in let e = s.period in omega (arith, b, same, e))
+            (λ p. let b = wave.numbers.begun p in let e = s.period in omega (arith, b, e));
       };
       words = now_of.words;
       refs = now_of.refs;
@@ -376,6 +390,16 @@ module _ (layout : Layout) (shapes : ShapeLists) (old : Heap) (part : ℕ → Vi
             is_black old c && not (is_born_in_cycle log c)) (cell_count layout) (λ c. fewer c) in
             omega (arith, was, sums, same, more, few, period);
       };
+      waits = left_quiet layout old new part me w phase s.period (λ _ cell in_cell is. same_grey cell ∙ is)
+          (λ cell bit. ap (λ (word : ℕ). Rattle.std.specs.Int.bit_at word (Rattle.std.specs.Prelude.◌%◌ cell 64))
+          (s.uncalled region.GreyShared (block_of_cell cell) refl) ∙ bit) s.begun s.visits s.round s.held wave.waits;
+      arrays = now_of.stands;
+      bare = TablesAreBare-lawful layout shapes longer
+          (IsLawful-push layout shapes log (call_of me op reply took) wave.lawful s.stands);
+      swept = swept_kept layout old new phase (λ block within. s.uncalled region.Swept block refl) wave.swept;
+      sweeps = sweeps_kept layout old new part me w before after phase (λ block. s.uncalled region.Swept block refl)
+          s.sweeping now_of.dead wave.sweeps;
+      left = now_of.inactive;
       scans = record { knows = scans_of (λ scan. ScanKnows layout new after scan) now_of.scans };
       grows = record {
         beyond = λ marks source n cell link past. elim (now_of.beyond (sym marking ∙ marks) source n cell link past) [
@@ -412,6 +436,7 @@ module _ (layout : Layout) (shapes : ShapeLists) (old : Heap) (part : ℕ → Vi
         known = each_put (λ p u. u.runs ≡ false → u.known ≡ []) part me w stopped wave.parked.known;
         full = each_put (λ p u. u.runs ≡ false → u.full ≡ []) part me w stopped wave.parked.full;
         calls = each_put (λ p u. u.runs ≡ false → u.calls ≡ length u.mine) part me w stopped wave.parked.calls;
+        sweeping = each_put (λ p u. u.runs ≡ false → u.sweeping ≡ None) part me w stopped wave.parked.sweeping;
       };
     }
       where

@@ -7,6 +7,7 @@ use Rattle.tide_layout.specs.declared.region.Region.{Region}
 use Rattle.tide_layout.specs.declared.region.Region.TheVariants as region
 use Rattle.tide_machine.proofs.steps.Frames.{calls_view}
 use Rattle.tide_machine.proofs.steps.Quiet.{quiet_step}
+use Rattle.tide_machine.proofs.steps.Waiting.{SharedBit, left_quiet}
 use Rattle.tide_machine.specs.Duties.{IsCalm, OwesBarrier, GrowsOn, OwesColour}
 use Rattle.tide_machine.specs.RunningWave.{RunningWave}
 use Rattle.tide_machine.specs.Scanning.{Place}
@@ -23,7 +24,7 @@ use Rattle.tide_model.specs.Refused.{ShapeLists}
 use Rattle.tide_model.specs.declared.entry.Event.{Event}
 use Rattle.tide_words.proofs.heap_laws.Frames.{is_read}
 use Rattle.tide_words.specs.heap.Heap.{Heap}
-use Rattle.tide_words.specs.marking.Colours.{is_marking, is_grey, is_black, IsBlack, IsMarked}
+use Rattle.tide_words.specs.marking.Colours.{is_marking, is_grey, is_black, IsBlack, IsGrey, IsMarked}
 use Rattle.tide_words.specs.marking.Marked.{is_marked}
 use Rattle.tide_words.specs.marking.Marking.{bits_of, HasNoGreys, NoLaterColours}
 
@@ -39,6 +40,10 @@ module _ (layout : Layout) (shapes : ShapeLists) (old : Heap) (part : ℕ → Vi
     pub words : (at : Region) (index : ℕ) → is_read at ≡ true → new at index ≡ old at index
     pub period : new region.Period 0 ≡ old region.Period 0
     pub call_words : (p : ℕ) → new region.Call p ≡ old region.Call p
+    pub swept : (block : ℕ) → new region.Swept block ≡ old region.Swept block
+    -- no grey cell gets another colour, and no bit of a shared word is cleared
+    pub greys : is_marking old ≡ true → (cell : ℕ) → cell < cell_count layout → IsGrey old cell → IsGrey new cell
+    pub shared : (cell : ℕ) → SharedBit old cell → SharedBit new cell
     pub colours : NoLaterColours layout new
     pub balance : is_marking old ≡ true → (cell : ℕ) → cell < cell_count layout →
         bits_of old cell + pushes (part me).duty cell ≤ (if is_grey old cell then 1 else 0) →
@@ -81,6 +86,11 @@ module _ (layout : Layout) (shapes : ShapeLists) (old : Heap) (part : ℕ → Vi
     cycle = refl;
     begun = refl;
     period = s.period;
+    left = refl;
+    sweeping = refl;
+    swept = s.swept;
+    waits = left_quiet layout old new part me (with_duty (part me) d) (s.words region.Phase 0 refl) s.period s.greys
+        s.shared refl refl refl refl wave.waits;
     calls = calls_view layout old new part me (with_duty (part me) d) refl s.call_words wave.calls;
     ran = s.runs;
     runs = s.runs;

@@ -1,11 +1,12 @@
 -- A call that leaves all cells and arrays as they were keeps the wave: one on a register, a handle, a claim,
 -- or none.
-use Rattle.std.proofs.Common.{ℕ, ◌≡◌, ◌≢◌, ◌<◌, ◌≤◌, refl, sym, ap, subst, Bool, true, false, List, [], ◌∷◌, ◌++◌, inl, inr, None}
+use Rattle.std.proofs.Common.{ℕ, ◌≡◌, ◌≢◌, ◌<◌, ◌≤◌, refl, sym, ap, subst, Bool, true, false, List, [], ◌∷◌, ◌++◌, inl, inr, None, ◌∙◌}
 use Rattle.std.proofs.lemmas.Bool.{cases_Bool}
-use Rattle.std.specs.Prelude.{Contains}
+use Rattle.std.specs.Prelude.{Contains, not}
 use Rattle.tide_core.specs.FrozenWave.{is_birth_of}
 use Rattle.tide_layout.specs.declared.region.Region.{Region}
 use Rattle.tide_layout.specs.declared.region.Region.TheVariants as region
+use Rattle.tide_machine.proofs.steps.ArraysKept.{arrays_kept}
 use Rattle.tide_machine.proofs.steps.Calls.{OfState, call_step, is_uncalled}
 use Rattle.tide_machine.proofs.steps.GrowthsKept.{growth_kept}
 use Rattle.tide_machine.proofs.steps.ScansKept.{scan_kept}
@@ -26,8 +27,9 @@ use Rattle.tide_machine.specs.points.Growths.{GrowthKnows}
 use Rattle.tide_machine.specs.points.Links.{LinkAt}
 use Rattle.tide_machine.specs.points.Seen.{CallsAreTold}
 use Rattle.tide_machine.specs.points.SettledWords.{RunningWordsRead}
-use Rattle.tide_model.proofs.ReferenceLaws.{RefsAreLive-call}
+use Rattle.tide_model.proofs.ReferenceLaws.{RefsAreLive-call, put_at_elim}
 use Rattle.tide_model.specs.Applied.{after_call}
+use Rattle.tide_model.specs.Cycle.{HasDead, dead_cell, dead_array}
 use Rattle.tide_model.specs.History.{state_after}
 use Rattle.tide_model.specs.Lawful.{Stands}
 use Rattle.tide_model.specs.Layout.{Layout}
@@ -89,6 +91,8 @@ module _ (layout : Layout) (shapes : ShapeLists) (w : World) (me : ℕ) (inside 
         ((who register : ℕ) → who ≢ p → active who ≡ true → registers who register ≡ Cell c → ⊥)
         × ((handle : ℕ) → strong handle ≡ Cell c → ⊥) × ((handle : ℕ) → weak handle ≡ Cell c → ⊥) ×
         ((who : ℕ) → Contains (claims who) c → ⊥)
+    pub active_else : (p : ℕ) → p ≢ me → active p ≡ state.active p
+    pub left_is : left ≡ not (active me)
 
   module _ (new : Heap) (owed : List Owed) (s : ShowsPlain new owed) where
     own_still : (p : ℕ) (at : Region) (index : ℕ) → p ≢ me → IsOwnWord layout state p at index →
@@ -106,6 +110,10 @@ module _ (layout : Layout) (shapes : ShapeLists) (w : World) (me : ℕ) (inside 
     link_before : (x : ℕ) (place : Place) (target : ℕ) → LinkAt after x place target → LinkAt state x place target
     link_before x (slot n) target link = link
     link_before x (property n) target link = link
+
+    still_dead : (block : ℕ) → HasDead layout after block → HasDead layout state block
+    still_dead block (dead_cell c within of_block is) = dead_cell c within of_block is
+    still_dead block (dead_array a within of_block is) = dead_array a within of_block is
 
     no_colour : (c : ℕ) → OwesColour (w.part me).duty c → ⊥
     no_colour c owes = subst (λ (d : Duty). OwesColour d c) idle owes
@@ -127,9 +135,10 @@ module _ (layout : Layout) (shapes : ShapeLists) (w : World) (me : ℕ) (inside 
       beyond = λ marks x n target link past. inr (link, subst (λ (word : ℕ). count_of word ≤ n) (structure x) past);
       awaited = λ c owes. absurd (no_colour c owes);
       growth = subst (GrowthKnows new after me (later owed)) (sym grows_not) tt;
-      growths = λ p apart. growth_kept w.heap new state after p (w.part p) (w.part p) (λ c.
-          s.same region.Structure c refl)
-          (λ c. subst (λ (l : List ℕ). Contains l c) (sym (s.claims_else p apart))) (λ c x o. o) (λ c x o. o)
+      growths = λ p apart. growth_kept w.heap new state after p (w.part p) (w.part p) (λ c mine.
+          s.same region.Structure c refl) (λ c mine. s.same region.Array c refl)
+          (λ c. subst (λ (l : List ℕ). Contains l c) (sym (s.claims_else p apart))) (λ c a mine is. is)
+          (λ c x o. o) (λ c x o. o) (λ i x o. o)
           (w.part p).growth (wave.growths.knows p);
       owns = λ p at index apart. own_still p at index apart;
       hidden = λ p c apart alive h. let now = s.hidden p c apart alive h in record {
@@ -141,6 +150,12 @@ module _ (layout : Layout) (shapes : ShapeLists) (w : World) (me : ℕ) (inside 
         linked = λ x place link. h.linked x place (link_before x place c link);
         blank = λ place target link. h.blank place target (link_before c place target link);
       };
+      stands = arrays_kept layout w.heap new state after structure (λ c. s.same region.Array c refl) (λ i.
+          s.same region.Elements i refl) (λ array. refl) (λ c array alive is.
+          (alive, refl, refl, refl)) wave.arrays;
+      inactive = put_at_elim (λ p u. u.left ≡ not (active p)) w.part me (later owed) s.left_is
+          (λ p apart. wave.left p ∙ ap not (sym (s.active_else p apart)));
+      dead = λ block has. still_dead block has;
     }
 
     pub plain_call : RunningWave layout shapes (record {
@@ -165,6 +180,8 @@ module _ (layout : Layout) (shapes : ShapeLists) (w : World) (me : ℕ) (inside 
       period = s.same region.Period 0 refl;
       calls = s.told;
       held = refl;
+      round = refl;
+      sweeping = refl;
       scan = refl;
       known = refl;
       full = refl;

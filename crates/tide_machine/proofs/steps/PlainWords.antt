@@ -2,7 +2,7 @@
 -- operation.
 use Rattle.std.proofs.Common.{ℕ, ◌≡◌, ◌≢◌, ◌<◌, ◌==◌, refl, sym, ◌∙◌, ap, subst, arith, Bool, true, false, List, [], ◌∷◌, ◌++◌, inl, inr, None}
 use Rattle.std.proofs.lemmas.Bool.{cases_Bool, eqb-true, ne_eqb, and_parts}
-use Rattle.std.specs.Prelude.{Contains, if◌then◌else◌, ◌&&◌}
+use Rattle.std.specs.Prelude.{Contains, if◌then◌else◌, ◌&&◌, not}
 use Rattle.tide_core.specs.FrozenWave.{is_birth_of}
 use Rattle.tide_layout.proofs.Places.{tag-injective}
 use Rattle.tide_layout.specs.Region.{tag}
@@ -73,6 +73,8 @@ module _ (layout : Layout) (shapes : ShapeLists) (w : World) (me : ℕ) (inside 
     pub reads : ReadsAs layout shapes (write wave.words.settled there idx word) after
     pub alone : (p : ℕ) → p ≢ me → IsOwnWord layout state p there idx → ⊥
     pub claims_else : (p : ℕ) → p ≢ me → claims p ≡ state.claims p
+    pub active_else : (p : ℕ) → p ≢ me → active p ≡ state.active p
+    pub left_is : left ≡ not (active me)
     pub hidden : (p c : ℕ) → p ≢ me → IsLive state c → IsHidden state p c →
         ((who register : ℕ) → who ≢ p → active who ≡ true → registers who register ≡ Cell c → ⊥)
         × ((handle : ℕ) → strong handle ≡ Cell c → ⊥) × ((handle : ℕ) → weak handle ≡ Cell c → ⊥) ×
@@ -151,5 +153,7 @@ module _ (layout : Layout) (shapes : ShapeLists) (w : World) (me : ℕ) (inside 
           told = calls_view layout w.heap new w.part me later refl (λ p.
               write-other_region w.heap there region.Call idx p word s.no_call) wave.calls;
           claims_else = s.claims_else;
+          active_else = s.active_else;
+          left_is = s.left_is;
           hidden = s.hidden;
         }

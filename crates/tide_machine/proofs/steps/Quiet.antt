@@ -6,10 +6,12 @@ use Rattle.tide_core.specs.FrozenWave.{is_born_in_cycle}
 use Rattle.tide_layout.specs.Region.{cell_block_count}
 use Rattle.tide_layout.specs.declared.region.Region.{Region}
 use Rattle.tide_layout.specs.declared.region.Region.TheVariants as region
+use Rattle.tide_machine.proofs.steps.ArraysKept.{arrays_kept}
 use Rattle.tide_machine.proofs.steps.Frames.{each_put}
 use Rattle.tide_machine.proofs.steps.GrowthsKept.{growth_kept}
 use Rattle.tide_machine.proofs.steps.ScansKept.{scan_kept}
 use Rattle.tide_machine.proofs.steps.Steps.{any_step}
+use Rattle.tide_machine.proofs.steps.SweepsKept.{swept_kept, sweeps_kept}
 use Rattle.tide_machine.specs.Duties.{IsCalm, OwesBarrier, GrowsAndOwes, OwesColour}
 use Rattle.tide_machine.specs.Owed.{owed_word, Owes, IsOwnWord}
 use Rattle.tide_machine.specs.RunningWave.{RunningWave}
@@ -27,6 +29,7 @@ use Rattle.tide_machine.specs.points.Marks.{counted_in}
 use Rattle.tide_machine.specs.points.Scans.{IsAtHand, ScanKnows}
 use Rattle.tide_machine.specs.points.Seen.{CallsAreTold}
 use Rattle.tide_machine.specs.points.SettledWords.{RunningWordsRead}
+use Rattle.tide_machine.specs.points.Witness.{GreyIsLeft}
 use Rattle.tide_model.proofs.ReferenceLaws.{put_at_elim}
 use Rattle.tide_model.specs.Cycle.{cycle_span}
 use Rattle.tide_model.specs.Graph.{IsRetained, no_cell}
@@ -64,9 +67,13 @@ module _ (layout : Layout) (shapes : ShapeLists) (old : Heap) (part : ℕ → Vi
     pub marks : w.marks ≡ (part me).marks
     pub cycle : w.cycle ≡ (part me).cycle
     pub begun : w.begun ≡ (part me).begun
+    pub left : w.left ≡ (part me).left
+    pub sweeping : w.sweeping ≡ (part me).sweeping
     pub ran : (part me).runs ≡ true
     pub runs : w.runs ≡ true
     pub period : new region.Period 0 ≡ old region.Period 0
+    pub swept : (block : ℕ) → new region.Swept block ≡ old region.Swept block
+    pub waits : GreyIsLeft layout new (put_at part me w)
     pub calls : CallsAreTold layout new (put_at part me w)
     -- colours and holders
     pub colours : NoLaterColours layout new
@@ -162,9 +169,13 @@ module _ (layout : Layout) (shapes : ShapeLists) (old : Heap) (part : ℕ → Vi
     growth_same : (p : ℕ) (u : View) → u.owed ≡ (part p).owed → u.growth ≡ (part p).growth →
         GrowthKnows new (state_after layout log) p u u.growth
     growth_same p u same_owed same_growth = subst (GrowthKnows new (state_after layout log) p u) (sym same_growth)
-        (growth_kept old new (state_after layout log) (state_after layout log) p (part p) u structure (λ c at. at)
-        (λ c x. owes region.Structure c x) (λ c x. owes region.Array c x) (part p).growth (wave.growths.knows p))
+        (growth_kept old new (state_after layout log) (state_after layout log) p (part p) u (λ c mine. structure c)
+        (λ c mine. s.words region.Array c refl) (λ c at. at) (λ c a mine is. is) (λ c x. owes region.Structure c x)
+        (λ c x. owes region.Array c x) (λ i x. owed_before region.Elements i x) (part p).growth (wave.growths.knows p))
       where
+        owed_before : (at : Region) (index word : ℕ) → Owes u at index word → Owes (part p) at index word
+        owed_before at index word = subst (λ (o : List Owed). Contains o (owed_word at index word)) same_owed
+
         owes : (at : Region) (index word : ℕ) → Owes (part p) at index word → Owes u at index word
         owes at index word = subst (λ (o : List Owed). Contains o (owed_word at index word)) (sym same_owed)
 
@@ -184,6 +195,15 @@ module _ (layout : Layout) (shapes : ShapeLists) (old : Heap) (part : ℕ → Vi
       finds = λ block moment at. wave.kept.full me block moment
           (subst (λ (o : List Found). Contains o (found block moment)) s.full at);
       period = s.period;
+      begins = (let b = wave.numbers.begun me in let e = s.begun in omega (arith, b, e));
+      left = s.left;
+      waits = s.waits;
+      stands = arrays_kept layout old new (state_after layout log) (state_after layout log) structure (λ c.
+          s.words region.Array c refl) (λ i. s.words region.Elements i refl) (λ array. refl) (λ c array alive is.
+          (alive, refl, refl, refl)) wave.arrays;
+      swept = swept_kept layout old new (s.words region.Phase 0 refl) (λ block within. s.swept block) wave.swept;
+      sweeps = sweeps_kept layout old new part me w (state_after layout log) (state_after layout log)
+          (s.words region.Phase 0 refl) s.swept s.sweeping (λ block has. has) wave.sweeps;
       told = λ is. (let t = wave.numbers.told me s.ran in (s.marks ∙ t.0, s.cycle ∙ t.1, s.begun ∙ t.2));
       calls = s.calls;
       empties = λ is. (let runs = s.runs in absurd (cc));

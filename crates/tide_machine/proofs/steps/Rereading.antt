@@ -6,6 +6,7 @@ use Rattle.tide_layout.specs.declared.region.Region.TheVariants as region
 use Rattle.tide_machine.proofs.kinds.Scanning.{still_open-is, still_open-holds}
 use Rattle.tide_machine.proofs.steps.Frames.{calls_view}
 use Rattle.tide_machine.proofs.steps.Quiet.{quiet_step}
+use Rattle.tide_machine.proofs.steps.Waiting.{left_quiet}
 use Rattle.tide_machine.specs.Duties.{OwesBarrier}
 use Rattle.tide_machine.specs.RunningWave.{RunningWave}
 use Rattle.tide_machine.specs.Scanning.{IsTrue, IsStill, IsUnread, Place, slot, property, still_open}
@@ -73,6 +74,11 @@ module _ (layout : Layout) (shapes : ShapeLists) (w : World) (me : ℕ) (inside 
         refl;
     begun = refl;
     period = refl;
+    left = refl;
+    sweeping = refl;
+    swept = λ block. refl;
+    waits = left_quiet layout w.heap w.heap w.part me (with_scan (w.part me) after) refl refl (λ _ c in_c is. is) (λ c
+        is. is) refl refl refl refl wave.waits;
     calls =
         calls_view layout w.heap w.heap w.part me (with_scan (w.part me) after) refl (λ p. refl) wave.calls;
     ran = runs;

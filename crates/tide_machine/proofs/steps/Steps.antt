@@ -19,6 +19,7 @@ use Rattle.tide_machine.specs.declared.view.Growth.TheVariants as growth
 use Rattle.tide_machine.specs.declared.view.Scan.{Scan}
 use Rattle.tide_machine.specs.declared.view.Target.{Target}
 use Rattle.tide_machine.specs.declared.view.View.{View}
+use Rattle.tide_machine.specs.points.Arrays.{ArraysStand}
 use Rattle.tide_machine.specs.points.Births.{RunningBornIsMarked, AwaitsColour}
 use Rattle.tide_machine.specs.points.Growths.{GrowthKnows}
 use Rattle.tide_machine.specs.points.Links.{IsExcused, Excuses, ScanExcuses, LinkAt}
@@ -26,6 +27,8 @@ use Rattle.tide_machine.specs.points.Marks.{counted_in}
 use Rattle.tide_machine.specs.points.Scans.{IsAtHand, ScanKnows}
 use Rattle.tide_machine.specs.points.Seen.{CallsAreTold}
 use Rattle.tide_machine.specs.points.SettledWords.{RunningWordsRead}
+use Rattle.tide_machine.specs.points.Sweeps.{SweptAreBelow, SweepsAreNamed}
+use Rattle.tide_machine.specs.points.Witness.{GreyIsLeft}
 use Rattle.tide_model.proofs.ReferenceLaws.{put_at_elim}
 use Rattle.tide_model.specs.Cycle.{cycle_span}
 use Rattle.tide_model.specs.Graph.{IsRetained, no_cell}
@@ -69,10 +72,12 @@ module _ (layout : Layout) (shapes : ShapeLists) (old : Heap) (part : ℕ → Vi
         (moment ≤ length log) × IsFullBlock layout (state_at layout log moment) block
     pub told : w.runs ≡ true → (w.marks ≡ is_marking old) × (w.cycle ≡ running_cycle old) ×
         (w.begun ≡ old region.Period 0)
+    pub begins : w.begun ≤ old region.Period 0
+    pub left : w.left ≡ (part me).left
     pub calls : CallsAreTold layout new (put_at part me w)
     pub empties : w.runs ≡ false → (w.held ≡ []) × (w.scan ≡ None) × (w.owed ≡ []) × (w.duty ≡ duty.Nothing) ×
         (w.growth ≡ growth.Nothing)
-        × (w.known ≡ []) × (w.full ≡ []) × (w.calls ≡ length w.mine)
+        × (w.known ≡ []) × (w.full ≡ []) × (w.calls ≡ length w.mine) × (w.sweeping ≡ None)
     -- colours and holders
     pub colours : NoLaterColours layout new
     pub balance : is_marking old ≡ true → (cell : ℕ) → cell < cell_count layout →
@@ -89,6 +94,11 @@ module _ (layout : Layout) (shapes : ShapeLists) (old : Heap) (part : ℕ → Vi
         ScanKnows layout new (state_after layout log) scan
         × ((cell : ℕ) → Contains scan.buffer cell → IsTrue scan (new region.Structure scan.cell) →
         (cycle_span layout log).link scan.cell cell)
+    -- what is left for the visitors, arrays, and sweeps
+    pub waits : GreyIsLeft layout new (put_at part me w)
+    pub stands : ArraysStand layout new (state_after layout log)
+    pub swept : SweptAreBelow layout new
+    pub sweeps : SweepsAreNamed layout new (put_at part me w) (state_after layout log)
     -- growths
     pub growth : GrowthKnows new (state_after layout log) me w w.growth
     pub growths : (p : ℕ) → p ≢ me → GrowthKnows new (state_after layout log) p (part p) (part p).growth
@@ -202,6 +212,9 @@ module _ (layout : Layout) (shapes : ShapeLists) (old : Heap) (part : ℕ → Vi
             (u.begun ≡ new region.Period 0)) part me w
             (λ is. let t = s.told is in (t.0 ∙ sym marking, t.1 ∙ sym running, t.2 ∙ sym s.period))
             (λ p is. let t = wave.numbers.told p is in (t.0 ∙ sym marking, t.1 ∙ sym running, t.2 ∙ sym s.period));
+        begun = each_put (λ p u. u.begun ≤ new region.Period 0) part me w
+            (let b = s.begins in let e = s.period in omega (arith, b, e))
+            (λ p. let b = wave.numbers.begun p in let e = s.period in omega (arith, b, e));
       };
       words = s.words;
       refs = wave.refs;
@@ -274,6 +287,13 @@ module _ (layout : Layout) (shapes : ShapeLists) (old : Heap) (part : ℕ → Vi
             ScanKnows layout new (state_after layout log) scan) part me w
             (λ scan is. (s.scanned scan is).1) (λ p apart scan is. s.scans p scan apart is);
       };
+      waits = s.waits;
+      arrays = s.stands;
+      bare = wave.bare;
+      swept = s.swept;
+      sweeps = s.sweeps;
+      left = each_put (λ p u. u.left ≡ not ((state_after layout log).active p)) part me w (s.left ∙ wave.left me)
+          wave.left;
       grows = record {
         beyond = λ marks source n cell link past. elim (s.beyond (sym marking ∙ marks) source n cell link past) [
           | inl mine ↦ (me, subst (λ (u : View). GrowsAndOwes u source) (sym (put_here part me w)) mine)
@@ -308,6 +328,8 @@ module _ (layout : Layout) (shapes : ShapeLists) (old : Heap) (part : ℕ → Vi
         full = each_put (λ p u. u.runs ≡ false → u.full ≡ []) part me w (λ is. (s.empties is).6) wave.parked.full;
         calls = each_put (λ p u. u.runs ≡ false → u.calls ≡ length u.mine) part me w (λ is.
             (s.empties is).7) wave.parked.calls;
+        sweeping = each_put (λ p u. u.runs ≡ false → u.sweeping ≡ None) part me w (λ is.
+            (s.empties is).8) wave.parked.sweeping;
       };
     }
       where

@@ -1,5 +1,6 @@
 -- Store plain word: the claimer of a table loads or stores the word of a pair, and a mutator stores a group word.
-use Rattle.std.specs.Prelude.{ℕ, ◌≡◌, ◌∷◌, true, Contains, Option, None, Some}
+use Rattle.std.specs.Prelude.{ℕ, ◌≡◌, ◌∷◌, [], true, Contains, Option, None, Some}
+use Rattle.tide_call.specs.CallWords.{IsPlaceFor, HasPairAt}
 use Rattle.tide_layout.specs.Slots.{index_of_slot, HasSlot}
 use Rattle.tide_layout.specs.declared.region.Region.TheVariants as region
 use Rattle.tide_machine.specs.May.{RunsAsMutator, MayCall, called}
@@ -29,24 +30,43 @@ pub record IsOwnPair (layout : Layout) (w : World) (me table place : ℕ) : Type
   pub is_one : is_table layout table ≡ true
   pub has : HasSlot layout table place
 
--- a pair's word is loaded by the claimer of its table
+-- a pair's word is loaded by the claimer of its table, which owes nothing, or seen by PairGet
 abbrev pub MayLoadPair : Layout → ShapeLists → World → ℕ → ℕ → ℕ → ℕ → Option Op → Type 0
-MayLoadPair layout shapes w me table place read None = RunsAsMutator layout w me × IsOwnPair layout w me table place
+MayLoadPair layout shapes w me table place read None =
+    RunsAsMutator layout w me × IsOwnPair layout w me table place × ((w.part me).owed ≡ [])
 MayLoadPair layout shapes w me table place read (Some (PairGet dst src key)) =
     IsOwnPair layout w me table place × ((state_after layout w.log).registers me src ≡ Cell table)
     × MayCall layout shapes w me (PairGet dst src key) (Seen (value_of_pair read)) None
 MayLoadPair layout shapes w me table place read (Some _) = ⊥
 
+-- PairSet stores a pair of the key's cell, at the place that the cell has, or else at the first that is empty
+pub record SetsPair (layout : Layout) (shapes : ShapeLists) (w : World) (me table place word src key val : ℕ) : Type 0
+  where
+    pub own : IsOwnPair layout w me table place
+    pub source : (state_after layout w.log).registers me src ≡ Cell table
+    pub cell : ℕ
+    pub is_key : (state_after layout w.log).registers me key ≡ Cell cell
+    pub is_word : word ≡ pair_word cell ((state_after layout w.log).registers me val)
+    pub is_place : IsPlaceFor layout w.heap (state_after layout w.log) table place cell
+    pub may : MayCall layout shapes w me (PairSet src key val) Done None
+
+-- PairDel stores 0 at the place of the key's cell
+pub record DropsPair (layout : Layout) (shapes : ShapeLists) (w : World) (me table place word src key : ℕ) : Type 0
+  where
+    pub own : IsOwnPair layout w me table place
+    pub source : (state_after layout w.log).registers me src ≡ Cell table
+    pub cell : ℕ
+    pub is_key : (state_after layout w.log).registers me key ≡ Cell cell
+    pub is_word : word ≡ 0
+    pub has_pair : HasPairAt layout w.heap table place cell
+    pub may : MayCall layout shapes w me (PairDel src key) Done None
+
 -- it is stored by PairSet and PairDel
 abbrev pub MayStorePair : Layout → ShapeLists → World → ℕ → ℕ → ℕ → ℕ → Option Op → Type 0
 MayStorePair layout shapes w me table place word (Some (PairSet src key val)) =
-    IsOwnPair layout w me table place × ((state_after layout w.log).registers me src ≡ Cell table)
-    × ((cell : ℕ) → (state_after layout w.log).registers me key ≡ Cell cell →
-    word ≡ pair_word cell ((state_after layout w.log).registers me val))
-    × MayCall layout shapes w me (PairSet src key val) Done None
+    SetsPair layout shapes w me table place word src key val
 MayStorePair layout shapes w me table place word (Some (PairDel src key)) =
-    IsOwnPair layout w me table place × ((state_after layout w.log).registers me src ≡ Cell table) × (word ≡ 0)
-    × MayCall layout shapes w me (PairDel src key) Done None
+    DropsPair layout shapes w me table place word src key
 MayStorePair layout shapes w me table place word _ = ⊥
 
 -- a group word is stored by Group

@@ -1,11 +1,11 @@
 -- Store structure: a growth stores its cell's new structure, or Add does where the array has room; the claimer of a
--- cell
--- loads its structure's word.
-use Rattle.std.specs.Prelude.{ℕ, ◌≡◌, ◌+◌, ◌∷◌, ◌++◌, [], length, Option, None, Some}
+-- cell loads its structure's word.
+use Rattle.std.specs.Prelude.{ℕ, ◌≡◌, ◌+◌, ◌∷◌, ◌++◌, [], length, Contains, Option, None, Some}
 use Rattle.tide_call.specs.ShapeWord.{whole_word, IsShapeWord}
+use Rattle.tide_layout.specs.Slots.{index_of_element}
 use Rattle.tide_layout.specs.declared.region.Region.TheVariants as region
 use Rattle.tide_machine.specs.May.{RunsAsMutator, MayCall, called, barrier_for}
-use Rattle.tide_machine.specs.Owed.{owed_word, without_word}
+use Rattle.tide_machine.specs.Owed.{Knows, owed_word, without_word}
 use Rattle.tide_machine.specs.World.{World}
 use Rattle.tide_machine.specs.declared.view.Growth.TheVariants as growth
 use Rattle.tide_machine.specs.declared.view.View.{View}
@@ -38,9 +38,15 @@ pub record PaysStructure (layout : Layout) (w : World) (me cell word : ℕ) : Ty
   pub old : ℕ
   pub stage : (w.part me).growth ≡ growth.Stored cell array old word
 
--- Add stores the structure with one key more, where its array has room
+-- Add stores the structure with one key more, where its array has room and has the value by now
 pub record AddsInPlace (layout : Layout) (shapes : ShapeLists) (w : World) (me cell word src key val : ℕ) : Type 0 where
+  pub claimed : Contains ((state_after layout w.log).claims me) cell
   pub source : (state_after layout w.log).registers me src ≡ Cell cell
+  pub array : ℕ
+  pub is_array : ((state_after layout w.log).cells cell).array ≡ Some array
+  pub stored : Knows (w.part me) region.Elements
+      (index_of_element layout array (length ((state_after layout w.log).cells cell).keys))
+      (val_word ((state_after layout w.log).registers me val))
   pub shape : ℕ
   pub is_shape : IsShapeWord shapes (((state_after layout w.log).cells cell).keys ++ key ∷ []) shape
   pub is_word : word ≡ whole_word shape (length ((state_after layout w.log).cells cell).keys + 1)

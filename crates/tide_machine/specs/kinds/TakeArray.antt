@@ -1,13 +1,14 @@
 -- Take free bit, of an array: a growth begins, and owes the barrier, the new array's words, the array and the
 -- structure.
 use Rattle.std.specs.Int.{bit_at}
-use Rattle.std.specs.Prelude.{ℕ, ◌≡◌, ◌+◌, ◌*◌, ◌-◌, ◌<◌, ◌∷◌, [], suc, false, List, length, ◌==◌, if◌then◌else◌, Option, None, Some}
+use Rattle.std.specs.Prelude.{ℕ, ◌≡◌, ◌+◌, ◌*◌, ◌-◌, ◌<◌, ◌≤◌, ◌∷◌, ◌++◌, [], suc, Contains, List, length, ◌==◌, if◌then◌else◌, Option, None, Some}
+use Rattle.tide_call.specs.ShapeWord.{IsShapeWord, whole_word}
 use Rattle.tide_layout.specs.Region.{cell_block_count}
 use Rattle.tide_layout.specs.declared.region.Region.TheVariants as region
 use Rattle.tide_machine.specs.Entries.{class_taken}
 use Rattle.tide_machine.specs.May.{RunsAsMutator, MayCall, barrier_for}
 use Rattle.tide_machine.specs.Owed.{owed_word, owed_elements, Knows}
-use Rattle.tide_machine.specs.Words.{cell_named, count_of, is_nuked}
+use Rattle.tide_machine.specs.Words.{cell_named}
 use Rattle.tide_machine.specs.World.{World}
 use Rattle.tide_machine.specs.declared.view.Growth.TheVariants as growth
 use Rattle.tide_machine.specs.declared.view.View.{View}
@@ -22,6 +23,7 @@ use Rattle.tide_model.specs.declared.op.Op.TheVariants.{Add}
 use Rattle.tide_model.specs.declared.op.Refusal.TheVariants.{Full}
 use Rattle.tide_model.specs.declared.op.Reply.TheVariants.{Done, Refused}
 use Rattle.tide_model.specs.declared.val.Val.{Val}
+use Rattle.tide_model.specs.declared.val.Val.TheVariants.{Cell}
 use Rattle.tide_words.specs.forms.Reference.{array_word}
 use Rattle.tide_words.specs.forms.ValueWord.{val_word}
 
@@ -55,20 +57,25 @@ array_view layout log state me block k old next (Some (Add src key val)) read v 
     else searched_view log block (Some (Add src key val)) read v
 array_view layout log state me block k old next (Some _) read v = v
 
--- The mutator knows the structure's word, and the next one has one property more. The old structure is whole.
-pub record IsNextStructure (v : View) (cell old next : ℕ) : Type 0 where
-  pub knows : Knows v region.Structure cell old
-  pub even : is_nuked old ≡ false
-  pub fresh : is_nuked next ≡ false
-  pub more : count_of next ≡ count_of old + 1
+-- Add takes an array of the next class for a cell that the mutator claims, and knows the structure's word, and the next
+-- one: that of the keys with one more.
+pub record TakesArray (layout : Layout) (shapes : ShapeLists) (w : World) (me block k old next src key val : ℕ) : Type 0
+  where
+    pub is_block : cell_block_count layout ≤ block
+    pub cell : ℕ
+    pub claimed : Contains ((state_after layout w.log).claims me) cell
+    pub source : (state_after layout w.log).registers me src ≡ Cell cell
+    pub knows : Knows (w.part me) region.Structure cell old
+    pub shape : ℕ
+    pub is_shape : IsShapeWord shapes (((state_after layout w.log).cells cell).keys ++ key ∷ []) shape
+    pub is_word : next ≡ whole_word shape (length ((state_after layout w.log).cells cell).keys + 1)
+    pub may : MayCall layout shapes w me (Add src key val) Done (Some (array_at layout block k))
 
 -- a free bit of a block of arrays is cleared by Add
 abbrev pub MayTakeArray : Layout → ShapeLists → World → ℕ → ℕ → ℕ → ℕ → ℕ → ℕ → Option Op → Type 0
 MayTakeArray layout shapes w me block k old next read (Some (Add src key val)) =
     RunsAsMutator layout w me × (k < 64)
-    × (bit_at read k ≡ 1 → IsNextStructure (w.part me) (cell_named ((state_after layout w.log).registers me src)) old
-    next
-    × MayCall layout shapes w me (Add src key val) Done (Some (array_at layout block k)))
+    × (bit_at read k ≡ 1 → TakesArray layout shapes w me block k old next src key val)
     × (read ≡ 0 → MayCall layout shapes w me (Add src key val)
     (Refused (Full (class_taken (state_after layout w.log) me (Add src key val)))) None)
 MayTakeArray layout shapes w me block k old next read _ = ⊥

@@ -15,23 +15,33 @@ use Rattle.tide_words.specs.forms.Reference.{array_word}
 use Rattle.tide_words.specs.heap.Heap.{Heap}
 use Rattle.tide_words.specs.marking.Colours.{is_marking}
 
--- in a growth of a cell's array the claim is held, and the structure's word stands by the stage, and the next is owed
-pub record GrowthOn (heap : Heap) (state : State) (p : ℕ) (v : View) (cell old new word : ℕ) : Type 0 where
+-- In a growth of a cell's array the claim is held, and the array is the one that was taken. The structure's word stands
+-- by the stage, and the next is owed.
+pub record GrowthOn (heap : Heap) (state : State) (p : ℕ) (v : View) (cell array old new word : ℕ) : Type 0 where
   pub claimed : Contains (state.claims p) cell
+  pub has : (state.cells cell).array ≡ Some array
   pub stands : heap region.Structure cell ≡ word
   pub even : is_nuked old ≡ false
   pub fresh : is_nuked new ≡ false
   pub more : count_of new ≡ count_of old + 1
   pub owes : Owes v region.Structure cell new
 
--- what is known at each stage: until the array is stored, its word is owed too
+-- the view owes no element of an array
+abbrev pub OwesNoElement : View → Type 0
+OwesNoElement v = (index word : ℕ) → Owes v region.Elements index word → ⊥
+
+-- What is known at each stage: until the array is stored, its word is owed too, and once the structure is nuked, no
+-- element is.
 abbrev pub GrowthKnows : Heap → State → ℕ → View → Growth → Type 0
 GrowthKnows heap state p v growth.Nothing = Unit {0}
 GrowthKnows heap state p v (growth.Filling cell array old new) =
-    GrowthOn heap state p v cell old new old × Owes v region.Array cell (array_word (Some array))
+    GrowthOn heap state p v cell array old new old × Owes v region.Array cell (array_word (Some array))
 GrowthKnows heap state p v (growth.Nuked cell array old new) =
-    GrowthOn heap state p v cell old new (old + 1) × Owes v region.Array cell (array_word (Some array))
-GrowthKnows heap state p v (growth.Stored cell array old new) = GrowthOn heap state p v cell old new (old + 1)
+    GrowthOn heap state p v cell array old new (old + 1) × Owes v region.Array cell (array_word (Some array))
+    × OwesNoElement v
+GrowthKnows heap state p v (growth.Stored cell array old new) =
+    GrowthOn heap state p v cell array old new (old + 1) × (heap region.Array cell ≡ array_word (Some array))
+    × OwesNoElement v
 
 -- that is known of each growth
 pub record GrowthsAreRight (heap : Heap) (part : ℕ → View) (state : State) : Type 0 where
