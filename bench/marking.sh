@@ -45,22 +45,25 @@ workload() { # KIND BLOCKS
 }
 
 # The user seconds of one run: of so many runs, by their number.
-seconds() { # PROGRAM FILE COUNT
-    { time for ((i = 0; i < $3; i++)); do "$1" < "$2" > "$folder/text"; done; } 2>&1 | awk -v count="$3" '{ printf "%.4f\n", $1 / count }'
+seconds() { # FILE COUNT PROGRAM [WORD...]
+    local file=$1 count=$2
+    shift 2
+    { time for ((i = 0; i < count; i++)); do "$@" < "$file" > "$folder/text"; done; } 2>&1 | awk -v count="$count" '{ printf "%.4f\n", $1 / count }'
 }
 
 # The least of three times, each of one run or, where that is short, of twenty.
-least() { # PROGRAM FILE
-    local count=1
-    if seconds "$1" "$2" 1 | awk '{ exit !($1 < 0.2) }'; then count=20; fi
-    for _ in 1 2 3; do seconds "$1" "$2" "$count"; done | sort -n | head -n 1
+least() { # FILE PROGRAM [WORD...]
+    local file=$1 count=1
+    shift
+    if seconds "$file" 1 "$@" | awk '{ exit !($1 < 0.2) }'; then count=20; fi
+    for _ in 1 2 3; do seconds "$file" "$count" "$@"; done | sort -n | head -n 1
 }
 
 # The seconds of a chain in words.
 of_words() { # KIND BLOCKS
     echo "chain $1 $2" > "$folder/line"
     [ -x "$words" ] || return
-    if [ "$("$words" < "$folder/line")" = "chain $1 $2: as expected" ]; then least "$words" "$folder/line"; else echo "not as expected"; fi
+    if [ "$("$words" < "$folder/line")" = "chain $1 $2: as expected" ]; then least "$folder/line" "$words"; else echo "not as expected"; fi
 }
 
 # The seconds of a chain in the plain store. It has no leaps, whose tables no register reaches in that order.
@@ -68,8 +71,8 @@ of_plain() { # KIND BLOCKS
     local cells=$((320 * $2))
     [ -x "$plain" ] && [ "$1" != leaps ] || return
     workload "$1" "$2" > "$folder/load.toml"
-    if "$plain" < "$folder/load.toml" > "$folder/text" && grep -q "^cycle 1 kept $cells freed 0\$" "$folder/text" &&
-        grep -q "^cycle 2 kept 0 freed $cells: " "$folder/text"; then least "$plain" "$folder/load.toml"; else echo "not as expected"; fi
+    if "$plain" --plain < "$folder/load.toml" > "$folder/text" && grep -q "^cycle 1 kept $cells freed 0\$" "$folder/text" &&
+        grep -q "^cycle 2 kept 0 freed $cells: " "$folder/text"; then least "$folder/load.toml" "$plain" --plain; else echo "not as expected"; fi
 }
 
 echo "| Chain | Cells | Words, seconds | Plain store, seconds |"

@@ -6,6 +6,7 @@ pub mod LeftLaws
 pub mod Parting
 pub mod PartLoops
 pub mod RecordedLaws
+pub mod RoomLaws
 pub mod Running
 pub mod Sharing
 pub mod Starting

@@ -5,5 +5,6 @@ pub mod Left
 pub mod Part
 pub mod Periods
 pub mod Recorded
+pub mod Room
 pub mod Run
 pub mod Store

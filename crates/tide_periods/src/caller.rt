@@ -4,6 +4,7 @@ ghost use Rattle.tide_model.specs.Script.{is_full_reply};
 ghost use Rattle.tide_model.specs.Script.{is_retire};
 ghost use Rattle.tide_model.specs.Share.{is_asked};
 ghost use Rattle.tide_periods.specs.Asking.{next_of, standing_of, AreNew, TookReply};
+ghost use Rattle.tide_periods.specs.Room.{most_calls_of};
 
 use crate::answered::Answered;
 use crate::recorder::{append, with_room};
@@ -85,7 +86,9 @@ impl Caller {
 
 /// The most calls that a mutator with so many operations makes: each of them at most twice, as only the first refusal for
 /// room is tried again, then eight unclaims and one retirement.
-pub(crate) fn most_calls(operations: usize) -> usize {
+pub(crate) fn most_calls(operations: usize) -> usize
+    ensures { operations ≤ 65536 → result ≡ most_calls_of operations }
+{
     operations.saturating_mul(2).saturating_add(9)
 }
 
