@@ -1,0 +1,23 @@
+-- The two passes are those of the heap's two mutators.
+use Rattle.std.proofs.Common.{sym, ◌∙◌, ap}
+use Rattle.check_table.proofs.Popped.{two_popped}
+use Rattle.tide_model.specs.Layout.{Layout}
+use Rattle.check_table.proofs.starting.run_part.Goals as goal
+
+pub one_part-requires-clause-of_heap : goal.one_part-requires-clause-of_heap
+one_part-requires-clause-of_heap c =
+    let passes = c.in_ok-heap.ensures.mutators in
+    let two = two_popped c.in_ok-heap.field-0.heap.table.shared.table_id c.in_ok-heap.field-0.mutators.items
+    c.pop.new.self.items c.pop-2.new.self.items c.in-Some-Some.one c.in-Some-Some.other
+    c.in-Some-Some.ensures.items c.in-Some-Some.ensures'.items
+    (sym c.in_ok-heap.field-0.mutators.ok.0 ∙ passes.0 ∙ ap (λ (l : Layout). l.mutators) c.new-layout.ensures.layout) passes.1 in
+    (two.first, two.second)
+
+pub one_part-requires-clause-newcomers : goal.one_part-requires-clause-newcomers
+one_part-requires-clause-newcomers c =
+    let passes = c.in_ok-heap.ensures.mutators in
+    let two = two_popped c.in_ok-heap.field-0.heap.table.shared.table_id c.in_ok-heap.field-0.mutators.items
+    c.pop.new.self.items c.pop-2.new.self.items c.in-Some-Some.one c.in-Some-Some.other
+    c.in-Some-Some.ensures.items c.in-Some-Some.ensures'.items
+    (sym c.in_ok-heap.field-0.mutators.ok.0 ∙ passes.0 ∙ ap (λ (l : Layout). l.mutators) c.new-layout.ensures.layout) passes.1 in
+    (two.first_view, two.second_view)

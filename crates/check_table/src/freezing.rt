@@ -1,0 +1,72 @@
+//! The freeze code that runs over words with a history, here over a heap of shared words that stands still.
+ghost use Rattle.std.specs.Prelude.{◌≡◌, [], IfOk};
+ghost use Rattle.check_table.specs.Standing.{opened_once, StandsStill};
+ghost use Rattle.tide_report.specs.Ends.{TellsEnds};
+ghost use Rattle.tide_machine.specs.Frozen.{newcomer};
+ghost use Rattle.tide_table.specs.Started.{IsStarted};
+
+use crate::parts::{begin_part, stop_part};
+use tide_cycle::Report;
+use tide_freeze::{Births, Pacing, freeze};
+use tide_layout::Layout;
+use tide_model::Memory;
+use tide_table::{Collector, Frozen, Heap, HeapShapes, Pass, PeriodsSpent};
+use tide_words::{GreyList, MAX_CELLS};
+
+/// Opens the first part, in which the one mutator begins and stops without a call, and freezes.
+pub fn stand_still<'a, S: HeapShapes>(
+    heap: &'a Heap<S>,
+    collector: &'a mut Collector,
+    pass: &mut Pass,
+) -> Result<Frozen<'a, S>, PeriodsSpent>
+    requires own { collector.old.seat.table_id ≡ heap.now.table.shared.table_id }
+    requires of_heap { pass.old.seat.table_id ≡ heap.now.table.shared.table_id }
+    requires started { IsStarted heap.now.key.layout (S.lists heap.now.key.shapes) collector.old.seat.me.0 }
+    requires newcomer { pass.old.seat.me.0 ≡ newcomer 0 }
+    requires one { (heap.now.key.layout.mutators ≡ 1) × (heap.now.key.layout.visitors ≡ 0) }
+    ensures heap { IfOk result (λ f. f.heap.now ≡ heap.now) }
+    ensures stands { IfOk result (λ f.
+        StandsStill heap.now.key.layout (S.lists heap.now.key.shapes) 5 f.collector.now.seat.me.0) }
+{
+    collector.open(heap, 5)?;
+    begin_part(heap, collector, pass);
+    stop_part(heap, collector, pass);
+    Ok(collector.freeze(heap))
+}
+
+/// What two freezes answered: how many calls each mutator has in the part that opens next.
+#[derive(Clone, Copy, Debug, PartialEq, Eq)]
+pub struct Runs {
+    pub nothing_due: u32,
+    pub must: u32,
+}
+
+/// Freezes with nothing due, and then once more as a must. Answers both, and leaves the ends in the report.
+pub fn freeze_twice<S: HeapShapes>(
+    frozen: &mut Frozen<'_, S>,
+    layout: &Layout,
+    list: &mut GreyList,
+    report: &mut Report,
+) -> Result<Runs, Memory>
+    requires stands { StandsStill layout.now (S.lists frozen.old.heap.now.key.shapes) 5
+        frozen.old.collector.now.seat.me.0 }
+    requires layout { frozen.old.heap.now.key.layout ≡ layout.now }
+    requires empty { list.old.cells ≡ [] }
+    requires room { list.old.cap ≡ 20480 }
+    requires told { TellsEnds layout.now (opened_once 5) report.old }
+    requires no_visitors { layout.now.visitors ≡ 0 }
+{
+    let pacing = Pacing {
+        period: 8,
+        headroom: 4,
+        trigger: 0,
+    };
+    let mut births = Births::none();
+    let cells = layout.cells();
+    prove!(cells <= MAX_CELLS);
+    report.make_room(2, 2 * cells)?;
+    let nothing_due = freeze(frozen, layout, pacing, false, &mut births, list, report)?;
+    report.make_room(2, 2 * cells)?;
+    let must = freeze(frozen, layout, pacing, true, &mut births, list, report)?;
+    Ok(Runs { nothing_due, must })
+}

@@ -1,0 +1,48 @@
+//! The program `check_table`: runs parts, pauses and freezes over the table of words, on one thread, and prints what they
+//! answer.
+//!
+//! Each line of its input is one check:
+//!
+//! - `part`: two mutators begin a part, work, retire and stop; it is frozen and closed.
+//! - `chain FILE SMALL LARGE`: the heap that the facts of a file say is stored over a frozen heap, and marked in two
+//!   pauses within these budgets.
+//! - `freezes`: the freeze code runs twice over a frozen heap, with nothing due and as a must.
+#![tactic(auto)]
+
+mod chains;
+mod freezing;
+mod parts;
+mod standing;
+mod starting;
+mod telling;
+mod working;
+
+use check_heap::{Checks, System, check_lines, number, words_of};
+use std::io;
+use std::process::ExitCode;
+use telling::{tell_chain, tell_freezes, tell_part};
+
+/// The checks of this program.
+#[derive(Clone, Copy)]
+struct Program<'a, R> {
+    rt: &'a R,
+}
+
+impl<R: System> Checks for Program<'_, R> {
+    fn check(&self, line: &str) -> io::Result<bool> {
+        let rt = self.rt;
+        match *words_of(rt.alloc(), line)? {
+            ["part"] => tell_part(rt),
+            ["chain", file, small, large] => match (number(small), number(large)) {
+                (Some(small), Some(large)) => tell_chain(rt, file, [small, large]),
+                _ => Ok(false),
+            },
+            ["freezes"] => tell_freezes(rt),
+            _ => Ok(false),
+        }
+    }
+}
+
+fn main(rt: HostRuntime) -> ExitCode {
+    check_lines(&rt, &Program { rt: &rt })
+}

@@ -1,0 +1,78 @@
+//! What is done to heaps that stand still: a chain is marked, and the freeze code runs twice. It prints nothing.
+ghost use Rattle.std.specs.Prelude.{◌≡◌};
+
+use crate::chains::{Marked, mark_in_two, store_all};
+use crate::freezing::{Runs, freeze_twice, stand_still};
+use crate::starting::{Single, start_single};
+use check_heap::{Heap, layout_of, words_of};
+use std::alloc::{AllocError, Global};
+use tide_cycle::Report;
+use tide_layout::Layout;
+use tide_model::Memory;
+use tide_words::{GreyList, MAX_CELLS};
+
+/// The heap that facts say, of which the first line is its layout.
+pub fn heap_of_facts(alloc: Global, facts: &str) -> Result<Option<Heap>, AllocError> {
+    let (first, others) = facts.split_once("\n").unwrap_or((facts, ""));
+    let words = words_of(alloc, first)?;
+    let ["layout", numbers @ ..] = words.as_slice() else {
+        return Ok(None);
+    };
+    let Some(layout) = layout_of(numbers) else {
+        return Ok(None);
+    };
+    let mut heap = Heap::new(alloc, layout)?;
+    for fact in others.lines() {
+        if heap.say(words_of(alloc, fact)?.as_slice()).is_none() {
+            return Ok(None);
+        }
+    }
+    Ok(Some(heap))
+}
+
+/// Stores a chain over the words of a frozen heap of one mutator, and marks it in two pauses within these budgets.
+pub fn mark_chain(
+    alloc: Global,
+    chain: &mut Heap,
+    budgets: [u32; 2],
+) -> Result<Option<Marked>, Memory> {
+    let layout = chain.layout;
+    if layout.mutators() != 1 || layout.visitors() != 0 {
+        return Ok(None);
+    }
+    let Some(single) = start_single(alloc, layout)? else {
+        return Ok(None);
+    };
+    let Single {
+        heap,
+        mut collector,
+        mut pass,
+    } = single;
+    let mut list = GreyList::new(alloc, MAX_CELLS)?;
+    let Ok(mut frozen) = stand_still(&heap, &mut collector, &mut pass) else {
+        return Ok(None);
+    };
+    store_all(&mut frozen, &layout, chain);
+    Ok(Some(mark_in_two(&mut frozen, &layout, &mut list, budgets)))
+}
+
+/// Runs the freeze code twice over a frozen heap of one mutator: with nothing due, and as a must. The report tells the
+/// cycles that ended.
+pub fn freeze_single(alloc: Global) -> Result<Option<(Runs, Report)>, Memory> {
+    let layout = Layout::new([1, 0, 0, 0, 1], [1, 0, 0, 0, 0], 4, 2, 2, 1, 0);
+    let Some(single) = start_single(alloc, layout)? else {
+        return Ok(None);
+    };
+    let Single {
+        heap,
+        mut collector,
+        mut pass,
+    } = single;
+    let mut list = GreyList::new(alloc, MAX_CELLS)?;
+    let mut report = Report::new(alloc, 4, 256)?;
+    let Ok(mut frozen) = stand_still(&heap, &mut collector, &mut pass) else {
+        return Ok(None);
+    };
+    let runs = freeze_twice(&mut frozen, &layout, &mut list, &mut report)?;
+    Ok(Some((runs, report)))
+}

@@ -1,0 +1,75 @@
+//! Heaps that start, and the one part of two mutators that is run on one. It prints nothing.
+ghost use Rattle.std.specs.Prelude.{◌≡◌, IfOk, IfSome, vec_len};
+ghost use Rattle.tide_machine.specs.Frozen.{newcomer};
+ghost use Rattle.tide_shape.specs.Lists.{lists_of};
+ghost use Rattle.tide_table.specs.Started.{ArePasses, IsStarted};
+
+use crate::parts::{Part, one_part};
+use std::alloc::Global;
+use tide_layout::Layout;
+use tide_model::Memory;
+use tide_shape::{Paths, Shapes};
+use tide_table::{Collector, Heap, Pass, Start};
+
+/// A heap of a layout, without declared paths.
+pub fn start(alloc: Global, layout: Layout) -> Result<Start<Shapes>, Memory>
+    ensures layout { IfOk result (λ s. s.heap.key.layout ≡ layout) }
+    ensures collector { IfOk result (λ s. s.collector.seat.table_id ≡ s.heap.table.shared.table_id) }
+    ensures started { IfOk result (λ s. IsStarted layout (lists_of s.heap.key.shapes) s.collector.seat.me.0) }
+    ensures mutators { IfOk result (λ s. (vec_len s.mutators ≡ layout.mutators)
+        × ArePasses s.heap.table.shared.table_id 0 s.mutators.items) }
+{
+    let Ok(shapes) = Shapes::new(alloc, &Paths::new(alloc)) else {
+        return Err(Memory);
+    };
+    Heap::new(alloc, layout, shapes)
+}
+
+/// A heap of one mutator, with its pass.
+#[derive(Drop)]
+pub struct Single {
+    pub heap: Heap<Shapes>,
+    pub collector: Collector,
+    pub pass: Pass,
+}
+
+/// A heap of a layout that has one mutator.
+pub fn start_single(alloc: Global, layout: Layout) -> Result<Option<Single>, Memory>
+    requires one { layout.mutators ≡ 1 }
+    ensures layout { IfOk result (λ o. IfSome o (λ s. s.heap.key.layout ≡ layout)) }
+    ensures own { IfOk result (λ o. IfSome o (λ s. s.collector.seat.table_id ≡ s.heap.table.shared.table_id)) }
+    ensures of_heap { IfOk result (λ o. IfSome o (λ s. s.pass.seat.table_id ≡ s.heap.table.shared.table_id)) }
+    ensures started { IfOk result (λ o. IfSome o (λ s.
+        IsStarted layout (lists_of s.heap.key.shapes) s.collector.seat.me.0)) }
+    ensures newcomer { IfOk result (λ o. IfSome o (λ s. s.pass.seat.me.0 ≡ newcomer 0)) }
+{
+    let Start {
+        heap,
+        collector,
+        mut mutators,
+        visitors: _,
+    } = start(alloc, layout)?;
+    let Some(pass) = mutators.pop() else {
+        return Ok(None);
+    };
+    Ok(Some(Single {
+        heap,
+        collector,
+        pass,
+    }))
+}
+
+/// Runs one part of two mutators on a small heap.
+pub fn run_part(alloc: Global) -> Result<Option<Part>, Memory> {
+    let layout = Layout::new([1, 0, 0, 0, 1], [1, 0, 0, 0, 0], 4, 2, 2, 2, 0);
+    let Start {
+        heap,
+        collector,
+        mut mutators,
+        visitors: _,
+    } = start(alloc, layout)?;
+    let (Some(other), Some(one)) = (mutators.pop(), mutators.pop()) else {
+        return Ok(None);
+    };
+    Ok(one_part(heap, collector, one, other).ok())
+}

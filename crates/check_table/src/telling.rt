@@ -1,0 +1,116 @@
+//! What the checks print.
+
+use crate::parts::Told;
+use crate::standing::{freeze_single, heap_of_facts, mark_chain};
+use crate::starting::run_part;
+use check_heap::{System, number_between, numbers_text, tell, text, word_text};
+use std::alloc::{AllocError, Global};
+use std::{fs, io};
+use tide_solver::Solved;
+
+/// The word of a truth.
+fn truth(is_so: bool) -> &'static str {
+    if is_so { "yes" } else { "no" }
+}
+
+/// Prints what a mutator told: its note, and the words that it found.
+fn tell_told<R: System>(rt: &R, told: &Told) -> io::Result<()> {
+    let alloc = rt.alloc();
+    let note = told.note;
+    let part = [told.period, note.part, note.run, note.begun];
+    let part = numbers_text(alloc, &part)?;
+    let counts = numbers_text(alloc, &[note.born, note.visits])?;
+    let who = number_between(alloc, "mutator ", u64::from(note.who), ": part ")?;
+    let cycle = number_between(alloc, ", cycle ", note.cycle, ", left ")?;
+    let register = word_text(alloc, told.found.register)?;
+    let strong = word_text(alloc, told.found.strong)?;
+    let weak = word_text(alloc, told.found.weak)?;
+    let calls = number_between(alloc, ", calls ", told.found.calls, "")?;
+    tell(
+        rt,
+        &[
+            who.as_str(),
+            part.as_str(),
+            ", counted ",
+            counts.as_str(),
+            ", marks ",
+            truth(note.marking),
+            cycle.as_str(),
+            truth(note.left),
+            calls.as_str(),
+        ],
+    )?;
+    tell(
+        rt,
+        &[
+            "it found ",
+            register.as_str(),
+            " ",
+            strong.as_str(),
+            " ",
+            weak.as_str(),
+        ],
+    )
+}
+
+/// Runs one part of two mutators, and prints what they told.
+pub fn tell_part<R: System>(rt: &R) -> io::Result<bool> {
+    let Ok(Some(part)) = run_part(rt.alloc()) else {
+        return Ok(false);
+    };
+    tell_told(rt, &part.first)?;
+    tell_told(rt, &part.second)?;
+    Ok(true)
+}
+
+/// How a pause ended.
+fn pause_text(alloc: Global, solved: Option<Solved>) -> Result<String, AllocError> {
+    match solved {
+        Some(Solved::Converged { visits }) => {
+            number_between(alloc, ", converged ", u64::from(visits), "")
+        }
+        Some(Solved::More { visits }) => number_between(alloc, ", more ", u64::from(visits), ""),
+        None => text(alloc, ", no cycle marks"),
+    }
+}
+
+/// Marks the chain of a file over a frozen heap, and prints how its pauses ended.
+pub fn tell_chain<R: System>(rt: &R, file: &str, budgets: [u32; 2]) -> io::Result<bool> {
+    let alloc = rt.alloc();
+    let facts = fs::read_to_string(rt, text(alloc, file)?)?;
+    let Some(mut chain) = heap_of_facts(alloc, facts.as_str())? else {
+        return Ok(false);
+    };
+    let Ok(Some(marked)) = mark_chain(alloc, &mut chain, budgets) else {
+        return Ok(false);
+    };
+    let first = pause_text(alloc, marked.first)?;
+    let second = pause_text(alloc, marked.second)?;
+    tell(
+        rt,
+        &[
+            "begun ",
+            truth(marked.begun),
+            first.as_str(),
+            second.as_str(),
+        ],
+    )?;
+    Ok(true)
+}
+
+/// Freezes twice, and prints how many calls come next after each, and the cycles that ended.
+pub fn tell_freezes<R: System>(rt: &R) -> io::Result<bool> {
+    let alloc = rt.alloc();
+    let Ok(Some((runs, report))) = freeze_single(alloc) else {
+        return Ok(false);
+    };
+    let next = numbers_text(alloc, &[runs.nothing_due, runs.must])?;
+    tell(rt, &["next runs ", next.as_str()])?;
+    for line in report.cycles() {
+        let cycle = number_between(alloc, "cycle ", line.number, ": kept ")?;
+        let kept = number_between(alloc, "", u64::from(line.kept), " freed ")?;
+        let freed = number_between(alloc, "", u64::from(line.freed), "")?;
+        tell(rt, &[cycle.as_str(), kept.as_str(), freed.as_str()])?;
+    }
+    Ok(true)
+}

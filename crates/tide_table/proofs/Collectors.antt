@@ -1,0 +1,389 @@
+-- The collector's steps keep the rule: it freezes, stores words, enters, opens, takes notes in and gives tickets out.
+use Rattle.std.proofs.Common.{◌≡◌, ℕ, ◌+◌, ◌≤◌, ◌⊎◌, List, [], ◌∷◌, ◌++◌, length, sym, refl, ap, ◌∙◌, inl, inr, subst, arith, Bool, true, false, set, MatchBool, length-set, append-nil}
+use Rattle.std.proofs.lemmas.Bool.{cases_Bool}
+use Rattle.std.proofs.lemmas.List.Elements.{filter-append}
+use Rattle.std.specs.Prelude.{filter, if◌then◌else◌, ◌==◌, not}
+use Rattle.tide_layout.specs.Region.{word_count, place_in}
+use Rattle.tide_layout.specs.declared.region.Region.TheVariants as region
+use Rattle.tide_core.specs.FrozenWave.{FrozenWave}
+use Rattle.tide_machine.proofs.freezes.Entering.{FrozenWith-of}
+use Rattle.tide_machine.proofs.freezes.Freezing.{FrozenMachine-running}
+use Rattle.tide_machine.proofs.freezes.OpeningParts.{RunningWave-opened}
+use Rattle.tide_machine.specs.Frozen.{FrozenWith, FrozenMachine, MayOpen}
+use Rattle.tide_machine.specs.RunningWave.{RunningWave}
+use Rattle.tide_machine.specs.World.{parties, total}
+use Rattle.tide_machine.specs.declared.view.Role.TheVariants.{Collector}
+use Rattle.tide_machine.specs.declared.view.View.{View}
+use Rattle.tide_machine.specs.points.Marks.{counted_in}
+use Rattle.tide_machine.specs.points.Sweeps.{SweptAreBelow, TakenAreClean}
+use Rattle.tide_model.proofs.Histories.{IsLawful-push}
+use Rattle.tide_model.proofs.SinceLaws.{count-push}
+use Rattle.tide_model.specs.History.{is_call_of, is_open, plain, state_after}
+use Rattle.tide_model.specs.Lawful.{Stands}
+use Rattle.tide_model.specs.Layout.{Layout}
+use Rattle.tide_model.specs.Prefix.{IsPrefix, prefix_refl, prefix_trans, prefix_push}
+use Rattle.tide_model.specs.Refused.{ShapeLists}
+use Rattle.tide_model.specs.declared.entry.Entry.TheVariants.{Open}
+use Rattle.tide_model.specs.declared.entry.Event.{Event}
+use Rattle.tide_table.proofs.Beginnings.{longer_ok, same_lists}
+use Rattle.tide_table.proofs.FrozenWords.{FrozenWith-read, FrozenWith-more}
+use Rattle.tide_table.proofs.Heeding.{own, mode_of, ok_of, prefix_of, collector_step, continue_part}
+use Rattle.tide_table.proofs.Leaving.{inactive-push, active-push}
+use Rattle.tide_table.proofs.Members.{add_copy, party_cases}
+use Rattle.tide_table.proofs.Spans.{marks_read, span_of, span_entered}
+use Rattle.tide_table.proofs.Tallies.{total_few}
+use Rattle.tide_table.specs.Parties.{In, IsParty, longer, tally}
+use Rattle.tide_table.specs.Rule.{NoteOk, IsFrozen, IsRunning, Tabled}
+use Rattle.tide_table.specs.Turns.{ticket_of, noted, frozen_with, restored, entered_with, open_entry, opened}
+use Rattle.tide_words.proofs.heap_laws.HeapLaws.{reads_write, Reads-heap_of}
+use Rattle.tide_words.specs.heap.Heap.{Heap, write, Reads, heap_of}
+use lib.ListN.{get_elem?}
+use mathlib.Core.Option.{some}
+
+module _ (layout : Layout) (shapes : ShapeLists) (words : List ℕ) (views : List View) (log : List Event) (me : ℕ)
+    (v : View) (k : Tabled layout shapes words views log) (there : get_elem? views me ≡ some v)
+    (is : v.role ≡ Collector) where
+  ledger_of : tally v.period k.part v.notes ≡ v.ledger
+  ledger_of = subst (λ (x : View). tally x.period k.part x.notes ≡ x.ledger)
+      (sym (own layout shapes words views log me v k there is)) k.ledger
+
+  running_mode : v.frozen ≡ false → IsRunning layout shapes words log v k.part
+  running_mode e = subst (λ b. MatchBool b (IsFrozen layout shapes words log v k.part)
+      (IsRunning layout shapes words log v k.part)) e (mode_of layout shapes words views log me v k there is)
+
+  pub frozen_mode : v.frozen ≡ true → IsFrozen layout shapes words log v k.part
+  frozen_mode e = subst (λ b. MatchBool b (IsFrozen layout shapes words log v k.part)
+      (IsRunning layout shapes words log v k.part)) e (mode_of layout shapes words views log me v k there is)
+
+  abbrev AllIn : Type 0
+  AllIn = (i : ℕ) → IsParty layout i → In i v.notes ⊎ In i v.gone
+
+  -- all in: nobody runs, and the collector has seen all
+  all_parked : AllIn → (p : ℕ) → (k.part p).runs ≡ false
+  all_parked all_in p = elim (party_cases layout p) [
+    | inr stranger ↦ ap (λ (x : View). x.runs) (k.strangers p stranger)
+    | inl party ↦ (let o = ok_of layout shapes words views log me v k there is p party in elim (all_in p party) [
+      | inr gone ↦ (o.gone gone).1
+      | inl is_in ↦ elim (cases_Bool (k.part p).runs) [
+        | inl runs ↦ absurd (let later = o.runs runs in let now = (o.noted is_in).0 in let few = o.ticket in
+            omega (arith, later, now, few))
+        | inr rests ↦ rests
+      ]
+    ])
+  ]
+
+  all_seen : AllIn → log ≡ v.seen
+  all_seen all_in = elim k.tip [
+    | inl e ↦ e ∙ ap (λ (x : View). x.seen) (sym (own layout shapes words views log me v k there is))
+    | inr h ↦ (let o = ok_of layout shapes words views log me v k there is h.0 h.1 in same_lists log v.seen
+        (subst (λ (l : List Event). IsPrefix l v.seen) (sym h.2)
+        (elim (all_in h.0 h.1) [ inl a ↦ (o.noted a).1 | inr a ↦ (o.gone a).2 ]))
+        (prefix_of layout shapes words views log me v k there is))
+  ]
+
+  -- who isn't noted counts no visit
+  none_else : AllIn → (p : ℕ) → (In p v.notes → ⊥) → counted_in v.period (k.part p) ≡ 0
+  none_else all_in p not_in = by_test ((k.part p).begun == v.period)
+    where
+      no_visits : (k.part p).visits ≡ 0
+      no_visits = elim (party_cases layout p) [
+        | inr stranger ↦ ap (λ (x : View). x.visits) (k.strangers p stranger)
+        | inl party ↦ (let o = ok_of layout shapes words views log me v k there is p party in elim (all_in p party) [
+          | inl a ↦ absurd (not_in a)
+          | inr a ↦ o.still (o.mutator (o.gone a).0)
+        ])
+      ]
+
+      by_test : (b : Bool) → (if b then (k.part p).visits else 0) ≡ 0
+      by_test true = no_visits
+      by_test false = refl
+
+  enough : AllIn → total (counted_in v.period) k.part ≤ v.ledger
+  enough all_in = (let most = total_few (λ p. counted_in v.period (k.part p)) v.notes (none_else all_in) parties in
+      let t = ledger_of in omega (arith, most, t))
+
+  -- all have stopped: the collector has the words to itself, and they meet the wave at a freeze with the history that it
+  -- has seen
+  pub freeze_all : v.frozen ≡ false → AllIn → FrozenWith layout shapes (heap_of layout words) v.seen v.ledger
+      × (length words ≡ word_count layout)
+      × Tabled layout shapes words (set views me (frozen_with words v)) log
+  freeze_all thawed all_in =
+      let run = running_mode thawed in
+      let seen = all_seen all_in in
+      let machine : FrozenMachine layout shapes (record { heap = run.heap; part = k.part; log = log })
+      (total (counted_in (run.heap region.Period 0)) k.part) =
+      FrozenMachine-running layout shapes (record { heap = run.heap; part = k.part; log = log }) run.wave
+      (all_parked all_in) in (
+        FrozenWith-more layout shapes (heap_of layout words) v.seen (total (counted_in v.period) k.part) v.ledger
+            (enough all_in)
+            (subst (λ (n : ℕ). FrozenWith layout shapes (heap_of layout words) v.seen (total (counted_in n) k.part))
+            run.period
+            (subst (λ (l : List Event). FrozenWith layout shapes (heap_of layout words) l
+            (total (counted_in (run.heap region.Period 0)) k.part)) seen
+            (FrozenWith-read layout shapes words run.heap log (total (counted_in (run.heap region.Period 0)) k.part)
+            run.reads machine.wave))),
+        run.reads.all_words,
+        continue_part layout shapes words views log me v k there is (frozen_with words v) words log
+            record {
+              role = is;
+              next = refl;
+              period = refl;
+              marks = refl;
+              cycle = refl;
+              run = refl;
+              seen = prefix_refl v.seen;
+              ledger = ledger_of;
+              notes = λ i l a. inl a;
+              stays = λ i a. a;
+              gone = λ i l a. inl a;
+            }
+            (prefix_refl log) (prefix_of layout shapes words views log me v k there is) k.retired (inl seen)
+            record {
+              words_are = refl;
+              long = run.reads.all_words;
+              seen_all = seen;
+              lawful = run.wave.lawful;
+              counts = sym run.period ∙ run.wave.numbers.periods;
+              span = span_of layout run.heap log
+                  (λ marks. sym (marks_read layout shapes run.heap log machine.wave.marking.reads) ∙ marks) run.wave.span;
+              known = run.wave.known;
+              begun = λ p. (let b = run.wave.numbers.begun p in let now = run.period in omega (arith, b, now));
+              left = run.wave.left;
+              empty = run.wave.parked;
+              all_in = all_in;
+            },
+      )
+
+  -- a store of the collector while frozen
+  pub frozen_store : (at x : ℕ) → v.frozen ≡ true → Tabled layout shapes (set words at x) (set views me (restored at x v)) log
+  frozen_store at x shut =
+      let now = frozen_mode shut in
+      continue_part layout shapes words views log me v k there is (restored at x v) (set words at x) log
+      record {
+        role = is;
+        next = refl;
+        period = refl;
+        marks = refl;
+        cycle = refl;
+        run = refl;
+        seen = prefix_refl v.seen;
+        ledger = ledger_of;
+        notes = λ i l a. inl a;
+        stays = λ i a. a;
+        gone = λ i l a. inl a;
+      }
+      (prefix_refl log) (prefix_of layout shapes words views log me v k there is) k.retired (inl now.seen_all)
+      (subst (λ b. MatchBool b (IsFrozen layout shapes (set words at x) log (restored at x v) k.part)
+      (IsRunning layout shapes (set words at x) log (restored at x v) k.part)) (sym shut)
+      record {
+        words_are = ap (λ ws. set ws at x) now.words_are;
+        long = length-set words at x ∙ now.long;
+        seen_all = now.seen_all;
+        lawful = now.lawful;
+        counts = now.counts;
+        span = now.span;
+        known = now.known;
+        begun = now.begun;
+        left = now.left;
+        empty = now.empty;
+        all_in = now.all_in;
+      })
+
+  -- an entry of the collector's own
+  pub enter : (event : Event) → v.frozen ≡ true → Stands layout shapes v.seen event →
+      ((p : ℕ) → is_call_of p event.entry ≡ false) → is_open event.entry ≡ false →
+      Tabled layout shapes words (set views me (entered_with event v)) (log ++ event ∷ [])
+  enter event shut stands no_call no_open =
+      let now = frozen_mode shut in
+      let w = entered_with event v in
+      let seen : log ++ event ∷ [] ≡ w.seen = ap (λ (l : List Event). l ++ event ∷ []) now.seen_all in
+      continue_part layout shapes words views log me v k there is w words (log ++ event ∷ [])
+      record {
+        role = is;
+        next = refl;
+        period = refl;
+        marks = refl;
+        cycle = refl;
+        run = refl;
+        seen = prefix_push v.seen event;
+        ledger = ledger_of;
+        notes = λ i l a. inl a;
+        stays = λ i a. a;
+        gone = λ i l a. inl a;
+      }
+      (prefix_push log event)
+      (subst (λ (l : List Event). IsPrefix l (log ++ event ∷ [])) seen (prefix_refl (log ++ event ∷ [])))
+      (λ i left. inactive-push layout log event i (k.retired i left)) (inl seen)
+      (subst (λ b. MatchBool b (IsFrozen layout shapes words (log ++ event ∷ []) w k.part)
+      (IsRunning layout shapes words (log ++ event ∷ []) w k.part)) (sym shut)
+      record {
+        words_are = now.words_are;
+        long = now.long;
+        seen_all = seen;
+        lawful = IsLawful-push layout shapes log event now.lawful
+            (subst (λ (l : List Event). Stands layout shapes l event) (sym now.seen_all) stands);
+        counts = (let counted = count-push (λ (e : Event). is_open e.entry) log event in
+            let none = ap {B = ℕ} (λ (b : Bool). if b then 1 else 0) no_open in
+            let before = now.counts in
+            omega (arith, counted, none, before));
+        span = span_entered layout shapes log event.took now.span event.entry no_call
+            (IsLawful-push layout shapes log event now.lawful
+            (subst (λ (l : List Event). Stands layout shapes l event) (sym now.seen_all) stands));
+        known = record {
+          who = now.known.who;
+          seen = λ p. prefix_trans (k.part p).seen log (log ++ event ∷ []) (now.known.seen p) (prefix_push log event);
+          own = λ p. filter-append (λ (e : Event). is_call_of p e.entry) log (event ∷ [])
+              ∙ ap (λ (b : Bool). filter (λ (e : Event). is_call_of p e.entry) log ++ (if b then event ∷ [] else []))
+              (no_call p)
+              ∙ append-nil (filter (λ (e : Event). is_call_of p e.entry) log) ∙ now.known.own p;
+          told = now.known.told;
+        };
+        begun = now.begun;
+        left = λ p. now.left p ∙ ap not (sym (active-push layout log event p (no_call p)));
+        empty = now.empty;
+        all_in = now.all_in;
+      })
+
+  -- the next part is opened where the words meet the wave at a freeze, with nothing left to enter
+  pub open_next : (run : ℕ) → v.frozen ≡ true → FrozenWave layout shapes (heap_of layout v.words) v.seen →
+      SweptAreBelow layout (heap_of layout v.words) →
+      TakenAreClean layout (heap_of layout v.words) (state_after layout v.seen) →
+      MayOpen layout (heap_of layout v.words) run →
+      Tabled layout shapes (set words (place_in layout region.Period 0) (v.period + 1)) (set views me (opened layout run v))
+      (log ++ open_entry run v ∷ [])
+  open_next run shut owed swept clean may =
+      let now = frozen_mode shut in
+      let w = opened layout run v in
+      let event = open_entry run v in
+      let all_in : AllIn = now.all_in in
+      let heap : Heap = heap_of layout v.words in
+      let seen : log ++ event ∷ [] ≡ w.seen = ap (λ (l : List Event). l ++ event ∷ []) now.seen_all in
+      let reads : Reads layout words heap = subst (λ (ws : List ℕ). Reads layout ws heap) (sym now.words_are)
+      (Reads-heap_of layout v.words (ap length (sym now.words_are) ∙ now.long)) in
+      let met = subst (λ (l : List Event). FrozenWave layout shapes heap l) (sym now.seen_all) owed in
+      let wave = RunningWave-opened layout shapes (record { heap = heap; part = k.part; log = log }) run record {
+        wave = FrozenWith-of layout shapes heap log now.lawful
+            (now.span heap (λ marks. marks_read layout shapes heap log met.marking.reads ∙ marks)) swept
+            (subst (λ (l : List Event). TakenAreClean layout heap (state_after layout l)) (sym now.seen_all) clean) met;
+        known = now.known;
+        begun = λ p. (let b = now.begun p in let counts = now.counts in let period = met.period in
+            omega (arith, b, counts, period));
+        left = now.left;
+        stopped = all_parked all_in;
+        parked = now.empty;
+      } may in
+      collector_step layout shapes words views log me v k there is w
+      (set words (place_in layout region.Period 0) (v.period + 1)) (log ++ event ∷ []) is (omega arith) refl
+      (prefix_push log event)
+      (λ i l x h. record {
+        behind = h.behind;
+        now = λ e. absurd (let a = h.behind in let o = ok_of layout shapes words views log me v k there is i l in
+            let b = o.behind in let c = o.ticket in omega (arith, a, b, c, e));
+      })
+      (λ x h e. absurd (let a = h.behind in omega (arith, a, e)))
+      (λ i l. let o = ok_of layout shapes words views log me v k there is i l in record {
+        role = o.role;
+        behind = o.behind;
+        close = elim (all_in i l) [ inl a ↦ inr (let b = (o.noted a).0 in omega (arith, b)) | inr a ↦ inl a ];
+        ticket = (let t = o.ticket in omega (arith, t));
+        runs = o.runs;
+        told = λ e. absurd (let t = o.ticket in omega (arith, t, e));
+        still = o.still;
+        mutator = o.mutator;
+        noted = λ a. absurd a;
+        gone = λ a. (let g = o.gone a in
+            (g.0, g.1, prefix_trans (k.part i).seen v.seen w.seen g.2 (prefix_push v.seen event), g.3));
+      })
+      (subst (λ (l : List Event). IsPrefix l (log ++ event ∷ [])) seen (prefix_refl (log ++ event ∷ [])))
+      (λ i left. inactive-push layout log event i (k.retired i left)) (inl seen) refl
+      record {
+        heap = write heap region.Period 0 (v.period + 1);
+        reads = reads_write layout words heap region.Period 0 (v.period + 1) reads (omega arith);
+        wave = subst (λ (n : ℕ). RunningWave layout shapes (record {
+          heap = write heap region.Period 0 (n + 1);
+          part = k.part;
+          log = log ++ plain (Open (n + 1) run) ∷ [];
+        })) (sym now.counts) wave;
+        period = refl;
+        marks = refl;
+        cycle = refl;
+      }
+
+  -- it takes in a note of the part that is open
+  pub note_in : (u : View) → v.frozen ≡ false → IsParty layout u.who → NoteOk v (k.part u.who) u → u.period ≡ v.period →
+      Tabled layout shapes words (set views me (noted v u)) log
+  note_in u thawed party note now_part =
+      let run = running_mode thawed in
+      let o = ok_of layout shapes words views log me v k there is u.who party in
+      let same = note.now now_part in
+      let period : (k.part u.who).period ≡ v.period = (let a = note.behind in let b = o.behind in let c = o.ticket in
+      omega (arith, a, b, c, now_part)) in
+      let heard : IsPrefix u.seen log = subst (λ (l : List Event). IsPrefix l log) same.0 (run.wave.known.seen u.who) in
+      let long = longer_ok log v.seen u.seen (prefix_of layout shapes words views log me v k there is) heard in
+      let all : IsPrefix (k.part u.who).seen (longer v.seen u.seen) =
+      subst (λ (l : List Event). IsPrefix l (longer v.seen u.seen)) (sym same.0) long.other in
+      let stopped : (k.part u.who).runs ≡ false = elim (cases_Bool (k.part u.who).runs) [
+        | inl runs ↦ absurd (let later = o.runs runs in let few = o.ticket in omega (arith, later, few, period))
+        | inr rests ↦ rests
+      ] in
+      continue_part layout shapes words views log me v k there is (noted v u) words log record {
+        role = is;
+        next = refl;
+        period = refl;
+        marks = refl;
+        cycle = refl;
+        run = refl;
+        seen = long.one;
+        ledger = (let t = ledger_of in
+            let one : counted_in v.period (k.part u.who) ≡ (if u.begun == v.period then u.visits else 0) =
+            ap (λ (x : ℕ × ℕ). if x.0 == v.period then x.1 else 0) (λ i. (same.3 i, same.2 i)) in omega (arith, t, one));
+        notes = λ i l a. elim a [
+          | inl e ↦ inr (subst (λ (j : ℕ). ((k.part j).period ≡ v.period) × IsPrefix (k.part j).seen (longer v.seen u.seen))
+              (sym e) (period, all))
+          | inr b ↦ inl b
+        ];
+        stays = λ i a. by_left u.left i a;
+        gone = λ i l a. elim (gone_cases u.left refl i a) [
+          | inl b ↦ inl b
+          | inr b ↦ inr (subst (λ (j : ℕ). ((k.part j).left ≡ true) × ((k.part j).runs ≡ false)
+              × IsPrefix (k.part j).seen (longer v.seen u.seen) × ((k.part j).ticket ≤ (k.part j).period)) (sym b.0)
+              (same.1 ∙ b.1, stopped, all, (let c = o.ticket in omega (arith, c, period))))
+        ];
+      } (prefix_refl log) long.whole k.retired
+      (inr (
+        refl,
+        λ h. same_lists log (longer v.seen u.seen)
+            (subst (λ (l : List Event). IsPrefix l (longer v.seen u.seen)) (sym h) long.one) long.whole,
+      ))
+      (subst (λ b. MatchBool b (IsFrozen layout shapes words log (noted v u) k.part)
+      (IsRunning layout shapes words log (noted v u) k.part)) (sym thawed)
+      record {
+        heap = run.heap;
+        reads = run.reads;
+        wave = run.wave;
+        period = run.period;
+        marks = run.marks;
+        cycle = run.cycle;
+      })
+    where
+      by_left : (b : Bool) (i : ℕ) → In i v.gone → In i (if b then u.who ∷ v.gone else v.gone)
+      by_left true i a = inr a
+      by_left false i a = a
+
+      gone_cases : (b : Bool) → u.left ≡ b → (i : ℕ) → In i (if b then u.who ∷ v.gone else v.gone) →
+          In i v.gone ⊎ ((i ≡ u.who) × (u.left ≡ true))
+      gone_cases true e i (inl h) = inr (h, e)
+      gone_cases true e i (inr h) = inl h
+      gone_cases false e i h = inl h
+
+  -- its ticket
+  pub ticket_split : Tabled layout shapes words (views ++ ticket_of v ∷ []) log
+  ticket_split = add_copy layout shapes words views log (ticket_of v) k (λ j. record {
+    behind = (let e = ap (λ (x : View). x.period) (own layout shapes words views log me v k there is) in omega (arith, e));
+    prefix = prefix_of layout shapes words views log me v k there is;
+    told = λ _. record {
+      marks = ap (λ (x : View). x.marks) (own layout shapes words views log me v k there is);
+      cycle = ap (λ (x : View). x.cycle) (own layout shapes words views log me v k there is);
+      run = ap (λ (x : View). x.run) (own layout shapes words views log me v k there is);
+    };
+  })

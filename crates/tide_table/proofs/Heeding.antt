@@ -1,0 +1,107 @@
+-- What a step of the collector has to show of the rule.
+use Rattle.std.proofs.Common.{◌≡◌, ℕ, ◌≤◌, ◌≢◌, ◌⊎◌, List, sym, refl, ap, ◌∙◌, inl, inr, subst, arith, true, false, set, MatchBool}
+use Rattle.tide_machine.specs.declared.view.Role.{Role}
+use Rattle.tide_machine.specs.declared.view.Role.TheVariants.{Collector, Member, Note, Ticket, Spent}
+use Rattle.tide_machine.specs.declared.view.View.{View}
+use Rattle.tide_model.specs.History.{state_after}
+use Rattle.tide_model.specs.Layout.{Layout}
+use Rattle.tide_model.specs.Prefix.{IsPrefix, prefix_trans}
+use Rattle.tide_model.specs.Refused.{ShapeLists}
+use Rattle.tide_model.specs.declared.entry.Event.{Event}
+use Rattle.tide_table.proofs.Members.{each_set, known_as, collects}
+use Rattle.tide_table.specs.Parties.{In, IsParty, tally}
+use Rattle.tide_table.specs.Rule.{Told, MemberOk, NoteOk, Heard, KnowsAs, Knows, IsFrozen, IsRunning, Mode, Tabled}
+use lib.ListN.{get_elem?}
+use mathlib.Core.Option.{some}
+
+-- a seat of another, after the collector's step
+heeds : (layout : Layout) (cv cv' : View) (part : ℕ → View) (seat_of : ℕ → ℕ) (log log' : List Event) (k : ℕ) (u : View) → k ≢ 0
+    → IsPrefix log log' → cv.period ≤ cv'.period → cv.next ≤ cv'.next → ((i : ℕ) → IsParty layout i → (x : View) → NoteOk cv (part i) x → NoteOk cv' (part i) x)
+    → ((x : View) → Heard log cv x → x.period ≡ cv'.period → Told cv' x)
+    → (r : Role) → KnowsAs layout cv part seat_of log k u r → KnowsAs layout cv' part seat_of log' k u r
+heeds layout cv cv' part seat_of log log' k u apart grows later seats notes tells Collector h = absurd (apart h.0)
+heeds layout cv cv' part seat_of log log' k u apart grows later seats notes tells Member h = (h.0, (let b = h.1 in omega (arith, b, seats)), h.2, h.3)
+heeds layout cv cv' part seat_of log log' k u apart grows later seats notes tells Note h = (h.0, notes u.who h.0 u h.1)
+heeds layout cv cv' part seat_of log log' k u apart grows later seats notes tells Ticket h = record { behind = (let b = h.behind in omega (arith, b, later)); prefix = prefix_trans u.seen log log' h.prefix grows; told = tells u h }
+heeds layout cv cv' part seat_of log log' k u apart grows later seats notes tells Spent h = tt
+
+module _ (layout : Layout) (shapes : ShapeLists) (words : List ℕ) (views : List View) (log : List Event) (me : ℕ) (v : View) (k : Tabled layout shapes words views log) (there : get_elem? views me ≡ some v) (is : v.role ≡ Collector) where
+  pub own : v ≡ k.cv
+  own = (collects layout shapes words views log me v k there is).1
+
+  pub at_zero : me ≡ 0
+  at_zero = (collects layout shapes words views log me v k there is).0
+
+  -- with the facts about the collector's view said of v
+  pub mode_of : MatchBool v.frozen (IsFrozen layout shapes words log v k.part) (IsRunning layout shapes words log v k.part)
+  mode_of = subst (λ (x : View). MatchBool x.frozen (IsFrozen layout shapes words log x k.part) (IsRunning layout shapes words log x k.part)) (sym own) k.mode
+
+  pub ok_of : (i : ℕ) → IsParty layout i → MemberOk layout v (k.part i) i
+  ok_of i l = subst (λ (x : View). MemberOk layout x (k.part i) i) (sym own) (k.members i l)
+
+  pub prefix_of : IsPrefix v.seen log
+  prefix_of = subst (λ (x : View). IsPrefix x.seen log) (sym own) k.prefix
+
+  pub collector_step : (w : View) (words' : List ℕ) (log' : List Event) → w.role ≡ Collector → v.period ≤ w.period → w.next ≡ v.next
+      → IsPrefix log log' → ((i : ℕ) → IsParty layout i → (x : View) → NoteOk v (k.part i) x → NoteOk w (k.part i) x) → ((x : View) → Heard log v x → x.period ≡ w.period → Told w x)
+      → ((i : ℕ) → IsParty layout i → MemberOk layout w (k.part i) i) → IsPrefix w.seen log' → ((i : ℕ) → (k.part i).left ≡ true → (state_after layout log').active i ≡ false) → (log' ≡ w.seen) ⊎ ((log' ≡ log) × (log ≡ v.seen → log ≡ w.seen)) → tally w.period k.part w.notes ≡ w.ledger → Mode layout shapes words' log' w k.part
+      → Tabled layout shapes words' (set views me w) log'
+  collector_step w words' log' is' later seats grows notes tells ok prefix retired tip ledger mode = record {
+    cv = w;
+    part = k.part;
+    seat_of = k.seat_of;
+    limits = k.limits;
+    empty_shape = k.empty_shape;
+    collects = is';
+    each = each_set (Knows layout w k.part k.seat_of log') views me w (known_as layout w k.part k.seat_of log' me w Collector is' (at_zero, refl))
+        (λ j u other at. heeds layout v w k.part k.seat_of log log' j u (λ e. other (e ∙ sym at_zero)) grows later (omega (arith, seats)) notes tells u.role (subst (λ (x : View). Knows layout x k.part k.seat_of log j u) (sym own) (k.each j u at)));
+    fresh = λ j h. k.fresh j (let e = ap (λ (x : View). x.next) own in omega (arith, h, seats, e));
+    strangers = k.strangers;
+    members = ok;
+    prefix = prefix;
+    tip = elim tip [
+      | inl e ↦ inl e
+      | inr e ↦ elim k.tip [
+        | inl h ↦ inl (e.0 ∙ e.1 (h ∙ ap (λ (x : View). x.seen) (sym own)))
+        | inr h ↦ inr (h.0, h.1, e.0 ∙ h.2)
+      ]
+    ];
+    retired = retired;
+    ledger = ledger;
+    mode = mode;
+  }
+
+  -- the same part goes on
+  pub record Continues (w : View) : Type 0 where
+    pub role : w.role ≡ Collector
+    pub next : w.next ≡ v.next
+    pub period : w.period ≡ v.period
+    pub marks : w.marks ≡ v.marks
+    pub cycle : w.cycle ≡ v.cycle
+    pub run : w.run ≡ v.run
+    pub seen : IsPrefix v.seen w.seen
+    pub ledger : tally w.period k.part w.notes ≡ w.ledger
+    pub notes : (i : ℕ) → IsParty layout i → In i w.notes → In i v.notes ⊎ (((k.part i).period ≡ v.period) × IsPrefix (k.part i).seen w.seen)
+    pub stays : (i : ℕ) → In i v.gone → In i w.gone
+    pub gone : (i : ℕ) → IsParty layout i → In i w.gone → In i v.gone ⊎ (((k.part i).left ≡ true) × ((k.part i).runs ≡ false) × IsPrefix (k.part i).seen w.seen × ((k.part i).ticket ≤ (k.part i).period))
+
+  pub continue_part : (w : View) (words' : List ℕ) (log' : List Event) → Continues w → IsPrefix log log' → IsPrefix w.seen log' → ((i : ℕ) → (k.part i).left ≡ true → (state_after layout log').active i ≡ false) → (log' ≡ w.seen) ⊎ ((log' ≡ log) × (log ≡ v.seen → log ≡ w.seen)) → Mode layout shapes words' log' w k.part
+      → Tabled layout shapes words' (set views me w) log'
+  continue_part w words' log' c grows prefix retired tip mode = let p = c.period in collector_step w words' log' c.role (omega (arith, p)) c.next grows
+      (λ i l x h. record { behind = h.behind; now = λ e. h.now (e ∙ p) })
+      (λ x h e. same_told x (h.told (e ∙ p)))
+      (λ i l. let o = ok_of i l in record {
+        role = o.role;
+        behind = o.behind;
+        close = elim o.close [ inl a ↦ inl (c.stays i a) | inr a ↦ inr (omega (arith, a, p)) ];
+        ticket = (let t = o.ticket in omega (arith, t, p));
+        runs = o.runs;
+        still = o.still;
+        mutator = o.mutator;
+        told = λ e. same_told (k.part i) (o.told (e ∙ p));
+        noted = λ a. elim (c.notes i l a) [ inl b ↦ ((o.noted b).0 ∙ sym p, prefix_trans (k.part i).seen v.seen w.seen (o.noted b).1 c.seen) | inr b ↦ (b.0 ∙ sym p, b.1) ];
+        gone = λ a. elim (c.gone i l a) [ inl b ↦ ((o.gone b).0, (o.gone b).1, prefix_trans (k.part i).seen v.seen w.seen (o.gone b).2 c.seen, (o.gone b).3) | inr b ↦ b ];
+      }) prefix retired tip c.ledger mode
+    where
+      same_told : (x : View) → Told v x → Told w x
+      same_told x t = record { marks = t.marks ∙ sym c.marks; cycle = t.cycle ∙ sym c.cycle; run = t.run ∙ sym c.run }

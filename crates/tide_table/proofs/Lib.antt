@@ -1,0 +1,17 @@
+pub mod Beginnings
+pub mod Leaving
+pub mod Members
+pub mod Works
+pub mod Runs
+pub mod Tallies
+pub mod FrozenWords
+pub mod Heeding
+pub mod Spans
+pub mod Collectors
+pub mod Turning
+pub mod Seating
+pub mod Tabled
+pub mod Allowing
+pub mod Ties
+pub mod Starting
+pub mod Retiring

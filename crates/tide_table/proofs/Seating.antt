@@ -1,0 +1,84 @@
+-- A participant gets its seat.
+use Rattle.std.proofs.Common.{◌≡◌, ℕ, zero, suc, ◌≤◌, ◌≢◌, ◌⊎◌, List, [], ◌∷◌, ◌++◌, length, sym, refl, ap, ◌∙◌, inl, inr, subst, arith, Bool, true, false, set, MatchBool, length-set}
+use Rattle.std.proofs.lemmas.Bool.{eq-eqb, ne_eqb}
+use Rattle.std.specs.Prelude.{if◌then◌else◌}
+use Rattle.tide_machine.specs.Frozen.{newcomer}
+use Rattle.tide_machine.specs.declared.view.Role.{Role}
+use Rattle.tide_machine.specs.declared.view.Role.TheVariants.{Collector, Member, Note, Ticket, Spent}
+use Rattle.tide_machine.specs.declared.view.View.{View}
+use Rattle.tide_model.specs.Layout.{Layout}
+use Rattle.tide_model.specs.Numbers.{put_at}
+use Rattle.tide_model.specs.Prefix.{IsPrefix}
+use Rattle.tide_model.specs.Refused.{ShapeLists}
+use Rattle.tide_model.specs.declared.entry.Event.{Event}
+use Rattle.tide_table.proofs.Heeding.{own, at_zero, ok_of, mode_of}
+use Rattle.tide_table.proofs.Members.{each_set, known_as}
+use Rattle.tide_table.specs.Parties.{IsParty, tally}
+use Rattle.tide_table.specs.Rule.{KnowsAs, Knows, IsFrozen, IsRunning, Tabled}
+use Rattle.tide_table.specs.Turns.{seating}
+use lib.ListN.{get_elem?}
+use mathlib.Core.Option.{some, some-injective, some-ne-none}
+
+-- the last of a list
+at_end : (l : List View) (a b : View) (j : ℕ) → get_elem? (l ++ a ∷ []) j ≡ some b → (get_elem? l j ≡ some b) ⊎ ((j ≡ length l) × (a ≡ b))
+at_end [] a b zero e = inr (refl, some-injective a b e)
+at_end [] a b (suc j) e = absurd (some-ne-none b (sym e))
+at_end (x ∷ xs) a b zero e = inl e
+at_end (x ∷ xs) a b (suc j) e = elim (at_end xs a b j e) [ inl h ↦ inl h | inr h ↦ inr (ap suc h.0, h.1) ]
+
+number_here : (f : ℕ → ℕ) (i x : ℕ) → put_at f i x i ≡ x
+number_here f i x = ap (λ (b : Bool). if b then x else f i) (eq-eqb i i refl)
+
+number_else : (f : ℕ → ℕ) (i j x : ℕ) → j ≢ i → put_at f i x j ≡ f j
+number_else f i j x other = ap (λ (b : Bool). if b then x else f j) (ne_eqb j i other)
+
+-- the seats of others, when a participant gets the seat p
+reseat : (layout : Layout) (cv : View) (part : ℕ → View) (seat_of : ℕ → ℕ) (log : List Event) (who k p : ℕ) (u : View) → k ≢ 0 → cv.next ≤ who → (r : Role) → KnowsAs layout cv part seat_of log k u r →
+    KnowsAs layout (seating who cv) part (put_at seat_of who p) log k u r
+reseat layout cv part seat_of log who k p u apart later Collector h = absurd (apart h.0)
+reseat layout cv part seat_of log who k p u apart later Member h = let b = h.1 in (h.0, omega (arith, b, later), h.2, number_else seat_of who u.who p (λ e. omega (arith, e, b, later)) ∙ h.3)
+reseat layout cv part seat_of log who k p u apart later Note h = (h.0, record { behind = h.1.behind; now = h.1.now })
+reseat layout cv part seat_of log who k p u apart later Ticket h = record { behind = h.behind; prefix = h.prefix; told = λ e. (let t = h.told e in record { marks = t.marks; cycle = t.cycle; run = t.run }) }
+reseat layout cv part seat_of log who k p u apart later Spent h = tt
+
+-- a participant gets its seat
+pub seat_member : (layout : Layout) (shapes : ShapeLists) (words : List ℕ) (views : List View) (log : List Event) (me : ℕ) (v : View) (k : Tabled layout shapes words views log) → get_elem? views me ≡ some v → v.role ≡ Collector →
+    (who : ℕ) → v.next ≤ who → IsParty layout who → Tabled layout shapes words (set views me (seating who v) ++ newcomer who ∷ []) log
+seat_member layout shapes words views log me v k there is who later party = record {
+  cv = seating who v;
+  part = k.part;
+  seat_of = put_at k.seat_of who (length views);
+  limits = k.limits;
+  empty_shape = k.empty_shape;
+  collects = is;
+  each = λ j u e. elim (at_end (set views me (seating who v)) (newcomer who) u j e) [
+    | inl at ↦ each_set (Knows layout (seating who v) k.part (put_at k.seat_of who (length views)) log) views me (seating who v)
+        (known_as layout (seating who v) k.part (put_at k.seat_of who (length views)) log me (seating who v) Collector is (z, refl))
+        (λ i x other at'. reseat layout v k.part k.seat_of log who i (length views) x (λ h. other (h ∙ sym z)) later x.role (subst (λ (y : View). Knows layout y k.part k.seat_of log i x) (sym o) (k.each i x at'))) j u at
+    | inr t ↦ subst (λ (x : ℕ × View). Knows layout (seating who v) k.part (put_at k.seat_of who (length views)) log x.0 x.1) (λ i. (sym (t.0 ∙ len) i, t.1 i)) mine
+  ];
+  fresh = λ i h. k.fresh i (let e = ap (λ (x : View). x.next) o in omega (arith, h, later, e));
+  strangers = k.strangers;
+  members = λ i l. let q = ok_of layout shapes words views log me v k there is i l in record { role = q.role; behind = q.behind; close = q.close; ticket = q.ticket; runs = q.runs; still = q.still; mutator = q.mutator; told = λ e. (let t = q.told e in record { marks = t.marks; cycle = t.cycle; run = t.run }); noted = q.noted; gone = q.gone };
+  prefix = subst (λ (x : View). IsPrefix x.seen log) (sym o) k.prefix;
+  tip = subst (λ (x : View). (log ≡ x.seen) ⊎ ((i : ℕ) × IsParty layout i × (log ≡ (k.part i).seen))) (sym o) k.tip;
+  retired = k.retired;
+  ledger = subst (λ (x : View). tally x.period k.part x.notes ≡ x.ledger) (sym o) k.ledger;
+  mode = move v.frozen (mode_of layout shapes words views log me v k there is);
+}
+  where
+    o : v ≡ k.cv
+    o = own layout shapes words views log me v k there is
+
+    z : me ≡ 0
+    z = at_zero layout shapes words views log me v k there is
+
+    len : length (set views me (seating who v)) ≡ length views
+    len = length-set views me (seating who v)
+
+    mine : Knows layout (seating who v) k.part (put_at k.seat_of who (length views)) log (length views) (newcomer who)
+    mine = (party, omega arith, sym (k.fresh who (let e = ap (λ (x : View). x.next) o in omega (arith, later, e))), number_here k.seat_of who (length views))
+
+    move : (b : Bool) → MatchBool b (IsFrozen layout shapes words log v k.part) (IsRunning layout shapes words log v k.part) → MatchBool b (IsFrozen layout shapes words log (seating who v) k.part) (IsRunning layout shapes words log (seating who v) k.part)
+    move true h = record { words_are = h.words_are; long = h.long; seen_all = h.seen_all; lawful = h.lawful; counts = h.counts; span = h.span; known = h.known; begun = h.begun; left = h.left; empty = h.empty; all_in = h.all_in }
+    move false h = record { heap = h.heap; reads = h.reads; wave = h.wave; period = h.period; marks = h.marks; cycle = h.cycle }

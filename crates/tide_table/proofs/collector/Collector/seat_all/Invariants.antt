@@ -1,0 +1,15 @@
+-- The passes so far are those of the first numbers.
+use Rattle.std.proofs.Common.{◌≡◌, ◌≤◌, ◌+◌, vec_len, length}
+use Rattle.tide_table.specs.Started.{ArePasses, is_but_next}
+use Rattle.tide_table.proofs.collector.Collector.seat_all.Given as goal
+
+abbrev pub invariant-loop-i : goal.invariant-loop-i
+invariant-loop-i g l = record {
+  own : l.self.seat.table_id ≡ l.heap.table.shared.table_id;
+  id : l.self.seat.id ≡ l.fn.self.seat.id;
+  next : l.self.seat.me.0.next ≤ l.first + l.i;
+  same : is_but_next l.fn.self.seat.me.0 l.self.seat.me.0;
+  count : length l.passes.items ≡ l.i;
+  long : vec_len l.passes ≡ l.i;
+  all : ArePasses l.heap.table.shared.table_id l.first l.passes.items;
+}

@@ -1,0 +1,10 @@
+-- Which step it is.
+use Rattle.tide_table.specs.Steps.{kind_of}
+use Rattle.tide_table.proofs.pass.Pass.exchange_step.Given as goal
+
+abbrev pub ghosts-exchange_as : goal.ghosts-exchange_as
+ghosts-exchange_as g a = record {
+  kind = kind_of a._step;
+  layout = a.heap.now.key.layout;
+  shapes = g.S.HeapShapes.lists a.heap.now.key.shapes;
+}

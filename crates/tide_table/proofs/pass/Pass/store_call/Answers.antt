@@ -1,0 +1,21 @@
+-- Why the step is one of its kind.
+use Rattle.std.proofs.Common.{refl, ap, ◌∙◌}
+use Rattle.tide_layout.specs.Region.{place_in}
+use Rattle.tide_layout.specs.declared.region.Region.TheVariants.{Call}
+use Rattle.tide_table.proofs.pass.Pass.store_call.Goals as goal
+
+pub store_step-requires-clause-plain : goal.store_step-requires-clause-plain
+store_step-requires-clause-plain g c = record { births = λ r b. refl; stays = refl }
+
+pub store_step-requires-clause-may : goal.store_step-requires-clause-may
+store_step-requires-clause-may g c = record {
+  runs = c.requires.runs;
+  works = refl;
+  has = refl;
+  leaves_period = refl;
+  leaves_phase = refl;
+  place = c.place-at.ensures ∙ ap (place_in c.args.heap.now.key.layout Call) c.args.self.now.tied.who;
+  inside = c.requires.mutator;
+  acts = refl;
+  may = c.requires.may;
+}

@@ -1,0 +1,33 @@
+-- Why the step takes a cell, and the numbers stay those of its view.
+use Rattle.std.proofs.Common.{ℕ, refl, ap}
+use Rattle.tide_machine.specs.Kind.{TakeFree}
+use Rattle.tide_table.proofs.Ties.{role_kept, are_of}
+use Rattle.tide_table.proofs.pass.Pass.take_free.Goals as goal
+
+pub and_as-read-requires-clause-may : goal.and_as-read-requires-clause-may
+and_as-read-requires-clause-may g c = record {
+  runs = c.requires.runs;
+  works = refl;
+  has = refl;
+  leaves_period = refl;
+  leaves_phase = refl;
+  place = c.place-at.ensures;
+  inside = c.requires.within;
+  acts = refl;
+  may = c.requires.may;
+}
+
+pub invariant_of-self : goal.invariant_of-self
+invariant_of-self g c =
+    let h = c.args.heap.now in
+    let v = c.args.self.now.seat.me.0 in
+    let u = c.and_as-read.new.seat.me.0 in
+    let n = c.args.self.now.numbers in
+    let shapes = g.S.HeapShapes.lists h.key.shapes in
+    let kind = TakeFree c.args.block c.args.k c.args.made in
+    let read = c.and_as-read.result in
+    let f = c.and_as-read.ensures.step in record {
+      member = role_kept h.key.layout shapes kind v u read f refl c.args.self.now.member;
+      tied = are_of h.key.layout shapes kind v u read f refl n c.args.self.now.tied _
+          (ap (λ (born : ℕ). record n { born = born }) c.born_after-self.ensures);
+    }

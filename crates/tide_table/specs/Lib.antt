@@ -1,0 +1,10 @@
+pub mod Parties
+pub mod Rule
+pub mod Turns
+pub mod Works
+pub mod Steps
+pub mod Follows
+pub mod Numbers
+pub mod Told
+pub mod Shown
+pub mod Started
