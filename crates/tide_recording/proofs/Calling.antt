@@ -1,11 +1,11 @@
 -- A call of words that keep a history.
-use Rattle.std.proofs.Common.{ℕ, ◌≡◌, ◌+◌, ◌<◌, ◌∙◌, arith, refl, sym, ap, subst, Bool, true, false, List, [], ◌∷◌, ◌++◌, length, get_or}
+use Rattle.std.proofs.Common.{ℕ, ◌≡◌, ◌<◌, ◌∙◌, arith, refl, sym, ap, subst, Bool, true, false, List, [], ◌∷◌, ◌++◌, length, get_or}
 use Rattle.std.proofs.Math.ListN.{set}
 use Rattle.std.proofs.lemmas.List.{get_or-set_other, get_or-set_same, length-set}
 use Rattle.std.proofs.lemmas.Bool.{eq-eqb, eqb-false, eqb-true}
 use Rattle.std.proofs.lemmas.List.Elements.{All-cons, All-nil}
 use Rattle.std.proofs.lemmas.Option.{get_or_from_slice_get, slice_get-get_or, slice_get_within}
-use Rattle.std.specs.Prelude.{All, Option, Some, slice_get, ◌==◌, ◌≢◌, if◌then◌else◌}
+use Rattle.std.specs.Prelude.{Option, Some, slice_get, ◌==◌, ◌≢◌}
 use Rattle.tide_model.specs.declared.entry.Event.{Event}
 use Rattle.tide_model.specs.declared.op.Op.{Op}
 use Rattle.tide_model.specs.declared.op.Reply.{Reply}
@@ -16,18 +16,14 @@ use Rattle.tide_model.specs.Lawful.{StandsCall}
 use Rattle.tide_model.specs.Layout.{Layout}
 use Rattle.tide_model.specs.Periods.{EndsInTime, open_count}
 use Rattle.tide_model.specs.Refused.{ShapeLists}
-use Rattle.tide_model.specs.Since.{is_born_reply, is_end}
 use Rattle.tide_model.specs.State.{State}
 use Rattle.tide_model.proofs.ClaimLaws.{ClaimsAreOwn-lawful}
 use Rattle.tide_model.proofs.Histories.{IsLawful-push, push_cases}
 use Rattle.tide_model.proofs.SinceLaws.{count-push}
 use Rattle.tide_words.specs.heap.Heap.{heap_of}
 use Rattle.tide_core.specs.FrozenWave.{FrozenWave}
-use Rattle.tide_freeze.specs.declared.births.Births.{Births}
-use Rattle.tide_freeze.specs.Births.{AreBornIn}
 use Rattle.tide_freeze.specs.Frozen.{IsFrozen}
 use Rattle.tide_freeze.specs.Laws.{any_cells}
-use Rattle.tide_freeze.proofs.BirthLaws.{born-push}
 use Rattle.tide_periods.proofs.CallerLaws.{called}
 use Rattle.tide_periods.proofs.LeftLaws.{claims_after-others}
 use Rattle.tide_periods.specs.Recorded.{IsSettled, MayAsk}
@@ -111,15 +107,3 @@ IsFrozen-called layout shapes words words_now history who op reply took frozen s
       (record { kept = λ cycle freed e. absurd (cc); swept = λ cycle freed e. absurd (cc) });
   blacks = tt;
 }
-
--- a call adds its birth to both counts
-pub AreBornIn-called : (history : List Event) (who : ℕ) (op : Op) (reply : Reply) (took : Option ℕ) (births births_now : Births) →
-    births_now ≡ record {
-      in_cycle = births.in_cycle + (if is_born_reply reply then 1 else 0);
-      since_end = births.since_end + (if is_born_reply reply then 1 else 0);
-    } →
-    AreBornIn history births → AreBornIn (history ++ called who op reply took ∷ []) births_now
-AreBornIn-called history who op reply took births births_now is are = subst (AreBornIn (history ++ called who op reply took ∷ [])) (sym is) (record {
-  in_cycle = ap (λ (n : ℕ). n + (if is_born_reply reply then 1 else 0)) are.in_cycle ∙ sym (born-push is_begin history (called who op reply took) refl);
-  since_end = ap (λ (n : ℕ). n + (if is_born_reply reply then 1 else 0)) are.since_end ∙ sym (born-push is_end history (called who op reply took) refl);
-})

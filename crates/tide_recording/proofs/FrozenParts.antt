@@ -1,10 +1,10 @@
 -- What a freeze leaves of words that keep a history, as a run sees it.
-use Rattle.std.proofs.Common.{ℕ, ◌≡◌, ◌+◌, ◌*◌, ◌<◌, ◌≤◌, ◌∙◌, arith, refl, sym, ap, subst, Bool, true, List, ◌++◌, length}
+use Rattle.std.proofs.Common.{ℕ, ◌≡◌, ◌<◌, ◌≤◌, ◌∙◌, refl, sym, ap, subst, Bool, true, List, length}
 use Rattle.std.specs.List.{list_all}
 use Rattle.tide_model.specs.declared.entry.Event.{Event}
 use Rattle.tide_model.specs.Each.{Each}
 use Rattle.tide_model.specs.History.{state_after, state_from}
-use Rattle.tide_model.specs.Layout.{Layout, cell_count}
+use Rattle.tide_model.specs.Layout.{Layout}
 use Rattle.tide_model.specs.Lawful.{IsLawful}
 use Rattle.tide_model.specs.Pace.{Pace}
 use Rattle.tide_model.specs.Periods.{EndsInTime, IsSwept, next_run, open_count}

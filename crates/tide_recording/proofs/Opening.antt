@@ -1,13 +1,12 @@
 -- A store on which nothing was run, and the opening of a part.
-use Rattle.std.proofs.Common.{ℕ, zero, suc, ◌≡◌, ◌+◌, ◌∙◌, arith, refl, sym, ap, subst, inl, Bool, false, List, [], ◌∷◌, ◌++◌, length, replicate}
-use Rattle.std.proofs.lemmas.List.Elements.{All-nil}
-use Rattle.std.specs.Prelude.{All, Some, map, slice_get, ◌==◌, ◌&&◌, if◌then◌else◌}
+use Rattle.std.proofs.Common.{ℕ, zero, suc, ◌≡◌, ◌+◌, ◌∙◌, arith, refl, sym, ap, subst, Bool, List, [], ◌∷◌, ◌++◌, length, replicate}
+use Rattle.std.specs.Prelude.{Some, slice_get, ◌==◌, ◌&&◌, if◌then◌else◌}
 use Rattle.tide_layout.specs.Region.{block_count}
 use Rattle.tide_layout.specs.declared.region.Region.TheVariants.{Period}
 use Rattle.tide_model.specs.declared.entry.Event.{Event}
 use Rattle.tide_model.specs.Cycle.{begin_count}
 use Rattle.tide_model.specs.declared.entry.Entry.TheVariants.{Open}
-use Rattle.tide_model.specs.History.{is_begin, is_open, plain, state_after}
+use Rattle.tide_model.specs.History.{is_begin, is_open, plain}
 use Rattle.tide_model.specs.Layout.{Layout}
 use Rattle.tide_model.specs.Periods.{open_count}
 use Rattle.tide_model.specs.Refused.{ShapeLists}

@@ -1,5 +1,6 @@
 -- What holds of words that keep a history.
 use Rattle.std.specs.Prelude.{ℕ, ◌≡◌, ◌≤◌, List, [], length, slice_get, Some}
+use Rattle.tide_layout.specs.Limits.{IsWithinLimits}
 use Rattle.tide_layout.specs.Region.{block_count}
 use Rattle.tide_model.specs.declared.entry.Event.{Event}
 use Rattle.tide_model.specs.Cycle.{begin_count}
@@ -46,10 +47,11 @@ pub record HoldsClaims (layout : Layout) (state : State) (claims : List (List �
   pub one_each : length claims ≡ layout.mutators
   pub are : (who : ℕ) (own : List ℕ) → slice_get claims who ≡ Some own → state.claims who ≡ own
 
--- Words of this layout and with these shapes may be frozen after the history. The lists are the mutators' claims, the
+-- Words of this layout, which is within its limits, and with these shapes may be frozen after the history. The lists are the mutators' claims, the
 -- births are counted, the report tells the ends, and the list of grey cells is empty and has a place for each cell. There
 -- are no visitors.
 pub record StandsWhole (store : RecordedWords) : Type 0 where
+  pub limits : IsWithinLimits store.layout
   pub frozen : IsFrozen store.layout (shapes_in store) store.chronicle.words (history_in store) any_cells
   pub claims : HoldsClaims store.layout (state_in store) store.claims.items
   pub births : AreBornIn (history_in store) store.births

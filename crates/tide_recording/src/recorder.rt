@@ -1,33 +1,20 @@
 //! `RecordedWords` as a recorder: what a run asks of the store that it stands on.
-ghost use Rattle.std.specs.Prelude.{◌≡◌, ◌+◌, if◌then◌else◌, OnOk};
+ghost use Rattle.std.specs.Prelude.{◌≡◌, if◌then◌else◌};
 ghost use Rattle.tide_model.specs.Since.{is_born_reply};
 ghost use Rattle.tide_recording.specs.Kept.{recorded_in, IsPace, StandsWhole};
 
 use crate::words::RecordedWords;
 use std::alloc::Global;
-use tide_freeze::Births;
 use tide_model::{Entry, Event, Memory, Op, Reply};
 use tide_periods::{Pacing, Recorder};
 use tide_report::Report;
 use tide_word_store::call;
 
-/// Counts the cell that a call bore, if it bore one.
-fn count_birth(births: &mut Births, reply: Reply) -> Result<(), Memory>
-    ensures { OnOk result (births.new ≡ record {
-      in_cycle = births.old.in_cycle + (if is_born_reply reply then 1 else 0);
-      since_end = births.old.since_end + (if is_born_reply reply then 1 else 0);
-    }) }
+/// How many cells a call bore: one or none.
+fn born_by(reply: Reply) -> u32
+    ensures { result ≡ (if is_born_reply reply then 1 else 0) }
 {
-    let born = u32::from(matches!(reply, Reply::Born { .. }));
-    let Some(in_cycle) = births.in_cycle.checked_add(born) else {
-        return Err(Memory);
-    };
-    let Some(since_end) = births.since_end.checked_add(born) else {
-        return Err(Memory);
-    };
-    births.in_cycle = in_cycle;
-    births.since_end = since_end;
-    Ok(())
+    u32::from(matches!(reply, Reply::Born { .. }))
 }
 
 impl Recorder for RecordedWords {
@@ -51,7 +38,7 @@ impl Recorder for RecordedWords {
         let entry = Entry::Call { who, op, reply };
         let took = called.took;
         self.chronicle.add(Event { entry, took })?;
-        count_birth(&mut self.births, reply)?;
+        self.births.add(born_by(reply));
         Ok(reply)
     }
 

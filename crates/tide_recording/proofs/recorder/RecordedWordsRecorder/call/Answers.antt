@@ -1,11 +1,13 @@
 -- Answers to the goals of recorder::RecordedWordsRecorder::call.
-use Rattle.std.proofs.Common.{ℕ, ◌≡◌, ◌∙◌, refl, sym, ap, subst, arith, List, [], ◌∷◌, ◌++◌, get_or}
+use Rattle.std.proofs.Common.{ℕ, ◌≡◌, ◌+◌, ◌∙◌, refl, sym, ap, subst, arith, List, [], ◌∷◌, ◌++◌, get_or}
 use Rattle.std.proofs.lemmas.Grind.{common_steps}
+use Rattle.std.specs.Prelude.{if◌then◌else◌}
 use Rattle.std.proofs.Math.ListN.{set}
 use Rattle.tide_model.specs.Cycle.{begin_count}
 use Rattle.tide_model.specs.declared.entry.Event.{Event}
 use Rattle.tide_model.specs.History.{state_after}
 use Rattle.tide_model.specs.Periods.{open_count}
+use Rattle.tide_model.specs.Since.{is_born_reply}
 use Rattle.tide_model.specs.State.{State}
 use Rattle.tide_model.proofs.Histories.{state_after-push}
 use Rattle.tide_freeze.specs.Births.{AreBornIn}
@@ -18,8 +20,9 @@ use Rattle.tide_periods.specs.Recorded.{MadeCall}
 use Rattle.tide_periods.proofs.CallerLaws.{called}
 use Rattle.tide_periods.proofs.RecordedLaws.{MadeCall-did}
 use Rattle.tide_recording.specs.Kept.{HoldsClaims, history_in, recorded_in, recorded_of, shapes_in, state_in}
-use Rattle.tide_recording.proofs.Calling.{AreBornIn-called, HoldsClaims-called, IsFrozen-called, MayCall-asked, counts-called}
+use Rattle.tide_recording.proofs.Calling.{HoldsClaims-called, IsFrozen-called, MayCall-asked, counts-called}
 use Rattle.tide_recording.proofs.FrozenParts.{IsFrozen-added}
+use Rattle.tide_recording.proofs.FewBirths.{births-few, one_born}
 use Rattle.tide_recording.proofs.recorder.RecordedWordsRecorder.call.Goals as goal
 
 pub call-called-requires-clause-known : goal.call-called-requires-clause-known
@@ -31,6 +34,24 @@ call-called-requires-clause-known c = λ _.
       state_in self,
       MayCall-asked self c.args.who c.args.op c.index_mut-held.result.now held c.requires.settled c.requires.stands c.requires.asks,
     )
+
+pub add-requires-2-clause-in_cycle : goal.add-requires-2-clause-in_cycle
+add-requires-2-clause-in_cycle c =
+    let self = c.args.self.now in
+    let stands = c.requires.stands in
+    let few = (births-few self.layout (shapes_in self) (history_in self) self.births stands.limits c.requires.settled.lawful stands.births).0 in
+    let one = one_born c.call-called.result.reply in
+    let born = c.born_by.ensures in
+    omega (arith, few, one, born)
+
+pub add-requires-2-clause-since_end : goal.add-requires-2-clause-since_end
+add-requires-2-clause-since_end c =
+    let self = c.args.self.now in
+    let stands = c.requires.stands in
+    let few = (births-few self.layout (shapes_in self) (history_in self) self.births stands.limits c.requires.settled.lawful stands.births).1 in
+    let one = one_born c.call-called.result.reply in
+    let born = c.born_by.ensures in
+    omega (arith, few, one, born)
 
 pub returns-clause-made : goal.returns-clause-made
 returns-clause-made c =
@@ -77,14 +98,18 @@ returns-clause-stands c =
     HoldsClaims-called layout (history_in self) self.claims.items own who op reply took stands.claims asks.is_mutator
     (ap (λ (s : State). s.claims who) (state_after-push layout (history_in self) (called who op reply took)) ∙ c.call-called.ensures.claims (state_in self) may) in
     record {
+      limits = stands.limits;
       frozen = IsFrozen-added layout shapes _ now _ (history_in self ++ called who op reply took ∷ []) _ c.in_ok-add.ensures.shapes c.in_ok-add.ensures.same history
           frozen;
       claims = subst (λ (h : List Event). HoldsClaims layout (state_after layout h) (set self.claims.items who own)) (sym history) claims;
-      births = subst (λ (h : List Event). AreBornIn h c.count_birth.new.births) (sym history)
-          (AreBornIn-called (history_in self) who op reply took self.births c.count_birth.new.births c.in_ok-count_birth.ensures stands.births);
+      births = subst (λ (h : List Event). AreBornIn h c.add-2.new.self) (sym history)
+          (c.add-2.ensures (history_in self) (called who op reply took ∷ []) stands.births refl (c.born_by.ensures ∙ still (if is_born_reply reply then 1 else 0)));
       told = subst (λ (h : List Event). TellsEnds layout h self.report) (sym history)
           (part_keeps_report layout (history_in self) (called who op reply took ∷ []) self.report refl stands.told);
       empty = stands.empty;
       room = stands.room;
       no_visitors = stands.no_visitors;
     }
+  where
+    still : (n : ℕ) → n ≡ 0 + n
+    still n = omega arith

@@ -1,13 +1,11 @@
 -- Answers to the goals of words::RecordedWords::freeze_part.
-use Rattle.std.proofs.Common.{◌∙◌, sym, ap, subst, arith, List, ◌≡◌}
-use Rattle.tide_model.specs.declared.entry.Event.{Event}
+use Rattle.std.proofs.Common.{◌∙◌, sym, ap, subst, arith}
 use Rattle.tide_model.specs.Lawful.{IsLawful}
 use Rattle.tide_model.specs.Refused.{ShapeLists}
 use Rattle.tide_words.specs.marking.Greys.{Greys}
 use Rattle.tide_model.specs.Layout.{cell_count}
 use Rattle.std.specs.Prelude.{◌≤◌}
 use Rattle.tide_periods.specs.Periods.{RanFreeze, pace_of}
-use Rattle.tide_periods.specs.Recorded.{Recorded}
 use Rattle.tide_recording.specs.Kept.{history_in, recorded_in, recorded_of, shapes_in, state_in}
 use Rattle.tide_report.proofs.EndLaws.{TellsEnds-room}
 use Rattle.tide_recording.proofs.FrozenParts.{HoldsClaims-same, RanFreeze-frozen}
@@ -37,6 +35,7 @@ returns c =
     record {
       ran = subst (λ (s : ShapeLists). RanFreeze (recorded_in self) (recorded_of layout s after.events.items) (pace_of c.args.pacing) c.args.is_must c.in_ok-run.run') (sym froze.shapes) ran;
       stands = record {
+        limits = c.requires.stands.limits;
         frozen = froze.frozen;
         claims = HoldsClaims-same layout (state_in self) _ self.claims.items ran.claims c.requires.stands.claims;
         births = froze.births;

@@ -1,5 +1,5 @@
 -- Answers to the goals of words::RecordedWords::new.
-use Rattle.std.proofs.Common.{ℕ, ◌∙◌, ◌≤◌, sym, ap, subst, arith, List, replicate, []}
+use Rattle.std.proofs.Common.{◌∙◌, ◌≤◌, sym, ap, subst, arith, List, replicate, []}
 use Rattle.tide_model.specs.declared.entry.Event.{Event}
 use Rattle.tide_model.specs.History.{state_after}
 use Rattle.tide_model.specs.Layout.{cell_count}
@@ -22,6 +22,7 @@ returns-clause-stands c =
     let claims = c.in_ok-claims.claims.items in
     let none = c.in_ok-chronicle.ensures.history in
     record {
+      limits = c.mutators.ensures.limits;
       frozen = subst (λ (h : List Event). IsFrozen layout (lists_of chronicle.shapes) chronicle.words h any_cells) (sym none)
           (subst (λ (s : ShapeLists). IsFrozen layout s chronicle.words [] any_cells) (sym c.in_ok-chronicle.ensures.shapes) c.in_ok-chronicle.ensures.frozen);
       claims = subst (λ (h : List Event). HoldsClaims layout (state_after layout h) claims) (sym none)

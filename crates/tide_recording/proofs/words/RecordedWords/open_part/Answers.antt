@@ -57,6 +57,7 @@ returns-clause-stands c =
     (subst (λ (words : List ℕ). HasOpened layout (heap_of layout words) new c.from.result) c.load-last.ensures.same
     (HasOpened-written layout (heap_of layout c.load-last.new.self) new c.from.result c.store_word.ensures.written)) in
     record {
+      limits = stands.limits;
       frozen = IsFrozen-added layout shapes _ now _ (history_in self ++ event ∷ []) _ c.in_ok-add.ensures.shapes c.in_ok-add.ensures.same history
           (open_keeps_frozen layout shapes self.chronicle.words now (history_in self) run stands.frozen
           (subst (HasOpened layout old new) (ap (λ (n : ℕ). n + 1) last) written) c.store_word.ensures.all_words);
