@@ -17,9 +17,10 @@ ghost use Rattle.tide_words.specs.marking.Colours.{is_marking};
 ghost use Rattle.tide_words.specs.marking.Greyed.{HasRoom};
 ghost use Rattle.tide_words.specs.heap.Heap.{heap_of, Heap as HeapWords};
 
+use crate::heaps::tell;
 use check_heap::{
-    Answers, Heap, System, joined, label_text, layout_of, number, number_between, number_text,
-    numbers_text, text, word_of,
+    Answers, Heap, System, joined, label_text, number, number_between, number_text, numbers_text,
+    text, word_of,
 };
 use std::alloc::{AllocError, Global};
 use std::io;
@@ -32,14 +33,14 @@ use tide_words::{
 };
 
 /// The room for notes that the next list has: what the one before it left, or its own, or none.
-#[derive(Drop)]
+#[derive(Default, Drop)]
 struct Room {
     left: Option<Vec<u32>>,
     is_wanting: bool,
 }
 
 /// A heap, once its layout is given, the cell that is listed, and the room for notes that the next list has.
-#[derive(Drop)]
+#[derive(Default, Drop)]
 pub struct Bench {
     heap: Option<Heap>,
     listed: u32,
@@ -141,16 +142,11 @@ fn is_live_in(heap: &mut Heap, cell: u32) -> bool {
     cell < heap.layout.cells() && is_live(&mut heap.words, &heap.layout, cell)
 }
 
-/// Whether a cell is one of the layout, and marked.
-fn is_marked_in(heap: &mut Heap, cell: u32) -> bool {
-    cell < heap.layout.cells() && is_marked(&mut heap.words, &heap.layout, cell)
-}
-
 /// The marked cells, in rising order.
 fn marked_cells(alloc: Global, heap: &mut Heap) -> Result<Vec<u32>, AllocError> {
     let mut cells = Vec::new(alloc);
     for cell in 0..heap.layout.cells() {
-        if is_marked_in(heap, cell) {
+        if cell < heap.layout.cells() && is_marked(&mut heap.words, &heap.layout, cell) {
             cells.push(cell)?;
         }
     }
@@ -182,15 +178,6 @@ fn volatility_of(name: &str) -> Option<Volatility> {
         "ephemerons" => Some(Ephemerons.volatility()),
         "groups" => Some(Groups.volatility()),
         _ => None,
-    }
-}
-
-/// The name of when a constraint may have something new to mark.
-fn name_of(volatility: Volatility) -> &'static str {
-    match volatility {
-        Volatility::SeldomGreyed => "SeldomGreyed",
-        Volatility::GreyedByExecution => "GreyedByExecution",
-        Volatility::GreyedByMarking => "GreyedByMarking",
     }
 }
 
@@ -229,7 +216,7 @@ fn asked(
             _ => Ok(Some(text(alloc, "false")?)),
         },
         ["volatility", name] => match volatility_of(name) {
-            Some(volatility) => Ok(Some(text(alloc, name_of(volatility))?)),
+            Some(volatility) => Ok(Some(format!(in alloc; "{volatility:?}")?)),
             None => Ok(None),
         },
         ["clear", what] if clear(heap, what) => Ok(Some(text(alloc, "")?)),
@@ -240,44 +227,29 @@ fn asked(
 }
 
 impl Bench {
-    /// Does or answers what the words say, but for a layout and what is listed.
+    /// Does or answers what the words say, but for what is listed and which room there is.
     fn do_or_answer(
         &mut self,
         alloc: Global,
         words: &[&str],
     ) -> Result<Option<String>, AllocError> {
         let listed = self.listed;
-        let Some(heap) = &mut self.heap else {
-            return Ok(None);
+        let told = tell(alloc, &mut self.heap, words)?;
+        let (None, Some(heap)) = (&told, &mut self.heap) else {
+            return Ok(told);
         };
-        if heap.say(words).is_some() {
-            return Ok(Some(text(alloc, "")?));
-        }
         asked(alloc, heap, listed, &mut self.room, words)
     }
 }
 
 impl<R: System> Answers<R> for Bench {
     fn begin(_rt: &R) -> io::Result<Self> {
-        Ok(Bench {
-            heap: None,
-            listed: 0,
-            room: Room {
-                left: None,
-                is_wanting: false,
-            },
-        })
+        Ok(Bench::default())
     }
 
     fn answer(&mut self, rt: &R, words: &[&str]) -> io::Result<Option<String>> {
         let alloc = rt.alloc();
         match words {
-            ["layout", layout @ ..] => {
-                let Some(layout) = layout_of(layout) else {
-                    return Ok(None);
-                };
-                self.heap = Some(Heap::new(alloc, layout)?);
-            }
             ["listed", cell] => match number(cell) {
                 Some(cell) => self.listed = cell,
                 None => return Ok(None),

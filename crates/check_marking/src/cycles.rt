@@ -11,10 +11,9 @@
 ghost use Rattle.std.specs.Prelude.{◌+◌, ◌≤◌, length};
 
 use crate::collecting::{Room, begin_in, collect, end_in, pause_in, sweep_all};
-use crate::heaps::solved_text;
+use crate::heaps::{solved_text, tell};
 use check_heap::{
-    Answers, Heap, System, joined, layout_of, number, number_between, number_text, numbers_text,
-    text,
+    Answers, Heap, System, joined, number, number_between, number_text, numbers_text, text,
 };
 use std::alloc::{AllocError, Global};
 use std::io;
@@ -122,19 +121,10 @@ impl Cycles {
         alloc: Global,
         words: &[&str],
     ) -> Result<Option<String>, AllocError> {
-        if let ["layout", layout @ ..] = words {
-            let Some(layout) = layout_of(layout) else {
-                return Ok(None);
-            };
-            self.heap = Some(Heap::new(alloc, layout)?);
-            return Ok(Some(text(alloc, "")?));
-        }
-        let Some(heap) = &mut self.heap else {
-            return Ok(None);
+        let told = tell(alloc, &mut self.heap, words)?;
+        let (None, Some(heap)) = (&told, &mut self.heap) else {
+            return Ok(told);
         };
-        if heap.say(words).is_some() {
-            return Ok(Some(text(alloc, "")?));
-        }
         match words {
             [what] => answer_step(alloc, heap, &mut self.room, what),
             [what @ ("pause" | "cycle"), budget] => match number(budget) {

@@ -11,10 +11,32 @@ use tide_solver::Solved;
 use tide_words::Colour;
 
 /// A heap until it is marked, and then its marking.
-#[derive(Drop)]
+#[derive(Default, Drop)]
 pub struct Marked {
     heap: Option<Heap>,
     marking: Option<Marking>,
+}
+
+/// Tells a heap what the words say: a layout, with which a new one begins, or a fact of it.
+pub fn tell(
+    alloc: Global,
+    heap: &mut Option<Heap>,
+    words: &[&str],
+) -> Result<Option<String>, AllocError> {
+    if let ["layout", layout @ ..] = words {
+        let Some(layout) = layout_of(layout) else {
+            return Ok(None);
+        };
+        *heap = Some(Heap::new(alloc, layout)?);
+        return Ok(Some(text(alloc, "")?));
+    }
+    let Some(heap) = heap else {
+        return Ok(None);
+    };
+    match heap.say(words) {
+        Some(_) => Ok(Some(text(alloc, "")?)),
+        None => Ok(None),
+    }
 }
 
 /// How marking ended.
@@ -45,48 +67,33 @@ fn told(
 
 impl Marked {
     /// Does what the words say to the heap: it is told a fact, or its marking begins.
-    fn tell(&mut self, alloc: Global, words: &[&str]) -> Result<Option<String>, AllocError> {
-        match words {
-            ["layout", layout @ ..] => {
-                let Some(layout) = layout_of(layout) else {
-                    return Ok(None);
-                };
-                self.heap = Some(Heap::new(alloc, layout)?);
-            }
-            ["solve", ..] => {
-                let Some(heap) = self.heap.take() else {
-                    return Ok(None);
-                };
-                let mut marking = Marking::begin(alloc, heap)?;
-                let answer = told(alloc, &mut marking, words)?;
-                self.marking = Some(marking);
-                return Ok(answer);
-            }
-            _ => {
-                let Some(heap) = &mut self.heap else {
-                    return Ok(None);
-                };
-                if heap.say(words).is_none() {
-                    return Ok(None);
-                }
-            }
+    fn tell_or_solve(
+        &mut self,
+        alloc: Global,
+        words: &[&str],
+    ) -> Result<Option<String>, AllocError> {
+        if words.first() != Some(&"solve") {
+            return tell(alloc, &mut self.heap, words);
         }
-        Ok(Some(text(alloc, "")?))
+        let Some(heap) = self.heap.take() else {
+            return Ok(None);
+        };
+        let mut marking = Marking::begin(alloc, heap)?;
+        let answer = told(alloc, &mut marking, words)?;
+        self.marking = Some(marking);
+        Ok(answer)
     }
 }
 
 impl<R: System> Answers<R> for Marked {
     fn begin(_rt: &R) -> io::Result<Self> {
-        Ok(Marked {
-            heap: None,
-            marking: None,
-        })
+        Ok(Marked::default())
     }
 
     fn answer(&mut self, rt: &R, words: &[&str]) -> io::Result<Option<String>> {
         match &mut self.marking {
             Some(marking) => Ok(told(rt.alloc(), marking, words)?),
-            None => Ok(self.tell(rt.alloc(), words)?),
+            None => Ok(self.tell_or_solve(rt.alloc(), words)?),
         }
     }
 }

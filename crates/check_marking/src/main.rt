@@ -10,9 +10,9 @@
 //!   held by a pair of the next one, or with `leaps` by one at the other end.
 //! - `runs GROUPS MARKED TIMES`: so many runs of `Groups` and of `Ephemerons` over the largest layout, whose cells are in
 //!   groups `alone`, all `together`, or two and two, `beside`, `apart`, `drawn`, `crowded` or `worst` (beside, in groups
-//!   whose numbers crowd by the first factor of `Groups`, or some by each), and of which `nothing`, `few` (one of 130),
-//!   `half`, `cells` (half, but no table) or `all` is marked. What the quickest took goes to the error output, in
-//!   nanoseconds.
+//!   whose numbers crowd by the first factor of `Groups`, or some by each that it tries alone), and of which `nothing`,
+//!   `few` (one of 130), `half`, `cells` (half, but no table) or `all` is marked. What the quickest took goes to the error
+//!   output, in nanoseconds.
 //! - `cycles FILE`: heaps that are collected, step by step or a whole cycle at a time (`cycles.rt`).
 #![tactic(auto)]
 

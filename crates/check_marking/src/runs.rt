@@ -22,7 +22,7 @@ const CELLS: u32 = 20_480;
 
 const TABLES: u32 = 16_384;
 
-/// For each factor by which `Groups` tells slots, a number whose multiples nearly all have one slot for their own.
+/// For each factor that `Groups` tries alone, a number whose multiples nearly all have one slot for their own.
 const CROWDED: [u64; 3] = [81_007, 18_456, 7_037];
 
 /// Which cells are in groups together.
@@ -40,7 +40,7 @@ pub enum Grouping {
     Drawn,
     /// Each cell with the one beside it, in groups whose numbers crowd by the first factor of `Groups`.
     Crowded,
-    /// Each cell with the one beside it, in groups of which some crowd by each of its factors.
+    /// Each cell with the one beside it, in groups of which some crowd by each factor that it tries alone.
     Worst,
 }
 
