@@ -4,7 +4,7 @@ use lib.ListN.{length-append}
 use Rattle.atomic_table.specs.Seated.{TableId}
 use Rattle.tide_machine.specs.Frozen.{newcomer}
 use Rattle.tide_table.specs.Started.{ArePasses}
-use Rattle.tide_table.specs.declared.pass.Pass.{Pass}
+use Rattle.tide_steps.specs.declared.pass.Pass.{Pass}
 
 -- two newcomers with seats of one table
 pub record AreTwo (id : TableId) (one other : Pass) : Type 0 where

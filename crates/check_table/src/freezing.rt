@@ -5,9 +5,10 @@ ghost use Rattle.tide_report.specs.Ends.{TellsEnds};
 ghost use Rattle.tide_machine.specs.Frozen.{newcomer};
 ghost use Rattle.tide_table.specs.Started.{IsStarted};
 
+use crate::cycles::PACING;
 use crate::parts::{begin_part, stop_part};
 use tide_cycle::Report;
-use tide_freeze::{Births, Pacing, freeze};
+use tide_freeze::{Births, freeze};
 use tide_layout::Layout;
 use tide_model::Memory;
 use tide_table::{Collector, Frozen, Heap, HeapShapes, Pass, PeriodsSpent};
@@ -56,17 +57,12 @@ pub fn freeze_twice<S: HeapShapes>(
     requires told { TellsEnds layout.now (opened_once 5) report.old }
     requires no_visitors { layout.now.visitors ≡ 0 }
 {
-    let pacing = Pacing {
-        period: 8,
-        headroom: 4,
-        trigger: 0,
-    };
     let mut births = Births::none();
     let cells = layout.cells();
     prove!(cells <= MAX_CELLS);
     report.make_room(2, 2 * cells)?;
-    let nothing_due = freeze(frozen, layout, pacing, false, &mut births, list, report)?;
+    let nothing_due = freeze(frozen, layout, PACING, false, &mut births, list, report)?;
     report.make_room(2, 2 * cells)?;
-    let must = freeze(frozen, layout, pacing, true, &mut births, list, report)?;
+    let must = freeze(frozen, layout, PACING, true, &mut births, list, report)?;
     Ok(Runs { nothing_due, must })
 }

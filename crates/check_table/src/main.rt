@@ -4,12 +4,14 @@
 //! Each line of its input is one check:
 //!
 //! - `part`: two mutators begin a part, work, retire and stop; it is frozen and closed.
+//! - `parts`: the same after a part in which nobody makes a call, and a whole cycle.
 //! - `chain FILE SMALL LARGE`: the heap that the facts of a file say is stored over a frozen heap, and marked in two
 //!   pauses within these budgets.
 //! - `freezes`: the freeze code runs twice over a frozen heap, with nothing due and as a must.
 #![tactic(auto)]
 
 mod chains;
+mod cycles;
 mod freezing;
 mod parts;
 mod standing;
@@ -20,7 +22,7 @@ mod working;
 use check_heap::{Checks, System, check_lines, number, words_of};
 use std::io;
 use std::process::ExitCode;
-use telling::{tell_chain, tell_freezes, tell_part};
+use telling::{tell_chain, tell_freezes, tell_part, tell_parts};
 
 /// The checks of this program.
 #[derive(Clone, Copy)]
@@ -33,6 +35,7 @@ impl<R: System> Checks for Program<'_, R> {
         let rt = self.rt;
         match *words_of(rt.alloc(), line)? {
             ["part"] => tell_part(rt),
+            ["parts"] => tell_parts(rt),
             ["chain", file, small, large] => match (number(small), number(large)) {
                 (Some(small), Some(large)) => tell_chain(rt, file, [small, large]),
                 _ => Ok(false),

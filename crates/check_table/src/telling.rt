@@ -2,10 +2,11 @@
 
 use crate::parts::Told;
 use crate::standing::{freeze_single, heap_of_facts, mark_chain};
-use crate::starting::run_part;
+use crate::starting::{run_part, run_parts};
 use check_heap::{System, number_between, numbers_text, tell, text, word_text};
 use std::alloc::{AllocError, Global};
 use std::{fs, io};
+use tide_cycle::Report;
 use tide_solver::Solved;
 
 /// The word of a truth.
@@ -25,6 +26,8 @@ fn tell_told<R: System>(rt: &R, told: &Told) -> io::Result<()> {
     let register = word_text(alloc, told.found.register)?;
     let strong = word_text(alloc, told.found.strong)?;
     let weak = word_text(alloc, told.found.weak)?;
+    let slot = word_text(alloc, told.found.slot)?;
+    let claim = number_between(alloc, ", claim ", told.found.claim, "")?;
     let calls = number_between(alloc, ", calls ", told.found.calls, "")?;
     tell(
         rt,
@@ -49,6 +52,9 @@ fn tell_told<R: System>(rt: &R, told: &Told) -> io::Result<()> {
             strong.as_str(),
             " ",
             weak.as_str(),
+            ", slot ",
+            slot.as_str(),
+            claim.as_str(),
         ],
     )
 }
@@ -58,6 +64,29 @@ pub fn tell_part<R: System>(rt: &R) -> io::Result<bool> {
     let Ok(Some(part)) = run_part(rt.alloc()) else {
         return Ok(false);
     };
+    tell_told(rt, &part.first)?;
+    tell_told(rt, &part.second)?;
+    Ok(true)
+}
+
+/// Prints the cycles that ended.
+fn tell_cycles<R: System>(rt: &R, report: &Report) -> io::Result<()> {
+    let alloc = rt.alloc();
+    for line in report.cycles() {
+        let cycle = number_between(alloc, "cycle ", line.number, ": kept ")?;
+        let kept = number_between(alloc, "", u64::from(line.kept), " freed ")?;
+        let freed = number_between(alloc, "", u64::from(line.freed), "")?;
+        tell(rt, &[cycle.as_str(), kept.as_str(), freed.as_str()])?;
+    }
+    Ok(())
+}
+
+/// Runs two parts of two mutators with a whole cycle between them, and prints the cycle and what the mutators told.
+pub fn tell_parts<R: System>(rt: &R) -> io::Result<bool> {
+    let Ok(Some((part, report))) = run_parts(rt.alloc()) else {
+        return Ok(false);
+    };
+    tell_cycles(rt, &report)?;
     tell_told(rt, &part.first)?;
     tell_told(rt, &part.second)?;
     Ok(true)
@@ -106,11 +135,6 @@ pub fn tell_freezes<R: System>(rt: &R) -> io::Result<bool> {
     };
     let next = numbers_text(alloc, &[runs.nothing_due, runs.must])?;
     tell(rt, &["next runs ", next.as_str()])?;
-    for line in report.cycles() {
-        let cycle = number_between(alloc, "cycle ", line.number, ": kept ")?;
-        let kept = number_between(alloc, "", u64::from(line.kept), " freed ")?;
-        let freed = number_between(alloc, "", u64::from(line.freed), "")?;
-        tell(rt, &[cycle.as_str(), kept.as_str(), freed.as_str()])?;
-    }
+    tell_cycles(rt, &report)?;
     Ok(true)
 }

@@ -1,18 +1,22 @@
-//! The acts of a mutator in a part: each step on its own words and on handles. It knows no ticket and no note.
+//! The acts of a mutator in a part: each step on its own words and on handles, and loads of a slot and a claim. It
+//! knows no ticket and no note.
 ghost use Rattle.std.specs.Prelude.{◌≡◌, ◌<◌, [], true};
+ghost use Rattle.tide_layout.specs.Slots.{HasSlot};
 ghost use Rattle.check_table.specs.Working.{all_calls, put_calls, set_calls, strong_calls, IsReady, Stays};
 
 use tide_model::{Op, Val};
 use tide_table::{Heap, HeapShapes, Pass};
 use tide_words::val_word;
 
-/// The words that a mutator found: its register, its call word, and two handles.
+/// The words that a mutator found: its register, its call word, two handles, a slot and a claim.
 #[derive(Clone, Copy, Debug, PartialEq, Eq)]
 pub struct Found {
     pub register: u64,
     pub calls: u64,
     pub strong: u64,
     pub weak: u64,
+    pub slot: u64,
+    pub claim: u64,
 }
 
 /// Sets its first register to 7, and tells the call.
@@ -59,7 +63,7 @@ fn put_weak<S: HeapShapes>(heap: &Heap<S>, pass: &mut Pass)
     pass.store_call(heap, 3, None);
 }
 
-/// Looks at its own words and at the handles, without a call.
+/// Looks at its own words, at the handles, and at the first slot and the claim of the first cell, without a call.
 fn look<S: HeapShapes>(heap: &Heap<S>, pass: &mut Pass) -> Found
     requires own { pass.old.seat.table_id ≡ heap.now.table.shared.table_id }
     requires runs { pass.old.seat.me.0.runs ≡ true }
@@ -67,6 +71,7 @@ fn look<S: HeapShapes>(heap: &Heap<S>, pass: &mut Pass) -> Found
     requires has { 0 < heap.now.key.layout.registers }
     requires strong { 0 < heap.now.key.layout.strong }
     requires weak { 0 < heap.now.key.layout.weak }
+    requires slot { HasSlot heap.now.key.layout 0 0 }
     ensures same { pass.new.seat.table_id ≡ pass.old.seat.table_id }
     ensures view { pass.new.seat.me.0 ≡ pass.old.seat.me.0 }
 {
@@ -75,6 +80,8 @@ fn look<S: HeapShapes>(heap: &Heap<S>, pass: &mut Pass) -> Found
         calls: pass.load_call(heap),
         strong: pass.load_strong(heap, 0, None),
         weak: pass.load_weak(heap, 0, None),
+        slot: pass.load_link(heap, 0, 0, None),
+        claim: pass.load_claim(heap, 0, None),
     }
 }
 
@@ -98,6 +105,7 @@ pub fn work<S: HeapShapes>(heap: &Heap<S>, pass: &mut Pass) -> Found
     requires has { 0 < heap.now.key.layout.registers }
     requires strong { 0 < heap.now.key.layout.strong }
     requires weak { 0 < heap.now.key.layout.weak }
+    requires slot { HasSlot heap.now.key.layout 0 0 }
     ensures same { pass.new.seat.table_id ≡ pass.old.seat.table_id }
     ensures ready { IsReady heap.now.key.layout pass.new.seat.me.0 (all_calls pass.old.seat.me.0.who) }
     ensures stays { Stays pass.old.seat.me.0 pass.new.seat.me.0 }

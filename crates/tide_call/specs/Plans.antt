@@ -1,5 +1,5 @@
 -- What a call is to do.
-use Rattle.std.specs.Prelude.{ℕ, ◌≡◌, ◌⊎◌, true, false, nat_le, List, [], ◌∷◌, ◌++◌, length, Option, None, Some}
+use Rattle.std.specs.Prelude.{ℕ, ◌≡◌, ◌⊎◌, Bool, true, false, nat_le, List, [], ◌∷◌, ◌++◌, length, Option, None, Some}
 use Rattle.tide_layout.specs.Slots.{HasElement, HasSlot}
 use Rattle.tide_model.specs.declared.op.Op.{Op}
 use Rattle.tide_model.specs.declared.op.Op.TheVariants.{Alloc, Table, Get, Put, Move, Set, Drop, Claim, Release, Unclaim, Add, GetProp, SetProp, StrongSet, StrongGet, WeakSet, WeakGet, PairSet, PairGet, PairDel, Group, Collect, Retire}
@@ -92,6 +92,16 @@ DoesSo caller heap state (Group src n) does =
     (cell : ℕ) × (state.registers caller.who src ≡ Cell cell) × (does ≡ plan.Join cell n)
 DoesSo caller heap state Collect does = does ≡ plan.Ask
 DoesSo caller heap state Retire does = does ≡ plan.Retire
+
+-- the caller's registers and claims alone tell what a call of the operation is to do, as far as own words do
+abbrev pub is_told_by_registers : Op → Bool
+is_told_by_registers (Add src key val) = false
+is_told_by_registers (GetProp dst src key) = false
+is_told_by_registers (SetProp src key val) = false
+is_told_by_registers (PairSet src key val) = false
+is_told_by_registers (PairGet dst src key) = false
+is_told_by_registers (PairDel src key) = false
+is_told_by_registers _ = true
 
 -- The plan says what a call comes to: the first refusal that its mutator's own words tell, and else what it is to do. A
 -- claim is refused by its register alone: whose claim the cell is, is no word of the caller's own.

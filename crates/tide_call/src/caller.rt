@@ -11,7 +11,7 @@ ghost use Rattle.tide_call.specs.Callers.{Always, LeavesOwn, MayCallNow};
 ghost use Rattle.tide_call.specs.ShapeWord.{IsShapeWord};
 
 use crate::claims::Claims;
-use crate::own::OwnWords;
+use crate::own::{OwnRegisters, OwnWords};
 use std::marker::Model;
 use tide_layout::PAIRS;
 use tide_model::{Refusal, Val};
@@ -78,7 +78,12 @@ impl<'a, S: ShapeTable> Caller<'a, S> {
     }
 
     /// The value that a register of the caller holds.
-    pub(crate) fn value_in<C, O: OwnWords<C>>(&self, own: &mut O, context: &C, register: u8) -> Val
+    pub(crate) fn value_in<C, O: OwnRegisters<C>>(
+        &self,
+        own: &mut O,
+        context: &C,
+        register: u8,
+    ) -> Val
         requires of_layout { register < self.now.layout.registers }
         requires known { MayCallNow (O.owns own.old context.now) self.now }
         ensures value { Always (O.owns own.old context.now) self.now (λ heap state.
@@ -89,7 +94,7 @@ impl<'a, S: ShapeTable> Caller<'a, S> {
     }
 
     /// The cell that a register of the caller holds, or that it holds none.
-    pub(crate) fn cell_in<C, O: OwnWords<C>>(
+    pub(crate) fn cell_in<C, O: OwnRegisters<C>>(
         &self,
         own: &mut O,
         context: &C,

@@ -7,14 +7,19 @@ ghost use Rattle.tide_call.specs.Callers.{Always, IsCallerOf, LeavesOwn, MayCall
 ghost use Rattle.tide_call.specs.Plans.{IsPlan};
 
 use crate::caller::Caller;
-use crate::own::OwnWords;
+use crate::own::OwnRegisters;
 use crate::plan::Plan;
 use tide_model::Refusal;
 use tide_shape::ShapeTable;
 
 impl<'a, S: ShapeTable> Caller<'a, S> {
     /// What a `Claim` is to do. Whether others claim the cell, its claim word tells, which isn't the caller's own.
-    pub(crate) fn plan_claim<C, O: OwnWords<C>>(&self, own: &mut O, context: &C, src: u8) -> Plan
+    pub(crate) fn plan_claim<C, O: OwnRegisters<C>>(
+        &self,
+        own: &mut O,
+        context: &C,
+        src: u8,
+    ) -> Plan
         requires of_layout { src < self.now.layout.registers }
         requires known { MayCallNow (O.owns own.old context.now) self.now }
         ensures plan { Always (O.owns own.old context.now) self.now (λ heap state.
@@ -31,7 +36,12 @@ impl<'a, S: ShapeTable> Caller<'a, S> {
     }
 
     /// What a `Release` is to do.
-    pub(crate) fn plan_release<C, O: OwnWords<C>>(&self, own: &mut O, context: &C, src: u8) -> Plan
+    pub(crate) fn plan_release<C, O: OwnRegisters<C>>(
+        &self,
+        own: &mut O,
+        context: &C,
+        src: u8,
+    ) -> Plan
         requires of_layout { src < self.now.layout.registers }
         requires known { MayCallNow (O.owns own.old context.now) self.now }
         ensures plan { Always (O.owns own.old context.now) self.now (λ heap state.

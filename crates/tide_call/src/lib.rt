@@ -21,5 +21,5 @@ mod slots;
 pub use additions::Addition;
 pub use caller::Caller;
 pub use claims::Claims;
-pub use own::OwnWords;
+pub use own::{OwnRegisters, OwnWords};
 pub use plan::Plan;

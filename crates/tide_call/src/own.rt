@@ -1,4 +1,4 @@
-//! `OwnWords`: the words that a mutator alone changes, wherever they are. It knows no operation.
+//! `OwnRegisters` and `OwnWords`: the words that a mutator alone changes, wherever they are. They know no operation.
 ghost use Rattle.std.specs.Prelude.{◌≡◌, ◌<◌, ℕ, List, Some, true};
 ghost use Rattle.tide_layout.specs.Region.{index_of_register};
 ghost use Rattle.tide_layout.specs.Slots.{HasSlot};
@@ -11,10 +11,9 @@ ghost use Rattle.tide_call.specs.Callers.{LeavesOwn};
 
 use tide_words::{Layout, Region, Words};
 
-/// The words that mutators alone change, each its own: those of its registers, and of the cells that it claims the
-/// structure, the array and the pairs. While it runs nobody else changes them, so it may read them at any moments.
-pub trait OwnWords<C> {
-    /// The heap has these words of the mutator.
+/// The words of registers, which each mutator alone changes. While it runs it may read them at any moments.
+pub trait OwnRegisters<C> {
+    /// The heap has these words of the mutator, and those of the cells that it claims.
     ghost owns: { Self → C → PlainLayout → ℕ → Heap → Type 0 };
 
     /// What reading them leaves as it is.
@@ -30,37 +29,44 @@ pub trait OwnWords<C> {
         ensures word { (heap : Heap) → owns self.old context.now layout.now who heap →
             result ≡ heap Registers (index_of_register layout.now who register) }
         ensures owns { LeavesOwn (owns self.old) (owns self.new) context.now (rest self.old) (rest self.new) };
+}
 
+/// The words that mutators alone change, each its own: those of its registers, and of the cells that it claims the
+/// structure, the array and the pairs. While it runs nobody else changes them, so it may read them at any moments.
+pub trait OwnWords<C>: OwnRegisters<C> {
     /// The structure word of a cell, which the mutator claims.
     fn structure(&mut self, context: &C, layout: &Layout, who: u32, cell: u32) -> u64
         requires mutator { who < layout.now.mutators }
         requires of_layout { cell < cell_count layout.now }
-        requires known { (heap : Heap) × owns self.old context.now layout.now who heap }
-        ensures word { (heap : Heap) → owns self.old context.now layout.now who heap →
+        requires known { (heap : Heap) × Self.owns self.old context.now layout.now who heap }
+        ensures word { (heap : Heap) → Self.owns self.old context.now layout.now who heap →
             heap Claim cell ≡ claim_word (Some who) → result ≡ heap Structure cell }
-        ensures owns { LeavesOwn (owns self.old) (owns self.new) context.now (rest self.old) (rest self.new) };
+        ensures owns { LeavesOwn (Self.owns self.old) (Self.owns self.new) context.now
+            (Self.rest self.old) (Self.rest self.new) };
 
     /// The array word of a cell, which the mutator claims.
     fn array(&mut self, context: &C, layout: &Layout, who: u32, cell: u32) -> u64
         requires mutator { who < layout.now.mutators }
         requires of_layout { cell < cell_count layout.now }
-        requires known { (heap : Heap) × owns self.old context.now layout.now who heap }
-        ensures word { (heap : Heap) → owns self.old context.now layout.now who heap →
+        requires known { (heap : Heap) × Self.owns self.old context.now layout.now who heap }
+        ensures word { (heap : Heap) → Self.owns self.old context.now layout.now who heap →
             heap Claim cell ≡ claim_word (Some who) → result ≡ heap Array cell }
-        ensures owns { LeavesOwn (owns self.old) (owns self.new) context.now (rest self.old) (rest self.new) };
+        ensures owns { LeavesOwn (Self.owns self.old) (Self.owns self.new) context.now
+            (Self.rest self.old) (Self.rest self.new) };
 
     /// The word at a place of a table, which the mutator claims.
     fn pair(&mut self, context: &C, layout: &Layout, who: u32, table: u32, place: u8) -> u64
         requires mutator { who < layout.now.mutators }
         requires of_layout { HasSlot layout.now table place }
-        requires known { (heap : Heap) × owns self.old context.now layout.now who heap }
-        ensures word { (heap : Heap) → owns self.old context.now layout.now who heap →
+        requires known { (heap : Heap) × Self.owns self.old context.now layout.now who heap }
+        ensures word { (heap : Heap) → Self.owns self.old context.now layout.now who heap →
             heap Claim table ≡ claim_word (Some who) → result ≡ slot_word layout.now heap table place }
-        ensures owns { LeavesOwn (owns self.old) (owns self.new) context.now (rest self.old) (rest self.new) };
+        ensures owns { LeavesOwn (Self.owns self.old) (Self.owns self.new) context.now
+            (Self.rest self.old) (Self.rest self.new) };
 }
 
 /// Words that stand still.
-impl<W: Words> OwnWords<()> for W {
+impl<W: Words> OwnRegisters<()> for W {
     ghost owns = { λ words context layout who heap. Reads layout (W.words words) heap };
 
     ghost Rest = { List ℕ × W.Rest };
@@ -71,7 +77,10 @@ impl<W: Words> OwnWords<()> for W {
         let index = who * u32::from(layout.registers()) + u32::from(register);
         self.load(layout.place(Region::Registers, index))
     }
+}
 
+/// Words that stand still.
+impl<W: Words> OwnWords<()> for W {
     fn structure(&mut self, _context: &(), layout: &Layout, _who: u32, cell: u32) -> u64 {
         self.load(layout.place(Region::Structure, cell))
     }

@@ -1,12 +1,12 @@
 //! `Caller::plan_of`: what a call is to do, of whichever operation. It reads no word but the caller's own.
-ghost use Rattle.std.specs.Prelude.{◌≡◌, ◌<◌};
+ghost use Rattle.std.specs.Prelude.{◌≡◌, ◌<◌, true};
 ghost use Rattle.tide_model.specs.Lawful.{FitsLayout};
 ghost use Rattle.tide_model.specs.declared.op.Op.TheVariants.{Group};
 ghost use Rattle.tide_call.specs.Callers.{Always, LeavesOwn, MayCallNow};
-ghost use Rattle.tide_call.specs.Plans.{IsPlan};
+ghost use Rattle.tide_call.specs.Plans.{IsPlan, is_told_by_registers};
 
 use crate::caller::Caller;
-use crate::own::OwnWords;
+use crate::own::{OwnRegisters, OwnWords};
 use crate::plan::Plan;
 use tide_layout::TABLE;
 use tide_model::{Op, Val};
@@ -14,7 +14,13 @@ use tide_shape::ShapeTable;
 
 impl<'a, S: ShapeTable> Caller<'a, S> {
     /// What a `Group` is to do.
-    fn plan_group<C, O: OwnWords<C>>(&self, own: &mut O, context: &C, src: u8, group: u32) -> Plan
+    fn plan_group<C, O: OwnRegisters<C>>(
+        &self,
+        own: &mut O,
+        context: &C,
+        src: u8,
+        group: u32,
+    ) -> Plan
         requires of_layout { src < self.now.layout.registers }
         requires known { MayCallNow (O.owns own.old context.now) self.now }
         ensures plan { Always (O.owns own.old context.now) self.now (λ heap state.
@@ -27,10 +33,11 @@ impl<'a, S: ShapeTable> Caller<'a, S> {
         }
     }
 
-    /// What a call of the operation is to do: the first refusal that the caller's own words tell, or what it does then.
-    /// Whether another mutator claims a cell, and whether a class has room, they don't tell. It takes no memory.
-    pub fn plan_of<C, O: OwnWords<C>>(&self, own: &mut O, context: &C, op: Op) -> Plan
+    /// What a call is to do whose mutator's registers and claims alone tell it: the first refusal that these tell, or what
+    /// it does then. It takes no memory.
+    pub fn plan_by_registers<C, O: OwnRegisters<C>>(&self, own: &mut O, context: &C, op: Op) -> Plan
         requires fits { FitsLayout self.now.layout op }
+        requires told { is_told_by_registers op ≡ true }
         requires known { MayCallNow (O.owns own.old context.now) self.now }
         ensures plan { Always (O.owns own.old context.now) self.now (λ heap state.
             IsPlan self.now heap state op result) }
@@ -56,9 +63,6 @@ impl<'a, S: ShapeTable> Caller<'a, S> {
             Op::Claim { src } => self.plan_claim(own, context, src),
             Op::Release { src } => self.plan_release(own, context, src),
             Op::Unclaim => self.plan_unclaim(),
-            Op::Add { src, key, val } => self.plan_add(own, context, src, key, val),
-            Op::GetProp { dst, src, key } => self.plan_get_property(own, context, dst, src, key),
-            Op::SetProp { src, key, val } => self.plan_set_property(own, context, src, key, val),
             Op::StrongSet { at, val } => Plan::StoreStrong {
                 at,
                 value: self.value_in(own, context, val),
@@ -69,12 +73,29 @@ impl<'a, S: ShapeTable> Caller<'a, S> {
                 value: self.value_in(own, context, val),
             },
             Op::WeakGet { dst, at } => Plan::LoadWeak { dst, at },
+            Op::Group { src, n } => self.plan_group(own, context, src, n),
+            Op::Retire => Plan::Retire,
+            _ => Plan::Ask,
+        }
+    }
+
+    /// What a call of the operation is to do: the first refusal that the caller's own words tell, or what it does then.
+    /// Whether another mutator claims a cell, and whether a class has room, they don't tell. It takes no memory.
+    pub fn plan_of<C, O: OwnWords<C>>(&self, own: &mut O, context: &C, op: Op) -> Plan
+        requires fits { FitsLayout self.now.layout op }
+        requires known { MayCallNow (O.owns own.old context.now) self.now }
+        ensures plan { Always (O.owns own.old context.now) self.now (λ heap state.
+            IsPlan self.now heap state op result) }
+        ensures owns { LeavesOwn (O.owns own.old) (O.owns own.new) context.now (O.rest own.old) (O.rest own.new) }
+    {
+        match op {
+            Op::Add { src, key, val } => self.plan_add(own, context, src, key, val),
+            Op::GetProp { dst, src, key } => self.plan_get_property(own, context, dst, src, key),
+            Op::SetProp { src, key, val } => self.plan_set_property(own, context, src, key, val),
             Op::PairSet { src, key, val } => self.plan_pair_set(own, context, src, key, val),
             Op::PairGet { dst, src, key } => self.plan_pair_get(own, context, dst, src, key),
             Op::PairDel { src, key } => self.plan_pair_delete(own, context, src, key),
-            Op::Group { src, n } => self.plan_group(own, context, src, n),
-            Op::Collect => Plan::Ask,
-            Op::Retire => Plan::Retire,
+            _ => self.plan_by_registers(own, context, op),
         }
     }
 }

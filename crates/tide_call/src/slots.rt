@@ -8,7 +8,7 @@ ghost use Rattle.tide_call.specs.Callers.{Always, LeavesOwn, MayCallNow};
 ghost use Rattle.tide_call.specs.Plans.{IsPlan};
 
 use crate::caller::Caller;
-use crate::own::OwnWords;
+use crate::own::OwnRegisters;
 use crate::plan::Plan;
 use tide_block::{class_of, slots};
 use tide_layout::TABLE;
@@ -17,7 +17,7 @@ use tide_shape::ShapeTable;
 
 impl<'a, S: ShapeTable> Caller<'a, S> {
     /// The cell in a register, which has this slot, or why the slot can't be read or written.
-    fn slot_holder<C, O: OwnWords<C>>(
+    fn slot_holder<C, O: OwnRegisters<C>>(
         &self,
         own: &mut O,
         context: &C,
@@ -47,7 +47,7 @@ impl<'a, S: ShapeTable> Caller<'a, S> {
     }
 
     /// What a `Get` is to do.
-    pub(crate) fn plan_get<C, O: OwnWords<C>>(
+    pub(crate) fn plan_get<C, O: OwnRegisters<C>>(
         &self,
         own: &mut O,
         context: &C,
@@ -68,7 +68,7 @@ impl<'a, S: ShapeTable> Caller<'a, S> {
     }
 
     /// What a `Put` is to do.
-    pub(crate) fn plan_put<C, O: OwnWords<C>>(
+    pub(crate) fn plan_put<C, O: OwnRegisters<C>>(
         &self,
         own: &mut O,
         context: &C,

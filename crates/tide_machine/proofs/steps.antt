@@ -34,3 +34,4 @@ pub mod Births
 pub mod Rereading
 pub mod OwnState
 pub mod Moments
+pub mod Visiting

@@ -85,6 +85,7 @@ newcomer p = record {
   full = [];
   sweeping = None;
   left = false;
+  done = false;
   frozen = false;
   words = [];
   base = [];
@@ -92,6 +93,9 @@ newcomer p = record {
   gone = [];
   next = 0;
   ledger = 0;
+  births = 0;
+  start = [];
+  visited = [];
 }
 
 -- the world before anything happened

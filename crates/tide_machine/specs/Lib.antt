@@ -18,3 +18,5 @@ pub mod Groups
 pub mod Own
 pub mod Moment
 pub mod Laws
+pub mod Looked
+pub mod Visiting

@@ -63,8 +63,7 @@ stepped layout shapes w me kind = record {
 }
 
 -- What a participant may do: what each kind asks of its view and of the entry that the step makes. Sweeping in a
--- running
--- part is no one's yet: histories have no entry for a block that was taken to be swept.
+-- running part is no one's yet: histories have no entry for a block that was taken to be swept.
 abbrev pub IsAllowed : Layout → ShapeLists → World → ℕ → Kind → Type 0
 IsAllowed layout shapes w me Split = MaySplit w me
 IsAllowed layout shapes w me (Join ticket) = MayJoin w me ticket

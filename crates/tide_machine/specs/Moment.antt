@@ -1,30 +1,60 @@
 -- What a step tells of the machine at its moment.
-use Rattle.std.specs.Prelude.{ℕ, ◌≡◌, ◌≤◌, true, List, length, filter, Contains}
+use Rattle.std.specs.Prelude.{ℕ, ◌≡◌, ◌+◌, ◌<◌, ◌≤◌, ◌^◌, true, false, not, List, [], length, filter, Contains, ◌⊎◌, None, Some, if◌then◌else◌}
 use Rattle.tide_layout.specs.declared.region.Region.{Region}
+use Rattle.tide_layout.specs.declared.region.Region.TheVariants as region
+use Rattle.tide_machine.specs.Looked.{FreeIsShown}
 use Rattle.tide_machine.specs.Owed.{Owes, Knows, IsOwnWord}
 use Rattle.tide_machine.specs.RunningWave.{RunningWave}
-use Rattle.tide_machine.specs.World.{World}
+use Rattle.tide_machine.specs.World.{World, holds, parties}
+use Rattle.tide_machine.specs.declared.view.Scan.{Scan}
+use Rattle.tide_machine.specs.declared.view.Target.{Target}
 use Rattle.tide_machine.specs.declared.view.View.{View}
+use Rattle.tide_machine.specs.points.Arrays.{ArraysStand}
+use Rattle.tide_machine.specs.points.Scans.{IsAtHand, ScanKnows}
+use Rattle.tide_machine.specs.points.Seen.{HasCallsAlone}
 use Rattle.tide_model.specs.History.{state_after, state_at, is_call_of}
 use Rattle.tide_model.specs.Lawful.{IsLawful}
-use Rattle.tide_model.specs.Layout.{Layout}
+use Rattle.tide_model.specs.Layout.{Layout, cell_count}
 use Rattle.tide_model.specs.Prefix.{IsPrefix}
-use Rattle.tide_model.specs.References.{RefsAreLive}
+use Rattle.tide_model.specs.References.{IsLive, RefsAreLive}
 use Rattle.tide_model.specs.Refused.{ShapeLists}
-use Rattle.tide_model.specs.Room.{window_start, IsFullBlock}
+use Rattle.tide_model.specs.Room.{window_start}
+use Rattle.tide_model.specs.State.{State}
 use Rattle.tide_model.specs.declared.entry.Event.{Event}
 use Rattle.tide_words.proofs.heap_laws.Frames.{is_read}
 use Rattle.tide_words.specs.heap.Heap.{Heap}
 use Rattle.tide_words.specs.heap.Reading.{ReadsAs}
+use Rattle.tide_words.specs.marking.Colours.{is_marking, is_grey, running_cycle, IsMarked}
+use Rattle.tide_words.specs.marking.Marking.{bits_of}
+
+-- What these words, as they stood, say of the cells and arrays that a view works with. The view has the phase from its
+-- ticket. What it holds, scans or has read is live; a grey cell has one holder, and where no cycle marks the view has
+-- none at hand. Its scan's readings are right; and arrays say what the words of their cells tell.
+pub record WorksOn (layout : Layout) (v : View) (words : Heap) (state : State) : Type 0 where
+  pub phase : v.runs ≡ true → (v.marks ≡ is_marking words) × (v.cycle ≡ running_cycle words)
+  pub hands : (cell : ℕ) → IsAtHand v cell → IsLive state cell
+  pub greys : v.who < parties → is_marking words ≡ true → (cell : ℕ) → cell < cell_count layout →
+      bits_of words cell + holds cell v ≤ (if is_grey words cell then 1 else 0)
+  pub idle : is_marking words ≡ false → (v.held ≡ []) × (v.scan ≡ None)
+  pub scan : (scan : Scan) → v.scan ≡ Some scan → ScanKnows layout words state scan
+  pub target : (scan : Scan) (target : Target) → v.scan ≡ Some scan → scan.target ≡ Some target →
+      (target.cell < cell_count layout) × ((words region.Colour target.cell ≡ target.word) ⊎ IsMarked words target.cell)
+  pub arrays : ArraysStand layout words state
 
 -- A step of this view found this word after this history. The words, with all owed ones stored, read as the state after
 -- it; what the view knows stands there, and so does the word that was found, where no other may owe it. The view has
--- seen a beginning of the history, with all of its own calls, and the blocks that it found full were so.
+-- seen a beginning of the history, with all of its own calls, and in the blocks where it looked nothing was free but
+-- what it saw. It has left where its mutator is active no more, and each colour of its cycle has a word. Since the part
+-- was opened the history has calls alone. The words as they stood, the one that was found among them, say of what the
+-- view holds and scans what the wave says.
 pub record Moment (layout : Layout) (shapes : ShapeLists) (v : View) (log : List Event) (at : Region) (index read : ℕ)
     : Type 0 where
   pub before : IsPrefix v.seen log
   pub lawful : IsLawful layout shapes log
+  pub calls_alone : HasCallsAlone log
   pub own : filter (λ event. is_call_of v.who event.entry) log ≡ v.mine
+  pub left : v.left ≡ not ((state_after layout log).active v.who)
+  pub few : v.runs ≡ true → v.cycle < 2 ^ 62
   pub refs : RefsAreLive (state_after layout log)
   pub settled : Heap
   pub reads : ReadsAs layout shapes settled (state_after layout log)
@@ -32,8 +62,13 @@ pub record Moment (layout : Layout) (shapes : ShapeLists) (v : View) (log : List
   pub found : is_read at ≡ true →
       ((p word : ℕ) → IsOwnWord layout (state_after layout log) p at index → Owes v at index word → ⊥) →
       ((p : ℕ) → IsOwnWord layout (state_after layout log) p at index → p ≡ v.who) → settled at index ≡ read
-  pub full : (block moment : ℕ) → Contains v.full (record { block = block; moment = moment }) →
-      (window_start v.who log ≤ moment) × (moment ≤ length log) × IsFullBlock layout (state_at layout log moment) block
+  pub words : Heap
+  pub is_word : words at index ≡ read
+  pub works : WorksOn layout v words (state_after layout log)
+  pub full : (block moment word : ℕ) →
+      Contains v.full (record { block = block; moment = moment; word = word }) →
+      (window_start v.who log ≤ moment) × (moment ≤ length log)
+      × FreeIsShown layout (state_at layout log moment) block word
 
 -- in a running part that is so of each participant and each word
 abbrev pub StepsAreTold : Type 0

@@ -98,10 +98,11 @@ pub struct Round {
     pub block: u64,
 }
 
-/// A block in which nothing was free at a moment.
+/// A block in which nothing was free at a moment but what the word of its free bits showed.
 pub struct Found {
     pub block: u64,
     pub moment: u64,
+    pub word: u64,
 }
 
 /// A block whose sweep was taken.
@@ -111,6 +112,13 @@ pub struct Sweeping {
     pub given: bool,
     /// The words that are zeroed.
     pub zeroed: LinkedList<Owed>,
+}
+
+/// What a note tells of its participant's visits: how many there were, and whether it has done its part.
+pub struct Visited {
+    pub who: u64,
+    pub visits: u64,
+    pub done: bool,
 }
 
 /// What a seat knows.
@@ -148,6 +156,8 @@ pub struct View {
     pub sweeping: Option<Sweeping>,
     /// It has made the entry Retire.
     pub left: bool,
+    /// Of a note: its participant has done its part. Of the collector: so have all whose notes it has.
+    pub done: bool,
     /// Of the collector: nobody but it steps.
     pub frozen: bool,
     /// Of the collector while frozen: the words, and those at its last entry or at the freeze.
@@ -158,6 +168,11 @@ pub struct View {
     pub gone: LinkedList<u64>,
     /// Of the collector: no participant from here on has its seat yet.
     pub next: u64,
-    /// Of the collector: the visits that the notes of the part tell.
+    /// Of the collector: the visits that the notes of the part tell, and the births.
     pub ledger: u64,
+    pub births: u64,
+    /// Of the collector: the history up to where the part was opened, with that entry.
+    pub start: LinkedList<Event>,
+    /// Of the collector: what the notes of the part tell of visits that aren't entered yet.
+    pub visited: LinkedList<Visited>,
 }

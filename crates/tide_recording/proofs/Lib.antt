@@ -1,5 +1,4 @@
 -- The lemmas of this crate.
 pub mod Calling
-pub mod FewBirths
 pub mod FrozenParts
 pub mod Opening

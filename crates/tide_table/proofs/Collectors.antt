@@ -1,8 +1,13 @@
 -- The collector's steps keep the rule: it freezes, stores words, enters, opens, takes notes in and gives tickets out.
 use Rattle.std.proofs.Common.{◌≡◌, ℕ, ◌+◌, ◌≤◌, ◌⊎◌, List, [], ◌∷◌, ◌++◌, length, sym, refl, ap, ◌∙◌, inl, inr, subst, arith, Bool, true, false, set, MatchBool, length-set, append-nil}
-use Rattle.std.proofs.lemmas.Bool.{cases_Bool}
+use Rattle.std.proofs.lemmas.Bool.{and_parts, cases_Bool, eq-eqb, ne_eqb}
+use Rattle.tide_machine.proofs.freezes.Progress.{progress}
+use Rattle.tide_machine.specs.points.Witness.{IsVisitor}
+use Rattle.tide_machine.specs.Progress.{HasDone}
+use Rattle.tide_heap.specs.Done.{HasDonePart}
 use Rattle.std.proofs.lemmas.List.Elements.{filter-append}
-use Rattle.std.specs.Prelude.{filter, if◌then◌else◌, ◌==◌, not}
+use Rattle.std.specs.List.{list_all}
+use Rattle.std.specs.Prelude.{◌<◌, ◌&&◌, filter, if◌then◌else◌, ◌==◌, not}
 use Rattle.tide_layout.specs.Region.{word_count, place_in}
 use Rattle.tide_layout.specs.declared.region.Region.TheVariants as region
 use Rattle.tide_core.specs.FrozenWave.{FrozenWave}
@@ -12,29 +17,34 @@ use Rattle.tide_machine.proofs.freezes.OpeningParts.{RunningWave-opened}
 use Rattle.tide_machine.specs.Frozen.{FrozenWith, FrozenMachine, MayOpen}
 use Rattle.tide_machine.specs.RunningWave.{RunningWave}
 use Rattle.tide_machine.specs.World.{parties, total}
-use Rattle.tide_machine.specs.declared.view.Role.TheVariants.{Collector}
+use Rattle.tide_machine.specs.declared.view.Role.TheVariants.{Collector, Note}
 use Rattle.tide_machine.specs.declared.view.View.{View}
+use Rattle.tide_machine.specs.declared.view.Visited.{Visited}
 use Rattle.tide_machine.specs.points.Marks.{counted_in}
+use Rattle.tide_machine.specs.points.Seen.{WhoLeftIsInactive}
 use Rattle.tide_machine.specs.points.Sweeps.{SweptAreBelow, TakenAreClean}
 use Rattle.tide_model.proofs.Histories.{IsLawful-push}
 use Rattle.tide_model.proofs.SinceLaws.{count-push}
 use Rattle.tide_model.specs.History.{is_call_of, is_open, plain, state_after}
-use Rattle.tide_model.specs.Lawful.{Stands}
+use Rattle.tide_model.specs.Lawful.{IsLawful, Stands}
 use Rattle.tide_model.specs.Layout.{Layout}
 use Rattle.tide_model.specs.Prefix.{IsPrefix, prefix_refl, prefix_trans, prefix_push}
 use Rattle.tide_model.specs.Refused.{ShapeLists}
 use Rattle.tide_model.specs.declared.entry.Entry.TheVariants.{Open}
 use Rattle.tide_model.specs.declared.entry.Event.{Event}
-use Rattle.tide_table.proofs.Beginnings.{longer_ok, same_lists}
+use Rattle.tide_heap.proofs.Beginnings.{longer_ok, same_lists}
+use Rattle.tide_heap.proofs.Births.{born_to-none, born_to-quiet, births_few, born_to_all, part_calls, start-opened, start-push, told_all, told_more, told_none, total_same}
+use Rattle.tide_heap.specs.Births.{births_in, born_to, told_births}
+use Rattle.tide_model.specs.Since.{born_since, is_call, since}
 use Rattle.tide_table.proofs.FrozenWords.{FrozenWith-read, FrozenWith-more}
 use Rattle.tide_table.proofs.Heeding.{own, mode_of, ok_of, prefix_of, collector_step, continue_part}
-use Rattle.tide_table.proofs.Leaving.{inactive-push, active-push}
-use Rattle.tide_table.proofs.Members.{add_copy, party_cases}
+use Rattle.tide_heap.proofs.Leaving.{inactive-push, active-push}
+use Rattle.tide_heap.proofs.Members.{add_copy, few_parties, party_cases}
 use Rattle.tide_table.proofs.Spans.{marks_read, span_of, span_entered}
-use Rattle.tide_table.proofs.Tallies.{total_few}
-use Rattle.tide_table.specs.Parties.{In, IsParty, longer, tally}
-use Rattle.tide_table.specs.Rule.{NoteOk, IsFrozen, IsRunning, Tabled}
-use Rattle.tide_table.specs.Turns.{ticket_of, noted, frozen_with, restored, entered_with, open_entry, opened}
+use Rattle.tide_table.proofs.Tallies.{sum_one, total_few}
+use Rattle.tide_heap.specs.Parties.{In, IsParty, longer, tally}
+use Rattle.tide_heap.specs.Rule.{Told, MemberOk, NoteOk, IsFrozen, IsRunning, Tabled}
+use Rattle.tide_heap.specs.Turns.{ticket_of, noted, frozen_with, restored, entered_with, open_entry, opened}
 use Rattle.tide_words.proofs.heap_laws.HeapLaws.{reads_write, Reads-heap_of}
 use Rattle.tide_words.specs.heap.Heap.{Heap, write, Reads, heap_of}
 use lib.ListN.{get_elem?}
@@ -46,6 +56,18 @@ module _ (layout : Layout) (shapes : ShapeLists) (words : List ℕ) (views : Lis
   ledger_of : tally v.period k.part v.notes ≡ v.ledger
   ledger_of = subst (λ (x : View). tally x.period k.part x.notes ≡ x.ledger)
       (sym (own layout shapes words views log me v k there is)) k.ledger
+
+  told_of : told_births v.period k.part v.notes ≡ v.births
+  told_of = subst (λ (x : View). told_births x.period k.part x.notes ≡ x.births)
+      (sym (own layout shapes words views log me v k there is)) k.told
+
+  births_of : (i : ℕ) → births_in v.period (k.part i) ≡ born_to i log
+  births_of i = subst (λ (x : View). births_in x.period (k.part i) ≡ born_to i log)
+      (sym (own layout shapes words views log me v k there is)) (k.births i)
+
+  start_of : v.start ++ since is_open log ≡ log
+  start_of = subst (λ (x : View). x.start ++ since is_open log ≡ log)
+      (sym (own layout shapes words views log me v k there is)) k.start
 
   running_mode : v.frozen ≡ false → IsRunning layout shapes words log v k.part
   running_mode e = subst (λ b. MatchBool b (IsFrozen layout shapes words log v k.part)
@@ -102,11 +124,96 @@ module _ (layout : Layout) (shapes : ShapeLists) (words : List ℕ) (views : Lis
   enough all_in = (let most = total_few (λ p. counted_in v.period (k.part p)) v.notes (none_else all_in) parties in
       let t = ledger_of in omega (arith, most, t))
 
+  -- who isn't noted counts no birth in the part
+  none_born : AllIn → (p : ℕ) → (In p v.notes → ⊥) → births_in v.period (k.part p) ≡ 0
+  none_born all_in p not_in = elim (party_cases layout p) [
+    | inl party ↦ (let o = ok_of layout shapes words views log me v k there is p party in elim (all_in p party) [
+      | inl a ↦ absurd (not_in a)
+      | inr a ↦ elim (o.over a) [
+        | inl is_in ↦ absurd (not_in is_in)
+        | inr before ↦ ap {B = ℕ} (λ (b : Bool). if b then (k.part p).born else 0)
+            (ne_eqb (k.part p).begun v.period (λ e. omega (arith, e, before)))
+      ]
+    ])
+    | inr stranger ↦ unborn ((k.part p).begun == v.period) (ap (λ (x : View). x.born) (k.strangers p stranger))
+  ]
+    where
+      unborn : (b : Bool) → (k.part p).born ≡ 0 → (if b then (k.part p).born else 0) ≡ 0
+      unborn true none = none
+      unborn false none = refl
+
+  -- so the notes tell the births of the history since the part was opened
+  births_told : AllIn → IsLawful layout shapes log → v.births ≡ born_since is_open log
+  births_told all_in lawful = sym told_of ∙ told_all v.period k.part v.notes (none_born all_in)
+      ∙ total_same (λ i. births_in v.period (k.part i)) (λ i. born_to i log) parties (λ i below. births_of i)
+      ∙ born_to_all layout shapes k.limits log lawful
+
+  -- who is active no more has left for good
+  gone_told : AllIn → WhoLeftIsInactive k.part (state_after layout log) → (i : ℕ) → IsParty layout i →
+      (state_after layout log).active i ≡ false → In i v.gone
+  gone_told all_in left i party none = elim (all_in i party) [
+    | inl a ↦ (ok_of layout shapes words views log me v k there is i party).leaves a (left i ∙ ap not none)
+    | inr a ↦ a
+  ]
+
+  -- where each note says that its participant has done its part, one of the visitors made a cell black
+  progress_told : AllIn → IsRunning layout shapes words log v k.part → v.marks ≡ true → 0 < layout.visitors →
+      v.done ≡ true → 0 < v.ledger
+  progress_told all_in run marks visitors done =
+      let one = progress layout shapes (record { heap = run.heap; part = k.part; log = log }) run.wave (all_parked all_in)
+      (sym run.marks ∙ marks) visitors each in
+      let p = one.0 in
+      let visitor = one.1 in
+      let counted : counted_in v.period (k.part p) ≡ (k.part p).visits =
+      ap {B = ℕ} (λ (b : Bool). if b then (k.part p).visits else 0)
+      (eq-eqb (k.part p).begun v.period ((member p visitor).began (noted p visitor) done)) in
+      let some = sum_one (λ i. counted_in v.period (k.part i)) p v.notes (noted p visitor) in
+      let more = one.2 in
+      let told = ledger_of in
+      omega (arith, counted, some, more, told)
+    where
+      party : (p : ℕ) → IsVisitor layout p → IsParty layout p
+      party p visitor = inr visitor
+
+      member : (p : ℕ) (visitor : IsVisitor layout p) → MemberOk layout v (k.part p) p
+      member p visitor = ok_of layout shapes words views log me v k there is p (party p visitor)
+
+      noted : (p : ℕ) → IsVisitor layout p → In p v.notes
+      noted p visitor = elim (all_in p (party p visitor)) [
+        | inl a ↦ a
+        | inr a ↦ absurd (let below = (member p visitor).mutator ((member p visitor).gone a).0 in let m = k.limits.few_mutators in
+            let from = visitor.0 in omega (arith, below, m, from))
+      ]
+
+      told : (p : ℕ) (visitor : IsVisitor layout p) → Told v (k.part p)
+      told p visitor = (member p visitor).told (let o = member p visitor in let b = o.behind in
+          let now = (o.noted (noted p visitor)).0 in let few = o.ticket in omega (arith, b, now, few))
+
+      is_done : (p : ℕ) (visitor : IsVisitor layout p) → HasDonePart layout (k.part p) → HasDone layout (k.part p)
+      is_done p visitor (inl below) = absurd (let from = visitor.0 in let who = run.wave.known.who p in
+          omega (arith, below, from, who))
+      is_done p visitor (inr (inl unmarked)) = absurd (let tells = (told p visitor).marks in
+          let clash : false ≡ true = sym unmarked ∙ tells ∙ marks in cc)
+      is_done p visitor (inr (inr has)) = has
+
+      each : (p : ℕ) → IsVisitor layout p → ((k.part p).begun ≡ run.heap region.Period 0) × (0 < (k.part p).run)
+          × HasDone layout (k.part p)
+      each p visitor = (
+        (member p visitor).began (noted p visitor) done ∙ sym run.period,
+        (let some = run.some_run marks visitors in let tells = (told p visitor).run in omega (arith, some, tells)),
+        is_done p visitor ((member p visitor).done (noted p visitor) done),
+      )
+
   -- all have stopped: the collector has the words to itself, and they meet the wave at a freeze with the history that it
   -- has seen
   pub freeze_all : v.frozen ≡ false → AllIn → FrozenWith layout shapes (heap_of layout words) v.seen v.ledger
       × (length words ≡ word_count layout)
       × Tabled layout shapes words (set views me (frozen_with words v)) log
+      × (v.seen ≡ v.start ++ since is_open log)
+      × (list_all (λ event. is_call event.entry) (since is_open log) ≡ true)
+      × (v.births ≡ born_since is_open log) × (born_since is_open log ≤ 20480)
+      × ((i : ℕ) → IsParty layout i → (state_after layout v.seen).active i ≡ false → In i v.gone)
+      × (v.marks ≡ true → 0 < layout.visitors → v.done ≡ true → 0 < v.ledger)
   freeze_all thawed all_in =
       let run = running_mode thawed in
       let seen = all_seen all_in in
@@ -133,11 +240,17 @@ module _ (layout : Layout) (shapes : ShapeLists) (words : List ℕ) (views : Lis
               run = refl;
               seen = prefix_refl v.seen;
               ledger = ledger_of;
+              told = told_of;
+              start = refl;
+              kept = λ i a. a;
+              done = λ e. e;
+              out = λ j x at role seat none a. none a;
               notes = λ i l a. inl a;
               stays = λ i a. a;
               gone = λ i l a. inl a;
             }
             (prefix_refl log) (prefix_of layout shapes words views log me v k there is) k.retired (inl seen)
+            (λ i. refl) start_of
             record {
               words_are = refl;
               long = run.reads.all_words;
@@ -152,6 +265,13 @@ module _ (layout : Layout) (shapes : ShapeLists) (words : List ℕ) (views : Lis
               empty = run.wave.parked;
               all_in = all_in;
             },
+        sym seen ∙ sym start_of,
+        part_calls log run.wave.calls_alone,
+        births_told all_in run.wave.lawful,
+        births_few layout shapes k.limits log run.wave.lawful run.wave.calls_alone,
+        λ i party left. gone_told all_in run.wave.left i party
+            (subst (λ (l : List Event). (state_after layout l).active i ≡ false) (sym seen) left),
+        progress_told all_in run,
       )
 
   -- a store of the collector while frozen
@@ -168,11 +288,17 @@ module _ (layout : Layout) (shapes : ShapeLists) (words : List ℕ) (views : Lis
         run = refl;
         seen = prefix_refl v.seen;
         ledger = ledger_of;
+        told = told_of;
+        start = refl;
+        kept = λ i a. a;
+        done = λ e. e;
+        out = λ j x at role seat none a. none a;
         notes = λ i l a. inl a;
         stays = λ i a. a;
         gone = λ i l a. inl a;
       }
       (prefix_refl log) (prefix_of layout shapes words views log me v k there is) k.retired (inl now.seen_all)
+      (λ i. refl) start_of
       (subst (λ b. MatchBool b (IsFrozen layout shapes (set words at x) log (restored at x v) k.part)
       (IsRunning layout shapes (set words at x) log (restored at x v) k.part)) (sym shut)
       record {
@@ -189,13 +315,13 @@ module _ (layout : Layout) (shapes : ShapeLists) (words : List ℕ) (views : Lis
         all_in = now.all_in;
       })
 
-  -- an entry of the collector's own
-  pub enter : (event : Event) → v.frozen ≡ true → Stands layout shapes v.seen event →
+  -- an entry of the collector's own, which leaves some visits to be entered
+  pub enter : (event : Event) (left : List Visited) → v.frozen ≡ true → Stands layout shapes v.seen event →
       ((p : ℕ) → is_call_of p event.entry ≡ false) → is_open event.entry ≡ false →
-      Tabled layout shapes words (set views me (entered_with event v)) (log ++ event ∷ [])
-  enter event shut stands no_call no_open =
+      Tabled layout shapes words (set views me (record (entered_with event v) { visited = left })) (log ++ event ∷ [])
+  enter event left shut stands no_call no_open =
       let now = frozen_mode shut in
-      let w = entered_with event v in
+      let w = record (entered_with event v) { visited = left } in
       let seen : log ++ event ∷ [] ≡ w.seen = ap (λ (l : List Event). l ++ event ∷ []) now.seen_all in
       continue_part layout shapes words views log me v k there is w words (log ++ event ∷ [])
       record {
@@ -207,6 +333,11 @@ module _ (layout : Layout) (shapes : ShapeLists) (words : List ℕ) (views : Lis
         run = refl;
         seen = prefix_push v.seen event;
         ledger = ledger_of;
+        told = told_of;
+        start = refl;
+        kept = λ i a. a;
+        done = λ e. e;
+        out = λ j x at role seat none a. none a;
         notes = λ i l a. inl a;
         stays = λ i a. a;
         gone = λ i l a. inl a;
@@ -214,6 +345,7 @@ module _ (layout : Layout) (shapes : ShapeLists) (words : List ℕ) (views : Lis
       (prefix_push log event)
       (subst (λ (l : List Event). IsPrefix l (log ++ event ∷ [])) seen (prefix_refl (log ++ event ∷ [])))
       (λ i left. inactive-push layout log event i (k.retired i left)) (inl seen)
+      (λ i. born_to-quiet i log event no_open (no_call i)) (start-push v.start log event no_open start_of)
       (subst (λ b. MatchBool b (IsFrozen layout shapes words (log ++ event ∷ []) w k.part)
       (IsRunning layout shapes words (log ++ event ∷ []) w k.part)) (sym shut)
       record {
@@ -275,10 +407,13 @@ module _ (layout : Layout) (shapes : ShapeLists) (words : List ℕ) (views : Lis
       collector_step layout shapes words views log me v k there is w
       (set words (place_in layout region.Period 0) (v.period + 1)) (log ++ event ∷ []) is (omega arith) refl
       (prefix_push log event)
-      (λ i l x h. record {
+      (λ j x at role l h. record {
         behind = h.behind;
-        now = λ e. absurd (let a = h.behind in let o = ok_of layout shapes words views log me v k there is i l in
-            let b = o.behind in let c = o.ticket in omega (arith, a, b, c, e));
+        now = λ e. absurd (not_now x l h.behind e);
+        one = λ e. absurd (not_now x l h.behind e);
+        began = λ e. absurd (not_now x l h.behind e);
+        done = λ e. absurd (not_now x l h.behind e);
+        out = λ e a. absurd a;
       })
       (λ x h e. absurd (let a = h.behind in omega (arith, a, e)))
       (λ i l. let o = ok_of layout shapes words views log me v k there is i l in record {
@@ -293,9 +428,16 @@ module _ (layout : Layout) (shapes : ShapeLists) (words : List ℕ) (views : Lis
         noted = λ a. absurd a;
         gone = λ a. (let g = o.gone a in
             (g.0, g.1, prefix_trans (k.part i).seen v.seen w.seen g.2 (prefix_push v.seen event), g.3));
+        over = λ a. inr (let b = now.begun i in omega (arith, b));
+        leaves = λ a. absurd a;
+        began = λ a. absurd a;
+        done = λ a. absurd a;
       })
       (subst (λ (l : List Event). IsPrefix l (log ++ event ∷ [])) seen (prefix_refl (log ++ event ∷ [])))
       (λ i left. inactive-push layout log event i (k.retired i left)) (inl seen) refl
+      (λ i. not_begun (k.part i) (now.begun i) ∙ sym (born_to-none i log event refl))
+      (told_none (v.period + 1) k.part)
+      (subst (λ (l : List Event). l ++ since is_open (log ++ event ∷ []) ≡ log ++ event ∷ []) seen (start-opened log event refl))
       record {
         heap = write heap region.Period 0 (v.period + 1);
         reads = reads_write layout words heap region.Period 0 (v.period + 1) reads (omega arith);
@@ -307,12 +449,23 @@ module _ (layout : Layout) (shapes : ShapeLists) (words : List ℕ) (views : Lis
         period = refl;
         marks = refl;
         cycle = refl;
+        some_run = λ marks visitors. (may marks visitors).0;
       }
+    where
+      not_now : (x : View) → IsParty layout x.who → x.period ≤ (k.part x.who).period → x.period ≡ v.period + 1 → ⊥
+      not_now x l behind e = (let o = ok_of layout shapes words views log me v k there is x.who l in
+          let b = o.behind in let c = o.ticket in omega (arith, behind, b, c, e))
+
+      not_begun : (x : View) → x.begun ≤ v.period → births_in (v.period + 1) x ≡ 0
+      not_begun x few = ap {B = ℕ} (λ (b : Bool). if b then x.born else 0)
+          (ne_eqb x.begun (v.period + 1) (λ e. omega (arith, e, few)))
 
   -- it takes in a note of the part that is open
-  pub note_in : (u : View) → v.frozen ≡ false → IsParty layout u.who → NoteOk v (k.part u.who) u → u.period ≡ v.period →
+  pub note_in : (u : View) (other : ℕ) → v.frozen ≡ false → IsParty layout u.who →
+      NoteOk layout v (k.part u.who) (k.note_at u.who) other u → u.period ≡ v.period →
+      ((x : View) → get_elem? views other ≡ some x → x.role ≡ Note → ⊥) →
       Tabled layout shapes words (set views me (noted v u)) log
-  note_in u thawed party note now_part =
+  note_in u other thawed party note now_part spent =
       let run = running_mode thawed in
       let o = ok_of layout shapes words views log me v k there is u.who party in
       let same = note.now now_part in
@@ -337,17 +490,37 @@ module _ (layout : Layout) (shapes : ShapeLists) (words : List ℕ) (views : Lis
         ledger = (let t = ledger_of in
             let one : counted_in v.period (k.part u.who) ≡ (if u.begun == v.period then u.visits else 0) =
             ap (λ (x : ℕ × ℕ). if x.0 == v.period then x.1 else 0) (λ i. (same.3 i, same.2 i)) in omega (arith, t, one));
+        told = (let t = told_of in
+            let more = told_more v.period k.part u.who v.notes (few_parties layout k.limits u.who party) (note.out now_part) in
+            let one : births_in v.period (k.part u.who) ≡ (if u.begun == v.period then u.born else 0) =
+            ap (λ (x : ℕ × ℕ). if x.0 == v.period then x.1 else 0) (λ i. (same.3 i, same.5 i)) in omega (arith, t, more, one));
+        start = refl;
+        kept = λ i a. inr a;
+        done = λ e. (and_parts v.done u.done e).0;
+        out = λ j x at role seat none a. elim a [
+          | inl e ↦ spent x (subst (λ (i : ℕ). get_elem? views i ≡ some x)
+              (sym seat ∙ ap k.note_at e ∙ note.one now_part) at) role
+          | inr b ↦ none b
+        ];
         notes = λ i l a. elim a [
-          | inl e ↦ inr (subst (λ (j : ℕ). ((k.part j).period ≡ v.period) × IsPrefix (k.part j).seen (longer v.seen u.seen))
-              (sym e) (period, all))
+          | inl e ↦ inr (subst (λ (j : ℕ). ((k.part j).period ≡ v.period) × IsPrefix (k.part j).seen (longer v.seen u.seen)
+              × ((k.part j).left ≡ true → In j (if u.left then u.who ∷ v.gone else v.gone))
+              × ((v.done && u.done) ≡ true → ((k.part j).begun ≡ v.period) × HasDonePart layout (k.part j)))
+              (sym e) (
+                period,
+                all,
+                λ left. subst (λ (b : Bool). In u.who (if b then u.who ∷ v.gone else v.gone)) (sym left ∙ same.1) (inl refl),
+                λ done. (note.began now_part, note.done now_part (and_parts v.done u.done done).1),
+              ))
           | inr b ↦ inl b
         ];
         stays = λ i a. by_left u.left i a;
         gone = λ i l a. elim (gone_cases u.left refl i a) [
           | inl b ↦ inl b
           | inr b ↦ inr (subst (λ (j : ℕ). ((k.part j).left ≡ true) × ((k.part j).runs ≡ false)
-              × IsPrefix (k.part j).seen (longer v.seen u.seen) × ((k.part j).ticket ≤ (k.part j).period)) (sym b.0)
-              (same.1 ∙ b.1, stopped, all, (let c = o.ticket in omega (arith, c, period))))
+              × IsPrefix (k.part j).seen (longer v.seen u.seen) × ((k.part j).ticket ≤ (k.part j).period)
+              × In j (u.who ∷ v.notes)) (sym b.0)
+              (same.1 ∙ b.1, stopped, all, (let c = o.ticket in omega (arith, c, period)), inl refl))
         ];
       } (prefix_refl log) long.whole k.retired
       (inr (
@@ -355,6 +528,7 @@ module _ (layout : Layout) (shapes : ShapeLists) (words : List ℕ) (views : Lis
         λ h. same_lists log (longer v.seen u.seen)
             (subst (λ (l : List Event). IsPrefix l (longer v.seen u.seen)) (sym h) long.one) long.whole,
       ))
+      (λ i. refl) start_of
       (subst (λ b. MatchBool b (IsFrozen layout shapes words log (noted v u) k.part)
       (IsRunning layout shapes words log (noted v u) k.part)) (sym thawed)
       record {
@@ -364,6 +538,7 @@ module _ (layout : Layout) (shapes : ShapeLists) (words : List ℕ) (views : Lis
         period = run.period;
         marks = run.marks;
         cycle = run.cycle;
+        some_run = run.some_run;
       })
     where
       by_left : (b : Bool) (i : ℕ) → In i v.gone → In i (if b then u.who ∷ v.gone else v.gone)
@@ -378,7 +553,7 @@ module _ (layout : Layout) (shapes : ShapeLists) (words : List ℕ) (views : Lis
 
   -- its ticket
   pub ticket_split : Tabled layout shapes words (views ++ ticket_of v ∷ []) log
-  ticket_split = add_copy layout shapes words views log (ticket_of v) k (λ j. record {
+  ticket_split = add_copy layout shapes words views log (ticket_of v) k record {
     behind = (let e = ap (λ (x : View). x.period) (own layout shapes words views log me v k there is) in omega (arith, e));
     prefix = prefix_of layout shapes words views log me v k there is;
     told = λ _. record {
@@ -386,4 +561,4 @@ module _ (layout : Layout) (shapes : ShapeLists) (words : List ℕ) (views : Lis
       cycle = ap (λ (x : View). x.cycle) (own layout shapes words views log me v k there is);
       run = ap (λ (x : View). x.run) (own layout shapes words views log me v k there is);
     };
-  })
+  }

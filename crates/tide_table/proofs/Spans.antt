@@ -16,7 +16,7 @@ use Rattle.tide_model.specs.State.{CellState, State, idle, marking}
 use Rattle.tide_model.specs.declared.entry.Entry.{Entry}
 use Rattle.tide_model.specs.declared.entry.Entry.TheVariants.{Call, Begin, Pause, Visits, End, Sweep, Open}
 use Rattle.tide_model.specs.declared.entry.Event.{Event}
-use Rattle.tide_table.specs.Rule.{SpanStays}
+use Rattle.tide_heap.specs.Rule.{SpanStays}
 use Rattle.tide_words.specs.forms.ColourWord.{cycle_of}
 use Rattle.tide_words.specs.heap.Heap.{Heap}
 use Rattle.tide_words.specs.heap.Reading.{ReadsAs}

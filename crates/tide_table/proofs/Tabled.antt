@@ -1,121 +1,67 @@
--- Each step of a participant's coming and going, and of the collector, keeps the rule of the table.
+-- Each step of the collector keeps the rule of the table.
 use Rattle.std.proofs.Common.{◌≡◌, ℕ, zero, suc, ◌+◌, ◌<◌, ◌≤◌, ◌⊎◌, List, [], ◌∷◌, ◌++◌, length, sym, refl, ap, ◌∙◌, inl, inr, subst, arith, true, false, set, get_or, replicate, Some}
 use Rattle.std.proofs.lemmas.Bool.{cases_eq}
 use Rattle.std.specs.Prelude.{slice_get}
-use Rattle.atomic_table.proofs.Lists.{set_again, set_else}
-use Rattle.atomic_table.specs.Table.{State, Me, keeps, stepped, Allows, Splits, Joins, opening, Final, Seen}
+use Rattle.atomic_table.proofs.Lists.{set_again, set_else, set_here}
+use Rattle.atomic_table.specs.Table.{Me, keeps, Allows, Splits, Joins, opening, Final, Seen}
 use Rattle.tide_layout.specs.Limits.{IsWithinLimits}
-use Rattle.tide_layout.specs.Region.{place_in, base_of, size_of, word_count}
+use Rattle.tide_layout.specs.Region.{place_in, base_of, word_count}
 use Rattle.tide_layout.specs.declared.region.Region.TheVariants as region
 use Rattle.tide_core.specs.FrozenWave.{FrozenWave}
 use Rattle.tide_machine.specs.Frozen.{MayOpen, newcomer}
 use Rattle.tide_machine.specs.points.Sweeps.{SweptAreBelow, TakenAreClean}
 use Rattle.tide_words.specs.heap.Heap.{heap_of}
-use Rattle.tide_machine.specs.Kind.{index_of_stopped}
-use Rattle.tide_machine.specs.May.{Rests}
 use Rattle.tide_machine.specs.World.{parties}
-use Rattle.tide_machine.specs.declared.view.Role.TheVariants.{Collector, Member, Note, Ticket}
+use Rattle.tide_machine.specs.declared.view.Role.TheVariants.{Collector, Note, Spent}
 use Rattle.tide_machine.specs.declared.view.View.{View}
-use Rattle.tide_machine.specs.kinds.Activate.{begun_view}
-use Rattle.tide_machine.specs.kinds.Split.{split_view}
-use Rattle.tide_machine.specs.kinds.StoreStopped.{stopped_view}
+use Rattle.tide_machine.specs.declared.view.Visited.{Visited}
 use Rattle.tide_model.proofs.Histories.{IsLawful-nil}
 use Rattle.tide_model.specs.History.{is_call_of, is_open, state_after}
 use Rattle.tide_model.specs.Lawful.{IsLawful, Stands}
 use Rattle.tide_model.specs.Layout.{Layout}
 use Rattle.tide_model.specs.Prefix.{prefix_refl}
 use Rattle.tide_model.specs.Refused.{ShapeLists}
+use Rattle.tide_model.specs.Since.{since}
 use Rattle.tide_model.specs.declared.entry.Event.{Event}
 use Rattle.tide_table.proofs.Collectors.{freeze_all, frozen_store, frozen_mode, enter, open_next, note_in, ticket_split}
 use Rattle.tide_table.proofs.Heeding.{own}
-use Rattle.tide_table.proofs.Members.{knows_as, known_as, spend, few_parties}
+use Rattle.tide_steps.proofs.Comings.{unmoved}
+use Rattle.tide_heap.proofs.Members.{knows_as, known_as, spend, few_parties}
 use Rattle.tide_table.proofs.Seating.{seat_member}
-use Rattle.tide_table.proofs.Turning.{begin_here, end_here, hear_here, note_split}
-use Rattle.tide_table.specs.Parties.{In, IsParty, up_to}
-use Rattle.tide_table.specs.Rule.{NoteOk, Knows, Tabled, Rule}
-use Rattle.tide_table.specs.Turns.{first_view, heard_view, note_of, seating, ticket_of, spent, noted, frozen_with, restored, entered_with, open_entry, opened, Freezes}
+use Rattle.tide_heap.proofs.Turning.{below}
+use Rattle.tide_heap.specs.Parties.{In, IsParty, up_to}
+use Rattle.tide_heap.specs.Rule.{NoteOk, Knows, Tabled, Rule}
+use Rattle.tide_heap.specs.Turns.{first_view, seating, ticket_of, spent, noted, frozen_with, restored, entered_with, open_entry, opened, Freezes}
 use lib.ListN.{get_elem?}
-use lib.Seq.{set-get_or}
+use lib.Seq.{set_comm}
 use mathlib.Core.Option.{some, some-injective, some-ne-none}
-
-abbrev St : Type 0
-St = State (Unit {0}) View
 
 abbrev M : Type 0
 M = Me (Unit {0}) View
 
--- a load changes no word
-unmoved : (layout : Layout) (shapes : ShapeLists) (s : St) (i id : ℕ) (w : View) →
-    Rule layout shapes record { words = s.words; homes = s.homes; views = set s.views id w } → (cs : List (ℕ × Unit {0})) →
-    Rule layout shapes (stepped s i (get_or s.words i 0) id cs w keeps)
-unmoved layout shapes s i id w r cs = subst (λ (ws : List ℕ). Rule layout shapes record {
-  words = ws;
-  homes = s.homes;
-  views = set s.views id w;
-}) (sym (set-get_or s.words i 0)) r
-
 module _ (layout : Layout) (shapes : ShapeLists) where
-  pub begins : (slots id : ℕ) (me : M) → me.0.role ≡ Member → me.0.runs ≡ false → me.0.left ≡ false →
-      me.0.period < me.0.ticket → Allows (Rule layout shapes) slots id me 0 (λ x. x) (λ _ b. b.0 ≡ begun_view me.0)
-  begins slots id me is idle stays later s rule long there fits = (
-    begun_view me.0,
-    keeps,
-    tt,
-    unmoved layout shapes s 0 id (begun_view me.0) record {
-      log = rule.log;
-      tabled = begin_here layout shapes s.words s.views rule.log id me.0 rule.tabled there is idle stays later;
-    } me.1,
-    refl,
-  )
-
-  pub ends : (slots id : ℕ) (me : M) (at word : ℕ) → me.0.role ≡ Member → me.0.runs ≡ true → Rests me.0 →
-      at ≡ place_in layout region.Stopped (index_of_stopped layout me.0.who) →
-      index_of_stopped layout me.0.who < size_of layout region.Stopped → word ≡ me.0.ticket →
-      Allows (Rule layout shapes) slots id me at (λ _. word) (λ _ b. b.0 ≡ stopped_view me.0)
-  ends slots id me at word is act rests place inside period s rule long there fits = (
-    stopped_view me.0,
-    keeps,
-    tt,
-    record {
-      log = rule.log;
-      tabled = subst (λ (x : ℕ × ℕ). Tabled layout shapes (set s.words x.0 x.1) (set s.views id (stopped_view me.0)) rule.log)
-          (λ i. (sym place i, sym period i))
-          (end_here layout shapes s.words s.views rule.log id me.0 rule.tabled there is act rests inside);
-    },
-    refl,
-  )
-
-  pub notes : (id : ℕ) (v : View) → v.role ≡ Member → v.runs ≡ false → v.begun ≡ v.ticket → v.period < v.ticket →
-      Splits (Rule layout shapes) id v (split_view v) (note_of v)
-  notes id v is idle began later s rule there = record {
-    log = rule.log;
-    tabled = note_split layout shapes s.words s.views rule.log id v rule.tabled there is idle began later;
-  }
-
-  pub hears : (id other : ℕ) (v u : View) → v.role ≡ Member → v.runs ≡ false → v.left ≡ false → u.role ≡ Ticket →
-      v.period < u.period → Joins (Rule layout shapes) id v other u (heard_view v u) spent
-  hears id other v u is idle stays is' later s rule there apart there' =
-      let k = rule.tabled in
-      let at : get_elem? s.views other ≡ some u = sym (set_else s.views id other (heard_view v u) apart) ∙ there' in
-      let knows = knows_as layout k.cv k.part k.seat_of rule.log other u Ticket is' (k.each other u at) in
-      record {
-        log = rule.log;
-        tabled = spend layout shapes s.words (set s.views id (heard_view v u)) rule.log other spent
-            (hear_here layout shapes s.words s.views rule.log id v k there is u idle stays knows later) refl;
-      }
-
   pub learns : (id other : ℕ) (v u : View) → v.role ≡ Collector → v.frozen ≡ false → u.role ≡ Note →
       u.period ≡ v.period → Joins (Rule layout shapes) id v other u (noted v u) spent
   learns id other v u is thawed is' now s rule there apart there' =
       let k = rule.tabled in
       let at : get_elem? s.views other ≡ some u = sym (set_else s.views id other (noted v u) apart) ∙ there' in
-      let knows = knows_as layout k.cv k.part k.seat_of rule.log other u Note is' (k.each other u at) in
+      let knows = knows_as layout k.cv k.part k.seat_of k.note_at rule.log other u Note is' (k.each other u at) in
+      let gone = spend layout shapes s.words s.views rule.log other spent k refl in
       record {
         log = rule.log;
-        tabled = spend layout shapes s.words (set s.views id (noted v u)) rule.log other spent
-            (note_in layout shapes s.words s.views rule.log id v k there is u thawed knows.0
-            (subst (λ (x : View). NoteOk x (k.part u.who) u)
-            (sym (own layout shapes s.words s.views rule.log id v k there is)) knows.1) now) refl;
+        tabled = subst (λ (vs : List View). Tabled layout shapes s.words vs rule.log)
+            (set_comm s.views other id spent (noted v u) apart)
+            (note_in layout shapes s.words (set s.views other spent) rule.log id v gone.0
+            (set_else s.views other id spent (λ e. apart (sym e)) ∙ there) is u other thawed knows.0
+            (subst (λ (x : View × View × ℕ). NoteOk layout x.0 x.1 x.2 other u)
+            (λ i. (
+              sym (own layout shapes s.words s.views rule.log id v k there is) i,
+              sym (ap (λ (f : ℕ → View). f u.who) gone.1) i,
+              sym (ap (λ (f : ℕ → ℕ). f u.who) gone.2) i,
+            )) knows.1) now
+            (λ x at' role. absurd (let e = some-injective spent x
+            (sym (set_here s.views other spent (below s.views other u at)) ∙ at') in
+            let clash : Spent ≡ Note = ap (λ (y : View). y.role) e ∙ role in cc)));
       }
 
   pub seats : (id : ℕ) (v : View) (who : ℕ) → v.role ≡ Collector → v.next ≤ who → IsParty layout who →
@@ -141,7 +87,20 @@ module _ (layout : Layout) (shapes : ShapeLists) where
         keeps,
         tt,
         unmoved layout shapes s 0 id (frozen_with s.words me.0) record { log = rule.log; tabled = h.2 } me.1,
-        record { words = s.words; view = refl; long = h.1; wave = h.0 },
+        record {
+          limits = rule.tabled.limits;
+          words = s.words;
+          view = refl;
+          long = h.1;
+          wave = h.0;
+          part = since is_open rule.log;
+          since = h.3;
+          calls = h.4;
+          births = h.5;
+          few = (let same = h.5 in let most = h.6 in omega (arith, same, most));
+          gone = h.7;
+          progress = h.8;
+        },
       )
 
   pub reads : (slots id : ℕ) (me : M) (at : ℕ) → me.0.role ≡ Collector → me.0.frozen ≡ true →
@@ -175,20 +134,29 @@ module _ (layout : Layout) (shapes : ShapeLists) where
     refl,
   )
 
+  pub enters_as : (slots id : ℕ) (me : M) (event : Event) (left : List Visited) → me.0.role ≡ Collector →
+      me.0.frozen ≡ true → Stands layout shapes me.0.seen event → ((p : ℕ) → is_call_of p event.entry ≡ false) →
+      is_open event.entry ≡ false →
+      Allows (Rule layout shapes) slots id me 0 (λ x. x)
+      (λ _ b. b.0 ≡ record (entered_with event me.0) { visited = left })
+  enters_as slots id me event left is shut stands no_call no_open s rule long there fits =
+      let w = record (entered_with event me.0) { visited = left } in (
+        w,
+        keeps,
+        tt,
+        unmoved layout shapes s 0 id w record {
+          log = rule.log ++ event ∷ [];
+          tabled = enter layout shapes s.words s.views rule.log id me.0 rule.tabled there is event left shut stands no_call
+              no_open;
+        } me.1,
+        refl,
+      )
+
   pub enters : (slots id : ℕ) (me : M) (event : Event) → me.0.role ≡ Collector → me.0.frozen ≡ true →
       Stands layout shapes me.0.seen event → ((p : ℕ) → is_call_of p event.entry ≡ false) →
       is_open event.entry ≡ false →
       Allows (Rule layout shapes) slots id me 0 (λ x. x) (λ _ b. b.0 ≡ entered_with event me.0)
-  enters slots id me event is shut stands no_call no_open s rule long there fits = (
-    entered_with event me.0,
-    keeps,
-    tt,
-    unmoved layout shapes s 0 id (entered_with event me.0) record {
-      log = rule.log ++ event ∷ [];
-      tabled = enter layout shapes s.words s.views rule.log id me.0 rule.tabled there is event shut stands no_call no_open;
-    } me.1,
-    refl,
-  )
+  enters slots id me event is shut stands no_call no_open = enters_as slots id me event me.0.visited is shut stands no_call no_open
 
   pub opens : (slots id : ℕ) (me : M) (at next run : ℕ) → me.0.role ≡ Collector → me.0.frozen ≡ true →
       at ≡ place_in layout region.Period 0 → next ≡ me.0.period + 1 →
@@ -217,13 +185,13 @@ in_up_to i (suc n) h = elim (cases_eq i n) [
   | inr other ↦ inr (in_up_to i n (omega (arith, h, other)))
 ]
 
-only_first : (layout : Layout) (cv : View) (part : ℕ → View) (seat_of : ℕ → ℕ) → cv.role ≡ Collector → (k : ℕ)
-    (u : View) → get_elem? (cv ∷ []) k ≡ some u → Knows layout cv part seat_of [] k u
-only_first layout cv part seat_of is zero u e =
+only_first : (layout : Layout) (cv : View) (part : ℕ → View) (seat_of note_at : ℕ → ℕ) → cv.role ≡ Collector → (k : ℕ)
+    (u : View) → get_elem? (cv ∷ []) k ≡ some u → Knows layout cv part seat_of note_at [] k u
+only_first layout cv part seat_of note_at is zero u e =
     let same : u ≡ cv = sym (some-injective cv u e) in
-    subst (λ (x : View). Knows layout cv part seat_of [] 0 x) (sym same)
-    (known_as layout cv part seat_of [] 0 cv Collector is (refl, refl))
-only_first layout cv part seat_of is (suc k) u e = absurd (some-ne-none u (sym e))
+    subst (λ (x : View). Knows layout cv part seat_of note_at [] 0 x) (sym same)
+    (known_as layout cv part seat_of note_at [] 0 cv Collector is (refl, refl))
+only_first layout cv part seat_of note_at is (suc k) u e = absurd (some-ne-none u (sym e))
 
 -- words that are all 0 meet the rule at the start
 pub opens_at : (layout : Layout) (shapes : ShapeLists) (words : List ℕ) → IsWithinLimits layout →
@@ -237,8 +205,9 @@ opens_at layout shapes words limits empty_shape zeros = record {
     cv = first_view layout;
     part = newcomer;
     seat_of = λ _. 0;
+    note_at = λ _. 0;
     collects = refl;
-    each = only_first layout (first_view layout) newcomer (λ _. 0) refl;
+    each = only_first layout (first_view layout) newcomer (λ _. 0) (λ _. 0) refl;
     fresh = λ i h. refl;
     strangers = λ i h. refl;
     members = λ i l. record {
@@ -252,11 +221,18 @@ opens_at layout shapes words limits empty_shape zeros = record {
       mutator = λ e. absurd (cc);
       noted = λ _. (refl, prefix_refl []);
       gone = λ a. absurd a;
+      over = λ a. absurd a;
+      leaves = λ a e. absurd (cc);
+      began = λ a e. absurd (cc);
+      done = λ a e. absurd (cc);
     };
     prefix = prefix_refl [];
     tip = inl refl;
     retired = λ i e. absurd (cc);
     ledger = refl;
+    births = λ i. refl;
+    told = refl;
+    start = refl;
     mode = record {
       words_are = zeros;
       long = ap length zeros ∙ Rattle.std.proofs.lemmas.List.length-replicate (word_count layout) 0;
@@ -303,11 +279,6 @@ closes layout shapes id v words xs is shut f =
       retired = λ i party a. subst (λ (l : List Event). (state_after layout l).active i ≡ false) now.seen_all
           (k.retired i ((Rattle.tide_table.proofs.Heeding.ok_of layout shapes s.words s.views rule.log id v k f.1.1 is i party).gone a).0);
     }
-
--- word 0 is there
-pub zero_below : (layout : Layout) (words : ℕ) → words ≡ word_count layout → 0 < words
-zero_below layout words sized =
-    (let b = Rattle.tide_layout.proofs.Places.place_in-below layout region.Period 0 (omega arith) in omega (arith, b, sized))
 
 pub period_first : (layout : Layout) → 0 ≡ place_in layout region.Period 0
 unfolding place_in base_of

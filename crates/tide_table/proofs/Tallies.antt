@@ -4,7 +4,7 @@ use Rattle.std.proofs.lemmas.Bool.Decides.{nat_tests}
 use Rattle.std.proofs.lemmas.Bool.{cases_eq, cases_Bool}
 use Rattle.std.specs.Prelude.{nat_lt, if◌then◌else◌}
 use Rattle.tide_layout.specs.Slots.{total_below}
-use Rattle.tide_table.specs.Parties.{In, sum_of}
+use Rattle.tide_heap.specs.Parties.{In, sum_of}
 
 in_cases : (n : ℕ) (xs : List ℕ) → In n xs ⊎ (In n xs → ⊥)
 in_cases n [] = inr (λ a. a)
@@ -54,3 +54,9 @@ total_up_to f xs none (suc n) = elim (in_cases n xs) [
 -- a sum over all numbers is at most that over a list that has each number that counts
 pub total_few : (f : ℕ → ℕ) (xs : List ℕ) → ((n : ℕ) → (In n xs → ⊥) → f n ≡ 0) → (n : ℕ) → total_below f n ≤ sum_of f xs
 total_few f xs none n = (let a = total_up_to f xs none n in let c = sum_all f n xs in omega (arith, a, c))
+
+-- a sum over a list is at least each of its terms
+pub sum_one : (f : ℕ → ℕ) (n : ℕ) (xs : List ℕ) → In n xs → f n ≤ sum_of f xs
+sum_one f n [] a = absurd a
+sum_one f n (x ∷ xs) (inl e) = (let same = ap f e in omega (arith, same))
+sum_one f n (x ∷ xs) (inr a) = (let rest = sum_one f n xs a in omega (arith, rest))

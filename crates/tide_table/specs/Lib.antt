@@ -1,10 +1,5 @@
-pub mod Parties
-pub mod Rule
-pub mod Turns
-pub mod Works
-pub mod Steps
-pub mod Follows
-pub mod Numbers
 pub mod Told
 pub mod Shown
 pub mod Started
+pub mod Openings
+pub mod VisitsEntered

@@ -1,19 +1,51 @@
 -- What a frozen heap shows besides its words.
-use Rattle.std.specs.Prelude.{ℕ, ◌≡◌, Bool, []}
+use Rattle.std.specs.Prelude.{ℕ, ◌≡◌, Bool, List, []}
+use Rattle.std.specs.Borrow.{MutBor, GName}
+use Rattle.atomic_table.specs.Seated.{TableId}
 use Rattle.tide_machine.specs.declared.view.View.{View}
 use Rattle.tide_model.specs.Layout.{Layout}
 use Rattle.tide_model.specs.Refused.{ShapeLists}
+use Rattle.tide_model.specs.declared.entry.Event.{Event}
 use Rattle.tide_words.specs.heap.Heap.{heap_of}
 use Rattle.tide_words.specs.marking.Colours.{is_black}
+use Rattle.tide_table.specs.declared.collector.Collector.{Collector}
 
--- the collector's view without the words, the layout and the shapes
-pub record Besides : Type 0 where
+-- whose it is: which borrow of the collector, which seat of which table, the collector's view but for what words and
+-- entries change, the layout and the shapes
+pub record Whose : Type 0 where
+  pub borrow : GName
+  pub table_id : TableId
+  pub seat : ℕ
   pub view : View
   pub layout : Layout
   pub shapes : ShapeLists
 
-abbrev pub besides : View → Layout → ShapeLists → Besides
-besides v layout shapes = record { view = record v { words = [] }; layout = layout; shapes = shapes }
+-- the rest beside the words: whose it is, the history, and the words at the last entry or where the freeze began
+pub record Besides : Type 0 where
+  pub whose : Whose
+  pub seen : List Event
+  pub base : List ℕ
+
+-- the collector's view without words and history
+abbrev pub bare : View → View
+bare v = record v { seen = []; words = []; base = [] }
+
+abbrev pub whose : MutBor Collector → Layout → ShapeLists → Whose
+whose collector layout shapes = record {
+  borrow = collector.ghost_name;
+  table_id = collector.now.seat.table_id;
+  seat = collector.now.seat.id;
+  view = bare collector.now.seat.me.0;
+  layout = layout;
+  shapes = shapes;
+}
+
+abbrev pub besides : MutBor Collector → Layout → ShapeLists → Besides
+besides collector layout shapes = record {
+  whose = whose collector layout shapes;
+  seen = collector.now.seat.me.0.seen;
+  base = collector.now.seat.me.0.base;
+}
 
 -- the cells that were black at the last entry, or where the freeze began
 abbrev pub was_black_in : Layout → View → (ℕ → Bool) → Type 0

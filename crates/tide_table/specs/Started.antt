@@ -10,7 +10,7 @@ use Rattle.tide_machine.specs.points.Sweeps.{SweptAreBelow, TakenAreClean}
 use Rattle.tide_model.specs.History.{state_after}
 use Rattle.tide_model.specs.Layout.{Layout}
 use Rattle.tide_model.specs.Refused.{ShapeLists}
-use Rattle.tide_table.specs.declared.pass.Pass.{Pass}
+use Rattle.tide_steps.specs.declared.pass.Pass.{Pass}
 use Rattle.tide_words.specs.heap.Filled.{IsFilledTo}
 use Rattle.tide_words.specs.heap.Heap.{heap_of}
 

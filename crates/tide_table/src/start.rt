@@ -1,17 +1,15 @@
 //! A heap starts: frozen and empty, with a pass for each participant.
 ghost use Rattle.std.specs.Prelude.{◌≡◌, ◌<◌, ◌≤◌, ◌+◌, ℕ, IfOk, length, true, vec_len};
 ghost use Rattle.tide_layout.specs.Region.{size_of, word_count};
-ghost use Rattle.tide_table.specs.Parties.{IsParty};
+ghost use Rattle.tide_heap.specs.Parties.{IsParty};
 ghost use Rattle.tide_table.specs.Started.{ArePasses, HasFilled, IsStarted, is_but_next};
 
 use crate::collector::Collector;
-use crate::heap::{Heap, Key};
-use crate::pass::Pass;
-use crate::shapes::HeapShapes;
 use atomic_table::Table;
 use std::alloc::{AllocError, Global};
 use tide_model::Memory;
 use tide_shape::ShapeTable;
+use tide_steps::{Heap, HeapShapes, Key, Pass};
 use tide_words::{Layout, Region};
 
 /// A heap, with the right to each of its seats.
@@ -25,7 +23,7 @@ pub struct Start<S: HeapShapes> {
     pub visitors: Vec<Pass>,
 }
 
-impl<S: ShapeTable + Drop> Heap<S> {
+impl<S: ShapeTable + Drop> Start<S> {
     /// A frozen and empty heap, with an empty history and a pass for each participant of its layout.
     pub fn new(alloc: Global, layout: Layout, shapes: S) -> Result<Start<S>, Memory>
         ensures made { IfOk result (λ s. (s.heap.key.layout ≡ layout) × (s.heap.key.shapes ≡ shapes)) }
@@ -52,6 +50,7 @@ impl<S: ShapeTable + Drop> Heap<S> {
             run: 0,
             marking: false,
             cycle: 0,
+            born: 0,
         };
         collector.fill(&heap, Region::Active, mutators, 1);
         let blocks = heap.layout().block_count();

@@ -154,7 +154,7 @@ module _ (layout : Layout) (shapes : ShapeLists) (heap : Heap) (part : ℕ → V
           (nothing (part p).known (owed_word at index word) (empty.known p (parked p)) is);
       known = λ p at index word is. absurd
           (nothing (part p).known (owed_word at index word) (empty.known p (parked p)) is);
-      full = λ p block moment is. absurd (nothing (part p).full (record { block = block; moment = moment })
+      full = λ p block moment word is. absurd (nothing (part p).full (record { block = block; moment = moment; word = word })
           (empty.full p (parked p)) is);
     };
     held = record {

@@ -81,7 +81,7 @@ module _ (layout : Layout) (shapes : ShapeLists) (heap : Heap) (part : ℕ → V
       mine = refl;
       knows = λ at index word is. absurd (nothing_in (owed_word at index word) is);
       knows_still = λ p at index word apart is. wave.kept.known p at index word is;
-      finds = λ block moment is. absurd (let below = is.1 in omega (arith, below));
+      finds = λ block moment word is. absurd (let below = is.1 in omega (arith, below));
       told = λ is. absurd (cc);
       begins = wave.numbers.begun me;
       left = refl;

@@ -2,7 +2,6 @@
 -- may be refused for room. The wave is kept.
 use Rattle.std.proofs.Common.{ℕ, ◌≡◌, ◌%◌, ◌<◌, ◌≤◌, ◌==◌, refl, sym, ◌∙◌, ap, subst, arith, Bool, true, false, List, inl, inr, Option, Some, None, length}
 use Rattle.std.proofs.lemmas.Bool.{cases_Bool, cases_eq}
-use Rattle.std.proofs.lemmas.Nat.Bits.{bit_at-zero}
 use Rattle.std.specs.Int.{bit_at}
 use Rattle.std.specs.Prelude.{Contains, if◌then◌else◌, ◌&&◌}
 use Rattle.tide_layout.specs.Region.{tag}
@@ -15,6 +14,7 @@ use Rattle.tide_machine.proofs.steps.ScansKept.{scan_kept}
 use Rattle.tide_machine.proofs.steps.Steps.{any_step}
 use Rattle.tide_machine.proofs.steps.SweepsKept.{swept_kept, sweeps_kept}
 use Rattle.tide_machine.proofs.steps.Waiting.{left_quiet}
+use Rattle.tide_machine.specs.Looked.{FreeIsShown}
 use Rattle.tide_machine.specs.Duties.{GrowsAndOwes}
 use Rattle.tide_machine.specs.Owed.{own_register, own_structure, own_array, own_pair, own_element, Owes, IsOwnWord, owed_word}
 use Rattle.tide_machine.specs.RunningWave.{RunningWave}
@@ -32,7 +32,7 @@ use Rattle.tide_model.specs.History.{state_after, state_at, is_call_of, is_open}
 use Rattle.tide_model.specs.Layout.{Layout, block_of_cell, block_of_array}
 use Rattle.tide_model.specs.Numbers.{put_at}
 use Rattle.tide_model.specs.Refused.{ShapeLists}
-use Rattle.tide_model.specs.Room.{IsFullBlock, window_start}
+use Rattle.tide_model.specs.Room.{window_start}
 use Rattle.tide_model.specs.State.{State, Status, is_free, free, live, dead, spent}
 use Rattle.tide_model.specs.declared.entry.Event.{Event}
 use Rattle.tide_words.proofs.heap_laws.CellReading.{CellReads-kept}
@@ -42,34 +42,35 @@ use Rattle.tide_words.proofs.heap_laws.Parts.{RootsRead-same, SameRoots-write}
 use Rattle.tide_words.specs.heap.Heap.{Heap, write}
 use Rattle.tide_words.specs.heap.Reading.{IsNamedAmong, ReadsAs, status_by}
 
--- nothing of a block is free whose word of free bits is 0
-not_free_by : (word dead_word k : ℕ) (otherwise : Status) → word ≡ 0 → is_free otherwise ≡ false →
+-- nothing is free whose bit is clear
+not_free_by : (word dead_word k : ℕ) (otherwise : Status) → bit_at word k ≡ 0 → is_free otherwise ≡ false →
     is_free (status_by word dead_word k otherwise) ≡ false
-not_free_by word dead_word k otherwise zero_word other =
-    ap is_free (ap (λ (b : ℕ). if b == 1 then free else if bit_at dead_word k == 1 then dead else otherwise)
-    (ap (λ (w : ℕ). bit_at w k) zero_word ∙ bit_at-zero k)) ∙ by_dead (bit_at dead_word k == 1)
+not_free_by word dead_word k otherwise clear other =
+    ap is_free (ap (λ (b : ℕ). if b == 1 then free else if bit_at dead_word k == 1 then dead else otherwise) clear)
+    ∙ by_dead (bit_at dead_word k == 1)
   where
     by_dead : (b : Bool) → is_free (if b then dead else otherwise) ≡ false
     by_dead true = refl
     by_dead false = other
 
-pub full_block : (layout : Layout) (shapes : ShapeLists) (settled : Heap) (state : State) (block : ℕ) →
+pub shown_block : (layout : Layout) (shapes : ShapeLists) (settled : Heap) (state : State) (block word : ℕ) →
     ReadsAs layout shapes settled state →
-    settled region.Free block ≡ 0 → IsFullBlock layout state block
-full_block layout shapes settled state block reads empty = record {
-  cells = λ cell within in_block. ap is_free ((reads.parts.cells cell within).status)
+    settled region.Free block ≡ word → FreeIsShown layout state block word
+shown_block layout shapes settled state block word reads same = record {
+  cells = λ cell within in_block clear. ap is_free ((reads.parts.cells cell within).status)
       ∙ not_free_by (settled region.Free (block_of_cell cell)) (settled region.Dead (block_of_cell cell))
-      (cell % 64) live (ap (settled region.Free) in_block ∙ empty) refl;
-  arrays = λ array within in_block. elim (cases_Bool (is_free (state.arrays array))) [
+      (cell % 64) live (ap (λ (x : ℕ). bit_at x (cell % 64)) (ap (settled region.Free) in_block ∙ same) ∙ clear) refl;
+  arrays = λ array within in_block clear. elim (cases_Bool (is_free (state.arrays array))) [
     | inl is ↦
-        let word = ap (settled region.Free) in_block ∙ empty in
+        let bit : bit_at (settled region.Free (block_of_array layout array)) (array % 64) ≡ 0 =
+        ap (λ (x : ℕ). bit_at x (array % 64)) (ap (settled region.Free) in_block ∙ same) ∙ clear in
         let unnamed : IsNamedAmong state.cells array → ⊥ = λ named.
         (let isnt = ap is_free (reads.parts.arrays.named array within named)
         ∙ not_free_by (settled region.Free (block_of_array layout array))
-        (settled region.Dead (block_of_array layout array)) (array % 64) live word refl in absurd (cc)) in
+        (settled region.Dead (block_of_array layout array)) (array % 64) live bit refl in absurd (cc)) in
         let isnt = ap is_free (reads.parts.arrays.unnamed array within unnamed)
         ∙ not_free_by (settled region.Free (block_of_array layout array))
-        (settled region.Dead (block_of_array layout array)) (array % 64) spent word refl in
+        (settled region.Dead (block_of_array layout array)) (array % 64) spent bit refl in
         absurd (cc)
     | inr isnt ↦ isnt
   ];
@@ -131,8 +132,9 @@ module _ (layout : Layout) (shapes : ShapeLists) (w : World) (me : ℕ) (inside 
     (wave : RunningWave layout shapes w) (runs : (w.part me).runs ≡ true)
     (block word : ℕ) (same : (k : ℕ) → k < 64 → bit_at word k ≡ bit_at (wave.words.settled region.Free block) k)
     (full : List Found)
-    (finds : (b moment : ℕ) → Contains full (record { block = b; moment = moment }) →
-    (window_start me w.log ≤ moment) × (moment ≤ length w.log) × IsFullBlock layout (state_at layout w.log moment) b)
+    (finds : (b moment shown : ℕ) → Contains full (record { block = b; moment = moment; word = shown }) →
+    (window_start me w.log ≤ moment) × (moment ≤ length w.log)
+    × FreeIsShown layout (state_at layout w.log moment) b shown)
   where
     abbrev state : State
     state = state_after layout w.log

@@ -123,7 +123,7 @@ second_group layout shapes limits empty_shape w me inside wave (TakeFree block k
 second_group layout shapes limits empty_shape w me inside wave (TakeFree block k (Some o)) is may =
     elim (cases_Bool (bit_at (w.heap region.Free block) k == 1)) [
       | inl set ↦ take layout shapes limits empty_shape w me inside wave block k may.2 may.3 o may set
-      | inr clear ↦ lost layout shapes w me inside wave may.0.runs block k may.2 o may.5 clear
+      | inr clear ↦ lost layout shapes w me inside wave may.0.runs block k may.2 o clear
     ]
 second_group layout shapes limits empty_shape w me inside wave (StoreBorn cell word) is may =
     born_coloured layout shapes w me inside wave cell word may

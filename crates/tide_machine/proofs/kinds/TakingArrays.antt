@@ -25,7 +25,7 @@ use Rattle.tide_machine.proofs.steps.GrowthsKept.{growth_kept}
 use Rattle.tide_machine.proofs.steps.Lists.{nothing_in}
 use Rattle.tide_machine.proofs.steps.Owning.{own_alone}
 use Rattle.tide_machine.specs.Duties.{OwesBarrier, OwesColour, GrowsAndOwes}
-use Rattle.tide_machine.specs.Entries.{call_of, added, full_if_empty}
+use Rattle.tide_machine.specs.Entries.{call_of, added}
 use Rattle.tide_machine.specs.Kind.{TakeArray}
 use Rattle.tide_machine.specs.Machine.{stepped}
 use Rattle.tide_machine.specs.May.{MayCall, barrier_for}
@@ -39,7 +39,7 @@ use Rattle.tide_machine.specs.declared.view.Duty.{Duty}
 use Rattle.tide_machine.specs.declared.view.Growth.TheVariants as growth
 use Rattle.tide_machine.specs.declared.view.Owed.{Owed}
 use Rattle.tide_machine.specs.declared.view.View.{View}
-use Rattle.tide_machine.specs.kinds.LoadFree.{searched_view}
+use Rattle.tide_machine.specs.kinds.LoadFree.{looked_view}
 use Rattle.tide_machine.specs.kinds.TakeArray.{TakesArray, array_at, properties_with, grown_view}
 use Rattle.tide_machine.specs.points.Arrays.{ArrayStands, ArraysStand}
 use Rattle.tide_machine.specs.points.Links.{LinkAt}
@@ -609,11 +609,10 @@ module _ (layout : Layout) (shapes : ShapeLists) (limits : IsWithinLimits layout
     heap = new;
     part = put_at w.part me (with_entry w.log
         (if b then Some (call_of me (Add src key val) Done (Some array))
-        else full_if_empty read state me (Add src key val))
+        else None)
         (if b then grown_view layout state (cell_named (state.registers me src)) array value old next (w.part me)
-        else searched_view w.log block (Some (Add src key val)) read (w.part me)));
-    log = added w.log (if b then Some (call_of me (Add src key val) Done (Some array))
-        else full_if_empty read state me (Add src key val));
+        else looked_view w.log block read (w.part me)));
+    log = added w.log (if b then Some (call_of me (Add src key val) Done (Some array)) else None);
   })) (sym set)
       (subst (λ (c : ℕ). RunningWave layout shapes (record {
         heap = new;

@@ -135,7 +135,6 @@ came_taken = steps activated 0 (TakeFree 0 0 (Some (Alloc 0 0))) came_activated 
       room = λ class is. absurd (cc);
     };
   }),
-  (λ none. absurd (omega (arith, none))),
 )
 
 -- its register, its colour and the call word are stored

@@ -13,6 +13,7 @@ use Rattle.tide_machine.proofs.steps.Growing
 use Rattle.tide_machine.proofs.steps.Lists.{nothing_in}
 use Rattle.tide_machine.proofs.steps.SweepsKept.{swept_kept, sweeps_kept}
 use Rattle.tide_machine.proofs.steps.Waiting.{left_quiet}
+use Rattle.tide_machine.specs.Looked.{FreeIsShown}
 use Rattle.tide_machine.specs.Duties.{IsCalm, OwesBarrier, GrowsAndOwes, OwesColour}
 use Rattle.tide_machine.specs.Entries.{call_of}
 use Rattle.tide_machine.specs.Owed.{IsOwnWord, owed_word}
@@ -46,7 +47,7 @@ use Rattle.tide_model.specs.Numbers.{put_at}
 use Rattle.tide_model.specs.Prefix.{IsPrefix, prefix_trans, prefix_push, prefix_refl}
 use Rattle.tide_model.specs.References.{IsLive, RefsAreLive}
 use Rattle.tide_model.specs.Refused.{ShapeLists}
-use Rattle.tide_model.specs.Room.{window_start, IsFullBlock}
+use Rattle.tide_model.specs.Room.{window_start}
 use Rattle.tide_model.specs.State.{State, live, spent}
 use Rattle.tide_model.specs.declared.entry.Entry.TheVariants.{Call}
 use Rattle.tide_model.specs.declared.entry.Event.{Event}
@@ -299,15 +300,16 @@ module _ (layout : Layout) (shapes : ShapeLists) (old : Heap) (part : ℕ → Vi
         known = put_at_elim (λ p u. (at : Region) (index word : ℕ) → Contains u.known (owed_word at index word) →
             new at index ≡ word) part me w (λ at index word is. nothing_known at index word is)
             (λ p apart at index word. s.kept p at index word apart);
-        full = put_at_elim (λ p u. (block moment : ℕ) → Contains u.full (record { block = block; moment = moment }) →
+        full = put_at_elim (λ p u. (block moment word : ℕ) →
+            Contains u.full (record { block = block; moment = moment; word = word }) →
             (window_start p longer ≤ moment) × (moment ≤ length longer) ×
-            IsFullBlock layout (state_at layout longer moment) block) part me w
-            (λ block moment is. absurd (none_full block moment
-            (subst (λ (l : List Found). Contains l (record { block = block; moment = moment })) s.full is)))
-            (λ p apart block moment is. let was = wave.kept.full p block moment is in (
+            FreeIsShown layout (state_at layout longer moment) block word) part me w
+            (λ block moment word is. absurd (none_full block moment word
+            (subst (λ (l : List Found). Contains l (record { block = block; moment = moment; word = word })) s.full is)))
+            (λ p apart block moment word is. let was = wave.kept.full p block moment word is in (
               subst (λ (n : ℕ). n ≤ moment) (sym (Growing.window_start-other log me op reply took p apart)) was.0,
               (let l = Growing.length-push log (call_of me op reply took) in let m = was.1 in omega (arith, l, m)),
-              subst (λ (t : State). IsFullBlock layout t block)
+              subst (λ (t : State). FreeIsShown layout t block word)
                   (sym (Growing.state_at-push layout log (call_of me op reply took) moment was.1)) was.2,
             ));
       };
@@ -452,8 +454,9 @@ module _ (layout : Layout) (shapes : ShapeLists) (old : Heap) (part : ℕ → Vi
         was_at_hand cell (scanned scan is at) = scanned scan (sym s.scan ∙ is) at
         was_at_hand cell (buffered scan is at) = buffered scan (sym s.scan ∙ is) at
 
-        none_full : (block moment : ℕ) → Contains {X = Found} [] (record { block = block; moment = moment }) → ⊥
-        none_full block moment is = nothing_in (record { block = block; moment = moment }) is
+        none_full : (block moment word : ℕ) →
+            Contains {X = Found} [] (record { block = block; moment = moment; word = word }) → ⊥
+        none_full block moment word is = nothing_in (record { block = block; moment = moment; word = word }) is
 
         nothing_known : {X : Type 0} (at : Region) (index word : ℕ) → Contains w.known (owed_word at index word) → X
         nothing_known at index word is =

@@ -30,6 +30,14 @@ put_here part me w = ap (λ (same : Bool). if same then w else part me) (eq-eqb 
 pub put_else : (part : ℕ → View) (me p : ℕ) (w : View) → p ≢ me → put_at part me w p ≡ part p
 put_else part me p w other = ap (λ (same : Bool). if same then w else part p) (ne_eqb p me other)
 
+-- one of several numbers is at most their sum
+pub total_below-one : (f : ℕ → ℕ) (k n : ℕ) → k < n → f k ≤ total_below f n
+total_below-one f k zero h = absurd (omega arith)
+total_below-one f k (suc n) h = elim (cases_eq k n) [
+  | inl same ↦ (let at = ap f same in omega (arith, at))
+  | inr apart ↦ (let earlier = total_below-one f k n (omega (arith, apart)) in omega (arith, earlier))
+]
+
 -- a sum over all views changes by what the one view changes
 pub total_below-put : (f : View → ℕ) (part : ℕ → View) (me : ℕ) (w : View) (n : ℕ) → me < n →
     total_below (λ p. f (put_at part me w p)) n + f (part me) ≡ total_below (λ p. f (part p)) n + f w
@@ -93,13 +101,6 @@ held_view layout old new part me w inside phase balance held = record {
       let even = balance (sym phase ∙ marks) cell within (omega (arith, once, one)) in
       omega (arith, once, sums, even);
 }
-  where
-    total_below-one : (f : ℕ → ℕ) (k n : ℕ) → k < n → f k ≤ total_below f n
-    total_below-one f k zero h = absurd (omega arith)
-    total_below-one f k (suc n) h = elim (cases_eq k n) [
-      | inl same ↦ (let at = ap f same in omega (arith, at))
-      | inr apart ↦ (let earlier = total_below-one f k n (omega (arith, apart)) in omega (arith, earlier))
-    ]
 
 -- each call word tells what its view says
 pub calls_view : (layout : Layout) (old new : Heap) (part : ℕ → View) (me : ℕ) (w : View) → w.calls ≡ (part me).calls →

@@ -1,15 +1,34 @@
 -- What a machine that has the running wave tells a step.
-use Rattle.std.proofs.Common.{ℕ, ◌≡◌, sym, ◌∙◌, ap, subst}
-use Rattle.std.specs.Prelude.{Contains}
+use Rattle.std.proofs.Common.{ℕ, ◌≡◌, ◌<◌, refl, sym, ◌∙◌, ap, subst, arith}
+use Rattle.std.specs.Prelude.{◌^◌, Contains}
 use Rattle.tide_layout.specs.declared.region.Region.{Region}
-use Rattle.tide_machine.specs.Moment.{Moment, StepsAreTold}
+use Rattle.tide_machine.proofs.steps.Frames.{total_below-one}
+use Rattle.tide_machine.specs.Moment.{Moment, StepsAreTold, WorksOn}
 use Rattle.tide_machine.specs.Owed.{Owes, Knows}
 use Rattle.tide_machine.specs.RunningWave.{RunningWave}
-use Rattle.tide_machine.specs.World.{World}
+use Rattle.tide_machine.specs.World.{World, holds, parties}
 use Rattle.tide_machine.specs.declared.view.View.{View}
+use Rattle.tide_model.specs.History.{state_after}
 use Rattle.tide_model.specs.Layout.{Layout}
 use Rattle.tide_model.specs.Prefix.{IsPrefix}
 use Rattle.tide_model.specs.Refused.{ShapeLists}
+
+-- what the words say of what a participant works with
+works_of : (layout : Layout) (shapes : ShapeLists) (w : World) (me : ℕ) → RunningWave layout shapes w →
+    WorksOn layout (w.part me) w.heap (state_after layout w.log)
+works_of layout shapes w me wave = record {
+  phase = λ runs. (let told = wave.numbers.told me runs in (told.0, told.1));
+  hands = wave.hands.cells me;
+  greys = λ inside marks cell within.
+      let once = wave.held.held marks cell within in
+      let one = total_below-one (λ p. holds cell (w.part p)) me parties
+      (let who = wave.known.who me in omega (arith, inside, who)) in
+      omega (arith, once, one);
+  idle = λ rests. (wave.rests.held rests me, wave.rests.scans rests me);
+  scan = wave.scans.knows me;
+  target = wave.targets.right me;
+  arrays = wave.arrays;
+}
 
 -- of a view that is its participant's
 moment_of : (layout : Layout) (shapes : ShapeLists) (w : World) (v : View) (at : Region) (index : ℕ) →
@@ -17,7 +36,12 @@ moment_of : (layout : Layout) (shapes : ShapeLists) (w : World) (v : View) (at :
 moment_of layout shapes w v at index wave is = record {
   before = subst (λ (x : View). IsPrefix x.seen w.log) is (wave.known.seen v.who);
   lawful = wave.lawful;
+  calls_alone = wave.calls_alone;
   own = wave.known.own v.who ∙ ap (λ (x : View). x.mine) is;
+  left = sym (ap (λ (x : View). x.left) is) ∙ wave.left v.who;
+  few = λ runs. subst (λ (cycle : ℕ). cycle < 2 ^ 62)
+      (sym (wave.numbers.told v.who (ap (λ (x : View). x.runs) is ∙ runs)).1 ∙ ap (λ (x : View). x.cycle) is)
+      wave.few_cycles;
   refs = wave.refs;
   settled = wave.words.settled;
   reads = wave.words.reads;
@@ -25,8 +49,12 @@ moment_of layout shapes w v at index wave is = record {
   found = λ read none mine. sym (wave.words.same at index read (λ p word owes.
       let own = wave.words.owns p at index word owes in
       none p word own (subst (λ (x : View). Owes x at index word) (ap w.part (mine p own) ∙ is) owes)));
-  full = λ block moment at. wave.kept.full v.who block moment
-      (subst (λ (x : View). Contains x.full (record { block = block; moment = moment })) (sym is) at);
+  words = w.heap;
+  is_word = refl;
+  works = subst (λ (x : View). WorksOn layout x w.heap (state_after layout w.log)) is
+      (works_of layout shapes w v.who wave);
+  full = λ block moment word at. wave.kept.full v.who block moment word
+      (subst (λ (x : View). Contains x.full (record { block = block; moment = moment; word = word })) (sym is) at);
 }
 
 -- and so of each participant

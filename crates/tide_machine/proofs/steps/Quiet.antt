@@ -46,8 +46,8 @@ use Rattle.tide_words.specs.marking.Colours.{is_marking, is_grey, is_black, IsBl
 use Rattle.tide_words.specs.marking.Marked.{is_marked}
 use Rattle.tide_words.specs.marking.Marking.{bits_of, HasNoGreys, NoLaterColours}
 
-abbrev found : ℕ → ℕ → Found
-found block moment = record { block = block; moment = moment }
+abbrev found : ℕ → ℕ → ℕ → Found
+found block moment word = record { block = block; moment = moment; word = word }
 
 module _ (layout : Layout) (shapes : ShapeLists) (old : Heap) (part : ℕ → View) (log : List Event) (me : ℕ)
     (wave : RunningWave layout shapes (record { heap = old; part = part; log = log })) where
@@ -192,8 +192,8 @@ module _ (layout : Layout) (shapes : ShapeLists) (old : Heap) (part : ℕ → Vi
       who = s.who;
       seen = inl s.seen;
       mine = s.mine;
-      finds = λ block moment at. wave.kept.full me block moment
-          (subst (λ (o : List Found). Contains o (found block moment)) s.full at);
+      finds = λ block moment word at. wave.kept.full me block moment word
+          (subst (λ (o : List Found). Contains o (found block moment word)) s.full at);
       period = s.period;
       begins = (let b = wave.numbers.begun me in let e = s.begun in omega (arith, b, e));
       left = s.left;

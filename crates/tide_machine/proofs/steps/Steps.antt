@@ -7,6 +7,7 @@ use Rattle.tide_layout.specs.Region.{cell_block_count}
 use Rattle.tide_layout.specs.declared.region.Region.{Region}
 use Rattle.tide_layout.specs.declared.region.Region.TheVariants as region
 use Rattle.tide_machine.proofs.steps.Frames.{each_put, put_here, put_else, total_below-put, known_view, held_view}
+use Rattle.tide_machine.specs.Looked.{FreeIsShown}
 use Rattle.tide_machine.specs.Duties.{IsCalm, OwesBarrier, GrowsAndOwes, OwesColour}
 use Rattle.tide_machine.specs.Owed.{owed_word, IsOwnWord}
 use Rattle.tide_machine.specs.RunningWave.{RunningWave}
@@ -38,7 +39,7 @@ use Rattle.tide_model.specs.Numbers.{put_at, count_where}
 use Rattle.tide_model.specs.Prefix.{IsPrefix}
 use Rattle.tide_model.specs.References.{IsLive}
 use Rattle.tide_model.specs.Refused.{ShapeLists}
-use Rattle.tide_model.specs.Room.{window_start, IsFullBlock}
+use Rattle.tide_model.specs.Room.{window_start}
 use Rattle.tide_model.specs.State.{live, spent}
 use Rattle.tide_model.specs.declared.entry.Event.{Event}
 use Rattle.tide_words.proofs.heap_laws.Frames.{is_read}
@@ -48,8 +49,8 @@ use Rattle.tide_words.specs.marking.Colours.{is_marking, running_cycle, is_grey,
 use Rattle.tide_words.specs.marking.Marked.{is_marked}
 use Rattle.tide_words.specs.marking.Marking.{bits_of, HasNoGreys, NoLaterColours}
 
-abbrev found : ℕ → ℕ → Found
-found block moment = record { block = block; moment = moment }
+abbrev found : ℕ → ℕ → ℕ → Found
+found block moment word = record { block = block; moment = moment; word = word }
 
 module _ (layout : Layout) (shapes : ShapeLists) (old : Heap) (part : ℕ → View) (log : List Event) (me : ℕ)
     (wave : RunningWave layout shapes (record { heap = old; part = part; log = log })) where
@@ -68,8 +69,8 @@ module _ (layout : Layout) (shapes : ShapeLists) (old : Heap) (part : ℕ → Vi
         IsOwnWord layout (state_after layout log) me at index × (new at index ≡ word)
     pub knows_still : (p : ℕ) (at : Region) (index word : ℕ) → p ≢ me →
         Contains (part p).known (owed_word at index word) → new at index ≡ word
-    pub finds : (block moment : ℕ) → Contains w.full (found block moment) → (window_start me log ≤ moment) ×
-        (moment ≤ length log) × IsFullBlock layout (state_at layout log moment) block
+    pub finds : (block moment word : ℕ) → Contains w.full (found block moment word) → (window_start me log ≤ moment) ×
+        (moment ≤ length log) × FreeIsShown layout (state_at layout log moment) block word
     pub told : w.runs ≡ true → (w.marks ≡ is_marking old) × (w.cycle ≡ running_cycle old) ×
         (w.begun ≡ old region.Period 0)
     pub begins : w.begun ≤ old region.Period 0
@@ -236,9 +237,9 @@ module _ (layout : Layout) (shapes : ShapeLists) (old : Heap) (part : ℕ → Vi
             new at index ≡ word) part me w
             (λ at index word is. (s.knows at index word is).2) (λ p apart at index word is.
             s.knows_still p at index word apart is);
-        full = each_put (λ p u. (block moment : ℕ) → Contains u.full (found block moment) →
+        full = each_put (λ p u. (block moment word : ℕ) → Contains u.full (found block moment word) →
             (window_start p log ≤ moment) × (moment ≤ length log) ×
-            IsFullBlock layout (state_at layout log moment) block) part me w
+            FreeIsShown layout (state_at layout log moment) block word) part me w
             s.finds wave.kept.full;
       };
       held = held_view layout old new part me w s.inside marking s.balance wave.held;

@@ -5,14 +5,13 @@ use Rattle.std.specs.Prelude.{ℕ, ◌≡◌, ◌+◌, ◌*◌, ◌-◌, ◌<◌
 use Rattle.tide_call.specs.ShapeWord.{IsShapeWord, whole_word}
 use Rattle.tide_layout.specs.Region.{cell_block_count}
 use Rattle.tide_layout.specs.declared.region.Region.TheVariants as region
-use Rattle.tide_machine.specs.Entries.{class_taken}
 use Rattle.tide_machine.specs.May.{RunsAsMutator, MayCall, barrier_for}
 use Rattle.tide_machine.specs.Owed.{owed_word, owed_elements, Knows}
 use Rattle.tide_machine.specs.Words.{cell_named}
 use Rattle.tide_machine.specs.World.{World}
 use Rattle.tide_machine.specs.declared.view.Growth.TheVariants as growth
 use Rattle.tide_machine.specs.declared.view.View.{View}
-use Rattle.tide_machine.specs.kinds.LoadFree.{searched_view}
+use Rattle.tide_machine.specs.kinds.LoadFree.{looked_view}
 use Rattle.tide_model.specs.History.{state_after}
 use Rattle.tide_model.specs.Layout.{Layout}
 use Rattle.tide_model.specs.Refused.{ShapeLists}
@@ -20,8 +19,7 @@ use Rattle.tide_model.specs.State.{State}
 use Rattle.tide_model.specs.declared.entry.Event.{Event}
 use Rattle.tide_model.specs.declared.op.Op.{Op}
 use Rattle.tide_model.specs.declared.op.Op.TheVariants.{Add}
-use Rattle.tide_model.specs.declared.op.Refusal.TheVariants.{Full}
-use Rattle.tide_model.specs.declared.op.Reply.TheVariants.{Done, Refused}
+use Rattle.tide_model.specs.declared.op.Reply.TheVariants.{Done}
 use Rattle.tide_model.specs.declared.val.Val.{Val}
 use Rattle.tide_model.specs.declared.val.Val.TheVariants.{Cell}
 use Rattle.tide_words.specs.forms.Reference.{array_word}
@@ -54,7 +52,7 @@ array_view layout log state me block k old next (Some (Add src key val)) read v 
     if bit_at read k == 1 then
     grown_view layout state (cell_named (state.registers me src)) (array_at layout block k) (state.registers me val)
     old next v
-    else searched_view log block (Some (Add src key val)) read v
+    else looked_view log block read v
 array_view layout log state me block k old next (Some _) read v = v
 
 -- Add takes an array of the next class for a cell that the mutator claims, and knows the structure's word, and the next
@@ -76,6 +74,4 @@ abbrev pub MayTakeArray : Layout → ShapeLists → World → ℕ → ℕ → �
 MayTakeArray layout shapes w me block k old next read (Some (Add src key val)) =
     RunsAsMutator layout w me × (k < 64)
     × (bit_at read k ≡ 1 → TakesArray layout shapes w me block k old next src key val)
-    × (read ≡ 0 → MayCall layout shapes w me (Add src key val)
-    (Refused (Full (class_taken (state_after layout w.log) me (Add src key val)))) None)
 MayTakeArray layout shapes w me block k old next read _ = ⊥

@@ -7,7 +7,10 @@ use Rattle.tide_model.specs.declared.op.Op.TheVariants.{Retire}
 use Rattle.check_table.proofs.working.leave.Goals as goal
 
 pub retire-requires-clause-may : goal.retire-requires-clause-may
-retire-requires-clause-may g c =
-    may_call c.args.heap.now.key.layout (g.S.HeapShapes.lists c.args.heap.now.key.shapes) c.args.pass.now.seat.me.0
-    (put_calls c.args.pass.now.seat.me.0.who) Retire c.requires.ready refl tt
-    (λ s own. (refl, ap (λ (o : Own). o.claims) own))
+retire-requires-clause-may g c = record {
+  own = c.requires.own;
+  runs = c.requires.ready.runs;
+  may = may_call c.args.heap.now.key.layout (g.S.HeapShapes.lists c.args.heap.now.key.shapes) c.args.pass.now.seat.me.0
+      (put_calls c.args.pass.now.seat.me.0.who) Retire c.requires.ready refl tt
+      (λ s own. (refl, ap (λ (o : Own). o.claims) own));
+}

@@ -8,7 +8,7 @@ use Rattle.tide_call.proofs.caller.Caller.array_of.Goals as goal
 
 pub returns-in_err-array-clause-array : goal.returns-in_err-array-clause-array
 returns-in_err-array-clause-array g c = λ heap state calls.
-    let owns = g.O.OwnWords.owns c.args.own.now c.args.context.now in
+    let owns = g.O.OwnRegisters.owns c.args.own.now c.args.context.now in
     let caller = c.args.self.now in
     let claimed = claim-seen heap c.args.cell _ caller c.self.view_is
     (claimed_word owns caller heap state calls c.args.cell c.requires.claimed c.requires.of_layout) in
@@ -21,7 +21,7 @@ returns-in_err-array-clause-array g c = λ heap state calls.
 
 pub returns-clause-array : goal.returns-clause-array
 returns-clause-array g c = λ heap state calls.
-    let owns = g.O.OwnWords.owns c.args.own.now c.args.context.now in
+    let owns = g.O.OwnRegisters.owns c.args.own.now c.args.context.now in
     let caller = c.args.self.now in
     let claimed = claim-seen heap c.args.cell _ caller c.self.view_is
     (claimed_word owns caller heap state calls c.args.cell c.requires.claimed c.requires.of_layout) in

@@ -25,7 +25,7 @@ pub returns-then-is_some-clause-refused : goal.returns-then-is_some-clause-refus
 returns-then-is_some-clause-refused g c = λ heap state calls val.
     let shapes = c.args.self.now.shapes in
     let cell = c.in_ok-cell.cell in
-    let calls_then = CallsIn-kept (g.O.OwnWords.owns c.args.own.now c.args.context.now) (g.O.OwnWords.owns c.property_holder.new.own c.args.context.now)
+    let calls_then = CallsIn-kept (g.O.OwnRegisters.owns c.args.own.now c.args.context.now) (g.O.OwnRegisters.owns c.property_holder.new.own c.args.context.now)
     c.args.self.now heap state c.property_holder.ensures.owns.0 calls in
     let known : has_key state cell c.args.key ≡ true =
     key-found (g.S.ShapeTable.lists c.shapes.result.now) shapes c.shapes.ensures.lists c.shape_of-shape.result (state.cells cell).keys
@@ -38,7 +38,7 @@ pub returns-in_default-clause-refused : goal.returns-in_default-clause-refused
 returns-in_default-clause-refused g c = λ heap state calls val.
     let shapes = c.args.self.now.shapes in
     let cell = c.in_ok-cell.cell in
-    let calls_then = CallsIn-kept (g.O.OwnWords.owns c.args.own.now c.args.context.now) (g.O.OwnWords.owns c.property_holder.new.own c.args.context.now)
+    let calls_then = CallsIn-kept (g.O.OwnRegisters.owns c.args.own.now c.args.context.now) (g.O.OwnRegisters.owns c.property_holder.new.own c.args.context.now)
     c.args.self.now heap state c.property_holder.ensures.owns.0 calls in
     let is_shape = c.shape_of-shape.ensures.shape heap state calls_then in
     let known : has_key state cell c.args.key ≡ false =
@@ -54,7 +54,7 @@ pub returns-clause-granted : goal.returns-clause-granted
 returns-clause-granted g c = λ heap state calls val.
     let shapes = c.args.self.now.shapes in
     let cell = c.in_ok-cell.cell in
-    let calls_then = CallsIn-kept (g.O.OwnWords.owns c.args.own.now c.args.context.now) (g.O.OwnWords.owns c.property_holder.new.own c.args.context.now)
+    let calls_then = CallsIn-kept (g.O.OwnRegisters.owns c.args.own.now c.args.context.now) (g.O.OwnRegisters.owns c.property_holder.new.own c.args.context.now)
     c.args.self.now heap state c.property_holder.ensures.owns.0 calls in
     let is_shape = c.shape_of-shape.ensures.shape heap state calls_then in
     let known : has_key state cell c.args.key ≡ false =
@@ -70,7 +70,7 @@ pub returns-clause-addition : goal.returns-clause-addition
 returns-clause-addition g c = λ heap state calls.
     let shapes = c.args.self.now.shapes in
     let cell = c.in_ok-cell.cell in
-    let calls_then = CallsIn-kept (g.O.OwnWords.owns c.args.own.now c.args.context.now) (g.O.OwnWords.owns c.property_holder.new.own c.args.context.now)
+    let calls_then = CallsIn-kept (g.O.OwnRegisters.owns c.args.own.now c.args.context.now) (g.O.OwnRegisters.owns c.property_holder.new.own c.args.context.now)
     c.args.self.now heap state c.property_holder.ensures.owns.0 calls in
     let is_shape = c.shape_of-shape.ensures.shape heap state calls_then in
     let few : c.in-Some.next < 2 ^ 32 = search rules in
@@ -87,7 +87,7 @@ returns-clause-few g c =
     let (heap, state, calls) = c.requires.known in
     let shapes = c.args.self.now.shapes in
     let cell = c.in_ok-cell.cell in
-    let calls_then = CallsIn-kept (g.O.OwnWords.owns c.args.own.now c.args.context.now) (g.O.OwnWords.owns c.property_holder.new.own c.args.context.now)
+    let calls_then = CallsIn-kept (g.O.OwnRegisters.owns c.args.own.now c.args.context.now) (g.O.OwnRegisters.owns c.property_holder.new.own c.args.context.now)
     c.args.self.now heap state c.property_holder.ensures.owns.0 calls in
     let is_shape = c.shape_of-shape.ensures.shape heap state calls_then in
     let counted = c.count.ensures

@@ -21,11 +21,11 @@ returns-in_err-cell-clause-refused g c =
 
 pub returns-in_default-clause-refused : goal.returns-in_default-clause-refused
 returns-in_default-clause-refused g c = λ heap state calls.
-    let owns = g.O.OwnWords.owns c.args.own.now c.args.context.now in
+    let owns = g.O.OwnRegisters.owns c.args.own.now c.args.context.now in
     let lists = g.S.ShapeTable.lists c.shapes.result.now in
     let cell = c.in_ok-cell.cell in
     let key = c.args.key in
-    let calls_then = CallsIn-kept owns (g.O.OwnWords.owns c.property_holder.new.own c.args.context.now) c.args.self.now heap state
+    let calls_then = CallsIn-kept owns (g.O.OwnRegisters.owns c.property_holder.new.own c.args.context.now) c.args.self.now heap state
     c.property_holder.ensures.owns.0 calls in
     let is_shape = c.shape_of-shape.ensures.shape heap state calls_then in
     let known : has_key state cell key ≡ false = key-found lists c.args.self.now.shapes c.shapes.ensures.lists c.shape_of-shape.result (state.cells cell).keys is_shape
@@ -35,12 +35,12 @@ returns-in_default-clause-refused g c = λ heap state calls.
 
 pub returns-in_default-array_of-clause-refused : goal.returns-in_default-array_of-clause-refused
 returns-in_default-array_of-clause-refused g c = λ heap state calls.
-    let owns = g.O.OwnWords.owns c.args.own.now c.args.context.now in
+    let owns = g.O.OwnRegisters.owns c.args.own.now c.args.context.now in
     let lists = g.S.ShapeTable.lists c.shapes.result.now in
     let cell = c.in_ok-cell.cell in
-    let held = g.O.OwnWords.owns c.property_holder.new.own c.args.context.now in
+    let held = g.O.OwnRegisters.owns c.property_holder.new.own c.args.context.now in
     let calls_then = CallsIn-kept owns held c.args.self.now heap state c.property_holder.ensures.owns.0 calls in
-    let calls_last = CallsIn-kept held (g.O.OwnWords.owns c.shape_of-shape.new.own c.args.context.now) c.args.self.now heap state
+    let calls_last = CallsIn-kept held (g.O.OwnRegisters.owns c.shape_of-shape.new.own c.args.context.now) c.args.self.now heap state
     c.shape_of-shape.ensures.owns.0 calls_then in
     let same = keys_of-cell lists c.args.self.now.shapes c.shapes.ensures.lists c.shape_of-shape.result (state.cells cell).keys
     (c.shape_of-shape.ensures.shape heap state calls_then) in
@@ -52,13 +52,13 @@ returns-in_default-array_of-clause-refused g c = λ heap state calls.
 
 pub returns-clause-property : goal.returns-clause-property
 returns-clause-property g c = λ heap state calls.
-    let owns = g.O.OwnWords.owns c.args.own.now c.args.context.now in
+    let owns = g.O.OwnRegisters.owns c.args.own.now c.args.context.now in
     let lists = g.S.ShapeTable.lists c.shapes.result.now in
     let cell = c.in_ok-cell.cell in
     let key = c.args.key in
-    let held = g.O.OwnWords.owns c.property_holder.new.own c.args.context.now in
+    let held = g.O.OwnRegisters.owns c.property_holder.new.own c.args.context.now in
     let calls_then = CallsIn-kept owns held c.args.self.now heap state c.property_holder.ensures.owns.0 calls in
-    let calls_last = CallsIn-kept held (g.O.OwnWords.owns c.shape_of-shape.new.own c.args.context.now) c.args.self.now heap state
+    let calls_last = CallsIn-kept held (g.O.OwnRegisters.owns c.shape_of-shape.new.own c.args.context.now) c.args.self.now heap state
     c.shape_of-shape.ensures.owns.0 calls_then in
     let is_shape = c.shape_of-shape.ensures.shape heap state calls_then in
     let same = keys_of-cell lists c.args.self.now.shapes c.shapes.ensures.lists c.shape_of-shape.result (state.cells cell).keys is_shape in

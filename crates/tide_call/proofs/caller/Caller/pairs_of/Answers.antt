@@ -14,7 +14,7 @@ loop-place-init g c = (((λ layout who heap owned. owned), refl), refl, (λ heap
 pub pair-requires-clause-known : goal.pair-requires-clause-known
 pair-requires-clause-known g c = (let (heap, state, calls) = c.requires.known in (
   heap,
-  owned-seen (g.O.OwnWords.owns c.loop-place.own c.args.context.now) heap _ c.args.self.now c.self.view_is
+  owned-seen (g.O.OwnRegisters.owns c.loop-place.own c.args.context.now) heap _ c.args.self.now c.self.view_is
       (c.loop-place.invariant.0.0 c.args.self.now.layout c.args.self.now.who heap calls.owned),
 ))
 
@@ -29,10 +29,10 @@ loop-place-preserved g c =
       length-set words at c.pair.result ∙ whole,
       (λ heap state calls place before. elim (cases_eq place at) [
         | inl same ↦
-            let owned = owned-seen (g.O.OwnWords.owns c.loop-place.own c.args.context.now) heap _ c.args.self.now c.self.view_is
+            let owned = owned-seen (g.O.OwnRegisters.owns c.loop-place.own c.args.context.now) heap _ c.args.self.now c.self.view_is
             (c.loop-place.invariant.0.0 c.args.self.now.layout c.args.self.now.who heap calls.owned) in
             let claimed = claim-seen heap c.args.table _ c.args.self.now c.self.view_is
-            (claimed_word (g.O.OwnWords.owns c.args.own.now c.args.context.now) c.args.self.now heap state calls c.args.table c.requires.claimed c.requires.of_layout) in
+            (claimed_word (g.O.OwnRegisters.owns c.args.own.now c.args.context.now) c.args.self.now heap state calls c.args.table c.requires.claimed c.requires.of_layout) in
             get_or-set_at words at place c.pair.result 0 same (omega (arith, whole, is_at, below))
             ∙ c.pair.ensures.word heap owned claimed
             ∙ ap (λ (caller : Caller). slot_word caller.layout heap c.args.table c.loop-place.place) c.self.view_is

@@ -7,7 +7,7 @@ use Rattle.tide_call.proofs.caller.Caller.pairs_of.Given as goal
 
 abbrev pub invariant-loop-place : goal.invariant-loop-place
 invariant-loop-place g l =
-    LeavesOwn (g.O.OwnWords.owns l.initial.own) (g.O.OwnWords.owns l.own) l.context (g.O.OwnWords.rest l.initial.own) (g.O.OwnWords.rest l.own)
+    LeavesOwn (g.O.OwnRegisters.owns l.initial.own) (g.O.OwnRegisters.owns l.own) l.context (g.O.OwnRegisters.rest l.initial.own) (g.O.OwnRegisters.rest l.own)
     × (length l.words ≡ 8)
-    × Always (g.O.OwnWords.owns l.initial.own l.context) l.self (λ heap state. (place : ℕ) → place < l.place →
+    × Always (g.O.OwnRegisters.owns l.initial.own l.context) l.self (λ heap state. (place : ℕ) → place < l.place →
     slice_index l.words place ≡ slot_word l.self.layout heap l.table place)

@@ -22,11 +22,11 @@ returns-in-Err-clause-plan g c = λ heap state calls. c.in-Err.ensures.refused h
 pub returns-clause-plan : goal.returns-clause-plan
 returns-clause-plan g c = λ heap state calls.
     let caller = c.args.self.now in
-    let owns = g.O.OwnWords.owns c.args.own.now c.args.context.now in
-    let found = g.O.OwnWords.owns c.find_addition.new.own c.args.context.now in
+    let owns = g.O.OwnRegisters.owns c.args.own.now c.args.context.now in
+    let found = g.O.OwnRegisters.owns c.find_addition.new.own c.args.context.now in
     let addition = c.in-Ok.addition in
     let calls_then = CallsIn-kept owns found caller heap state c.find_addition.ensures.owns.0 calls in
-    let calls_last = CallsIn-kept found (g.O.OwnWords.owns c.value_in-value.new.own c.args.context.now) caller heap state c.value_in-value.ensures.owns.0 calls_then in
+    let calls_last = CallsIn-kept found (g.O.OwnRegisters.owns c.value_in-value.new.own c.args.context.now) caller heap state c.value_in-value.ensures.owns.0 calls_then in
     let is = c.in-Ok.ensures.addition heap state calls in
     let live = claimed_is_live owns caller heap state calls addition.cell c.in-Ok.ensures.claimed in
     let counted = c.from-count.ensures ∙ is.is_count in
@@ -55,10 +55,10 @@ returns-clause-plan g c = λ heap state calls.
 pub returns-then-count-capacity-clause-plan : goal.returns-then-count-capacity-clause-plan
 returns-then-count-capacity-clause-plan g c = λ heap state calls.
     let caller = c.args.self.now in
-    let found = g.O.OwnWords.owns c.find_addition.new.own c.args.context.now in
+    let found = g.O.OwnRegisters.owns c.find_addition.new.own c.args.context.now in
     let addition = c.in-Ok.addition in
-    let calls_then = CallsIn-kept (g.O.OwnWords.owns c.args.own.now c.args.context.now) found caller heap state c.find_addition.ensures.owns.0 calls in
-    let calls_last = CallsIn-kept found (g.O.OwnWords.owns c.value_in-value.new.own c.args.context.now) caller heap state c.value_in-value.ensures.owns.0 calls_then in
+    let calls_then = CallsIn-kept (g.O.OwnRegisters.owns c.args.own.now c.args.context.now) found caller heap state c.find_addition.ensures.owns.0 calls in
+    let calls_last = CallsIn-kept found (g.O.OwnRegisters.owns c.value_in-value.new.own c.args.context.now) caller heap state c.value_in-value.ensures.owns.0 calls_then in
     let is = c.in-Ok.ensures.addition heap state calls in
     let counted = c.from-count.ensures ∙ is.is_count in
     subst (λ (plan : Plan). IsPlan caller heap state (Add c.args.src c.args.key c.args.val) plan) (sym c.growth-then-count-capacity.ensures) (
@@ -85,11 +85,11 @@ returns-then-count-capacity-clause-plan g c = λ heap state calls.
 pub returns-in_default-clause-plan : goal.returns-in_default-clause-plan
 returns-in_default-clause-plan g c = λ heap state calls.
     let caller = c.args.self.now in
-    let owns = g.O.OwnWords.owns c.args.own.now c.args.context.now in
-    let found = g.O.OwnWords.owns c.find_addition.new.own c.args.context.now in
+    let owns = g.O.OwnRegisters.owns c.args.own.now c.args.context.now in
+    let found = g.O.OwnRegisters.owns c.find_addition.new.own c.args.context.now in
     let addition = c.in-Ok.addition in
     let calls_then = CallsIn-kept owns found caller heap state c.find_addition.ensures.owns.0 calls in
-    let calls_last = CallsIn-kept found (g.O.OwnWords.owns c.value_in-value.new.own c.args.context.now) caller heap state c.value_in-value.ensures.owns.0 calls_then in
+    let calls_last = CallsIn-kept found (g.O.OwnRegisters.owns c.value_in-value.new.own c.args.context.now) caller heap state c.value_in-value.ensures.owns.0 calls_then in
     let is = c.in-Ok.ensures.addition heap state calls in
     let own = c.in_default.ensures.array heap state calls_last in
     let live = claimed_is_live owns caller heap state calls addition.cell c.in-Ok.ensures.claimed in

@@ -10,10 +10,10 @@ use Rattle.tide_call.proofs.caller.Caller.plan_pair_get.Goals as goal
 pub returns-in-Some-clause-plan : goal.returns-in-Some-clause-plan
 returns-in-Some-clause-plan g c = λ heap state calls.
     let caller = c.args.self.now in
-    let owns = g.O.OwnWords.owns c.args.own.now c.args.context.now in
+    let owns = g.O.OwnRegisters.owns c.args.own.now c.args.context.now in
     let cells = c.in-Ok.cells in
     let found = c.in-Ok.ensures in
-    let calls_then = CallsIn-kept owns (g.O.OwnWords.owns c.pair_cells.new.own c.args.context.now) caller heap state c.pair_cells.ensures.owns.0 calls in
+    let calls_then = CallsIn-kept owns (g.O.OwnRegisters.owns c.pair_cells.new.own c.args.context.now) caller heap state c.pair_cells.ensures.owns.0 calls in
     let said = stands-said owns caller heap state calls cells.table c.pairs_of-words.result found.within found.is_table found.claimed
     (c.pairs_of-words.ensures.words heap state calls_then) cells.key c.in-Some.pair.value c.in-Some.pair.place c.in-Some.ensures.stands in (
       found.granted heap state calls (λ table key. refuse_if (not (has_pair state table key)) Absent)
@@ -24,10 +24,10 @@ returns-in-Some-clause-plan g c = λ heap state calls.
 pub returns-in-None-clause-plan : goal.returns-in-None-clause-plan
 returns-in-None-clause-plan g c = λ heap state calls.
     let caller = c.args.self.now in
-    let owns = g.O.OwnWords.owns c.args.own.now c.args.context.now in
+    let owns = g.O.OwnRegisters.owns c.args.own.now c.args.context.now in
     let cells = c.in-Ok.cells in
     let found = c.in-Ok.ensures in
-    let calls_then = CallsIn-kept owns (g.O.OwnWords.owns c.pair_cells.new.own c.args.context.now) caller heap state c.pair_cells.ensures.owns.0 calls in
+    let calls_then = CallsIn-kept owns (g.O.OwnRegisters.owns c.pair_cells.new.own c.args.context.now) caller heap state c.pair_cells.ensures.owns.0 calls in
     let none = lacks-none owns caller heap state calls cells.table c.pairs_of-words.result found.within found.is_table found.claimed
     (c.pairs_of-words.ensures.words heap state calls_then) cells.key c.in-None.ensures.none in
     found.granted heap state calls (λ table key. refuse_if (not (has_pair state table key)) Absent)

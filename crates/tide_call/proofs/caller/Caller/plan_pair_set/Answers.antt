@@ -12,10 +12,10 @@ use Rattle.tide_call.proofs.caller.Caller.plan_pair_set.Goals as goal
 pub returns-in_default-clause-plan : goal.returns-in_default-clause-plan
 returns-in_default-clause-plan g c = λ heap state calls.
     let caller = c.args.self.now in
-    let owns = g.O.OwnWords.owns c.args.own.now c.args.context.now in
+    let owns = g.O.OwnRegisters.owns c.args.own.now c.args.context.now in
     let cells = c.in-Ok.cells in
     let found = c.in-Ok.ensures in
-    let calls_then = CallsIn-kept owns (g.O.OwnWords.owns c.pair_cells.new.own c.args.context.now) caller heap state c.pair_cells.ensures.owns.0 calls in
+    let calls_then = CallsIn-kept owns (g.O.OwnRegisters.owns c.pair_cells.new.own c.args.context.now) caller heap state c.pair_cells.ensures.owns.0 calls in
     let words = c.pairs_of-words.result in
     found.granted heap state calls (λ table key. refuse_if (not (has_pair state table key) && nat_le pairs_most (pair_count caller.layout state table)) PairsFull)
     ∙ last_refusal (not (has_pair state cells.table cells.key) && nat_le pairs_most (pair_count caller.layout state cells.table)) true PairsFull
@@ -25,12 +25,12 @@ returns-in_default-clause-plan g c = λ heap state calls.
 pub returns-clause-plan : goal.returns-clause-plan
 returns-clause-plan g c = λ heap state calls.
     let caller = c.args.self.now in
-    let owns = g.O.OwnWords.owns c.args.own.now c.args.context.now in
+    let owns = g.O.OwnRegisters.owns c.args.own.now c.args.context.now in
     let cells = c.in-Ok.cells in
     let found = c.in-Ok.ensures in
-    let held = g.O.OwnWords.owns c.pair_cells.new.own c.args.context.now in
+    let held = g.O.OwnRegisters.owns c.pair_cells.new.own c.args.context.now in
     let calls_then = CallsIn-kept owns held caller heap state c.pair_cells.ensures.owns.0 calls in
-    let calls_last = CallsIn-kept held (g.O.OwnWords.owns c.pairs_of-words.new.own c.args.context.now) caller heap state c.pairs_of-words.ensures.owns.0 calls_then in
+    let calls_last = CallsIn-kept held (g.O.OwnRegisters.owns c.pairs_of-words.new.own c.args.context.now) caller heap state c.pairs_of-words.ensures.owns.0 calls_then in
     let words = c.pairs_of-words.result in
     let same = c.pairs_of-words.ensures.words heap state calls_then in
     let place = c.in-Some.place in

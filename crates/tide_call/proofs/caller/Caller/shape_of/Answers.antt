@@ -4,7 +4,7 @@ use Rattle.tide_call.proofs.caller.Caller.shape_of.Goals as goal
 
 pub returns-in-Some-clause-shape : goal.returns-in-Some-clause-shape
 returns-in-Some-clause-shape g c = λ heap state calls.
-    let owns = g.O.OwnWords.owns c.args.own.now c.args.context.now in
+    let owns = g.O.OwnRegisters.owns c.args.own.now c.args.context.now in
     let caller = c.args.self.now in
     let owned = owned-seen owns heap _ caller c.self.view_is calls.owned in
     let claimed = claim-seen heap c.args.cell _ caller c.self.view_is
@@ -18,7 +18,7 @@ returns-in-Some-clause-within g c = (let (heap, state, calls) = c.requires.known
 
 pub returns-in-None-clause-shape : goal.returns-in-None-clause-shape
 returns-in-None-clause-shape g c = λ heap state calls.
-    let owns = g.O.OwnWords.owns c.args.own.now c.args.context.now in
+    let owns = g.O.OwnRegisters.owns c.args.own.now c.args.context.now in
     let caller = c.args.self.now in
     let owned = owned-seen owns heap _ caller c.self.view_is calls.owned in
     let claimed = claim-seen heap c.args.cell _ caller c.self.view_is

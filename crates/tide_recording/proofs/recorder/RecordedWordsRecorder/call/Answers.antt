@@ -22,7 +22,7 @@ use Rattle.tide_periods.proofs.RecordedLaws.{MadeCall-did}
 use Rattle.tide_recording.specs.Kept.{HoldsClaims, history_in, recorded_in, recorded_of, shapes_in, state_in}
 use Rattle.tide_recording.proofs.Calling.{HoldsClaims-called, IsFrozen-called, MayCall-asked, counts-called}
 use Rattle.tide_recording.proofs.FrozenParts.{IsFrozen-added}
-use Rattle.tide_recording.proofs.FewBirths.{births-few, one_born}
+use Rattle.tide_freeze.proofs.FewBirths.{births-few, one_born}
 use Rattle.tide_recording.proofs.recorder.RecordedWordsRecorder.call.Goals as goal
 
 pub call-called-requires-clause-known : goal.call-called-requires-clause-known

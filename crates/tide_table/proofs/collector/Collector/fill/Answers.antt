@@ -3,7 +3,7 @@ use Rattle.std.proofs.Common.{ℕ, ◌∙◌, refl, ap, arith}
 use Rattle.tide_layout.specs.Region.{place_in}
 use Rattle.tide_model.specs.Layout.{Layout}
 use Rattle.tide_table.proofs.Starting.{filled_none, filled_more}
-use Rattle.tide_table.specs.Turns.{restored}
+use Rattle.tide_heap.specs.Turns.{restored}
 use Rattle.tide_table.proofs.collector.Collector.fill.Goals as goal
 
 pub loop-index-init : goal.loop-index-init

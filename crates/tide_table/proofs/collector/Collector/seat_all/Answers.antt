@@ -3,7 +3,7 @@ use Rattle.std.proofs.Common.{ℕ, ◌+◌, ◌∙◌, [], ◌∷◌, length, le
 use Rattle.tide_machine.specs.Frozen.{newcomer}
 use Rattle.tide_machine.specs.declared.view.View.{View}
 use Rattle.tide_table.proofs.Starting.{passes_push, next_trans}
-use Rattle.tide_table.specs.Parties.{IsParty}
+use Rattle.tide_heap.specs.Parties.{IsParty}
 use Rattle.tide_table.specs.Started.{ArePasses}
 use Rattle.tide_table.proofs.collector.Collector.seat_all.Goals as goal
 

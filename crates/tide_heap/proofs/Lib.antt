@@ -1,0 +1,6 @@
+pub mod Beginnings
+pub mod Births
+pub mod Leaving
+pub mod Members
+pub mod Runs
+pub mod Turning

@@ -1,0 +1,6 @@
+-- It is one of the words of its region.
+use Rattle.tide_layout.proofs.SlotPlaces.{index_of_element-below}
+use Rattle.tide_heap.proofs.heap.Heap.element_place.Goals as goal
+
+pub returns-clause-within : goal.returns-clause-within
+returns-clause-within g c = index_of_element-below c.args.self.now.key.layout c.args.array c.args.place c.requires

@@ -1,0 +1,5 @@
+pub mod Parties
+pub mod Births
+pub mod Done
+pub mod Rule
+pub mod Turns

@@ -1,0 +1,140 @@
+-- What the views become as participants come, stop and go on, and as the collector seats, freezes, enters and opens.
+use Rattle.std.specs.List.{list_all}
+use Rattle.std.specs.Prelude.{ℕ, ◌≡◌, ◌<◌, ◌≤◌, ◌+◌, ◌==◌, ◌&&◌, not, filter, count_by, true, false, List, [], ◌∷◌, ◌++◌, length, replicate, slice_set, if◌then◌else◌}
+use Rattle.tide_layout.specs.Limits.{IsWithinLimits}
+use Rattle.tide_layout.specs.Region.{word_count}
+use Rattle.tide_machine.specs.Frozen.{FrozenWith, newcomer}
+use Rattle.tide_machine.specs.Kind as kind
+use Rattle.tide_machine.specs.World.{first_visitor, parties}
+use Rattle.tide_machine.specs.declared.view.Role.TheVariants.{Collector, Note, Ticket, Spent}
+use Rattle.tide_machine.specs.declared.view.View.{View}
+use Rattle.tide_machine.specs.declared.view.Visited.{Visited}
+use Rattle.tide_machine.specs.kinds.Join.{joined_view}
+use Rattle.tide_model.specs.History.{plain, state_after}
+use Rattle.tide_model.specs.Layout.{Layout}
+use Rattle.tide_model.specs.Refused.{ShapeLists}
+use Rattle.tide_model.specs.Since.{is_birth, is_call}
+use Rattle.tide_model.specs.declared.entry.Entry.TheVariants.{Open, Visits}
+use Rattle.tide_model.specs.declared.entry.Event.{Event}
+use Rattle.tide_heap.specs.Done.{done_by_numbers}
+use Rattle.tide_heap.specs.Parties.{In, IsParty, longer, up_to}
+use Rattle.tide_words.specs.heap.Heap.{heap_of}
+use Rattle.tide_words.specs.marking.Colours.{is_marking, running_cycle}
+
+-- The collector's first view. The heap starts frozen, with words that are all 0, as if all had stopped in part 0.
+abbrev pub first_view : Layout → View
+first_view layout = record (newcomer 0) {
+  role = Collector;
+  frozen = true;
+  notes = up_to parties;
+  words = replicate (word_count layout) 0;
+  base = replicate (word_count layout) 0;
+}
+
+-- what a ticket tells a participant that has seen so much
+abbrev pub ticket_for : List Event → View → kind.Ticket
+ticket_for seen u =
+    record { seen = longer seen u.seen; period = u.period; run = u.run; marks = u.marks; cycle = u.cycle }
+
+-- a participant hears a ticket
+abbrev pub heard_view : View → View → View
+heard_view v u = joined_view (ticket_for v.seen u) v
+
+-- what a note has: the view at the stop, of the part whose ticket was heard
+abbrev pub note_of : View → View
+note_of v = record v { role = Note; period = v.ticket; done = done_by_numbers v }
+
+-- what the note of a visitor has that found each grey word 0 since it last held a cell
+abbrev pub done_note_of : View → View
+done_note_of v = record v { role = Note; period = v.ticket; done = true }
+
+-- the collector hands out a seat, and a ticket
+abbrev pub seating : ℕ → View → View
+seating who v = record v { next = who + 1 }
+
+abbrev pub ticket_of : View → View
+ticket_of v = record v { role = Ticket }
+
+-- a note and a ticket that were taken in
+abbrev pub spent : View
+spent = record (newcomer 0) { role = Spent }
+
+-- what a note tells of visits in the part
+abbrev pub visited_of : ℕ → View → Visited
+visited_of period u = record { who = u.who; visits = if u.begun == period then u.visits else 0; done = u.done }
+
+-- the collector takes in a note
+abbrev pub noted : View → View → View
+noted v u = record v {
+  seen = longer v.seen u.seen;
+  notes = u.who ∷ v.notes;
+  gone = if u.left then u.who ∷ v.gone else v.gone;
+  ledger = v.ledger + (if u.begun == v.period then u.visits else 0);
+  births = v.births + (if u.begun == v.period then u.born else 0);
+  done = v.done && u.done;
+  visited = visited_of v.period u ∷ v.visited;
+}
+
+-- it freezes, with the words as they are then
+abbrev pub frozen_with : List ℕ → View → View
+frozen_with words v = record v { frozen = true; words = words; base = words }
+
+-- it stores a word while frozen
+abbrev pub restored : ℕ → ℕ → View → View
+restored at word v = record v { words = slice_set v.words at word }
+
+-- it makes an entry of its own
+abbrev pub entered_with : Event → View → View
+entered_with event v = record v { seen = v.seen ++ event ∷ []; base = v.words }
+
+-- it makes an entry with which nothing is left to enter of this participant's visits
+abbrev pub visits_over : ℕ → Event → View → View
+visits_over who event v = record (entered_with event v) {
+  visited = filter (λ told. not (told.who == who)) v.visited;
+}
+
+-- it enters the visits that the note of this visitor told, which the entry counts from 0
+abbrev pub visits_entered : ℕ → ℕ → View → View
+visits_entered visitor visits = visits_over (first_visitor + visitor) (plain (Visits visitor visits))
+
+-- it opens the next part
+abbrev pub open_entry : ℕ → View → Event
+open_entry run v = plain (Open (v.period + 1) run)
+
+abbrev pub opened : Layout → ℕ → View → View
+opened layout run v = record v {
+  frozen = false;
+  period = v.period + 1;
+  run = run;
+  marks = is_marking (heap_of layout v.words);
+  cycle = running_cycle (heap_of layout v.words);
+  notes = [];
+  ledger = 0;
+  births = 0;
+  done = true;
+  visited = [];
+  seen = v.seen ++ open_entry run v ∷ [];
+  start = v.seen ++ open_entry run v ∷ [];
+  words = [];
+  base = [];
+}
+
+-- What a freeze tells the collector: the words, and that they meet the wave of the history that it has seen, with the
+-- visits that the notes tell and that aren't entered yet. What came since the part was opened are calls alone, and in
+-- them so many cells were born as the notes tell.
+pub record Freezes (layout : Layout) (shapes : ShapeLists) (v w : View) : Type 0 where
+  pub limits : IsWithinLimits layout
+  pub words : List ℕ
+  pub view : w ≡ frozen_with words v
+  pub long : length words ≡ word_count layout
+  pub wave : FrozenWith layout shapes (heap_of layout words) v.seen v.ledger
+  pub part : List Event
+  pub since : v.seen ≡ v.start ++ part
+  pub calls : list_all (λ event. is_call event.entry) part ≡ true
+  pub births : v.births ≡ count_by (λ event. is_birth event.entry) part
+  pub few : v.births ≤ 20480
+  -- who has left for good is known
+  pub gone : (i : ℕ) → IsParty layout i → (state_after layout v.seen).active i ≡ false → In i v.gone
+  -- where a cycle marks, there are visitors and each note says that its participant has done its part, one made a cell
+  -- black
+  pub progress : v.marks ≡ true → 0 < layout.visitors → v.done ≡ true → 0 < v.ledger

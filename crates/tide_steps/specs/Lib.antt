@@ -1,0 +1,6 @@
+pub mod Works
+pub mod Steps
+pub mod Follows
+pub mod Calls
+pub mod Numbers
+pub mod Told

@@ -1,0 +1,25 @@
+-- Why the entry keeps the rule.
+use Rattle.std.proofs.Common.{subst, ap}
+use Rattle.tide_model.specs.Lawful.{Stands}
+use Rattle.tide_model.specs.Layout.{Layout}
+use Rattle.tide_model.specs.Refused.{ShapeLists}
+use Rattle.tide_steps.proofs.Comings.{zero_below}
+use Rattle.tide_table.proofs.Tabled.{enters_as}
+use Rattle.tide_heap.specs.Turns.{visits_over}
+use Rattle.tide_table.proofs.collector.Collector.enter_visits_as.Goals as goal
+
+pub load-requires : goal.load-requires
+load-requires g c =
+    let h = c.args.heap.now in
+    let seat = c.args.self.now.seat in
+    let layout = h.table.shared.key.layout in
+    let shapes = g.S.HeapShapes.lists h.table.shared.key.shapes in
+    let event = g.J.Choice.event in (
+      c.requires.own,
+      zero_below h.key.layout h.table.shared.table_id.words h.sized,
+      enters_as layout shapes h.table.shared.table_id.slots seat.id seat.me event
+          (visits_over g.J.Choice.number event seat.me.0).visited c.args.self.now.collects c.requires.frozen
+          (subst (λ (x : Layout × ShapeLists). Stands x.0 x.1 seat.me.0.seen event)
+          (λ i. (h.same_layout i, (ap g.S.HeapShapes.lists h.same_shapes) i)) c.requires.stands) c.requires.no_call
+          c.requires.no_open,
+    )

@@ -1,0 +1,33 @@
+-- Why a new heap meets the rule.
+use Rattle.std.proofs.Common.{◌≡◌, ℕ, List, subst, ◌∙◌, ap, replicate}
+use Rattle.tide_layout.specs.Region.{block_count}
+use Rattle.tide_layout.specs.declared.region.Region.TheVariants.{Active, Free}
+use Rattle.tide_machine.specs.declared.view.View.{View}
+use Rattle.tide_table.proofs.Starting.{next_trans, started}
+use Rattle.tide_table.proofs.Tabled.{opens_at}
+use Rattle.tide_table.specs.Started.{HasFilled}
+use Rattle.tide_heap.specs.Turns.{first_view}
+use Rattle.tide_table.proofs.start.Start.new.Goals as goal
+
+pub of_words-requires : goal.of_words-requires
+of_words-requires g c =
+    opens_at c.args.layout (g.S.ShapeTable.lists c.args.shapes) c.as_slice.result.now c.mutators.ensures.limits
+    ((g.met.S.ShapeTable g.world.𝓛 g.world.𝓜 g.world.𝓡 (λ s a. a, λ a. a, λ a. a, λ a. a)).is_table c.args.shapes).empty
+    (c.as_slice.ensures.value ∙ c.in-Ok.ensures.items_if_clones_equal (λ y e. e) ∙ ap (λ (n : ℕ). replicate n 0) c.words.ensures.words)
+
+pub returns-clause-started : goal.returns-clause-started
+returns-clause-started g c =
+    let layout = c.args.layout in
+    let seat = c.in-Ok-of_words.seat in
+    let one = c.fill.new.self.seat.me.0 in
+    let two = c.fill-2.new.self.seat.me.0 in
+    let made = c.in-Ok-of_words.ensures.4 in
+    let first : seat.me.0 ≡ first_view layout = ap (λ (m : View × List (ℕ × Unit {0})). m.0) made in
+    let mutators : c.from-mutators.result ≡ layout.mutators = cc in
+    started layout (g.S.ShapeTable.lists c.args.shapes) one two c.seat_all-2.new.self.seat.me.0
+    (subst (λ (x : View × ℕ). HasFilled layout Active 1 x.1 x.0 one) (λ i. (first i, mutators i)) c.fill.ensures.filled)
+    (subst (λ (n : ℕ). HasFilled layout Free 18446744073709551615 n one two)
+    (c.block_count-blocks.ensures.count ∙ ap block_count c.layout.ensures)
+    c.fill-2.ensures.filled)
+    (next_trans two c.seat_all.new.self.seat.me.0 c.seat_all-2.new.self.seat.me.0 c.seat_all.ensures.seated.0
+    c.seat_all-2.ensures.seated.0)
