@@ -1,0 +1,60 @@
+//! Acting on a plan: its steps, in their order, and the reply. It decides nothing.
+ghost use Rattle.std.specs.Prelude.{◌≡◌, ◌+◌, ◌%◌, ◌^◌, ◌<◌, length, true, ℕ};
+ghost use Rattle.tide_call.specs.Plans.{is_told_by_registers};
+ghost use Rattle.tide_call.specs.declared.plan.Plan.TheVariants.{Take};
+ghost use Rattle.tide_mutator.specs.Calling.{IsCalling};
+ghost use Rattle.tide_mutator.specs.Made.{HasDone};
+ghost use Rattle.tide_mutator.specs.Ops.{is_acted};
+ghost use Rattle.tide_mutator.specs.Standing.{IsPlanned};
+ghost use Rattle.tide_word_store.specs.Needed.{FitsPlan};
+ghost use Rattle.tide_words.specs.heap.Heap.{Heap as TheWords};
+
+use crate::births::take;
+use crate::claiming::{claim, release};
+use crate::handles::{get_strong, get_weak, put_strong, put_weak};
+use crate::leaving::leave;
+use crate::registers::{ask, fill, refuse};
+use crate::slots::{get, put};
+use tide_call::Plan;
+use tide_model::{Op, Reply, Turnstile};
+use tide_steps::{Heap, HeapShapes, Pass};
+
+/// Acts on the plan of a call, whose number its call word tells then.
+pub(crate) fn act<S: HeapShapes, T: Turnstile>(
+    pass: &mut Pass,
+    heap: &Heap<S>,
+    gate: &T,
+    op: Op,
+    calls: u64,
+    plan: Plan,
+) -> Reply
+    requires own { pass.old.seat.table_id ≡ heap.now.table.shared.table_id }
+    requires calling { IsCalling heap.now.key.layout pass.old.seat.me.0 op }
+    requires told { is_told_by_registers op ≡ true }
+    requires acted { is_acted plan ≡ true }
+    requires counts { calls ≡ (length pass.old.seat.me.0.mine + 1) % 2 ^ 64 }
+    requires planned { IsPlanned heap.now.key.layout (S.lists heap.now.key.shapes) pass.old.seat.me.0 op plan }
+    requires fits { (words : TheWords) × FitsPlan heap.now.key.layout words plan }
+    requires few { (dst class : ℕ) → plan ≡ Take dst class → pass.old.seat.me.0.born + 1 < 2 ^ 32 }
+    ensures same { (pass.new.seat.table_id ≡ pass.old.seat.table_id) × (pass.new.seat.id ≡ pass.old.seat.id) }
+    ensures done { HasDone heap.now.key.layout (S.lists heap.now.key.shapes) op plan result
+        pass.old.seat.me.0 pass.new.seat.me.0 }
+{
+    match plan {
+        Plan::Refuse { refusal } => refuse(pass, heap, op, calls, refusal),
+        Plan::Take { dst, class } => take(pass, heap, op, calls, dst, class),
+        Plan::LoadSlot { dst, cell, slot } => get(pass, heap, op, calls, dst, cell, slot),
+        Plan::StoreSlot { cell, slot, value } => put(
+            pass, heap, gate, op, calls, cell, slot, value,
+        ),
+        Plan::Fill { dst, value } => fill(pass, heap, op, calls, dst, value),
+        Plan::Claim { cell, full } => claim(pass, heap, op, calls, cell, full),
+        Plan::Release { cell } => release(pass, heap, op, calls, cell),
+        Plan::StoreStrong { at, value } => put_strong(pass, heap, op, calls, at, value),
+        Plan::LoadStrong { dst, at } => get_strong(pass, heap, op, calls, dst, at),
+        Plan::StoreWeak { at, value } => put_weak(pass, heap, op, calls, at, value),
+        Plan::LoadWeak { dst, at } => get_weak(pass, heap, op, calls, dst, at),
+        Plan::Retire => leave(pass, heap, op, calls),
+        _ => ask(pass, heap, op, calls),
+    }
+}

@@ -1,0 +1,56 @@
+//! One part of a mutator, from its ticket to its note: a row that meets each condition on its way.
+ghost use Rattle.std.specs.Prelude.{◌≡◌, ◌+◌, ◌<◌, ◌^◌, false};
+
+use crate::mutator::Mutator;
+use tide_model::{Op, Reply, Turnstile};
+use tide_shape::ShapeTable;
+use tide_steps::{Heap, Note, Ticket};
+
+/// Begins a part, fills a register, takes a cell, stores the register in a slot of it and in a handle, claims the cell,
+/// asks for a cycle, and stops. Where it claims nothing it retires before.
+pub fn make_calls<S: ShapeTable, T: Turnstile>(
+    heap: &Heap<S>,
+    mutator: &mut Mutator,
+    ticket: Ticket,
+    gate: &T,
+) -> (Reply, Note)
+    requires own { mutator.old.own.pass.seat.table_id ≡ heap.now.table.shared.table_id }
+    requires of_heap { ticket.seat.table_id ≡ heap.now.table.shared.table_id }
+    requires rests { mutator.old.own.pass.seat.me.0.runs ≡ false }
+    requires stays { mutator.old.own.pass.seat.me.0.left ≡ false }
+    requires later { mutator.old.own.pass.seat.me.0.period < ticket.seat.me.0.period }
+    requires mutator { mutator.old.own.pass.seat.me.0.who < heap.now.key.layout.mutators }
+    requires has { (1 < heap.now.key.layout.registers) × (0 < heap.now.key.layout.strong) }
+    requires few { mutator.old.own.pass.seat.me.0.born + 8 < 2 ^ 32 }
+    ensures of_heap { result.1.seat.table_id ≡ heap.now.table.shared.table_id }
+{
+    mutator.begin(heap, ticket);
+    mutator.call(heap, Op::Set { dst: 0, n: 7 }, gate);
+    mutator.call(heap, Op::Alloc { dst: 1, class: 0 }, gate);
+    mutator.call(heap, Op::Claim { src: 1 }, gate);
+    mutator.call(
+        heap,
+        Op::Put {
+            src: 1,
+            slot: 0,
+            val: 0,
+        },
+        gate,
+    );
+    mutator.call(heap, Op::StrongSet { at: 0, val: 1 }, gate);
+    let seen = mutator.call(
+        heap,
+        Op::Get {
+            dst: 0,
+            src: 1,
+            slot: 0,
+        },
+        gate,
+    );
+    mutator.call(heap, Op::Unclaim, gate);
+    mutator.call(heap, Op::Collect, gate);
+    if mutator.claims() == 0 {
+        mutator.retire(heap, gate);
+    }
+    (seen, mutator.stop(heap))
+}
