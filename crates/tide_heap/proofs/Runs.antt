@@ -19,7 +19,7 @@ use Rattle.tide_model.proofs.NumberLaws.{put_at_elim}
 use Rattle.tide_model.specs.History.{state_after}
 use Rattle.tide_model.specs.Layout.{Layout}
 use Rattle.tide_model.specs.Numbers.{put_at}
-use Rattle.tide_model.specs.Prefix.{IsPrefix, prefix_refl, prefix_push}
+use Rattle.tide_model.specs.Prefix.{IsPrefix, prefix_refl, prefix_push, prefix_trans}
 use Rattle.tide_model.specs.Refused.{ShapeLists}
 use Rattle.tide_model.specs.declared.entry.Event.{Event}
 use Rattle.tide_heap.proofs.Births.{Counts, births_added, start-added}
@@ -45,6 +45,9 @@ pub record Turns (layout : Layout) (v u : View) : Type 0 where
   pub runs : u.runs ≡ true → v.period < v.ticket
   pub still : v.who < layout.mutators → v.visits ≡ 0 → u.visits ≡ 0
   pub mutator : u.left ≡ true → (v.left ≡ true) ⊎ (v.who < layout.mutators)
+  pub earlier : u.earlier ≡ v.earlier
+  pub told : u.told ≡ v.told
+  pub grows : IsPrefix v.seen u.seen
 
 turned_ok : (layout : Layout) (cv v u : View) → MemberOk layout cv v v.who → v.period < cv.period →
     (In v.who cv.gone → ⊥) → Turns layout v u → MemberOk layout cv u v.who
@@ -61,6 +64,11 @@ turned_ok layout cv v u ok later stays t = let p = t.period in let q = t.ticket 
   });
   still = λ below. t.still below (ok.still below);
   mutator = λ e. elim (t.mutator e) [ inl before ↦ ok.mutator before | inr below ↦ below ];
+  earlier = subst (λ (l : List Event). IsPrefix l u.seen) (sym t.earlier)
+      (prefix_trans v.earlier v.seen u.seen ok.earlier t.grows);
+  heard = subst (λ (l : List Event). IsPrefix l u.seen) (sym t.told)
+      (prefix_trans v.told v.seen u.seen ok.heard t.grows);
+  calls = λ noted a e. absurd (elim (ok.calls noted a e).0 [ inl b ↦ not_in b | inr b ↦ stays b ]);
   noted = λ a. absurd (let b = (ok.noted a).0 in omega (arith, b, later));
   gone = λ a. absurd (stays a);
   over = λ a. absurd (stays a);

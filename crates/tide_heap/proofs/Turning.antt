@@ -17,7 +17,7 @@ use Rattle.tide_machine.specs.kinds.StoreStopped.{stopped_view}
 use Rattle.tide_model.specs.History.{is_call_of, state_after}
 use Rattle.tide_model.specs.Layout.{Layout}
 use Rattle.tide_model.specs.Numbers.{put_at}
-use Rattle.tide_model.specs.Prefix.{IsPrefix}
+use Rattle.tide_model.specs.Prefix.{IsPrefix, prefix_refl}
 use Rattle.tide_model.specs.Refused.{ShapeLists}
 use Rattle.tide_model.specs.declared.entry.Event.{Event}
 use Rattle.tide_heap.proofs.Beginnings.{longer_ok, same_lists, told_between}
@@ -129,6 +129,9 @@ module _ (layout : Layout) (shapes : ShapeLists) (words : List ℕ) (views : Lis
         runs = λ _. later;
         still = λ below none. none;
         mutator = λ e. inl e;
+        earlier = refl;
+        told = refl;
+        grows = prefix_refl v.seen;
       }
       turns later false = record {
         role = is;
@@ -141,6 +144,9 @@ module _ (layout : Layout) (shapes : ShapeLists) (words : List ℕ) (views : Lis
         runs = λ _. later;
         still = λ below none. refl;
         mutator = λ e. inl e;
+        earlier = refl;
+        told = refl;
+        grows = prefix_refl v.seen;
       }
 
       counted : v.ticket ≡ k.cv.period → (b : Bool) → (v.begun == v.ticket) ≡ b →
@@ -188,6 +194,9 @@ module _ (layout : Layout) (shapes : ShapeLists) (words : List ℕ) (views : Lis
         runs = λ e. absurd (cc);
         still = λ below none. none;
         mutator = λ e. inl e;
+        earlier = refl;
+        told = refl;
+        grows = prefix_refl v.seen;
       }
       record { own = tt; births = omega arith }
       (λ e. k.retired v.who (ap (λ (x : View). x.left) mine ∙ e))
@@ -256,6 +265,12 @@ module _ (layout : Layout) (shapes : ShapeLists) (words : List ℕ) (views : Lis
         told = λ e. (let t = heard.told e in record { marks = t.marks; cycle = t.cycle; run = t.run });
         still = ok.still;
         mutator = ok.mutator;
+        earlier = long.one;
+        heard = long.other;
+        calls = λ noted a e. absurd (elim (ok.calls noted a e).0 [
+          | inl b ↦ (let c = (ok.noted b).0 in omega (arith, c, last))
+          | inr b ↦ not_gone stays b
+        ]);
         noted = λ a. absurd (let b = (ok.noted a).0 in omega (arith, b, last));
         gone = λ a. absurd (not_gone stays a);
         over = λ a. absurd (not_gone stays a);
@@ -315,6 +330,12 @@ module _ (layout : Layout) (shapes : ShapeLists) (words : List ℕ) (views : Lis
         told = λ e. (let t = ok.told e in record { marks = t.marks; cycle = t.cycle; run = t.run });
         still = ok.still;
         mutator = ok.mutator;
+        earlier = ok.earlier;
+        heard = ok.heard;
+        calls = λ noted a e. absurd (elim (ok.calls noted a e).0 [
+          | inl b ↦ not_in b
+          | inr b ↦ (let g = (ok.gone b).3 in omega (arith, g, later))
+        ]);
         noted = λ a. absurd (not_in a);
         gone = λ a. absurd (let g = (ok.gone a).3 in omega (arith, g, later));
         over = λ a. absurd (let g = (ok.gone a).3 in omega (arith, g, later));

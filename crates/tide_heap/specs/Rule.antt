@@ -1,6 +1,6 @@
 -- The rule of the table of words, in its two modes: while a part runs, the words and views meet the wave of the machine;
 -- while the heap is frozen, the collector has the words to itself.
-use Rattle.std.specs.Prelude.{ℕ, ◌≡◌, ◌+◌, ◌<◌, ◌≤◌, ◌⊎◌, true, false, List, [], ◌++◌, length, MatchBool, slice_get, Some}
+use Rattle.std.specs.Prelude.{ℕ, Contains, ◌≡◌, ◌+◌, ◌<◌, ◌≤◌, ◌⊎◌, true, false, List, [], ◌++◌, length, MatchBool, slice_get, Some}
 use mathlib.Core.Option.{some}
 use lib.ListN.{get_elem?}
 use Rattle.atomic_table.specs.Table.{State}
@@ -9,6 +9,7 @@ use Rattle.tide_layout.specs.Region.{word_count}
 use Rattle.tide_layout.specs.declared.region.Region.TheVariants as region
 use Rattle.tide_machine.specs.Frozen.{newcomer}
 use Rattle.tide_machine.specs.RunningWave.{RunningWave}
+use Rattle.tide_machine.specs.declared.view.NotedCalls.{NotedCalls}
 use Rattle.tide_machine.specs.declared.view.Role.{Role}
 use Rattle.tide_machine.specs.declared.view.Role.TheVariants.{Collector, Member, Note, Ticket, Spent}
 use Rattle.tide_machine.specs.declared.view.View.{View}
@@ -35,6 +36,12 @@ pub record Told (cv u : View) : Type 0 where
   pub cycle : u.cycle ≡ cv.cycle
   pub run : u.run ≡ cv.run
 
+-- What a note that was taken in tells of a participant's calls is so still: its note of the open part is in, or it has
+-- left for good.
+abbrev pub IsAsNoted : View → View → ℕ → NotedCalls → Type 0
+IsAsNoted cv p i noted =
+    (In i cv.notes ⊎ In i cv.gone) × (p.seen ≡ noted.seen) × (p.mine ≡ noted.mine) × (p.left ≡ noted.left)
+
 -- A participant's view beside the collector's. Its note of a part is out where the part of its last stop is that of its
 -- last ticket.
 pub record MemberOk (layout : Layout) (cv p : View) (i : ℕ) : Type 0 where
@@ -46,6 +53,11 @@ pub record MemberOk (layout : Layout) (cv p : View) (i : ℕ) : Type 0 where
   pub told : p.ticket ≡ cv.period → Told cv p
   pub still : i < layout.mutators → p.visits ≡ 0
   pub mutator : p.left ≡ true → i < layout.mutators
+  -- what it had seen before its last ticket, and what that told, are beginnings of what it has seen
+  pub earlier : IsPrefix p.earlier p.seen
+  pub heard : IsPrefix p.told p.seen
+  -- what its note told of its calls is so still
+  pub calls : (noted : NotedCalls) → Contains cv.noted_calls noted → noted.who ≡ i → IsAsNoted cv p i noted
   -- whose note of the open part was taken in, and who has left for good
   pub noted : In i cv.notes → (p.period ≡ cv.period) × IsPrefix p.seen cv.seen
   pub gone : In i cv.gone → (p.left ≡ true) × (p.runs ≡ false) × IsPrefix p.seen cv.seen × (p.ticket ≤ p.period)

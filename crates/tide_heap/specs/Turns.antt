@@ -1,17 +1,19 @@
 -- What the views become as participants come, stop and go on, and as the collector seats, freezes, enters and opens.
 use Rattle.std.specs.List.{list_all}
-use Rattle.std.specs.Prelude.{ℕ, ◌≡◌, ◌<◌, ◌≤◌, ◌+◌, ◌==◌, ◌&&◌, not, filter, count_by, true, false, List, [], ◌∷◌, ◌++◌, length, replicate, slice_set, if◌then◌else◌}
+use Rattle.std.specs.Prelude.{ℕ, Contains, ◌≡◌, ◌<◌, ◌≤◌, ◌+◌, ◌==◌, ◌&&◌, not, filter, count_by, true, false, List, [], ◌∷◌, ◌++◌, length, replicate, slice_set, if◌then◌else◌}
 use Rattle.tide_layout.specs.Limits.{IsWithinLimits}
 use Rattle.tide_layout.specs.Region.{word_count}
 use Rattle.tide_machine.specs.Frozen.{FrozenWith, newcomer}
 use Rattle.tide_machine.specs.Kind as kind
 use Rattle.tide_machine.specs.World.{first_visitor, parties}
+use Rattle.tide_machine.specs.declared.view.NotedCalls.{NotedCalls}
 use Rattle.tide_machine.specs.declared.view.Role.TheVariants.{Collector, Note, Ticket, Spent}
 use Rattle.tide_machine.specs.declared.view.View.{View}
 use Rattle.tide_machine.specs.declared.view.Visited.{Visited}
 use Rattle.tide_machine.specs.kinds.Join.{joined_view}
-use Rattle.tide_model.specs.History.{plain, state_after}
+use Rattle.tide_model.specs.History.{is_call_of, plain, state_after}
 use Rattle.tide_model.specs.Layout.{Layout}
+use Rattle.tide_model.specs.Prefix.{IsPrefix}
 use Rattle.tide_model.specs.Refused.{ShapeLists}
 use Rattle.tide_model.specs.Since.{is_birth, is_call}
 use Rattle.tide_model.specs.declared.entry.Entry.TheVariants.{Open, Visits}
@@ -34,7 +36,14 @@ first_view layout = record (newcomer 0) {
 -- what a ticket tells a participant that has seen so much
 abbrev pub ticket_for : List Event → View → kind.Ticket
 ticket_for seen u =
-    record { seen = longer seen u.seen; period = u.period; run = u.run; marks = u.marks; cycle = u.cycle }
+    record {
+      seen = longer seen u.seen;
+      told = u.seen;
+      period = u.period;
+      run = u.run;
+      marks = u.marks;
+      cycle = u.cycle;
+    }
 
 -- a participant hears a ticket
 abbrev pub heard_view : View → View → View
@@ -63,6 +72,10 @@ spent = record (newcomer 0) { role = Spent }
 abbrev pub visited_of : ℕ → View → Visited
 visited_of period u = record { who = u.who; visits = if u.begun == period then u.visits else 0; done = u.done }
 
+-- what a note tells of calls
+abbrev pub calls_of : View → NotedCalls
+calls_of u = record { who = u.who; seen = u.seen; mine = u.mine; left = u.left }
+
 -- the collector takes in a note
 abbrev pub noted : View → View → View
 noted v u = record v {
@@ -73,6 +86,7 @@ noted v u = record v {
   births = v.births + (if u.begun == v.period then u.born else 0);
   done = v.done && u.done;
   visited = visited_of v.period u ∷ v.visited;
+  noted_calls = calls_of u ∷ v.noted_calls;
 }
 
 -- it freezes, with the words as they are then
@@ -101,6 +115,7 @@ visits_entered visitor visits = visits_over (first_visitor + visitor) (plain (Vi
 abbrev pub open_entry : ℕ → View → Event
 open_entry run v = plain (Open (v.period + 1) run)
 
+-- it has opened it, and keeps what notes told of the calls of those who have left for good
 abbrev pub opened : Layout → ℕ → View → View
 opened layout run v = record v {
   frozen = false;
@@ -113,6 +128,7 @@ opened layout run v = record v {
   births = 0;
   done = true;
   visited = [];
+  noted_calls = filter (λ noted. noted.left) v.noted_calls;
   seen = v.seen ++ open_entry run v ∷ [];
   start = v.seen ++ open_entry run v ∷ [];
   words = [];
@@ -133,6 +149,11 @@ pub record Freezes (layout : Layout) (shapes : ShapeLists) (v w : View) : Type 0
   pub calls : list_all (λ event. is_call event.entry) part ≡ true
   pub births : v.births ≡ count_by (λ event. is_birth event.entry) part
   pub few : v.births ≤ 20480
+  -- what each note tells of the history is a beginning of it, and what it tells of its participant's calls are all that
+  -- the history has; the same of who left for good before
+  pub heard : (noted : NotedCalls) → IsParty layout noted.who → Contains v.noted_calls noted → IsPrefix noted.seen v.seen
+  pub own : (noted : NotedCalls) → IsParty layout noted.who → Contains v.noted_calls noted →
+      filter (λ event. is_call_of noted.who event.entry) v.seen ≡ noted.mine
   -- who has left for good is known
   pub gone : (i : ℕ) → IsParty layout i → (state_after layout v.seen).active i ≡ false → In i v.gone
   -- where a cycle marks, there are visitors and each note says that its participant has done its part, one made a cell

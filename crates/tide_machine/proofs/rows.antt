@@ -4,3 +4,4 @@ pub mod PointRows
 pub mod StoreRows
 pub mod WitnessRows
 pub mod AllowedRows
+pub mod VisitRow

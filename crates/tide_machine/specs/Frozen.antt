@@ -70,6 +70,8 @@ newcomer p = record {
   run = 0;
   marks = false;
   cycle = 0;
+  earlier = [];
+  told = [];
   runs = false;
   begun = 0;
   born = 0;
@@ -96,6 +98,7 @@ newcomer p = record {
   births = 0;
   start = [];
   visited = [];
+  noted_calls = [];
 }
 
 -- the world before anything happened

@@ -15,10 +15,11 @@ use Rattle.tide_words.specs.declared.forms.colours.Colour.TheVariants.{Black, Gr
 use Rattle.tide_words.specs.forms.ColourWord.{colour_word}
 use Rattle.tide_words.specs.forms.Reference.{array_word, claim_word}
 
--- What a ticket tells a participant of the open part: the history up to its Open, the part's number and how many calls
--- each mutator has in it, and whether a cycle marks, and which.
+-- What a participant knows of the open part with a ticket: the history, as far as it knew it or the ticket told, what the
+-- ticket told of it, the part's number and how many calls each mutator has in it, and whether a cycle marks, and which.
 pub record Ticket : Type 0 where
   pub seen : List Event
+  pub told : List Event
   pub period : ℕ
   pub run : ℕ
   pub marks : Bool

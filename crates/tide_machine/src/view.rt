@@ -121,6 +121,15 @@ pub struct Visited {
     pub done: bool,
 }
 
+/// What a note tells of its participant's calls: the history that it has seen, which of it are its own, and whether it has
+/// left for good.
+pub struct NotedCalls {
+    pub who: u64,
+    pub seen: LinkedList<Event>,
+    pub mine: LinkedList<Event>,
+    pub left: bool,
+}
+
 /// What a seat knows.
 pub struct View {
     pub role: Role,
@@ -137,6 +146,9 @@ pub struct View {
     pub run: u64,
     pub marks: bool,
     pub cycle: u64,
+    /// What it had seen of the history before that ticket, and what the ticket told of it.
+    pub earlier: LinkedList<Event>,
+    pub told: LinkedList<Event>,
     /// It has begun, and hasn't stopped since.
     pub runs: bool,
     /// The period in which it first began.
@@ -175,4 +187,6 @@ pub struct View {
     pub start: LinkedList<Event>,
     /// Of the collector: what the notes of the part tell of visits that aren't entered yet.
     pub visited: LinkedList<Visited>,
+    /// Of the collector: what the notes of the part tell of calls, and before them those of who had left for good.
+    pub noted_calls: LinkedList<NotedCalls>,
 }

@@ -28,7 +28,7 @@ use Rattle.tide_model.proofs.Histories.{IsLawful-prefix}
 use Rattle.tide_model.specs.History.{state_after, is_call_of}
 use Rattle.tide_model.specs.Layout.{Layout}
 use Rattle.tide_model.specs.Numbers.{put_at}
-use Rattle.tide_model.specs.Prefix.{IsPrefix}
+use Rattle.tide_model.specs.Prefix.{IsPrefix, prefix_refl, prefix_push, prefix_trans}
 use Rattle.tide_model.specs.Refused.{ShapeLists}
 use Rattle.tide_model.specs.declared.entry.Event.{Event}
 use Rattle.tide_model.specs.declared.op.Op.{Op}
@@ -113,10 +113,11 @@ module _ (layout : Layout) (shapes : ShapeLists) (v : View) (kind : Kind) where
 
   -- a work leaves what the rule says of its participant, but where it retires
   stays_of : is_work kind ≡ true → v.role ≡ Member → v.runs ≡ true → (log : List Event) (read : ℕ) →
+      IsPrefix v.seen log →
       (is_leave kind ≡ true → (v.who < layout.mutators)
       × ((state_after layout (added log (event log read))).active v.who ≡ false)) →
       (is_visit kind ≡ true → v.who < layout.mutators → ⊥) → Stays layout log v (event log read) (after log read)
-  stays_of works is act log read leaves visits =
+  stays_of works is act log read known leaves visits =
       let c = core_of works log read in record {
         turns = λ later. record {
           role = ap (λ (x : Core). x.role) c ∙ is;
@@ -129,6 +130,9 @@ module _ (layout : Layout) (shapes : ShapeLists) (v : View) (kind : Kind) where
           runs = λ _. later;
           still = λ below none. ap (λ (x : Core). x.visits) c ∙ still_by (is_visit kind) refl below none;
           mutator = λ e. by_left (is_leave kind) refl (sym (ap (λ (x : Core). x.left) c) ∙ e);
+          earlier = ap (λ (x : Core). x.earlier) c;
+          told = ap (λ (x : Core). x.told) c;
+          grows = grows_of (event log read) (ap (λ (x : Core). x.seen) c);
         };
         gone = λ before e. leaves_now (is_leave kind) refl before (sym (ap (λ (x : Core). x.left) c) ∙ e);
         tip = tip_of (event log read) (ap (λ (x : Core). x.seen) c);
@@ -151,6 +155,12 @@ module _ (layout : Layout) (shapes : ShapeLists) (v : View) (kind : Kind) where
           (state_after layout (added log (event log read))).active v.who ≡ false
       leaves_now true e before h = (leaves e).1
       leaves_now false e before h = absurd (let none = sym (ap (λ (b : Bool). b || v.left) e) ∙ h in cc)
+
+      grows_of : (e : Option Event) → (after log read).seen ≡ seen_after log v.seen e →
+          IsPrefix v.seen (after log read).seen
+      grows_of None e = subst (IsPrefix v.seen) (sym e) (prefix_refl v.seen)
+      grows_of (Some x) e = subst (IsPrefix v.seen) (sym e)
+          (prefix_trans v.seen log (log ++ x ∷ []) known (prefix_push log x))
 
       tip_of : (e : Option Event) → (after log read).seen ≡ seen_after log v.seen e →
           ((added log e ≡ log) × (log ≡ v.seen → log ≡ (after log read).seen)) ⊎ (added log e ≡ (after log read).seen)
@@ -208,6 +218,7 @@ allows_find layout shapes kind slots id m at act is may =
       left_words layout shapes kind may.works w m.0.who allowed,
       stays_of layout shapes m.0 kind may.works is may.runs log
           (heap (region_of kind) (index_of layout m.0.who kind))
+          (subst (λ (x : View). IsPrefix x.seen log) mine (wave.known.seen m.0.who))
           (λ leave. retires_of layout shapes m.0 kind leave may.may heap part log
           (heap (region_of kind) (index_of layout m.0.who kind)) wave mine)
           (λ visit below. let after = visited_by layout shapes kind visit w m.0.who allowed in

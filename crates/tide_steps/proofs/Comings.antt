@@ -2,7 +2,7 @@
 use Rattle.std.proofs.Common.{◌≡◌, ℕ, ◌<◌, ◌≤◌, List, sym, refl, ap, ◌∙◌, inl, inr, subst, arith, true, false, set, get_or}
 use Rattle.std.proofs.lemmas.Bool.{cases_Bool}
 use Rattle.std.proofs.lemmas.Bool.Decides.{nat_tests}
-use Rattle.std.specs.Prelude.{Bool, nat_lt, not, ◌||◌}
+use Rattle.std.specs.Prelude.{[], if◌then◌else◌, ◌==◌, Bool, nat_lt, not, ◌||◌}
 use Rattle.atomic_table.proofs.Lists.{set_else}
 use Rattle.atomic_table.specs.Table.{State, Me, keeps, stepped, Allows, Splits, Joins}
 use Rattle.tide_layout.specs.Region.{place_in, size_of, word_count}
@@ -15,13 +15,15 @@ use Rattle.tide_machine.specs.kinds.Activate.{begun_view}
 use Rattle.tide_machine.specs.kinds.Split.{split_view}
 use Rattle.tide_machine.specs.kinds.StoreStopped.{stopped_view}
 use Rattle.tide_model.specs.Layout.{Layout}
+use Rattle.tide_model.specs.Prefix.{IsPrefix}
 use Rattle.tide_model.specs.Refused.{ShapeLists}
-use Rattle.tide_heap.proofs.Members.{knows_as, spend}
+use Rattle.tide_heap.proofs.Members.{knows_as, member_ok, spend}
 use Rattle.tide_heap.proofs.Turning.{begin_here, end_here, hear_here, note_split}
 use Rattle.tide_machine.specs.Progress.{HasWholeRound}
 use Rattle.tide_heap.specs.Done.{HasDonePart, done_by_numbers}
 use Rattle.tide_heap.specs.Rule.{Tabled, Rule}
 use Rattle.tide_heap.specs.Turns.{heard_view, note_of, done_note_of, spent}
+use Rattle.tide_steps.specs.Told.{HasBegun}
 use lib.ListN.{get_elem?}
 use lib.Seq.{set-get_or}
 use mathlib.Core.Option.{some}
@@ -54,9 +56,29 @@ unmoved layout shapes s i id w r cs = subst (λ (ws : List ℕ). Rule layout sha
   views = set s.views id w;
 }) (sym (set-get_or s.words i 0)) r
 
+-- who begins has seen what it had, and made the calls that it had
+pub seen_begun : (v : View) → ((begun_view v).seen ≡ v.seen) × ((begun_view v).mine ≡ v.mine)
+seen_begun v = by_test (v.begun == v.ticket)
+  where
+    begun : Bool → View
+    begun b = if b then record v { runs = true; round = []; full = []; known = [] } else record v {
+      runs = true;
+      begun = v.ticket;
+      born = 0;
+      visits = 0;
+      races = 0;
+      round = [];
+      full = [];
+      known = [];
+    }
+
+    by_test : (b : Bool) → ((begun b).seen ≡ v.seen) × ((begun b).mine ≡ v.mine)
+    by_test true = (refl, refl)
+    by_test false = (refl, refl)
+
 module _ (layout : Layout) (shapes : ShapeLists) where
   pub begins : (slots id : ℕ) (me : M) → me.0.role ≡ Member → me.0.runs ≡ false → me.0.left ≡ false →
-      me.0.period < me.0.ticket → Allows (Rule layout shapes) slots id me 0 (λ x. x) (λ _ b. b.0 ≡ begun_view me.0)
+      me.0.period < me.0.ticket → Allows (Rule layout shapes) slots id me 0 (λ x. x) (λ _ b. HasBegun me.0 b.0)
   begins slots id me is idle stays later s rule long there fits = (
     begun_view me.0,
     keeps,
@@ -65,7 +87,13 @@ module _ (layout : Layout) (shapes : ShapeLists) where
       log = rule.log;
       tabled = begin_here layout shapes s.words s.views rule.log id me.0 rule.tabled there is idle stays later;
     } me.1,
-    refl,
+    record {
+      view = refl;
+      earlier = subst (IsPrefix me.0.earlier) (sym (seen_begun me.0).0)
+          (member_ok layout shapes s.words s.views rule.log id me.0 rule.tabled there is).earlier;
+      told = subst (IsPrefix me.0.told) (sym (seen_begun me.0).0)
+          (member_ok layout shapes s.words s.views rule.log id me.0 rule.tabled there is).heard;
+    },
   )
 
   pub ends : (slots id : ℕ) (me : M) (at word : ℕ) → me.0.role ≡ Member → me.0.runs ≡ true → Rests me.0 →

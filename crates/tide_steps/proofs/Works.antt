@@ -41,6 +41,8 @@ pub record Core : Type 0 where
   pub run : ℕ
   pub marks : Bool
   pub cycle : ℕ
+  pub earlier : List Event
+  pub told : List Event
   pub runs : Bool
   pub begun : ℕ
   pub visits : ℕ
@@ -58,6 +60,8 @@ core v = record {
   run = v.run;
   marks = v.marks;
   cycle = v.cycle;
+  earlier = v.earlier;
+  told = v.told;
   runs = v.runs;
   begun = v.begun;
   visits = v.visits;

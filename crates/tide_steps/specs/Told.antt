@@ -7,6 +7,7 @@ use Rattle.tide_machine.specs.declared.view.View.{View}
 use Rattle.tide_machine.specs.kinds.Activate.{begun_view}
 use Rattle.tide_machine.specs.kinds.StoreStopped.{stopped_view}
 use Rattle.tide_model.specs.Layout.{Layout}
+use Rattle.tide_model.specs.Prefix.{IsPrefix}
 use Rattle.tide_model.specs.Refused.{ShapeLists}
 use Rattle.tide_steps.specs.Follows.{Follows, FollowsSome}
 
@@ -21,6 +22,13 @@ no_layout = record {
   visitors = 0;
 }
 
+-- It begins. What it had seen before the ticket that it heard, and what the ticket told of the history, are beginnings of
+-- what it has seen.
+pub record HasBegun (v w : View) : Type 0 where
+  pub view : w ≡ begun_view v
+  pub earlier : IsPrefix v.earlier w.seen
+  pub told : IsPrefix v.told w.seen
+
 module _ {S : Type 0} where
   -- a participant's step of a kind, where the word found is told, and where it is not
   abbrev pub told : Layout → ShapeLists → Kind → Step S → Me S View → ℕ → Me S View → Type 0
@@ -30,7 +38,7 @@ module _ {S : Type 0} where
   told_some layout shapes kind st m r m' = FollowsSome layout shapes kind m.0 m'.0
 
   abbrev pub has_begun : Step S → Me S View → ℕ → Me S View → Type 0
-  has_begun st a r b = b.0 ≡ begun_view a.0
+  has_begun st a r b = HasBegun a.0 b.0
 
   abbrev pub has_stopped : Step S → Me S View → ℕ → Me S View → Type 0
   has_stopped st a r b = b.0 ≡ stopped_view a.0

@@ -5,6 +5,7 @@ ghost use Rattle.tide_machine.specs.Progress.{HasWholeRound};
 ghost use Rattle.tide_machine.specs.kinds.Activate.{begun_view};
 ghost use Rattle.tide_machine.specs.kinds.Split.{split_view};
 ghost use Rattle.tide_machine.specs.kinds.StoreStopped.{stopped_view};
+ghost use Rattle.tide_model.specs.Prefix.{IsPrefix};
 ghost use Rattle.tide_heap.specs.Done.{done_by_numbers};
 ghost use Rattle.tide_heap.specs.Parties.{IsParty};
 ghost use Rattle.tide_heap.specs.Turns.{done_note_of, heard_view, note_of};
@@ -26,18 +27,12 @@ impl Pass {
         ensures same { (self.new.seat.table_id ≡ self.old.seat.table_id) × (self.new.seat.id ≡ self.old.seat.id) }
         ensures heard { self.new.seat.me.0 ≡ heard_view self.old.seat.me.0 ticket.seat.me.0 }
     {
-        let Ticket {
-            seat,
-            period,
-            run,
-            marking,
-            cycle,
-        } = ticket;
+        self.numbers.part = ticket.period;
+        self.numbers.run = ticket.run;
+        self.numbers.marking = ticket.marking;
+        self.numbers.cycle = ticket.cycle;
+        let seat = ticket.seat;
         heap.table.shared.join_seat::<Hears>(&mut self.seat, seat);
-        self.numbers.part = period;
-        self.numbers.run = run;
-        self.numbers.marking = marking;
-        self.numbers.cycle = cycle;
     }
 
     /// Begins the part whose ticket it heard, with a load of the Period word.
@@ -48,6 +43,8 @@ impl Pass {
         requires later { self.old.seat.me.0.period < self.old.seat.me.0.ticket }
         ensures same { (self.new.seat.table_id ≡ self.old.seat.table_id) × (self.new.seat.id ≡ self.old.seat.id) }
         ensures begun { self.new.seat.me.0 ≡ begun_view self.old.seat.me.0 }
+        ensures earlier { IsPrefix self.old.seat.me.0.earlier self.new.seat.me.0.seen }
+        ensures told { IsPrefix self.old.seat.me.0.told self.new.seat.me.0.seen }
     {
         heap.table.shared.load::<Begins>(&mut self.seat, 0);
         if self.numbers.begun != self.numbers.part {
@@ -57,7 +54,7 @@ impl Pass {
         }
     }
 
-    /// Begins a part: hears its ticket, and loads the Period word.
+    /// Begins a part: hears its ticket, and loads the Period word. It has seen what it had, and what the ticket tells.
     pub fn begin<S: HeapShapes>(&mut self, heap: &Heap<S>, ticket: Ticket)
         requires own { self.old.seat.table_id ≡ heap.now.table.shared.table_id }
         requires of_heap { ticket.seat.table_id ≡ heap.now.table.shared.table_id }
@@ -66,6 +63,9 @@ impl Pass {
         requires later { self.old.seat.me.0.period < ticket.seat.me.0.period }
         ensures same { (self.new.seat.table_id ≡ self.old.seat.table_id) × (self.new.seat.id ≡ self.old.seat.id) }
         ensures begun { self.new.seat.me.0 ≡ begun_view (heard_view self.old.seat.me.0 ticket.seat.me.0) }
+        ensures earlier { IsPrefix self.old.seat.me.0.seen self.new.seat.me.0.seen }
+        ensures told { IsPrefix ticket.seat.me.0.seen self.new.seat.me.0.seen }
+        ensures mine { self.new.seat.me.0.mine ≡ self.old.seat.me.0.mine }
     {
         self.join(heap, ticket);
         self.activate(heap);

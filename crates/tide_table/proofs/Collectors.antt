@@ -1,13 +1,14 @@
 -- The collector's steps keep the rule: it freezes, stores words, enters, opens, takes notes in and gives tickets out.
-use Rattle.std.proofs.Common.{◌≡◌, ℕ, ◌+◌, ◌≤◌, ◌⊎◌, List, [], ◌∷◌, ◌++◌, length, sym, refl, ap, ◌∙◌, inl, inr, subst, arith, Bool, true, false, set, MatchBool, length-set, append-nil}
+use Rattle.std.proofs.Common.{◌≡◌, ℕ, zero, suc, ◌+◌, ◌≤◌, ◌⊎◌, List, [], ◌∷◌, ◌++◌, length, sym, refl, ap, ◌∙◌, inl, inr, subst, arith, Bool, true, false, set, MatchBool, length-set, append-nil}
 use Rattle.std.proofs.lemmas.Bool.{and_parts, cases_Bool, eq-eqb, ne_eqb}
 use Rattle.tide_machine.proofs.freezes.Progress.{progress}
+use Rattle.tide_machine.proofs.steps.Paying.{filter_was}
 use Rattle.tide_machine.specs.points.Witness.{IsVisitor}
 use Rattle.tide_machine.specs.Progress.{HasDone}
 use Rattle.tide_heap.specs.Done.{HasDonePart}
-use Rattle.std.proofs.lemmas.List.Elements.{filter-append}
+use Rattle.std.proofs.lemmas.List.Elements.{filter-append, Contains-append_cases}
 use Rattle.std.specs.List.{list_all}
-use Rattle.std.specs.Prelude.{◌<◌, ◌&&◌, filter, if◌then◌else◌, ◌==◌, not}
+use Rattle.std.specs.Prelude.{Contains, ◌<◌, ◌&&◌, filter, if◌then◌else◌, ◌==◌, not}
 use Rattle.tide_layout.specs.Region.{word_count, place_in}
 use Rattle.tide_layout.specs.declared.region.Region.TheVariants as region
 use Rattle.tide_core.specs.FrozenWave.{FrozenWave}
@@ -17,6 +18,7 @@ use Rattle.tide_machine.proofs.freezes.OpeningParts.{RunningWave-opened}
 use Rattle.tide_machine.specs.Frozen.{FrozenWith, FrozenMachine, MayOpen}
 use Rattle.tide_machine.specs.RunningWave.{RunningWave}
 use Rattle.tide_machine.specs.World.{parties, total}
+use Rattle.tide_machine.specs.declared.view.NotedCalls.{NotedCalls}
 use Rattle.tide_machine.specs.declared.view.Role.TheVariants.{Collector, Note}
 use Rattle.tide_machine.specs.declared.view.View.{View}
 use Rattle.tide_machine.specs.declared.view.Visited.{Visited}
@@ -43,12 +45,20 @@ use Rattle.tide_heap.proofs.Members.{add_copy, few_parties, party_cases}
 use Rattle.tide_table.proofs.Spans.{marks_read, span_of, span_entered}
 use Rattle.tide_table.proofs.Tallies.{sum_one, total_few}
 use Rattle.tide_heap.specs.Parties.{In, IsParty, longer, tally}
-use Rattle.tide_heap.specs.Rule.{Told, MemberOk, NoteOk, IsFrozen, IsRunning, Tabled}
-use Rattle.tide_heap.specs.Turns.{ticket_of, noted, frozen_with, restored, entered_with, open_entry, opened}
+use Rattle.tide_heap.specs.Rule.{IsAsNoted, Told, MemberOk, NoteOk, IsFrozen, IsRunning, Tabled}
+use Rattle.tide_heap.specs.Turns.{calls_of, ticket_of, noted, frozen_with, restored, entered_with, open_entry, opened}
 use Rattle.tide_words.proofs.heap_laws.HeapLaws.{reads_write, Reads-heap_of}
 use Rattle.tide_words.specs.heap.Heap.{Heap, write, Reads, heap_of}
 use lib.ListN.{get_elem?}
 use mathlib.Core.Option.{some}
+
+-- what stands in a list is its first element or stands after it
+first_or_later : {X : Type 0} (x : X) (xs : List X) (y : X) → Contains (x ∷ xs) y → (x ≡ y) ⊎ Contains xs y
+first_or_later {X} x xs y a = elim (Contains-append_cases (x ∷ []) xs y a) [ inl here ↦ inl (only here) | inr later ↦ inr later ]
+  where
+    only : Contains (x ∷ []) y → x ≡ y
+    only (zero, below, same) = same
+    only (suc k, below, same) = absurd (omega (arith, below))
 
 module _ (layout : Layout) (shapes : ShapeLists) (words : List ℕ) (views : List View) (log : List Event) (me : ℕ)
     (v : View) (k : Tabled layout shapes words views log) (there : get_elem? views me ≡ some v)
@@ -156,6 +166,14 @@ module _ (layout : Layout) (shapes : ShapeLists) (words : List ℕ) (views : Lis
     | inr a ↦ a
   ]
 
+  -- what a note told of the history is a beginning of it
+  heard_told : (noted : NotedCalls) → IsParty layout noted.who → Contains v.noted_calls noted → IsPrefix noted.seen v.seen
+  heard_told noted party a =
+      let o = ok_of layout shapes words views log me v k there is noted.who party in
+      let q = o.calls noted a refl in
+      subst (λ (l : List Event). IsPrefix l v.seen) q.1
+      (elim q.0 [ inl b ↦ (o.noted b).1 | inr b ↦ (o.gone b).2 ])
+
   -- where each note says that its participant has done its part, one of the visitors made a cell black
   progress_told : AllIn → IsRunning layout shapes words log v k.part → v.marks ≡ true → 0 < layout.visitors →
       v.done ≡ true → 0 < v.ledger
@@ -213,6 +231,9 @@ module _ (layout : Layout) (shapes : ShapeLists) (words : List ℕ) (views : Lis
       × (list_all (λ event. is_call event.entry) (since is_open log) ≡ true)
       × (v.births ≡ born_since is_open log) × (born_since is_open log ≤ 20480)
       × ((i : ℕ) → IsParty layout i → (state_after layout v.seen).active i ≡ false → In i v.gone)
+      × ((noted : NotedCalls) → IsParty layout noted.who → Contains v.noted_calls noted → IsPrefix noted.seen v.seen)
+      × ((noted : NotedCalls) → IsParty layout noted.who → Contains v.noted_calls noted →
+      filter (λ event. is_call_of noted.who event.entry) v.seen ≡ noted.mine)
       × (v.marks ≡ true → 0 < layout.visitors → v.done ≡ true → 0 < v.ledger)
   freeze_all thawed all_in =
       let run = running_mode thawed in
@@ -247,6 +268,7 @@ module _ (layout : Layout) (shapes : ShapeLists) (words : List ℕ) (views : Lis
               out = λ j x at role seat none a. none a;
               notes = λ i l a. inl a;
               stays = λ i a. a;
+              calls = λ i l noted a e. inl a;
               gone = λ i l a. inl a;
             }
             (prefix_refl log) (prefix_of layout shapes words views log me v k there is) k.retired (inl seen)
@@ -271,6 +293,9 @@ module _ (layout : Layout) (shapes : ShapeLists) (words : List ℕ) (views : Lis
         births_few layout shapes k.limits log run.wave.lawful run.wave.calls_alone,
         λ i party left. gone_told all_in run.wave.left i party
             (subst (λ (l : List Event). (state_after layout l).active i ≡ false) (sym seen) left),
+        heard_told,
+        λ noted party a. (let q = (ok_of layout shapes words views log me v k there is noted.who party).calls noted a refl in
+            ap (filter (λ event. is_call_of noted.who event.entry)) (sym seen) ∙ run.wave.known.own noted.who ∙ q.2),
         progress_told all_in run,
       )
 
@@ -295,6 +320,7 @@ module _ (layout : Layout) (shapes : ShapeLists) (words : List ℕ) (views : Lis
         out = λ j x at role seat none a. none a;
         notes = λ i l a. inl a;
         stays = λ i a. a;
+        calls = λ i l noted a e. inl a;
         gone = λ i l a. inl a;
       }
       (prefix_refl log) (prefix_of layout shapes words views log me v k there is) k.retired (inl now.seen_all)
@@ -340,6 +366,7 @@ module _ (layout : Layout) (shapes : ShapeLists) (words : List ℕ) (views : Lis
         out = λ j x at role seat none a. none a;
         notes = λ i l a. inl a;
         stays = λ i a. a;
+        calls = λ i l noted a e. inl a;
         gone = λ i l a. inl a;
       }
       (prefix_push log event)
@@ -425,6 +452,11 @@ module _ (layout : Layout) (shapes : ShapeLists) (words : List ℕ) (views : Lis
         told = λ e. absurd (let t = o.ticket in omega (arith, t, e));
         still = o.still;
         mutator = o.mutator;
+        earlier = o.earlier;
+        heard = o.heard;
+        calls = λ noted a e. (let kept = filter_was (λ (x : NotedCalls). x.left) v.noted_calls noted a in
+            let q = o.calls noted kept.0 e in
+            (inr (elim q.0 [ inl b ↦ o.leaves b (q.3 ∙ kept.1) | inr b ↦ b ]), q.1, q.2, q.3));
         noted = λ a. absurd a;
         gone = λ a. (let g = o.gone a in
             (g.0, g.1, prefix_trans (k.part i).seen v.seen w.seen g.2 (prefix_push v.seen event), g.3));
@@ -515,6 +547,14 @@ module _ (layout : Layout) (shapes : ShapeLists) (words : List ℕ) (views : Lis
           | inr b ↦ inl b
         ];
         stays = λ i a. by_left u.left i a;
+        calls = λ i l noted a e. elim (first_or_later (calls_of u) v.noted_calls noted a) [
+          | inl told ↦ inr (subst (λ (x : ℕ × NotedCalls). (In x.0 (u.who ∷ v.notes)
+              ⊎ In x.0 (if u.left then u.who ∷ v.gone else v.gone)) × ((k.part x.0).seen ≡ x.1.seen)
+              × ((k.part x.0).mine ≡ x.1.mine) × ((k.part x.0).left ≡ x.1.left))
+              (λ j. ((ap (λ (y : NotedCalls). y.who) told ∙ e) j, told j))
+              (inl (inl refl), same.0, same.4, same.1))
+          | inr b ↦ inl b
+        ];
         gone = λ i l a. elim (gone_cases u.left refl i a) [
           | inl b ↦ inl b
           | inr b ↦ inr (subst (λ (j : ℕ). ((k.part j).left ≡ true) × ((k.part j).runs ≡ false)

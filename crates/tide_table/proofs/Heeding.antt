@@ -1,5 +1,7 @@
 -- What a step of the collector has to show of the rule.
 use Rattle.std.proofs.Common.{◌≡◌, ℕ, ◌≤◌, ◌≢◌, ◌⊎◌, List, ◌++◌, sym, refl, ap, ◌∙◌, inl, inr, subst, arith, true, false, set, MatchBool}
+use Rattle.std.specs.Prelude.{Contains}
+use Rattle.tide_machine.specs.declared.view.NotedCalls.{NotedCalls}
 use Rattle.tide_machine.specs.declared.view.Role.{Role}
 use Rattle.tide_machine.specs.declared.view.Role.TheVariants.{Collector, Member, Note, Ticket, Spent}
 use Rattle.tide_machine.specs.declared.view.View.{View}
@@ -13,7 +15,7 @@ use Rattle.tide_model.specs.Since.{since}
 use Rattle.tide_heap.specs.Done.{HasDonePart}
 use Rattle.tide_heap.specs.Births.{births_in, born_to, told_births}
 use Rattle.tide_heap.specs.Parties.{In, IsParty, tally}
-use Rattle.tide_heap.specs.Rule.{Told, MemberOk, NoteOk, Heard, KnowsAs, Knows, IsFrozen, IsRunning, Mode, Tabled}
+use Rattle.tide_heap.specs.Rule.{Told, MemberOk, NoteOk, Heard, IsAsNoted, KnowsAs, Knows, IsFrozen, IsRunning, Mode, Tabled}
 use lib.ListN.{get_elem?}
 use mathlib.Core.Option.{some}
 
@@ -96,6 +98,7 @@ module _ (layout : Layout) (shapes : ShapeLists) (words : List ℕ) (views : Lis
     pub notes : (i : ℕ) → IsParty layout i → In i w.notes → In i v.notes ⊎ (((k.part i).period ≡ v.period) × IsPrefix (k.part i).seen w.seen × ((k.part i).left ≡ true → In i w.gone) × (w.done ≡ true → ((k.part i).begun ≡ v.period) × HasDonePart layout (k.part i)))
     pub done : w.done ≡ true → v.done ≡ true
     pub stays : (i : ℕ) → In i v.gone → In i w.gone
+    pub calls : (i : ℕ) → IsParty layout i → (noted : NotedCalls) → Contains w.noted_calls noted → noted.who ≡ i → Contains v.noted_calls noted ⊎ IsAsNoted w (k.part i) i noted
     pub gone : (i : ℕ) → IsParty layout i → In i w.gone → In i v.gone ⊎ (((k.part i).left ≡ true) × ((k.part i).runs ≡ false) × IsPrefix (k.part i).seen w.seen × ((k.part i).ticket ≤ (k.part i).period) × In i w.notes)
 
   pub continue_part : (w : View) (words' : List ℕ) (log' : List Event) → Continues w → IsPrefix log log' → IsPrefix w.seen log' → ((i : ℕ) → (k.part i).left ≡ true → (state_after layout log').active i ≡ false) → (log' ≡ w.seen) ⊎ ((log' ≡ log) × (log ≡ v.seen → log ≡ w.seen)) → ((i : ℕ) → born_to i log' ≡ born_to i log) → v.start ++ since is_open log' ≡ log' → Mode layout shapes words' log' w k.part
@@ -112,6 +115,12 @@ module _ (layout : Layout) (shapes : ShapeLists) (words : List ℕ) (views : Lis
         still = o.still;
         mutator = o.mutator;
         told = λ e. same_told (k.part i) (o.told (e ∙ p));
+        earlier = o.earlier;
+        heard = o.heard;
+        calls = λ noted a e. elim (c.calls i l noted a e) [
+          | inl b ↦ (let q = o.calls noted b e in (elim q.0 [ inl x ↦ inl (c.kept i x) | inr x ↦ inr (c.stays i x) ], q.1, q.2, q.3))
+          | inr b ↦ b
+        ];
         noted = λ a. elim (c.notes i l a) [ inl b ↦ ((o.noted b).0 ∙ sym p, prefix_trans (k.part i).seen v.seen w.seen (o.noted b).1 c.seen) | inr b ↦ (b.0 ∙ sym p, b.1) ];
         leaves = λ a left. elim (c.notes i l a) [ inl b ↦ c.stays i (o.leaves b left) | inr b ↦ b.2 left ];
         began = λ a done. elim (c.notes i l a) [ inl b ↦ o.began b (c.done done) ∙ sym p | inr b ↦ (b.3 done).0 ∙ sym p ];

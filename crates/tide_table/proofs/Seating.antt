@@ -56,7 +56,7 @@ seat_member layout shapes words views log me v k there is who later party = reco
   ];
   fresh = λ i h. k.fresh i (let e = ap (λ (x : View). x.next) o in omega (arith, h, later, e));
   strangers = k.strangers;
-  members = λ i l. let q = ok_of layout shapes words views log me v k there is i l in record { role = q.role; behind = q.behind; close = q.close; ticket = q.ticket; runs = q.runs; still = q.still; mutator = q.mutator; told = λ e. (let t = q.told e in record { marks = t.marks; cycle = t.cycle; run = t.run }); noted = q.noted; gone = q.gone; over = q.over; leaves = q.leaves; began = q.began; done = q.done };
+  members = λ i l. let q = ok_of layout shapes words views log me v k there is i l in record { role = q.role; behind = q.behind; close = q.close; ticket = q.ticket; runs = q.runs; still = q.still; mutator = q.mutator; told = λ e. (let t = q.told e in record { marks = t.marks; cycle = t.cycle; run = t.run }); earlier = q.earlier; heard = q.heard; calls = q.calls; noted = q.noted; gone = q.gone; over = q.over; leaves = q.leaves; began = q.began; done = q.done };
   prefix = subst (λ (x : View). IsPrefix x.seen log) (sym o) k.prefix;
   tip = subst (λ (x : View). (log ≡ x.seen) ⊎ ((i : ℕ) × IsParty layout i × (log ≡ (k.part i).seen))) (sym o) k.tip;
   retired = k.retired;

@@ -99,7 +99,9 @@ module _ (layout : Layout) (shapes : ShapeLists) where
           births = h.5;
           few = (let same = h.5 in let most = h.6 in omega (arith, same, most));
           gone = h.7;
-          progress = h.8;
+          heard = h.8;
+          own = h.9;
+          progress = h.10;
         },
       )
 
@@ -219,6 +221,9 @@ opens_at layout shapes words limits empty_shape zeros = record {
       told = λ _. record { marks = refl; cycle = refl; run = refl };
       still = λ _. refl;
       mutator = λ e. absurd (cc);
+      earlier = prefix_refl [];
+      heard = prefix_refl [];
+      calls = λ noted a e. absurd (let below = a.1 in omega (arith, below));
       noted = λ _. (refl, prefix_refl []);
       gone = λ a. absurd a;
       over = λ a. absurd a;

@@ -14,7 +14,7 @@ use Rattle.tide_machine.proofs.steps.Claimed.{unowed, count_is, array_is}
 use Rattle.tide_machine.proofs.steps.Colouring.{write_same}
 use Rattle.tide_machine.proofs.steps.Lists.{nothing_in}
 use Rattle.tide_machine.proofs.steps.Owning.{own_alone}
-use Rattle.tide_machine.proofs.steps.StandingArrays.{array_settled}
+use Rattle.tide_machine.proofs.steps.StandingArrays.{array_settled, bare_settled}
 use Rattle.tide_machine.specs.Duties.{OwesBarrier}
 use Rattle.tide_machine.specs.Kind.{StoreStructure}
 use Rattle.tide_machine.specs.Machine.{stepped}
@@ -302,7 +302,7 @@ module _ (layout : Layout) (shapes : ShapeLists) (limits : IsWithinLimits layout
 
   stands_else : (x a : ℕ) → x ≢ cell → IsLive state x → w.heap region.Array x ≡ a + 1 → ArrayStands layout new after x a
   stands_else x a apart alive is =
-      let s = wave.arrays x a alive is in
+      let s = wave.arrays.stand x a alive is in
       let structure = there x apart in
       record {
         own = elim s.own [
@@ -316,12 +316,27 @@ module _ (layout : Layout) (shapes : ShapeLists) (limits : IsWithinLimits layout
             ∙ s.named n (subst (λ (word : ℕ). n < count_of word) structure below);
       }
 
+  bare_here : w.heap region.Array cell ≡ 0 → count_of (new region.Structure cell) ≡ 0
+  bare_here none = bare_settled layout shapes new (put_at w.part me next_view) after
+      (words_after layout shapes w me inside wave may.runner.runs may.between.duty may.between.owed may.between.growth
+      (Add src key val) Done (λ c. refl) may.stands cell longer next_duty region.Structure cell word shown) cell
+      (status_kept cell ∙ wave.refs.claimed me cell adds.claimed) none
+      (none_owes region.Structure cell (own_structure cell adds.claimed))
+      (none_owes region.Array cell (own_array cell adds.claimed))
+
   stands : ArraysStand layout new after
-  stands x a alive is = elim (cases_eq x cell) [
-    | inl same ↦ subst (λ (c : ℕ). ArrayStands layout new after c a) (sym same)
-        (stands_here a (ap (w.heap region.Array) (sym same) ∙ is))
-    | inr apart ↦ stands_else x a apart (sym (status_kept x) ∙ alive) is
-  ]
+  stands = record {
+    stand = λ x a alive is. elim (cases_eq x cell) [
+      | inl same ↦ subst (λ (c : ℕ). ArrayStands layout new after c a) (sym same)
+          (stands_here a (ap (w.heap region.Array) (sym same) ∙ is))
+      | inr apart ↦ stands_else x a apart (sym (status_kept x) ∙ alive) is
+    ];
+    bare = λ x alive none. elim (cases_eq x cell) [
+      | inl same ↦ ap count_of (ap (new region.Structure) same)
+          ∙ bare_here (ap (w.heap region.Array) (sym same) ∙ none)
+      | inr apart ↦ ap count_of (there x apart) ∙ wave.arrays.bare x (sym (status_kept x) ∙ alive) none
+    ];
+  }
 
   pub add_in_place : RunningWave layout shapes (stepped layout shapes w me (StoreStructure cell word (Some (Add src key
       val))))

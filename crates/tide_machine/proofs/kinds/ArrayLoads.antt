@@ -45,7 +45,7 @@ module _ (layout : Layout) (shapes : ShapeLists) (w : World) (me : ℕ) (inside 
   k = wave.scans.knows me scan scans
 
   stands : (array : ℕ) → w.heap region.Array scan.cell ≡ array + 1 → ArrayStands layout w.heap now scan.cell array
-  stands array is = wave.arrays scan.cell array alive is
+  stands array is = wave.arrays.stand scan.cell array alive is
 
   of_some : (later : Scan) (P : Scan → Type 0) → P later → (s : Scan) → Some later ≡ Some s → P s
   of_some later P holds s is = subst P (let e : later ≡ s = cc in e) holds

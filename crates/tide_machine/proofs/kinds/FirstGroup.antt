@@ -43,14 +43,14 @@ split layout shapes w me inside wave may =
     let v = w.part me in
     load_same layout shapes w.heap region.Period 0 _ w.log
     (rest_step layout shapes w.heap w.part w.log me inside wave (parked_rests layout shapes w me wave may.stopped)
-    v.seen v.ticket v.ticket v.run v.cycle v.marks (inl refl))
+    v.seen v.earlier v.told v.ticket v.ticket v.run v.cycle v.marks (inl refl))
 
 pub join : (layout : Layout) (shapes : ShapeLists) (w : World) (me : ℕ) → me < parties → RunningWave layout shapes w →
     (t : Ticket) → MayJoin w me t → RunningWave layout shapes (stepped layout shapes w me (Join t))
 join layout shapes w me inside wave t may =
     load_same layout shapes w.heap region.Period 0 _ w.log
     (rest_step layout shapes w.heap w.part w.log me inside wave (parked_rests layout shapes w me wave may.rests)
-    t.seen (w.part me).period t.period t.run t.cycle t.marks (inr (may.told, may.own)))
+    t.seen (w.part me).seen t.told (w.part me).period t.period t.run t.cycle t.marks (inr (may.told, may.own)))
 
 pub activate : (layout : Layout) (shapes : ShapeLists) (w : World) (me : ℕ) → me < parties →
     RunningWave layout shapes w →

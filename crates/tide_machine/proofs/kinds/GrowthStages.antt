@@ -142,6 +142,7 @@ module _ (layout : Layout) (shapes : ShapeLists) (w : World) (me : ℕ) (inside 
           count_of (new region.Structure source) ≤ n → GrowsAndOwes (w.part me) source →
           GrowsAndOwes (later stage owed) source
       pub stands : (a : ℕ) → w.heap region.Array cell ≡ a + 1 → ArrayStands layout new state cell a
+      pub bare : w.heap region.Array cell ≡ 0 → count_of word ≡ 0
 
     module _ (s : ShowsWord) where
       count_grows : (source : ℕ) → count_of (w.heap region.Structure source) ≤ count_of (new region.Structure source)
@@ -218,12 +219,19 @@ module _ (layout : Layout) (shapes : ShapeLists) (w : World) (me : ℕ) (inside 
       own_else p _ _ apart (own_pair table place claimed is has) = refl
       own_else p _ _ apart (own_element c array place claimed is has) = refl
 
-      arrays_after : ArraysStand layout new state
-      arrays_after x a alive_x is = elim (cases_eq x cell) [
+      bare_after : (x : ℕ) → IsLive state x → w.heap region.Array x ≡ 0 → count_of (new region.Structure x) ≡ 0
+      bare_after x alive_x none = elim (cases_eq x cell) [
+        | inl same ↦ ap count_of (ap (new region.Structure) same ∙ here)
+            ∙ s.bare (ap (w.heap region.Array) (sym same) ∙ none)
+        | inr apart ↦ ap count_of (there x apart) ∙ wave.arrays.bare x alive_x none
+      ]
+
+      stand_after : (x a : ℕ) → IsLive state x → w.heap region.Array x ≡ a + 1 → ArrayStands layout new state x a
+      stand_after x a alive_x is = elim (cases_eq x cell) [
         | inl same ↦ subst (λ (c : ℕ). ArrayStands layout new state c a) (sym same)
             (s.stands a (ap (w.heap region.Array) (sym same) ∙ is))
         | inr apart ↦
-            let before = wave.arrays x a alive_x is in
+            let before = wave.arrays.stand x a alive_x is in
             record {
               own = before.own;
               few = subst (λ (word : ℕ). count_of word ≤ length (state.cells x).keys) (sym (there x apart)) before.few;
@@ -231,6 +239,9 @@ module _ (layout : Layout) (shapes : ShapeLists) (w : World) (me : ℕ) (inside 
               named = λ n below. before.named n (subst (λ (word : ℕ). n < count_of word) (there x apart) below);
             }
       ]
+
+      arrays_after : ArraysStand layout new state
+      arrays_after = record { stand = stand_after; bare = bare_after }
 
       pub structure_step : RunningWave layout shapes
           (record { heap = new; part = put_at w.part me (later stage owed); log = w.log })
@@ -352,6 +363,7 @@ module _ (layout : Layout) (shapes : ShapeLists) (w : World) (me : ℕ) (inside 
         beyond = λ marks source n target link past g.
             record { grows = subst (λ (h : Growth). GrowsOn h source) may.stage g.grows; owes = g.owes };
         stands = still_stands;
+        bare = λ none. same_count ∙ wave.arrays.bare cell (wave.refs.claimed me cell k.0.claimed) none;
       }))
     where
       k : GrowthKnows w.heap state me (w.part me) (growth.Filling cell may.array may.old may.next)
@@ -366,7 +378,7 @@ module _ (layout : Layout) (shapes : ShapeLists) (w : World) (me : ℕ) (inside 
 
       still_stands : (a : ℕ) → w.heap region.Array cell ≡ a + 1 →
           ArrayStands layout (write w.heap region.Structure cell (may.old + 1)) state cell a
-      still_stands a is = let before = wave.arrays cell a (wave.refs.claimed me cell k.0.claimed) is in record {
+      still_stands a is = let before = wave.arrays.stand cell a (wave.refs.claimed me cell k.0.claimed) is in record {
         own = before.own;
         few = (let few = before.few in let c = new_count in omega (arith, few, c));
         room = λ n below. before.room n (let c = new_count in omega (arith, below, c));
@@ -401,6 +413,7 @@ module _ (layout : Layout) (shapes : ShapeLists) (w : World) (me : ℕ) (inside 
             (filled_stands cell may.array k.0.claimed k.0.has k.2 (write w.heap region.Structure cell next) (λ i. refl)
             (let told = all_told in let word = ap count_of (write-same w.heap region.Structure cell next) in
             omega (arith, told, word)));
+        bare = λ none. absurd (let named = k.1 in omega (arith, named, none));
       }
     where
       k : GrowthKnows w.heap state me (w.part me) (growth.Stored cell may.array may.old next)
@@ -468,8 +481,17 @@ module _ (layout : Layout) (shapes : ShapeLists) (w : World) (me : ℕ) (inside 
         let m = k.0.more in
         omega (arith, all, o, c, m)
 
-    arrays_stored : ArraysStand layout stored state
-    arrays_stored x a alive_x is = elim (cases_eq x cell) [
+    bare_stored : (x : ℕ) → IsLive state x → stored region.Array x ≡ 0 → count_of (w.heap region.Structure x) ≡ 0
+    bare_stored x alive_x none = elim (cases_eq x cell) [
+      | inl same ↦
+          let word = ap (stored region.Array) (sym same) ∙ none in
+          let here = write-same w.heap region.Array cell (array + 1) in
+          absurd (omega (arith, word, here))
+      | inr apart ↦ wave.arrays.bare x alive_x (sym (else_same x apart) ∙ none)
+    ]
+
+    stand_stored : (x a : ℕ) → IsLive state x → stored region.Array x ≡ a + 1 → ArrayStands layout stored state x a
+    stand_stored x a alive_x is = elim (cases_eq x cell) [
       | inl same ↦
           let word = ap (stored region.Array) (sym same) ∙ is in
           let here = write-same w.heap region.Array cell (array + 1) in
@@ -477,9 +499,12 @@ module _ (layout : Layout) (shapes : ShapeLists) (w : World) (me : ℕ) (inside 
           subst (λ (c : ℕ). ArrayStands layout stored state c a) (sym same)
           (subst (ArrayStands layout stored state cell) (sym its)
           (filled_stands cell array k.0.claimed k.0.has k.2 stored (λ i. refl) told_before))
-      | inr apart ↦ (let before = wave.arrays x a alive_x (sym (else_same x apart) ∙ is) in
+      | inr apart ↦ (let before = wave.arrays.stand x a alive_x (sym (else_same x apart) ∙ is) in
           record { own = before.own; few = before.few; room = before.room; named = before.named })
     ]
+
+    arrays_stored : ArraysStand layout stored state
+    arrays_stored = record { stand = stand_stored; bare = bare_stored }
 
     store_it : RunningWave layout shapes (record { heap = stored; part = put_at w.part me stored_view; log = w.log })
     store_it = any_step layout shapes w.heap w.part w.log me wave stored stored_view record {

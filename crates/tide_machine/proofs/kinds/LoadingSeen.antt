@@ -200,7 +200,7 @@ module _ (layout : Layout) (shapes : ShapeLists) (w : World) (me : ℕ) (inside 
       blank = λ place target link. h.blank place target (link_before c place target link);
     };
     stands = arrays_kept layout w.heap w.heap state after (λ c. refl) (λ c. refl) (λ i. refl) (λ array. refl)
-        (λ c array alive is. (alive, refl, refl, refl)) wave.arrays;
+        (λ c array alive is. (alive, refl, refl, refl)) (λ c alive none. inl alive) wave.arrays;
     inactive = each_put (λ p u. u.left ≡ not (state.active p)) w.part me later (wave.left me) wave.left;
     dead = λ block has. still_dead block has;
   }

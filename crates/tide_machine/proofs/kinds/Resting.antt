@@ -36,7 +36,7 @@ module _ (layout : Layout) (shapes : ShapeLists) (heap : Heap) (part : ℕ → V
   none_scans : {X : Type 0} (scan : Scan) → (part me).scan ≡ Some scan → X
   none_scans scan is = (let none = rests.scan in absurd (cc))
 
-  module _ (seen : List Event) (period ticket run cycle : ℕ) (marks : Bool) (heard : (seen ≡ (part me).seen) ⊎
+  module _ (seen earlier said : List Event) (period ticket run cycle : ℕ) (marks : Bool) (heard : (seen ≡ (part me).seen) ⊎
       (IsPrefix seen log × (filter (λ event. is_call_of me event.entry) seen ≡ (part me).mine))) where
     abbrev later : View
     later = record (part me) {
@@ -47,6 +47,8 @@ module _ (layout : Layout) (shapes : ShapeLists) (heap : Heap) (part : ℕ → V
       run = run;
       marks = marks;
       cycle = cycle;
+      earlier = earlier;
+      told = said;
       known = [];
       full = [];
     }
@@ -229,7 +231,7 @@ stop layout shapes heap part log me inside wave runs rests index word =
     let once = stored layout shapes heap part log me inside wave rests runs index word in
     let v = put_at part me (part me) me in
     let after = rest_step layout shapes (write heap region.Stopped index word) (put_at part me (part me)) log me inside
-    once (subst Rests (sym same) rests) v.seen v.period v.ticket v.run v.cycle v.marks (inl refl) in
+    once (subst Rests (sym same) rests) v.seen v.earlier v.told v.period v.ticket v.run v.cycle v.marks (inl refl) in
     subst (λ (q : ℕ → View). RunningWave layout shapes (record {
       heap = write heap region.Stopped index word;
       part = q;

@@ -206,7 +206,7 @@ module _ (layout : Layout) (shapes : ShapeLists) (w : World) (me : ℕ) (inside 
       waits = left_quiet layout w.heap after w.part me later refl refl (λ _ c in_c is. is) (λ c is. is) refl refl refl
           refl wave.waits;
       stands = arrays_kept layout w.heap after state state (λ c. refl) (λ c. refl) (λ i. refl) (λ array. refl)
-          (λ c array alive is. (alive, refl, refl, refl)) wave.arrays;
+          (λ c array alive is. (alive, refl, refl, refl)) (λ c alive none. inl alive) wave.arrays;
       swept = swept_kept layout w.heap after refl (λ b within. refl) wave.swept;
       sweeps = sweeps_kept layout w.heap after w.part me later state state refl (λ b. refl) refl (λ b has. has)
           wave.sweeps;

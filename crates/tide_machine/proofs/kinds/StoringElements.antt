@@ -133,7 +133,7 @@ module _ (layout : Layout) (shapes : ShapeLists) (w : World) (me : ℕ) (inside 
     }
 
     stands : (x a : ℕ) → IsLive state x → w.heap region.Array x ≡ a + 1 → ArrayStands layout new state x a
-    stands x a alive is = let s = wave.arrays x a alive is in record {
+    stands x a alive is = let s = wave.arrays.stand x a alive is in record {
       own = s.own;
       few = s.few;
       room = s.room;
@@ -176,7 +176,7 @@ module _ (layout : Layout) (shapes : ShapeLists) (w : World) (me : ℕ) (inside 
       waits = left_quiet layout w.heap new w.part me later refl refl (λ _ c in_c is. is) (λ c is. is) refl refl refl
           refl
           wave.waits;
-      stands = stands;
+      stands = record { stand = stands; bare = wave.arrays.bare };
       swept = swept_kept layout w.heap new refl (λ block within. refl) wave.swept;
       sweeps = sweeps_kept layout w.heap new w.part me later state state refl (λ block. refl) refl (λ block has. has)
           wave.sweeps;

@@ -256,7 +256,7 @@ module _ (layout : Layout) (shapes : ShapeLists) (w : World) (me : ℕ) (inside 
           (as_before c).properties,
           (as_before c).array,
         ))
-        wave.arrays;
+        (λ c alive none. inl (sym (as_before c).status ∙ alive)) wave.arrays;
     inactive = each_put (λ p u. u.left ≡ not (state.active p)) w.part me later (wave.left me) wave.left;
     dead = λ block has. still_dead block has;
   }

@@ -219,7 +219,7 @@ module _ (layout : Layout) (shapes : ShapeLists) (limits : IsWithinLimits layout
 
   stands_else : (x a : ℕ) → x ≢ cell → IsLive state x → w.heap region.Array x ≡ a + 1 → ArrayStands layout new after x a
   stands_else x a apart alive is =
-      let s = wave.arrays x a alive is in
+      let s = wave.arrays.stand x a alive is in
       record {
         own = elim s.own [
           | inl mine ↦ inl (mine.0, ap (λ (h : CellState). h.array) (cell_else x apart) ∙ mine.1)
@@ -245,11 +245,14 @@ module _ (layout : Layout) (shapes : ShapeLists) (limits : IsWithinLimits layout
       ]
 
   stands : ArraysStand layout new after
-  stands x a alive is = elim (cases_eq x cell) [
-    | inl same ↦ subst (λ (c : ℕ). ArrayStands layout new after c a) (sym same)
-        (stands_here a (ap (w.heap region.Array) (sym same) ∙ is))
-    | inr apart ↦ stands_else x a apart (sym (status_same x) ∙ alive) is
-  ]
+  stands = record {
+    stand = λ x a alive is. elim (cases_eq x cell) [
+      | inl same ↦ subst (λ (c : ℕ). ArrayStands layout new after c a) (sym same)
+          (stands_here a (ap (w.heap region.Array) (sym same) ∙ is))
+      | inr apart ↦ stands_else x a apart (sym (status_same x) ∙ alive) is
+    ];
+    bare = λ x alive none. wave.arrays.bare x (sym (status_same x) ∙ alive) none;
+  }
 
   set_kept : RunningWave layout shapes (stepped layout shapes w me (StoreElement array place word (Some (SetProp src key
       val))))

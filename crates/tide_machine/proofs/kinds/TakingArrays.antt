@@ -411,8 +411,8 @@ module _ (layout : Layout) (shapes : ShapeLists) (limits : IsWithinLimits layout
     | inr is ↦ (let clash : free ≡ spent = sym was_free ∙ ap state.arrays (sym same) ∙ is in absurd (cc))
   ]
 
-  stands : ArraysStand layout new after
-  stands x a alive_x is = elim (cases_eq x cell) [
+  stand_after : (x a : ℕ) → IsLive after x → new region.Array x ≡ a + 1 → ArrayStands layout new after x a
+  stand_after x a alive_x is = elim (cases_eq x cell) [
     | inl same ↦ subst (λ (c : ℕ). ArrayStands layout new after c a) (sym same)
         (here (ap (w.heap region.Array) (sym same) ∙ is))
     | inr apart ↦ elsewhere apart (sym (status_same x) ∙ alive_x)
@@ -421,7 +421,7 @@ module _ (layout : Layout) (shapes : ShapeLists) (limits : IsWithinLimits layout
       -- the cell's word names its old array, which is spent now
       here : w.heap region.Array cell ≡ a + 1 → ArrayStands layout new after cell a
       here word_is =
-          let s = wave.arrays cell a alive word_is in
+          let s = wave.arrays.stand cell a alive word_is in
           record {
             own = inr (elim s.own [
               | inl mine ↦ elim (array_cases a) [
@@ -444,7 +444,7 @@ module _ (layout : Layout) (shapes : ShapeLists) (limits : IsWithinLimits layout
 
       elsewhere : x ≢ cell → IsLive state x → ArrayStands layout new after x a
       elsewhere apart live_before =
-          let s = wave.arrays x a live_before is in
+          let s = wave.arrays.stand x a live_before is in
           record {
             own = elim s.own [
               | inl mine ↦ inl (
@@ -469,6 +469,12 @@ module _ (layout : Layout) (shapes : ShapeLists) (limits : IsWithinLimits layout
             named = λ place below. ap (λ (h : CellState). val_word (h.properties place)) (cell_else x apart)
                 ∙ s.named place below;
           }
+
+  stands : ArraysStand layout new after
+  stands = record {
+    stand = stand_after;
+    bare = λ x alive_x none. wave.arrays.bare x (sym (status_same x) ∙ alive_x) none;
+  }
 
   still_dead : (b : ℕ) → HasDead layout after b → HasDead layout state b
   still_dead b (dead_cell c in_cells of_block is) = dead_cell c in_cells of_block (sym (status_same c) ∙ is)

@@ -1,5 +1,5 @@
 -- The take of a free bit, at which a cell is born, keeps the wave.
-use Rattle.std.proofs.Common.{ℕ, ◌≡◌, ◌≢◌, ◌+◌, ◌%◌, ◌<◌, ◌==◌, refl, sym, ◌∙◌, ap, subst, arith, Bool, true, false, List, [], ◌∷◌, ◌++◌, inl, inr, Some, None}
+use Rattle.std.proofs.Common.{ℕ, ◌≡◌, ◌≢◌, ◌+◌, ◌%◌, ◌<◌, ◌==◌, refl, sym, ◌∙◌, ap, subst, arith, Bool, true, false, List, [], ◌∷◌, ◌++◌, inl, inr, Some, None, ◌⊎◌}
 use Rattle.std.proofs.lemmas.Bool.{cases_Bool, cases_eq, eq-eqb, ne_eqb, eqb-true, and_parts}
 use Rattle.std.specs.Prelude.{Contains, if◌then◌else◌, ◌&&◌, slice_get, not}
 use Rattle.tide_call.proofs.reading_laws.BirthReading.{Reading-birth}
@@ -22,7 +22,7 @@ use Rattle.tide_machine.specs.Entries.{call_of}
 use Rattle.tide_machine.specs.Owed.{Owes, IsOwnWord, own_register, own_structure, own_array, own_pair, own_element, owed_word}
 use Rattle.tide_machine.specs.RunningWave.{RunningWave}
 use Rattle.tide_machine.specs.Scanning.{Place, property}
-use Rattle.tide_machine.specs.Words.{cell_named}
+use Rattle.tide_machine.specs.Words.{cell_named, count_of}
 use Rattle.tide_machine.specs.World.{World, parties, pushes}
 use Rattle.tide_machine.specs.declared.view.Duty.{Duty}
 use Rattle.tide_machine.specs.declared.view.Duty.TheVariants as duty
@@ -243,7 +243,7 @@ module _ (layout : Layout) (shapes : ShapeLists) (w : World) (me : ℕ) (inside 
       blank = λ place target link. h.blank place target (link_before c place target link).1;
     };
     stands = arrays_kept layout w.heap new state after (λ c. refl) (λ c. refl) (λ i. refl) (λ array. refl) was_there
-        wave.arrays;
+        was_bare wave.arrays;
     inactive = each_put (λ p u. u.left ≡ not (state.active p)) w.part me later (wave.left me) wave.left;
     dead = λ block has. still_dead block has;
   }
@@ -268,6 +268,22 @@ module _ (layout : Layout) (shapes : ShapeLists) (w : World) (me : ℕ) (inside 
           ap (λ (x : CellState). x.properties) (else_same c apart),
           ap (λ (x : CellState). x.array) (else_same c apart),
         )
+      ]
+
+      -- its structure's word is 0 too
+      no_structure : w.heap region.Structure cell ≡ 0
+      no_structure = wave.words.same region.Structure cell refl (λ p x owes.
+          unclaimed p (wave.words.owns p region.Structure cell x owes)) ∙
+          ((wave.words.reads.parts.cells cell within).zeroed was_free).structure
+        where
+          unclaimed : (p : ℕ) → IsOwnWord layout state p region.Structure cell → ⊥
+          unclaimed p (own_structure c at) = not_live (wave.refs.claimed p c at)
+
+      was_bare : (c : ℕ) → IsLive after c → new region.Array c ≡ 0 →
+          IsLive state c ⊎ (count_of (new region.Structure c) ≡ 0)
+      was_bare c is_live none = elim (cases_eq c cell) [
+        | inl same ↦ inr (ap count_of (ap (w.heap region.Structure) same ∙ no_structure))
+        | inr apart ↦ inl (ap (λ (x : CellState). x.status) (sym (else_same c apart)) ∙ is_live)
       ]
 
       still_dead : (block : ℕ) → HasDead layout after block → HasDead layout state block

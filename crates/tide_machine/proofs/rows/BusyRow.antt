@@ -84,7 +84,7 @@ came_opened = opens begun 16 came_begun (λ marks none. absurd (omega (arith, no
 
 -- its ticket
 abbrev ticket : Ticket
-ticket = record { seen = opened.log; period = 1; run = 16; marks = true; cycle = 1 }
+ticket = record { seen = opened.log; told = opened.log; period = 1; run = 16; marks = true; cycle = 1 }
 
 abbrev joined : World
 joined = stepped small no_shapes opened 0 (Join ticket)

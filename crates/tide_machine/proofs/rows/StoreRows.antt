@@ -1,6 +1,6 @@
 -- Worlds that have the points on the store itself, its arrays, its tables and its sweeps, and near ones that break
 -- each.
-use Rattle.std.proofs.Common.{ℕ, ◌≡◌, ◌≤◌, ◌==◌, refl, sym, ◌∙◌, ap, subst, arith, Bool, true, false, List, [], ◌∷◌, Some, inl, inr}
+use Rattle.std.proofs.Common.{ℕ, ◌≡◌, ◌≤◌, ◌==◌, refl, sym, ◌∙◌, ap, subst, arith, Bool, true, false, List, [], ◌∷◌, Some, inl, inr, ◌+◌}
 use Rattle.std.proofs.lemmas.Bool.{cases_eq, ne_eqb}
 use Rattle.std.specs.Prelude.{if◌then◌else◌}
 use Rattle.tide_layout.specs.declared.region.Region.TheVariants as region
@@ -8,7 +8,7 @@ use Rattle.tide_machine.proofs.rows.BusyRow.{busy, busy_has_the_wave}
 use Rattle.tide_machine.specs.Frozen.{newcomer}
 use Rattle.tide_machine.specs.declared.view.Sweeping.{Sweeping}
 use Rattle.tide_machine.specs.declared.view.View.{View}
-use Rattle.tide_machine.specs.points.Arrays.{ArraysStand}
+use Rattle.tide_machine.specs.points.Arrays.{ArraysStand, ArrayStands}
 use Rattle.tide_machine.specs.points.Growths.{RunningGrowthIsOwed}
 use Rattle.tide_machine.specs.points.Marks.{SpanIsLive}
 use Rattle.tide_machine.specs.points.Seen.{WhoLeftIsInactive}
@@ -20,7 +20,7 @@ use Rattle.tide_model.specs.Graph.{in_register}
 use Rattle.tide_model.specs.History.{plain, state_after}
 use Rattle.tide_model.specs.Lawful.{IsLawful}
 use Rattle.tide_model.specs.Numbers.{put_at}
-use Rattle.tide_model.specs.References.{RefsAreLive}
+use Rattle.tide_model.specs.References.{RefsAreLive, IsLive}
 use Rattle.tide_model.specs.Refused.{no_shapes, is_table}
 use Rattle.tide_model.specs.Rows.{small}
 use Rattle.tide_model.specs.State.{State, CellState, empty_state, blank_cell, live, dead}
@@ -74,25 +74,29 @@ grows-unowed point = (let (p, g) = point.beyond refl 0 0 0 (refl, omega arith, r
 
 -- the new array is stored, and the structure isn't yet: it stands, as far as the structure tells
 arrays-stored : ArraysStand small (write empty_heap region.Array 0 1) has_property
-arrays-stored cell array alive is = elim (cases_eq cell 0) [
-  | inl same ↦ (let named = ap {B = ℕ} (λ (c : ℕ). if c == 0 then 1 else 0) same in
-      let first : array ≡ 0 = omega (arith, named, is) in record {
-        own = inl (
-          ap (put_at empty_state.arrays 0 live) first,
-          ap (λ (c : ℕ). (put_at empty_state.cells 0 with_property c).array) same ∙ ap Some (sym first),
-        );
-        few = omega arith;
-        room = λ place below. absurd (omega (arith, below));
-        named = λ place below. absurd (omega (arith, below));
-      })
-  | inr apart ↦ (let none = ap {B = ℕ} (λ (b : Bool). if b then 1 else 0) (ne_eqb cell 0 apart) in
-      absurd (omega (arith, none, is)))
-]
+arrays-stored = record { stand = first_stands; bare = λ cell alive none. refl }
+  where
+    first_stands : (cell array : ℕ) → IsLive has_property cell → write empty_heap region.Array 0 1 region.Array cell
+        ≡ array + 1 → ArrayStands small (write empty_heap region.Array 0 1) has_property cell array
+    first_stands cell array alive is = elim (cases_eq cell 0) [
+      | inl same ↦ (let named = ap {B = ℕ} (λ (c : ℕ). if c == 0 then 1 else 0) same in
+          let first : array ≡ 0 = omega (arith, named, is) in record {
+            own = inl (
+              ap (put_at empty_state.arrays 0 live) first,
+              ap (λ (c : ℕ). (put_at empty_state.cells 0 with_property c).array) same ∙ ap Some (sym first),
+            );
+            few = omega arith;
+            room = λ place below. absurd (omega (arith, below));
+            named = λ place below. absurd (omega (arith, below));
+          })
+      | inr apart ↦ (let none = ap {B = ℕ} (λ (b : Bool). if b then 1 else 0) (ne_eqb cell 0 apart) in
+          absurd (omega (arith, none, is)))
+    ]
 
 -- that array is free
 arrays-free : ArraysStand small (write empty_heap region.Array 0 1)
     (record has_property { arrays = empty_state.arrays }) → ⊥
-arrays-free point = elim (point 0 0 refl refl).own [
+arrays-free point = elim (point.stand 0 0 refl refl).own [
   | inl mine ↦ (let is = mine.0 in absurd (cc))
   | inr is ↦ absurd (cc)
 ]
@@ -103,11 +107,15 @@ told_one = write (write empty_heap region.Array 0 1) region.Structure 0 2
 
 arrays-told_more : ArraysStand small told_one
     (record has_property { cells = put_at empty_state.cells 0 (blank_cell live) }) → ⊥
-arrays-told_more point = (let few = (point 0 0 refl refl).few in omega (arith, few))
+arrays-told_more point = (let few = (point.stand 0 0 refl refl).few in omega (arith, few))
+
+-- it tells one of a cell whose word names no array
+arrays-bare : ArraysStand small (write empty_heap region.Structure 0 2) has_property → ⊥
+arrays-bare point = (let none = point.bare 0 refl refl in omega (arith, none))
 
 -- it tells one whose element isn't stored
 arrays-unstored : ArraysStand small told_one has_property → ⊥
-arrays-unstored point = (let word = (point 0 0 refl refl).named 0 (omega arith) in omega (arith, word))
+arrays-unstored point = (let word = (point.stand 0 0 refl refl).named 0 (omega arith) in omega (arith, word))
 
 -- a table as it was born, and one with a key
 abbrev with_table : CellState → State

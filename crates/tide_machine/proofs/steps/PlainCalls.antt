@@ -152,7 +152,7 @@ module _ (layout : Layout) (shapes : ShapeLists) (w : World) (me : ℕ) (inside 
       };
       stands = arrays_kept layout w.heap new state after structure (λ c. s.same region.Array c refl) (λ i.
           s.same region.Elements i refl) (λ array. refl) (λ c array alive is.
-          (alive, refl, refl, refl)) wave.arrays;
+          (alive, refl, refl, refl)) (λ c alive none. inl alive) wave.arrays;
       inactive = put_at_elim (λ p u. u.left ≡ not (active p)) w.part me (later owed) s.left_is
           (λ p apart. wave.left p ∙ ap not (sym (s.active_else p apart)));
       dead = λ block has. still_dead block has;

@@ -200,7 +200,7 @@ module _ (layout : Layout) (shapes : ShapeLists) (old : Heap) (part : ℕ → Vi
       waits = s.waits;
       stands = arrays_kept layout old new (state_after layout log) (state_after layout log) structure (λ c.
           s.words region.Array c refl) (λ i. s.words region.Elements i refl) (λ array. refl) (λ c array alive is.
-          (alive, refl, refl, refl)) wave.arrays;
+          (alive, refl, refl, refl)) (λ c alive none. inl alive) wave.arrays;
       swept = swept_kept layout old new (s.words region.Phase 0 refl) (λ block within. s.swept block) wave.swept;
       sweeps = sweeps_kept layout old new part me w (state_after layout log) (state_after layout log)
           (s.words region.Phase 0 refl) s.swept s.sweeping (λ block has. has) wave.sweeps;

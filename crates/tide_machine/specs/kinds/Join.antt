@@ -13,6 +13,8 @@ use Rattle.tide_words.specs.marking.Colours.{is_marking, running_cycle}
 abbrev pub joined_view : Ticket → View → View
 joined_view t v = record (stopped_view v) {
   seen = t.seen;
+  earlier = v.seen;
+  told = t.told;
   ticket = t.period;
   run = t.run;
   marks = t.marks;

@@ -19,7 +19,10 @@ pub record ArrayStands (layout : Layout) (heap : Heap) (state : State) (cell arr
   pub named : (place : ℕ) → place < count_of (heap region.Structure cell) →
       val_word ((state.cells cell).properties place) ≡ heap region.Elements (index_of_element layout array place)
 
--- that is so of each live cell and the array that its word names
-abbrev pub ArraysStand : Layout → Heap → State → Type 0
-ArraysStand layout heap state =
-    (cell array : ℕ) → IsLive state cell → heap region.Array cell ≡ array + 1 → ArrayStands layout heap state cell array
+-- that is so of each live cell and the array that its word names; where the word names none, the structure's word tells
+-- no property
+pub record ArraysStand (layout : Layout) (heap : Heap) (state : State) : Type 0 where
+  pub stand : (cell array : ℕ) → IsLive state cell → heap region.Array cell ≡ array + 1 →
+      ArrayStands layout heap state cell array
+  pub bare : (cell : ℕ) → IsLive state cell → heap region.Array cell ≡ 0 →
+      count_of (heap region.Structure cell) ≡ 0
