@@ -8,6 +8,7 @@ ghost use Rattle.tide_machine.specs.kinds.StoreStopped.{stopped_view};
 ghost use Rattle.tide_machine.specs.kinds.TakeFree.{TakesCell};
 ghost use Rattle.tide_model.specs.Caller.{MakesCall};
 ghost use Rattle.tide_model.specs.Lawful.{FitsLayout};
+ghost use Rattle.tide_model.specs.Prefix.{IsPrefix};
 ghost use Rattle.tide_model.specs.Refused.{claims_most};
 ghost use Rattle.tide_model.specs.declared.op.Op.TheVariants.{Claim, Retire, Unclaim};
 ghost use Rattle.tide_model.specs.declared.op.Reply.TheVariants.{Done as IsDone};
@@ -81,7 +82,7 @@ impl Mutator {
         self.claims.len()
     }
 
-    /// Begins the open part, whose ticket it hears.
+    /// Begins the open part, whose ticket it hears. It has seen what it had, and what the ticket tells.
     pub fn begin<S: HeapShapes>(&mut self, heap: &Heap<S>, ticket: Ticket)
         requires own { self.old.own.pass.seat.table_id ≡ heap.now.table.shared.table_id }
         requires of_heap { ticket.seat.table_id ≡ heap.now.table.shared.table_id }
@@ -92,6 +93,9 @@ impl Mutator {
             × (self.new.own.pass.seat.id ≡ self.old.own.pass.seat.id) }
         ensures begun { self.new.own.pass.seat.me.0
             ≡ begun_view (heard_view self.old.own.pass.seat.me.0 ticket.seat.me.0) }
+        ensures earlier { IsPrefix self.old.own.pass.seat.me.0.seen self.new.own.pass.seat.me.0.seen }
+        ensures told { IsPrefix ticket.seat.me.0.seen self.new.own.pass.seat.me.0.seen }
+        ensures mine { self.new.own.pass.seat.me.0.mine ≡ self.old.own.pass.seat.me.0.mine }
     {
         self.own.pass.begin(heap, ticket);
     }
