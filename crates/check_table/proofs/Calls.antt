@@ -1,8 +1,8 @@
 -- That a mutator may make its calls, whatever the machine is then.
-use Rattle.std.proofs.Common.{ℕ, ◌≡◌, refl, sym, ◌∙◌, ap, subst, true, List, ◌<◌, None}
+use Rattle.std.proofs.Common.{ℕ, ◌≡◌, refl, sym, ◌∙◌, ap, subst, true, false, List, ◌<◌, None}
 use Rattle.std.proofs.lemmas.Bool.{eq-eqb}
 use Rattle.std.specs.Prelude.{Bool, if◌then◌else◌}
-use Rattle.check_table.specs.Working.{IsReady, set_calls}
+use Rattle.check_table.specs.Working.{HasLooked, IsReady, set_calls}
 use Rattle.tide_machine.proofs.steps.OwnState.{own_state}
 use Rattle.tide_machine.specs.May.{RunsAsMutator, MayCall, IsBetweenCalls}
 use Rattle.tide_machine.specs.Own.{Own, own_of}
@@ -36,7 +36,7 @@ runner layout v mutator runs w is = record { is_mutator = mutator; runs = ap (λ
 
 -- a call that is done and changes nothing of others may be made, where its mutator is active and it is granted
 pub may_call : (layout : Layout) (shapes : ShapeLists) (v : View) (mine : List Event) (op : Op) →
-    IsReady layout v mine → (state_after layout mine).active v.who ≡ true → FitsLayout layout op →
+    IsReady layout v mine false → (state_after layout mine).active v.who ≡ true → FitsLayout layout op →
     ((s : State) → own_of v.who s ≡ own_of v.who (state_after layout mine) → IsAnswer layout shapes s v.who op Done None) →
     (w : World) → RunningWave layout shapes w → w.part v.who ≡ v → MayCall layout shapes w v.who op Done None
 may_call layout shapes v mine op ready active fits granted w wave is = record {
@@ -58,3 +58,10 @@ may_call layout shapes v mine op ready active fits granted w wave is = record {
 pub seven : (layout : Layout) (who : ℕ) → (state_after layout (set_calls who)).registers who 0 ≡ Int 7
 seven layout who =
     ap (λ (b : Bool). (if b then put_at (λ (r : ℕ). Empty) 0 (Int 7) else (λ (r : ℕ). Empty)) 0) (eq-eqb who who refl)
+
+-- who looks twice has looked
+pub looked_on : (v u w : View) → HasLooked v u → HasLooked u w → HasLooked v w
+looked_on v u w one other = record {
+  found = other.found;
+  is = other.is ∙ ap (λ (x : View). record x { found = other.found }) one.is;
+}

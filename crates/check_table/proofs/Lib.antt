@@ -1,3 +1,5 @@
 pub mod Calls
 pub mod Popped
-pub mod Cycling
+pub mod Books
+pub mod Nexts
+pub mod Pairing

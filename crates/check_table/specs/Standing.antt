@@ -1,6 +1,7 @@
 -- A heap that stands still: after its first part, in which nobody made a call, and before the next one is opened.
 use Rattle.std.specs.Prelude.{ℕ, ◌≡◌, ◌≤◌, true, false, List, [], ◌∷◌, length}
 use Rattle.tide_layout.specs.Region.{word_count}
+use Rattle.tide_layout.specs.declared.region.Region.TheVariants.{Stopped}
 use Rattle.tide_machine.specs.Frozen.{FrozenWith}
 use Rattle.tide_machine.specs.May.{Rests}
 use Rattle.tide_machine.specs.declared.view.View.{View}
@@ -10,7 +11,7 @@ use Rattle.tide_model.specs.Refused.{ShapeLists}
 use Rattle.tide_model.specs.declared.entry.Entry.TheVariants.{Open}
 use Rattle.tide_model.specs.declared.entry.Event.{Event}
 use Rattle.tide_table.specs.Openings.{MayFollow}
-use Rattle.tide_words.specs.heap.Heap.{heap_of}
+use Rattle.tide_words.specs.heap.Heap.{SameIn, heap_of}
 
 -- the history of a part that was opened, and no more
 abbrev pub opened_once : ℕ → List Event
@@ -21,22 +22,6 @@ pub record StandsStill (layout : Layout) (shapes : ShapeLists) (run : ℕ) (v : 
   pub frozen : v.frozen ≡ true
   pub seen : v.seen ≡ opened_once run
   pub base : v.base ≡ v.words
+  pub stood : v.stood ≡ v.words
   pub long : length v.words ≡ word_count layout
   pub wave : FrozenWith layout shapes (heap_of layout v.words) (opened_once run) 0
-
--- the collector's view: nobody has left, and a part of so many calls may be opened
-pub record IsOpenable (layout : Layout) (shapes : ShapeLists) (run : ℕ) (v : View) : Type 0 where
-  pub frozen : v.frozen ≡ true
-  pub gone : v.gone ≡ []
-  pub follows : MayFollow layout shapes v.words v.seen run
-
--- a mutator's view while it doesn't run: it made no call so far, and neither began nor stopped after this part
-pub record IsAtRest (who part : ℕ) (v : View) : Type 0 where
-  pub is : v.who ≡ who
-  pub stopped : v.runs ≡ false
-  pub stays : v.left ≡ false
-  pub period : v.period ≤ part
-  pub begun : v.begun ≤ part
-  pub visits : v.visits ≡ 0
-  pub rests : Rests v
-  pub made : v.mine ≡ []

@@ -1,5 +1,6 @@
 -- What a mutator of this program knows between two of its calls, and what its calls leave.
-use Rattle.std.specs.Prelude.{ℕ, ◌≡◌, ◌<◌, true, List, [], ◌∷◌, None}
+use Rattle.std.specs.Prelude.{ℕ, ◌≡◌, ◌<◌, Bool, true, List, [], ◌∷◌, None}
+use Rattle.tide_layout.specs.Slots.{HasSlot}
 use Rattle.tide_machine.specs.Entries.{call_of}
 use Rattle.tide_machine.specs.May.{Rests}
 use Rattle.tide_machine.specs.declared.view.View.{View}
@@ -9,12 +10,26 @@ use Rattle.tide_model.specs.declared.op.Op.{Op}
 use Rattle.tide_model.specs.declared.op.Op.TheVariants.{Retire, Set, StrongSet, WeakSet}
 use Rattle.tide_model.specs.declared.op.Reply.TheVariants.{Done}
 
--- the mutator runs, made these calls, and owes nothing
-pub record IsReady (layout : Layout) (v : View) (mine : List Event) : Type 0 where
+-- the layout has all that a mutator of this program steps on
+pub record HasAll (layout : Layout) : Type 0 where
+  pub registers : 0 < layout.registers
+  pub strong : 0 < layout.strong
+  pub weak : 0 < layout.weak
+  pub slot : HasSlot layout 0 0
+
+-- the layout has two mutators and no visitors, and all that these mutators step on
+pub record IsSmall (layout : Layout) : Type 0 where
+  pub two : layout.mutators ≡ 2
+  pub no_visitors : layout.visitors ≡ 0
+  pub has : HasAll layout
+
+-- the mutator runs, made these calls, has left for good or not, and owes nothing
+pub record IsReady (layout : Layout) (v : View) (mine : List Event) (left : Bool) : Type 0 where
   pub runs : v.runs ≡ true
   pub is_mutator : v.who < layout.mutators
   pub rests : Rests v
   pub made : v.mine ≡ mine
+  pub is_left : v.left ≡ left
 
 -- what no call changes
 pub record Stays (v u : View) : Type 0 where
@@ -23,6 +38,11 @@ pub record Stays (v u : View) : Type 0 where
   pub ticket : u.ticket ≡ v.ticket
   pub period : u.period ≡ v.period
   pub visits : u.visits ≡ v.visits
+
+-- nothing changed but the word that its last step found
+pub record HasLooked (v u : View) : Type 0 where
+  pub found : ℕ
+  pub is : u ≡ record v { found = found }
 
 -- a call that was done
 abbrev pub done : ℕ → Op → Event

@@ -5,15 +5,19 @@
 //!
 //! - `part`: two mutators begin a part, work, retire and stop; it is frozen and closed.
 //! - `parts`: the same after a part in which nobody makes a call, and a whole cycle.
+//! - `calls`: the same, but that the mutators work in the first part, and retire in the second one.
 //! - `chain FILE SMALL LARGE`: the heap that the facts of a file say is stored over a frozen heap, and marked in two
 //!   pauses within these budgets.
 //! - `freezes`: the freeze code runs twice over a frozen heap, with nothing due and as a must.
 #![tactic(auto)]
 
+mod between;
 mod chains;
-mod cycles;
 mod freezing;
+mod pair;
+mod pairs;
 mod parts;
+mod rows;
 mod standing;
 mod starting;
 mod telling;
@@ -22,7 +26,7 @@ mod working;
 use check_heap::{Checks, System, check_lines, number, words_of};
 use std::io;
 use std::process::ExitCode;
-use telling::{tell_chain, tell_freezes, tell_part, tell_parts};
+use telling::{tell_calls, tell_chain, tell_freezes, tell_part, tell_parts};
 
 /// The checks of this program.
 #[derive(Clone, Copy)]
@@ -36,6 +40,7 @@ impl<R: System> Checks for Program<'_, R> {
         match *words_of(rt.alloc(), line)? {
             ["part"] => tell_part(rt),
             ["parts"] => tell_parts(rt),
+            ["calls"] => tell_calls(rt),
             ["chain", file, small, large] => match (number(small), number(large)) {
                 (Some(small), Some(large)) => tell_chain(rt, file, [small, large]),
                 _ => Ok(false),

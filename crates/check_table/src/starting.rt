@@ -1,13 +1,14 @@
-//! Heaps that start, and the parts of two mutators that are run on one. It prints nothing.
-ghost use Rattle.std.specs.Prelude.{◌≡◌, ◌<◌, IfOk, IfSome, vec_len};
-ghost use Rattle.tide_layout.specs.Slots.{HasSlot};
+//! Heaps that start. It opens no part.
+ghost use Rattle.std.specs.Prelude.{◌≡◌, IfOk, IfSome, vec_len};
+ghost use Rattle.check_table.specs.Pairs.{HasStarted};
 ghost use Rattle.tide_machine.specs.Frozen.{newcomer};
 ghost use Rattle.tide_shape.specs.Lists.{lists_of};
 ghost use Rattle.tide_table.specs.Started.{ArePasses, IsStarted};
 
-use crate::parts::{Part, last_part, two_parts};
+use crate::pair::Pair;
 use std::alloc::Global;
 use tide_cycle::Report;
+use tide_freeze::Births;
 use tide_layout::Layout;
 use tide_model::Memory;
 use tide_shape::{Paths, Shapes};
@@ -62,29 +63,13 @@ pub fn start_single(alloc: Global, layout: Layout) -> Result<Option<Single>, Mem
     }))
 }
 
-/// A heap of two mutators, with their passes.
-#[derive(Drop)]
-pub struct Pair {
-    pub heap: Heap<Shapes>,
-    pub collector: Collector,
-    pub one: Pass,
-    pub other: Pass,
-}
-
 /// A small heap of two mutators.
 pub fn start_pair(alloc: Global) -> Result<Option<Pair>, Memory>
-    ensures own { IfOk result (λ o. IfSome o (λ p. p.collector.seat.table_id ≡ p.heap.table.shared.table_id)) }
-    ensures of_heap { IfOk result (λ o. IfSome o (λ p. (p.one.seat.table_id ≡ p.heap.table.shared.table_id)
-        × (p.other.seat.table_id ≡ p.heap.table.shared.table_id))) }
-    ensures started { IfOk result (λ o. IfSome o (λ p.
-        IsStarted p.heap.key.layout (lists_of p.heap.key.shapes) p.collector.seat.me.0)) }
-    ensures newcomers { IfOk result (λ o. IfSome o (λ p. (p.one.seat.me.0 ≡ newcomer 0) × (p.other.seat.me.0 ≡ newcomer 1))) }
-    ensures two { IfOk result (λ o. IfSome o (λ p. (p.heap.key.layout.mutators ≡ 2) × (p.heap.key.layout.visitors ≡ 0))) }
-    ensures has { IfOk result (λ o. IfSome o (λ p. (0 < p.heap.key.layout.registers) × (0 < p.heap.key.layout.strong)
-        × (0 < p.heap.key.layout.weak))) }
-    ensures slot { IfOk result (λ o. IfSome o (λ p. HasSlot p.heap.key.layout 0 0)) }
+    ensures started { IfOk result (λ o. IfSome o HasStarted) }
 {
     let layout = Layout::new([1, 0, 0, 0, 1], [1, 0, 0, 0, 0], 4, 2, 2, 2, 0);
+    let list = GreyList::new(alloc, MAX_CELLS)?;
+    let report = Report::new(alloc, 4, 256)?;
     let Start {
         heap,
         collector,
@@ -99,38 +84,8 @@ pub fn start_pair(alloc: Global) -> Result<Option<Pair>, Memory>
         collector,
         one,
         other,
+        births: Births::none(),
+        list,
+        report,
     }))
-}
-
-/// Runs one part of two mutators on a small heap.
-pub fn run_part(alloc: Global) -> Result<Option<Part>, Memory> {
-    let Some(pair) = start_pair(alloc)? else {
-        return Ok(None);
-    };
-    let Pair {
-        heap,
-        collector,
-        one,
-        other,
-    } = pair;
-    Ok(last_part(heap, collector, one, other, 5).ok())
-}
-
-/// Runs two parts on a small heap, and a whole cycle between them. The report tells the cycle.
-pub fn run_parts(alloc: Global) -> Result<Option<(Part, Report)>, Memory> {
-    let Some(pair) = start_pair(alloc)? else {
-        return Ok(None);
-    };
-    let Pair {
-        heap,
-        collector,
-        one,
-        other,
-    } = pair;
-    let mut list = GreyList::new(alloc, MAX_CELLS)?;
-    let mut report = Report::new(alloc, 4, 256)?;
-    let Some(part) = two_parts(heap, collector, one, other, &mut list, &mut report)? else {
-        return Ok(None);
-    };
-    Ok(Some((part, report)))
 }

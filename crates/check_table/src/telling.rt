@@ -1,12 +1,12 @@
 //! What the checks print.
 
-use crate::parts::Told;
+use crate::rows::{Ran, Told, called_parts, one_part, two_parts};
 use crate::standing::{freeze_single, heap_of_facts, mark_chain};
-use crate::starting::{run_part, run_parts};
 use check_heap::{System, number_between, numbers_text, tell, text, word_text};
 use std::alloc::{AllocError, Global};
 use std::{fs, io};
 use tide_cycle::Report;
+use tide_model::Memory;
 use tide_solver::Solved;
 
 /// The word of a truth.
@@ -59,16 +59,6 @@ fn tell_told<R: System>(rt: &R, told: &Told) -> io::Result<()> {
     )
 }
 
-/// Runs one part of two mutators, and prints what they told.
-pub fn tell_part<R: System>(rt: &R) -> io::Result<bool> {
-    let Ok(Some(part)) = run_part(rt.alloc()) else {
-        return Ok(false);
-    };
-    tell_told(rt, &part.first)?;
-    tell_told(rt, &part.second)?;
-    Ok(true)
-}
-
 /// Prints the cycles that ended.
 fn tell_cycles<R: System>(rt: &R, report: &Report) -> io::Result<()> {
     let alloc = rt.alloc();
@@ -81,15 +71,40 @@ fn tell_cycles<R: System>(rt: &R, report: &Report) -> io::Result<()> {
     Ok(())
 }
 
-/// Runs two parts of two mutators with a whole cycle between them, and prints the cycle and what the mutators told.
-pub fn tell_parts<R: System>(rt: &R) -> io::Result<bool> {
-    let Ok(Some((part, report))) = run_parts(rt.alloc()) else {
+/// Prints what both mutators told of a part.
+fn tell_both<R: System>(rt: &R, told: &[Told; 2]) -> io::Result<()> {
+    for one in told {
+        tell_told(rt, one)?;
+    }
+    Ok(())
+}
+
+/// Prints what a row ran: what was told of its parts, and between them the cycles that ended.
+fn tell_ran<R: System>(rt: &R, ran: Result<Option<Ran>, Memory>) -> io::Result<bool> {
+    let Ok(Some(ran)) = ran else {
         return Ok(false);
     };
-    tell_cycles(rt, &report)?;
-    tell_told(rt, &part.first)?;
-    tell_told(rt, &part.second)?;
+    if let Some(first) = &ran.first {
+        tell_both(rt, first)?;
+    }
+    tell_cycles(rt, &ran.report)?;
+    tell_both(rt, &ran.last)?;
     Ok(true)
+}
+
+/// Runs one part of two mutators, and prints what they told.
+pub fn tell_part<R: System>(rt: &R) -> io::Result<bool> {
+    tell_ran(rt, one_part(rt.alloc()))
+}
+
+/// Runs two parts of two mutators with a whole cycle between them, and prints the cycle and what the mutators told.
+pub fn tell_parts<R: System>(rt: &R) -> io::Result<bool> {
+    tell_ran(rt, two_parts(rt.alloc()))
+}
+
+/// The same with calls in both parts.
+pub fn tell_calls<R: System>(rt: &R) -> io::Result<bool> {
+    tell_ran(rt, called_parts(rt.alloc()))
 }
 
 /// How a pause ended.

@@ -1,8 +1,7 @@
 //! The acts of a mutator in a part: each step on its own words and on handles, and loads of a slot and a claim. It
 //! knows no ticket and no note.
-ghost use Rattle.std.specs.Prelude.{◌≡◌, ◌<◌, [], true};
-ghost use Rattle.tide_layout.specs.Slots.{HasSlot};
-ghost use Rattle.check_table.specs.Working.{all_calls, put_calls, set_calls, strong_calls, IsReady, Stays};
+ghost use Rattle.std.specs.Prelude.{◌≡◌, ◌<◌, [], true, false};
+ghost use Rattle.check_table.specs.Working.{all_calls, put_calls, set_calls, strong_calls, HasAll, HasLooked, IsReady, Stays};
 
 use tide_model::{Op, Val};
 use tide_table::{Heap, HeapShapes, Pass};
@@ -22,10 +21,10 @@ pub struct Found {
 /// Sets its first register to 7, and tells the call.
 fn set_register<S: HeapShapes>(heap: &Heap<S>, pass: &mut Pass)
     requires own { pass.old.seat.table_id ≡ heap.now.table.shared.table_id }
-    requires ready { IsReady heap.now.key.layout pass.old.seat.me.0 [] }
+    requires ready { IsReady heap.now.key.layout pass.old.seat.me.0 [] false }
     requires has { 0 < heap.now.key.layout.registers }
     ensures same { pass.new.seat.table_id ≡ pass.old.seat.table_id }
-    ensures ready { IsReady heap.now.key.layout pass.new.seat.me.0 (set_calls pass.old.seat.me.0.who) }
+    ensures ready { IsReady heap.now.key.layout pass.new.seat.me.0 (set_calls pass.old.seat.me.0.who) false }
     ensures stays { Stays pass.old.seat.me.0 pass.new.seat.me.0 }
 {
     let word = val_word(Val::Int(7));
@@ -36,11 +35,11 @@ fn set_register<S: HeapShapes>(heap: &Heap<S>, pass: &mut Pass)
 /// Puts its first register into the first strong handle, and tells the call.
 fn put_strong<S: HeapShapes>(heap: &Heap<S>, pass: &mut Pass)
     requires own { pass.old.seat.table_id ≡ heap.now.table.shared.table_id }
-    requires ready { IsReady heap.now.key.layout pass.old.seat.me.0 (set_calls pass.old.seat.me.0.who) }
+    requires ready { IsReady heap.now.key.layout pass.old.seat.me.0 (set_calls pass.old.seat.me.0.who) false }
     requires has { 0 < heap.now.key.layout.registers }
     requires strong { 0 < heap.now.key.layout.strong }
     ensures same { pass.new.seat.table_id ≡ pass.old.seat.table_id }
-    ensures ready { IsReady heap.now.key.layout pass.new.seat.me.0 (strong_calls pass.old.seat.me.0.who) }
+    ensures ready { IsReady heap.now.key.layout pass.new.seat.me.0 (strong_calls pass.old.seat.me.0.who) false }
     ensures stays { Stays pass.old.seat.me.0 pass.new.seat.me.0 }
 {
     let word = val_word(Val::Int(7));
@@ -51,11 +50,11 @@ fn put_strong<S: HeapShapes>(heap: &Heap<S>, pass: &mut Pass)
 /// Puts its first register into the first weak handle, and tells the call.
 fn put_weak<S: HeapShapes>(heap: &Heap<S>, pass: &mut Pass)
     requires own { pass.old.seat.table_id ≡ heap.now.table.shared.table_id }
-    requires ready { IsReady heap.now.key.layout pass.old.seat.me.0 (strong_calls pass.old.seat.me.0.who) }
+    requires ready { IsReady heap.now.key.layout pass.old.seat.me.0 (strong_calls pass.old.seat.me.0.who) false }
     requires has { 0 < heap.now.key.layout.registers }
     requires weak { 0 < heap.now.key.layout.weak }
     ensures same { pass.new.seat.table_id ≡ pass.old.seat.table_id }
-    ensures ready { IsReady heap.now.key.layout pass.new.seat.me.0 (put_calls pass.old.seat.me.0.who) }
+    ensures ready { IsReady heap.now.key.layout pass.new.seat.me.0 (put_calls pass.old.seat.me.0.who) false }
     ensures stays { Stays pass.old.seat.me.0 pass.new.seat.me.0 }
 {
     let word = val_word(Val::Int(7));
@@ -64,16 +63,13 @@ fn put_weak<S: HeapShapes>(heap: &Heap<S>, pass: &mut Pass)
 }
 
 /// Looks at its own words, at the handles, and at the first slot and the claim of the first cell, without a call.
-fn look<S: HeapShapes>(heap: &Heap<S>, pass: &mut Pass) -> Found
+pub fn look<S: HeapShapes>(heap: &Heap<S>, pass: &mut Pass) -> Found
     requires own { pass.old.seat.table_id ≡ heap.now.table.shared.table_id }
     requires runs { pass.old.seat.me.0.runs ≡ true }
     requires mutator { pass.old.seat.me.0.who < heap.now.key.layout.mutators }
-    requires has { 0 < heap.now.key.layout.registers }
-    requires strong { 0 < heap.now.key.layout.strong }
-    requires weak { 0 < heap.now.key.layout.weak }
-    requires slot { HasSlot heap.now.key.layout 0 0 }
+    requires has { HasAll heap.now.key.layout }
     ensures same { pass.new.seat.table_id ≡ pass.old.seat.table_id }
-    ensures view { pass.new.seat.me.0 ≡ pass.old.seat.me.0 }
+    ensures looked { HasLooked pass.old.seat.me.0 pass.new.seat.me.0 }
 {
     Found {
         register: pass.load_register(heap, 0),
@@ -86,35 +82,27 @@ fn look<S: HeapShapes>(heap: &Heap<S>, pass: &mut Pass) -> Found
 }
 
 /// Retires, and tells the call.
-fn leave<S: HeapShapes>(heap: &Heap<S>, pass: &mut Pass)
+pub fn leave<S: HeapShapes>(heap: &Heap<S>, pass: &mut Pass)
     requires own { pass.old.seat.table_id ≡ heap.now.table.shared.table_id }
-    requires ready { IsReady heap.now.key.layout pass.old.seat.me.0 (put_calls pass.old.seat.me.0.who) }
+    requires ready { IsReady heap.now.key.layout pass.old.seat.me.0 (put_calls pass.old.seat.me.0.who) false }
     ensures same { pass.new.seat.table_id ≡ pass.old.seat.table_id }
-    ensures ready { IsReady heap.now.key.layout pass.new.seat.me.0 (all_calls pass.old.seat.me.0.who) }
+    ensures ready { IsReady heap.now.key.layout pass.new.seat.me.0 (all_calls pass.old.seat.me.0.who) true }
     ensures stays { Stays pass.old.seat.me.0 pass.new.seat.me.0 }
-    ensures left { pass.new.seat.me.0.left ≡ true }
 {
     pass.retire(heap);
     pass.store_call(heap, 4, None);
 }
 
-/// Does all of this one after another, and answers what it found before it left.
-pub fn work<S: HeapShapes>(heap: &Heap<S>, pass: &mut Pass) -> Found
+/// Sets a register, and puts it into a strong and a weak handle.
+pub fn put<S: HeapShapes>(heap: &Heap<S>, pass: &mut Pass)
     requires own { pass.old.seat.table_id ≡ heap.now.table.shared.table_id }
-    requires ready { IsReady heap.now.key.layout pass.old.seat.me.0 [] }
-    requires has { 0 < heap.now.key.layout.registers }
-    requires strong { 0 < heap.now.key.layout.strong }
-    requires weak { 0 < heap.now.key.layout.weak }
-    requires slot { HasSlot heap.now.key.layout 0 0 }
+    requires ready { IsReady heap.now.key.layout pass.old.seat.me.0 [] false }
+    requires has { HasAll heap.now.key.layout }
     ensures same { pass.new.seat.table_id ≡ pass.old.seat.table_id }
-    ensures ready { IsReady heap.now.key.layout pass.new.seat.me.0 (all_calls pass.old.seat.me.0.who) }
+    ensures ready { IsReady heap.now.key.layout pass.new.seat.me.0 (put_calls pass.old.seat.me.0.who) false }
     ensures stays { Stays pass.old.seat.me.0 pass.new.seat.me.0 }
-    ensures left { pass.new.seat.me.0.left ≡ true }
 {
     set_register(heap, pass);
     put_strong(heap, pass);
     put_weak(heap, pass);
-    let found = look(heap, pass);
-    leave(heap, pass);
-    found
 }

@@ -25,7 +25,7 @@ use Rattle.tide_machine.specs.points.Marks.{counted_in}
 use Rattle.tide_model.specs.History.{state_after}
 use Rattle.tide_model.specs.Refused.{ShapeLists}
 use Rattle.tide_heap.specs.Parties.{In, IsParty, tally}
-use Rattle.tide_heap.specs.Rule.{MemberOk, NoteOk, KnowsAs, Knows, IsFrozen, IsRunning, Mode, Tabled}
+use Rattle.tide_heap.specs.Rule.{MemberOk, NoteOk, SeatOkAs, SeatOk, IsFrozen, IsRunning, Mode, Tabled}
 
 -- what held of each view but one holds of all where it holds of that one's new view
 pub each_set : (P : ℕ → View → Type 0) (vs : List View) (me : ℕ) (w : View) → P me w → ((j : ℕ) (u : View) → j ≢ me → get_elem? vs j ≡ some u → P j u)
@@ -53,16 +53,16 @@ few_parties layout limits i (inl below) = (let m = limits.few_mutators in omega 
 few_parties layout limits i (inr above) = (let m = limits.few_visitors in let b = above.1 in omega (arith, m, b))
 
 -- what a view knows by its role
-pub knows_as : (layout : Layout) (cv : View) (part : ℕ → View) (seat_of note_at : ℕ → ℕ) (log : List Event) (k : ℕ) (u : View) (r : Role) → u.role ≡ r → Knows layout cv part seat_of note_at log k u → KnowsAs layout cv part seat_of note_at log k u r
-knows_as layout cv part seat_of note_at log k u r is = subst (KnowsAs layout cv part seat_of note_at log k u) is
+pub knows_as : (layout : Layout) (cv : View) (part : ℕ → View) (seat_of note_at : ℕ → ℕ) (log : List Event) (k : ℕ) (u : View) (r : Role) → u.role ≡ r → SeatOk layout cv part seat_of note_at log k u → SeatOkAs layout cv part seat_of note_at log k u r
+knows_as layout cv part seat_of note_at log k u r is = subst (SeatOkAs layout cv part seat_of note_at log k u) is
 
-pub known_as : (layout : Layout) (cv : View) (part : ℕ → View) (seat_of note_at : ℕ → ℕ) (log : List Event) (k : ℕ) (u : View) (r : Role) → u.role ≡ r → KnowsAs layout cv part seat_of note_at log k u r → Knows layout cv part seat_of note_at log k u
-known_as layout cv part seat_of note_at log k u r is = subst (KnowsAs layout cv part seat_of note_at log k u) (sym is)
+pub known_as : (layout : Layout) (cv : View) (part : ℕ → View) (seat_of note_at : ℕ → ℕ) (log : List Event) (k : ℕ) (u : View) (r : Role) → u.role ≡ r → SeatOkAs layout cv part seat_of note_at log k u r → SeatOk layout cv part seat_of note_at log k u
+known_as layout cv part seat_of note_at log k u r is = subst (SeatOkAs layout cv part seat_of note_at log k u) (sym is)
 
 -- a seat of another, after a participant's step
 others : (layout : Layout) (cv : View) (part : ℕ → View) (seat_of note_at : ℕ → ℕ) (log log' : List Event) (k me i : ℕ) (u p : View) → seat_of i ≡ me → k ≢ me
     → IsPrefix log log' → ((j : ℕ) (x : View) → NoteOk layout cv (part i) (note_at i) j x → NoteOk layout cv p (note_at i) j x)
-    → (r : Role) → KnowsAs layout cv part seat_of note_at log k u r → KnowsAs layout cv (put_at part i p) seat_of note_at log' k u r
+    → (r : Role) → SeatOkAs layout cv part seat_of note_at log k u r → SeatOkAs layout cv (put_at part i p) seat_of note_at log' k u r
 others layout cv part seat_of note_at log log' k me i u p seat apart grows notes Collector h = h
 others layout cv part seat_of note_at log log' k me i u p seat apart grows notes Member h =
     (h.0, h.1, h.2 ∙ sym (put_else part i u.who p (λ e. apart (sym h.3 ∙ (ap seat_of e ∙ seat)))), h.3)
@@ -133,7 +133,7 @@ module _ (layout : Layout) (shapes : ShapeLists) (words : List ℕ) (views : Lis
       limits = k.limits;
       empty_shape = k.empty_shape;
       collects = k.collects;
-      each = each_set (Knows layout k.cv (put_at k.part i p) k.seat_of k.note_at log') views me p
+      each = each_set (SeatOk layout k.cv (put_at k.part i p) k.seat_of k.note_at log') views me p
           (known_as layout k.cv (put_at k.part i p) k.seat_of k.note_at log' me p Member is'
           (subst (IsParty layout) (sym who) b.0, (let c = b.1 in omega (arith, who, c)), sym (ap (put_at k.part i p) who ∙ put_here k.part i p), ap k.seat_of who ∙ b.3))
           (λ j u other at. others layout k.cv k.part k.seat_of k.note_at log log' j me i u p b.3 other grows (λ n x h. notes n x (subst (λ (y : View). NoteOk layout k.cv y (k.note_at i) n x) (sym b.2) h)) u.role (k.each j u at));
@@ -186,7 +186,7 @@ at_end (x ∷ xs) a b (suc j) e = elim (at_end xs a b j e) [ inl h ↦ inl h | i
 appended : (P : ℕ → View → Type 0) (vs : List View) (x : View) → P (length vs) x → ((j : ℕ) (u : View) → get_elem? vs j ≡ some u → P j u) → (j : ℕ) (u : View) → get_elem? (vs ++ x ∷ []) j ≡ some u → P j u
 appended P vs x new old j u e = elim (at_end vs x u j e) [ inl h ↦ old j u h | inr h ↦ subst (λ (t : ℕ × View). P t.0 t.1) (λ i. (sym h.0 i, h.1 i)) new ]
 
-pub add_copy : (layout : Layout) (shapes : ShapeLists) (words : List ℕ) (views : List View) (log : List Event) (x : View) (k : Tabled layout shapes words views log) → Knows layout k.cv k.part k.seat_of k.note_at log (length views) x → Tabled layout shapes words (views ++ x ∷ []) log
+pub add_copy : (layout : Layout) (shapes : ShapeLists) (words : List ℕ) (views : List View) (log : List Event) (x : View) (k : Tabled layout shapes words views log) → SeatOk layout k.cv k.part k.seat_of k.note_at log (length views) x → Tabled layout shapes words (views ++ x ∷ []) log
 add_copy layout shapes words views log x k new = record {
   cv = k.cv;
   part = k.part;
@@ -195,7 +195,7 @@ add_copy layout shapes words views log x k new = record {
   limits = k.limits;
   empty_shape = k.empty_shape;
   collects = k.collects;
-  each = appended (Knows layout k.cv k.part k.seat_of k.note_at log) views x new k.each;
+  each = appended (SeatOk layout k.cv k.part k.seat_of k.note_at log) views x new k.each;
   fresh = k.fresh;
   strangers = k.strangers;
   members = k.members;
@@ -221,7 +221,7 @@ spend layout shapes words views log me w k is = (
     limits = k.limits;
     empty_shape = k.empty_shape;
     collects = k.collects;
-    each = each_set (Knows layout k.cv k.part k.seat_of k.note_at log) views me w (known_as layout k.cv k.part k.seat_of k.note_at log me w Spent is tt) (λ j u other at. k.each j u at);
+    each = each_set (SeatOk layout k.cv k.part k.seat_of k.note_at log) views me w (known_as layout k.cv k.part k.seat_of k.note_at log me w Spent is tt) (λ j u other at. k.each j u at);
     fresh = k.fresh;
     strangers = k.strangers;
     members = k.members;
@@ -270,7 +270,7 @@ renote layout shapes words views log who at k later = (
     number_else : (f : ℕ → ℕ) (i j x : ℕ) → j ≢ i → put_at f i x j ≡ f j
     number_else f i j x other = ap (λ (b : Bool). if b then x else f j) (ne_eqb j i other)
 
-    moved : (j : ℕ) (u : View) (r : Role) → KnowsAs layout k.cv k.part k.seat_of k.note_at log j u r → KnowsAs layout k.cv k.part k.seat_of (put_at k.note_at who at) log j u r
+    moved : (j : ℕ) (u : View) (r : Role) → SeatOkAs layout k.cv k.part k.seat_of k.note_at log j u r → SeatOkAs layout k.cv k.part k.seat_of (put_at k.note_at who at) log j u r
     moved j u Collector h = h
     moved j u Member h = h
     moved j u Note h = (

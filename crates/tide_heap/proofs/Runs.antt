@@ -48,6 +48,7 @@ pub record Turns (layout : Layout) (v u : View) : Type 0 where
   pub earlier : u.earlier ≡ v.earlier
   pub told : u.told ≡ v.told
   pub grows : IsPrefix v.seen u.seen
+  pub ended : u.runs ≡ false → u.stopped ≡ u.begun
 
 turned_ok : (layout : Layout) (cv v u : View) → MemberOk layout cv v v.who → v.period < cv.period →
     (In v.who cv.gone → ⊥) → Turns layout v u → MemberOk layout cv u v.who
@@ -69,6 +70,8 @@ turned_ok layout cv v u ok later stays t = let p = t.period in let q = t.ticket 
   heard = subst (λ (l : List Event). IsPrefix l u.seen) (sym t.told)
       (prefix_trans v.told v.seen u.seen ok.heard t.grows);
   calls = λ noted a e. absurd (elim (ok.calls noted a e).0 [ inl b ↦ not_in b | inr b ↦ stays b ]);
+  ended = t.ended;
+  halted = λ a. absurd (not_in a);
   noted = λ a. absurd (let b = (ok.noted a).0 in omega (arith, b, later));
   gone = λ a. absurd (stays a);
   over = λ a. absurd (stays a);

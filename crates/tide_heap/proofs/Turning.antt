@@ -1,6 +1,6 @@
 -- A participant hears a ticket, begins, stops and hands out its note.
 use Rattle.std.proofs.Common.{◌≡◌, ℕ, zero, suc, ◌+◌, ◌<◌, ◌≤◌, length-set, List, [], ◌∷◌, ◌++◌, length, sym, refl, ap, ◌∙◌, inl, inr, subst, arith, Bool, true, false, set, MatchBool, None}
-use Rattle.std.specs.Prelude.{filter, if◌then◌else◌, ◌==◌}
+use Rattle.std.specs.Prelude.{filter, if◌then◌else◌, slice_index, ◌==◌, ◌↔◌}
 use Rattle.tide_layout.specs.Region.{place_in, size_of}
 use Rattle.tide_layout.specs.declared.region.Region.TheVariants as region
 use Rattle.tide_machine.proofs.kinds.FirstGroup.{first_group}
@@ -132,6 +132,7 @@ module _ (layout : Layout) (shapes : ShapeLists) (words : List ℕ) (views : Lis
         earlier = refl;
         told = refl;
         grows = prefix_refl v.seen;
+        ended = λ e. absurd (cc);
       }
       turns later false = record {
         role = is;
@@ -147,6 +148,7 @@ module _ (layout : Layout) (shapes : ShapeLists) (words : List ℕ) (views : Lis
         earlier = refl;
         told = refl;
         grows = prefix_refl v.seen;
+        ended = λ e. absurd (cc);
       }
 
       counted : v.ticket ≡ k.cv.period → (b : Bool) → (v.begun == v.ticket) ≡ b →
@@ -166,6 +168,19 @@ module _ (layout : Layout) (shapes : ShapeLists) (words : List ℕ) (views : Lis
       seen_same true = refl
       seen_same false = refl
 
+  -- the Period word is that of its ticket then
+  pub period_here : v.runs ≡ false → v.left ≡ false → v.period < v.ticket →
+      slice_index words (place_in layout region.Period 0) ≡ v.ticket
+  period_here idle stays later =
+      let few = ok.ticket in
+      let now : v.ticket ≡ k.cv.period = elim ok.close [
+        | inl gone ↦ absurd (not_gone stays gone)
+        | inr close ↦ omega (arith, close, later, few)
+      ] in
+      let thawed = waking layout shapes words views log me v k there is stays (omega (arith, later, now)) in
+      let run = now_running layout shapes words views log me v k there thawed in
+      run.reads.each region.Period 0 (omega arith) ∙ run.period ∙ sym now
+
   -- it stores the part in which it stops
   pub end_here : v.runs ≡ true → Rests v → index_of_stopped layout v.who < size_of layout region.Stopped →
       Tabled layout shapes (set words (place_in layout region.Stopped (index_of_stopped layout v.who)) v.ticket)
@@ -175,8 +190,16 @@ module _ (layout : Layout) (shapes : ShapeLists) (words : List ℕ) (views : Lis
       let run = now_running layout shapes words views log me v k there thawed in
       let later = runs_later layout shapes words views log me v k there is act in
       let at = index_of_stopped layout v.who in
+      let few = ok.ticket in
+      let now : v.ticket ≡ k.cv.period = elim ok.close [
+        | inl gone ↦ absurd (later.2 gone)
+        | inr close ↦ (let past = later.0 in omega (arith, close, past, few))
+      ] in
+      let begun : v.begun ≡ k.cv.period = ap (λ (x : View). x.begun) (sym mine)
+      ∙ (run.wave.numbers.told v.who (ap (λ (x : View). x.runs) mine ∙ act)).2 ∙ run.period in
       let wave = first_group layout shapes (record { heap = run.heap; part = k.part; log = log }) v.who
       (few_parties layout k.limits v.who party) run.wave (StoreStopped v.ticket) refl record {
+        party = party;
         runs = ap (λ (x : View). x.runs) mine ∙ act;
         rests = subst Rests (sym mine) rests;
         of_part = ap (λ (x : View). x.ticket) (sym mine);
@@ -197,6 +220,7 @@ module _ (layout : Layout) (shapes : ShapeLists) (words : List ℕ) (views : Lis
         earlier = refl;
         told = refl;
         grows = prefix_refl v.seen;
+        ended = λ _. now ∙ sym begun;
       }
       record { own = tt; births = omega arith }
       (λ e. k.retired v.who (ap (λ (x : View). x.left) mine ∙ e))
@@ -267,6 +291,8 @@ module _ (layout : Layout) (shapes : ShapeLists) (words : List ℕ) (views : Lis
         mutator = ok.mutator;
         earlier = long.one;
         heard = long.other;
+        ended = λ _. ok.ended idle;
+        halted = λ a. absurd (let b = (ok.noted a).0 in omega (arith, b, last));
         calls = λ noted a e. absurd (elim (ok.calls noted a e).0 [
           | inl b ↦ (let c = (ok.noted b).0 in omega (arith, c, last))
           | inr b ↦ not_gone stays b
@@ -332,6 +358,8 @@ module _ (layout : Layout) (shapes : ShapeLists) (words : List ℕ) (views : Lis
         mutator = ok.mutator;
         earlier = ok.earlier;
         heard = ok.heard;
+        ended = λ _. ok.ended idle;
+        halted = λ a. absurd (not_in a);
         calls = λ noted a e. absurd (elim (ok.calls noted a e).0 [
           | inl b ↦ not_in b
           | inr b ↦ (let g = (ok.gone b).3 in omega (arith, g, later))
@@ -367,9 +395,9 @@ module _ (layout : Layout) (shapes : ShapeLists) (words : List ℕ) (views : Lis
 -- its note gets a seat
 pub note_split : (layout : Layout) (shapes : ShapeLists) (words : List ℕ) (views : List View) (log : List Event) (me : ℕ)
     (v : View) (k : Tabled layout shapes words views log) (there : get_elem? views me ≡ some v) (is : v.role ≡ Member) →
-    v.runs ≡ false → v.begun ≡ v.ticket → v.period < v.ticket → (done : Bool) → (done ≡ true → HasDonePart layout v) →
-    Tabled layout shapes words (set views me (split_view v) ++ record v { role = Note; period = v.ticket; done = done } ∷ [])
-    log
+    v.runs ≡ false → v.begun ≡ v.ticket → v.period < v.ticket → (done : Bool) →
+    ((done ≡ true) ↔ HasDonePart layout v) →
+    Tabled layout shapes words (set views me (split_view v) ++ note_of done v ∷ []) log
 note_split layout shapes words views log me v k there is idle began later done says =
     let seat = renoted layout shapes words views log me v k there is later in
     let after = noting_here layout shapes words views log me v seat.0 there is idle began later in
@@ -377,7 +405,7 @@ note_split layout shapes words views log me v k there is idle began later done s
     (party layout shapes words views log me v k there is, note_ok after.0 (after.1 ∙ seat.1) (after.2 ∙ seat.2))
   where
     note : View
-    note = record v { role = Note; period = v.ticket; done = done }
+    note = note_of done v
 
     few : v.ticket ≤ k.cv.period
     few = (ok layout shapes words views log me v k there is).ticket

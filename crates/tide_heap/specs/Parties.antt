@@ -1,19 +1,14 @@
 -- Participants of a heap by their numbers, and what is added up over some of them.
-use Rattle.std.specs.Prelude.{ℕ, zero, suc, ◌≡◌, ◌+◌, ◌<◌, ◌≤◌, ◌⊎◌, List, [], ◌∷◌, length, nat_lt, if◌then◌else◌}
+use Rattle.std.specs.Prelude.{ℕ, zero, suc, ◌≡◌, ◌+◌, ◌⊎◌, List, [], ◌∷◌, length, nat_lt, if◌then◌else◌}
 use Rattle.tide_machine.specs.declared.view.View.{View}
 use Rattle.tide_machine.specs.points.Marks.{counted_in}
-use Rattle.tide_machine.specs.World.{first_visitor}
-use Rattle.tide_model.specs.Layout.{Layout}
+pub use Rattle.tide_machine.specs.World.{IsParty}
 use Rattle.tide_model.specs.declared.entry.Event.{Event}
 
 -- the number is one of the list
 abbrev pub In : ℕ → List ℕ → Type 0
 In i [] = ⊥
 In i (x ∷ xs) = (i ≡ x) ⊎ In i xs
-
--- a participant of the layout: a mutator's number, or 16 plus a visitor's
-abbrev pub IsParty : Layout → ℕ → Type 0
-IsParty layout p = (p < layout.mutators) ⊎ ((first_visitor ≤ p) × (p < first_visitor + layout.visitors))
 
 -- the numbers below another
 abbrev pub up_to : ℕ → List ℕ

@@ -1,6 +1,6 @@
 -- The rule of the table of words, in its two modes: while a part runs, the words and views meet the wave of the machine;
 -- while the heap is frozen, the collector has the words to itself.
-use Rattle.std.specs.Prelude.{ℕ, Contains, ◌≡◌, ◌+◌, ◌<◌, ◌≤◌, ◌⊎◌, true, false, List, [], ◌++◌, length, MatchBool, slice_get, Some}
+use Rattle.std.specs.Prelude.{ℕ, Contains, ◌≡◌, ◌↔◌, ◌+◌, ◌<◌, ◌≤◌, ◌⊎◌, true, false, List, [], ◌++◌, length, MatchBool, slice_get, Some}
 use mathlib.Core.Option.{some}
 use lib.ListN.{get_elem?}
 use Rattle.atomic_table.specs.Table.{State}
@@ -15,6 +15,7 @@ use Rattle.tide_machine.specs.declared.view.Role.TheVariants.{Collector, Member,
 use Rattle.tide_machine.specs.declared.view.View.{View}
 use Rattle.tide_machine.specs.points.Marks.{SpanIsLive}
 use Rattle.tide_machine.specs.points.Seen.{IsKnown, WhoLeftIsInactive, ParkedIsEmpty}
+use Rattle.tide_machine.specs.points.Stops.{StopsAreTold}
 use Rattle.tide_model.specs.Freeze.{marks_after}
 use Rattle.tide_model.specs.History.{is_open, state_after}
 use Rattle.tide_model.specs.Lawful.{IsLawful}
@@ -27,11 +28,11 @@ use Rattle.tide_model.specs.declared.entry.Event.{Event}
 use Rattle.tide_heap.specs.Births.{births_in, born_to, told_births}
 use Rattle.tide_heap.specs.Done.{HasDonePart}
 use Rattle.tide_heap.specs.Parties.{In, IsParty, tally}
-use Rattle.tide_words.specs.heap.Heap.{Heap, Reads}
+use Rattle.tide_words.specs.heap.Heap.{Heap, Reads, heap_of}
 use Rattle.tide_words.specs.marking.Colours.{is_marking, running_cycle}
 
 -- what the collector's view says of the open part, another says too
-pub record Told (cv u : View) : Type 0 where
+pub record AgreesOnPart (cv u : View) : Type 0 where
   pub marks : u.marks ≡ cv.marks
   pub cycle : u.cycle ≡ cv.cycle
   pub run : u.run ≡ cv.run
@@ -50,7 +51,7 @@ pub record MemberOk (layout : Layout) (cv p : View) (i : ℕ) : Type 0 where
   pub close : In i cv.gone ⊎ (cv.period ≤ p.period + 1)
   pub ticket : p.ticket ≤ cv.period
   pub runs : p.runs ≡ true → p.period < p.ticket
-  pub told : p.ticket ≡ cv.period → Told cv p
+  pub told : p.ticket ≡ cv.period → AgreesOnPart cv p
   pub still : i < layout.mutators → p.visits ≡ 0
   pub mutator : p.left ≡ true → i < layout.mutators
   -- what it had seen before its last ticket, and what that told, are beginnings of what it has seen
@@ -58,6 +59,9 @@ pub record MemberOk (layout : Layout) (cv p : View) (i : ℕ) : Type 0 where
   pub heard : IsPrefix p.told p.seen
   -- what its note told of its calls is so still
   pub calls : (noted : NotedCalls) → Contains cv.noted_calls noted → noted.who ≡ i → IsAsNoted cv p i noted
+  -- while it doesn't run it has stopped in the part in which it last began, and in the open one if its note is in
+  pub ended : p.runs ≡ false → p.stopped ≡ p.begun
+  pub halted : In i cv.notes → p.stopped ≡ cv.period
   -- whose note of the open part was taken in, and who has left for good
   pub noted : In i cv.notes → (p.period ≡ cv.period) × IsPrefix p.seen cv.seen
   pub gone : In i cv.gone → (p.left ≡ true) × (p.runs ≡ false) × IsPrefix p.seen cv.seen × (p.ticket ≤ p.period)
@@ -68,7 +72,8 @@ pub record MemberOk (layout : Layout) (cv p : View) (i : ℕ) : Type 0 where
   pub done : In i cv.notes → cv.done ≡ true → HasDonePart layout p
 
 -- A note of the open part is of a participant that has stopped, and has seen all that it saw. It is the only one of its
--- participant, on the seat `only`, and hasn't been taken in. That it is done, it tells only where that is so.
+-- participant, on the seat `only`, and hasn't been taken in. It says that its participant has done its part exactly where
+-- that is so.
 pub record NoteOk (layout : Layout) (cv p : View) (only k : ℕ) (u : View) : Type 0 where
   pub behind : u.period ≤ p.period
   pub now : u.period ≡ cv.period →
@@ -77,26 +82,26 @@ pub record NoteOk (layout : Layout) (cv p : View) (only k : ℕ) (u : View) : Ty
   pub one : u.period ≡ cv.period → only ≡ k
   pub out : u.period ≡ cv.period → In u.who cv.notes → ⊥
   pub began : u.period ≡ cv.period → p.begun ≡ cv.period
-  pub done : u.period ≡ cv.period → u.done ≡ true → HasDonePart layout p
+  pub done : u.period ≡ cv.period → ((u.done ≡ true) ↔ HasDonePart layout p)
 
 -- a ticket tells what the collector knew when it gave it out
 pub record Heard (log : List Event) (cv u : View) : Type 0 where
   pub behind : u.period ≤ cv.period
   pub prefix : IsPrefix u.seen log
-  pub told : u.period ≡ cv.period → Told cv u
+  pub told : u.period ≡ cv.period → AgreesOnPart cv u
 
 module _ (layout : Layout) (cv : View) (part : ℕ → View) (seat_of note_at : ℕ → ℕ) (log : List Event) (k : ℕ)
     (u : View) where
   -- what a seat is, by its role
-  abbrev pub KnowsAs : Role → Type 0
-  KnowsAs Collector = (k ≡ 0) × (u ≡ cv)
-  KnowsAs Member = IsParty layout u.who × (u.who < cv.next) × (u ≡ part u.who) × (seat_of u.who ≡ k)
-  KnowsAs Note = IsParty layout u.who × NoteOk layout cv (part u.who) (note_at u.who) k u
-  KnowsAs Ticket = Heard log cv u
-  KnowsAs Spent = Unit {0}
+  abbrev pub SeatOkAs : Role → Type 0
+  SeatOkAs Collector = (k ≡ 0) × (u ≡ cv)
+  SeatOkAs Member = IsParty layout u.who × (u.who < cv.next) × (u ≡ part u.who) × (seat_of u.who ≡ k)
+  SeatOkAs Note = IsParty layout u.who × NoteOk layout cv (part u.who) (note_at u.who) k u
+  SeatOkAs Ticket = Heard log cv u
+  SeatOkAs Spent = Unit {0}
 
-abbrev pub Knows : Layout → View → (ℕ → View) → (ℕ → ℕ) → (ℕ → ℕ) → List Event → ℕ → View → Type 0
-Knows layout cv part seat_of note_at log k u = KnowsAs layout cv part seat_of note_at log k u u.role
+abbrev pub SeatOk : Layout → View → (ℕ → View) → (ℕ → ℕ) → (ℕ → ℕ) → List Event → ℕ → View → Type 0
+SeatOk layout cv part seat_of note_at log k u = SeatOkAs layout cv part seat_of note_at log k u u.role
 
 -- what stood in the cycle that marks names only cells that are live now, as far as the history says that one marks
 abbrev pub SpanStays : Layout → List Event → Type 0
@@ -117,6 +122,8 @@ pub record IsFrozen (layout : Layout) (shapes : ShapeLists) (words : List ℕ) (
   pub begun : (p : ℕ) → (part p).begun ≤ cv.period
   pub left : WhoLeftIsInactive part (state_after layout log)
   pub empty : ParkedIsEmpty part
+  -- the words at the freeze told in which part each has stopped
+  pub stops : StopsAreTold layout (heap_of layout cv.stood) part
   pub all_in : (i : ℕ) → IsParty layout i → In i cv.notes ⊎ In i cv.gone
 
 -- while a part runs: the words and the views meet the running wave, and the collector's view has the part's numbers
@@ -146,7 +153,7 @@ pub record Tabled (layout : Layout) (shapes : ShapeLists) (words : List ℕ) (vi
   pub seat_of : ℕ → ℕ
   pub note_at : ℕ → ℕ
   pub collects : cv.role ≡ Collector
-  pub each : (k : ℕ) (u : View) → get_elem? views k ≡ some u → Knows layout cv part seat_of note_at log k u
+  pub each : (k : ℕ) (u : View) → get_elem? views k ≡ some u → SeatOk layout cv part seat_of note_at log k u
   -- those without a seat yet, and those that the layout doesn't have
   pub fresh : (i : ℕ) → cv.next ≤ i → part i ≡ newcomer i
   pub strangers : (i : ℕ) → (IsParty layout i → ⊥) → part i ≡ newcomer i

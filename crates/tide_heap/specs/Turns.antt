@@ -1,8 +1,9 @@
 -- What the views become as participants come, stop and go on, and as the collector seats, freezes, enters and opens.
 use Rattle.std.specs.List.{list_all}
-use Rattle.std.specs.Prelude.{ℕ, Contains, ◌≡◌, ◌<◌, ◌≤◌, ◌+◌, ◌==◌, ◌&&◌, not, filter, count_by, true, false, List, [], ◌∷◌, ◌++◌, length, replicate, slice_set, if◌then◌else◌}
+use Rattle.std.specs.Prelude.{ℕ, Bool, Contains, ◌≡◌, ◌<◌, ◌≤◌, ◌+◌, ◌==◌, ◌&&◌, not, filter, count_by, true, false, List, [], ◌∷◌, ◌++◌, length, replicate, slice_set, if◌then◌else◌}
 use Rattle.tide_layout.specs.Limits.{IsWithinLimits}
 use Rattle.tide_layout.specs.Region.{word_count}
+use Rattle.tide_layout.specs.declared.region.Region.TheVariants as region
 use Rattle.tide_machine.specs.Frozen.{FrozenWith, newcomer}
 use Rattle.tide_machine.specs.Kind as kind
 use Rattle.tide_machine.specs.World.{first_visitor, parties}
@@ -18,7 +19,6 @@ use Rattle.tide_model.specs.Refused.{ShapeLists}
 use Rattle.tide_model.specs.Since.{is_birth, is_call}
 use Rattle.tide_model.specs.declared.entry.Entry.TheVariants.{Open, Visits}
 use Rattle.tide_model.specs.declared.entry.Event.{Event}
-use Rattle.tide_heap.specs.Done.{done_by_numbers}
 use Rattle.tide_heap.specs.Parties.{In, IsParty, longer, up_to}
 use Rattle.tide_words.specs.heap.Heap.{heap_of}
 use Rattle.tide_words.specs.marking.Colours.{is_marking, running_cycle}
@@ -31,6 +31,7 @@ first_view layout = record (newcomer 0) {
   notes = up_to parties;
   words = replicate (word_count layout) 0;
   base = replicate (word_count layout) 0;
+  stood = replicate (word_count layout) 0;
 }
 
 -- what a ticket tells a participant that has seen so much
@@ -49,13 +50,9 @@ ticket_for seen u =
 abbrev pub heard_view : View → View → View
 heard_view v u = joined_view (ticket_for v.seen u) v
 
--- what a note has: the view at the stop, of the part whose ticket was heard
-abbrev pub note_of : View → View
-note_of v = record v { role = Note; period = v.ticket; done = done_by_numbers v }
-
--- what the note of a visitor has that found each grey word 0 since it last held a cell
-abbrev pub done_note_of : View → View
-done_note_of v = record v { role = Note; period = v.ticket; done = true }
+-- what a note has: the view at the stop, of the part whose ticket was heard, and whether its participant has done its part
+abbrev pub note_of : Bool → View → View
+note_of done v = record v { role = Note; period = v.ticket; done = done }
 
 -- the collector hands out a seat, and a ticket
 abbrev pub seating : ℕ → View → View
@@ -91,7 +88,7 @@ noted v u = record v {
 
 -- it freezes, with the words as they are then
 abbrev pub frozen_with : List ℕ → View → View
-frozen_with words v = record v { frozen = true; words = words; base = words }
+frozen_with words v = record v { frozen = true; words = words; base = words; stood = words }
 
 -- it stores a word while frozen
 abbrev pub restored : ℕ → ℕ → View → View
@@ -133,6 +130,7 @@ opened layout run v = record v {
   start = v.seen ++ open_entry run v ∷ [];
   words = [];
   base = [];
+  stood = [];
 }
 
 -- What a freeze tells the collector: the words, and that they meet the wave of the history that it has seen, with the
@@ -156,6 +154,9 @@ pub record Freezes (layout : Layout) (shapes : ShapeLists) (v w : View) : Type 0
       filter (λ event. is_call_of noted.who event.entry) v.seen ≡ noted.mine
   -- who has left for good is known
   pub gone : (i : ℕ) → IsParty layout i → (state_after layout v.seen).active i ≡ false → In i v.gone
+  -- the Stopped word of each whose note is in is the number of the part
+  pub stops : (i : ℕ) → IsParty layout i → In i v.notes →
+      heap_of layout words region.Stopped (kind.index_of_stopped layout i) ≡ v.period
   -- where a cycle marks, there are visitors and each note says that its participant has done its part, one made a cell
   -- black
   pub progress : v.marks ≡ true → 0 < layout.visitors → v.done ≡ true → 0 < v.ledger

@@ -75,10 +75,11 @@ impl<S: HeapShapes> Heap<S> {
         ensures index { result ≡ index_of_stopped self.now.key.layout who }
         ensures within { result < size_of self.now.key.layout Stopped }
     {
-        if who < 16 {
+        let mutators = u32::from(self.key.layout.mutators());
+        if who < mutators {
             who
         } else {
-            u32::from(self.key.layout.mutators()) + (who - 16)
+            mutators + (who - 16)
         }
     }
 

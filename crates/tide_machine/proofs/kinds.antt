@@ -1,6 +1,7 @@
 -- The law of each kind.
 pub mod Activating
 pub mod Resting
+pub mod Finding
 pub mod PayingRegisters
 pub mod StoringRoots
 pub mod CallWords
@@ -37,3 +38,4 @@ pub mod Visits
 pub mod FirstGroup
 pub mod SecondGroup
 pub mod EachKind
+pub mod Changing

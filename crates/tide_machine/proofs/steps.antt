@@ -17,6 +17,7 @@ pub mod Claimed
 pub mod Debts
 pub mod Growing
 pub mod Frames
+pub mod StopPlaces
 pub mod SweepsKept
 pub mod Waiting
 pub mod Steps

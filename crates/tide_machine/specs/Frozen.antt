@@ -10,6 +10,7 @@ use Rattle.tide_machine.specs.declared.view.Role.TheVariants.{Member}
 use Rattle.tide_machine.specs.declared.view.View.{View}
 use Rattle.tide_machine.specs.points.Marks.{SpanIsLive}
 use Rattle.tide_machine.specs.points.Seen.{IsKnown, WhoLeftIsInactive, ParkedIsEmpty}
+use Rattle.tide_machine.specs.points.Stops.{StopsAreTold}
 use Rattle.tide_machine.specs.points.Sweeps.{SweptAreBelow, TakenAreClean}
 use Rattle.tide_model.specs.Cycle.{begin_count}
 use Rattle.tide_model.specs.History.{state_after, is_begin}
@@ -41,7 +42,8 @@ pub record FrozenWith (layout : Layout) (shapes : ShapeLists) (heap : Heap) (his
   pub swept : SweptAreBelow layout heap
   pub clean : TakenAreClean layout heap (state_after layout history)
 
--- the machine is frozen: nobody runs, and the wave at a freeze holds but for visits that aren't entered yet
+-- The machine is frozen: nobody runs, and the wave at a freeze holds but for visits that aren't entered yet. The words
+-- tell in which part each has stopped.
 pub record FrozenMachine (layout : Layout) (shapes : ShapeLists) (w : World) (unentered : ℕ) : Type 0 where
   pub wave : FrozenWith layout shapes w.heap w.log unentered
   pub known : IsKnown w.log w.part
@@ -49,6 +51,7 @@ pub record FrozenMachine (layout : Layout) (shapes : ShapeLists) (w : World) (un
   pub left : WhoLeftIsInactive w.part (state_after layout w.log)
   pub stopped : (p : ℕ) → (w.part p).runs ≡ false
   pub parked : ParkedIsEmpty w.part
+  pub stops : StopsAreTold layout w.heap w.part
 
 -- A part of so many calls may be opened: where a cycle marks and the layout has visitors, they run for some calls, and
 -- a cell has its bit in a shared grey word for them.
@@ -66,6 +69,8 @@ newcomer p = record {
   mine = [];
   calls = 0;
   period = 0;
+  stopped = 0;
+  found = 0;
   ticket = 0;
   run = 0;
   marks = false;
@@ -91,6 +96,7 @@ newcomer p = record {
   frozen = false;
   words = [];
   base = [];
+  stood = [];
   notes = [];
   gone = [];
   next = 0;

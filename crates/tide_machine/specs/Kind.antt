@@ -145,7 +145,8 @@ region_of (Finish block) = region.Dead
 
 -- the place of a participant's word in Stopped: mutators come first, and then visitors
 abbrev pub index_of_stopped : Layout → ℕ → ℕ
-index_of_stopped layout who = if nat_lt who first_visitor then who else layout.mutators + (who - first_visitor)
+index_of_stopped layout who =
+    if nat_lt who layout.mutators then who else layout.mutators + (who - first_visitor)
 
 -- the index of the word there, where this participant steps
 abbrev pub index_of : Layout → ℕ → Kind → ℕ

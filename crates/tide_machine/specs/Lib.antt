@@ -17,6 +17,7 @@ pub mod Progress
 pub mod Groups
 pub mod Own
 pub mod Moment
+pub mod Changes
 pub mod Laws
 pub mod Looked
 pub mod Visiting

@@ -68,7 +68,7 @@ abbrev pub IsAllowed : Layout → ShapeLists → World → ℕ → Kind → Type
 IsAllowed layout shapes w me Split = MaySplit w me
 IsAllowed layout shapes w me (Join ticket) = MayJoin w me ticket
 IsAllowed layout shapes w me Activate = MayActivate w me
-IsAllowed layout shapes w me (StoreStopped period) = MayStoreStopped w me period
+IsAllowed layout shapes w me (StoreStopped period) = MayStoreStopped layout w me period
 IsAllowed layout shapes w me (Retire made) = MayRetire layout shapes w me made
 IsAllowed layout shapes w me (LoadRegister register) = MayLoadRegister layout w me
 IsAllowed layout shapes w me (StoreRegister register word made) =

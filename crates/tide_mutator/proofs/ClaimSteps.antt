@@ -1,6 +1,7 @@
 -- Claim, Release and Unclaim: the step on the claim word makes the call.
 use Rattle.std.proofs.Common.{ℕ, zero, suc, ◌≡◌, ◌+◌, ◌<◌, refl, sym, ◌∙◌, ap, subst, arith, Bool, true, false, List, [], ◌∷◌, length, None, Some, inl, inr, ◌⊎◌}
 use Rattle.std.proofs.lemmas.Bool.{ne_eqb}
+use Rattle.std.proofs.lemmas.Bool.Decides.{nat_tests}
 use Rattle.std.specs.Prelude.{if◌then◌else◌, nat_le, ◌==◌}
 use Rattle.tide_call.proofs.plan_laws.ClaimPlans.{claims_are_told}
 use Rattle.tide_call.specs.Callers.{Caller}
@@ -17,7 +18,7 @@ use Rattle.tide_machine.specs.Views.{with_entry}
 use Rattle.tide_machine.specs.World.{World}
 use Rattle.tide_machine.specs.declared.view.Duty.TheVariants.{Nothing}
 use Rattle.tide_machine.specs.declared.view.View.{View}
-use Rattle.tide_machine.specs.kinds.ClaimCell.{MayLoadClaim, MayTakeClaim}
+use Rattle.tide_machine.specs.kinds.ClaimCell.{HasNoRoom, MayLoadClaim, MayTakeClaim}
 use Rattle.tide_machine.specs.kinds.ReleaseCell.{MayRelease}
 use Rattle.tide_model.proofs.ClaimLaws.{ClaimsAreOwn-lawful}
 use Rattle.tide_model.specs.History.{state_after}
@@ -176,14 +177,24 @@ module _ (layout : Layout) (shapes : ShapeLists) (v : View) (op : Op) (cell : �
       HasMade layout shapes op (plan.Claim cell full) (held_or Done read) v u [] Nothing
   taken_by free holder read u f =
       let (new, words) = taken_words free f.log read f.moment in
-      let view : u ≡ with_entry f.log (Some (call_of v.who op (held_or Done read) None)) (called [] v) =
-      f.view ∙ ap (λ (r : Reply). with_entry f.log (Some (call_of v.who op r None)) (called [] v))
+      let view : u ≡ record (with_entry f.log (Some (call_of v.who op (held_or Done read) None)) (called [] v)) {
+        found = read;
+      } =
+      f.view ∙ ap (λ (r : Reply). record (with_entry f.log (Some (call_of v.who op r None)) (called [] v)) { found = read })
       (take_reply f.log read f.moment) in record {
         made = made_by layout shapes op (plan.Claim cell full) (held_or Done read) None v u (called [] v) f.log region.Claim
             cell read calling f.moment f.lawful f.own view new words refl refl (λ stays. refl) (λ is. absurd (cc)) (none_born v.born);
         owed = ap (λ (x : View). x.owed) view;
         duty = ap (λ (x : View). x.duty) view ∙ calling.between.duty;
       }
+
+  no_room_there : (full ≡ true) → (log : List Event) (read : ℕ) (m : Moment layout shapes v log region.Claim cell read) →
+      HasNoRoom (state_after layout log) v.who
+  no_room_there is_full log read m =
+      let most : nat_le claims_most (length ((state_after layout log).claims v.who)) ≡ true =
+      ap (λ (l : List ℕ). nat_le claims_most (length l))
+      (stands_then layout shapes v log region.Claim cell read calling.stays m).claims
+      ∙ sym (is_here log read m).fullness ∙ is_full in grind (arith, nat_tests)
 
   pub may_look : (full ≡ true) → MayStep layout shapes v (LoadClaim cell (Some op))
   may_look is_full w wave is =
@@ -192,6 +203,7 @@ module _ (layout : Layout) (shapes : ShapeLists) (v : View) (op : Op) (cell : �
       let here = is_here w.log read m in
       subst (λ (o : Op). MayLoadClaim layout shapes w v.who cell (Some o)) (sym here.same) (
         here.source,
+        no_room_there is_full w.log read m,
         subst (λ (o : Op). MayCall layout shapes w v.who o
             (reply_of_call layout shapes (state_after layout w.log) v.who o) None) here.same
             (subst (λ (r : Reply). MayCall layout shapes w v.who op r None) (sym (load_reply is_full w.log read m))
@@ -203,8 +215,10 @@ module _ (layout : Layout) (shapes : ShapeLists) (v : View) (op : Op) (cell : �
   pub looked_by : (full ≡ true) → (read : ℕ) (u : View) → Follows layout shapes (LoadClaim cell (Some op)) v read u →
       HasMade layout shapes op (plan.Claim cell full) (held_or (Refused ClaimsFull) read) v u [] Nothing
   looked_by is_full read u f =
-      let view : u ≡ with_entry f.log (Some (call_of v.who op (held_or (Refused ClaimsFull) read) None)) (called [] v) =
-      f.view ∙ ap (λ (r : Reply). with_entry f.log (Some (call_of v.who op r None)) (called [] v))
+      let view : u ≡ record (with_entry f.log (Some (call_of v.who op (held_or (Refused ClaimsFull) read) None)) (called [] v)) {
+        found = read;
+      } =
+      f.view ∙ ap (λ (r : Reply). record (with_entry f.log (Some (call_of v.who op r None)) (called [] v)) { found = read })
       (load_reply is_full f.log read f.moment) in record {
         made = made_by layout shapes op (plan.Claim cell full) (held_or (Refused ClaimsFull) read) None v u (called [] v) f.log
             region.Claim cell read calling f.moment f.lawful f.own view f.moment.settled

@@ -65,7 +65,7 @@ pub made_by : (layout : Layout) (shapes : ShapeLists) (op : Op) (does : Plan) (r
     (v u changed : View) (log : List Event) (at : Region) (index read : ℕ) →
     IsCalling layout v op → (m : Moment layout shapes v log at index read) → IsLawful layout shapes u.seen →
     filter (λ event. is_call_of u.who event.entry) u.seen ≡ u.mine →
-    u ≡ with_entry log (Some (call_of v.who op reply took)) changed →
+    u ≡ record (with_entry log (Some (call_of v.who op reply took)) changed) { found = read } →
     (new : Heap) → PlanWords layout m.settled v.who does reply took new →
     kept changed ≡ kept v → changed.mine ≡ v.mine → (is_retire op ≡ false → changed.left ≡ v.left) →
     (does ≡ plan.Retire → changed.left ≡ true) →

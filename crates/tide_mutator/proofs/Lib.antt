@@ -3,6 +3,7 @@ pub mod ClaimSteps
 pub mod Ended
 pub mod Entering
 pub mod Filling
+pub mod GroupSteps
 pub mod HandleSteps
 pub mod Looking
 pub mod NewFree

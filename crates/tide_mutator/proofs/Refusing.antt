@@ -49,9 +49,12 @@ pub stored_at : (layout : Layout) (shapes : ShapeLists) (v : View) (op : Op) (do
     HasDone layout shapes op does reply v u
 stored_at layout shapes v op does reply calling words goes_on word u f answer =
     let m = f.1.moment in
-    let view : u ≡ with_entry f.1.log (Some (call_of v.who op reply None)) (told_view (Some op) v) =
-    f.1.view ∙ ap (λ (r : Reply). with_entry f.1.log (Some (call_of v.who op r None)) (told_view (Some op) v))
-    answer in record {
+    let view : u ≡ record (with_entry f.1.log (Some (call_of v.who op reply None)) (told_view (Some op) v)) {
+      found = f.0;
+    } =
+    f.1.view ∙ ap (λ (r : Reply). record (with_entry f.1.log (Some (call_of v.who op r None)) (told_view (Some op) v)) {
+      found = f.0;
+    }) answer in record {
       made = made_by layout shapes op does reply None v u (told_view (Some op) v) f.1.log CallWord v.who f.0 calling m
           f.1.lawful f.1.own view m.settled (words m.settled) refl refl (λ stays. refl) (λ is. absurd (goes_on is))
           (none_born v.born);

@@ -54,8 +54,10 @@ module _ (layout : Layout) (shapes : ShapeLists) (v : View) (op : Op) (calling :
       HasMade layout shapes op plan.Retire Done v u [] Nothing
   left_by u f =
       let same = retires_there f.1.log f.0 f.1.moment in
-      let view : u ≡ with_entry f.1.log (Some (call_of v.who op Done None)) (left_view v) =
-      f.1.view ∙ ap (λ (o : Op). with_entry f.1.log (Some (call_of v.who o Done None)) (left_view v)) (sym same) in record {
+      let view : u ≡ record (with_entry f.1.log (Some (call_of v.who op Done None)) (left_view v)) { found = f.0 } =
+      f.1.view ∙ ap (λ (o : Op). record (with_entry f.1.log (Some (call_of v.who o Done None)) (left_view v)) {
+        found = f.0;
+      }) (sym same) in record {
         made = made_by layout shapes op plan.Retire Done None v u (left_view v) f.1.log region.Active v.who f.0 calling
             f.1.moment f.1.lawful f.1.own view (write f.1.moment.settled region.Active v.who 0)
             (refl, λ other index inside. refl) refl refl

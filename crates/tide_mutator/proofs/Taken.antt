@@ -6,7 +6,7 @@ use Rattle.tide_call.specs.declared.plan.Plan.{Plan}
 use Rattle.tide_call.specs.declared.plan.Plan.TheVariants as plan
 use Rattle.tide_model.specs.State.{State}
 use Rattle.tide_model.specs.declared.op.Op.{Op}
-use Rattle.tide_model.specs.declared.op.Op.TheVariants.{Alloc, Table, Get, Put, Move, Set, Drop, Claim, Release, Unclaim, StrongSet, StrongGet, WeakSet, WeakGet, Collect, Retire}
+use Rattle.tide_model.specs.declared.op.Op.TheVariants.{Alloc, Table, Get, Put, Move, Set, Drop, Claim, Release, Unclaim, StrongSet, StrongGet, WeakSet, WeakGet, Group, Collect, Retire}
 use Rattle.tide_model.specs.declared.op.Refusal.{Refusal}
 use Rattle.tide_model.specs.declared.val.Val.{Val}
 use Rattle.tide_mutator.specs.Ops.{is_acted, is_called}
@@ -31,6 +31,7 @@ is_acted_on caller heap state (StrongSet at val) does taken is = ap is_acted is.
 is_acted_on caller heap state (StrongGet dst at) does taken is = ap is_acted is.1
 is_acted_on caller heap state (WeakSet at val) does taken is = ap is_acted is.1
 is_acted_on caller heap state (WeakGet dst at) does taken is = ap is_acted is.1
+is_acted_on caller heap state (Group src n) does taken is = ap is_acted is.1.2
 is_acted_on caller heap state Collect does taken is = ap is_acted is.1
 is_acted_on caller heap state Retire does taken is = ap is_acted is.1
 is_acted_on caller heap state op does taken is = absurd (cc)
@@ -51,6 +52,7 @@ told_taken (StrongSet at val) taken = refl
 told_taken (StrongGet dst at) taken = refl
 told_taken (WeakSet at val) taken = refl
 told_taken (WeakGet dst at) taken = refl
+told_taken (Group src n) taken = refl
 told_taken Collect taken = refl
 told_taken Retire taken = refl
 told_taken op taken = absurd (cc)
@@ -65,18 +67,20 @@ pub asks_else : (does : Plan) → is_acted does ≡ true → ((r : Refusal) → 
     ((at : ℕ) (value : Val) → does ≡ plan.StoreStrong at value → ⊥) →
     ((dst at : ℕ) → does ≡ plan.LoadStrong dst at → ⊥) →
     ((at : ℕ) (value : Val) → does ≡ plan.StoreWeak at value → ⊥) →
-    ((dst at : ℕ) → does ≡ plan.LoadWeak dst at → ⊥) → (does ≡ plan.Retire → ⊥) → does ≡ plan.Ask
-asks_else plan.Ask is a t b c d e f g h i j k = refl
-asks_else (plan.Refuse r) is a t b c d e f g h i j k = absurd (a r refl)
-asks_else (plan.Take dst class) is a t b c d e f g h i j k = absurd (t dst class refl)
-asks_else (plan.LoadSlot dst cell slot) is a t b c d e f g h i j k = absurd (b dst cell slot refl)
-asks_else (plan.StoreSlot cell slot value) is a t b c d e f g h i j k = absurd (c cell slot value refl)
-asks_else (plan.Fill dst value) is a t b c d e f g h i j k = absurd (d dst value refl)
-asks_else (plan.Claim cell full) is a t b c d e f g h i j k = absurd (e cell full refl)
-asks_else (plan.Release cell) is a t b c d e f g h i j k = absurd (f cell refl)
-asks_else (plan.StoreStrong at value) is a t b c d e f g h i j k = absurd (g at value refl)
-asks_else (plan.LoadStrong dst at) is a t b c d e f g h i j k = absurd (h dst at refl)
-asks_else (plan.StoreWeak at value) is a t b c d e f g h i j k = absurd (i at value refl)
-asks_else (plan.LoadWeak dst at) is a t b c d e f g h i j k = absurd (j dst at refl)
-asks_else plan.Retire is a t b c d e f g h i j k = absurd (k refl)
-asks_else does is a t b c d e f g h i j k = absurd (cc)
+    ((dst at : ℕ) → does ≡ plan.LoadWeak dst at → ⊥) →
+    ((cell group : ℕ) → does ≡ plan.Join cell group → ⊥) → (does ≡ plan.Retire → ⊥) → does ≡ plan.Ask
+asks_else plan.Ask is a t b c d e f g h i j l k = refl
+asks_else (plan.Refuse r) is a t b c d e f g h i j l k = absurd (a r refl)
+asks_else (plan.Take dst class) is a t b c d e f g h i j l k = absurd (t dst class refl)
+asks_else (plan.LoadSlot dst cell slot) is a t b c d e f g h i j l k = absurd (b dst cell slot refl)
+asks_else (plan.StoreSlot cell slot value) is a t b c d e f g h i j l k = absurd (c cell slot value refl)
+asks_else (plan.Fill dst value) is a t b c d e f g h i j l k = absurd (d dst value refl)
+asks_else (plan.Claim cell full) is a t b c d e f g h i j l k = absurd (e cell full refl)
+asks_else (plan.Release cell) is a t b c d e f g h i j l k = absurd (f cell refl)
+asks_else (plan.StoreStrong at value) is a t b c d e f g h i j l k = absurd (g at value refl)
+asks_else (plan.LoadStrong dst at) is a t b c d e f g h i j l k = absurd (h dst at refl)
+asks_else (plan.StoreWeak at value) is a t b c d e f g h i j l k = absurd (i at value refl)
+asks_else (plan.LoadWeak dst at) is a t b c d e f g h i j l k = absurd (j dst at refl)
+asks_else (plan.Join cell group) is a t b c d e f g h i j l k = absurd (l cell group refl)
+asks_else plan.Retire is a t b c d e f g h i j l k = absurd (k refl)
+asks_else does is a t b c d e f g h i j l k = absurd (cc)

@@ -3,9 +3,9 @@ use Rattle.std.specs.Prelude.{Bool, true, false}
 use Rattle.tide_call.specs.declared.plan.Plan.{Plan}
 use Rattle.tide_call.specs.declared.plan.Plan.TheVariants as plan
 use Rattle.tide_model.specs.declared.op.Op.{Op}
-use Rattle.tide_model.specs.declared.op.Op.TheVariants.{Alloc, Table, Get, Put, Move, Set, Drop, Claim, Release, Unclaim, StrongSet, StrongGet, WeakSet, WeakGet, Collect, Retire}
+use Rattle.tide_model.specs.declared.op.Op.TheVariants.{Alloc, Table, Get, Put, Move, Set, Drop, Claim, Release, Unclaim, StrongSet, StrongGet, WeakSet, WeakGet, Group, Collect, Retire}
 
--- those on registers, slots, handles and claims, those that take a cell, Collect and Retire
+-- those on registers, slots, handles, claims and groups, those that take a cell, Collect and Retire
 abbrev pub is_called : Op → Bool
 is_called (Alloc dst class) = true
 is_called (Table dst) = true
@@ -21,6 +21,7 @@ is_called (StrongSet at val) = true
 is_called (StrongGet dst at) = true
 is_called (WeakSet at val) = true
 is_called (WeakGet dst at) = true
+is_called (Group src n) = true
 is_called Collect = true
 is_called Retire = true
 is_called _ = false
@@ -38,6 +39,7 @@ is_acted (plan.StoreStrong at value) = true
 is_acted (plan.LoadStrong dst at) = true
 is_acted (plan.StoreWeak at value) = true
 is_acted (plan.LoadWeak dst at) = true
+is_acted (plan.Join cell group) = true
 is_acted plan.Ask = true
 is_acted plan.Retire = true
 is_acted _ = false

@@ -11,6 +11,7 @@ ghost use Rattle.tide_words.specs.heap.Heap.{Heap as TheWords};
 
 use crate::births::take;
 use crate::claiming::{claim, release};
+use crate::groups::join;
 use crate::handles::{get_strong, get_weak, put_strong, put_weak};
 use crate::leaving::leave;
 use crate::registers::{ask, fill, refuse};
@@ -54,6 +55,7 @@ pub(crate) fn act<S: HeapShapes, T: Turnstile>(
         Plan::LoadStrong { dst, at } => get_strong(pass, heap, op, calls, dst, at),
         Plan::StoreWeak { at, value } => put_weak(pass, heap, op, calls, at, value),
         Plan::LoadWeak { dst, at } => get_weak(pass, heap, op, calls, dst, at),
+        Plan::Join { cell, group } => join(pass, heap, op, calls, cell, group),
         Plan::Retire => leave(pass, heap, op, calls),
         _ => ask(pass, heap, op, calls),
     }

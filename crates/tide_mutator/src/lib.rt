@@ -10,6 +10,7 @@ mod barrier;
 mod births;
 mod claiming;
 mod deciding;
+mod groups;
 mod handles;
 mod leaving;
 mod mutator;

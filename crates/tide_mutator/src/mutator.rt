@@ -86,7 +86,7 @@ impl Mutator {
     pub fn begin<S: HeapShapes>(&mut self, heap: &Heap<S>, ticket: Ticket)
         requires own { self.old.own.pass.seat.table_id ≡ heap.now.table.shared.table_id }
         requires of_heap { ticket.seat.table_id ≡ heap.now.table.shared.table_id }
-        requires rests { self.old.own.pass.seat.me.0.runs ≡ false }
+        requires parked { self.old.own.pass.seat.me.0.runs ≡ false }
         requires stays { self.old.own.pass.seat.me.0.left ≡ false }
         requires later { self.old.own.pass.seat.me.0.period < ticket.seat.me.0.period }
         ensures same { (self.new.own.pass.seat.table_id ≡ self.old.own.pass.seat.table_id)
@@ -100,7 +100,7 @@ impl Mutator {
         self.own.pass.begin(heap, ticket);
     }
 
-    /// Stops, and hands out its note of the part.
+    /// Stops, and hands out its note of the part. A mutator has always done its part.
     pub fn stop<S: HeapShapes>(&mut self, heap: &Heap<S>) -> Note
         requires own { self.old.own.pass.seat.table_id ≡ heap.now.table.shared.table_id }
         requires mutator { self.old.own.pass.seat.me.0.who < heap.now.key.layout.mutators }
@@ -111,9 +111,10 @@ impl Mutator {
             × (self.new.own.pass.seat.id ≡ self.old.own.pass.seat.id) }
         ensures stopped { self.new.own.pass.seat.me.0 ≡ split_view (stopped_view self.old.own.pass.seat.me.0) }
         ensures note { (result.seat.table_id ≡ self.old.own.pass.seat.table_id)
-            × (result.seat.me.0 ≡ note_of (stopped_view self.old.own.pass.seat.me.0)) }
+            × (result.seat.me.0 ≡ note_of true (stopped_view self.old.own.pass.seat.me.0)) }
     {
-        self.own.pass.stop(heap)
+        prove!(heap.layout().mutators() <= 16);
+        self.own.pass.stop(heap, false)
     }
 
     /// Makes a call of any operation, and answers it.

@@ -6,8 +6,8 @@ use tide_model::{Op, Reply, Turnstile};
 use tide_shape::ShapeTable;
 use tide_steps::{Heap, Note, Ticket};
 
-/// Begins a part, fills a register, takes a cell, stores the register in a slot of it and in a handle, claims the cell,
-/// asks for a cycle, and stops. Where it claims nothing it retires before.
+/// Begins a part, fills a register, takes a cell, claims it, puts it in a group, stores the register in a slot of it and
+/// in a handle, asks for a cycle, and stops. Where it claims nothing it retires before.
 pub fn make_calls<S: ShapeTable, T: Turnstile>(
     heap: &Heap<S>,
     mutator: &mut Mutator,
@@ -16,7 +16,7 @@ pub fn make_calls<S: ShapeTable, T: Turnstile>(
 ) -> (Reply, Note)
     requires own { mutator.old.own.pass.seat.table_id ≡ heap.now.table.shared.table_id }
     requires of_heap { ticket.seat.table_id ≡ heap.now.table.shared.table_id }
-    requires rests { mutator.old.own.pass.seat.me.0.runs ≡ false }
+    requires parked { mutator.old.own.pass.seat.me.0.runs ≡ false }
     requires stays { mutator.old.own.pass.seat.me.0.left ≡ false }
     requires later { mutator.old.own.pass.seat.me.0.period < ticket.seat.me.0.period }
     requires mutator { mutator.old.own.pass.seat.me.0.who < heap.now.key.layout.mutators }
@@ -28,6 +28,7 @@ pub fn make_calls<S: ShapeTable, T: Turnstile>(
     mutator.call(heap, Op::Set { dst: 0, n: 7 }, gate);
     mutator.call(heap, Op::Alloc { dst: 1, class: 0 }, gate);
     mutator.call(heap, Op::Claim { src: 1 }, gate);
+    mutator.call(heap, Op::Group { src: 1, n: 5 }, gate);
     mutator.call(
         heap,
         Op::Put {

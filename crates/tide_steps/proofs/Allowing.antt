@@ -8,10 +8,11 @@ use Rattle.tide_layout.specs.Limits.{IsWithinLimits}
 use Rattle.tide_layout.specs.Region.{word_count}
 use Rattle.tide_machine.proofs.Scheduling.{step_keeps}
 use Rattle.tide_machine.proofs.kinds.EachKind.{allowed_has_law}
+use Rattle.tide_machine.proofs.kinds.Finding.{finds_after}
 use Rattle.tide_machine.proofs.steps.Frames.{put_here}
 use Rattle.tide_machine.proofs.steps.Moments.{steps_are_told}
 use Rattle.tide_machine.specs.Entries.{entry_of, added}
-use Rattle.tide_machine.specs.Kind.{Kind, Split, Join, Activate, Retire, SwapGrey, Blacken, ZeroWord, region_of, index_of, act_of, acted}
+use Rattle.tide_machine.specs.Kind.{Kind, LoadCall, LoadRegister, Split, Join, Activate, Retire, SwapGrey, Blacken, ZeroWord, region_of, index_of, act_of, acted}
 use Rattle.tide_machine.specs.Machine.{IsAllowed}
 use Rattle.tide_machine.specs.Moment.{Moment}
 use Rattle.tide_machine.specs.RunningWave.{RunningWave}
@@ -37,8 +38,8 @@ use Rattle.tide_heap.proofs.Births.{counts_of}
 use Rattle.tide_steps.proofs.EntryBirths.{entry_born, entry_own}
 use Rattle.tide_heap.proofs.Leaving.{inactive-retired}
 use Rattle.tide_heap.proofs.Runs.{Law, Stays, allows, Leaves}
-use Rattle.tide_steps.proofs.Works.{Core, core, worked, worked_view, seen_after, mine_after}
-use Rattle.tide_steps.specs.Follows.{Follows, FollowsSome, May, MayStep}
+use Rattle.tide_steps.proofs.Works.{Core, core, core_found, worked, worked_view, seen_after, mine_after}
+use Rattle.tide_steps.specs.Follows.{Follows, FollowsSome, May, MayStep, with_found}
 use Rattle.tide_heap.specs.Rule.{Rule}
 use Rattle.tide_steps.specs.Works.{is_work, is_leave, is_visit}
 use Rattle.tide_words.specs.heap.Heap.{Heap, write}
@@ -82,34 +83,49 @@ left_words layout shapes Activate works w me may = absurd (cc)
 left_words layout shapes (ZeroWord at index) works w me may = absurd may
 left_words layout shapes _ works w me may = record { period = refl; phase = refl }
 
+-- the word that a step found is nothing that the wave looks at
+wave_found : (kind : Kind) (layout : Layout) (shapes : ShapeLists) (heap : Heap) (part : ℕ → View) (log : List Event)
+    (me : ℕ) → me < parties → (view : View) → view.runs ≡ true → (read : ℕ) →
+    RunningWave layout shapes (record { heap = heap; part = put_at part me view; log = log }) →
+    RunningWave layout shapes (record { heap = heap; part = put_at part me (with_found kind read view); log = log })
+wave_found (LoadRegister register) layout shapes heap part log me inside view runs read wave = wave
+wave_found LoadCall layout shapes heap part log me inside view runs read wave = wave
+wave_found _ layout shapes heap part log me inside view runs read wave =
+    finds_after layout shapes heap part log me inside view runs read wave
+
 module _ (layout : Layout) (shapes : ShapeLists) (v : View) (kind : Kind) where
   abbrev after : List Event → ℕ → View
-  after log read = view_after layout shapes log v.who kind read v
+  after log read = with_found kind read (view_after layout shapes log v.who kind read v)
 
   abbrev event : List Event → ℕ → Option Event
   event log read = entry_of layout shapes (state_after layout log) v.who kind read
-
-  -- the law of the kind, for this view
-  pub law_of : MayStep layout shapes v kind → IsWithinLimits layout → slice_get shapes 0 ≡ Some [] →
-      v.who < parties → Law layout shapes (region_of kind) (index_of layout v.who kind) (act_of kind) after event v
-  law_of may limits empty_shape few heap part log wave is =
-      let allowed = may (record { heap = heap; part = part; log = log }) wave is in
-      let at = index_of layout v.who kind in
-      let read = heap (region_of kind) at in
-      subst (λ (x : View). RunningWave layout shapes (record {
-        heap = write heap (region_of kind) at (acted (act_of kind) read);
-        part = put_at part v.who (view_after layout shapes log v.who kind read x);
-        log = added log (entry_of layout shapes (state_after layout log) v.who kind read);
-      })) is
-      (step_keeps layout shapes limits empty_shape (record { heap = heap; part = part; log = log }) v.who few wave kind
-      (allowed_has_law layout shapes (record { heap = heap; part = part; log = log }) v.who kind allowed) allowed)
 
   core_of : is_work kind ≡ true → (log : List Event) (read : ℕ) →
       core (after log read) ≡ record (worked kind read (core v)) {
         seen = seen_after log v.seen (event log read);
         mine = mine_after v.mine (event log read);
       }
-  core_of works log read = worked_view layout shapes log kind read v works (event log read)
+  core_of works log read = core_found kind read (view_after layout shapes log v.who kind read v)
+      ∙ worked_view layout shapes log kind read v works (event log read)
+
+  -- the law of the kind, for this view
+  pub law_of : is_work kind ≡ true → v.runs ≡ true → MayStep layout shapes v kind → IsWithinLimits layout →
+      slice_get shapes 0 ≡ Some [] → v.who < parties →
+      Law layout shapes (region_of kind) (index_of layout v.who kind) (act_of kind) after event v
+  law_of works act may limits empty_shape few heap part log wave is =
+      let allowed = may (record { heap = heap; part = part; log = log }) wave is in
+      let at = index_of layout v.who kind in
+      let read = heap (region_of kind) at in
+      wave_found kind layout shapes (write heap (region_of kind) at (acted (act_of kind) read)) part
+      (added log (event log read)) v.who few (view_after layout shapes log v.who kind read v)
+      (ap (λ (x : Core). x.runs) (worked_view layout shapes log kind read v works (event log read)) ∙ act) read
+      (subst (λ (x : View). RunningWave layout shapes (record {
+        heap = write heap (region_of kind) at (acted (act_of kind) read);
+        part = put_at part v.who (view_after layout shapes log v.who kind read x);
+        log = added log (entry_of layout shapes (state_after layout log) v.who kind read);
+      })) is
+      (step_keeps layout shapes limits empty_shape (record { heap = heap; part = part; log = log }) v.who few wave kind
+      (allowed_has_law layout shapes (record { heap = heap; part = part; log = log }) v.who kind allowed) allowed))
 
   -- a work leaves what the rule says of its participant, but where it retires
   stays_of : is_work kind ≡ true → v.role ≡ Member → v.runs ≡ true → (log : List Event) (read : ℕ) →
@@ -133,6 +149,7 @@ module _ (layout : Layout) (shapes : ShapeLists) (v : View) (kind : Kind) where
           earlier = ap (λ (x : Core). x.earlier) c;
           told = ap (λ (x : Core). x.told) c;
           grows = grows_of (event log read) (ap (λ (x : Core). x.seen) c);
+          ended = λ e. absurd (let runs = ap (λ (x : Core). x.runs) c ∙ act in cc);
         };
         gone = λ before e. leaves_now (is_leave kind) refl before (sym (ap (λ (x : Core). x.left) c) ∙ e);
         tip = tip_of (event log read) (ap (λ (x : Core). x.seen) c);
@@ -211,7 +228,7 @@ allows_find layout shapes kind slots id m at act is may =
     (sym may.acts)
     (allows layout shapes slots id m (region_of kind) (index_of layout m.0.who kind) (act_of kind)
     (after layout shapes m.0 kind) (event layout shapes m.0 kind) at (λ r u. Follows layout shapes kind m.0 r u) is may.runs
-    may.stands.inside may.stands.place (law_of layout shapes m.0 kind may.may)
+    may.stands.inside may.stands.place (law_of layout shapes m.0 kind may.works may.runs may.may)
     (λ limits heap part log wave mine.
     let w : World = record { heap = heap; part = part; log = log } in
     let allowed = may.may w wave mine in (

@@ -11,7 +11,8 @@ use Rattle.tide_model.specs.History.{state_after}
 use Rattle.tide_model.specs.Layout.{Layout}
 use Rattle.tide_model.specs.Refused.{ShapeLists}
 use Rattle.tide_model.specs.declared.entry.Event.{Event}
-use Rattle.tide_steps.proofs.Works.{Core, core, worked, worked_view, seen_after, mine_after}
+use Rattle.tide_machine.specs.Views.{view_after}
+use Rattle.tide_steps.proofs.Works.{Core, core, core_found, worked, worked_view, seen_after, mine_after}
 use Rattle.tide_steps.specs.Follows.{Follows, FollowsSome, Tells}
 use Rattle.tide_steps.specs.Numbers.{AreOf}
 use Rattle.tide_steps.specs.Works.{is_work, is_leave, is_visit, is_plain, born_after, visits_after}
@@ -54,7 +55,8 @@ module _ (layout : Layout) (shapes : ShapeLists) (kind : Kind) (v u : View) (rea
     seen = seen_after f.log v.seen event_of;
     mine = mine_after v.mine event_of;
   }
-  followed = ap core f.view ∙ worked_view layout shapes f.log kind read v works event_of
+  followed = ap core f.view ∙ core_found kind read (view_after layout shapes f.log v.who kind read v)
+      ∙ worked_view layout shapes f.log kind read v works event_of
 
   pub role_kept : v.role ≡ Member → u.role ≡ Member
   role_kept is = ap (λ (c : Core). c.role) followed ∙ is

@@ -28,6 +28,7 @@ use Rattle.tide_model.specs.State.{State}
 use Rattle.tide_model.specs.declared.op.Op.{Op}
 use Rattle.tide_model.specs.declared.op.Op.TheVariants.{Add, SetProp}
 use Rattle.tide_model.specs.declared.val.Val.TheVariants.{Cell}
+use Rattle.tide_steps.specs.Follows.{with_found}
 use Rattle.tide_steps.specs.Works.{is_work, born_after, visits_after, is_leave}
 
 -- of a view what no work but an entry changes
@@ -209,6 +210,12 @@ core_kept layout shapes log me (UnBlacken cell cycle) read v is = refl
 core_kept layout shapes log me (PushRace cell) read v is = refl
 core_kept layout shapes log me (Publish block mask) read v is = refl
 core_kept layout shapes log me kind read v is = absurd (cc)
+
+-- the word that a step found is no part of it
+pub core_found : (kind : Kind) (read : ℕ) (v : View) → core (with_found kind read v) ≡ core v
+core_found (LoadRegister register) read v = refl
+core_found LoadCall read v = refl
+core_found _ read v = refl
 
 -- the whole view after a work, with the entry that it makes or none
 pub worked_view : (layout : Layout) (shapes : ShapeLists) (log : List Event) (kind : Kind) (read : ℕ) (v : View) →

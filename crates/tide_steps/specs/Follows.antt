@@ -1,7 +1,7 @@
 -- What a participant's step asks, and what it tells its caller.
 use Rattle.std.specs.Prelude.{ℕ, ◌≡◌, ◌<◌, true, List, filter}
 use Rattle.tide_layout.specs.Region.{place_in, size_of}
-use Rattle.tide_machine.specs.Kind.{Kind, region_of, index_of, act_of}
+use Rattle.tide_machine.specs.Kind.{Kind, LoadCall, LoadRegister, region_of, index_of, act_of}
 use Rattle.tide_machine.specs.Machine.{IsAllowed}
 use Rattle.tide_machine.specs.Moment.{Moment}
 use Rattle.tide_machine.specs.RunningWave.{RunningWave}
@@ -23,12 +23,18 @@ abbrev pub MayStep : Layout → ShapeLists → View → Kind → Type 0
 MayStep layout shapes v kind = (w : World) → RunningWave layout shapes w → w.part v.who ≡ v →
     IsAllowed layout shapes w v.who kind
 
+-- the view with the word that a step of this kind found; what its registers and its call word tell, it knows already
+abbrev pub with_found : Kind → ℕ → View → View
+with_found (LoadRegister register) read v = v
+with_found LoadCall read v = v
+with_found _ read v = record v { found = read }
+
 -- What a step of a kind tells, where the word was found: it took place after some history, of which the caller had seen a
--- beginning; the view is the one that the machine says; and what the machine was at that moment.
+-- beginning; the view is the one that the machine says, with the word; and what the machine was at that moment.
 pub record Follows (layout : Layout) (shapes : ShapeLists) (kind : Kind) (v : View) (read : ℕ) (u : View)
     : Type 0 where
   pub log : List Event
-  pub view : u ≡ view_after layout shapes log v.who kind read v
+  pub view : u ≡ with_found kind read (view_after layout shapes log v.who kind read v)
   pub moment : Moment layout shapes v log (region_of kind) (index_of layout v.who kind) read
   -- it has seen a lawful history, with all of its own calls
   pub lawful : IsLawful layout shapes u.seen

@@ -3,4 +3,4 @@ pub mod Steps
 pub mod Follows
 pub mod Calls
 pub mod Numbers
-pub mod Told
+pub mod Plays

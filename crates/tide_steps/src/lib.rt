@@ -2,8 +2,7 @@
 //!
 //! Each mutator and each visitor has a `Pass`, its right to step on words; it begins a part with a `Ticket`, and hands
 //! a `Note` in at its stop. Each step keeps the rule of the heap and tells what the machine says of it. Who makes a
-//! heap, seats participants, freezes and opens is for the crate above: this one knows of the collector what the rule
-//! says of its view.
+//! heap, seats participants, freezes and opens is for the crate above: of the collector it knows what its view says.
 #![tactic(auto)]
 
 mod acting;

@@ -53,8 +53,9 @@ impl Note {
         self.numbers
     }
 
-    /// Whether the participant has done its part: where a cycle marks and it is a visitor, it made as many cells black as it
-    /// was to run for, or found each grey word 0 since it last held a cell.
+    /// Whether the participant has done its part. Of a note of `Pass::split` or `Pass::stop` that is true exactly where the
+    /// participant is no visitor, its ticket doesn't mark, it made as many cells black as it was to run for, or it found
+    /// each grey word 0 since it last held a cell.
     pub fn done(&self) -> bool
         ensures { result ≡ self.now.seat.me.0.done }
     {

@@ -1,5 +1,5 @@
 //! A mutator's steps on its own words, and on handles.
-ghost use Rattle.std.specs.Prelude.{◌<◌, Some};
+ghost use Rattle.std.specs.Prelude.{◌≡◌, ◌<◌, ◌%◌, ◌^◌, Some};
 ghost use Rattle.tide_machine.specs.Kind.{LoadCall, LoadRegister, LoadStrong, LoadWeak, Retire, StoreCall, StoreRegister, StoreStrong, StoreWeak};
 ghost use Rattle.tide_model.specs.declared.op.Op.TheVariants as op;
 ghost use Rattle.tide_steps.specs.Calls.{CanStep, HasStepped, HasStored};
@@ -41,11 +41,12 @@ impl Pass {
         self.make_step(heap, at, Act::Store(word), step);
     }
 
-    /// Loads its call word.
+    /// Loads its call word, which tells how many calls it made, as far as it was stored.
     pub fn load_call<S: HeapShapes>(&mut self, heap: &Heap<S>) -> u64
         requires mutator { self.old.seat.me.0.who < heap.now.key.layout.mutators }
         requires may { CanStep S.lists heap.now self.old LoadCall }
         ensures step { HasStepped S.lists heap.now LoadCall self.old result self.new }
+        ensures told { result ≡ self.old.seat.me.0.calls % 2 ^ 64 }
     {
         let at = heap.place(Region::Call, self.numbers.who);
         self.make_step(heap, at, Act::Load, Step::LoadCall)

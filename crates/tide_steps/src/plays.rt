@@ -1,11 +1,11 @@
 //! What each step of a participant tells, for proofs alone. No value of these types is made.
-ghost use Rattle.std.specs.Prelude.{[]};
+ghost use Rattle.std.specs.Prelude.{[], false, true};
 ghost use Rattle.tide_machine.specs.Kind.{Kind, LoadCall};
 ghost use Rattle.tide_machine.specs.kinds.Split.{split_view};
 ghost use Rattle.tide_model.specs.Layout.{Layout as model};
 ghost use Rattle.tide_model.specs.Refused.{ShapeLists};
-ghost use Rattle.tide_steps.specs.Told.{told, told_some, has_begun, has_stopped, no_layout};
-ghost use Rattle.tide_heap.specs.Turns.{heard_view, note_of, done_note_of, spent};
+ghost use Rattle.tide_steps.specs.Plays.{has_followed, has_followed_some, has_begun, has_stopped, no_layout};
+ghost use Rattle.tide_heap.specs.Turns.{heard_view, note_of, spent};
 
 use atomic_table::{Join, Play, Split};
 use std::marker::{Brand, PhantomData};
@@ -34,7 +34,7 @@ pub(crate) struct Finds<J> {
 }
 
 impl<J: Intent> Play<(), View> for Finds<J> {
-    ghost then = { told J.layout J.shapes J.kind };
+    ghost then = { has_followed J.layout J.shapes J.kind };
 }
 
 /// A participant's store.
@@ -43,7 +43,7 @@ pub(crate) struct Puts<J> {
 }
 
 impl<J: Intent> Play<(), View> for Puts<J> {
-    ghost then = { told_some J.layout J.shapes J.kind };
+    ghost then = { has_followed_some J.layout J.shapes J.kind };
 }
 
 pub(crate) struct Begins;
@@ -63,7 +63,7 @@ pub(crate) struct Notes;
 impl Split<View> for Notes {
     ghost left = { split_view };
 
-    ghost right = { note_of };
+    ghost right = { note_of false };
 }
 
 pub(crate) struct DoneNotes;
@@ -71,7 +71,7 @@ pub(crate) struct DoneNotes;
 impl Split<View> for DoneNotes {
     ghost left = { split_view };
 
-    ghost right = { done_note_of };
+    ghost right = { note_of true };
 }
 
 pub(crate) struct Hears;

@@ -27,8 +27,7 @@ impl Pass {
         self.make_step(heap, at, Act::Load, Step::LoadElement(array, place, made))
     }
 
-    /// Stores an element: one that a growth owes, one past the keys, or a property by a call. Where a cycle marks and
-    /// the property becomes a reference it owes the barrier.
+    /// Stores an element: one that a growth owes, one past the keys, or a property by a call, whose barrier it may owe.
     pub fn store_element<S: HeapShapes>(
         &mut self,
         heap: &Heap<S>,
@@ -46,8 +45,7 @@ impl Pass {
         self.make_step(heap, at, Act::Store(word), step);
     }
 
-    /// Clears a bit of a block's free word. Where the bit was set the array is taken by the call, and the growth of a
-    /// cell begins, from the structure's word `old` to `next`.
+    /// Clears a bit of a block's free word. Where it was set a call takes the array, and its growth goes to `next`.
     pub fn take_array<S: HeapShapes>(
         &mut self,
         heap: &Heap<S>,

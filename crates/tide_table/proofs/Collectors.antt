@@ -3,6 +3,8 @@ use Rattle.std.proofs.Common.{◌≡◌, ℕ, zero, suc, ◌+◌, ◌≤◌, ◌
 use Rattle.std.proofs.lemmas.Bool.{and_parts, cases_Bool, eq-eqb, ne_eqb}
 use Rattle.tide_machine.proofs.freezes.Progress.{progress}
 use Rattle.tide_machine.proofs.steps.Paying.{filter_was}
+use Rattle.tide_machine.proofs.steps.StopPlaces.{stop_within}
+use Rattle.tide_machine.specs.Kind.{index_of_stopped}
 use Rattle.tide_machine.specs.points.Witness.{IsVisitor}
 use Rattle.tide_machine.specs.Progress.{HasDone}
 use Rattle.tide_heap.specs.Done.{HasDonePart}
@@ -45,10 +47,10 @@ use Rattle.tide_heap.proofs.Members.{add_copy, few_parties, party_cases}
 use Rattle.tide_table.proofs.Spans.{marks_read, span_of, span_entered}
 use Rattle.tide_table.proofs.Tallies.{sum_one, total_few}
 use Rattle.tide_heap.specs.Parties.{In, IsParty, longer, tally}
-use Rattle.tide_heap.specs.Rule.{IsAsNoted, Told, MemberOk, NoteOk, IsFrozen, IsRunning, Tabled}
+use Rattle.tide_heap.specs.Rule.{IsAsNoted, AgreesOnPart, MemberOk, NoteOk, IsFrozen, IsRunning, Tabled}
 use Rattle.tide_heap.specs.Turns.{calls_of, ticket_of, noted, frozen_with, restored, entered_with, open_entry, opened}
 use Rattle.tide_words.proofs.heap_laws.HeapLaws.{reads_write, Reads-heap_of}
-use Rattle.tide_words.specs.heap.Heap.{Heap, write, Reads, heap_of}
+use Rattle.tide_words.specs.heap.Heap.{Heap, SameIn, write, Reads, heap_of}
 use lib.ListN.{get_elem?}
 use mathlib.Core.Option.{some}
 
@@ -203,7 +205,7 @@ module _ (layout : Layout) (shapes : ShapeLists) (words : List ℕ) (views : Lis
             let from = visitor.0 in omega (arith, below, m, from))
       ]
 
-      told : (p : ℕ) (visitor : IsVisitor layout p) → Told v (k.part p)
+      told : (p : ℕ) (visitor : IsVisitor layout p) → AgreesOnPart v (k.part p)
       told p visitor = (member p visitor).told (let o = member p visitor in let b = o.behind in
           let now = (o.noted (noted p visitor)).0 in let few = o.ticket in omega (arith, b, now, few))
 
@@ -235,6 +237,8 @@ module _ (layout : Layout) (shapes : ShapeLists) (words : List ℕ) (views : Lis
       × ((noted : NotedCalls) → IsParty layout noted.who → Contains v.noted_calls noted →
       filter (λ event. is_call_of noted.who event.entry) v.seen ≡ noted.mine)
       × (v.marks ≡ true → 0 < layout.visitors → v.done ≡ true → 0 < v.ledger)
+      × ((i : ℕ) → IsParty layout i → In i v.notes →
+      heap_of layout words region.Stopped (index_of_stopped layout i) ≡ v.period)
   freeze_all thawed all_in =
       let run = running_mode thawed in
       let seen = all_seen all_in in
@@ -285,6 +289,8 @@ module _ (layout : Layout) (shapes : ShapeLists) (words : List ℕ) (views : Lis
               begun = λ p. (let b = run.wave.numbers.begun p in let now = run.period in omega (arith, b, now));
               left = run.wave.left;
               empty = run.wave.parked;
+              stops = λ p party. run.reads.each region.Stopped (index_of_stopped layout p) (stop_within layout p party)
+                  ∙ run.wave.stops p party;
               all_in = all_in;
             },
         sym seen ∙ sym start_of,
@@ -297,6 +303,8 @@ module _ (layout : Layout) (shapes : ShapeLists) (words : List ℕ) (views : Lis
         λ noted party a. (let q = (ok_of layout shapes words views log me v k there is noted.who party).calls noted a refl in
             ap (filter (λ event. is_call_of noted.who event.entry)) (sym seen) ∙ run.wave.known.own noted.who ∙ q.2),
         progress_told all_in run,
+        λ i party a. run.reads.each region.Stopped (index_of_stopped layout i) (stop_within layout i party)
+            ∙ run.wave.stops i party ∙ (ok_of layout shapes words views log me v k there is i party).halted a,
       )
 
   -- a store of the collector while frozen
@@ -338,6 +346,7 @@ module _ (layout : Layout) (shapes : ShapeLists) (words : List ℕ) (views : Lis
         begun = now.begun;
         left = now.left;
         empty = now.empty;
+        stops = now.stops;
         all_in = now.all_in;
       })
 
@@ -400,6 +409,7 @@ module _ (layout : Layout) (shapes : ShapeLists) (words : List ℕ) (views : Lis
         begun = now.begun;
         left = λ p. now.left p ∙ ap not (sym (active-push layout log event p (no_call p)));
         empty = now.empty;
+        stops = now.stops;
         all_in = now.all_in;
       })
 
@@ -407,10 +417,11 @@ module _ (layout : Layout) (shapes : ShapeLists) (words : List ℕ) (views : Lis
   pub open_next : (run : ℕ) → v.frozen ≡ true → FrozenWave layout shapes (heap_of layout v.words) v.seen →
       SweptAreBelow layout (heap_of layout v.words) →
       TakenAreClean layout (heap_of layout v.words) (state_after layout v.seen) →
+      SameIn layout region.Stopped (heap_of layout v.stood) (heap_of layout v.words) →
       MayOpen layout (heap_of layout v.words) run →
       Tabled layout shapes (set words (place_in layout region.Period 0) (v.period + 1)) (set views me (opened layout run v))
       (log ++ open_entry run v ∷ [])
-  open_next run shut owed swept clean may =
+  open_next run shut owed swept clean same may =
       let now = frozen_mode shut in
       let w = opened layout run v in
       let event = open_entry run v in
@@ -430,6 +441,7 @@ module _ (layout : Layout) (shapes : ShapeLists) (words : List ℕ) (views : Lis
         left = now.left;
         stopped = all_parked all_in;
         parked = now.empty;
+        stops = λ p party. same (index_of_stopped layout p) (stop_within layout p party) ∙ now.stops p party;
       } may in
       collector_step layout shapes words views log me v k there is w
       (set words (place_in layout region.Period 0) (v.period + 1)) (log ++ event ∷ []) is (omega arith) refl
@@ -454,6 +466,8 @@ module _ (layout : Layout) (shapes : ShapeLists) (words : List ℕ) (views : Lis
         mutator = o.mutator;
         earlier = o.earlier;
         heard = o.heard;
+        ended = o.ended;
+        halted = λ a. absurd a;
         calls = λ noted a e. (let kept = filter_was (λ (x : NotedCalls). x.left) v.noted_calls noted a in
             let q = o.calls noted kept.0 e in
             (inr (elim q.0 [ inl b ↦ o.leaves b (q.3 ∙ kept.1) | inr b ↦ b ]), q.1, q.2, q.3));
@@ -537,12 +551,14 @@ module _ (layout : Layout) (shapes : ShapeLists) (words : List ℕ) (views : Lis
         notes = λ i l a. elim a [
           | inl e ↦ inr (subst (λ (j : ℕ). ((k.part j).period ≡ v.period) × IsPrefix (k.part j).seen (longer v.seen u.seen)
               × ((k.part j).left ≡ true → In j (if u.left then u.who ∷ v.gone else v.gone))
-              × ((v.done && u.done) ≡ true → ((k.part j).begun ≡ v.period) × HasDonePart layout (k.part j)))
+              × ((v.done && u.done) ≡ true → ((k.part j).begun ≡ v.period) × HasDonePart layout (k.part j))
+              × ((k.part j).stopped ≡ v.period))
               (sym e) (
                 period,
                 all,
                 λ left. subst (λ (b : Bool). In u.who (if b then u.who ∷ v.gone else v.gone)) (sym left ∙ same.1) (inl refl),
-                λ done. (note.began now_part, note.done now_part (and_parts v.done u.done done).1),
+                λ done. (note.began now_part, (note.done now_part).0 (and_parts v.done u.done done).1),
+                o.ended stopped ∙ note.began now_part,
               ))
           | inr b ↦ inl b
         ];

@@ -15,15 +15,15 @@ use Rattle.tide_model.specs.Since.{since}
 use Rattle.tide_heap.specs.Done.{HasDonePart}
 use Rattle.tide_heap.specs.Births.{births_in, born_to, told_births}
 use Rattle.tide_heap.specs.Parties.{In, IsParty, tally}
-use Rattle.tide_heap.specs.Rule.{Told, MemberOk, NoteOk, Heard, IsAsNoted, KnowsAs, Knows, IsFrozen, IsRunning, Mode, Tabled}
+use Rattle.tide_heap.specs.Rule.{AgreesOnPart, MemberOk, NoteOk, Heard, IsAsNoted, SeatOkAs, SeatOk, IsFrozen, IsRunning, Mode, Tabled}
 use lib.ListN.{get_elem?}
 use mathlib.Core.Option.{some}
 
 -- a seat of another, after the collector's step
 heeds : (layout : Layout) (cv cv' : View) (part : ℕ → View) (seat_of note_at : ℕ → ℕ) (log log' : List Event) (k : ℕ) (u : View) → k ≢ 0
     → IsPrefix log log' → cv.period ≤ cv'.period → cv.next ≤ cv'.next → (u.role ≡ Note → IsParty layout u.who → NoteOk layout cv (part u.who) (note_at u.who) k u → NoteOk layout cv' (part u.who) (note_at u.who) k u)
-    → ((x : View) → Heard log cv x → x.period ≡ cv'.period → Told cv' x)
-    → (r : Role) → u.role ≡ r → KnowsAs layout cv part seat_of note_at log k u r → KnowsAs layout cv' part seat_of note_at log' k u r
+    → ((x : View) → Heard log cv x → x.period ≡ cv'.period → AgreesOnPart cv' x)
+    → (r : Role) → u.role ≡ r → SeatOkAs layout cv part seat_of note_at log k u r → SeatOkAs layout cv' part seat_of note_at log' k u r
 heeds layout cv cv' part seat_of note_at log log' k u apart grows later seats notes tells Collector is h = absurd (apart h.0)
 heeds layout cv cv' part seat_of note_at log log' k u apart grows later seats notes tells Member is h = (h.0, (let b = h.1 in omega (arith, b, seats)), h.2, h.3)
 heeds layout cv cv' part seat_of note_at log log' k u apart grows later seats notes tells Note is h = (h.0, notes is h.0 h.1)
@@ -48,7 +48,7 @@ module _ (layout : Layout) (shapes : ShapeLists) (words : List ℕ) (views : Lis
   prefix_of = subst (λ (x : View). IsPrefix x.seen log) (sym own) k.prefix
 
   pub collector_step : (w : View) (words' : List ℕ) (log' : List Event) → w.role ≡ Collector → v.period ≤ w.period → w.next ≡ v.next
-      → IsPrefix log log' → ((j : ℕ) (x : View) → get_elem? views j ≡ some x → x.role ≡ Note → IsParty layout x.who → NoteOk layout v (k.part x.who) (k.note_at x.who) j x → NoteOk layout w (k.part x.who) (k.note_at x.who) j x) → ((x : View) → Heard log v x → x.period ≡ w.period → Told w x)
+      → IsPrefix log log' → ((j : ℕ) (x : View) → get_elem? views j ≡ some x → x.role ≡ Note → IsParty layout x.who → NoteOk layout v (k.part x.who) (k.note_at x.who) j x → NoteOk layout w (k.part x.who) (k.note_at x.who) j x) → ((x : View) → Heard log v x → x.period ≡ w.period → AgreesOnPart w x)
       → ((i : ℕ) → IsParty layout i → MemberOk layout w (k.part i) i) → IsPrefix w.seen log' → ((i : ℕ) → (k.part i).left ≡ true → (state_after layout log').active i ≡ false) → (log' ≡ w.seen) ⊎ ((log' ≡ log) × (log ≡ v.seen → log ≡ w.seen)) → tally w.period k.part w.notes ≡ w.ledger
       → ((i : ℕ) → births_in w.period (k.part i) ≡ born_to i log') → told_births w.period k.part w.notes ≡ w.births → w.start ++ since is_open log' ≡ log' → Mode layout shapes words' log' w k.part
       → Tabled layout shapes words' (set views me w) log'
@@ -60,8 +60,8 @@ module _ (layout : Layout) (shapes : ShapeLists) (words : List ℕ) (views : Lis
     limits = k.limits;
     empty_shape = k.empty_shape;
     collects = is';
-    each = each_set (Knows layout w k.part k.seat_of k.note_at log') views me w (known_as layout w k.part k.seat_of k.note_at log' me w Collector is' (at_zero, refl))
-        (λ j u other at. heeds layout v w k.part k.seat_of k.note_at log log' j u (λ e. other (e ∙ sym at_zero)) grows later (omega (arith, seats)) (notes j u at) tells u.role refl (subst (λ (x : View). Knows layout x k.part k.seat_of k.note_at log j u) (sym own) (k.each j u at)));
+    each = each_set (SeatOk layout w k.part k.seat_of k.note_at log') views me w (known_as layout w k.part k.seat_of k.note_at log' me w Collector is' (at_zero, refl))
+        (λ j u other at. heeds layout v w k.part k.seat_of k.note_at log log' j u (λ e. other (e ∙ sym at_zero)) grows later (omega (arith, seats)) (notes j u at) tells u.role refl (subst (λ (x : View). SeatOk layout x k.part k.seat_of k.note_at log j u) (sym own) (k.each j u at)));
     fresh = λ j h. k.fresh j (let e = ap (λ (x : View). x.next) own in omega (arith, h, seats, e));
     strangers = k.strangers;
     members = ok;
@@ -95,7 +95,8 @@ module _ (layout : Layout) (shapes : ShapeLists) (words : List ℕ) (views : Lis
     pub start : w.start ≡ v.start
     pub kept : (i : ℕ) → In i v.notes → In i w.notes
     pub out : (j : ℕ) (x : View) → get_elem? views j ≡ some x → x.role ≡ Note → k.note_at x.who ≡ j → (In x.who v.notes → ⊥) → In x.who w.notes → ⊥
-    pub notes : (i : ℕ) → IsParty layout i → In i w.notes → In i v.notes ⊎ (((k.part i).period ≡ v.period) × IsPrefix (k.part i).seen w.seen × ((k.part i).left ≡ true → In i w.gone) × (w.done ≡ true → ((k.part i).begun ≡ v.period) × HasDonePart layout (k.part i)))
+    pub notes : (i : ℕ) → IsParty layout i → In i w.notes → In i v.notes ⊎ (((k.part i).period ≡ v.period) × IsPrefix (k.part i).seen w.seen × ((k.part i).left ≡ true → In i w.gone) × (w.done ≡ true → ((k.part i).begun ≡ v.period) × HasDonePart layout (k.part i))
+        × ((k.part i).stopped ≡ v.period))
     pub done : w.done ≡ true → v.done ≡ true
     pub stays : (i : ℕ) → In i v.gone → In i w.gone
     pub calls : (i : ℕ) → IsParty layout i → (noted : NotedCalls) → Contains w.noted_calls noted → noted.who ≡ i → Contains v.noted_calls noted ⊎ IsAsNoted w (k.part i) i noted
@@ -117,6 +118,8 @@ module _ (layout : Layout) (shapes : ShapeLists) (words : List ℕ) (views : Lis
         told = λ e. same_told (k.part i) (o.told (e ∙ p));
         earlier = o.earlier;
         heard = o.heard;
+        ended = o.ended;
+        halted = λ a. elim (c.notes i l a) [ inl b ↦ o.halted b ∙ sym p | inr b ↦ b.4 ∙ sym p ];
         calls = λ noted a e. elim (c.calls i l noted a e) [
           | inl b ↦ (let q = o.calls noted b e in (elim q.0 [ inl x ↦ inl (c.kept i x) | inr x ↦ inr (c.stays i x) ], q.1, q.2, q.3))
           | inr b ↦ b
@@ -137,5 +140,5 @@ module _ (layout : Layout) (shapes : ShapeLists) (words : List ℕ) (views : Lis
       born_of : (i : ℕ) → births_in v.period (k.part i) ≡ born_to i log
       born_of i = subst (λ (x : View). births_in x.period (k.part i) ≡ born_to i log) (sym own) (k.births i)
 
-      same_told : (x : View) → Told v x → Told w x
+      same_told : (x : View) → AgreesOnPart v x → AgreesOnPart w x
       same_told x t = record { marks = t.marks ∙ sym c.marks; cycle = t.cycle ∙ sym c.cycle; run = t.run ∙ sym c.run }

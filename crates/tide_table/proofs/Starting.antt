@@ -1,9 +1,11 @@
 -- A heap starts frozen, with words that meet the wave.
-use Rattle.std.proofs.Common.{ℕ, suc, ◌≡◌, ◌+◌, ◌<◌, refl, sym, ◌∙◌, ap, subst, arith, List, [], ◌∷◌, ◌++◌, length, set}
+use Rattle.std.proofs.Common.{ℕ, suc, ◌≡◌, ◌+◌, ◌<◌, refl, sym, ◌∙◌, ap, subst, arith, List, [], ◌∷◌, ◌++◌, length, replicate, set}
+use Rattle.std.proofs.lemmas.List.{get_or-replicate}
 use Rattle.atomic_table.specs.Seated.{TableId}
+use Rattle.tide_layout.proofs.Places.{place_in-below}
 use Rattle.tide_layout.specs.Region.{size_of, word_count, place_in, block_count}
 use Rattle.tide_layout.specs.declared.region.Region.{Region}
-use Rattle.tide_layout.specs.declared.region.Region.TheVariants.{Active, Free}
+use Rattle.tide_layout.specs.declared.region.Region.TheVariants.{Active, Free, Stopped}
 use Rattle.tide_machine.proofs.freezes.Entering.{FrozenWave-of}
 use Rattle.tide_machine.proofs.freezes.Freezing.{FrozenMachine-first}
 use Rattle.tide_machine.specs.Frozen.{newcomer, FrozenWith}
@@ -18,6 +20,12 @@ use Rattle.tide_words.proofs.heap_laws.Filling.{IsFilledTo-none, IsFilledTo-more
 use Rattle.tide_words.specs.heap.EmptyHeap.{empty_heap}
 use Rattle.tide_words.specs.heap.Filled.{IsFilledTo}
 use Rattle.tide_words.specs.heap.Heap.{Reads, heap_of}
+
+-- a word of a list of zeros
+pub zero_word : (layout : Layout) (region : Region) (index : ℕ) → index < size_of layout region →
+    heap_of layout (replicate (word_count layout) 0) region index ≡ 0
+zero_word layout region index within = get_or-replicate (word_count layout) (place_in layout region index) 0 0
+    (place_in-below layout region index within)
 
 pub passes_push : (id : TableId) (first : ℕ) (ps : List Pass) (p : Pass) → ArePasses id first ps → p.seat.table_id ≡ id →
     p.seat.me.0 ≡ newcomer (first + length ps) → ArePasses id first (ps ++ p ∷ [])
@@ -60,8 +68,10 @@ started layout shapes one two v active free next =
       period = refl;
       seen = refl;
       gone = refl;
+      births = refl;
       long = reads.all_words;
       wave = FrozenWave-of layout shapes (heap_of layout free.words) [] at_first;
       swept = at_first.swept;
       clean = at_first.clean;
+      stopped = λ index within. reads.each Stopped index within ∙ sym (zero_word layout Stopped index within);
     }

@@ -5,12 +5,14 @@ use Rattle.std.specs.Prelude.{slice_get}
 use Rattle.atomic_table.proofs.Lists.{set_again, set_else, set_here}
 use Rattle.atomic_table.specs.Table.{Me, keeps, Allows, Splits, Joins, opening, Final, Seen}
 use Rattle.tide_layout.specs.Limits.{IsWithinLimits}
-use Rattle.tide_layout.specs.Region.{place_in, base_of, word_count}
+use Rattle.tide_layout.specs.Region.{place_in, word_count}
 use Rattle.tide_layout.specs.declared.region.Region.TheVariants as region
 use Rattle.tide_core.specs.FrozenWave.{FrozenWave}
+use Rattle.tide_machine.proofs.steps.StopPlaces.{stop_within}
 use Rattle.tide_machine.specs.Frozen.{MayOpen, newcomer}
+use Rattle.tide_machine.specs.Kind.{index_of_stopped}
 use Rattle.tide_machine.specs.points.Sweeps.{SweptAreBelow, TakenAreClean}
-use Rattle.tide_words.specs.heap.Heap.{heap_of}
+use Rattle.tide_words.specs.heap.Heap.{SameIn, heap_of}
 use Rattle.tide_machine.specs.World.{parties}
 use Rattle.tide_machine.specs.declared.view.Role.TheVariants.{Collector, Note, Spent}
 use Rattle.tide_machine.specs.declared.view.View.{View}
@@ -28,9 +30,10 @@ use Rattle.tide_table.proofs.Heeding.{own}
 use Rattle.tide_steps.proofs.Comings.{unmoved}
 use Rattle.tide_heap.proofs.Members.{knows_as, known_as, spend, few_parties}
 use Rattle.tide_table.proofs.Seating.{seat_member}
+use Rattle.tide_table.proofs.Starting.{zero_word}
 use Rattle.tide_heap.proofs.Turning.{below}
 use Rattle.tide_heap.specs.Parties.{In, IsParty, up_to}
-use Rattle.tide_heap.specs.Rule.{NoteOk, Knows, Tabled, Rule}
+use Rattle.tide_heap.specs.Rule.{NoteOk, SeatOk, Tabled, Rule}
 use Rattle.tide_heap.specs.Turns.{first_view, seating, ticket_of, spent, noted, frozen_with, restored, entered_with, open_entry, opened, Freezes}
 use lib.ListN.{get_elem?}
 use lib.Seq.{set_comm}
@@ -102,6 +105,7 @@ module _ (layout : Layout) (shapes : ShapeLists) where
           heard = h.8;
           own = h.9;
           progress = h.10;
+          stops = h.11;
         },
       )
 
@@ -165,9 +169,10 @@ module _ (layout : Layout) (shapes : ShapeLists) where
       FrozenWave layout shapes (heap_of layout me.0.words) me.0.seen →
       SweptAreBelow layout (heap_of layout me.0.words) →
       TakenAreClean layout (heap_of layout me.0.words) (state_after layout me.0.seen) →
+      SameIn layout region.Stopped (heap_of layout me.0.stood) (heap_of layout me.0.words) →
       MayOpen layout (heap_of layout me.0.words) run →
       Allows (Rule layout shapes) slots id me at (λ _. next) (λ _ b. b.0 ≡ opened layout run me.0)
-  opens slots id me at next run is shut place later owed swept clean may s rule long there fits = (
+  opens slots id me at next run is shut place later owed swept clean same may s rule long there fits = (
     opened layout run me.0,
     keeps,
     tt,
@@ -175,7 +180,8 @@ module _ (layout : Layout) (shapes : ShapeLists) where
       log = rule.log ++ open_entry run me.0 ∷ [];
       tabled = subst (λ (x : ℕ × ℕ). Tabled layout shapes (set s.words x.0 x.1) (set s.views id (opened layout run me.0))
           (rule.log ++ open_entry run me.0 ∷ [])) (λ i. (sym place i, sym later i))
-          (open_next layout shapes s.words s.views rule.log id me.0 rule.tabled there is run shut owed swept clean may);
+          (open_next layout shapes s.words s.views rule.log id me.0 rule.tabled there is run shut owed swept clean same
+          may);
     },
     refl,
   )
@@ -188,10 +194,10 @@ in_up_to i (suc n) h = elim (cases_eq i n) [
 ]
 
 only_first : (layout : Layout) (cv : View) (part : ℕ → View) (seat_of note_at : ℕ → ℕ) → cv.role ≡ Collector → (k : ℕ)
-    (u : View) → get_elem? (cv ∷ []) k ≡ some u → Knows layout cv part seat_of note_at [] k u
+    (u : View) → get_elem? (cv ∷ []) k ≡ some u → SeatOk layout cv part seat_of note_at [] k u
 only_first layout cv part seat_of note_at is zero u e =
     let same : u ≡ cv = sym (some-injective cv u e) in
-    subst (λ (x : View). Knows layout cv part seat_of note_at [] 0 x) (sym same)
+    subst (λ (x : View). SeatOk layout cv part seat_of note_at [] 0 x) (sym same)
     (known_as layout cv part seat_of note_at [] 0 cv Collector is (refl, refl))
 only_first layout cv part seat_of note_at is (suc k) u e = absurd (some-ne-none u (sym e))
 
@@ -228,6 +234,8 @@ opens_at layout shapes words limits empty_shape zeros = record {
       gone = λ a. absurd a;
       over = λ a. absurd a;
       leaves = λ a e. absurd (cc);
+      ended = λ _. refl;
+      halted = λ _. refl;
       began = λ a e. absurd (cc);
       done = λ a e. absurd (cc);
     };
@@ -259,6 +267,7 @@ opens_at layout shapes words limits empty_shape zeros = record {
         calls = λ p rests. refl;
         sweeping = λ p rests. refl;
       };
+      stops = λ p party. zero_word layout region.Stopped (index_of_stopped layout p) (stop_within layout p party);
       all_in = λ i party. inl (in_up_to i parties (few_parties layout limits i party));
     };
   };
@@ -284,7 +293,3 @@ closes layout shapes id v words xs is shut f =
       retired = λ i party a. subst (λ (l : List Event). (state_after layout l).active i ≡ false) now.seen_all
           (k.retired i ((Rattle.tide_table.proofs.Heeding.ok_of layout shapes s.words s.views rule.log id v k f.1.1 is i party).gone a).0);
     }
-
-pub period_first : (layout : Layout) → 0 ≡ place_in layout region.Period 0
-unfolding place_in base_of
-period_first layout = refl

@@ -1,4 +1,4 @@
-pub mod Told
+pub mod Plays
 pub mod Shown
 pub mod Started
 pub mod Openings

@@ -3,6 +3,7 @@ use Rattle.std.specs.Prelude.{ℕ, suc, ◌≡◌, true, List, [], ◌∷◌, le
 use Rattle.atomic_table.specs.Seated.{TableId}
 use Rattle.tide_layout.specs.Region.{word_count}
 use Rattle.tide_layout.specs.declared.region.Region.{Region}
+use Rattle.tide_layout.specs.declared.region.Region.TheVariants.{Stopped}
 use Rattle.tide_core.specs.FrozenWave.{FrozenWave}
 use Rattle.tide_machine.specs.Frozen.{newcomer}
 use Rattle.tide_machine.specs.declared.view.View.{View}
@@ -12,7 +13,7 @@ use Rattle.tide_model.specs.Layout.{Layout}
 use Rattle.tide_model.specs.Refused.{ShapeLists}
 use Rattle.tide_steps.specs.declared.pass.Pass.{Pass}
 use Rattle.tide_words.specs.heap.Filled.{IsFilledTo}
-use Rattle.tide_words.specs.heap.Heap.{heap_of}
+use Rattle.tide_words.specs.heap.Heap.{SameIn, heap_of}
 
 -- passes of participants with numbers one after another, who know nothing yet
 abbrev pub ArePasses : TableId → ℕ → List Pass → Type 0
@@ -36,7 +37,9 @@ pub record IsStarted (layout : Layout) (shapes : ShapeLists) (v : View) : Type 0
   pub period : v.period ≡ 0
   pub seen : v.seen ≡ []
   pub gone : v.gone ≡ []
+  pub births : v.births ≡ 0
   pub long : length v.words ≡ word_count layout
   pub wave : FrozenWave layout shapes (heap_of layout v.words) []
   pub swept : SweptAreBelow layout (heap_of layout v.words)
   pub clean : TakenAreClean layout (heap_of layout v.words) (state_after layout [])
+  pub stopped : SameIn layout Stopped (heap_of layout v.stood) (heap_of layout v.words)

@@ -62,6 +62,7 @@ FrozenMachine-first layout shapes = record {
   left = λ p. refl;
   known = record { who = λ p. refl; seen = λ p. prefix_refl []; own = λ p. refl; told = λ p. refl };
   stopped = λ p. refl;
+  stops = λ p party. refl;
   parked = record {
     held = λ p rests. refl;
     scan = λ p rests. refl;
@@ -180,4 +181,5 @@ FrozenMachine-running layout shapes w wave parked = record {
   left = wave.left;
   stopped = parked;
   parked = wave.parked;
+  stops = wave.stops;
 }

@@ -30,6 +30,7 @@ use Rattle.tide_machine.specs.points.Growths.{GrowthKnows}
 use Rattle.tide_machine.specs.points.Links.{LinkAt}
 use Rattle.tide_machine.specs.points.Scans.{IsAtHand, held, scanned, buffered}
 use Rattle.tide_machine.specs.points.Seen.{IsKnown, WhoLeftIsInactive, ParkedIsEmpty}
+use Rattle.tide_machine.specs.points.Stops.{StopsAreTold}
 use Rattle.tide_machine.specs.points.Sweeps.{Sweeps}
 use Rattle.tide_machine.specs.points.Witness.{IsLeft, in_word}
 use Rattle.tide_model.proofs.Cycles.{graph_in_span}
@@ -57,7 +58,8 @@ use Rattle.tide_words.specs.marking.Marking.{times_in}
 module _ (layout : Layout) (shapes : ShapeLists) (heap : Heap) (part : ℕ → View) (before : List Event) (run : ℕ)
     (wave : FrozenWith layout shapes heap before 0) (known : IsKnown before part) (empty : ParkedIsEmpty part)
     (parked : (p : ℕ) → (part p).runs ≡ false) (earlier : (p : ℕ) → (part p).begun ≤ heap region.Period 0)
-    (left : WhoLeftIsInactive part (state_after layout before)) (may : MayOpen layout heap run) where
+    (left : WhoLeftIsInactive part (state_after layout before)) (stops : StopsAreTold layout heap part)
+    (may : MayOpen layout heap run) where
   abbrev number : ℕ
   number = open_count before + 1
 
@@ -251,6 +253,7 @@ module _ (layout : Layout) (shapes : ShapeLists) (heap : Heap) (part : ℕ → V
     };
     targets = record { right = λ p scan target is. no_scan p scan is };
     parked = empty;
+    stops = stops;
   }
     where
       in_before : IsWithin (graph_of (state_after layout before)) (cycle_span layout before)
@@ -291,4 +294,5 @@ pub RunningWave-opened : (layout : Layout) (shapes : ShapeLists) (w : World) (ru
           with_open w.log run;
     })
 RunningWave-opened layout shapes w run f may =
-    open_part layout shapes w.heap w.part w.log run f.wave f.known f.parked f.stopped f.begun f.left may
+    open_part layout shapes w.heap w.part w.log run f.wave f.known f.parked f.stopped f.begun f.left f.stops
+    may

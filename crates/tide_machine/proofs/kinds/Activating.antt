@@ -4,7 +4,7 @@ use Rattle.std.proofs.lemmas.Bool.{cases_Bool, cases_eq, eq-eqb, eqb-true}
 use Rattle.std.specs.Prelude.{Contains, if◌then◌else◌}
 use Rattle.tide_layout.specs.declared.region.Region.{Region}
 use Rattle.tide_layout.specs.declared.region.Region.TheVariants as region
-use Rattle.tide_machine.proofs.steps.Frames.{calls_view, each_put}
+use Rattle.tide_machine.proofs.steps.Frames.{calls_view, stops_view, each_put}
 use Rattle.tide_machine.proofs.steps.Lists.{nothing_in}
 use Rattle.tide_machine.proofs.steps.Steps.{any_step}
 use Rattle.tide_machine.proofs.steps.SweepsKept.{sweeps_kept}
@@ -72,6 +72,7 @@ module _ (layout : Layout) (shapes : ShapeLists) (w : World) (me : ℕ) (inside 
     phase = refl;
     period = refl;
     calls = calls_view layout w.heap w.heap w.part me later refl (λ p. refl) wave.calls;
+    stops = stops_view layout w.heap w.heap w.part me later refl (λ p. refl) wave.stops;
     words = words_after;
     who = refl;
     seen = inl refl;

@@ -7,7 +7,7 @@ use Rattle.tide_core.specs.FrozenWave.{is_born_in_cycle}
 use Rattle.tide_layout.specs.Slots.{total_below}
 use Rattle.tide_layout.specs.declared.region.Region.TheVariants as region
 use Rattle.tide_machine.proofs.steps.Colouring.{unread_write, colours_coloured, recoloured_one}
-use Rattle.tide_machine.proofs.steps.Frames.{calls_view, put_here}
+use Rattle.tide_machine.proofs.steps.Frames.{calls_view, stops_view, put_here}
 use Rattle.tide_machine.proofs.steps.Lists.{nothing_in}
 use Rattle.tide_machine.proofs.steps.Quiet.{quiet_step}
 use Rattle.tide_machine.proofs.steps.Stacks.{times_in-take_out, times_in-some}
@@ -191,6 +191,7 @@ module _ (layout : Layout) (shapes : ShapeLists) (w : World) (me : ℕ) (inside 
     waits = waits_after;
     period = refl;
     calls = calls_view layout w.heap (coloured w.heap cell Black) w.part me later refl (λ p. refl) wave.calls;
+    stops = stops_view layout w.heap (coloured w.heap cell Black) w.part me later refl (λ p. refl) wave.stops;
     ran = runs;
     runs = runs;
     colours = colours_coloured layout w.heap cell Black (omega arith) wave.colours;

@@ -51,6 +51,7 @@ module _ (layout : Layout) (shapes : ShapeLists) (w : World) (me : ℕ) (inside 
             index;
         period = refl;
         call_words = λ p. refl;
+        stop_words = λ index. refl;
         swept = λ block. refl;
         greys = λ _ other in_other is. still_grey other is;
         shared = λ c is. is;
@@ -149,6 +150,7 @@ module _ (layout : Layout) (shapes : ShapeLists) (w : World) (me : ℕ) (inside 
         words = λ at index. unread_write w.heap region.Colour cell (colour_word (running_cycle w.heap) White) refl at index;
         period = refl;
         call_words = λ p. refl;
+        stop_words = λ index. refl;
         swept = λ block. refl;
         greys = λ marks. absurd (cc);
         shared = λ c is. is;

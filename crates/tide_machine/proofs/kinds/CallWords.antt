@@ -3,6 +3,7 @@ use Rattle.std.proofs.Common.{ℕ, ◌≡◌, ◌<◌, refl, ◌∙◌, arith, i
 use Rattle.std.specs.Prelude.{◌%◌, ◌^◌, length}
 use Rattle.tide_layout.specs.declared.region.Region.TheVariants as region
 use Rattle.tide_machine.proofs.steps.Colouring.{unread_write}
+use Rattle.tide_machine.proofs.steps.Frames.{stops_view}
 use Rattle.tide_machine.proofs.steps.Quiet.{quiet_step}
 use Rattle.tide_machine.proofs.steps.Waiting.{left_quiet}
 use Rattle.tide_machine.specs.Kind.{StoreCall}
@@ -46,6 +47,7 @@ store_call_word layout shapes w me inside wave word may =
       calls = put_at_elim (λ p u. p < layout.mutators → new region.Call p ≡ u.calls % 2 ^ 64) w.part me later
           (λ within. write-same w.heap region.Call me word ∙ may.1)
           (λ p apart within. write-other_index w.heap region.Call me p word apart ∙ wave.calls p within);
+      stops = stops_view layout w.heap new w.part me later refl (λ index. refl) wave.stops;
       ran = may.0.runs;
       runs = may.0.runs;
       colours = wave.colours;

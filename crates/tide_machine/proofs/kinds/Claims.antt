@@ -128,7 +128,7 @@ module _ (layout : Layout) (shapes : ShapeLists) (limits : IsWithinLimits layout
 
   pub load_claim : (cell : ℕ) (o : Op) → MayLoadClaim layout shapes w me cell (Some o) →
       RunningWave layout shapes (stepped layout shapes w me (LoadClaim cell (Some o)))
-  load_claim cell (op.Claim src) (source, may) = refuses (op.Claim src) may cell
+  load_claim cell (op.Claim src) (source, full, may) = refuses (op.Claim src) may cell
   load_claim cell _ none = absurd none
 
   pub take_claim : (cell holder : ℕ) (o : Op) → MayTakeClaim layout shapes w me cell holder (w.heap region.Claim cell)

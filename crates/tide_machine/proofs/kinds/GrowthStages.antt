@@ -5,7 +5,7 @@ use Rattle.std.specs.Prelude.{Contains, not}
 use Rattle.tide_layout.specs.Slots.{HasElement, index_of_element}
 use Rattle.tide_layout.specs.declared.region.Region.{Region}
 use Rattle.tide_layout.specs.declared.region.Region.TheVariants as region
-use Rattle.tide_machine.proofs.steps.Frames.{calls_view}
+use Rattle.tide_machine.proofs.steps.Frames.{calls_view, stops_view}
 use Rattle.tide_machine.proofs.steps.GrowthsKept.{growth_kept}
 use Rattle.tide_machine.proofs.steps.Lists.{from_none}
 use Rattle.tide_machine.proofs.steps.Owning.{own_alone}
@@ -258,6 +258,7 @@ module _ (layout : Layout) (shapes : ShapeLists) (w : World) (me : ℕ) (inside 
         begins = wave.numbers.begun me;
         left = refl;
         calls = calls_view layout w.heap new w.part me (later stage owed) refl (λ p. refl) wave.calls;
+        stops = stops_view layout w.heap new w.part me (later stage owed) refl (λ p. refl) wave.stops;
         empties = λ is. absurd (cc);
         waits = left_quiet layout w.heap new w.part me (later stage owed) refl refl (λ _ c in_c is. is) (λ c is. is)
             refl
@@ -521,6 +522,7 @@ module _ (layout : Layout) (shapes : ShapeLists) (w : World) (me : ℕ) (inside 
       begins = wave.numbers.begun me;
       left = refl;
       calls = calls_view layout w.heap stored w.part me stored_view refl (λ p. refl) wave.calls;
+      stops = stops_view layout w.heap stored w.part me stored_view refl (λ p. refl) wave.stops;
       empties = λ is. absurd (cc);
       waits = left_quiet layout w.heap stored w.part me stored_view refl refl (λ _ c in_c is. is) (λ c is. is) refl refl
           refl refl wave.waits;

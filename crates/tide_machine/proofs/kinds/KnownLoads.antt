@@ -4,7 +4,7 @@ use Rattle.std.proofs.lemmas.Bool.{cases_eq}
 use Rattle.std.proofs.lemmas.List.Elements.{Contains-append_cases}
 use Rattle.std.specs.Prelude.{Contains}
 use Rattle.tide_layout.specs.declared.region.Region.{Region}
-use Rattle.tide_machine.proofs.steps.Frames.{each_put, calls_view}
+use Rattle.tide_machine.proofs.steps.Frames.{each_put, calls_view, stops_view}
 use Rattle.tide_machine.proofs.steps.GrowthsKept.{growth_kept}
 use Rattle.tide_machine.proofs.steps.Lists.{nothing_in, in_one}
 use Rattle.tide_machine.proofs.steps.Loads.{load_same}
@@ -110,6 +110,7 @@ module _ (layout : Layout) (shapes : ShapeLists) (w : World) (me : ℕ) (inside 
       begins = wave.numbers.begun me;
       left = refl;
       calls = calls_view layout w.heap w.heap w.part me later refl (λ p. refl) wave.calls;
+      stops = stops_view layout w.heap w.heap w.part me later refl (λ p. refl) wave.stops;
       empties = λ is. absurd (cc);
       waits = left_quiet layout w.heap w.heap w.part me later refl refl (λ _ c in_c is. is) (λ c is. is) refl refl refl
           refl

@@ -6,7 +6,7 @@ use Rattle.tide_layout.specs.Region.{tag, index_of_register}
 use Rattle.tide_layout.specs.declared.region.Region.{Region}
 use Rattle.tide_layout.specs.declared.region.Region.TheVariants as region
 use Rattle.tide_machine.proofs.steps.ArraysKept.{arrays_kept}
-use Rattle.tide_machine.proofs.steps.Frames.{calls_view}
+use Rattle.tide_machine.proofs.steps.Frames.{calls_view, stops_view}
 use Rattle.tide_machine.proofs.steps.GrowthsKept.{growth_kept}
 use Rattle.tide_machine.proofs.steps.Lists.{from_none}
 use Rattle.tide_machine.proofs.steps.Owning.{own_alone}
@@ -83,6 +83,7 @@ module _ (layout : Layout) (shapes : ShapeLists) (w : World) (me : ℕ) (inside 
     finds = wave.kept.full me;
     period = refl;
     calls = calls_view layout w.heap new w.part me later refl (λ p. refl) wave.calls;
+    stops = stops_view layout w.heap new w.part me later refl (λ p. refl) wave.stops;
     told = λ _. wave.numbers.told me runs;
     begins = wave.numbers.begun me;
     left = refl;

@@ -7,7 +7,7 @@ use Rattle.std.specs.Prelude.{Contains, if◌then◌else◌, ◌&&◌, not, filt
 use Rattle.tide_layout.specs.declared.region.Region.TheVariants as region
 use Rattle.tide_machine.proofs.kinds.Scanning.{times_in-first}
 use Rattle.tide_machine.proofs.steps.Colouring.{unread_write}
-use Rattle.tide_machine.proofs.steps.Frames.{calls_view}
+use Rattle.tide_machine.proofs.steps.Frames.{calls_view, stops_view}
 use Rattle.tide_machine.proofs.steps.Paying.{filter_was, in_filter}
 use Rattle.tide_machine.proofs.steps.Quiet.{quiet_step}
 use Rattle.tide_machine.proofs.steps.Stacks.{times_in-some}
@@ -152,6 +152,8 @@ module _ (layout : Layout) (shapes : ShapeLists) (w : World) (me : ℕ) (inside 
         given_back wave.waits;
     calls = calls_view layout w.heap new w.part me later refl (λ p.
         refl) wave.calls;
+    stops = stops_view layout w.heap new w.part me later refl (λ p.
+        refl) wave.stops;
     ran = runs;
     runs = runs;
     colours = wave.colours;

@@ -69,6 +69,7 @@ module _ (layout : Layout) (shapes : ShapeLists) (w : World) (me : ℕ) (inside 
             index;
         period = refl;
         call_words = λ p. refl;
+        stop_words = λ index. refl;
         swept = λ block. refl;
         greys = λ _ other in_other is. grey_after_grey w.heap cell other is;
         shared = λ c is. is;
@@ -127,6 +128,7 @@ module _ (layout : Layout) (shapes : ShapeLists) (w : World) (me : ℕ) (inside 
     words = λ at index read. refl;
     period = refl;
     call_words = λ p. refl;
+    stop_words = λ index. refl;
     swept = λ block. refl;
     greys = λ _ other in_other is. is;
     shared = λ c is. is;
@@ -213,6 +215,7 @@ module _ (layout : Layout) (shapes : ShapeLists) (w : World) (me : ℕ) (inside 
             (bit_or (w.heap region.GreyMutator (block_of_cell cell)) (bit_of cell)) refl at index;
         period = refl;
         call_words = λ p. refl;
+        stop_words = λ index. refl;
         swept = λ block. refl;
         greys = λ _ other in_other is. is;
         shared = λ c is. is;
@@ -253,6 +256,7 @@ module _ (layout : Layout) (shapes : ShapeLists) (w : World) (me : ℕ) (inside 
             (bit_or (w.heap region.GreyRace (block_of_cell cell)) (bit_of cell)) refl at index;
         period = refl;
         call_words = λ p. refl;
+        stop_words = λ index. refl;
         swept = λ block. refl;
         greys = λ _ other in_other is. is;
         shared = λ c is. is;
@@ -309,6 +313,7 @@ module _ (layout : Layout) (shapes : ShapeLists) (w : World) (me : ℕ) (inside 
             words = λ at index read. refl;
             period = refl;
             call_words = λ p. refl;
+            stop_words = λ index. refl;
             swept = λ block. refl;
             greys = λ _ other in_other is. is;
             shared = λ c is. is;

@@ -5,22 +5,25 @@ use Rattle.std.specs.Prelude.{Contains, filter, if◌then◌else◌}
 use Rattle.tide_layout.specs.declared.region.Region.{Region}
 use Rattle.tide_layout.specs.declared.region.Region.TheVariants as region
 use Rattle.tide_machine.proofs.steps.Colouring.{unread_write}
-use Rattle.tide_machine.proofs.steps.Frames.{calls_view, each_put, put_here}
+use Rattle.tide_machine.proofs.steps.Frames.{calls_view, stops_view, each_put, put_here}
 use Rattle.tide_machine.proofs.steps.Lists.{nothing_in}
 use Rattle.tide_machine.proofs.steps.Quiet.{quiet_step}
 use Rattle.tide_machine.proofs.steps.Steps.{any_step}
+use Rattle.tide_machine.proofs.steps.StopPlaces.{stop_apart}
 use Rattle.tide_machine.proofs.steps.SweepsKept.{sweeps_kept}
 use Rattle.tide_machine.proofs.steps.Waiting.{left_quiet}
 use Rattle.tide_machine.specs.Duties.{GrowsAndOwes}
+use Rattle.tide_machine.specs.Kind.{index_of_stopped}
 use Rattle.tide_machine.specs.May.{Rests}
 use Rattle.tide_machine.specs.Owed.{Owes, IsOwnWord, owed_word}
 use Rattle.tide_machine.specs.RunningWave.{RunningWave}
-use Rattle.tide_machine.specs.World.{parties}
+use Rattle.tide_machine.specs.World.{IsParty, parties}
 use Rattle.tide_machine.specs.declared.view.Scan.{Scan}
 use Rattle.tide_machine.specs.declared.view.View.{View}
 use Rattle.tide_machine.specs.points.Growths.{GrowthKnows}
 use Rattle.tide_machine.specs.points.Scans.{held, scanned, buffered}
 use Rattle.tide_machine.specs.points.SettledWords.{RunningWordsRead}
+use Rattle.tide_machine.specs.points.Stops.{StopsAreTold}
 use Rattle.tide_model.proofs.ReferenceLaws.{put_at_elim}
 use Rattle.tide_model.specs.History.{state_after, is_call_of}
 use Rattle.tide_model.specs.Layout.{Layout}
@@ -28,6 +31,7 @@ use Rattle.tide_model.specs.Numbers.{put_at}
 use Rattle.tide_model.specs.Prefix.{IsPrefix}
 use Rattle.tide_model.specs.Refused.{ShapeLists}
 use Rattle.tide_model.specs.declared.entry.Event.{Event}
+use Rattle.tide_words.proofs.heap_laws.HeapLaws.{write-same, write-other_index}
 use Rattle.tide_words.specs.heap.Heap.{Heap, write}
 
 module _ (layout : Layout) (shapes : ShapeLists) (heap : Heap) (part : ℕ → View) (log : List Event) (me : ℕ)
@@ -77,6 +81,7 @@ module _ (layout : Layout) (shapes : ShapeLists) (heap : Heap) (part : ℕ → V
       phase = refl;
       period = refl;
       calls = calls_view layout heap heap part me later refl (λ p. refl) wave.calls;
+      stops = stops_view layout heap heap part me later refl (λ p. refl) wave.stops;
       words = words_after;
       who = refl;
       seen = heard;
@@ -141,65 +146,76 @@ module _ (layout : Layout) (shapes : ShapeLists) (heap : Heap) (part : ℕ → V
           ];
     }
 
-  -- a word of the region Stopped says nothing
-  stored : (part me).runs ≡ true → (index word : ℕ) →
-      RunningWave layout shapes (record {
-        heap = write heap region.Stopped index word;
-        part = put_at part me (part me);
-        log = log;
-      })
-  stored runs index word = quiet_step layout shapes heap part log me wave (write heap region.Stopped index word)
-      (part me) record {
-        inside = inside;
-        words = λ at i. unread_write heap region.Stopped index word refl at i;
-        who = refl;
-        seen = refl;
-        mine = refl;
-        owed = refl;
-        known = refl;
-        full = refl;
-        growth = refl;
-        marks = refl;
-        cycle = refl;
-        begun = refl;
-        period = refl;
-        left = refl;
-        sweeping = refl;
-        swept = λ block. refl;
-        waits = left_quiet layout heap (write heap region.Stopped index word) part me (part me) refl refl (λ _ c in_c
-            is.
-            is) (λ c is. is) refl refl refl refl wave.waits;
-        calls = calls_view layout heap (write heap region.Stopped index word) part me (part me) refl (λ p.
-            refl) wave.calls;
-        ran = runs;
-        runs = runs;
-        colours = wave.colours;
-        balance = λ _ c in_c few. refl;
-        rests = λ idle. (
-          λ block within.
-              (let n = wave.rests.words idle block within in record {
-                shared = n.shared;
-                mutator = n.mutator;
-                race =
-                    n.race;
-              }),
-          wave.rests.held idle me,
-          wave.rests.scans idle me,
-          wave.rests.duties idle me,
-        );
-        at_hand = λ c at. wave.hands.cells me c at;
-        arrays = λ a scan is. none_scans scan is;
-        scanned = λ scan is. none_scans scan is;
-        black = λ marks source place target link black white. inr (black, white, λ e. inl e);
-        grows = λ c g. g;
-        stays = λ _ c is. is;
-        recoloured = λ _ c in_c. inl refl;
-        aims = λ scan target is. none_scans scan is;
-        marked = λ _ c in_c is. inl is;
-        born = λ _ c owes. inl owes;
-        owes = λ c owes. (owes, λ marks. (wave.born.owed marks me c owes).white);
-        counted = λ _. omega arith;
-      }
+  module _ (party : IsParty layout me) (word : ℕ) where
+    abbrev pub telling : View
+    telling = record (part me) { stopped = word }
+
+    abbrev pub told_heap : Heap
+    told_heap = write heap region.Stopped (index_of_stopped layout me) word
+
+    -- its word in Stopped tells its stop
+    stops_after : StopsAreTold layout told_heap (put_at part me telling)
+    stops_after = put_at_elim (λ p u. IsParty layout p →
+        told_heap region.Stopped (index_of_stopped layout p) ≡ u.stopped) part me telling
+        (λ _. write-same heap region.Stopped (index_of_stopped layout me) word)
+        (λ p apart other. write-other_index heap region.Stopped (index_of_stopped layout me) (index_of_stopped layout p) word
+        (stop_apart layout p me other party apart) ∙ wave.stops p other)
+
+    stored : (part me).runs ≡ true →
+        RunningWave layout shapes (record { heap = told_heap; part = put_at part me telling; log = log })
+    stored runs = quiet_step layout shapes heap part log me wave told_heap telling record {
+      inside = inside;
+      words = λ at i. unread_write heap region.Stopped (index_of_stopped layout me) word refl at i;
+      who = refl;
+      seen = refl;
+      mine = refl;
+      owed = refl;
+      known = refl;
+      full = refl;
+      growth = refl;
+      marks = refl;
+      cycle = refl;
+      begun = refl;
+      period = refl;
+      left = refl;
+      sweeping = refl;
+      swept = λ block. refl;
+      waits = left_quiet layout heap told_heap part me telling refl refl (λ _ c in_c is. is) (λ c is. is) refl refl refl
+          refl wave.waits;
+      calls = calls_view layout heap told_heap part me telling refl (λ p. refl) wave.calls;
+      stops = stops_after;
+      ran = runs;
+      runs = runs;
+      colours = wave.colours;
+      balance = λ _ c in_c few. refl;
+      rests = λ idle. (
+        λ block within.
+            (let n = wave.rests.words idle block within in record {
+              shared = n.shared;
+              mutator = n.mutator;
+              race = n.race;
+            }),
+        wave.rests.held idle me,
+        wave.rests.scans idle me,
+        wave.rests.duties idle me,
+      );
+      at_hand = λ c at. wave.hands.cells me c (elim at [
+        | held is ↦ held is
+        | scanned scan is e ↦ scanned scan is e
+        | buffered scan is e ↦ buffered scan is e
+      ]);
+      arrays = λ a scan is. none_scans scan is;
+      scanned = λ scan is. none_scans scan is;
+      black = λ marks source place target link black white. inr (black, white, λ e. inl e);
+      grows = λ c g. record { grows = g.grows; owes = g.owes };
+      stays = λ _ c is. is;
+      recoloured = λ _ c in_c. inl refl;
+      aims = λ scan target is. none_scans scan is;
+      marked = λ _ c in_c is. inl is;
+      born = λ _ c owes. inl owes;
+      owes = λ c owes. (owes, λ marks. (wave.born.owed marks me c owes).white);
+      counted = λ _. omega arith;
+    }
 
 -- twice at one place is once
 pub put_twice : (part : ℕ → View) (me : ℕ) (v w : View) → put_at (put_at part me v) me w ≡ put_at part me w
@@ -212,31 +228,39 @@ put_twice part me v w = λ i p. at p i
     at : (p : ℕ) → put_at (put_at part me v) me w p ≡ put_at part me w p
     at p = by_test (p == me) w v (part p)
 
-pub put_same : (part : ℕ → View) (me : ℕ) → put_at part me (part me) me ≡ part me
-put_same part me = put_here part me (part me)
-
 -- the store that it has stopped
 pub stop : (layout : Layout) (shapes : ShapeLists) (heap : Heap) (part : ℕ → View) (log : List Event) (me : ℕ) →
-    me < parties →
+    me < parties → IsParty layout me →
     RunningWave layout shapes (record { heap = heap; part = part; log = log }) → (part me).runs ≡ true →
-    Rests (part me) → (index word : ℕ) →
+    Rests (part me) → (word : ℕ) →
     RunningWave layout shapes (record {
-      heap = write heap region.Stopped index word;
-      part =
-          put_at part me (record (part me) { runs = false; known = []; full = [] });
+      heap = write heap region.Stopped (index_of_stopped layout me) word;
+      part = put_at part me (record (part me) { runs = false; known = []; full = []; stopped = word });
       log = log;
     })
-stop layout shapes heap part log me inside wave runs rests index word =
-    let same = put_same part me in
-    let once = stored layout shapes heap part log me inside wave rests runs index word in
-    let v = put_at part me (part me) me in
-    let after = rest_step layout shapes (write heap region.Stopped index word) (put_at part me (part me)) log me inside
-    once (subst Rests (sym same) rests) v.seen v.earlier v.told v.period v.ticket v.run v.cycle v.marks (inl refl) in
+stop layout shapes heap part log me inside party wave runs rests word =
+    let told : View = record (part me) { stopped = word } in
+    let now = put_at part me told in
+    let same : now me ≡ told = put_here part me told in
+    let once = stored layout shapes heap part log me inside wave rests party word runs in
+    let v = now me in
+    let rests_so : Rests told = record {
+      held = rests.held;
+      scan = rests.scan;
+      sweeping = rests.sweeping;
+      between = record {
+        owed = rests.between.owed;
+        duty = rests.between.duty;
+        growth = rests.between.growth;
+        calls = rests.between.calls;
+      };
+    } in
+    let after = rest_step layout shapes (write heap region.Stopped (index_of_stopped layout me) word) now log me inside
+    once (subst Rests (sym same) rests_so) v.seen v.earlier v.told v.period v.ticket v.run v.cycle v.marks (inl refl) in
     subst (λ (q : ℕ → View). RunningWave layout shapes (record {
-      heap = write heap region.Stopped index word;
+      heap = write heap region.Stopped (index_of_stopped layout me) word;
       part = q;
       log = log;
     }))
-    (ap (put_at (put_at part me (part me)) me)
-    (ap (λ (x : View). record x { runs = false; known = []; full = [] }) same) ∙
-    put_twice part me (part me) (record (part me) { runs = false; known = []; full = [] })) after
+    (ap (put_at now me) (ap (λ (x : View). record x { runs = false; known = []; full = [] }) same)
+    ∙ put_twice part me told (record told { runs = false; known = []; full = [] })) after

@@ -7,7 +7,7 @@ use Rattle.std.specs.Prelude.{Contains, if◌then◌else◌, ◌&&◌, not}
 use Rattle.tide_core.specs.FrozenWave.{is_born_in_cycle}
 use Rattle.tide_layout.specs.declared.region.Region.TheVariants as region
 use Rattle.tide_machine.proofs.steps.Colouring.{unread_write, colours_coloured, black_before_grey, marked_after_grey, count_where-le, recoloured_one, grey_after_grey}
-use Rattle.tide_machine.proofs.steps.Frames.{calls_view}
+use Rattle.tide_machine.proofs.steps.Frames.{calls_view, stops_view}
 use Rattle.tide_machine.proofs.steps.Lists.{in_one}
 use Rattle.tide_machine.proofs.steps.Quiet.{quiet_step}
 use Rattle.tide_machine.proofs.steps.Waiting.{left_kept, left_quiet}
@@ -187,6 +187,8 @@ module _ (layout : Layout) (shapes : ShapeLists) (w : World) (me : ℕ) (inside 
               wave.waits;
           calls = calls_view layout w.heap (coloured w.heap cell Grey) w.part me
               (with_scan (w.part me) (cell ∷ (w.part me).held) (still_open shorter)) refl (λ p. refl) wave.calls;
+          stops = stops_view layout w.heap (coloured w.heap cell Grey) w.part me
+              (with_scan (w.part me) (cell ∷ (w.part me).held) (still_open shorter)) refl (λ p. refl) wave.stops;
           ran = runs;
           runs = runs;
           colours = colours_coloured layout w.heap cell Grey (omega arith) wave.colours;
@@ -334,6 +336,10 @@ module _ (layout : Layout) (shapes : ShapeLists) (w : World) (me : ℕ) (inside 
               calls_view layout w.heap w.heap w.part me (with_scan (w.part me) (w.part me).held (still_open shorter))
               refl
               (λ p. refl) wave.calls;
+          stops =
+              stops_view layout w.heap w.heap w.part me (with_scan (w.part me) (w.part me).held (still_open shorter))
+              refl
+              (λ p. refl) wave.stops;
           ran = runs;
           runs = runs;
           colours = wave.colours;

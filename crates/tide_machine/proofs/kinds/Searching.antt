@@ -8,7 +8,7 @@ use Rattle.tide_layout.specs.Region.{tag}
 use Rattle.tide_layout.specs.declared.region.Region.{Region}
 use Rattle.tide_layout.specs.declared.region.Region.TheVariants as region
 use Rattle.tide_machine.proofs.steps.ArraysKept.{arrays_kept}
-use Rattle.tide_machine.proofs.steps.Frames.{calls_view, each_put}
+use Rattle.tide_machine.proofs.steps.Frames.{calls_view, stops_view, each_put}
 use Rattle.tide_machine.proofs.steps.GrowthsKept.{growth_kept}
 use Rattle.tide_machine.proofs.steps.ScansKept.{scan_kept}
 use Rattle.tide_machine.proofs.steps.Steps.{any_step}
@@ -211,6 +211,7 @@ module _ (layout : Layout) (shapes : ShapeLists) (w : World) (me : ℕ) (inside 
       sweeps = sweeps_kept layout w.heap after w.part me later state state refl (λ b. refl) refl (λ b has. has)
           wave.sweeps;
       calls = calls_view layout w.heap after w.part me later refl (λ p. refl) wave.calls;
+      stops = stops_view layout w.heap after w.part me later refl (λ p. refl) wave.stops;
       empties = λ is. absurd (cc);
       growth = growth_kept w.heap after state state me (w.part me) later (λ c mine. refl) (λ c mine. refl) (λ c at. at)
           (λ c a mine is. is) (λ c x o. o) (λ c x o. o) (λ i x o. o) (w.part me).growth (wave.growths.knows me);

@@ -8,7 +8,7 @@ use Rattle.tide_layout.specs.Region.{tag}
 use Rattle.tide_layout.specs.Slots.{HasElement, index_of_element}
 use Rattle.tide_layout.specs.declared.region.Region.{Region}
 use Rattle.tide_layout.specs.declared.region.Region.TheVariants as region
-use Rattle.tide_machine.proofs.steps.Frames.{calls_view}
+use Rattle.tide_machine.proofs.steps.Frames.{calls_view, stops_view}
 use Rattle.tide_machine.proofs.steps.GrowthsKept.{growth_kept}
 use Rattle.tide_machine.proofs.steps.Lists.{nothing_in, in_one}
 use Rattle.tide_machine.proofs.steps.Owning.{own_alone}
@@ -172,6 +172,7 @@ module _ (layout : Layout) (shapes : ShapeLists) (w : World) (me : ℕ) (inside 
       begins = wave.numbers.begun me;
       left = refl;
       calls = calls_view layout w.heap new w.part me later refl (λ p. refl) wave.calls;
+      stops = stops_view layout w.heap new w.part me later refl (λ p. refl) wave.stops;
       empties = λ is. absurd (cc);
       waits = left_quiet layout w.heap new w.part me later refl refl (λ _ c in_c is. is) (λ c is. is) refl refl refl
           refl

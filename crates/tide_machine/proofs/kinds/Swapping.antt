@@ -12,7 +12,7 @@ use Rattle.tide_layout.specs.declared.region.Region.TheVariants as region
 use Rattle.tide_machine.proofs.freezes.Freezing.{retained_is_live}
 use Rattle.tide_machine.proofs.steps.CellsOfWords.{times_in-append, times_in-cells, in_by_times}
 use Rattle.tide_machine.proofs.steps.Colouring.{unread_write, count_where-le}
-use Rattle.tide_machine.proofs.steps.Frames.{calls_view}
+use Rattle.tide_machine.proofs.steps.Frames.{calls_view, stops_view}
 use Rattle.tide_machine.proofs.steps.Lists.{nothing_in, in_one}
 use Rattle.tide_machine.proofs.steps.Loads.{load_same}
 use Rattle.tide_machine.proofs.steps.Quiet.{quiet_step}
@@ -80,6 +80,7 @@ module _ (layout : Layout) (shapes : ShapeLists) (w : World) (me : ℕ) (inside 
       (colour : (c : ℕ) → new region.Colour c ≡ w.heap region.Colour c)
       (swept : (b : ℕ) → new region.Swept b ≡ w.heap region.Swept b)
       (call : (p : ℕ) → new region.Call p ≡ w.heap region.Call p)
+      (stop : (index : ℕ) → new region.Stopped index ≡ w.heap region.Stopped index)
       (moved : (cell : ℕ) → bits_of new cell + times_in (cells_in block read) cell ≡ bits_of w.heap cell)
       (bits : (cell : ℕ) → block_of_cell cell ≡ block → bit_at read (cell % 64) ≡ 1 → 0 < bits_of w.heap cell)
       (shared : (cell : ℕ) → SharedBit w.heap cell → SharedBit new cell ⊎ Contains (cells_in block read) cell) where
@@ -191,6 +192,7 @@ module _ (layout : Layout) (shapes : ShapeLists) (w : World) (me : ℕ) (inside 
       waits = waits_after;
       period = period;
       calls = calls_view layout w.heap new w.part me later refl call wave.calls;
+      stops = stops_view layout w.heap new w.part me later refl stop wave.stops;
       ran = runs;
       runs = runs;
       colours = colours_after;
@@ -294,6 +296,7 @@ module _ (layout : Layout) (shapes : ShapeLists) (w : World) (me : ℕ) (inside 
           (λ v none. none) (waits_still b is) wave.waits;
       period = refl;
       calls = calls_view layout w.heap w.heap w.part me (found_view b) refl (λ p. refl) wave.calls;
+      stops = stops_view layout w.heap w.heap w.part me (found_view b) refl (λ p. refl) wave.stops;
       ran = runs;
       runs = runs;
       colours = wave.colours;
@@ -389,7 +392,7 @@ module _ (layout : Layout) (shapes : ShapeLists) (w : World) (me : ℕ) (inside 
     })
     swap_shared = swapped layout shapes w me inside wave runner.runs marks (runner.is_visitor, runner.within) block
         in_layout without_shared shared_word (λ at index. unread_write w.heap region.GreyShared block 0 refl at index)
-        refl (λ c. refl) (λ b. refl) (λ p. refl) moved_shared
+        refl (λ c. refl) (λ b. refl) (λ p. refl) (λ index. refl) moved_shared
         (λ cell same set. let old = ap (λ (b : ℕ). bit_at (w.heap region.GreyShared b) (cell % 64)) same in
         omega (arith, old, set)) shared_moved
 
@@ -424,7 +427,7 @@ module _ (layout : Layout) (shapes : ShapeLists) (w : World) (me : ℕ) (inside 
     swap_mutator = swapped layout shapes w me inside wave runner.runs marks (runner.is_visitor, runner.within) block
         in_layout without_mutator mutator_word
         (λ at index. unread_write w.heap region.GreyMutator block 0 refl at index)
-        refl (λ c. refl) (λ b. refl) (λ p. refl) moved_mutator
+        refl (λ c. refl) (λ b. refl) (λ p. refl) (λ index. refl) moved_mutator
         (λ cell same set. let old = ap (λ (b : ℕ). bit_at (w.heap region.GreyMutator b) (cell % 64)) same in
         omega (arith, old, set)) (λ cell bit. inl bit)
 

@@ -580,6 +580,7 @@ module _ (layout : Layout) (shapes : ShapeLists) (limits : IsWithinLimits layout
     cycle = refl;
     begun = refl;
     visits = refl;
+    stopped = refl;
     period = refl;
     calls = calls_view layout w.heap new w.part me later refl (λ p. refl) wave.calls;
     held = refl;

@@ -316,6 +316,7 @@ module _ (layout : Layout) (shapes : ShapeLists) (w : World) (me : ℕ) (inside 
     cycle = refl;
     begun = refl;
     visits = refl;
+    stopped = refl;
     period = refl;
     calls = calls_view layout w.heap new w.part me later refl (λ p. refl) wave.calls;
     held = refl;

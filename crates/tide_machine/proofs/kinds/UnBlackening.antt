@@ -5,7 +5,7 @@ use Rattle.std.specs.Prelude.{if◌then◌else◌, ◌&&◌, not}
 use Rattle.tide_core.specs.FrozenWave.{is_born_in_cycle}
 use Rattle.tide_layout.specs.declared.region.Region.TheVariants as region
 use Rattle.tide_machine.proofs.steps.Colouring.{unread_write, colours_coloured, black_before_grey, marked_after_grey, marked_before_grey, count_where-le, recoloured_one, grey_after_grey}
-use Rattle.tide_machine.proofs.steps.Frames.{calls_view}
+use Rattle.tide_machine.proofs.steps.Frames.{calls_view, stops_view}
 use Rattle.tide_machine.proofs.steps.Quiet.{quiet_step}
 use Rattle.tide_machine.proofs.steps.Waiting.{left_quiet}
 use Rattle.tide_machine.specs.Duties.{OwesBarrier, OwesColour}
@@ -68,6 +68,8 @@ module _ (layout : Layout) (shapes : ShapeLists) (w : World) (me : ℕ) (inside 
         (λ _ other in_other is. grey_after_grey w.heap cell other is) (λ c is. is) refl refl refl refl wave.waits;
     calls =
         calls_view layout w.heap (coloured w.heap cell Grey) w.part me later refl (λ p. refl) wave.calls;
+    stops =
+        stops_view layout w.heap (coloured w.heap cell Grey) w.part me later refl (λ p. refl) wave.stops;
     ran = runs;
     runs = runs;
     colours = colours_coloured layout w.heap cell Grey (omega arith) wave.colours;
@@ -157,6 +159,8 @@ module _ (layout : Layout) (shapes : ShapeLists) (w : World) (me : ℕ) (inside 
         wave.waits;
     calls = calls_view layout w.heap w.heap w.part me done refl (λ p.
         refl) wave.calls;
+    stops = stops_view layout w.heap w.heap w.part me done refl (λ p.
+        refl) wave.stops;
     ran = runs;
     runs = runs;
     colours = wave.colours;

@@ -4,7 +4,7 @@ use Rattle.tide_layout.specs.declared.region.Region.TheVariants as region
 use Rattle.tide_machine.proofs.rows.BusyRow.{busy, taken, linked}
 use Rattle.tide_machine.proofs.steps.Lists.{in_one, nothing_in, is_in_one}
 use Rattle.tide_machine.specs.Frozen.{newcomer}
-use Rattle.tide_machine.specs.Kind.{StoreRegister, StoreStopped, Regrey, StoreBorn, StoreCall, StoreStrong, Blacken, LoadArray, LoadAgain, Mark, UnBlacken, Publish, Nuke, StoreArray, StoreStructure}
+use Rattle.tide_machine.specs.Kind.{StoreRegister, StoreStopped, Regrey, StoreBorn, StoreCall, StoreStrong, Blacken, LoadClaim, LoadArray, LoadAgain, Mark, UnBlacken, Publish, Nuke, StoreArray, StoreStructure}
 use Rattle.tide_machine.specs.Machine.{IsAllowed}
 use Rattle.tide_machine.specs.Owed.{owed_word}
 use Rattle.tide_machine.specs.Scanning.{scan_of}
@@ -16,7 +16,7 @@ use Rattle.tide_machine.specs.declared.view.View.{View}
 use Rattle.tide_model.specs.Numbers.{put_at, is_among}
 use Rattle.tide_model.specs.Refused.{no_shapes}
 use Rattle.tide_model.specs.Rows.{small}
-use Rattle.tide_model.specs.declared.op.Op.TheVariants.{Move}
+use Rattle.tide_model.specs.declared.op.Op.TheVariants.{Claim, Move}
 
 -- a register's word that nobody owes
 unowed-register : IsAllowed small no_shapes taken 0 (StoreRegister 0 6 None) → ⊥
@@ -29,6 +29,10 @@ unowed-register may =
 owing-stop : IsAllowed small no_shapes busy 0 (StoreStopped 1) → ⊥
 owing-stop may = (let none = may.rests.between.duty in absurd (cc))
 
+-- a stop that tells another part than that of its ticket
+other-stop : IsAllowed small no_shapes busy 0 (StoreStopped 2) → ⊥
+other-stop may = (let part = may.of_part in absurd (omega (arith, part)))
+
 -- a call in the midst of another
 hasty-call : IsAllowed small no_shapes busy 0 (StoreRegister 1 2 (Some (Move 1 0))) → ⊥
 hasty-call may = (let none = may.0.between.duty in absurd (cc))
@@ -36,6 +40,10 @@ hasty-call may = (let none = may.0.between.duty in absurd (cc))
 -- a store of a handle that makes no call
 silent-handle : IsAllowed small no_shapes busy 0 (StoreStrong 0 2 None) → ⊥
 silent-handle may = may
+
+-- a claim that is refused at a load, of a mutator that has room for it
+roomy-claim : IsAllowed small no_shapes busy 0 (LoadClaim 0 (Some (Claim 0))) → ⊥
+roomy-claim may = (let full = may.1 in absurd (omega (arith, full)))
 
 -- a cell made grey before its colour was loaded
 early-regrey : IsAllowed small no_shapes linked 0 (Regrey 0 1) → ⊥

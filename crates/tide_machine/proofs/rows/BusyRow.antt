@@ -1,6 +1,6 @@
 -- A world that isn't idle: while a cycle marks a mutator takes a cell, links it, makes it grey by its barrier, and
 -- links it again. The wave holds there, with a grey cell in a grey word and a barrier that is owed.
-use Rattle.std.proofs.Common.{ap, ◌∙◌, false, ℕ, zero, suc, ◌≡◌, ◌≤◌, refl, arith, true, [], ◌∷◌, Some, None}
+use Rattle.std.proofs.Common.{ap, ◌∙◌, false, inl, ℕ, zero, suc, ◌≡◌, ◌≤◌, refl, arith, true, [], ◌∷◌, Some, None}
 use Rattle.tide_core.specs.Entered.{HasBegun, with_begin, with_open}
 use Rattle.tide_cycle.proofs.BeginLaws
 use Rattle.tide_cycle.specs.Frames.{LeftByBegin}
@@ -293,6 +293,7 @@ stopped = stepped small no_shapes told_all 0 (StoreStopped 1)
 
 pub came_stopped : Comes small no_shapes has_law running stopped
 came_stopped = steps told_all 0 (StoreStopped 1) came_told_all (omega arith) refl record {
+  party = inl (omega arith);
   runs = refl;
   rests = record {
     held = refl;

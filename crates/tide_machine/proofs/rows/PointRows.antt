@@ -21,6 +21,7 @@ use Rattle.tide_machine.specs.points.Marks.{RunningMarkedIsRetained, RunningBlac
 use Rattle.tide_machine.specs.points.Scans.{HandsAreLive, held, ScansAreRight, TargetsAreRight}
 use Rattle.tide_machine.specs.points.Seen.{IsKnown, NumbersRead, CallsAreTold, HasCallsAlone, ParkedIsEmpty}
 use Rattle.tide_machine.specs.points.SettledWords.{RunningWordsRead, OwnIsKept}
+use Rattle.tide_machine.specs.points.Stops.{StopsAreTold}
 use Rattle.tide_model.proofs.ReferenceLaws.{put_at_elim}
 use Rattle.tide_model.specs.History.{plain, state_after}
 use Rattle.tide_model.specs.Numbers.{put_at}
@@ -60,6 +61,14 @@ numbers-begun_early point = (let few = point.begun 0 in absurd (omega (arith, fe
 -- a call word tells a call too many
 calls-more : CallsAreTold small (write busy.heap region.Call 0 3) busy.part → ⊥
 calls-more point = (let word = point 0 (omega arith) in absurd (omega (arith, word)))
+
+-- a Stopped word tells a part in which its participant hasn't stopped
+stops-early : StopsAreTold small (write busy.heap region.Stopped 0 1) busy.part → ⊥
+stops-early point = (let word = point 0 (inl (omega arith)) in absurd (omega (arith, word)))
+
+-- or lacks the one in which it has
+stops-untold : StopsAreTold small busy.heap (alone (record mutator { stopped = 1 })) → ⊥
+stops-untold point = (let word = point 0 (inl (omega arith)) in absurd (omega (arith, word)))
 
 -- a cycle begins in the midst of a part
 alone-begins : HasCallsAlone (plain (Open 1 16) ∷ plain (Begin 1) ∷ []) → ⊥

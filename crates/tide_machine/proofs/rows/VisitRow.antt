@@ -257,6 +257,7 @@ stopped = stepped visited no_shapes told_all 0 (StoreStopped 1)
 
 came_stopped : Runs stopped
 came_stopped = steps told_all 0 (StoreStopped 1) came_told_all (omega arith) refl record {
+  party = inl (omega arith);
   runs = refl;
   rests = record {
     held = refl;
@@ -620,6 +621,7 @@ visitor_stopped = stepped visited no_shapes published 16 (StoreStopped 2)
 stopped_may : IsAllowed visited no_shapes published 16 (StoreStopped 2)
 unfolding index_of_slot words_before_cell
 stopped_may = record {
+  party = inr (omega arith, omega arith);
   runs = refl;
   rests = record {
     held = refl;

@@ -8,7 +8,7 @@ use Rattle.tide_layout.specs.declared.region.Region.{Region}
 use Rattle.tide_layout.specs.declared.region.Region.TheVariants as region
 use Rattle.tide_machine.proofs.steps.BareTables.{TablesAreBare-lawful}
 use Rattle.tide_machine.proofs.steps.Colouring.{count_where-le}
-use Rattle.tide_machine.proofs.steps.Frames.{each_put, put_here, put_else, total_below-put, held_view}
+use Rattle.tide_machine.proofs.steps.Frames.{each_put, put_here, put_else, total_below-put, held_view, stops_view}
 use Rattle.tide_machine.proofs.steps.Growing
 use Rattle.tide_machine.proofs.steps.Lists.{nothing_in}
 use Rattle.tide_machine.proofs.steps.SweepsKept.{swept_kept, sweeps_kept}
@@ -63,6 +63,7 @@ use Rattle.tide_words.specs.marking.Marking.{bits_of, times_in}
 -- the regions that no call writes
 abbrev pub is_uncalled : Region → Bool
 is_uncalled region.Phase = true
+is_uncalled region.Stopped = true
 is_uncalled region.Colour = true
 is_uncalled region.GreyShared = true
 is_uncalled region.GreyMutator = true
@@ -124,6 +125,7 @@ module _ (layout : Layout) (shapes : ShapeLists) (old : Heap) (part : ℕ → Vi
     pub cycle : w.cycle ≡ (part me).cycle
     pub begun : w.begun ≡ (part me).begun
     pub visits : w.visits ≡ (part me).visits
+    pub stopped : w.stopped ≡ (part me).stopped
     pub period : new region.Period 0 ≡ old region.Period 0
     pub calls : CallsAreTold layout new (put_at part me w)
     pub held : w.held ≡ (part me).held
@@ -248,6 +250,7 @@ module _ (layout : Layout) (shapes : ShapeLists) (old : Heap) (part : ℕ → Vi
       lawful = IsLawful-push layout shapes log (call_of me op reply took) wave.lawful s.stands;
       calls_alone = Growing.calls_alone-push log me op reply took wave.calls_alone;
       calls = s.calls;
+      stops = stops_view layout old new part me w s.stopped (λ index. s.uncalled region.Stopped index refl) wave.stops;
       few_cycles = (let few = wave.few_cycles in omega (arith, few, running));
       known = record {
         who = each_put (λ p u. u.who ≡ p) part me w (s.who ∙ wave.known.who me) wave.known.who;

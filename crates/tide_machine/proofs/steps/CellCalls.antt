@@ -225,6 +225,7 @@ module _ (layout : Layout) (shapes : ShapeLists) (w : World) (me : ℕ) (inside 
       cycle = refl;
       begun = refl;
       visits = refl;
+      stopped = refl;
       held = refl;
       round = refl;
       sweeping = refl;

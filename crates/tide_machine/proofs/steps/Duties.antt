@@ -5,7 +5,7 @@ use Rattle.tide_core.specs.FrozenWave.{is_born_in_cycle}
 use Rattle.tide_layout.specs.Region.{cell_block_count}
 use Rattle.tide_layout.specs.declared.region.Region.{Region}
 use Rattle.tide_layout.specs.declared.region.Region.TheVariants as region
-use Rattle.tide_machine.proofs.steps.Frames.{calls_view}
+use Rattle.tide_machine.proofs.steps.Frames.{calls_view, stops_view}
 use Rattle.tide_machine.proofs.steps.Quiet.{quiet_step}
 use Rattle.tide_machine.proofs.steps.Waiting.{SharedBit, left_quiet}
 use Rattle.tide_machine.specs.Duties.{IsCalm, OwesBarrier, GrowsOn, OwesColour}
@@ -40,6 +40,7 @@ module _ (layout : Layout) (shapes : ShapeLists) (old : Heap) (part : ℕ → Vi
     pub words : (at : Region) (index : ℕ) → is_read at ≡ true → new at index ≡ old at index
     pub period : new region.Period 0 ≡ old region.Period 0
     pub call_words : (p : ℕ) → new region.Call p ≡ old region.Call p
+    pub stop_words : (index : ℕ) → new region.Stopped index ≡ old region.Stopped index
     pub swept : (block : ℕ) → new region.Swept block ≡ old region.Swept block
     -- no grey cell gets another colour, and no bit of a shared word is cleared
     pub greys : is_marking old ≡ true → (cell : ℕ) → cell < cell_count layout → IsGrey old cell → IsGrey new cell
@@ -92,6 +93,7 @@ module _ (layout : Layout) (shapes : ShapeLists) (old : Heap) (part : ℕ → Vi
     waits = left_quiet layout old new part me (with_duty (part me) d) (s.words region.Phase 0 refl) s.period s.greys
         s.shared refl refl refl refl wave.waits;
     calls = calls_view layout old new part me (with_duty (part me) d) refl s.call_words wave.calls;
+    stops = stops_view layout old new part me (with_duty (part me) d) refl s.stop_words wave.stops;
     ran = s.runs;
     runs = s.runs;
     colours = s.colours;

@@ -4,10 +4,12 @@ use Rattle.std.proofs.lemmas.Bool.{eq-eqb, ne_eqb, cases_eq}
 use Rattle.std.specs.Prelude.{if◌then◌else◌, filter, ◌%◌, ◌^◌}
 use Rattle.tide_layout.specs.Slots.{total_below}
 use Rattle.tide_layout.specs.declared.region.Region.TheVariants as region
-use Rattle.tide_machine.specs.World.{holds, parties}
+use Rattle.tide_machine.specs.Kind.{index_of_stopped}
+use Rattle.tide_machine.specs.World.{IsParty, holds, parties}
 use Rattle.tide_machine.specs.declared.view.View.{View}
 use Rattle.tide_machine.specs.points.Holders.{RunningGreyIsHeld}
 use Rattle.tide_machine.specs.points.Seen.{CallsAreTold, IsKnown}
+use Rattle.tide_machine.specs.points.Stops.{StopsAreTold}
 use Rattle.tide_model.proofs.ReferenceLaws.{put_at_elim}
 use Rattle.tide_model.specs.History.{is_call_of}
 use Rattle.tide_model.specs.Layout.{Layout, cell_count}
@@ -109,3 +111,12 @@ pub calls_view : (layout : Layout) (old new : Heap) (part : ℕ → View) (me : 
 calls_view layout old new part me w same words told =
     each_put (λ p u. p < layout.mutators → new region.Call p ≡ u.calls % 2 ^ 64) part me w
     (λ within. words me ∙ told me within ∙ ap (λ (n : ℕ). n % 2 ^ 64) (sym same)) (λ p within. words p ∙ told p within)
+
+-- each Stopped word tells what its view says
+pub stops_view : (layout : Layout) (old new : Heap) (part : ℕ → View) (me : ℕ) (w : View) →
+    w.stopped ≡ (part me).stopped → ((index : ℕ) → new region.Stopped index ≡ old region.Stopped index) →
+    StopsAreTold layout old part → StopsAreTold layout new (put_at part me w)
+stops_view layout old new part me w same words told =
+    each_put (λ p u. IsParty layout p → new region.Stopped (index_of_stopped layout p) ≡ u.stopped) part me w
+    (λ party. words (index_of_stopped layout me) ∙ told me party ∙ sym same)
+    (λ p party. words (index_of_stopped layout p) ∙ told p party)

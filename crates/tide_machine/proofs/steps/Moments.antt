@@ -2,11 +2,13 @@
 use Rattle.std.proofs.Common.{ℕ, ◌≡◌, ◌<◌, refl, sym, ◌∙◌, ap, subst, arith}
 use Rattle.std.specs.Prelude.{◌^◌, Contains}
 use Rattle.tide_layout.specs.declared.region.Region.{Region}
+use Rattle.tide_layout.specs.declared.region.Region.TheVariants as region
 use Rattle.tide_machine.proofs.steps.Frames.{total_below-one}
+use Rattle.tide_machine.specs.Kind.{index_of_stopped}
 use Rattle.tide_machine.specs.Moment.{Moment, StepsAreTold, WorksOn}
 use Rattle.tide_machine.specs.Owed.{Owes, Knows}
 use Rattle.tide_machine.specs.RunningWave.{RunningWave}
-use Rattle.tide_machine.specs.World.{World, holds, parties}
+use Rattle.tide_machine.specs.World.{World, IsParty, holds, parties}
 use Rattle.tide_machine.specs.declared.view.View.{View}
 use Rattle.tide_model.specs.History.{state_after}
 use Rattle.tide_model.specs.Layout.{Layout}
@@ -18,6 +20,11 @@ works_of : (layout : Layout) (shapes : ShapeLists) (w : World) (me : ℕ) → Ru
     WorksOn layout (w.part me) w.heap (state_after layout w.log)
 works_of layout shapes w me wave = record {
   phase = λ runs. (let told = wave.numbers.told me runs in (told.0, told.1));
+  part = λ runs. sym (wave.numbers.told me runs).2;
+  calls = λ mutator. ap (w.heap region.Call) (wave.known.who me)
+      ∙ wave.calls me (subst (λ (p : ℕ). p < layout.mutators) (wave.known.who me) mutator);
+  stop = λ party. ap (λ (p : ℕ). w.heap region.Stopped (index_of_stopped layout p)) (wave.known.who me)
+      ∙ wave.stops me (subst (IsParty layout) (wave.known.who me) party);
   hands = wave.hands.cells me;
   greys = λ inside marks cell within.
       let once = wave.held.held marks cell within in

@@ -177,6 +177,7 @@ module _ (layout : Layout) (shapes : ShapeLists) (w : World) (me : ℕ) (inside 
       cycle = refl;
       begun = refl;
       visits = refl;
+      stopped = refl;
       period = s.same region.Period 0 refl;
       calls = s.told;
       held = refl;

@@ -29,6 +29,7 @@ use Rattle.tide_machine.specs.points.Marks.{counted_in}
 use Rattle.tide_machine.specs.points.Scans.{IsAtHand, ScanKnows}
 use Rattle.tide_machine.specs.points.Seen.{CallsAreTold}
 use Rattle.tide_machine.specs.points.SettledWords.{RunningWordsRead}
+use Rattle.tide_machine.specs.points.Stops.{StopsAreTold}
 use Rattle.tide_machine.specs.points.Witness.{GreyIsLeft}
 use Rattle.tide_model.proofs.ReferenceLaws.{put_at_elim}
 use Rattle.tide_model.specs.Cycle.{cycle_span}
@@ -75,6 +76,7 @@ module _ (layout : Layout) (shapes : ShapeLists) (old : Heap) (part : ℕ → Vi
     pub swept : (block : ℕ) → new region.Swept block ≡ old region.Swept block
     pub waits : GreyIsLeft layout new (put_at part me w)
     pub calls : CallsAreTold layout new (put_at part me w)
+    pub stops : StopsAreTold layout new (put_at part me w)
     -- colours and holders
     pub colours : NoLaterColours layout new
     pub balance : is_marking old ≡ true → (cell : ℕ) → cell < cell_count layout →
@@ -206,6 +208,7 @@ module _ (layout : Layout) (shapes : ShapeLists) (old : Heap) (part : ℕ → Vi
           (s.words region.Phase 0 refl) s.swept s.sweeping (λ block has. has) wave.sweeps;
       told = λ is. (let t = wave.numbers.told me s.ran in (s.marks ∙ t.0, s.cycle ∙ t.1, s.begun ∙ t.2));
       calls = s.calls;
+      stops = s.stops;
       empties = λ is. (let runs = s.runs in absurd (cc));
       growth = growth_same me w s.owed s.growth;
       growths = λ p apart. growth_same p (part p) refl refl;

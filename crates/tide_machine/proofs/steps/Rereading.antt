@@ -4,7 +4,7 @@ use Rattle.std.proofs.lemmas.Bool.{cases_lt}
 use Rattle.std.specs.Prelude.{Contains}
 use Rattle.tide_layout.specs.declared.region.Region.TheVariants as region
 use Rattle.tide_machine.proofs.kinds.Scanning.{still_open-is, still_open-holds}
-use Rattle.tide_machine.proofs.steps.Frames.{calls_view}
+use Rattle.tide_machine.proofs.steps.Frames.{calls_view, stops_view}
 use Rattle.tide_machine.proofs.steps.Quiet.{quiet_step}
 use Rattle.tide_machine.proofs.steps.Waiting.{left_quiet}
 use Rattle.tide_machine.specs.Duties.{OwesBarrier}
@@ -81,6 +81,8 @@ module _ (layout : Layout) (shapes : ShapeLists) (w : World) (me : ℕ) (inside 
         is. is) refl refl refl refl wave.waits;
     calls =
         calls_view layout w.heap w.heap w.part me (with_scan (w.part me) after) refl (λ p. refl) wave.calls;
+    stops =
+        stops_view layout w.heap w.heap w.part me (with_scan (w.part me) after) refl (λ p. refl) wave.stops;
     ran = runs;
     runs = runs;
     colours = wave.colours;

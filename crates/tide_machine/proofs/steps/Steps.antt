@@ -28,6 +28,7 @@ use Rattle.tide_machine.specs.points.Marks.{counted_in}
 use Rattle.tide_machine.specs.points.Scans.{IsAtHand, ScanKnows}
 use Rattle.tide_machine.specs.points.Seen.{CallsAreTold}
 use Rattle.tide_machine.specs.points.SettledWords.{RunningWordsRead}
+use Rattle.tide_machine.specs.points.Stops.{StopsAreTold}
 use Rattle.tide_machine.specs.points.Sweeps.{SweptAreBelow, SweepsAreNamed}
 use Rattle.tide_machine.specs.points.Witness.{GreyIsLeft}
 use Rattle.tide_model.proofs.ReferenceLaws.{put_at_elim}
@@ -76,6 +77,7 @@ module _ (layout : Layout) (shapes : ShapeLists) (old : Heap) (part : ℕ → Vi
     pub begins : w.begun ≤ old region.Period 0
     pub left : w.left ≡ (part me).left
     pub calls : CallsAreTold layout new (put_at part me w)
+    pub stops : StopsAreTold layout new (put_at part me w)
     pub empties : w.runs ≡ false → (w.held ≡ []) × (w.scan ≡ None) × (w.owed ≡ []) × (w.duty ≡ duty.Nothing) ×
         (w.growth ≡ growth.Nothing)
         × (w.known ≡ []) × (w.full ≡ []) × (w.calls ≡ length w.mine) × (w.sweeping ≡ None)
@@ -204,6 +206,7 @@ module _ (layout : Layout) (shapes : ShapeLists) (old : Heap) (part : ℕ → Vi
       lawful = wave.lawful;
       calls_alone = wave.calls_alone;
       calls = s.calls;
+      stops = s.stops;
       few_cycles = (let few = wave.few_cycles in omega (arith, few, running));
       known = known_view log part me w s.who s.seen s.mine wave.known;
       numbers = record {

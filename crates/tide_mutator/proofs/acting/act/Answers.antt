@@ -14,7 +14,7 @@ ask-requires-clause-planned g c =
     c.args.op
     does) (asks_else c.args.plan c.requires.acted d.not-Refuse d.not-Take d.not-LoadSlot d.not-StoreSlot d.not-Fill
     d.not-Claim
-    d.not-Release d.not-StoreStrong d.not-LoadStrong d.not-StoreWeak d.not-LoadWeak d.not-Retire) c.requires.planned
+    d.not-Release d.not-StoreStrong d.not-LoadStrong d.not-StoreWeak d.not-LoadWeak d.not-Join d.not-Retire) c.requires.planned
 
 pub returns-in_default-clause-done : goal.returns-in_default-clause-done
 returns-in_default-clause-done g c =
@@ -24,4 +24,4 @@ returns-in_default-clause-done g c =
     c.args.pass.now.seat.me.0 c.ask.new.pass.seat.me.0)
     (sym (asks_else c.args.plan c.requires.acted d.not-Refuse d.not-Take d.not-LoadSlot d.not-StoreSlot d.not-Fill
     d.not-Claim
-    d.not-Release d.not-StoreStrong d.not-LoadStrong d.not-StoreWeak d.not-LoadWeak d.not-Retire)) c.ask.ensures.done
+    d.not-Release d.not-StoreStrong d.not-LoadStrong d.not-StoreWeak d.not-LoadWeak d.not-Join d.not-Retire)) c.ask.ensures.done

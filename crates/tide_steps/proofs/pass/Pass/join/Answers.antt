@@ -13,6 +13,6 @@ join_seat-requires g c =
       c.requires.of_heap,
       ticket.slotless,
       zero_below h.key.layout h.table.shared.table_id.words h.sized,
-      hears layout shapes seat.id ticket.seat.id seat.me.0 ticket.seat.me.0 c.args.self.now.member c.requires.rests
+      hears layout shapes seat.id ticket.seat.id seat.me.0 ticket.seat.me.0 c.args.self.now.member c.requires.parked
           c.requires.stays ticket.kind c.requires.later,
     )
