@@ -2,7 +2,7 @@
 use Rattle.std.proofs.Common.{ℕ, ◌≡◌, ◌+◌, ◌<◌, ◌≤◌, refl, sym, ◌∙◌, ap, subst, arith, Bool, true, false, List, [], ◌∷◌, ◌++◌, length, take, take_all, drop, append_assoc, append-nil, replicate, inl, inr, eq-eqb, get_or, All}
 use Rattle.std.proofs.lemmas.Bool.{ltb-true, ltb-false}
 use Rattle.std.proofs.lemmas.List.{length-append, take_more, replicate_more}
-use Rattle.std.proofs.lemmas.List.Elements.{All-get_or, All-push}
+use Rattle.std.proofs.lemmas.List.Elements.{All-get_or, All-push, All-weaker}
 use Rattle.std.proofs.lemmas.Option.{slice_get_cases}
 use Rattle.std.specs.Prelude.{Option, None, Some, is_some, slice_get, nat_lt, if◌then◌else◌, not, ◌&&◌}
 use Rattle.tide_model.specs.declared.op.Op.{Op}
@@ -24,7 +24,7 @@ use Rattle.tide_model.proofs.Histories.{take-append-short, calls_of-append, retr
 use Rattle.tide_model.proofs.Cycles.{take-all}
 use Rattle.tide_periods.specs.Asking.{IsAskable, IsAt, IsMutatorAt, Standing, WasDone, claims_after, after_reply, next_of, op_or_leave, IsAskedBy, of_script, asks_unclaim, asks_retire}
 use Rattle.tide_periods.specs.Store.{Setting}
-use Rattle.tide_periods.specs.Recorded.{IsSettled, MadeCall, MayAsk, Recorded}
+use Rattle.tide_periods.specs.Recorded.{IsSettled, MayAsk, Recorded}
 use Rattle.tide_model.proofs.ActiveLaws.{active_after-call}
 use Rattle.tide_model.proofs.CallLaws.{unclaim_is_done, retire_is_done, length_without_first, nothing_of_no_length}
 
@@ -84,39 +84,38 @@ next_cases ops standing claims = elim (slice_get_cases ops standing.done).1 [
     leaves over true is = unclaims over (ltb-true 0 claims is) refl
     leaves over false is = retires over (let none = ltb-false 0 claims is in omega (arith, none)) refl
 
+-- the next operation is one of the list, or what leaves
+pub next_holds : (P : Op → Type 0) (ops : List Op) (standing : Standing) (claims : ℕ) → All P ops → P Unclaim → P Retire → P (next_of ops standing claims)
+next_holds P ops standing claims all unclaim retire = elim (next_cases ops standing claims) [
+  | an_operation below some is ↦ subst P is (All-get_or P ops standing.done (next_of ops standing claims) below all)
+  | unclaims over has is ↦ subst P (sym is) unclaim
+  | retires over none is ↦ subst P (sym is) retire
+]
+
+-- its operands are those of the layout
+pub fits-next : (layout : Layout) (ops : List Op) (standing : Standing) (claims : ℕ) → All (IsAskable layout) ops → FitsLayout layout (next_of ops standing claims)
+fits-next layout ops standing claims askable =
+    next_holds (FitsLayout layout) ops standing claims (All-weaker (IsAskable layout) (FitsLayout layout) (λ op it. it.fits) ops askable) tt tt
+
+-- and it is to retire only without a claim
+pub bare-next : (layout : Layout) (ops : List Op) (standing : Standing) (claims : ℕ) → All (IsAskable layout) ops → next_of ops standing claims ≡ Retire → claims ≡ 0
+bare-next layout ops standing claims askable retire = elim (next_cases ops standing claims) [
+  | an_operation below some is ↦
+      let goes_on = (subst (IsAskable layout) is (All-get_or (IsAskable layout) ops standing.done (next_of ops standing claims) below askable)).goes_on in
+      let clash : true ≡ false = sym (ap is_retire retire) ∙ goes_on in absurd (cc)
+  | unclaims over has is ↦ let clash : Unclaim ≡ Retire = sym is ∙ retire in absurd (cc)
+  | retires over none is ↦ none
+]
+
 -- the next operation may be asked for
 pub MayAsk-next : (recorded : Recorded) (who : ℕ) (ops : List Op) (standing : Standing) (calls : List (Op × Reply)) →
-    IsSettled recorded → IsMutatorAt recorded who ops standing calls → standing.retired ≡ false → MayAsk recorded who (next_of ops standing (length (recorded.state.claims who)))
-MayAsk-next recorded who ops standing calls settled at stays =
-    record {
-      is_mutator = at.is_mutator;
-      is_active = ap (λ (s : State). s.active who) (sym settled.leaves) ∙ at.active ∙ ap not stays;
-      fits = fits;
-      released = released;
-    }
-  where
-    op : Op
-    op = next_of ops standing (length (recorded.state.claims who))
-
-    next : IsNext ops standing.done (length (recorded.state.claims who)) op
-    next = next_cases ops standing (length (recorded.state.claims who))
-
-    askable : (o : Op) → standing.done < length ops → get_or ops standing.done o ≡ o → IsAskable recorded.setting.layout o
-    askable o below is = subst (IsAskable recorded.setting.layout) is (All-get_or (IsAskable recorded.setting.layout) ops standing.done o below at.askable)
-
-    fits : FitsLayout recorded.setting.layout op
-    fits = elim next [
-      | an_operation below some is ↦ (askable op below is).fits
-      | unclaims over has is ↦ subst (FitsLayout recorded.setting.layout) (sym is) tt
-      | retires over none is ↦ subst (FitsLayout recorded.setting.layout) (sym is) tt
-    ]
-
-    released : op ≡ Retire → recorded.state.claims who ≡ []
-    released retire = elim next [
-      | an_operation below some is ↦ let goes_on = (askable op below is).goes_on in let clash : true ≡ false = sym (ap is_retire retire) ∙ goes_on in absurd (cc)
-      | unclaims over has is ↦ let clash : Unclaim ≡ Retire = sym is ∙ retire in absurd (cc)
-      | retires over none is ↦ nothing_of_no_length (recorded.state.claims who) none
-    ]
+    IsSettled recorded → IsMutatorAt recorded.setting recorded.history who ops standing calls → standing.retired ≡ false → MayAsk recorded who (next_of ops standing (length (recorded.state.claims who)))
+MayAsk-next recorded who ops standing calls settled at stays = record {
+  is_mutator = at.is_mutator;
+  is_active = ap (λ (s : State). s.active who) (sym settled.leaves) ∙ at.active ∙ ap not stays;
+  fits = fits-next recorded.setting.layout ops standing (length (recorded.state.claims who)) at.askable;
+  released = λ retire. nothing_of_no_length (recorded.state.claims who) (bare-next recorded.setting.layout ops standing (length (recorded.state.claims who)) at.askable retire);
+}
 
 -- only an operation of the list is ever refused for room
 pub not_full_past : (layout : Layout) (shapes : ShapeLists) (state : State) (who : ℕ) (ops : List Op) (done : ℕ) (op : Op) (reply : Reply) (took : Option ℕ) →
@@ -220,21 +219,28 @@ IsAt-next ops standing script claims op reply total total' held' at (retires ove
     }
 
 -- a call of its next operation takes a mutator on
-pub IsMutatorAt-called : (old new : Recorded) (who : ℕ) (ops : List Op) (standing : Standing) (calls : List (Op × Reply)) (op : Op) (reply : Reply) →
-    IsSettled old → IsMutatorAt old who ops standing calls → standing.retired ≡ false → op ≡ next_of ops standing (length (old.state.claims who)) → MadeCall old new who op reply →
-    IsMutatorAt new who ops (after_reply ops standing op reply) (calls ++ (op, reply) ∷ [])
-IsMutatorAt-called old new who ops standing calls op reply settled at stays is made =
+pub IsMutatorAt-called : (setting : Setting) (history : List Event) (who : ℕ) (ops : List Op) (standing : Standing) (calls : List (Op × Reply)) (op : Op) (reply : Reply) (took : Option ℕ) →
+    IsMutatorAt setting history who ops standing calls → standing.retired ≡ false → op ≡ next_of ops standing (claims_after setting.layout history who) →
+    IsAnswer setting.layout setting.shapes (state_after setting.layout history) who op reply took →
+    IsMutatorAt setting (history ++ called who op reply took ∷ []) who ops (after_reply ops standing op reply) (calls ++ (op, reply) ∷ [])
+IsMutatorAt-called setting history who ops standing calls op reply took at stays is answers =
     elim next [
       | an_operation within some at_place ↦
-          grown (claims_after new.setting.layout new.history who) (length new.history) (omega arith)
+          grown (claims_after setting.layout new who) (length new) (omega arith)
           (λ _. refl) (λ over. absurd (omega arith))
-          (λ same. record { script = ap (script_of who) (take-all new.history) ∙ done_now within same; claims = ap (λ (h : List Event). claims_after new.setting.layout h who) (take-all new.history) })
+          (λ same. record { script = ap (script_of who) (take-all new) ∙ done_now within same; claims = ap (λ (h : List Event). claims_after setting.layout h who) (take-all new) })
       | unclaims over has is_unclaim ↦ grown at.total at.moment (longer at.moment at.in_history) (λ below. absurd (omega arith)) (λ _. refl) (λ _. still over)
       | retires over none is_retire' ↦ grown at.total at.moment (longer at.moment at.in_history) (λ below. absurd (omega arith)) (λ _. refl) (λ _. still over)
     ]
   where
+    state : State
+    state = state_after setting.layout history
+
+    new : List Event
+    new = history ++ called who op reply took ∷ []
+
     claims : ℕ
-    claims = length (old.state.claims who)
+    claims = length (state.claims who)
 
     first : Bool
     first = not standing.retry && is_full_reply reply
@@ -244,23 +250,23 @@ IsMutatorAt-called old new who ops standing calls op reply settled at stays is m
 
     goes_on : standing.done < length ops → is_retire op ≡ false
     goes_on below = elim next [
-      | an_operation within some at_place ↦ (subst (IsAskable old.setting.layout) at_place (All-get_or (IsAskable old.setting.layout) ops standing.done op within at.askable)).goes_on
+      | an_operation within some at_place ↦ (subst (IsAskable setting.layout) at_place (All-get_or (IsAskable setting.layout) ops standing.done op within at.askable)).goes_on
       | unclaims over has is_unclaim ↦ absurd (omega arith)
       | retires over none is_retire' ↦ absurd (omega arith)
     ]
 
     done_past : length ops ≤ standing.done → reply ≡ Done
-    done_past over = not_full_past old.setting.layout old.setting.shapes old.state who ops standing.done op reply made.took next made.answers over
+    done_past over = not_full_past setting.layout setting.shapes state who ops standing.done op reply took next answers over
 
-    retry_now : retry_of who new.history ≡ (if first then Some op else None)
-    retry_now = ap (retry_of who) made.history ∙ retry_of-push who old.history op reply made.took ∙ retry_after-flag (retry_of who old.history) standing.retry op reply at.retry
+    retry_now : retry_of who new ≡ (if first then Some op else None)
+    retry_now = retry_of-push who history op reply took ∙ retry_after-flag (retry_of who history) standing.retry op reply at.retry
 
-    script_now : script_of who new.history ≡ script_of who old.history ++ (if first then [] else op ∷ [])
-    script_now = ap (script_of who) made.history ∙ script_of-push who old.history op reply made.took
-        ∙ ap (λ (o : Option Op). script_of who old.history ++ (if is_some o then [] else op ∷ [])) (retry_after-flag (retry_of who old.history) standing.retry op reply at.retry)
-        ∙ ap (λ (b : Bool). script_of who old.history ++ (if b then [] else op ∷ [])) (is_some-flag first op)
+    script_now : script_of who new ≡ script_of who history ++ (if first then [] else op ∷ [])
+    script_now = script_of-push who history op reply took
+        ∙ ap (λ (o : Option Op). script_of who history ++ (if is_some o then [] else op ∷ [])) (retry_after-flag (retry_of who history) standing.retry op reply at.retry)
+        ∙ ap (λ (b : Bool). script_of who history ++ (if b then [] else op ∷ [])) (is_some-flag first op)
 
-    retries : (flag : Bool) → first ≡ flag → (o : Op) → retry_of who new.history ≡ Some o → slice_get ops (after_reply ops standing op reply).done ≡ Some o
+    retries : (flag : Bool) → first ≡ flag → (o : Op) → retry_of who new ≡ Some o → slice_get ops (after_reply ops standing op reply).done ≡ Some o
     retries true e o pending =
         let now : Some op ≡ Some o = sym (retry_now ∙ ap (λ (b : Bool). if b then Some op else None) e) ∙ pending in
         elim next [
@@ -272,32 +278,28 @@ IsMutatorAt-called old new who ops standing calls op reply settled at stays is m
     retries false e o pending =
         let now : None ≡ Some o = sym (retry_now ∙ ap (λ (b : Bool). if b then Some op else None) e) ∙ pending in absurd (cc)
 
-    leaves : state_after new.setting.layout new.history ≡ after_call old.state who op reply made.took
-    leaves = ap (λ (s : Setting). state_after s.layout new.history) made.same ∙ ap (state_after old.setting.layout) made.history
-        ∙ state_after-push old.setting.layout old.history (called who op reply made.took) ∙ ap (λ (s : State). after_call s who op reply made.took) settled.leaves
+    leaves : state_after setting.layout new ≡ after_call state who op reply took
+    leaves = state_after-push setting.layout history (called who op reply took)
 
-    was_active : old.state.active who ≡ true
-    was_active = ap (λ (s : State). s.active who) (sym settled.leaves) ∙ at.active ∙ ap not stays
+    was_active : state.active who ≡ true
+    was_active = at.active ∙ ap not stays
 
-    active_now : (state_after new.setting.layout new.history).active who ≡ not (is_retire op)
+    active_now : (state_after setting.layout new).active who ≡ not (is_retire op)
     active_now = ap (λ (s : State). s.active who) leaves ∙ (elim next [
       | an_operation within some at_place ↦
-          ap (λ (a : ℕ → Bool). a who) (active_after-call old.state who op reply made.took (goes_on within)) ∙ was_active ∙ ap not (sym (goes_on within))
+          ap (λ (a : ℕ → Bool). a who) (active_after-call state who op reply took (goes_on within)) ∙ was_active ∙ ap not (sym (goes_on within))
       | unclaims over has is_unclaim ↦
-          ap (λ (o : Op). (after_call old.state who o reply made.took).active who) is_unclaim
-          ∙ ap (λ (a : ℕ → Bool). a who) (active_after-call old.state who Unclaim reply made.took refl) ∙ was_active ∙ ap (λ (o : Op). not (is_retire o)) (sym is_unclaim)
+          ap (λ (o : Op). (after_call state who o reply took).active who) is_unclaim
+          ∙ ap (λ (a : ℕ → Bool). a who) (active_after-call state who Unclaim reply took refl) ∙ was_active ∙ ap (λ (o : Op). not (is_retire o)) (sym is_unclaim)
       | retires over none is_retire' ↦
-          ap (λ (o : Op). (after_call old.state who o reply made.took).active who) is_retire'
-          ∙ ap (λ (r : Reply). (after_call old.state who Retire r made.took).active who) (done_past over)
-          ∙ ap (λ (b : Bool). if b then false else old.state.active who) (eq-eqb who who refl)
+          ap (λ (o : Op). (after_call state who o reply took).active who) is_retire'
+          ∙ ap (λ (r : Reply). (after_call state who Retire r took).active who) (done_past over)
+          ∙ ap (λ (b : Bool). if b then false else state.active who) (eq-eqb who who refl)
           ∙ ap (λ (o : Op). not (is_retire o)) (sym is_retire')
     ])
 
-    held_now : length ((state_after new.setting.layout new.history).claims who) ≡ length ((after_call old.state who op reply made.took).claims who)
+    held_now : length ((state_after setting.layout new).claims who) ≡ length ((after_call state who op reply took).claims who)
     held_now = ap (λ (s : State). length (s.claims who)) leaves
-
-    held_old : claims_after old.setting.layout old.history who ≡ claims
-    held_old = ap (λ (s : State). length (s.claims who)) settled.leaves
 
     asked_now : IsAskedBy ops op
     asked_now = elim next [
@@ -306,8 +308,8 @@ IsMutatorAt-called old new who ops standing calls op reply settled at stays is m
       | retires over none is_retire' ↦ subst (IsAskedBy ops) (sym is_retire') asks_retire
     ]
 
-    longer : (moment : ℕ) → moment ≤ length old.history → moment ≤ length new.history
-    longer moment le = (let more = ap (λ (h : List Event). length h) made.history in let one = length-append old.history (called who op reply made.took ∷ []) in omega (arith, more, one, le))
+    longer : (moment : ℕ) → moment ≤ length history → moment ≤ length new
+    longer moment le = (let one = length-append history (called who op reply took ∷ []) in omega (arith, one, le))
 
     some_claims : op ≡ Unclaim → length ops ≤ standing.done → 0 < claims
     some_claims is_unclaim over = elim next [
@@ -316,45 +318,42 @@ IsMutatorAt-called old new who ops standing calls op reply settled at stays is m
       | retires past none is' ↦ (let clash : Unclaim ≡ Retire = sym is_unclaim ∙ is' in absurd (cc))
     ]
 
-    script_grown : (total moment : ℕ) → (standing.done < length ops → claims_after new.setting.layout new.history who ≡ total) → (length ops ≤ standing.done → total ≡ at.total) →
-        IsAt ops (after_reply ops standing op reply) (script_of who new.history) total (claims_after new.setting.layout new.history who)
+    script_grown : (total moment : ℕ) → (standing.done < length ops → claims_after setting.layout new who ≡ total) → (length ops ≤ standing.done → total ≡ at.total) →
+        IsAt ops (after_reply ops standing op reply) (script_of who new) total (claims_after setting.layout new who)
     script_grown total moment fresh kept =
-        subst (λ (s : List Op). IsAt ops (after_reply ops standing op reply) s total (claims_after new.setting.layout new.history who)) (sym script_now)
-        (IsAt-next ops standing (script_of who old.history) claims op reply at.total total (claims_after new.setting.layout new.history who)
-        (subst (IsAt ops standing (script_of who old.history) at.total) held_old at.at) next stays goes_on done_past fresh kept
+        subst (λ (s : List Op). IsAt ops (after_reply ops standing op reply) s total (claims_after setting.layout new who)) (sym script_now)
+        (IsAt-next ops standing (script_of who history) claims op reply at.total total (claims_after setting.layout new who)
+        at.at next stays goes_on done_past fresh kept
         (λ is_unclaim over. ap (λ (n : ℕ). n + 1) (held_now
-        ∙ ap (λ (o : Op). length ((after_call old.state who o reply made.took).claims who)) is_unclaim
-        ∙ ap (λ (r : Reply). length ((after_call old.state who Unclaim r made.took).claims who)) (done_past over)
-        ∙ ap (λ (b : Bool). length (if b then drop 1 (old.state.claims who) else old.state.claims who)) (eq-eqb who who refl))
-        ∙ length_without_first (old.state.claims who) (some_claims is_unclaim over))
+        ∙ ap (λ (o : Op). length ((after_call state who o reply took).claims who)) is_unclaim
+        ∙ ap (λ (r : Reply). length ((after_call state who Unclaim r took).claims who)) (done_past over)
+        ∙ ap (λ (b : Bool). length (if b then drop 1 (state.claims who) else state.claims who)) (eq-eqb who who refl))
+        ∙ length_without_first (state.claims who) (some_claims is_unclaim over))
         (λ is_retire' over. held_now
-        ∙ ap (λ (o : Op). length ((after_call old.state who o reply made.took).claims who)) is_retire'
-        ∙ ap (λ (r : Reply). length ((after_call old.state who Retire r made.took).claims who)) (done_past over)))
+        ∙ ap (λ (o : Op). length ((after_call state who o reply took).claims who)) is_retire'
+        ∙ ap (λ (r : Reply). length ((after_call state who Retire r took).claims who)) (done_past over)))
 
-    done_now : standing.done < length ops → (after_reply ops standing op reply).done ≡ length ops → script_of who new.history ≡ ops
+    done_now : standing.done < length ops → (after_reply ops standing op reply).done ≡ length ops → script_of who new ≡ ops
     done_now below same =
-        let now = script_grown (claims_after new.setting.layout new.history who) 0 (λ _. refl) (λ over. absurd (omega arith)) in
+        let now = script_grown (claims_after setting.layout new who) 0 (λ _. refl) (λ over. absurd (omega arith)) in
         let none : now.unclaims ≡ 0 = (let given = now.given same in omega (arith, given)) in
         let done = (after_reply ops standing op reply).done in
         now.is_script ∙ ap (λ (r : Bool). (take done ops ++ replicate now.unclaims Unclaim) ++ (if r then Retire ∷ [] else [])) (goes_on below)
         ∙ append-nil (take done ops ++ replicate now.unclaims Unclaim) ∙ ap (λ (n : ℕ). take done ops ++ replicate n Unclaim) none ∙ append-nil (take done ops)
         ∙ ap (λ (n : ℕ). take n ops) same ∙ take_all (length ops) ops (omega arith)
 
-    still : length ops ≤ standing.done → WasDone new.setting.layout new.history who ops at.moment at.total
+    still : length ops ≤ standing.done → WasDone setting.layout new who ops at.moment at.total
     still over =
         let was = at.was_done (let w = at.at.within in omega (arith, w, over)) in
-        let same : take at.moment new.history ≡ take at.moment old.history = ap (take at.moment) made.history ∙ take-append-short old.history (called who op reply made.took ∷ []) at.moment at.in_history in
-        record {
-          script = ap (script_of who) same ∙ was.script;
-          claims = ap (λ (s : Setting). claims_after s.layout (take at.moment new.history) who) made.same ∙ ap (λ (h : List Event). claims_after old.setting.layout h who) same ∙ was.claims;
-        }
+        let same = take-append-short history (called who op reply took ∷ []) at.moment at.in_history in
+        record { script = ap (script_of who) same ∙ was.script; claims = ap (λ (h : List Event). claims_after setting.layout h who) same ∙ was.claims }
 
-    grown : (total moment : ℕ) → moment ≤ length new.history → (standing.done < length ops → claims_after new.setting.layout new.history who ≡ total) → (length ops ≤ standing.done → total ≡ at.total) →
-        ((after_reply ops standing op reply).done ≡ length ops → WasDone new.setting.layout new.history who ops moment total) →
-        IsMutatorAt new who ops (after_reply ops standing op reply) (calls ++ (op, reply) ∷ [])
+    grown : (total moment : ℕ) → moment ≤ length new → (standing.done < length ops → claims_after setting.layout new who ≡ total) → (length ops ≤ standing.done → total ≡ at.total) →
+        ((after_reply ops standing op reply).done ≡ length ops → WasDone setting.layout new who ops moment total) →
+        IsMutatorAt setting new who ops (after_reply ops standing op reply) (calls ++ (op, reply) ∷ [])
     grown total moment in_history fresh kept was_done = record {
-      is_mutator = subst (λ (s : Setting). who < s.layout.mutators) (sym made.same) at.is_mutator;
-      askable = subst (λ (s : Setting). All (IsAskable s.layout) ops) (sym made.same) at.askable;
+      is_mutator = at.is_mutator;
+      askable = at.askable;
       total = total;
       moment = moment;
       in_history = in_history;
@@ -364,5 +363,5 @@ IsMutatorAt-called old new who ops standing calls op reply settled at stays is m
       retries = retries first refl;
       active = active_now;
       asked = All-push (λ call. IsAskedBy ops call.0) calls (op, reply) at.asked asked_now;
-      are = ap (calls_of who) made.history ∙ calls_of-push who old.history op reply made.took ∙ ap (λ (c : List (Op × Reply)). c ++ (op, reply) ∷ []) at.are;
+      are = calls_of-push who history op reply took ∙ ap (λ (c : List (Op × Reply)). c ++ (op, reply) ∷ []) at.are;
     }

@@ -1,107 +1,36 @@
 -- Each call leaves fewer.
 use Rattle.std.proofs.Common.{ℕ, zero, suc, ◌≡◌, ◌≢◌, ◌+◌, ◌-◌, ◌<◌, ◌≤◌, refl, sym, ◌∙◌, ap, subst, arith, Bool, true, false, List, [], ◌∷◌, ◌++◌, length, drop, eq-eqb, All}
-use Rattle.std.proofs.lemmas.Bool.{eqb-true, ltb-true, ltb-false}
-use Rattle.std.proofs.lemmas.List.Elements.{All-get_or, All-head, All-tail}
+use Rattle.std.proofs.lemmas.Bool.{ltb-true, ltb-false}
+use Rattle.std.proofs.lemmas.List.Elements.{All-get_or}
 use Rattle.std.proofs.Math.ListN.{set}
-use Rattle.std.specs.Prelude.{Option, None, Some, filter, map, slice_get, nat_lt, not, ◌&&◌, ◌==◌, if◌then◌else◌}
-use Rattle.tide_model.specs.declared.val.Val.{Val}
-use Rattle.tide_model.specs.declared.val.Val.TheVariants.{Empty, Int, Cell}
+use Rattle.std.specs.Prelude.{Option, Some, map, slice_get, nat_lt, not, ◌&&◌, if◌then◌else◌}
 use Rattle.tide_model.specs.declared.op.Op.{Op}
-use Rattle.tide_model.specs.declared.op.Op.TheVariants.{Put, Claim, Release, Unclaim, Add, SetProp, PairSet, PairDel, Group, Retire}
+use Rattle.tide_model.specs.declared.op.Op.TheVariants.{Unclaim}
 use Rattle.tide_model.specs.declared.op.Reply.{Reply}
-use Rattle.tide_model.specs.declared.op.Reply.TheVariants.{Done, Refused}
-use Rattle.tide_model.specs.declared.entry.Entry.{Entry}
-use Rattle.tide_model.specs.declared.entry.Entry.TheVariants.{Call, Begin, Pause, Visits, End, Sweep, Open}
+use Rattle.tide_model.specs.declared.op.Reply.TheVariants.{Done}
 use Rattle.tide_model.specs.declared.entry.Event.{Event}
-use Rattle.tide_model.specs.Applied.{after_call, at_cell, add_property, put_cell, put_claims, put_pair, put_property, put_slot}
-use Rattle.tide_model.specs.History.{after_entry, after_event, is_call_of, state_after, state_from}
+use Rattle.tide_model.specs.Answer.{IsAnswer}
+use Rattle.tide_model.specs.Applied.{after_call}
+use Rattle.tide_model.specs.History.{is_call_of, state_after}
 use Rattle.tide_model.specs.Layout.{Layout}
 use Rattle.tide_model.specs.Script.{is_full_reply}
 use Rattle.tide_model.specs.Script.{is_retire}
 use Rattle.tide_model.specs.State.{State}
-use Rattle.tide_model.proofs.Histories.{state_after-append, state_after-push}
-use Rattle.tide_model.proofs.ReferenceLaws.{after_call-refused}
+use Rattle.tide_model.proofs.Histories.{state_after-push}
 use Rattle.tide_periods.specs.declared.caller.Caller.{Caller}
 use Rattle.tide_periods.specs.Answered.{pair_of}
-use Rattle.tide_periods.specs.Asking.{IsAskable, IsCaller, IsMutatorAt, Standing, after_reply, TookReply, next_of, standing_of}
+use Rattle.tide_periods.specs.Asking.{IsAskable, IsCaller, IsCallerAt, IsMutatorAt, Standing, after_reply, claims_after, TookReply, next_of, standing_of}
 use Rattle.tide_periods.specs.Left.{left_at, left_by, left_of, total_by}
 use Rattle.tide_periods.specs.Part.{RanShare}
 use Rattle.tide_periods.specs.Store.{Setting}
 use Rattle.tide_periods.specs.Recorded.{IsSettled, MadeCall, Recorded}
 use Rattle.tide_model.proofs.CallLaws.{length_without_first}
+use Rattle.tide_periods.proofs.Quiet.{calls_of-others, claims_after-quiet}
 use Rattle.tide_periods.proofs.CallerLaws.{IsNext, an_operation, unclaims, retires, called, next_cases, not_first, not_full_past}
-
-claims_at-cell : (state : State) (who : ℕ) (value : Val) (change : ℕ → State) → ((cell : ℕ) → (change cell).claims who ≡ state.claims who) → (at_cell state value change).claims who ≡ state.claims who
-claims_at-cell state who Empty change same = refl
-claims_at-cell state who (Int n) change same = refl
-claims_at-cell state who (Cell cell) change same = same cell
-
-claims_put-slot : (state : State) (who : ℕ) (source : Val) (slot : ℕ) (value : Val) → (put_slot state source slot value).claims who ≡ state.claims who
-claims_put-slot state who Empty slot value = refl
-claims_put-slot state who (Int n) slot value = refl
-claims_put-slot state who (Cell cell) slot value = refl
-
-put_claims-others : (state : State) (who other : ℕ) (claims : List ℕ) → who ≢ other → (put_claims state other claims).claims who ≡ state.claims who
-put_claims-others state who other claims apart = step (who == other) refl
-  where
-    step : (b : Bool) → (who == other) ≡ b → (if b then claims else state.claims who) ≡ state.claims who
-    step true e = absurd (apart (eqb-true who other e))
-    step false e = refl
-
--- a call leaves what others claim
-claims-others : (state : State) (who other : ℕ) (op : Op) (reply : Reply) (took : Option ℕ) → who ≢ other → (after_call state other op reply took).claims who ≡ state.claims who
-claims-others state who other Retire Done took apart = refl
-claims-others state who other op (Refused refusal) took apart = ap (λ (s : State). s.claims who) (after_call-refused state other op refusal took)
-claims-others state who other (Put src slot val) Done took apart = claims_put-slot state who (state.registers other src) slot (state.registers other val)
-claims-others state who other (Claim src) Done took apart =
-    claims_at-cell state who (state.registers other src) (λ cell. put_claims state other (state.claims other ++ cell ∷ []))
-    (λ cell. put_claims-others state who other (state.claims other ++ cell ∷ []) apart)
-claims-others state who other (Release src) Done took apart =
-    claims_at-cell state who (state.registers other src) (λ cell. put_claims state other (filter (λ claimed. not (claimed == cell)) (state.claims other)))
-    (λ cell. put_claims-others state who other (filter (λ claimed. not (claimed == cell)) (state.claims other)) apart)
-claims-others state who other Unclaim Done took apart = put_claims-others state who other (drop 1 (state.claims other)) apart
-claims-others state who other (Add src key val) Done took apart =
-    claims_at-cell state who (state.registers other src) (λ cell. add_property state cell key (state.registers other val) took) (λ cell. refl)
-claims-others state who other (SetProp src key val) Done took apart =
-    claims_at-cell state who (state.registers other src) (λ cell. put_property state cell key (state.registers other val)) (λ cell. refl)
-claims-others state who other (PairSet src key val) Done took apart =
-    claims_at-cell state who (state.registers other src) (λ table. at_cell state (state.registers other key) (λ cell. put_pair state table cell (Some (state.registers other val))))
-    (λ table. claims_at-cell state who (state.registers other key) (λ cell. put_pair state table cell (Some (state.registers other val))) (λ cell. refl))
-claims-others state who other (PairDel src key) Done took apart =
-    claims_at-cell state who (state.registers other src) (λ table. at_cell state (state.registers other key) (λ cell. put_pair state table cell None))
-    (λ table. claims_at-cell state who (state.registers other key) (λ cell. put_pair state table cell None) (λ cell. refl))
-claims-others state who other (Group src n) Done took apart =
-    claims_at-cell state who (state.registers other src) (λ cell. put_cell state cell (record (state.cells cell) { group = n })) (λ cell. refl)
-claims-others state who other op reply took apart = refl
-
--- another mutator's calls leave a part of the state that each of them leaves
-pub from-others : {X : Type 0} (part : State → X) (layout : Layout) (state : State) (events : List Event) (other : ℕ) →
-    ((before : State) (w : ℕ) (op : Op) (reply : Reply) (took : Option ℕ) → w ≡ other → part (after_call before w op reply took) ≡ part before) →
-    All (λ event. is_call_of other event.entry ≡ true) events → part (state_from layout state events) ≡ part state
-from-others {X} part layout state [] other keeps all = refl
-from-others {X} part layout state (event ∷ events) other keeps all =
-    from-others part layout (after_event layout state event) events other keeps (All-tail (λ e. is_call_of other e.entry ≡ true) event events all)
-    ∙ one event.entry (All-head (λ e. is_call_of other e.entry ≡ true) event events all)
-  where
-    one : (entry : Entry) → is_call_of other entry ≡ true → part (after_entry layout state entry event.took) ≡ part state
-    one (Call w op reply) of = keeps state w op reply event.took (eqb-true w other of)
-    one (Begin cycle) of = absurd (cc)
-    one (Pause visits) of = absurd (cc)
-    one (Visits w visits) of = absurd (cc)
-    one (End cycle freed) of = absurd (cc)
-    one (Sweep block) of = absurd (cc)
-    one (Open number run) of = absurd (cc)
-
-claims_from-others : (layout : Layout) (state : State) (who other : ℕ) (events : List Event) → who ≢ other → All (λ event. is_call_of other event.entry ≡ true) events →
-    (state_from layout state events).claims who ≡ state.claims who
-claims_from-others layout state who other events apart all =
-    from-others (λ (s : State). s.claims who) layout state events other
-    (λ before w op reply took same. claims-others before who w op reply took (λ is. apart (is ∙ same))) all
 
 pub claims_after-others : (layout : Layout) (history events : List Event) (who other : ℕ) → who ≢ other → All (λ event. is_call_of other event.entry ≡ true) events →
     (state_after layout (history ++ events)).claims who ≡ (state_after layout history).claims who
-claims_after-others layout history events who other apart all =
-    ap (λ (s : State). s.claims who) (state_after-append layout history events) ∙ claims_from-others layout (state_after layout history) who other events apart all
+claims_after-others layout history events who other apart all = claims_after-quiet layout history events who (calls_of-others who other events apart all)
 
 -- another mutator's share leaves what this one claims
 pub claims_after-share : (now new : Recorded) (run who other : ℕ) (stopped : Bool) → who ≢ other → IsSettled now → RanShare now new run other stopped →
@@ -110,8 +39,7 @@ claims_after-share now new run who other stopped apart recorded ran =
     ap (λ (s : State). s.claims who) (sym ran.settled.leaves)
     ∙ ap (λ (s : Setting). (state_after s.layout new.history).claims who) ran.same
     ∙ ap (λ (h : List Event). (state_after now.setting.layout h).claims who) ran.history
-    ∙ ap (λ (s : State). s.claims who) (state_after-append now.setting.layout now.history ran.events)
-    ∙ claims_from-others now.setting.layout (state_after now.setting.layout now.history) who other ran.events apart ran.own
+    ∙ claims_after-others now.setting.layout now.history ran.events who other apart ran.own
     ∙ ap (λ (s : State). s.claims who) recorded.leaves
 
 -- an active mutator has at least one call left
@@ -124,15 +52,22 @@ left-some ops standing claims stays =
     step false = omega arith
 
 -- a call leaves at least one less
-pub left-called : (old new : Recorded) (who : ℕ) (ops : List Op) (standing : Standing) (calls : List (Op × Reply)) (op : Op) (reply : Reply) →
-    IsSettled old → IsMutatorAt old who ops standing calls → standing.retired ≡ false → op ≡ next_of ops standing (length (old.state.claims who)) → MadeCall old new who op reply →
-    left_at ops (after_reply ops standing op reply) (length (new.state.claims who)) + 1 ≤ left_at ops standing (length (old.state.claims who))
-left-called old new who ops standing calls op reply recorded at stays is made =
-    subst (λ (r : Bool). left_at ops (after_reply ops standing op reply) (length (new.state.claims who)) + 1 ≤ left_by r (nat_lt standing.done (length ops)) standing.retry more claims) (sym stays)
+pub left-called : (setting : Setting) (history : List Event) (who : ℕ) (ops : List Op) (standing : Standing) (calls : List (Op × Reply)) (op : Op) (reply : Reply) (took : Option ℕ) →
+    IsMutatorAt setting history who ops standing calls → standing.retired ≡ false → op ≡ next_of ops standing (claims_after setting.layout history who) →
+    IsAnswer setting.layout setting.shapes (state_after setting.layout history) who op reply took → claims_after setting.layout (history ++ called who op reply took ∷ []) who ≤ 8 →
+    left_at ops (after_reply ops standing op reply) (claims_after setting.layout (history ++ called who op reply took ∷ []) who) + 1 ≤ left_at ops standing (claims_after setting.layout history who)
+left-called setting history who ops standing calls op reply took at stays is answers few =
+    subst (λ (r : Bool). left_at ops (after_reply ops standing op reply) held + 1 ≤ left_by r (nat_lt standing.done (length ops)) standing.retry more claims) (sym stays)
     (by_next next)
   where
+    state : State
+    state = state_after setting.layout history
+
     claims : ℕ
-    claims = length (old.state.claims who)
+    claims = length (state.claims who)
+
+    held : ℕ
+    held = claims_after setting.layout (history ++ called who op reply took ∷ []) who
 
     more : ℕ
     more = length ops - standing.done
@@ -140,17 +75,13 @@ left-called old new who ops standing calls op reply recorded at stays is made =
     next : IsNext ops standing.done claims op
     next = subst (IsNext ops standing.done claims) (sym is) (next_cases ops standing claims)
 
-    few : length (new.state.claims who) ≤ 8
-    few = made.settled.few who
-
-    leaves : new.state ≡ after_call old.state who op reply made.took
-    leaves = sym made.settled.leaves ∙ ap (λ (s : Setting). state_after s.layout new.history) made.same ∙ ap (state_after old.setting.layout) made.history
-        ∙ state_after-push old.setting.layout old.history (called who op reply made.took) ∙ ap (λ (s : State). after_call s who op reply made.took) recorded.leaves
+    leaves : state_after setting.layout (history ++ called who op reply took ∷ []) ≡ after_call state who op reply took
+    leaves = state_after-push setting.layout history (called who op reply took)
 
     -- whether it is a first refusal, and whether operations are left before and after
     busy : (retire retry first within : Bool) → retire ≡ false → (first ≡ true → retry ≡ false) → standing.done < length ops →
         nat_lt (if not first && true then standing.done + 1 else standing.done) (length ops) ≡ within →
-        left_by retire within first (length ops - (if not first && true then standing.done + 1 else standing.done)) (length (new.state.claims who)) + 1 ≤ left_by false true retry more claims
+        left_by retire within first (length ops - (if not first && true then standing.done + 1 else standing.done)) (held) + 1 ≤ left_by false true retry more claims
     busy true retry first within off free below e = absurd (cc)
     busy false true true within off free below e = (let clash : true ≡ false = free refl in absurd (cc))
     busy false false true true off free below e = omega (arith, few, below)
@@ -171,7 +102,7 @@ left-called old new who ops standing calls op reply recorded at stays is made =
     Shown : Bool → Bool → Bool → Type 0
     Shown retire first within =
         left_by retire (nat_lt (if not first && within then standing.done + 1 else standing.done) (length ops)) first
-        (length ops - (if not first && within then standing.done + 1 else standing.done)) (length (new.state.claims who)) + 1 ≤ left_by false within standing.retry more claims
+        (length ops - (if not first && within then standing.done + 1 else standing.done)) (held) + 1 ≤ left_by false within standing.retry more claims
 
     working : (within : Bool) → nat_lt standing.done (length ops) ≡ within → (first retire : Bool) → retire ≡ false → (first ≡ true → standing.retry ≡ false) → standing.done < length ops → Shown retire first within
     working true e first retire off free below =
@@ -179,33 +110,33 @@ left-called old new who ops standing calls op reply recorded at stays is made =
     working false e first retire off free below = (let past = ltb-false standing.done (length ops) e in absurd (omega (arith, past, below)))
 
     leaving : (within : Bool) → nat_lt standing.done (length ops) ≡ within → (first retire : Bool) → first ≡ false → length ops ≤ standing.done →
-        (retire ≡ false → length (new.state.claims who) + 1 ≡ claims) → Shown retire first within
+        (retire ≡ false → held + 1 ≡ claims) → Shown retire first within
     leaving true e first retire off over fewer = (let below = ltb-true standing.done (length ops) e in absurd (omega (arith, below, over)))
     leaving false e true retire off over fewer = absurd (cc)
     leaving false e false true off over fewer = omega arith
     leaving false e false false off over fewer =
-        subst (λ (w : Bool). left_by false w false (length ops - standing.done) (length (new.state.claims who)) + 1 ≤ claims + 1) (sym e) (let one = fewer refl in omega (arith, one))
+        subst (λ (w : Bool). left_by false w false (length ops - standing.done) (held) + 1 ≤ claims + 1) (sym e) (let one = fewer refl in omega (arith, one))
 
     done_past : length ops ≤ standing.done → reply ≡ Done
-    done_past over = not_full_past old.setting.layout old.setting.shapes old.state who ops standing.done op reply made.took next made.answers over
+    done_past over = not_full_past setting.layout setting.shapes state who ops standing.done op reply took next answers over
 
     by_next : IsNext ops standing.done claims op → Shown (is_retire op) (not standing.retry && is_full_reply reply) (nat_lt standing.done (length ops))
     by_next (an_operation below some at_place) =
         working (nat_lt standing.done (length ops)) refl (not standing.retry && is_full_reply reply) (is_retire op)
-        (subst (IsAskable old.setting.layout) at_place (All-get_or (IsAskable old.setting.layout) ops standing.done op below at.askable)).goes_on
+        (subst (IsAskable setting.layout) at_place (All-get_or (IsAskable setting.layout) ops standing.done op below at.askable)).goes_on
         (first_is_new standing.retry (is_full_reply reply)) below
     by_next (unclaims over has is_unclaim) =
         leaving (nat_lt standing.done (length ops)) refl (not standing.retry && is_full_reply reply) (is_retire op) (not_first standing.retry reply (done_past over)) over
         (λ _. fewer)
       where
-        claims_now : new.state.claims who ≡ drop 1 (old.state.claims who)
+        claims_now : (state_after setting.layout (history ++ called who op reply took ∷ [])).claims who ≡ drop 1 (state.claims who)
         claims_now = ap (λ (s : State). s.claims who) leaves
-            ∙ ap (λ (o : Op). (after_call old.state who o reply made.took).claims who) is_unclaim
-            ∙ ap (λ (r : Reply). (after_call old.state who Unclaim r made.took).claims who) (done_past over)
-            ∙ ap (λ (b : Bool). if b then drop 1 (old.state.claims who) else old.state.claims who) (eq-eqb who who refl)
+            ∙ ap (λ (o : Op). (after_call state who o reply took).claims who) is_unclaim
+            ∙ ap (λ (r : Reply). (after_call state who Unclaim r took).claims who) (done_past over)
+            ∙ ap (λ (b : Bool). if b then drop 1 (state.claims who) else state.claims who) (eq-eqb who who refl)
 
-        fewer : length (new.state.claims who) + 1 ≡ claims
-        fewer = ap (λ (c : List ℕ). length c + 1) claims_now ∙ length_without_first (old.state.claims who) has
+        fewer : held + 1 ≡ claims
+        fewer = ap (λ (c : List ℕ). length c + 1) claims_now ∙ length_without_first (state.claims who) has
     by_next (retires over none is_retire') =
         leaving (nat_lt standing.done (length ops)) refl (not standing.retry && is_full_reply reply) (is_retire op) (not_first standing.retry reply (done_past over)) over
         (λ stays'. (let clash : true ≡ false = sym (ap is_retire is_retire') ∙ stays' in absurd (cc)))
@@ -232,15 +163,38 @@ total_by-share one other (first ∷ callers) (suc at) caller old found same =
     let later = total_by-share one other callers at caller old found (λ k c apart there. same (suc k) c (λ clash. apart (cc)) there) in
     omega (arith, here, later)
 
--- the caller's, after it recorded the reply
+-- a caller's, after it recorded the reply
+pub left-taken : (setting : Setting) (history : List Event) (caller taken : Caller) (op : Op) (reply : Reply) (took : Option ℕ) → IsCallerAt setting history caller → caller.retired ≡ false →
+    op ≡ next_of caller.ops.items (standing_of caller) (claims_after setting.layout history caller.who) →
+    IsAnswer setting.layout setting.shapes (state_after setting.layout history) caller.who op reply took →
+    claims_after setting.layout (history ++ called caller.who op reply took ∷ []) caller.who ≤ 8 → TookReply caller taken op reply →
+    left_of (state_after setting.layout (history ++ called caller.who op reply took ∷ [])).claims taken + 1 ≤ left_of (state_after setting.layout history).claims caller
+left-taken setting history caller taken op reply took at stays is answers few record' =
+    subst (λ (w : ℕ). left_at taken.ops.items (standing_of taken) (length ((state_after setting.layout (history ++ called caller.who op reply took ∷ [])).claims w)) + 1 ≤ left) (sym record'.who)
+    (subst (λ (o : List Op). left_at o (standing_of taken) held + 1 ≤ left) (ap (λ ops. ops.items) (sym record'.ops))
+    (subst (λ (s : Standing). left_at caller.ops.items s held + 1 ≤ left) (sym record'.standing)
+    (left-called setting history caller.who caller.ops.items (standing_of caller) (map pair_of caller.calls.items) op reply took at stays is answers few)))
+  where
+    left : ℕ
+    left = left_of (state_after setting.layout history).claims caller
+
+    held : ℕ
+    held = claims_after setting.layout (history ++ called caller.who op reply took ∷ []) caller.who
+
+-- the same of what a recorder's store claims
 pub left-took : (old new : Recorded) (caller took : Caller) (op : Op) (reply : Reply) → IsSettled old → IsCaller old caller → caller.retired ≡ false →
     op ≡ next_of caller.ops.items (standing_of caller) (length (old.state.claims caller.who)) → MadeCall old new caller.who op reply → TookReply caller took op reply →
     left_of new.state.claims took + 1 ≤ left_of old.state.claims caller
-left-took old new caller took op reply recorded at stays is made record' =
-    subst (λ (w : ℕ). left_at took.ops.items (standing_of took) (length (new.state.claims w)) + 1 ≤ left_of old.state.claims caller) (sym record'.who)
-    (subst (λ (o : List Op). left_at o (standing_of took) (length (new.state.claims caller.who)) + 1 ≤ left_of old.state.claims caller) (ap (λ ops. ops.items) (sym record'.ops))
-    (subst (λ (s : Standing). left_at caller.ops.items s (length (new.state.claims caller.who)) + 1 ≤ left_of old.state.claims caller) (sym record'.standing)
-    (left-called old new caller.who caller.ops.items (standing_of caller) (map pair_of caller.calls.items) op reply recorded at stays is made)))
+left-took old new caller taken op reply settled at stays is made record' =
+    subst (λ (s : State). left_of new.state.claims taken + 1 ≤ left_of s.claims caller) settled.leaves
+    (subst (λ (s : State). left_of s.claims taken + 1 ≤ left_of (state_after old.setting.layout old.history).claims caller) leaves
+    (left-taken old.setting old.history caller taken op reply made.took at stays
+    (is ∙ ap (λ (s : State). next_of caller.ops.items (standing_of caller) (length (s.claims caller.who))) (sym settled.leaves))
+    (subst (λ (s : State). IsAnswer old.setting.layout old.setting.shapes s caller.who op reply made.took) (sym settled.leaves) made.answers)
+    (subst (λ (s : State). length (s.claims caller.who) ≤ 8) (sym leaves) (made.settled.few caller.who)) record'))
+  where
+    leaves : state_after old.setting.layout (old.history ++ called caller.who op reply made.took ∷ []) ≡ new.state
+    leaves = sym (ap (λ (s : Setting). state_after s.layout new.history) made.same ∙ ap (state_after old.setting.layout) made.history) ∙ made.settled.leaves
 
 -- nothing is left of a caller that has retired
 pub left-none : (claims : ℕ → List ℕ) (caller : Caller) → caller.retired ≡ true → left_of claims caller ≡ 0

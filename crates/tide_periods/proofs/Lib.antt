@@ -1,10 +1,14 @@
 -- The lemmas of this crate.
 pub mod CallerLaws
+pub mod Composing
 pub mod CycleLaws
 pub mod Freezing
 pub mod LeftLaws
+pub mod Lists
+pub mod OwnShares
 pub mod Parting
 pub mod PartLoops
+pub mod Quiet
 pub mod RecordedLaws
 pub mod RoomLaws
 pub mod Running

@@ -1,5 +1,5 @@
 -- What the loops of a part keep.
-use Rattle.std.specs.Prelude.{ℕ, ◌≡◌, ◌<◌, ◌≤◌, ◌++◌, Bool, List, [], length}
+use Rattle.std.specs.Prelude.{ℕ, ◌≡◌, ◌+◌, ◌<◌, ◌≤◌, ◌++◌, Bool, List, [], length}
 use Rattle.std.specs.List.{AllPass}
 use Rattle.tide_model.specs.declared.entry.Event.{Event}
 use Rattle.tide_model.specs.History.{is_call_of, state_after}
@@ -8,6 +8,10 @@ use Rattle.tide_model.specs.Script.{calls_of, retry_of}
 use Rattle.tide_model.specs.Share.{IsShare, MayCall, has_ended}
 use Rattle.tide_model.specs.Each.{Each}
 use Rattle.tide_model.specs.Since.{is_call}
+use Rattle.tide_model.specs.Prefix.{IsPrefix}
+use Rattle.tide_periods.specs.declared.caller.Caller.{Caller}
+use Rattle.tide_periods.specs.Own.{IsCallerWithin, left_within}
+use Rattle.tide_periods.specs.Store.{Setting}
 use Rattle.tide_periods.specs.Recorded.{HasSameCounts, IsSettled, Recorded}
 
 -- the calls that a mutator made so far in a part, the last of which ended its share or not
@@ -34,3 +38,18 @@ pub record IsPartway (old now : Recorded) (run count : ℕ) (ended : Bool) : Typ
       IsShare run (retry_of who old.history) ((state_after now.setting.layout now.history).active who) (calls_of who part)
   pub none : (who : ℕ) → count ≤ who → calls_of who part ≡ []
   pub stops : ended ≡ any_below (λ who. has_ended (retry_of who old.history) (calls_of who part)) count
+
+-- the calls that a mutator made so far in a part in which others make theirs, the last of which ended its share or not
+pub record IsSharingOwn (setting : Setting) (run : ℕ) (seen seen_now mine mine_now : List Event) (old new : Caller) (made : ℕ) (ended : Bool) : Type 0 where
+  pub grows : IsPrefix seen seen_now
+  pub more : List Event
+  pub adds : mine_now ≡ mine ++ more
+  pub own : AllPass (λ event. is_call_of old.who event.entry) more
+  pub each : Each (MayCall run (retry_of old.who mine)) (calls_of old.who more)
+  pub count : length (calls_of old.who more) ≡ made
+  pub stops : has_ended (retry_of old.who mine) (calls_of old.who more) ≡ ended
+  pub who : new.who ≡ old.who
+  pub ops : new.ops ≡ old.ops
+  pub before : IsCallerWithin setting seen mine old
+  pub after : IsCallerWithin setting seen_now mine_now new
+  pub left : left_within after + made ≤ left_within before

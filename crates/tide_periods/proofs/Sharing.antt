@@ -6,7 +6,9 @@ use Rattle.std.specs.Prelude.{Option, None, is_some, not, ◌&&◌, ◌||◌, ma
 use Rattle.tide_model.specs.declared.op.Op.{Op}
 use Rattle.tide_model.specs.declared.op.Reply.{Reply}
 use Rattle.tide_model.specs.declared.entry.Event.{Event}
+use Rattle.tide_model.specs.Answer.{IsAnswer}
 use Rattle.tide_model.specs.History.{is_call_of, state_after}
+use Rattle.tide_model.specs.State.{State}
 use Rattle.tide_model.specs.Script.{calls_of, is_full_reply, retry_after_all, retry_of}
 use Rattle.tide_model.specs.Share.{MayCall, ends_share, has_ended, is_asked}
 use Rattle.tide_model.specs.Each.{Each}
@@ -14,7 +16,8 @@ use Rattle.tide_model.proofs.Histories.{calls_of-append, push_cases, retry_after
 use Rattle.tide_model.proofs.PeriodLaws.{has_ended-push}
 use Rattle.tide_periods.specs.declared.caller.Caller.{Caller}
 use Rattle.tide_periods.specs.Answered.{pair_of}
-use Rattle.tide_periods.specs.Asking.{IsCaller, IsMutatorAt, Standing, TookReply, after_reply, next_of, op_or_leave, standing_of}
+use Rattle.tide_periods.specs.Asking.{IsCaller, IsCallerAt, IsMutatorAt, Standing, TookReply, after_reply, claims_after, next_of, op_or_leave, standing_of}
+use Rattle.tide_periods.specs.Store.{Setting}
 use Rattle.tide_periods.proofs.PartLoops.{IsSharing}
 use Rattle.tide_periods.specs.Part.{RanShare}
 use Rattle.tide_periods.specs.Recorded.{IsSettled, MadeCall, Recorded}
@@ -41,7 +44,7 @@ retry_of-events who before events = ap (retry_after_all None) (calls_of-append w
 
 -- one call more, by its mutator's standing
 pub IsSharing-called : (old now new : Recorded) (run who made : ℕ) (ops : List Op) (standing : Standing) (calls : List (Op × Reply)) (claims : ℕ) (op : Op) (reply : Reply) →
-    IsSharing old now run who made false → made < run → IsMutatorAt now who ops standing calls → op ≡ next_of ops standing claims → MadeCall now new who op reply →
+    IsSharing old now run who made false → made < run → IsMutatorAt now.setting now.history who ops standing calls → op ≡ next_of ops standing claims → MadeCall now new who op reply →
     IsSharing old new run who (made + 1) (is_asked reply || (not standing.retry && is_full_reply reply))
 IsSharing-called old now new run who made ops standing calls claims op reply sharing below at is call = record {
   settled = call.settled;
@@ -106,21 +109,33 @@ RanShare-stops old new run who made sharing = record {
 }
 
 -- the same of equal things
-IsMutatorAt-by : (recorded : Recorded) (who who' : ℕ) (ops ops' : List Op) (standing standing' : Standing) (calls calls' : List (Op × Reply)) →
-    who ≡ who' → ops ≡ ops' → standing ≡ standing' → calls ≡ calls' → IsMutatorAt recorded who ops standing calls → IsMutatorAt recorded who' ops' standing' calls'
-IsMutatorAt-by recorded who who' ops ops' standing standing' calls calls' e1 e2 e3 e4 at =
-    subst (λ (w : ℕ). IsMutatorAt recorded w ops' standing' calls') e1
-    (subst (λ (o : List Op). IsMutatorAt recorded who o standing' calls') e2
-    (subst (λ (s : Standing). IsMutatorAt recorded who ops s calls') e3
-    (subst (IsMutatorAt recorded who ops standing) e4 at)))
+IsMutatorAt-by : (setting : Setting) (history : List Event) (who who' : ℕ) (ops ops' : List Op) (standing standing' : Standing) (calls calls' : List (Op × Reply)) →
+    who ≡ who' → ops ≡ ops' → standing ≡ standing' → calls ≡ calls' → IsMutatorAt setting history who ops standing calls → IsMutatorAt setting history who' ops' standing' calls'
+IsMutatorAt-by setting history who who' ops ops' standing standing' calls calls' e1 e2 e3 e4 at =
+    subst (λ (w : ℕ). IsMutatorAt setting history w ops' standing' calls') e1
+    (subst (λ (o : List Op). IsMutatorAt setting history who o standing' calls') e2
+    (subst (λ (s : Standing). IsMutatorAt setting history who ops s calls') e3
+    (subst (IsMutatorAt setting history who ops standing) e4 at)))
 
--- a caller that recorded the reply to its call
+-- a caller that took the reply to its call
+pub IsCallerAt-took : (setting : Setting) (history : List Event) (caller taken : Caller) (op : Op) (reply : Reply) (took : Option ℕ) → IsCallerAt setting history caller → caller.retired ≡ false →
+    op ≡ next_of caller.ops.items (standing_of caller) (claims_after setting.layout history caller.who) →
+    IsAnswer setting.layout setting.shapes (state_after setting.layout history) caller.who op reply took → TookReply caller taken op reply →
+    IsCallerAt setting (history ++ called caller.who op reply took ∷ []) taken
+IsCallerAt-took setting history caller taken op reply took at stays is answers record' =
+    IsMutatorAt-by setting (history ++ called caller.who op reply took ∷ []) caller.who taken.who caller.ops.items taken.ops.items (after_reply caller.ops.items (standing_of caller) op reply) (standing_of taken)
+    (map pair_of caller.calls.items ++ (op, reply) ∷ []) (map pair_of taken.calls.items)
+    (sym record'.who) (ap (λ ops. ops.items) (sym record'.ops)) (sym record'.standing)
+    (sym (ap (map pair_of) record'.calls ∙ map-append pair_of caller.calls.items (record { op = op; reply = reply } ∷ [])))
+    (IsMutatorAt-called setting history caller.who caller.ops.items (standing_of caller) (map pair_of caller.calls.items) op reply took at stays is answers)
+
+-- so where a recorder made the call
 pub IsCaller-took : (old new : Recorded) (caller took : Caller) (op : Op) (reply : Reply) → IsSettled old → IsCaller old caller → caller.retired ≡ false →
     op ≡ next_of caller.ops.items (standing_of caller) (length (old.state.claims caller.who)) → MadeCall old new caller.who op reply → TookReply caller took op reply →
     IsCaller new took
-IsCaller-took old new caller took op reply recorded at stays is made record' =
-    IsMutatorAt-by new caller.who took.who caller.ops.items took.ops.items (after_reply caller.ops.items (standing_of caller) op reply) (standing_of took)
-    (map pair_of caller.calls.items ++ (op, reply) ∷ []) (map pair_of took.calls.items)
-    (sym record'.who) (ap (λ ops. ops.items) (sym record'.ops)) (sym record'.standing)
-    (sym (ap (map pair_of) record'.calls ∙ map-append pair_of caller.calls.items (record { op = op; reply = reply } ∷ [])))
-    (IsMutatorAt-called old new caller.who caller.ops.items (standing_of caller) (map pair_of caller.calls.items) op reply recorded at stays is made)
+IsCaller-took old new caller taken op reply settled at stays is made record' =
+    subst (λ (s : Setting). IsCallerAt s new.history taken) (sym made.same)
+    (subst (λ (h : List Event). IsCallerAt old.setting h taken) (sym made.history)
+    (IsCallerAt-took old.setting old.history caller taken op reply made.took at stays
+    (is ∙ ap (λ (s : State). next_of caller.ops.items (standing_of caller) (length (s.claims caller.who))) (sym settled.leaves))
+    (subst (λ (s : State). IsAnswer old.setting.layout old.setting.shapes s caller.who op reply made.took) (sym settled.leaves) made.answers) record'))

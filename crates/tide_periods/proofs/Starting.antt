@@ -44,10 +44,10 @@ AreNew-push callers scripts caller ops are new is = record {
 }
 
 -- a mutator that has made no call, before anything was run
-IsMutatorAt-nothing : (recorded : Recorded) (who : ℕ) (ops : List Op) → recorded.history ≡ [] → who < recorded.setting.layout.mutators → All (IsAskable recorded.setting.layout) ops →
-    IsMutatorAt recorded who ops (record { done = 0; retry = false; retired = false }) []
-IsMutatorAt-nothing recorded who ops nothing below askable =
-    subst (λ (h : List Event). IsMutatorAt (record recorded { history = h }) who ops (record { done = 0; retry = false; retired = false }) []) (sym nothing) (record {
+IsMutatorAt-nothing : (setting : Setting) (history : List Event) (who : ℕ) (ops : List Op) → history ≡ [] → who < setting.layout.mutators → All (IsAskable setting.layout) ops →
+    IsMutatorAt setting history who ops (record { done = 0; retry = false; retired = false }) []
+IsMutatorAt-nothing setting history who ops nothing below askable =
+    subst (λ (h : List Event). IsMutatorAt setting h who ops (record { done = 0; retry = false; retired = false }) []) (sym nothing) (record {
       is_mutator = below;
       askable = askable;
       total = 0;
@@ -88,9 +88,9 @@ AreCallers-nothing recorded callers scripts nothing are one_each askable = recor
       let ops = subst (All (IsAskable recorded.setting.layout)) (get_or_from_slice_get lists who caller.ops.items caller.ops.items at)
       (All-get_or (All (IsAskable recorded.setting.layout)) lists who caller.ops.items (slice_get_within lists who caller.ops.items at) all) in (
         new.number,
-        subst (IsMutatorAt recorded caller.who caller.ops.items (standing_of caller)) (ap (map pair_of) (sym new.no_calls))
-            (subst (λ (s : Standing). IsMutatorAt recorded caller.who caller.ops.items s []) (sym new.standing)
-            (IsMutatorAt-nothing recorded caller.who caller.ops.items nothing (let n = new.number in omega (arith, n, within, one_each)) ops)),
+        subst (IsMutatorAt recorded.setting recorded.history caller.who caller.ops.items (standing_of caller)) (ap (map pair_of) (sym new.no_calls))
+            (subst (λ (s : Standing). IsMutatorAt recorded.setting recorded.history caller.who caller.ops.items s []) (sym new.standing)
+            (IsMutatorAt-nothing recorded.setting recorded.history caller.who caller.ops.items nothing (let n = new.number in omega (arith, n, within, one_each)) ops)),
       );
 }
 

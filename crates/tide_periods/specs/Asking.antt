@@ -1,5 +1,6 @@
 -- What one mutator asks next, by its own calls.
-use Rattle.std.specs.Prelude.{ℕ, ◌≡◌, ◌+◌, ◌<◌, ◌≤◌, Bool, true, false, not, ◌&&◌, List, [], ◌∷◌, ◌++◌, All, length, take, replicate, nat_lt, slice_get, Option, None, Some, is_some, if◌then◌else◌, map}
+use Rattle.std.specs.Prelude.{ℕ, ◌≡◌, ◌+◌, ◌<◌, ◌≤◌, Bool, true, false, not, ◌&&◌, nat_lt, if◌then◌else◌}
+use Rattle.std.specs.Prelude.{List, [], ◌∷◌, ◌++◌, All, length, map, replicate, slice_get, take, Option, None, Some, is_some}
 use Rattle.tide_model.specs.declared.op.Op.{Op}
 use Rattle.tide_model.specs.declared.op.Op.TheVariants.{Unclaim, Retire}
 use Rattle.tide_model.specs.declared.op.Reply.{Reply}
@@ -11,6 +12,7 @@ use Rattle.tide_model.specs.Script.{is_retire, retry_of}
 use Rattle.tide_model.specs.Script.{calls_of, is_full_reply, script_of}
 use Rattle.tide_periods.specs.declared.caller.Caller.{Caller}
 use Rattle.tide_periods.specs.Recorded.{Recorded}
+use Rattle.tide_periods.specs.Store.{Setting}
 use Rattle.tide_periods.specs.Answered.{pair_of}
 
 -- an operation, or what comes when all are done: to give up claims, and then to retire
@@ -74,26 +76,29 @@ abbrev pub standing_of : Caller → Standing
 standing_of caller = record { done = caller.done; retry = caller.retry; retired = caller.retired }
 
 -- a mutator is so far in a history, with these calls
-pub record IsMutatorAt (recorded : Recorded) (who : ℕ) (ops : List Op) (standing : Standing)
+pub record IsMutatorAt (setting : Setting) (history : List Event) (who : ℕ) (ops : List Op) (standing : Standing)
     (calls : List (Op × Reply)) : Type 0 where
-  pub is_mutator : who < recorded.setting.layout.mutators
-  pub askable : All (IsAskable recorded.setting.layout) ops
+  pub is_mutator : who < setting.layout.mutators
+  pub askable : All (IsAskable setting.layout) ops
   pub total : ℕ
   pub moment : ℕ
-  pub in_history : moment ≤ length recorded.history
-  pub was_done : standing.done ≡ length ops → WasDone recorded.setting.layout recorded.history who ops moment total
-  pub at : IsAt ops standing (script_of who recorded.history) total
-      (claims_after recorded.setting.layout recorded.history who)
-  pub retry : standing.retry ≡ is_some (retry_of who recorded.history)
-  pub retries : (op : Op) → retry_of who recorded.history ≡ Some op → slice_get ops standing.done ≡ Some op
-  pub active : (state_after recorded.setting.layout recorded.history).active who ≡ not standing.retired
-  pub are : calls_of who recorded.history ≡ calls
+  pub in_history : moment ≤ length history
+  pub was_done : standing.done ≡ length ops → WasDone setting.layout history who ops moment total
+  pub at : IsAt ops standing (script_of who history) total (claims_after setting.layout history who)
+  pub retry : standing.retry ≡ is_some (retry_of who history)
+  pub retries : (op : Op) → retry_of who history ≡ Some op → slice_get ops standing.done ≡ Some op
+  pub active : (state_after setting.layout history).active who ≡ not standing.retired
+  pub are : calls_of who history ≡ calls
   pub asked : All (λ call. IsAskedBy ops call.0) calls
+
+-- what a caller has of its mutator's calls is what this history has
+abbrev pub IsCallerAt : Setting → List Event → Caller → Type 0
+IsCallerAt setting history caller =
+    IsMutatorAt setting history caller.who caller.ops.items (standing_of caller) (map pair_of caller.calls.items)
 
 -- what a caller has of its mutator's calls is what the history has
 abbrev pub IsCaller : Recorded → Caller → Type 0
-IsCaller recorded caller =
-    IsMutatorAt recorded caller.who caller.ops.items (standing_of caller) (map pair_of caller.calls.items)
+IsCaller recorded caller = IsCallerAt recorded.setting recorded.history caller
 
 -- a caller recorded a reply
 pub record TookReply (old new : Caller) (op : Op) (reply : Reply) : Type 0 where

@@ -1,6 +1,6 @@
 -- What a running part did.
-use Rattle.std.specs.Prelude.{ℕ, ◌≡◌, ◌<◌, ◌++◌, Bool, List, slice_get, Some, length}
-use Rattle.std.specs.List.{AllPass}
+use Rattle.std.specs.Prelude.{ℕ, ◌≡◌, ◌<◌, ◌≤◌, ◌++◌, Bool, false, List, slice_get, Some, length}
+use Rattle.std.specs.List.{AllPass, list_all}
 use Rattle.tide_model.specs.declared.entry.Event.{Event}
 use Rattle.tide_model.specs.History.{is_call_of, state_after}
 use Rattle.tide_model.specs.Numbers.{any_below}
@@ -8,8 +8,9 @@ use Rattle.tide_model.specs.Script.{calls_of, retry_of}
 use Rattle.tide_model.specs.Share.{IsShare, has_ended}
 use Rattle.tide_model.specs.Since.{is_call}
 use Rattle.tide_periods.specs.declared.caller.Caller.{Caller}
-use Rattle.tide_periods.specs.Asking.{IsCaller}
-use Rattle.tide_periods.specs.Recorded.{HasSameCounts, IsSettled, Recorded}
+use Rattle.tide_periods.specs.Asking.{IsCaller, scripts_of}
+use Rattle.tide_periods.specs.Left.{total_left}
+use Rattle.tide_periods.specs.Recorded.{HasSameCounts, IsSettled, OpenedPart, Recorded}
 
 -- a mutator made its calls of a part
 pub record RanShare (old new : Recorded) (run who : ℕ) (ended : Bool) : Type 0 where
@@ -42,3 +43,19 @@ pub record RanPart (old new : Recorded) (run : ℕ) (ended : Bool) : Type 0 wher
       ((state_after new.setting.layout new.history).active who) (calls_of who part)
   pub stops : ended ≡
       any_below (λ who. has_ended (retry_of who old.history) (calls_of who part)) old.setting.layout.mutators
+
+-- a part was opened, and each mutator made its share of its calls
+pub record RanOpenedPart (old new : Recorded) (run : ℕ) (ended : Bool) : Type 0 where
+  pub begun : Recorded
+  pub opened : OpenedPart old begun run
+  pub ran : RanPart begun new run ended
+
+-- A part was opened and run by these callers. They have what the history has of their mutators' calls, and together
+-- they have no more calls left, and fewer where one of them made any.
+pub record RanPartBy (old new : Recorded) (run : ℕ) (before after : List Caller) (ended : Bool) : Type 0 where
+  pub ran : RanOpenedPart old new run ended
+  pub callers : AreCallers new after
+  pub scripts : scripts_of after ≡ scripts_of before
+  pub left : total_left new after ≤ total_left old before
+  pub fewer : 0 < run → list_all (λ caller. caller.retired) before ≡ false →
+      total_left new after < total_left old before

@@ -26,6 +26,17 @@ pub record Recorded : Type 0 where
   pub parts : ℕ
   pub blocks : ℕ
 
+-- a store with this history, as the history alone tells it
+abbrev pub recorded_at : Setting → List Event → Recorded
+recorded_at setting history = record {
+  setting = setting;
+  state = state_after setting.layout history;
+  history = history;
+  cycles = begin_count history;
+  parts = open_count history;
+  blocks = blocks_in setting;
+}
+
 -- The history is lawful, its cycles end in time, and it leaves the store as it is: nothing is dead. A cycle may mark.
 pub record IsSettled (recorded : Recorded) : Type 0 where
   pub lawful : IsLawful recorded.setting.layout recorded.setting.shapes recorded.history

@@ -31,7 +31,7 @@ fn is_retire(op: Op) -> bool
 
 /// A mutator of a run, by its own calls alone.
 #[derive(Debug, Drop)]
-pub(crate) struct Caller {
+pub struct Caller {
     pub(crate) who: u32,
     pub(crate) ops: Vec<Op>,
     /// How many operations are done.
@@ -68,8 +68,15 @@ impl Caller {
         Ok(is_asked(reply) || is_first)
     }
 
+    /// Whether it has retired.
+    pub fn has_retired(&self) -> bool
+        ensures { result ≡ self.now.retired }
+    {
+        self.retired
+    }
+
     /// Its calls, in order.
-    pub(crate) fn into_calls(self) -> Vec<Answered>
+    pub fn into_calls(self) -> Vec<Answered>
         ensures { result ≡ self.calls }
     {
         let Caller {
@@ -93,7 +100,7 @@ pub(crate) fn most_calls(operations: usize) -> usize
 }
 
 /// The mutators that ask for these operations, of which none has made a call. Each has room for its calls.
-pub(crate) fn callers_of(alloc: Global, scripts: Vec<Vec<Op>>) -> Result<Vec<Caller>, Memory>
+pub fn callers_of(alloc: Global, scripts: Vec<Vec<Op>>) -> Result<Vec<Caller>, Memory>
     requires { length scripts.items ≤ 16 }
     ensures { IfOk result (λ callers. AreNew callers.items (map (λ ops. ops.items) scripts.items)) }
 {

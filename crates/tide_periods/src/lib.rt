@@ -1,15 +1,21 @@
 //! A run of mutators in periods, over any store: running parts, and the freezes between them in which cycles run.
 //!
-//! It knows no workload and no text. What it is handed are scripts, a store and the numbers of a period; what it gives
-//! back is the history, event by event, the report of its cycles, and each mutator's calls. `Recorder` is what a run
-//! asks of a store: that it keeps the history of what was run on it. `Recording` is one over any `Store`, and the plain
-//! store is the first such.
+//! It knows no workload and no text. What it is handed is a store with its mutators and the numbers of a period; what it
+//! gives back is what keeps the history, the report of its cycles, and each mutator's calls. `Parts` is what a run asks
+//! of a store: that it runs parts and freezes between them. `InTurn` is one in which mutators make their calls one after
+//! another, over any `Recorder`, which keeps the history of what was run on it. `Recording` is one over any `Store`, and
+//! the plain store is the first such. `run_own_share` is a mutator's share of a part where others make theirs meanwhile.
 #![tactic(auto)]
 
 mod answered;
 mod caller;
+mod in_turn;
+pub mod laws;
+mod mutates;
+mod own_share;
 mod pacing;
 mod part;
+mod parts;
 mod periods;
 mod plain;
 mod recorder;
@@ -19,7 +25,12 @@ mod run;
 mod store;
 
 pub use answered::Answered;
+pub use caller::{Caller, callers_of};
+pub use in_turn::InTurn;
+pub use mutates::Mutates;
+pub use own_share::run_own_share;
 pub use pacing::Pacing;
+pub use parts::Parts;
 pub use recorder::Recorder;
 pub use recording::Recording;
 pub use room::{Room, room_for};

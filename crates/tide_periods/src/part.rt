@@ -43,8 +43,8 @@ pub(crate) fn run_share<T: Recorder>(
     Ok(false)
 }
 
-/// Runs a part: each mutator in turn makes its calls. Answers whether one of them stopped.
-pub(crate) fn run_part<T: Recorder>(
+/// Each mutator in turn makes its calls of a part. Answers whether one of them stopped.
+pub(crate) fn make_shares<T: Recorder>(
     recorder: &mut T,
     callers: &mut [Caller],
     run: u32,

@@ -1,24 +1,24 @@
-//! A whole run: from a store on which nothing was run and the scripts of its mutators to what it leaves.
+//! A whole run: from a store on which nothing was run, with its mutators, to what it leaves.
 ghost use Rattle.std.specs.Prelude.{◌≡◌, ◌≤◌, ◌<◌, [], All, length, map, IfOk};
-ghost use Rattle.tide_periods.specs.Asking.{IsAskable};
+ghost use Rattle.tide_periods.specs.Asking.{scripts_of};
+ghost use Rattle.tide_periods.specs.Part.{AreCallers};
 ghost use Rattle.tide_periods.specs.Periods.{pace_of};
 ghost use Rattle.tide_periods.specs.Recorded.{IsSettled};
 ghost use Rattle.tide_periods.specs.Run.{HasRun};
 
 use crate::answered::Answered;
-use crate::caller::{Caller, callers_of};
 use crate::pacing::Pacing;
+use crate::parts::Parts;
 use crate::periods::run_periods;
-use crate::recorder::{Recorder, append, with_room};
 use std::alloc::Global;
-use tide_model::{Event, Memory, Op};
+use tide_model::Memory;
 use tide_report::Report;
 
 /// What a run leaves.
 #[derive(Debug, Drop)]
-pub struct Finished {
-    /// Each event in order.
-    pub events: Vec<Event>,
+pub struct Finished<K> {
+    /// What keeps each event, in order.
+    pub kept: K,
     /// The cycles that ended, and the cells that each freed.
     pub report: Report,
     /// Each mutator's calls, in the order of the mutators.
@@ -27,56 +27,33 @@ pub struct Finished {
     pub live: u32,
 }
 
-/// Each caller's calls, in a list that is empty yet.
-fn calls_of_each(
-    list: Vec<Vec<Answered>>,
-    callers: Vec<Caller>,
-) -> Result<Vec<Vec<Answered>>, Memory>
-    requires { list.items ≡ [] }
-    ensures { IfOk result (λ calls.
-        map (λ own. own.items) calls.items ≡ map (λ caller. caller.calls.items) callers.items) }
-{
-    let mut calls = list;
-    for caller in callers {
-        append(&mut calls, caller.into_calls())?;
-    }
-    Ok(calls)
-}
-
-/// Runs these scripts, one for each mutator, on a store on which nothing was run yet.
+/// Runs the scripts of a store's mutators, on which nothing was run yet.
 ///
-/// Mutators make their calls of a part one after another. In the freeze after it the cycle that marks goes on, and a
-/// whole one is run after a part in which a mutator asked for one, was first refused for room or, as the last, retired;
-/// else one begins where the trigger asks for it. Room for the calls is made before the first of them.
-pub fn run_on<T: Recorder + Drop>(
+/// In the freeze after a part the cycle that marks goes on, and a whole one is run after a part in which a mutator
+/// asked for one, was first refused for room or, as the last, retired; else one begins where the trigger asks for it.
+pub fn run_on<T: Parts + Drop>(
     alloc: Global,
-    recorder: T,
-    scripts: Vec<Vec<Op>>,
+    parts: T,
     pacing: Pacing,
-) -> Result<Finished, Memory>
-    requires settled { IsSettled (T.recorded recorder) }
-    requires stands { T.stands recorder }
-    requires nothing { (T.recorded recorder).history ≡ [] }
-    requires mutators { length scripts.items ≡ (T.recorded recorder).setting.layout.mutators }
-    requires some { 0 < length scripts.items }
-    requires few { length scripts.items ≤ 16 }
-    requires short { All (λ ops. length ops ≤ 65536) (map (λ ops. ops.items) scripts.items) }
-    requires askable { All (All (IsAskable (T.recorded recorder).setting.layout)) (map (λ ops. ops.items) scripts.items) }
+) -> Result<Finished<T::Kept>, Memory>
+    requires settled { IsSettled (T.recorded parts) }
+    requires stands { T.stands parts }
+    requires nothing { (T.recorded parts).history ≡ [] }
+    requires callers { AreCallers (T.recorded parts) (T.callers parts) }
+    requires some { 0 < length (T.callers parts) }
+    requires few { length (T.callers parts) ≤ 16 }
+    requires short { All (λ ops. length ops ≤ 65536) (scripts_of (T.callers parts)) }
     requires period { 0 < pacing.period }
     requires paces { T.paces pacing }
-    ensures { IfOk result (λ finished. HasRun (T.recorded recorder).setting (pace_of pacing)
-        (map (λ ops. ops.items) scripts.items)
-        finished.events.items finished.report (map (λ own. own.items) finished.calls.items) finished.live) }
+    ensures { IfOk result (λ finished. HasRun (T.recorded parts).setting (pace_of pacing) (scripts_of (T.callers parts))
+        (T.history_of finished.kept) finished.report (map (λ own. own.items) finished.calls.items) finished.live) }
 {
-    let mut recorder = recorder;
-    let list = with_room(alloc, scripts.len())?;
-    let mut callers = callers_of(alloc, scripts)?;
-    run_periods(&mut recorder, callers.as_mut_slice(), pacing, alloc)?;
-    let live = recorder.live();
-    let (events, report) = recorder.into_parts();
-    let calls = calls_of_each(list, callers)?;
+    let mut parts = parts;
+    run_periods(&mut parts, pacing, alloc)?;
+    let live = parts.live();
+    let (kept, report, calls) = parts.finish()?;
     Ok(Finished {
-        events,
+        kept,
         report,
         calls,
         live,

@@ -21,6 +21,7 @@ use Rattle.tide_shape.specs.Shapes.{shapes_of_paths}
 use Rattle.tide_workload.specs.Words.{HasText, IsOperation, Settings, Work, limits_of, limits_with}
 use Rattle.tide_run.specs.declared.outcome.Kept.TheVariants.{Own}
 use Rattle.tide_run.specs.Outcome.{IsOutcome}
+use Rattle.tide_run.proofs.Counted.{none_above}
 use Rattle.tide_run.specs.Runs.{IsRunOf, Ran, layout_of_work, layout_with, pace_of_work}
 
 -- a workload's operation may be asked for
@@ -106,6 +107,7 @@ IsOutcome-ran work layout keys setting pace scripts events report calls live ran
     subst (λ (l : Layout). IsOutcome l keys (Own (record { events = events })) calls live report) same (record {
       one_each = ran.one_each;
       calls_are = ran.calls_are;
+      no_others = none_above setting.layout setting.shapes events.items ran.legal.lawful;
       texts = λ who own found.
           let here = slice_get_within calls who own found in
           let count = ran.one_each in

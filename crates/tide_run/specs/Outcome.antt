@@ -1,5 +1,5 @@
 -- What the fields of an outcome mean, and how they agree.
-use Rattle.std.specs.Prelude.{ℕ, ◌≡◌, false, List, length, map, slice_get, Some, All}
+use Rattle.std.specs.Prelude.{ℕ, ◌≡◌, ◌≤◌, false, List, [], length, map, slice_get, Some, All}
 use Rattle.tide_model.specs.declared.entry.Event.{Event}
 use Rattle.tide_model.specs.Cycle.{live_count}
 use Rattle.tide_model.specs.History.{state_after}
@@ -22,13 +22,14 @@ history_of (Own told) = told.events.items
 abbrev pub ran_of : Layout → List (List ℕ) → Kept → Ran
 ran_of layout keys kept = record { layout = layout; keys = keys; history = history_of kept; is_heap = false }
 
--- the calls are those of the mutators, each of them has a text, so many cells live after the history, and the report
--- tells its ends
+-- the calls are those of the mutators, who alone made any; each of them has a text, so many cells live after the history,
+-- and the report tells its ends
 pub record IsOutcome (layout : Layout) (keys : List (List ℕ)) (kept : Kept) (calls : List (List Answered))
     (live : ℕ) (report : Reported) : Type 0 where
   pub one_each : length calls ≡ layout.mutators
   pub calls_are : (who : ℕ) (own : List Answered) → slice_get calls who ≡ Some own →
       map pair_of own ≡ calls_of who (history_of kept)
+  pub no_others : (who : ℕ) → layout.mutators ≤ who → calls_of who (history_of kept) ≡ []
   pub texts : (who : ℕ) (own : List Answered) → slice_get calls who ≡ Some own → All (λ call. HasText keys call.op) own
   pub living : live ≡ live_count layout (state_after layout (history_of kept))
   pub told : TellsEnds layout (history_of kept) report

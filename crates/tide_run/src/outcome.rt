@@ -1,5 +1,5 @@
 //! The outcome of a run.
-ghost use Rattle.std.specs.Prelude.{◌≡◌, ◌<◌, ℕ, All, map};
+ghost use Rattle.std.specs.Prelude.{◌≡◌, ◌≤◌, ◌<◌, [], ℕ, All, map};
 
 use std::marker::Model;
 use tide_layout::Layout;
@@ -58,14 +58,14 @@ impl Outcome {
     ghost use Rattle.tide_run.specs.Outcome.{ran_of, IsOutcome};
 
     /// The outcome of a run that left this.
-    pub(crate) fn new(layout: Layout, names: Vec<Vec<u8>>, ran: Finished) -> Outcome
-        requires { IsOutcome layout (map (λ name. name.items) names.items) (Kept.Own (record { events = ran.events }))
+    pub(crate) fn new(layout: Layout, names: Vec<Vec<u8>>, ran: Finished<Vec<Event>>) -> Outcome
+        requires { IsOutcome layout (map (λ name. name.items) names.items) (Kept.Own (record { events = ran.kept }))
             (map (λ own. own.items) ran.calls.items) ran.live ran.report }
         ensures { result ≡ ran_of layout (map (λ name. name.items) names.items)
-            (Kept.Own (record { events = ran.events })) }
+            (Kept.Own (record { events = ran.kept })) }
     {
         let Finished {
-            events,
+            kept: events,
             report,
             calls,
             live,
@@ -80,9 +80,10 @@ impl Outcome {
         }
     }
 
-    /// How many mutators ran.
+    /// How many mutators ran. Nobody else made a call.
     pub fn mutators(&self) -> u32
-        ensures { result ≡ self.now.layout.mutators }
+        ensures count { result ≡ self.now.layout.mutators }
+        ensures no_others { (who : ℕ) → self.now.layout.mutators ≤ who → calls_of who self.now.history ≡ [] }
     {
         u32::from(self.layout.mutators())
     }
@@ -116,14 +117,5 @@ impl Outcome {
         ensures { result ≡ 0 }
     {
         0
-    }
-
-    /// What was run, event by event.
-    pub(crate) fn events(&self) -> &[Event]
-        ensures { result.now ≡ self.now.history }
-    {
-        match &self.kept {
-            Kept::Own(told) => told.events.as_slice(),
-        }
     }
 }

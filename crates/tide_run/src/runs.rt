@@ -11,7 +11,7 @@ use std::alloc::Global;
 use std::marker::Sync;
 use std::thread::Threads;
 use tide_model::{Memory, Op, Turnstile};
-use tide_periods::{Pacing, Recorder, Recording, room_for, run_on};
+use tide_periods::{InTurn, Pacing, Recorder, Recording, room_for, run_on};
 use tide_plain::PlainStore;
 use tide_recording::RecordedWords;
 use tide_workload::{Settings, Workload};
@@ -39,7 +39,8 @@ fn run_with<T: Recorder + Drop>(
 {
     let layout = layout_with(load.settings(), load.mutators());
     let names = names_of(alloc, load)?;
-    let ran = run_on(alloc, recorder, scripts, pacing)?;
+    let parts = InTurn::new(alloc, recorder, scripts)?;
+    let ran = run_on(alloc, parts, pacing)?;
     Ok(Outcome::new(layout, names, ran))
 }
 

@@ -26,7 +26,7 @@ returns-then-branch-clause-ran g c =
     let new = g.T.Recorder.recorded c.call.new.self in
     let caller = c.loop-made.caller in
     let who = c.args.caller.now.who in
-    let at = subst (λ w. IsMutatorAt now w caller.ops.items (standing_of caller) (map pair_of caller.calls.items)) c.loop-made.invariant.who c.loop-made.invariant.caller in
+    let at = subst (λ w. IsMutatorAt now.setting now.history w caller.ops.items (standing_of caller) (map pair_of caller.calls.items)) c.loop-made.invariant.who c.loop-made.invariant.caller in
     let made = subst (λ w. MadeCall now new w c.next-op.result c.in_ok-reply.reply) c.loop-made.invariant.who c.in_ok-reply.ensures.made in
     let sharing = IsSharing-called old now new c.args.run who c.loop-made._made caller.ops.items (standing_of caller) (map pair_of caller.calls.items) c.claims.result
     c.next-op.result c.in_ok-reply.reply c.loop-made.invariant.sharing c.loop-made-test.true at c.next-op.ensures made in
@@ -47,7 +47,7 @@ loop-made-preserved g c =
     let new = g.T.Recorder.recorded c.call.new.self in
     let caller = c.loop-made.caller in
     let who = c.args.caller.now.who in
-    let at = subst (λ w. IsMutatorAt now w caller.ops.items (standing_of caller) (map pair_of caller.calls.items)) c.loop-made.invariant.who c.loop-made.invariant.caller in
+    let at = subst (λ w. IsMutatorAt now.setting now.history w caller.ops.items (standing_of caller) (map pair_of caller.calls.items)) c.loop-made.invariant.who c.loop-made.invariant.caller in
     let made = subst (λ w. MadeCall now new w c.next-op.result c.in_ok-reply.reply) c.loop-made.invariant.who c.in_ok-reply.ensures.made in
     let sharing = IsSharing-called old now new c.args.run who c.loop-made._made caller.ops.items (standing_of caller) (map pair_of caller.calls.items) c.claims.result
     c.next-op.result c.in_ok-reply.reply c.loop-made.invariant.sharing c.loop-made-test.true at c.next-op.ensures made in

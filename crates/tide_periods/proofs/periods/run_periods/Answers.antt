@@ -13,21 +13,21 @@ loop-pacing-init g c = record {
   same = refl;
   scripts = refl;
   callers = c.requires.callers;
-  periods = subst (ArePeriods (pace_of c.args.pacing) (g.T.Recorder.recorded c.args.recorder.now).setting.layout) (sym c.requires.nothing) no_period;
+  periods = subst (ArePeriods (pace_of c.args.pacing) (g.T.Parts.recorded c.args.parts.now).setting.layout) (sym c.requires.nothing) no_period;
   cycles = omega arith;
   left = omega arith;
-  run = run_of_nothing (pace_of c.args.pacing) (g.T.Recorder.recorded c.args.recorder.now) c.requires.nothing;
+  run = run_of_nothing (pace_of c.args.pacing) (g.T.Parts.recorded c.args.parts.now) c.requires.nothing;
   some = c.requires.period;
 }
 
 pub run_period-requires-clause-goes_on : goal.run_period-requires-clause-goes_on
 run_period-requires-clause-goes_on g c =
-    sym (is_over-callers (g.T.Recorder.recorded c.loop-pacing.recorder) c.loop-pacing.callers c.loop-pacing.invariant.callers) ∙ sym c.are_all_retired.ensures ∙ c.loop-pacing-test.true
+    sym (is_over-callers (g.T.Parts.recorded c.loop-pacing.parts) (g.T.Parts.callers c.loop-pacing.parts) c.loop-pacing.invariant.callers) ∙ sym c.are_all_retired.ensures ∙ c.loop-pacing-test.true
 
 pub loop-pacing-preserved : goal.loop-pacing-preserved
 loop-pacing-preserved g c =
-    let old = g.T.Recorder.recorded c.loop-pacing.recorder in
-    let new = g.T.Recorder.recorded c.run_period.new.recorder in
+    let old = g.T.Parts.recorded c.loop-pacing.parts in
+    let new = g.T.Parts.recorded c.run_period.new.parts in
     let ran = c.in_ok-run.ensures.ran in
     let fewer = c.in_ok-run.ensures.left in
     let cycles = ran.cycles in
@@ -52,6 +52,6 @@ returns g c = record {
   stands = c.loop-pacing.invariant.stands;
   same = c.loop-pacing.invariant.same;
   scripts = c.loop-pacing.invariant.scripts;
-  ran = RanAll-over (g.T.Recorder.recorded c.loop-pacing.recorder) (pace_of c.args.pacing) c.loop-pacing.callers c.loop-pacing.invariant.settled c.loop-pacing.invariant.callers
+  ran = RanAll-over (g.T.Parts.recorded c.loop-pacing.parts) (pace_of c.args.pacing) (g.T.Parts.callers c.loop-pacing.parts) c.loop-pacing.invariant.settled c.loop-pacing.invariant.callers
       c.loop-pacing.invariant.periods (sym c.are_all_retired.ensures ∙ c.loop-pacing-test.false);
 }

@@ -10,19 +10,21 @@ use Rattle.tide_periods.proofs.periods.run_periods.Given as goal
 
 abbrev pub invariant-loop-pacing : goal.invariant-loop-pacing
 invariant-loop-pacing g l =
-    let now = g.T.Recorder.recorded l.recorder in
+    let now = g.T.Parts.recorded l.parts in
+    let these = g.T.Parts.callers l.parts in
+    let first = g.T.Parts.callers l.initial.parts in
     record {
       settled : IsSettled now;
-      stands : g.T.Recorder.stands l.recorder;
-      same : now.setting ≡ (g.T.Recorder.recorded l.initial.recorder).setting;
-      scripts : scripts_of l.callers ≡ scripts_of l.initial.callers;
-      callers : AreCallers now l.callers;
+      stands : g.T.Parts.stands l.parts;
+      same : now.setting ≡ (g.T.Parts.recorded l.initial.parts).setting;
+      scripts : scripts_of these ≡ scripts_of first;
+      callers : AreCallers now these;
       periods : ArePeriods (pace_of l.pacing) now.setting.layout now.history;
       cycles : now.cycles ≤ now.parts;
-      left : now.parts + total_left now l.callers ≤ total_left (g.T.Recorder.recorded l.initial.recorder) l.initial.callers;
+      left : now.parts + total_left now these ≤ total_left (g.T.Parts.recorded l.initial.parts) first;
       run : l.run ≡ next_run (pace_of l.pacing) now.setting.layout now.history;
       some : 0 < l.run;
     }
 
 abbrev pub decreases-loop-pacing : goal.decreases-loop-pacing
-decreases-loop-pacing g l = total_left (g.T.Recorder.recorded l.recorder) l.callers
+decreases-loop-pacing g l = total_left (g.T.Parts.recorded l.parts) (g.T.Parts.callers l.parts)

@@ -1,4 +1,4 @@
--- Answers to the goals of part::run_part.
+-- Answers to the goals of part::make_shares.
 use Rattle.std.proofs.Common.{ℕ, ◌≡◌, ◌<◌, ◌+◌, ◌∙◌, refl, sym, ap, arith, subst, suc, get_or, length, ◌⊎◌, inl, inr, Bool, true, false, add-one}
 use Rattle.std.proofs.lemmas.Bool.{eqb-true, eqb-false}
 use Rattle.std.proofs.lemmas.Option.{slice_get-get_or, slice_get_within}
@@ -10,8 +10,8 @@ use Rattle.tide_periods.specs.Part.{RanShare}
 use Rattle.tide_periods.proofs.Freezing.{one_fails}
 use Rattle.tide_periods.proofs.LeftLaws.{claims_after-share, slice_get-set_other, total_by-share}
 use Rattle.tide_periods.proofs.Parting.{AreCallers-share, IsPartway-share}
-use Rattle.tide_periods.proofs.part.run_part.Goals as goal
-use Rattle.tide_periods.proofs.part.run_part.Goals.{then-branch, else-branch}
+use Rattle.tide_periods.proofs.part.make_shares.Goals as goal
+use Rattle.tide_periods.proofs.part.make_shares.Goals.{then-branch, else-branch}
 
 pub run_share-requires-clause-caller : goal.run_share-requires-clause-caller
 run_share-requires-clause-caller g c =

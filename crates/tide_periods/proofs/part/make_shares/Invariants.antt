@@ -1,4 +1,4 @@
--- What the loop of part::run_part keeps.
+-- What the loop of part::make_shares keeps.
 use Rattle.std.proofs.Common.{ℕ, ◌≡◌, ◌<◌, ◌≤◌, false}
 use Rattle.std.specs.Prelude.{Some, slice_get}
 use Rattle.tide_periods.specs.declared.caller.Caller.{Caller}
@@ -6,7 +6,7 @@ use Rattle.tide_periods.specs.Asking.{scripts_of}
 use Rattle.tide_periods.specs.Left.{total_left}
 use Rattle.tide_periods.proofs.PartLoops.{IsPartway}
 use Rattle.tide_periods.specs.Part.{AreCallers}
-use Rattle.tide_periods.proofs.part.run_part.Given as goal
+use Rattle.tide_periods.proofs.part.make_shares.Given as goal
 
 abbrev pub invariant-loop-caller : goal.invariant-loop-caller
 invariant-loop-caller g l = record {
