@@ -1,0 +1,57 @@
+//! What one of the two mutators does in its thread: a part, from its ticket to its note.
+ghost use Rattle.embed_heap.specs.Working.{HasWorked, MayWork};
+ghost use Rattle.std.specs.Prelude.{◌≡◌};
+
+use tide_model::{FreePass, Op, Reply};
+use tide_mutator::Mutator;
+use tide_shape::ShapeTable;
+use tide_steps::{Heap, Note, Ticket};
+
+/// What a mutator found, and its note of the part.
+#[derive(Drop)]
+pub struct Worked {
+    /// What it read from the cell that it had allocated.
+    pub found: Reply,
+    pub note: Note,
+}
+
+/// Begins a part, sets a register to 7, takes a cell, stores the number in its first slot and reads it again; lets go of
+/// the cell, retires, and stops.
+pub fn work<S: ShapeTable>(heap: &Heap<S>, mut mutator: Mutator, ticket: Ticket) -> Worked
+    requires own { mutator.own.pass.seat.table_id ≡ heap.now.table.shared.table_id }
+    requires of_heap { ticket.seat.table_id ≡ heap.now.table.shared.table_id }
+    requires may { MayWork heap.now.key.layout mutator.own.pass.seat.me.0 ticket.seat.me.0 }
+    ensures of_heap { result.note.seat.table_id ≡ heap.now.table.shared.table_id }
+    ensures worked { HasWorked mutator.own.pass.seat.me.0 ticket.seat.me.0 result.note.seat.me.0 }
+{
+    let gate = &FreePass;
+    mutator.begin(heap, ticket);
+    mutator.call(heap, Op::Set { dst: 0, n: 7 }, gate);
+    mutator.call(heap, Op::Alloc { dst: 1, class: 0 }, gate);
+    mutator.call(
+        heap,
+        Op::Put {
+            src: 1,
+            slot: 0,
+            val: 0,
+        },
+        gate,
+    );
+    let found = mutator.call(
+        heap,
+        Op::Get {
+            dst: 0,
+            src: 1,
+            slot: 0,
+        },
+        gate,
+    );
+    mutator.call(heap, Op::Drop { dst: 1 }, gate);
+    if mutator.claims() == 0 {
+        mutator.retire(heap, gate);
+    }
+    Worked {
+        found,
+        note: mutator.stop(heap),
+    }
+}
