@@ -65,6 +65,16 @@ def closed(roots, links, pairs, members):
         kept |= more
 
 
+def free(store, gone):
+    """Frees cells as the end of a cycle does."""
+    for number in gone:
+        store.arrays.discard(store.cells.pop(number).array)
+    store.spent.clear()
+    for cell in store.cells.values():
+        cell.pairs = {key: value for key, value in cell.pairs.items() if key not in gone}
+    store.weak = [None if isinstance(v, tuple) and v[1] in gone else v for v in store.weak]
+
+
 class Run:
     """A run as far as it was followed."""
 
@@ -143,12 +153,7 @@ class Run:
         _, links, pairs, members = held(store)
         if closed(left, links, pairs, members) & gone:
             raise Wrong("what is kept holds what is freed")
-        for number in gone:
-            store.arrays.discard(store.cells.pop(number).array)
-        store.spent.clear()
-        for cell in store.cells.values():
-            cell.pairs = {key: value for key, value in cell.pairs.items() if key not in gone}
-        store.weak = [None if isinstance(v, tuple) and v[1] in gone else v for v in store.weak]
+        free(store, gone)
         self.ended += 1
         self.span = None
         self.since_end = 0

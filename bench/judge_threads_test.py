@@ -1,0 +1,344 @@
+#!/usr/bin/env python3
+"""Tests judge_threads.py without a program: on texts of made up runs, and on texts that are near them.
+
+    python3 bench/judge_threads_test.py [FIRST [COUNT]]
+
+A run is made on the store of model.py in a random order of calls, with random free cells, and with cycles that end where
+and free what the schedule and the marking allow, all by chance. Its text must be accepted. Of short runs, texts in which
+something was changed by chance are judged too, and what is said of each must be what a plain search says that tries every
+order of the calls, on copies of the store. Last come near texts that are written out, each of which must be refused.
+Where one isn't as it must be, its workload and text are kept, and the status is 1.
+"""
+import copy
+import random
+import re
+import sys
+import time
+
+import judge
+import judge_threads
+import model
+
+
+class Loose(model.Store):
+    """A store in which any free cell may be born: one that is chosen."""
+
+    chosen = None
+
+    def free_cell(self, kind):
+        super().free_cell(kind)
+        return self.chosen([cell for cell in range(self.first[kind], self.first[kind + 1]) if cell not in self.cells])
+
+
+class Made(judge.Run):
+    """A run that is made up as it goes."""
+
+    def __init__(self, work, draw):
+        super().__init__(work, [], [])
+        self.store, self.draw = Loose(work), draw
+        self.store.chosen = draw.choice
+        self.lines = [[] for _ in range(self.count)]
+        self.black = 0
+
+    def call(self, who):
+        """A mutator's next call. Answers whether it ends its share."""
+        ops = self.work["mutators"][who]
+        over = self.done[who] >= len(ops)
+        op = ops[self.done[who]] if not over else ("unclaim",) if self.store.claims[who] else ("retire",)
+        try:
+            reply = self.store.call(who, op)
+        except model.Refused as refusal:
+            reply = str(refusal)
+        self.lines[who].append(f"{model.text_of(op)} = {reply}")
+        self.in_cycle += op[0] in ("alloc", "table") and reply.startswith("#")
+        self.since_end += op[0] in ("alloc", "table") and reply.startswith("#")
+        self.note()
+        first = reply.startswith("full ") and not self.retry[who]
+        self.retry[who] = first
+        self.done[who] += not first and not over
+        return first or reply == "asked"
+
+    def part(self):
+        run = self.work["period"] if self.span is None else self.shares()[1]
+        left = {who: run for who in range(self.count) if self.store.active[who]}
+        must, bold, who = False, self.draw.choice([0, 0.5, 0.9]), None
+        while left:
+            if who not in left or self.draw.random() > bold:
+                who = self.draw.choice(list(left))
+            ended = self.call(who)
+            must, left[who] = must or ended, left[who] - 1
+            if ended or left[who] == 0 or not self.store.active[who]:
+                del left[who]
+        return must or not any(self.store.active)
+
+    def pause(self, has_to_end):
+        """A pause, after which the cycle may end: it keeps what is retained, and some of what was while it ran."""
+        live, now = set(self.store.cells), judge.held(self.store)
+        luck = self.draw.choice([0, 0.5, 1])
+        more = {cell for cell in judge.closed(*self.span) & live if self.draw.random() < luck}
+        kept = judge.closed(now[0] | more, *now[1:])
+        stopped = self.shares()[0]
+        if has_to_end or len(kept) <= self.black + stopped + self.in_cycle and self.draw.random() < 0.5:
+            freed = sorted(live - kept)
+            judge.free(self.store, set(freed))
+            line = f"cycle {len(self.cycles) + 1} kept {len(kept)} freed {len(freed)}"
+            self.cycles.append(line + ":" * bool(freed) + "".join(f" #{cell}" for cell in freed))
+            self.span, self.since_end = None, 0
+        self.black += stopped
+
+    def text(self):
+        while any(self.store.active):
+            must = self.part()
+            if self.span is not None:
+                self.pause(must or self.shares()[1] == 0)
+            if must or self.span is None and 0 < self.work["trigger"] <= self.since_end:
+                self.begin()
+                self.black = 0
+                self.pause(must)
+        blocks = [f"mutator {who}\n" + "".join(line + "\n" for line in lines) for who, lines in enumerate(self.lines)]
+        return "".join(blocks) + "".join(line + "\n" for line in self.cycles) + f"live {len(self.store.cells)}\n"
+
+
+class Tried(judge.Run):
+    """A run as far as it was followed, in one of all orders."""
+
+    def __init__(self, work, replies, cycles):
+        super().__init__(work, replies, cycles)
+        self.store = Loose(work)
+
+    def parts(self):
+        """All ways through a running part, each with whether the freeze after it is a must."""
+        run = self.work["period"] if self.span is None else self.shares()[1]
+        ways, seen = [(self, [run * active for active in self.store.active], False)], set()
+        while ways:
+            here, left, must = ways.pop()
+            if not any(left):
+                yield here, must or not any(here.store.active)
+            for who in range(self.count):
+                if left[who]:
+                    way = copy.deepcopy(here)
+                    ended = way.call(who)
+                    more = [n - 1 if other == who else n for other, n in enumerate(left)]
+                    if ended or ended is not None and not way.store.active[who]:
+                        more[who] = 0
+                    store = way.store
+                    cells = [(number, vars(cell)) for number, cell in store.cells.items()]
+                    key = str((more, way.told, store.strong, store.weak, store.claims, sorted(cells, key=str), way.span))
+                    if ended is not None and key not in seen:
+                        seen.add(key)
+                        ways.append((way, more, must or ended))
+
+    def call(self, who):
+        """A mutator's next call. Answers whether it ends its share, or None where the text has another reply."""
+        if self.told[who] >= len(self.replies[who]):
+            return None
+        line = self.replies[who][self.told[who]]
+        named = int(line.split("#")[-1]) if re.search(r"= #\d+$", line) else -1
+        self.store.chosen = lambda free: named if named in free else free[0]
+        self.lines = [[] for _ in range(self.count)]
+        ended = Made.call(self, who)
+        if self.lines[who] != [line]:
+            return None
+        self.told[who] += 1
+        return ended
+
+
+def tries(work, text, most=2000):
+    """What accepts() says, by trying all; None where there are too many."""
+    try:
+        calls, cycles, live = judge_threads.read_text(text, len(work["mutators"]))
+    except judge.Wrong:
+        return False
+    ways, looked = [Tried(work, calls, cycles)], 0
+    while ways:
+        for here, must in ways.pop().parts():
+            looked += 1
+            if looked > most:
+                return None
+            for way in judge.freezes(here, must):
+                if any(way.store.active):
+                    ways.append(way)
+                elif way.ended == len(cycles) and len(way.store.cells) == live and way.span is None:
+                    if all(told == len(lines) for told, lines in zip(way.told, calls)):
+                        return True
+    return False
+
+
+def changed(text, draw):
+    """A text in which something is changed."""
+    lines = text.splitlines()
+    at = [number for number, line in enumerate(lines) if " = " in line]
+    one, other = draw.choice(at), draw.choice(at)
+    head, reply = lines[one].split(" = ")
+    replies = [line.split(" = ")[1] for line in lines if " = " in line]
+    same = [line.split(" = ")[1] for line in lines if " = " in line and line.split()[0] == head.split()[0]]
+    what = draw.randrange(5)
+    if what == 0:
+        lines[one] = f"{head} = {draw.choice(replies)}"
+    elif what == 1:
+        lines[one] = f"{head} = {draw.choice(same)}"
+    elif what == 2:
+        lines[one] = f"{head} = {lines[other].split(' = ')[1]}"
+        lines[other] = lines[other].split(" = ")[0] + f" = {reply}"
+    else:
+        cycles = [number for number, line in enumerate(lines) if line.startswith("cycle ")]
+        number = draw.choice(cycles)
+        words = lines[number].split()
+        freed = {int(word[1:]) for word in words[6:]}
+        cells = {int(cell) for cell in re.findall(r"= #(\d+)", text)}
+        freed ^= {draw.choice(sorted(cells))} if cells else set()
+        kept = int(words[3]) + len(words[6:]) - len(freed)
+        lines[number] = f"cycle {words[1]} kept {kept} freed {len(freed)}" + ":" * bool(freed) + "".join(f" #{n}" for n in sorted(freed))
+    return "".join(line + "\n" for line in lines)
+
+
+def tiny(seed):
+    """A short workload in which mutators meet often, and its document."""
+    draw = random.Random(f"tiny {seed}")
+    work, _ = judge_threads.drawn(seed, judge_threads.ALL)
+    work["mutators"] = [ops[:draw.choice([3, 5, 8])] for ops in work["mutators"][:draw.choice([2, 2, 3])]]
+    for ops in work["mutators"]:
+        ops[:0] = [("alloc", 0, draw.choice([0, 1])), ("strong", 0, 0), ("sget", 0, 0), ("claim", 0)][:draw.randint(0, 4)]
+    work["blocks"][0] = 1
+    return work, judge_threads.document_of(work)
+
+
+WORKLOAD = """registers = 2
+strong = 1
+blocks = [1, 0, 0, 0, 0]
+period = 4
+headroom = 32
+
+[[mutator]]
+ops = ["alloc r0 0", "strong 0 r0", "set r1 7", "put r0 0 r1", "claim r0", "collect", "sget r1 0"]
+
+[[mutator]]
+ops = ["alloc r0 0", "sget r1 0", "get r0 r1 0", "get r0 r1 0", "claim r1", "alloc r0 1"]
+"""
+
+TEXT = """mutator 0
+alloc r0 0 = #3
+strong 0 r0 = ok
+set r1 7 = ok
+put r0 0 r1 = ok
+claim r0 = ok
+collect = asked
+sget r1 0 = #3
+unclaim = ok
+retire = ok
+mutator 1
+alloc r0 0 = #9
+sget r1 0 = #3
+get r0 r1 0 = -
+get r0 r1 0 = 7
+claim r1 = held by 0
+alloc r0 1 = full 1
+alloc r0 1 = full 1
+retire = ok
+cycle 1 kept 1 freed 1: #9
+cycle 2 kept 1 freed 0
+live 1
+"""
+
+# by what is wrong: whether the plain facts tell it, and what is changed in the text, or in the workload
+NEAR = {
+    "a reply is another": (False, "get r0 r1 0 = 7", "get r0 r1 0 = 8"),
+    "a reply is none of the operation": (True, "set r1 7 = ok", "set r1 7 = 7"),
+    "a handle gives what wasn't put": (False, "sget r1 0 = #3\nunclaim", "sget r1 0 = -\nunclaim"),
+    "a cell is read that there isn't": (True, "sget r1 0 = #3\nget", "sget r1 0 = #64\nget"),
+    "two mutators get one cell": (True, "#9", "#3"),
+    "a cell is of another class": (True, "#9", "#64"),
+    "two replies of one mutator are exchanged": (False, "= -\nget r0 r1 0 = 7", "= 7\nget r0 r1 0 = -"),
+    "two calls of one mutator are exchanged": (True, "strong 0 r0 = ok\nset r1 7 = ok", "set r1 7 = ok\nstrong 0 r0 = ok"),
+    "a call is left out": (True, "put r0 0 r1 = ok\n", ""),
+    "a claimed cell is claimed": (False, "claim r1 = held by 0\nalloc r0 1 = full 1\nalloc r0 1 = full 1\n",
+                                  "claim r1 = ok\nalloc r0 1 = full 1\nalloc r0 1 = full 1\nunclaim = ok\n"),
+    "a claim is refused to its holder": (True, "claim r1 = held by 0", "claim r1 = held by 1"),
+    "a claim isn't given up": (True, "unclaim = ok\n", ""),
+    "a mutator stays": (True, "full 1\nretire = ok\n", "full 1\n"),
+    "a handle's cell is freed": (False, "kept 1 freed 0\nlive 1", "kept 0 freed 1: #3\nlive 0"),
+    "a cell is kept that nothing held": (False, "kept 1 freed 1: #9\ncycle 2 kept 1 freed 0", "kept 2 freed 0\ncycle 2 kept 1 freed 1: #9"),
+    "a cell is freed twice": (True, "cycle 2 kept 1 freed 0", "cycle 2 kept 1 freed 1: #9"),
+    "kept and freed don't add up": (True, "cycle 1 kept 1 freed 1: #9", "cycle 1 kept 2 freed 1: #9"),
+    "other cells live at the end": (True, "live 1", "live 2"),
+    "a cycle too few": (True, "cycle 2 kept 1 freed 0\n", ""),
+    "a cycle too many": (True, "live 1", "cycle 3 kept 1 freed 0\nlive 1"),
+    "a refusal for room isn't met by a second try": (True, "alloc r0 1 = full 1\nalloc r0 1 = full 1", "alloc r0 1 = full 1"),
+    "a refusal for room is met by a third try": (True, "alloc r0 1 = full 1\n", "alloc r0 1 = full 1\nalloc r0 1 = full 1\n"),
+    "there is room": (False, "blocks = [1, 0, 0, 0, 0]", "blocks = [1, 1, 0, 0, 0]"),
+}
+
+
+def filled(births, period):
+    """A workload in which a mutator makes so many cells of a class of 64 and another is refused, and its text."""
+    ops = ", ".join(['"alloc r0 0"'] * births)
+    document = "registers = 1\nblocks = [1, 0, 0, 0, 0]\nheadroom = 1\n" + f"period = {period}\n"
+    document += f'[[mutator]]\nops = [{ops}]\n[[mutator]]\nops = ["alloc r0 0"]\n'
+    text = "mutator 0\n" + "".join(f"alloc r0 0 = #{cell}\n" for cell in range(births)) + "retire = ok\n"
+    text += "mutator 1\nalloc r0 0 = full 0\nalloc r0 0 = #0\nretire = ok\n"
+    text += f"cycle 1 kept 0 freed {births}:" + "".join(f" #{cell}" for cell in range(births))
+    return document, text + "\ncycle 2 kept 0 freed 1: #0\nlive 0\n"
+
+
+def written():
+    """Judges the texts that are written out, and those near them."""
+    def judged(document, text):
+        work = judge_threads.read_workload(document)
+        return judge_threads.accepts(work, text, facts=True), judge_threads.accepts(work, text)
+
+    if judged(WORKLOAD, TEXT) != (True, True):
+        fail("the written text isn't accepted", WORKLOAD, TEXT)
+    for what, (by_facts, old, new) in NEAR.items():
+        document, text = WORKLOAD.replace(old, new), TEXT.replace(old, new)
+        if (document, text) == (WORKLOAD, TEXT) or judged(document, text) != (not by_facts, False):
+            fail(f"where {what}: {judged(document, text)}", document, text)
+    for births, period, expected in ((64, 128, True), (63, 128, False), (64, 32, False)):
+        if judged(*filled(births, period))[1] != expected:
+            fail(f"a refusal for room after {births} births in parts of {period} calls", *filled(births, period))
+
+
+def made_up(seeds):
+    """Judges texts of runs that are made up."""
+    spent, calls, undecided = [], 0, 0
+    for seed in seeds:
+        work, document = judge_threads.drawn(seed, judge_threads.HEAP if seed % 2 else judge_threads.ALL)
+        text = Made(work, random.Random(f"made {seed}")).text()
+        begun = time.process_time()
+        said = judge_threads.accepts(work, text)
+        spent.append(1000 * (time.process_time() - begun))
+        calls, undecided = calls + text.count(" = "), undecided + (said is None)
+        if said is False or judge_threads.accepts(work, text, facts=True) is False:
+            fail(f"seed {seed}: refused", document, text)
+    print(f"{len(spent)} texts, {calls} calls, {undecided} undecided; {sum(spent) / len(spent):.1f} ms each, {max(spent):.0f} at most")
+
+
+def compared(seeds):
+    """Judges short texts, and changed ones, as a search does that tries every order."""
+    said_of = {True: 0, False: 0, None: 0}
+    for seed in seeds:
+        draw = random.Random(f"near {seed}")
+        work, document = tiny(seed)
+        text = Made(work, draw).text()
+        for near in [text] + [changed(text, draw) for _ in range(3)]:
+            expected = tries(work, near)
+            said_of[expected] += 1
+            if expected is not None and judge_threads.accepts(work, near) != expected:
+                fail(f"short seed {seed}: by trying all orders it is {expected}", document, near)
+    print(f"of short texts {said_of[True]} are accepted, {said_of[False]} refused, and {said_of[None]} weren't tried to the end")
+
+
+def fail(what, document, text):
+    print(f"{what}; see {judge_threads.keep(document, text)}")
+    sys.exit(1)
+
+
+def main():
+    sys.setrecursionlimit(10**6)
+    first, count = [int(word) for word in (sys.argv[1:] + ["0", "200"][len(sys.argv) - 1:])[:2]]
+    written()
+    made_up(range(first, first + count))
+    compared(range(first, first + count // 4))
+
+
+if __name__ == "__main__":
+    main()
