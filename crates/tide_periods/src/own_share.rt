@@ -24,7 +24,7 @@ pub fn run_own_share<M: Mutates, T: Turnstile>(
     ensures stands { IfOk result (λ ended. M.stands maker.new caller.new.retired) }
     ensures setting { IfOk result (λ ended. M.setting maker.new ≡ M.setting maker.old) }
     ensures who { IfOk result (λ ended. M.who maker.new ≡ M.who maker.old) }
-    ensures rest { IfOk result (λ ended. M.rest maker.new ≡ M.rest maker.old) }
+    ensures rest { M.rest maker.new ≡ M.rest maker.old }
 {
     for _made in 0..run {
         if caller.retired {

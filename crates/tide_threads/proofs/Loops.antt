@@ -1,0 +1,50 @@
+-- Loops over participants that change one after another.
+use Rattle.std.proofs.Common.{ℕ, zero, suc, ◌≡◌, ◌<◌, ◌≤◌, ◌+◌, ◌∙◌, refl, sym, ap, subst, arith, List, [], ◌∷◌, length, get_or, set, inl, inr}
+use Rattle.std.proofs.lemmas.Bool.{cases_eq}
+use Rattle.std.proofs.lemmas.Option.{slice_get-get_or}
+use Rattle.std.specs.Prelude.{Option, Some, slice_get}
+use Rattle.crossbeam_utils.specs.Padded.{padded_value}
+use Rattle.crossbeam_utils.specs.declared.cache_padded.CachePadded.{CachePadded}
+use Rattle.tide_threads.specs.declared.participant.Participant.{Participant}
+
+pub slice_get-set_other : {X : Type 0} (xs : List X) (at k : ℕ) (x : X) → (k ≡ at → ⊥) → slice_get (set xs at x) k ≡ slice_get xs k
+slice_get-set_other [] at k x apart = refl
+slice_get-set_other (y ∷ xs) zero zero x apart = absurd (apart refl)
+slice_get-set_other (y ∷ xs) zero (suc k) x apart = refl
+slice_get-set_other (y ∷ xs) (suc at) zero x apart = refl
+slice_get-set_other (y ∷ xs) (suc at) (suc k) x apart = slice_get-set_other xs at k x (λ e. apart (ap suc e))
+
+pub slice_get-set_here : {X : Type 0} (xs : List X) (at : ℕ) (x : X) → at < length xs → slice_get (set xs at x) at ≡ Some x
+slice_get-set_here [] at x below = absurd (omega (arith, below))
+slice_get-set_here (y ∷ xs) zero x below = refl
+slice_get-set_here (y ∷ xs) (suc at) x below = slice_get-set_here xs at x (omega (arith, below))
+
+some_same : {X : Type 0} (x y : X) (o : Option X) → o ≡ Some x → o ≡ Some y → x ≡ y
+some_same x y o one other = (let e : Some x ≡ Some y = sym one ∙ other in cc)
+
+module _ (olds ps : List (CachePadded Participant)) (at : ℕ) (z d : CachePadded Participant) (below : at < length ps)
+    (later : (who : ℕ) → at ≤ who → slice_get ps who ≡ slice_get olds who) where
+  -- those that come later are as they were
+  pub later_step : (who : ℕ) → at + 1 ≤ who → slice_get (set ps at z) who ≡ slice_get olds who
+  later_step who past = slice_get-set_other ps at who z (λ e. omega (arith, e, past)) ∙ later who (omega (arith, past))
+
+  -- the one at this place is as it was
+  pub old_here : (x : CachePadded Participant) → slice_get olds at ≡ Some x → get_or ps at d ≡ x
+  old_here x found = some_same (get_or ps at d) x (slice_get olds at)
+      (sym (later at (omega arith)) ∙ slice_get-get_or ps at d below) found
+
+  -- what holds of those that were changed before, and of the one at this place, holds of one more
+  pub both_step : (holds : Participant → Participant → Type 0) →
+      ((who : ℕ) (x y : CachePadded Participant) → who < at → slice_get olds who ≡ Some x → slice_get ps who ≡ Some y →
+      holds (padded_value x) (padded_value y)) → holds (padded_value (get_or ps at d)) (padded_value z) →
+      (who : ℕ) (x y : CachePadded Participant) → who < at + 1 → slice_get olds who ≡ Some x →
+      slice_get (set ps at z) who ≡ Some y → holds (padded_value x) (padded_value y)
+  both_step holds before here who x y within found found' = elim (cases_eq who at) [
+    | inl same ↦
+        let old : get_or ps at d ≡ x = old_here x (ap (slice_get olds) (sym same) ∙ found) in
+        let new : z ≡ y = some_same z y (slice_get (set ps at z) at) (slice_get-set_here ps at z below)
+        (ap (slice_get (set ps at z)) (sym same) ∙ found') in
+        subst (λ (p : CachePadded Participant). holds (padded_value p) (padded_value y)) old
+        (subst (λ (p : CachePadded Participant). holds (padded_value (get_or ps at d)) (padded_value p)) new here)
+    | inr apart ↦ before who x y (omega (arith, within, apart)) found (sym (slice_get-set_other ps at who z apart) ∙ found')
+  ]

@@ -1,0 +1,64 @@
+-- A mutator's part, by its view: from its ticket to its note.
+use Rattle.std.proofs.Common.{ℕ, ◌≡◌, ◌<◌, ◌∙◌, refl, sym, ap, subst, arith, Bool, true, []}
+use Rattle.std.proofs.lemmas.Bool.{ne_eqb}
+use Rattle.std.specs.Prelude.{if◌then◌else◌}
+use Rattle.tide_heap.specs.Turns.{heard_view, note_of}
+use Rattle.tide_machine.specs.declared.view.View.{View}
+use Rattle.tide_machine.specs.kinds.Activate.{begun_view}
+use Rattle.tide_machine.specs.kinds.Split.{split_view}
+use Rattle.tide_machine.specs.kinds.StoreStopped.{stopped_view}
+use Rattle.tide_mutator.specs.Calling.{Kept, kept}
+use Rattle.tide_threads.specs.Parked.{HasBegun, HasPlayed}
+
+-- the first beginning in a part
+pub HasBegun-by : (t v u : View) → u ≡ begun_view (heard_view v t) → v.begun < t.period → HasBegun t v u
+HasBegun-by t v u is later = subst (HasBegun t v) (sym (is ∙ first)) (record {
+  who = refl;
+  runs = refl;
+  left = refl;
+  period = refl;
+  ticket = refl;
+  begun = refl;
+  born = refl;
+  visits = refl;
+})
+  where
+    first : begun_view (heard_view v t) ≡ record (heard_view v t) {
+      runs = true;
+      begun = t.period;
+      born = 0;
+      visits = 0;
+      races = 0;
+      round = [];
+      full = [];
+      known = [];
+    }
+    first = ap (λ (b : Bool). if b then record (heard_view v t) { runs = true; round = []; full = []; known = [] }
+        else record (heard_view v t) {
+          runs = true;
+          begun = t.period;
+          born = 0;
+          visits = 0;
+          races = 0;
+          round = [];
+          full = [];
+          known = [];
+        }) (ne_eqb v.begun t.period (λ e. omega (arith, e, later)))
+
+-- what its view and its note are when it has stopped
+pub HasPlayed-stopped : (t v u0 u1 w n : View) (who : ℕ) (retired : Bool) → HasBegun t v u0 → kept u1 ≡ kept u0 →
+    who ≡ v.who → u1.left ≡ retired → w ≡ split_view (stopped_view u1) → n ≡ note_of true (stopped_view u1) →
+    HasPlayed t who retired w n
+HasPlayed-stopped t v u0 u1 w n who retired began same is left at out =
+    subst (λ (x : View). HasPlayed t who retired x n) (sym at)
+    (subst (λ (x : View). HasPlayed t who retired (split_view (stopped_view u1)) x) (sym out) (record {
+      is = ap (λ (k : Kept). k.who) same ∙ began.who ∙ sym is;
+      rests = refl;
+      left = left;
+      period = ap (λ (k : Kept). k.ticket) same ∙ began.ticket;
+      begun = ap (λ (k : Kept). k.begun) same ∙ began.begun;
+      visits = ap (λ (k : Kept). k.visits) same ∙ began.visits;
+      of_part = ap (λ (k : Kept). k.ticket) same ∙ began.ticket;
+      told = refl;
+      still = ap (λ (k : Kept). k.visits) same ∙ began.visits;
+    }))

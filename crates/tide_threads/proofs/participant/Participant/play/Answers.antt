@@ -1,0 +1,40 @@
+-- What a participant's part makes.
+use Rattle.std.proofs.Common.{ℕ, ◌∙◌, refl, sym, ap, subst, List}
+use Rattle.tide_machine.specs.declared.view.View.{View}
+use Rattle.tide_model.specs.declared.entry.Event.{Event}
+use Rattle.tide_periods.specs.Own.{RanOwnShare}
+use Rattle.tide_periods.specs.Store.{Setting}
+use Rattle.tide_shape.specs.Lists.{lists_of}
+use Rattle.tide_threads.proofs.Making.{HasPlayed-stopped}
+use Rattle.tide_threads.specs.Playing.{view_of}
+use Rattle.tide_threads.specs.Works.{Same}
+use Rattle.tide_threads.proofs.participant.Participant.play.Goals as goal
+
+pub returns-clause-made : goal.returns-clause-made
+returns-clause-made g c =
+    let ready = c.requires.ready in
+    let t = c.args.ticket.seat.me.0 in
+    let x = c.args.self.now in
+    let v = view_of x.mutator in
+    let u0 = view_of c.begin.new.mutator in
+    let u1 = view_of c.run_own_share.new.maker.mutator.now in
+    let w = view_of c.stop-note.new.self in
+    let y = c.run_own_share.new.caller in
+    let ended = c.in_ok-ended.ended in
+    let setting : Setting = record { layout = c.args.heap.now.key.layout; shapes = lists_of c.args.heap.now.key.shapes } in
+    let rest = c.run_own_share.ensures.rest in
+    let table = ap (λ (s : Same). s.table_id) rest ∙ c.begin.ensures.own ∙ ready.table in
+    record {
+      table = c.stop-note.ensures.same.0 ∙ table;
+      note = c.stop-note.result;
+      is_out = refl;
+      of_heap = c.stop-note.ensures.note.0 ∙ table;
+      played = HasPlayed-stopped t v u0 u1 w c.stop-note.result.seat.me.0 x.caller.who y.retired c.begin.ensures.begun
+          (ap (λ (s : Same). s.kept) rest) ready.number c.in_ok-ended.ensures.stands.stays c.stop-note.ensures.stopped
+          c.stop-note.ensures.note.1;
+      seen = u0.seen;
+      ran = subst (λ (z : View). RanOwnShare setting t.run u0.seen z.seen v.mine z.mine x.caller y ended) (sym c.stop-note.ensures.stopped)
+          (subst (λ (l : List Event). RanOwnShare setting t.run u0.seen u1.seen l u1.mine x.caller y ended) c.begin.ensures.mine
+          (subst (λ (n : ℕ). RanOwnShare setting n u0.seen u1.seen u0.mine u1.mine x.caller y ended) c.run-run.ensures
+          c.in_ok-ended.ensures.ran));
+    }

@@ -1,0 +1,37 @@
+-- A mutator while it makes its share of a part.
+use Rattle.std.specs.Borrow.{GName, MutBor}
+use Rattle.std.specs.Prelude.{ℕ, ◌≡◌, ◌<◌, ◌-◌, ◌^◌, Bool, true, false}
+use Rattle.atomic_table.specs.Seated.{TableId}
+use Rattle.tide_machine.specs.declared.view.View.{View}
+use Rattle.tide_model.specs.Layout.{Layout}
+use Rattle.tide_mutator.specs.Calling.{Kept, kept}
+use Rattle.tide_mutator.specs.declared.mutator.Mutator.{Mutator}
+
+-- it has begun, and has left for good or hasn't
+pub record IsWorking (layout : Layout) (v : View) (left : Bool) : Type 0 where
+  pub is_mutator : v.who < layout.mutators
+  pub runs : v.runs ≡ true
+  pub stays : v.left ≡ left
+
+-- how many calls a mutator may make, so that births stay below 2^32: after it has left nothing counts them
+abbrev pub room_by : Bool → ℕ → ℕ
+room_by true born = 2 ^ 32
+room_by false born = 2 ^ 32 - 1 - born
+
+abbrev pub room_of : View → ℕ
+room_of v = room_by v.left v.born
+
+-- what none of its calls changes: which borrow of which mutator makes them, its table, and of its view what stays
+pub record Same : Type 0 where
+  pub borrow : GName
+  pub table_id : TableId
+  pub seat : ℕ
+  pub kept : Kept
+
+abbrev pub same_of : MutBor Mutator → Same
+same_of mutator = record {
+  borrow = mutator.ghost_name;
+  table_id = mutator.now.own.pass.seat.table_id;
+  seat = mutator.now.own.pass.seat.id;
+  kept = kept mutator.now.own.pass.seat.me.0;
+}

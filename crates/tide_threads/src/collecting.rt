@@ -1,0 +1,88 @@
+//! The collector's side of a part: tickets are handed out before it, and notes are taken in after it.
+ghost use Rattle.std.specs.Prelude.{◌≡◌, ℕ, Some, false, slice_get};
+ghost use Rattle.crossbeam_utils.specs.Padded.{padded_value};
+ghost use Rattle.crossbeam_utils.specs.declared.cache_padded.CachePadded.{CachePadded};
+ghost use Rattle.tide_steps.specs.declared.notes.Note.{Note};
+ghost use Rattle.tide_threads.specs.Playing.{view_of, Both, GaveNote, MayTake, WasHanded};
+ghost use Rattle.tide_threads.specs.Taken.{HasTaken, IsNoted};
+ghost use Rattle.tide_threads.specs.declared.participant.Participant.{Participant};
+
+use crate::participant::Participant;
+use crossbeam_utils::CachePadded;
+use tide_shape::Shapes;
+use tide_table::{Collector, Heap};
+
+/// Hands a ticket to a participant, unless it has retired.
+fn hand_to(collector: &mut Collector, heap: &Heap<Shapes>, padded: &mut CachePadded<Participant>)
+    requires own { collector.old.seat.table_id ≡ heap.now.table.shared.table_id }
+    requires running { collector.old.seat.me.0.frozen ≡ false }
+    ensures same { (collector.new.seat.table_id ≡ collector.old.seat.table_id)
+        × (collector.new.seat.me.0 ≡ collector.old.seat.me.0) }
+    ensures handed { WasHanded heap.now.table.shared.table_id collector.old.seat.me.0
+        (padded_value padded.old) (padded_value padded.new) }
+{
+    let participant: &mut Participant = padded;
+    if !participant.caller.has_retired() {
+        participant.ticket = Some(collector.ticket(heap));
+    }
+}
+
+/// Hands out the tickets of the open part.
+pub(crate) fn hand_out(
+    collector: &mut Collector,
+    heap: &Heap<Shapes>,
+    participants: &mut [CachePadded<Participant>],
+)
+    requires own { collector.old.seat.table_id ≡ heap.now.table.shared.table_id }
+    requires running { collector.old.seat.me.0.frozen ≡ false }
+    ensures same { (collector.new.seat.table_id ≡ collector.old.seat.table_id)
+        × (collector.new.seat.me.0 ≡ collector.old.seat.me.0) }
+    ensures handed { Both (WasHanded heap.now.table.shared.table_id collector.old.seat.me.0)
+        participants.old participants.new }
+{
+    for padded in participants.iter_mut() {
+        hand_to(collector, heap, padded);
+    }
+}
+
+/// Takes a participant's note in, if it has one.
+fn take_from(collector: &mut Collector, heap: &Heap<Shapes>, padded: &mut CachePadded<Participant>)
+    requires own { collector.old.seat.table_id ≡ heap.now.table.shared.table_id }
+    requires running { collector.old.seat.me.0.frozen ≡ false }
+    requires may { (note : Note) → (padded_value padded.old).note ≡ Some note →
+        MayTake heap.now.table.shared.table_id collector.old.seat.me.0.period (padded_value padded.old) note }
+    ensures same { collector.new.seat.table_id ≡ collector.old.seat.table_id }
+    ensures taken { HasTaken collector.old.seat.me.0 collector.new.seat.me.0 }
+    ensures noted { (note : Note) → (padded_value padded.old).note ≡ Some note → IsNoted collector.new.seat.me.0
+        (view_of (padded_value padded.old).mutator).who (view_of (padded_value padded.old).mutator) }
+    ensures gave { GaveNote (padded_value padded.old) (padded_value padded.new) }
+{
+    let participant: &mut Participant = padded;
+    if let Some(note) = participant.note.take() {
+        collector.take(heap, note);
+    }
+}
+
+/// Takes the notes of the open part in.
+pub(crate) fn take_in(
+    collector: &mut Collector,
+    heap: &Heap<Shapes>,
+    participants: &mut [CachePadded<Participant>],
+)
+    requires own { collector.old.seat.table_id ≡ heap.now.table.shared.table_id }
+    requires running { collector.old.seat.me.0.frozen ≡ false }
+    requires may { (who : ℕ) (padded : CachePadded Participant) (note : Note) →
+        slice_get participants.old who ≡ Some padded → (padded_value padded).note ≡ Some note →
+        MayTake heap.now.table.shared.table_id collector.old.seat.me.0.period (padded_value padded) note }
+    ensures same { collector.new.seat.table_id ≡ collector.old.seat.table_id }
+    ensures taken { HasTaken collector.old.seat.me.0 collector.new.seat.me.0 }
+    ensures noted { (who : ℕ) (padded : CachePadded Participant) (note : Note) →
+        slice_get participants.old who ≡ Some padded → (padded_value padded).note ≡ Some note →
+        IsNoted collector.new.seat.me.0 (view_of (padded_value padded).mutator).who
+        (view_of (padded_value padded).mutator) }
+    ensures gave { Both GaveNote participants.old participants.new }
+{
+    for padded in participants.iter_mut() {
+        take_from(collector, heap, padded);
+    }
+}
