@@ -1,9 +1,12 @@
 -- Lemmas of this crate.
+pub mod CallsTaken
+pub mod Ending
 pub mod Freezes
 pub mod Fresh
 pub mod Loops
 pub mod Making
 pub mod Parking
+pub mod Seating
 pub mod Shares
 pub mod Standing
 pub mod Turns

@@ -1,31 +1,51 @@
 -- What holds of a run on threads between two parts, and what a run sees of it.
-use Rattle.std.specs.Prelude.{◌≡◌, ◌≤◌, List, map}
+use Rattle.std.specs.Prelude.{ℕ, ◌≡◌, ◌≤◌, List, [], map, None}
 use Rattle.atomic_table.specs.Seated.{TableId}
 use Rattle.crossbeam_utils.specs.Padded.{padded_value}
 use Rattle.crossbeam_utils.specs.declared.cache_padded.CachePadded.{CachePadded}
-use Rattle.tide_freeze.specs.declared.births.Births.{Births}
-use Rattle.tide_machine.specs.declared.view.View.{View}
-use Rattle.tide_model.specs.Layout.{Layout}
-use Rattle.tide_model.specs.Refused.{ShapeLists}
+use Rattle.tide_machine.specs.Frozen.{newcomer}
+use Rattle.tide_periods.specs.Recorded.{Recorded, recorded_at}
+use Rattle.tide_periods.specs.Store.{Setting}
 use Rattle.tide_periods.specs.declared.caller.Caller.{Caller}
 use Rattle.tide_periods.specs.declared.pacing.Pacing.{Pacing}
-use Rattle.tide_report.specs.Reports.{Reported}
-use Rattle.tide_words.specs.marking.Greys.{Greys}
-use Rattle.tide_threads.specs.Playing.{AllStandBy}
+use Rattle.tide_shape.specs.Lists.{lists_of}
+use Rattle.tide_threads.specs.Playing.{AllStandBy, table_of, view_of}
 use Rattle.tide_threads.specs.Standing.{KeepsBooks, StandsStill}
+use Rattle.tide_threads.specs.declared.on_threads.OnThreads.{OnThreads}
 use Rattle.tide_threads.specs.declared.participant.Participant.{Participant}
 
 -- the callers of some participants
 abbrev pub callers_in : List (CachePadded Participant) → List Caller
 callers_in participants = map (λ (padded : CachePadded Participant). (padded_value padded).caller) participants
 
--- The heap stands still, what is kept beside it is right, each participant stands by, and the collector is of the heap.
-pub record Stands (layout : Layout) (shapes : ShapeLists) (id own : TableId) (v : View)
-    (participants : List (CachePadded Participant)) (births : Births) (report : Reported) (greys : Greys) : Type 0 where
-  pub of_heap : own ≡ id
-  pub still : StandsStill layout shapes v
-  pub books : KeepsBooks layout v births report greys
-  pub all : AllStandBy id layout v participants
+-- what never changes of a heap on which mutators run on threads
+abbrev pub setting_in : OnThreads → Setting
+setting_in o = record { layout = o.heap.key.layout; shapes = lists_of o.heap.key.shapes }
+
+-- what its history tells
+abbrev pub recorded_in : OnThreads → Recorded
+recorded_in o = recorded_at (setting_in o) o.collector.seat.me.0.seen
+
+-- its mutators, each by its own calls
+abbrev pub callers_on : OnThreads → List Caller
+callers_on o = callers_in o.participants.items
+
+-- Between two parts the collector is of the heap, which stands still. What is kept beside it is right, each participant
+-- stands by, and no calls were handed over yet.
+pub record Stands (o : OnThreads) : Type 0 where
+  pub of_heap : o.collector.seat.table_id ≡ o.heap.table.shared.table_id
+  pub still : StandsStill o.heap.key.layout (lists_of o.heap.key.shapes) o.collector.seat.me.0
+  pub books : KeepsBooks o.heap.key.layout o.collector.seat.me.0 o.births o.report o.greys
+  pub all : AllStandBy o.heap.table.shared.table_id o.heap.key.layout o.collector.seat.me.0 o.participants.items
+  pub no_calls : o.calls.items ≡ []
+
+-- a participant of this table that knows nothing yet
+pub record IsFresh (id : TableId) (who : ℕ) (x : Participant) : Type 0 where
+  pub table : table_of x.mutator ≡ id
+  pub number : x.caller.who ≡ who
+  pub view : view_of x.mutator ≡ newcomer who
+  pub no_ticket : x.ticket ≡ None
+  pub no_note : x.note ≡ None
 
 -- the numbers with which a heap can be run whose cycles mark across parts
 pub record IsPace (pacing : Pacing) : Type 0 where

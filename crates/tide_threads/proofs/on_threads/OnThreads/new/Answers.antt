@@ -1,0 +1,85 @@
+-- Why a heap with its mutators stands at the start.
+use Rattle.std.proofs.Common.{◌∙◌, sym, ap, subst, arith, List, All, length, map}
+use Rattle.std.proofs.lemmas.List.{length-map}
+use Rattle.tide_freeze.specs.Births.{AreBornIn}
+use Rattle.tide_model.specs.Layout.{Layout, cell_count}
+use Rattle.tide_model.specs.declared.entry.Event.{Event}
+use Rattle.tide_periods.proofs.Starting.{AreCallers-nothing}
+use Rattle.tide_periods.specs.Asking.{AreNew, IsAskable, scripts_of}
+use Rattle.tide_periods.specs.Recorded.{recorded_at}
+use Rattle.tide_periods.specs.declared.caller.Caller.{Caller}
+use Rattle.tide_report.proofs.EndLaws.{TellsEnds-nothing}
+use Rattle.tide_report.specs.Reports.{Reported}
+use Rattle.tide_shape.specs.Lists.{lists_of}
+use Rattle.tide_shape.specs.declared.shapes.Shapes.{Shapes}
+use Rattle.tide_threads.proofs.Fresh.{AllStandBy-fresh, StandsStill-started}
+use Rattle.tide_threads.specs.OnThreads.{callers_in}
+use Rattle.tide_threads.specs.Standing.{StandsStill}
+use Rattle.tide_words.specs.marking.Greys.{Greys}
+use Rattle.tide_threads.proofs.on_threads.OnThreads.new.Goals as goal
+
+pub participants_of-requires-clause-passes : goal.participants_of-requires-clause-passes
+participants_of-requires-clause-passes c =
+    (c.in_ok-heap.field-0.heap.table.shared.table_id, c.in_ok-heap.ensures.mutators.1)
+
+pub participants_of-requires-clause-numbers : goal.participants_of-requires-clause-numbers
+participants_of-requires-clause-numbers c = λ who caller found. (c.in_ok-callers.ensures.each who caller found).number
+
+pub returns-clause-setting : goal.returns-clause-setting
+returns-clause-setting c =
+    let made = c.in_ok-heap.ensures.made in λ i. record { layout = made.0 i; shapes = lists_of (made.1 i) }
+
+pub returns-clause-nothing : goal.returns-clause-nothing
+returns-clause-nothing c = c.in_ok-heap.ensures.started.seen
+
+pub returns-clause-scripts : goal.returns-clause-scripts
+returns-clause-scripts c = ap scripts_of c.in_ok-participants.ensures.callers ∙ c.in_ok-callers.ensures.scripts_are
+
+pub returns-clause-stands : goal.returns-clause-stands
+returns-clause-stands c =
+    let layout = c.args.layout in
+    let start = c.in_ok-heap.field-0 in
+    let made = c.in_ok-heap.ensures.made in
+    let started = c.in_ok-heap.ensures.started in
+    let v = start.collector.seat.me.0 in
+    let xs = c.in_ok-participants.participants.items in
+    let scripts = map (λ ops. ops.items) c.args.scripts.items in
+    record {
+      of_heap = c.in_ok-heap.ensures.collector;
+      still = subst (λ (l : Layout). StandsStill l (lists_of start.heap.key.shapes) v) (sym made.0)
+          (subst (λ (s : Shapes). StandsStill layout (lists_of s) v) (sym made.1)
+          (StandsStill-started layout (lists_of c.args.shapes) v started c.mutators.ensures.limits c.requires.no_visitors));
+      books = record {
+        counted = subst (λ (h : List Event). AreBornIn h c.none.result) (sym started.seen) c.none.ensures;
+        told = TellsEnds-nothing start.heap.key.layout v.seen c.in_ok-report.report started.seen
+            (ap (λ (r : Reported). r.cycles) c.in_ok-report.ensures) (ap (λ (r : Reported). r.ids) c.in_ok-report.ensures);
+        empty = ap (λ (greys : Greys). greys.cells) c.in_ok-greys.ensures;
+        room =
+            let count = c.cells.ensures.count in
+            let same = ap cell_count made.0 in
+            let cap = ap (λ (greys : Greys). greys.cap) c.in_ok-greys.ensures in
+            omega (arith, count, same, cap);
+      };
+      all = AllStandBy-fresh start.heap.table.shared.table_id start.heap.key.layout v xs scripts started.seen
+          (length-map c.args.scripts.items (λ ops. ops.items) ∙ c.requires.mutators
+          ∙ ap (λ (l : Layout). l.mutators) (sym made.0))
+          (subst (λ (l : List Caller). AreNew l scripts) (sym c.in_ok-participants.ensures.callers) c.in_ok-callers.ensures)
+          c.requires.called
+          (c.in_ok-participants.ensures.fresh start.heap.table.shared.table_id c.in_ok-heap.ensures.mutators.1);
+      no_calls = c.in_ok-calls.ensures;
+    }
+
+pub returns-clause-callers : goal.returns-clause-callers
+returns-clause-callers c =
+    let start = c.in_ok-heap.field-0 in
+    let made = c.in_ok-heap.ensures.made in
+    let v = start.collector.seat.me.0 in
+    let xs = c.in_ok-participants.participants.items in
+    let scripts = map (λ ops. ops.items) c.args.scripts.items in
+    let are : AreNew (callers_in xs) scripts =
+    subst (λ (l : List Caller). AreNew l scripts) (sym c.in_ok-participants.ensures.callers) c.in_ok-callers.ensures in
+    AreCallers-nothing (recorded_at (record { layout = start.heap.key.layout; shapes = lists_of start.heap.key.shapes }) v.seen)
+    (callers_in xs) scripts c.in_ok-heap.ensures.started.seen are
+    (sym (length-map (callers_in xs) (λ (x : Caller). x.ops.items)) ∙ ap length are.scripts_are
+    ∙ length-map c.args.scripts.items (λ ops. ops.items) ∙ c.requires.mutators ∙ ap (λ (l : Layout). l.mutators) (sym made.0))
+    (subst (λ (l : Layout). All (All (IsAskable l)) scripts) (sym made.0) c.requires.askable)

@@ -1,0 +1,50 @@
+-- Why a run on threads is one of the scripts.
+use Rattle.std.proofs.Common.{◌≡◌, ◌∙◌, sym, ap, arith, subst, map, List}
+use Rattle.tide_model.specs.Cycle.{begin_count}
+use Rattle.tide_model.specs.Periods.{open_count}
+use Rattle.tide_model.specs.declared.entry.Event.{Event}
+use Rattle.tide_periods.proofs.Running.{HasRun-over}
+use Rattle.tide_periods.proofs.Starting.{total-few}
+use Rattle.tide_periods.specs.Asking.{scripts_of}
+use Rattle.tide_periods.specs.Periods.{pace_of}
+use Rattle.tide_periods.specs.Recorded.{Recorded}
+use Rattle.tide_periods.specs.declared.caller.Caller.{Caller}
+use Rattle.tide_report.specs.Ends.{TellsEnds}
+use Rattle.tide_threads.specs.OnThreads.{callers_on, recorded_in, setting_in}
+use Rattle.tide_threads.proofs.Fresh.{IsSettled-fresh}
+use Rattle.tide_threads.proofs.periods.run_on_threads.Goals as goal
+
+pub run_periods-requires-clause-settled : goal.run_periods-requires-clause-settled
+run_periods-requires-clause-settled g c κs within = IsSettled-fresh (setting_in c.args.on) (recorded_in c.args.on).history c.requires.nothing
+
+pub run_periods-requires-clause-cycles : goal.run_periods-requires-clause-cycles
+run_periods-requires-clause-cycles g c κs within = ap begin_count c.requires.nothing
+
+pub run_periods-requires-clause-parts : goal.run_periods-requires-clause-parts
+run_periods-requires-clause-parts g c κs within = ap open_count c.requires.nothing
+
+pub run_periods-requires-clause-room : goal.run_periods-requires-clause-room
+run_periods-requires-clause-room g c κs within =
+    let settled = IsSettled-fresh (setting_in c.args.on) (recorded_in c.args.on).history c.requires.nothing in
+    let total = total-few (recorded_in c.args.on).state.claims (callers_on c.args.on) settled.few c.requires.short in
+    let few = c.requires.few in
+    omega (arith, total, few)
+
+pub finish-requires-clause-retired : goal.finish-requires-clause-retired
+finish-requires-clause-retired g c =
+    ap (Rattle.std.specs.List.list_all (λ (x : Caller). x.retired)) c.live-live.ensures.callers
+    ∙ c.in_ok-run_periods.ensures.retired
+
+pub returns : goal.returns
+returns g c =
+    let recorded : Recorded = recorded_in c.run_periods.new.on in
+    let ran = c.in_ok-run_periods.ensures in
+    let left = c.in_ok-kept in
+    let history : left.kept.seat.me.0.seen ≡ recorded.history = left.ensures.history
+    ∙ ap (λ (r : Recorded). r.history) c.live-live.ensures.same in
+    HasRun-over (setting_in c.args.on) (pace_of c.args.pacing) (scripts_of (callers_on c.args.on)) recorded
+    (callers_on c.run_periods.new.on) left.kept.seat.me.0.seen left.report (map (λ own. own.items) left.calls.items)
+    c.live-live.result ran.ran ran.same ran.scripts history
+    (subst (λ (h : List Event). TellsEnds recorded.setting.layout h left.report) (sym history)
+    (subst (λ (r : Recorded). TellsEnds r.setting.layout r.history left.report) c.live-live.ensures.same left.ensures.report))
+    (left.ensures.calls ∙ ap (map (λ (x : Caller). x.calls.items)) c.live-live.ensures.callers) c.live-live.ensures.live

@@ -1,0 +1,60 @@
+-- Why a part and its freeze make a period.
+use Rattle.std.proofs.Common.{ℕ, ◌≡◌, ◌∙◌, sym, ap, arith, subst, Bool, List}
+use Rattle.std.specs.Prelude.{◌||◌}
+use Rattle.tide_model.specs.Periods.{is_over}
+use Rattle.tide_periods.proofs.Freezing.{RanPeriod-by, is_over-callers}
+use Rattle.tide_periods.proofs.Parting.{AreCallers-same}
+use Rattle.tide_periods.specs.Asking.{scripts_of}
+use Rattle.tide_periods.specs.Left.{total_by, total_left}
+use Rattle.tide_periods.specs.Part.{AreCallers}
+use Rattle.tide_periods.specs.Periods.{RanFreeze, pace_of}
+use Rattle.tide_threads.specs.OnThreads.{callers_on, recorded_in}
+use Rattle.tide_threads.proofs.periods.run_period.Goals as goal
+use Rattle.tide_threads.proofs.periods.run_period.Goals.{then-stopped, else-stopped}
+
+pub freeze-requires-clause-opened : goal.freeze-requires-clause-opened
+freeze-requires-clause-opened g c =
+    let opened = c.in_ok-stopped.ensures.ran.ran.opened.parts in
+    let same = c.in_ok-stopped.ensures.ran.ran.ran.counts.parts in
+    omega (arith, opened, same)
+
+pub returns-clause-ran : goal.returns-clause-ran
+returns-clause-ran g c =
+    let old = recorded_in c.args.on.now in
+    let ran = recorded_in c.run_part.new.self in
+    let part = c.in_ok-stopped.ensures.ran in
+    let stopped = c.in_ok-stopped.stopped in
+    let over = c.are_all_retired-is_over.ensures ∙ is_over-callers ran (callers_on c.run_part.new.self) part.callers in
+    let must : c.if-stopped.freeze ≡ (stopped || is_over ran.setting.layout ran.history) = elim c.if-stopped.branch [
+      | then-stopped w ↦ w.freeze-is ∙ w.if-stopped.true
+          ∙ sym (ap (λ (b : Bool). b || is_over ran.setting.layout ran.history) w.if-stopped.true)
+      | else-stopped w ↦ w.freeze-is ∙ over
+          ∙ sym (ap (λ (b : Bool). b || is_over ran.setting.layout ran.history) w.if-stopped.false)
+    ] in
+    RanPeriod-by old part.ran.begun ran (recorded_in c.freeze.new.self) (pace_of c.args.pacing) c.args.run c.in_ok-next.next stopped
+    c.if-stopped.freeze c.requires.goes_on c.requires.run part.ran.opened part.ran.ran c.in_ok-next.ensures.ran must
+
+pub returns-clause-callers : goal.returns-clause-callers
+returns-clause-callers g c =
+    let ran = recorded_in c.run_part.new.self in
+    let new = recorded_in c.freeze.new.self in
+    let froze : RanFreeze ran new (pace_of c.args.pacing) c.if-stopped.freeze c.in_ok-next.next = c.in_ok-next.ensures.ran in
+    subst (AreCallers new) (sym c.in_ok-next.ensures.callers)
+    (AreCallers-same ran new (callers_on c.run_part.new.self) froze.freeze froze.same froze.history froze.quiet
+    c.in_ok-stopped.ensures.ran.callers)
+
+pub returns-clause-scripts : goal.returns-clause-scripts
+returns-clause-scripts g c = ap scripts_of c.in_ok-next.ensures.callers ∙ c.in_ok-stopped.ensures.ran.scripts
+
+pub returns-clause-left : goal.returns-clause-left
+returns-clause-left g c =
+    let old = recorded_in c.args.on.now in
+    let ran = recorded_in c.run_part.new.self in
+    let new = recorded_in c.freeze.new.self in
+    let callers = callers_on c.args.on.now in
+    let callers_ran = callers_on c.run_part.new.self in
+    let froze : RanFreeze ran new (pace_of c.args.pacing) c.if-stopped.freeze c.in_ok-next.next = c.in_ok-next.ensures.ran in
+    let at_last : total_left new (callers_on c.freeze.new.self) ≡ total_left ran callers_ran =
+    ap (total_left new) c.in_ok-next.ensures.callers ∙ ap (λ (claims : ℕ → List ℕ). total_by claims callers_ran) froze.claims in
+    let fewer = c.in_ok-stopped.ensures.ran.fewer c.requires.calls (is_over-callers old callers c.requires.callers ∙ c.requires.goes_on) in
+    omega (arith, at_last, fewer)

@@ -1,0 +1,265 @@
+//! `OnThreads`: what a run stands on, a heap with its mutators, each of which makes its calls on a thread of its own.
+ghost use Rattle.std.specs.Prelude.{◌≡◌, ◌-◌, ◌^◌, ◌<◌, ◌++◌, ◌∷◌, ℕ, [], All, IfOk, OnOk, Some, length, map, slice_get, true};
+ghost use Rattle.std.specs.List.{list_all};
+ghost use Rattle.atomic_table.specs.Seated.{TableId};
+ghost use Rattle.crossbeam_utils.specs.Padded.{padded_value};
+ghost use Rattle.crossbeam_utils.specs.declared.cache_padded.CachePadded.{CachePadded};
+ghost use Rattle.tide_model.specs.Cycle.{live_count};
+ghost use Rattle.tide_mutator.specs.Ops.{is_called};
+ghost use Rattle.tide_periods.specs.Asking.{scripts_of, IsAskable};
+ghost use Rattle.tide_periods.specs.Part.{AreCallers, RanPartBy};
+ghost use Rattle.tide_periods.specs.Periods.{pace_of, RanFreeze};
+ghost use Rattle.tide_periods.specs.Recorded.{IsSettled};
+ghost use Rattle.tide_report.specs.Ends.{TellsEnds};
+ghost use Rattle.tide_shape.specs.Lists.{lists_of};
+ghost use Rattle.tide_table.specs.Started.{ArePasses};
+ghost use Rattle.tide_threads.specs.declared.participant.Participant.{Participant};
+ghost use Rattle.tide_threads.specs.OnThreads.{callers_in, callers_on, recorded_in, setting_in, IsFresh, IsPace, Stands};
+ghost use Rattle.tide_periods.specs.declared.caller.Caller.{Caller};
+
+use crate::freezing::{count_live, freeze_heap};
+use crate::part::run_whole_part;
+use crate::participant::Participant;
+use crossbeam_utils::CachePadded;
+use std::alloc::Global;
+use std::marker::Sync;
+use std::thread::Threads;
+use tide_freeze::Births;
+use tide_layout::Layout;
+use tide_model::{Memory, Op, Turnstile};
+use tide_periods::{Answered, Caller, Pacing, Room, callers_of};
+use tide_report::Report;
+use tide_shape::Shapes;
+use tide_table::{Closed, Collector, Heap, Pass, Start};
+use tide_words::GreyList;
+
+/// A heap on which mutators make their calls on threads: the collector, a participant for each mutator, the births that
+/// were counted, the room for marking, and the report of the cycles that ended.
+#[derive(Drop)]
+pub struct OnThreads {
+    heap: Heap<Shapes>,
+    collector: Collector,
+    participants: Vec<CachePadded<Participant>>,
+    births: Births,
+    greys: GreyList,
+    report: Report,
+    /// Room for each mutator's calls, of which none is in it yet.
+    calls: Vec<Vec<Answered>>,
+}
+
+/// A count, or the largest of 32 bits where it is larger.
+fn capped(count: usize) -> u32 {
+    u32::try_from(count).unwrap_or(u32::MAX)
+}
+
+/// An empty list with room for so many.
+fn with_room<T>(alloc: Global, room: usize) -> Result<Vec<T>, Memory>
+    ensures { IfOk result (λ list. list.items ≡ []) }
+{
+    match Vec::with_capacity(alloc, room) {
+        Ok(list) => Ok(list),
+        Err(_) => Err(Memory),
+    }
+}
+
+/// One more at the end of a list.
+fn append<T: Drop>(list: &mut Vec<T>, item: T) -> Result<(), Memory>
+    ensures { OnOk result (list.new.items ≡ list.old.items ++ item ∷ []) }
+{
+    match list.push(item) {
+        Ok(()) => Ok(()),
+        Err(_) => Err(Memory),
+    }
+}
+
+/// A participant for each pass, with its caller.
+fn participants_of(
+    alloc: Global,
+    passes: Vec<Pass>,
+    callers: Vec<Caller>,
+) -> Result<Vec<CachePadded<Participant>>, Memory>
+    requires passes { (id : TableId) × ArePasses id 0 passes.items }
+    requires numbers { (who : ℕ) (caller : Caller) → slice_get callers.items who ≡ Some caller → caller.who ≡ who }
+    ensures callers { IfOk result (λ made. callers_in made.items ≡ callers.items) }
+    ensures fresh { IfOk result (λ made. (id : TableId) → ArePasses id 0 passes.items →
+        (who : ℕ) (padded : _) → slice_get made.items who ≡ Some padded → IsFresh id who (padded_value padded)) }
+{
+    let mut participants = with_room(alloc, callers.len())?;
+    let mut rest = passes.into_iter();
+    for caller in callers {
+        let Some(pass) = rest.next() else {
+            return Err(Memory);
+        };
+        let participant = Participant::new(pass, caller);
+        append(&mut participants, CachePadded::new(participant))?;
+    }
+    Ok(participants)
+}
+
+/// Each participant's calls, in a list that is empty yet.
+fn calls_of_each(
+    list: Vec<Vec<Answered>>,
+    participants: Vec<CachePadded<Participant>>,
+) -> Result<Vec<Vec<Answered>>, Memory>
+    requires { list.items ≡ [] }
+    ensures { IfOk result (λ calls. map (λ own. own.items) calls.items
+        ≡ map (λ caller. caller.calls.items) (callers_in participants.items)) }
+{
+    let mut calls = list;
+    for padded in participants {
+        let participant = padded.into_inner();
+        append(&mut calls, participant.into_caller().into_calls())?;
+    }
+    Ok(calls)
+}
+
+/// Whether a participant has retired.
+fn has_retired(padded: &CachePadded<Participant>) -> bool
+    ensures { result ≡ (padded_value padded.now).caller.retired }
+{
+    padded.caller.has_retired()
+}
+
+/// Whether each participant has retired.
+fn have_retired(participants: &[CachePadded<Participant>]) -> bool
+    ensures { result ≡ list_all
+        (λ (padded : CachePadded Participant). (padded_value padded).caller.retired) participants.now }
+{
+    participants.iter().all(|padded| has_retired(padded))
+}
+
+impl OnThreads {
+    /// An empty heap on which nothing was run yet, with a mutator for each script, and this room for what a run leaves.
+    pub fn new(
+        alloc: Global,
+        layout: Layout,
+        shapes: Shapes,
+        scripts: Vec<Vec<Op>>,
+        room: Room,
+    ) -> Result<OnThreads, Memory>
+        requires no_visitors { layout.visitors ≡ 0 }
+        requires mutators { length scripts.items ≡ layout.mutators }
+        requires askable { All (All (IsAskable layout)) (map (λ ops. ops.items) scripts.items) }
+        requires called { All (All (λ op. is_called op ≡ true)) (map (λ ops. ops.items) scripts.items) }
+        ensures setting { IfOk result (λ new. setting_in new ≡ record { layout = layout; shapes = lists_of shapes }) }
+        ensures nothing { IfOk result (λ new. (recorded_in new).history ≡ []) }
+        ensures stands { IfOk result Stands }
+        ensures callers { IfOk result (λ new. AreCallers (recorded_in new) (callers_on new)) }
+        ensures scripts { IfOk result (λ new. scripts_of (callers_on new) ≡ map (λ ops. ops.items) scripts.items) }
+    {
+        prove!(layout.mutators() <= 16);
+        let calls = with_room(alloc, scripts.len())?;
+        let callers = callers_of(alloc, scripts)?;
+        let greys = GreyList::new(alloc, layout.cells())?;
+        let freed = capped(room.births).saturating_add(2 * layout.cells());
+        let report = Report::new(alloc, capped(room.ends), freed)?;
+        let Start {
+            heap,
+            collector,
+            mutators,
+            visitors: _,
+        } = Start::new(alloc, layout, shapes)?;
+        let participants = participants_of(alloc, mutators, callers)?;
+        Ok(OnThreads {
+            heap,
+            collector,
+            participants,
+            births: Births::none(),
+            greys,
+            report,
+            calls,
+        })
+    }
+
+    /// Opens a part in which each mutator has `run` calls, and has it played. Answers whether a mutator stopped before its
+    /// share was over.
+    pub(crate) fn run_part<R: Threads + Sync, T: Turnstile>(
+        &mut self,
+        rt: &R,
+        gate: &T,
+        run: u32,
+    ) -> Result<bool, Memory>
+        requires settled { IsSettled (recorded_in self.old) }
+        requires stands { Stands self.old }
+        requires callers { AreCallers (recorded_in self.old) (callers_on self.old) }
+        requires few { (recorded_in self.old).parts < 2 ^ 32 - 1 }
+        ensures ran { IfOk result (RanPartBy (recorded_in self.old) (recorded_in self.new) run
+            (callers_on self.old) (callers_on self.new)) }
+        ensures stands { OnOk result (Stands self.new) }
+    {
+        let ended = run_whole_part(
+            rt,
+            &self.heap,
+            gate,
+            &mut self.collector,
+            self.participants.as_mut_slice(),
+            &mut self.births,
+            run,
+        )?;
+        Ok(ended)
+    }
+
+    /// Whether each mutator has retired.
+    pub(crate) fn are_all_retired(&self) -> bool
+        ensures { result ≡ list_all (λ caller. caller.retired) (callers_on self.now) }
+    {
+        have_retired(self.participants.as_slice())
+    }
+
+    /// Freezes after a part, and does what the schedule asks for. Answers how many calls each mutator has in the next part.
+    pub(crate) fn freeze(&mut self, is_must: bool, pacing: Pacing) -> Result<u32, Memory>
+        requires settled { IsSettled (recorded_in self.old) }
+        requires stands { Stands self.old }
+        requires opened { 0 < (recorded_in self.old).parts }
+        requires room { (recorded_in self.old).cycles < 2 ^ 60 }
+        requires paces { IsPace pacing }
+        ensures ran { IfOk result (RanFreeze (recorded_in self.old) (recorded_in self.new) (pace_of pacing) is_must) }
+        ensures stands { OnOk result (Stands self.new) }
+        ensures callers { OnOk result (callers_on self.new ≡ callers_on self.old) }
+    {
+        let next = freeze_heap(
+            &self.heap,
+            &mut self.collector,
+            &mut self.births,
+            &mut self.greys,
+            &mut self.report,
+            is_must,
+            pacing,
+        )?;
+        Ok(next)
+    }
+
+    /// How many cells live.
+    pub(crate) fn live(&mut self) -> u32
+        requires stands { Stands self.old }
+        ensures live { result ≡ live_count (setting_in self.old).layout (recorded_in self.old).state }
+        ensures same { recorded_in self.new ≡ recorded_in self.old }
+        ensures callers { callers_on self.new ≡ callers_on self.old }
+        ensures stands { Stands self.new }
+    {
+        count_live(&self.heap, &mut self.collector)
+    }
+
+    /// Closes a heap whose mutators have all retired: its history, the report of the cycles that ended, and each mutator's
+    /// calls.
+    pub(crate) fn finish(self) -> Result<(Closed, Report, Vec<Vec<Answered>>), Memory>
+        requires stands { Stands self }
+        requires retired { list_all (λ caller. caller.retired) (callers_on self) ≡ true }
+        ensures history { IfOk result (λ left. left.0.seat.me.0.seen ≡ (recorded_in self).history) }
+        ensures report { IfOk result (λ left. TellsEnds (setting_in self).layout (recorded_in self).history left.1) }
+        ensures calls { IfOk result (λ left.
+            map (λ own. own.items) left.2.items ≡ map (λ caller. caller.calls.items) (callers_on self)) }
+    {
+        let OnThreads {
+            heap,
+            collector,
+            participants,
+            births: _,
+            greys: _,
+            report,
+            calls,
+        } = self;
+        let calls = calls_of_each(calls, participants)?;
+        Ok((collector.close(heap), report, calls))
+    }
+}
