@@ -1,3 +1,4 @@
+pub mod WordLaws
 pub mod steps
 pub mod kinds
 pub mod freezes

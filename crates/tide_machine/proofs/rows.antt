@@ -1,4 +1,5 @@
--- Worked worlds.
+-- Worked words and worlds.
+pub mod WordRows
 pub mod BusyRow
 pub mod PointRows
 pub mod StoreRows

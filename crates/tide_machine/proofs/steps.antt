@@ -36,3 +36,4 @@ pub mod Rereading
 pub mod OwnState
 pub mod Moments
 pub mod Visiting
+pub mod FieldReads

@@ -7,7 +7,8 @@ use Rattle.tide_layout.specs.Limits.{IsWithinLimits}
 use Rattle.tide_layout.specs.Slots.{index_of_element}
 use Rattle.tide_layout.specs.declared.region.Region.{Region}
 use Rattle.tide_layout.specs.declared.region.Region.TheVariants as region
-use Rattle.tide_machine.proofs.steps.Barriers.{pushes_barrier, colour_barrier, calm_barrier, owes_barrier, cell_word_is}
+use Rattle.tide_machine.proofs.WordLaws.{cell_word_is}
+use Rattle.tide_machine.proofs.steps.Barriers.{pushes_barrier, colour_barrier, calm_barrier, owes_barrier}
 use Rattle.tide_machine.proofs.steps.CallReadings.{call_reads}
 use Rattle.tide_machine.proofs.steps.CellCalls.{ShowsCell, cell_call, words_after, later}
 use Rattle.tide_machine.proofs.steps.Claimed.{unowed, count_is, array_is}

@@ -1,10 +1,11 @@
 -- The stages of a growth keep the wave: the structure is nuked, the array is stored, and the structure is stored.
-use Rattle.std.proofs.Common.{ℕ, ◌≡◌, ◌≢◌, ◌+◌, ◌%◌, ◌<◌, ◌≤◌, ◌⊎◌, refl, sym, ◌∙◌, ap, subst, arith, true, false, List, [], inl, inr, length, Option, Some, None}
-use Rattle.std.proofs.lemmas.Bool.{cases_eq, eq-eqb, eqb-false}
+use Rattle.std.proofs.Common.{ℕ, ◌≡◌, ◌≢◌, ◌+◌, ◌<◌, ◌≤◌, ◌⊎◌, refl, sym, ◌∙◌, ap, subst, arith, true, false, List, [], inl, inr, length, Option, Some, None}
+use Rattle.std.proofs.lemmas.Bool.{cases_eq}
 use Rattle.std.specs.Prelude.{Contains, not}
 use Rattle.tide_layout.specs.Slots.{HasElement, index_of_element}
 use Rattle.tide_layout.specs.declared.region.Region.{Region}
 use Rattle.tide_layout.specs.declared.region.Region.TheVariants as region
+use Rattle.tide_machine.proofs.WordLaws.{nuked_word_reads}
 use Rattle.tide_machine.proofs.steps.Frames.{calls_view, stops_view}
 use Rattle.tide_machine.proofs.steps.GrowthsKept.{growth_kept}
 use Rattle.tide_machine.proofs.steps.Lists.{from_none}
@@ -19,7 +20,7 @@ use Rattle.tide_machine.specs.Machine.{stepped}
 use Rattle.tide_machine.specs.Owed.{Owes, owed_word, is_at, without_word, IsOwnWord, own_register, own_structure, own_array, own_pair, own_element}
 use Rattle.tide_machine.specs.RunningWave.{RunningWave}
 use Rattle.tide_machine.specs.Scanning.{IsTrue, IsStill, Place, property}
-use Rattle.tide_machine.specs.Words.{count_of, is_nuked}
+use Rattle.tide_machine.specs.Words.{count_of, is_nuked, nuked_word}
 use Rattle.tide_machine.specs.World.{World, parties}
 use Rattle.tide_machine.specs.declared.view.Growth.{Growth}
 use Rattle.tide_machine.specs.declared.view.Growth.TheVariants as growth
@@ -46,13 +47,6 @@ use Rattle.tide_words.proofs.heap_laws.ReadingLaws.{live_within}
 use Rattle.tide_words.specs.forms.ValueWord.{val_word}
 use Rattle.tide_words.specs.heap.Heap.{Heap, write}
 use Rattle.tide_words.specs.marking.Colours.{is_marking}
-
--- a nuked structure's word has the count that it had
-nuked_word : (word : ℕ) → is_nuked word ≡ false →
-    (is_nuked (word + 1) ≡ true) × (count_of (word + 1) ≡ count_of word)
-nuked_word word even =
-    let rest : word % 2 ≢ 1 = eqb-false (word % 2) 1 even in
-    (eq-eqb ((word + 1) % 2) 1 (omega (arith, rest)), omega (arith, rest))
 
 module _ (layout : Layout) (shapes : ShapeLists) (w : World) (me : ℕ) (inside : me < parties)
     (wave : RunningWave layout shapes w) (runs : (w.part me).runs ≡ true) where
@@ -337,22 +331,22 @@ module _ (layout : Layout) (shapes : ShapeLists) (w : World) (me : ℕ) (inside 
   nuke cell word may = subst (λ (x : ℕ). RunningWave layout shapes (stepped layout shapes w me (Nuke cell x)))
       (sym may.is_word)
       (subst (λ (g : Growth). RunningWave layout shapes (record {
-        heap = write w.heap region.Structure cell (may.old + 1);
+        heap = write w.heap region.Structure cell (nuked_word may.old);
         part = put_at w.part me (later g (w.part me).owed);
         log = w.log;
       })) (sym (ap nuked_growth may.stage))
-      (structure_step cell k.0.claimed (may.old + 1) (growth.Nuked cell may.array may.old may.next) (w.part me).owed
+      (structure_step cell k.0.claimed (nuked_word may.old) (growth.Nuked cell may.array may.old may.next) (w.part me).owed
       record {
         more = (let c = same_count in omega (arith, c));
-        or_nuked = inl (nuked_word may.old k.0.even).0;
+        or_nuked = inl (nuked_word_reads may.old k.0.even).0;
         words = words_over layout shapes w.heap w.part me state wave.words region.Structure cell
             (later (growth.Nuked cell may.array may.old may.next) (w.part me).owed)
-            (λ r i x at. from_none (owed_word r i x) at) (may.old + 1) may.next k.0.owes refl;
+            (λ r i x at. from_none (owed_word r i x) at) (nuked_word may.old) may.next k.0.owes refl;
         growth = (
           record {
             claimed = k.0.claimed;
             has = k.0.has;
-            stands = write-same w.heap region.Structure cell (may.old + 1);
+            stands = write-same w.heap region.Structure cell (nuked_word may.old);
             even = k.0.even;
             fresh = k.0.fresh;
             more = k.0.more;
@@ -370,15 +364,15 @@ module _ (layout : Layout) (shapes : ShapeLists) (w : World) (me : ℕ) (inside 
       k : GrowthKnows w.heap state me (w.part me) (growth.Filling cell may.array may.old may.next)
       k = subst (GrowthKnows w.heap state me (w.part me)) may.stage (wave.growths.knows me)
 
-      same_count : count_of (may.old + 1) ≡ count_of (w.heap region.Structure cell)
-      same_count = (nuked_word may.old k.0.even).1 ∙ ap count_of (sym k.0.stands)
+      same_count : count_of (nuked_word may.old) ≡ count_of (w.heap region.Structure cell)
+      same_count = (nuked_word_reads may.old k.0.even).1 ∙ ap count_of (sym k.0.stands)
 
-      new_count : count_of (write w.heap region.Structure cell (may.old + 1) region.Structure cell)
+      new_count : count_of (write w.heap region.Structure cell (nuked_word may.old) region.Structure cell)
           ≡ count_of (w.heap region.Structure cell)
-      new_count = ap count_of (write-same w.heap region.Structure cell (may.old + 1)) ∙ same_count
+      new_count = ap count_of (write-same w.heap region.Structure cell (nuked_word may.old)) ∙ same_count
 
       still_stands : (a : ℕ) → w.heap region.Array cell ≡ a + 1 →
-          ArrayStands layout (write w.heap region.Structure cell (may.old + 1)) state cell a
+          ArrayStands layout (write w.heap region.Structure cell (nuked_word may.old)) state cell a
       still_stands a is = let before = wave.arrays.stand cell a (wave.refs.claimed me cell k.0.claimed) is in record {
         own = before.own;
         few = (let few = before.few in let c = new_count in omega (arith, few, c));
@@ -391,9 +385,9 @@ module _ (layout : Layout) (shapes : ShapeLists) (w : World) (me : ℕ) (inside 
       RunningWave layout shapes (stepped layout shapes w me (StoreStructure cell word None))
   store_structure cell next may = structure_step cell k.0.claimed next growth.Nothing
       (without_word region.Structure cell (w.part me).owed) record {
-        more = (let o = ap count_of k.0.stands in let c = (nuked_word may.old k.0.even).1 in let m = k.0.more in
+        more = (let o = ap count_of k.0.stands in let c = (nuked_word_reads may.old k.0.even).1 in let m = k.0.more in
             omega (arith, o, c, m));
-        or_nuked = inr (let o = ap count_of k.0.stands in let c = (nuked_word may.old k.0.even).1 in let m = k.0.more in
+        or_nuked = inr (let o = ap count_of k.0.stands in let c = (nuked_word_reads may.old k.0.even).1 in let m = k.0.more in
             omega (arith, o, c, m));
         words = words_paid layout shapes w.heap w.part me state wave.words region.Structure cell
             (later growth.Nothing (without_word region.Structure cell (w.part me).owed))
@@ -454,7 +448,7 @@ module _ (layout : Layout) (shapes : ShapeLists) (w : World) (me : ℕ) (inside 
     nuked_never x None same holds some = some refl
     nuked_never x (Some f) same holds some =
         let is = ap is_nuked (sym holds.0 ∙ ap (w.heap region.Structure) same ∙ k.0.stands) ∙
-        (nuked_word old k.0.even).0 in
+        (nuked_word_reads old k.0.even).0 in
         let isnt = holds.1 in
         absurd (cc)
 
@@ -478,7 +472,7 @@ module _ (layout : Layout) (shapes : ShapeLists) (w : World) (me : ℕ) (inside 
     told_before =
         let all = next_tells cell array k.0.claimed k.0.has next k.0.owes in
         let o = ap count_of k.0.stands in
-        let c = (nuked_word old k.0.even).1 in
+        let c = (nuked_word_reads old k.0.even).1 in
         let m = k.0.more in
         omega (arith, all, o, c, m)
 

@@ -9,8 +9,9 @@ use Rattle.tide_layout.specs.Region.{tag}
 use Rattle.tide_layout.specs.Slots.{index_of_slot}
 use Rattle.tide_layout.specs.declared.region.Region.{Region}
 use Rattle.tide_layout.specs.declared.region.Region.TheVariants as region
+use Rattle.tide_machine.proofs.WordLaws.{cell_word_is}
 use Rattle.tide_machine.proofs.steps.ArraysKept.{arrays_kept}
-use Rattle.tide_machine.proofs.steps.Barriers.{pushes_barrier, colour_barrier, calm_barrier, owes_barrier, cell_word_is}
+use Rattle.tide_machine.proofs.steps.Barriers.{pushes_barrier, colour_barrier, calm_barrier, owes_barrier}
 use Rattle.tide_machine.proofs.steps.Calls.{OfState, call_step, is_uncalled}
 use Rattle.tide_machine.proofs.steps.Frames.{each_put, calls_view}
 use Rattle.tide_machine.proofs.steps.GrowthsKept.{growth_kept}

@@ -14,8 +14,9 @@ use Rattle.tide_layout.specs.Region.{tag}
 use Rattle.tide_layout.specs.Slots.{HasElement, index_of_element}
 use Rattle.tide_layout.specs.declared.region.Region.{Region}
 use Rattle.tide_layout.specs.declared.region.Region.TheVariants as region
+use Rattle.tide_machine.proofs.WordLaws.{cell_word_is}
 use Rattle.tide_machine.proofs.kinds.Takes.{free_is_unowed}
-use Rattle.tide_machine.proofs.steps.Barriers.{pushes_barrier, colour_barrier, calm_barrier, owes_barrier, cell_word_is}
+use Rattle.tide_machine.proofs.steps.Barriers.{pushes_barrier, colour_barrier, calm_barrier, owes_barrier}
 use Rattle.tide_machine.proofs.steps.CallReadings.{call_reads}
 use Rattle.tide_machine.proofs.steps.Calls.{OfState, call_step, is_uncalled}
 use Rattle.tide_machine.proofs.steps.Claimed.{count_is}

@@ -1,9 +1,7 @@
 -- What a store of a word leaves its caller to do.
-use Rattle.std.proofs.Common.{ℕ, ◌≡◌, ◌+◌, ◌*◌, ◌%◌, refl, arith, Bool, true, false}
-use Rattle.std.proofs.lemmas.Bool.{eq-eqb}
+use Rattle.std.proofs.Common.{ℕ, ◌≡◌, refl, Bool, true, false}
 use Rattle.std.specs.Prelude.{if◌then◌else◌, ◌&&◌}
 use Rattle.tide_machine.specs.Duties.{OwesBarrier, OwesColour, IsCalm}
-use Rattle.tide_machine.specs.Words.{is_cell_word}
 use Rattle.tide_machine.specs.World.{pushes}
 use Rattle.tide_machine.specs.declared.view.Duty.{Duty}
 use Rattle.tide_machine.specs.declared.view.Duty.TheVariants as duty
@@ -28,7 +26,3 @@ pub owes_barrier : (marks cell_word : Bool) (cell : ℕ) → marks ≡ true → 
 owes_barrier true true cell m w = refl
 owes_barrier false cell_word cell m w = absurd (cc)
 owes_barrier true false cell m w = absurd (cc)
-
--- a cell's word is one
-pub cell_word_is : (word cell : ℕ) → word ≡ 4 * cell + 2 → is_cell_word word ≡ true
-cell_word_is word cell is = eq-eqb (word % 4) 2 (omega (arith, is))

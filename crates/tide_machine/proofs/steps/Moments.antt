@@ -16,7 +16,7 @@ use Rattle.tide_model.specs.Prefix.{IsPrefix}
 use Rattle.tide_model.specs.Refused.{ShapeLists}
 
 -- what the words say of what a participant works with
-works_of : (layout : Layout) (shapes : ShapeLists) (w : World) (me : ℕ) → RunningWave layout shapes w →
+pub works_of : (layout : Layout) (shapes : ShapeLists) (w : World) (me : ℕ) → RunningWave layout shapes w →
     WorksOn layout (w.part me) w.heap (state_after layout w.log)
 works_of layout shapes w me wave = record {
   phase = λ runs. (let told = wave.numbers.told me runs in (told.0, told.1));
@@ -38,7 +38,7 @@ works_of layout shapes w me wave = record {
 }
 
 -- of a view that is its participant's
-moment_of : (layout : Layout) (shapes : ShapeLists) (w : World) (v : View) (at : Region) (index : ℕ) →
+abbrev pub moment_of : (layout : Layout) (shapes : ShapeLists) (w : World) (v : View) (at : Region) (index : ℕ) →
     RunningWave layout shapes w → w.part v.who ≡ v → Moment layout shapes v w.log at index (w.heap at index)
 moment_of layout shapes w v at index wave is = record {
   before = subst (λ (x : View). IsPrefix x.seen w.log) is (wave.known.seen v.who);

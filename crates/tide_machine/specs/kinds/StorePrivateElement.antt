@@ -1,6 +1,6 @@
 -- Store private array word: the claimer of a cell loads or stores an element of its array, or of one that was just
 -- taken.
-use Rattle.std.specs.Prelude.{ℕ, ◌≡◌, ◌≤◌, ◌<◌, ◌+◌, ◌∷◌, [], if◌then◌else◌, length, ◌⊎◌, Contains, Option, None, Some, true}
+use Rattle.std.specs.Prelude.{ℕ, ◌≡◌, ◌≤◌, ◌<◌, ◌∷◌, [], if◌then◌else◌, length, ◌⊎◌, Contains, Option, None, Some, true}
 use Rattle.tide_layout.specs.Slots.{index_of_element, HasElement}
 use Rattle.tide_layout.specs.declared.region.Region.TheVariants as region
 use Rattle.tide_machine.specs.Duties.{is_growing}
@@ -19,6 +19,7 @@ use Rattle.tide_model.specs.declared.op.Op.{Op}
 use Rattle.tide_model.specs.declared.op.Op.TheVariants.{GetProp, SetProp}
 use Rattle.tide_model.specs.declared.op.Reply.TheVariants.{Done, Seen}
 use Rattle.tide_model.specs.declared.val.Val.TheVariants.{Cell}
+use Rattle.tide_words.specs.forms.Reference.{array_word}
 use Rattle.tide_words.specs.forms.ValueWord.{val_word}
 
 -- an element's word is known, but for one that a growth copies; or GetProp saw its value
@@ -62,7 +63,7 @@ pub record CopiesElement (layout : Layout) (w : World) (me array place : ℕ) : 
   pub old : ℕ
   pub next : ℕ
   pub stage : (w.part me).growth ≡ growth.Filling cell taken old next
-  pub named : w.heap region.Array cell ≡ array + 1
+  pub named : w.heap region.Array cell ≡ array_word (Some array)
   pub within : place < count_of old
 
 -- GetProp sees the property of the key
