@@ -5,8 +5,7 @@ ghost use Rattle.tide_report.specs.Ends.{TellsEnds};
 ghost use Rattle.tide_machine.specs.Frozen.{newcomer};
 ghost use Rattle.tide_table.specs.Started.{IsStarted};
 
-use crate::between::PACING;
-use crate::parts::{begin_part, stop_part};
+use check_parts::{PACING, begin_part, stop_part};
 use tide_cycle::Report;
 use tide_freeze::{Births, freeze};
 use tide_layout::Layout;

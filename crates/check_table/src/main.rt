@@ -11,17 +11,10 @@
 //! - `freezes`: the freeze code runs twice over a frozen heap, with nothing due and as a must.
 #![tactic(auto)]
 
-mod between;
 mod chains;
 mod freezing;
-mod pair;
-mod pairs;
-mod parts;
-mod rows;
 mod standing;
-mod starting;
 mod telling;
-mod working;
 
 use check_heap::{Checks, System, check_lines, number, words_of};
 use std::io;

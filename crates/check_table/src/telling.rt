@@ -1,8 +1,8 @@
 //! What the checks print.
 
-use crate::rows::{Ran, Told, called_parts, one_part, two_parts};
 use crate::standing::{freeze_single, heap_of_facts, mark_chain};
 use check_heap::{System, number_between, numbers_text, tell, text, word_text};
+use check_parts::{Ran, Told, called_parts, one_part, two_parts};
 use std::alloc::{AllocError, Global};
 use std::{fs, io};
 use tide_cycle::Report;

@@ -1,0 +1,67 @@
+-- That a mutator may make its calls, whatever the machine is then.
+use Rattle.std.proofs.Common.{ℕ, ◌≡◌, refl, sym, ◌∙◌, ap, subst, true, false, List, ◌<◌, None}
+use Rattle.std.proofs.lemmas.Bool.{eq-eqb}
+use Rattle.std.specs.Prelude.{Bool, if◌then◌else◌}
+use Rattle.check_parts.specs.Working.{HasLooked, IsReady, set_calls}
+use Rattle.tide_machine.proofs.steps.OwnState.{own_state}
+use Rattle.tide_machine.specs.May.{RunsAsMutator, MayCall, IsBetweenCalls}
+use Rattle.tide_machine.specs.Own.{Own, own_of}
+use Rattle.tide_machine.specs.RunningWave.{RunningWave}
+use Rattle.tide_machine.specs.World.{World}
+use Rattle.tide_machine.specs.declared.view.View.{View}
+use Rattle.tide_model.specs.Answer.{IsAnswer}
+use Rattle.tide_model.specs.History.{state_after}
+use Rattle.tide_model.specs.Lawful.{FitsLayout}
+use Rattle.tide_model.specs.Layout.{Layout}
+use Rattle.tide_model.specs.Numbers.{put_at}
+use Rattle.tide_model.specs.Refused.{ShapeLists}
+use Rattle.tide_model.specs.State.{State}
+use Rattle.tide_model.specs.declared.entry.Event.{Event}
+use Rattle.tide_model.specs.declared.op.Op.{Op}
+use Rattle.tide_model.specs.declared.op.Reply.TheVariants.{Done}
+use Rattle.tide_model.specs.declared.val.Val.TheVariants.{Empty, Int}
+
+-- what is its own follows from its calls
+pub own_now : (layout : Layout) (shapes : ShapeLists) (v : View) (mine : List Event) → v.mine ≡ mine → (w : World) →
+    RunningWave layout shapes w → w.part v.who ≡ v →
+    own_of v.who (state_after layout w.log) ≡ own_of v.who (state_after layout mine)
+own_now layout shapes v mine made w wave is =
+    own_state layout v.who w.log
+    ∙ ap (λ (l : List Event). own_of v.who (state_after layout l))
+    (wave.known.own v.who ∙ ap (λ (u : View). u.mine) is ∙ made)
+
+pub runner : (layout : Layout) (v : View) → v.who < layout.mutators → v.runs ≡ true → (w : World) →
+    w.part v.who ≡ v → RunsAsMutator layout w v.who
+runner layout v mutator runs w is = record { is_mutator = mutator; runs = ap (λ (u : View). u.runs) is ∙ runs }
+
+-- a call that is done and changes nothing of others may be made, where its mutator is active and it is granted
+pub may_call : (layout : Layout) (shapes : ShapeLists) (v : View) (mine : List Event) (op : Op) →
+    IsReady layout v mine false → (state_after layout mine).active v.who ≡ true → FitsLayout layout op →
+    ((s : State) → own_of v.who s ≡ own_of v.who (state_after layout mine) → IsAnswer layout shapes s v.who op Done None) →
+    (w : World) → RunningWave layout shapes w → w.part v.who ≡ v → MayCall layout shapes w v.who op Done None
+may_call layout shapes v mine op ready active fits granted w wave is = record {
+  runner = runner layout v ready.is_mutator ready.runs w is;
+  between = subst IsBetweenCalls (sym is) ready.rests.between;
+  stands = record {
+    is_mutator = ready.is_mutator;
+    is_active = ap (λ (o : Own). o.active) own ∙ active;
+    fits = fits;
+    answers = granted (state_after layout w.log) own;
+    room = λ class full. absurd (cc);
+  };
+}
+  where
+    own : own_of v.who (state_after layout w.log) ≡ own_of v.who (state_after layout mine)
+    own = own_now layout shapes v mine ready.made w wave is
+
+-- the register that was set holds its number
+pub seven : (layout : Layout) (who : ℕ) → (state_after layout (set_calls who)).registers who 0 ≡ Int 7
+seven layout who =
+    ap (λ (b : Bool). (if b then put_at (λ (r : ℕ). Empty) 0 (Int 7) else (λ (r : ℕ). Empty)) 0) (eq-eqb who who refl)
+
+-- who looks twice has looked
+pub looked_on : (v u w : View) → HasLooked v u → HasLooked u w → HasLooked v w
+looked_on v u w one other = record {
+  found = other.found;
+  is = other.is ∙ ap (λ (x : View). record x { found = other.found }) one.is;
+}

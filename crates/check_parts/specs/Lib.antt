@@ -1,0 +1,4 @@
+pub mod Working
+pub mod Between
+pub mod Resting
+pub mod Pairs
