@@ -5,7 +5,7 @@ use crate::machine::Machine;
 use check_heap::{joined, number_between, number_text, text};
 use std::alloc::{AllocError, Global};
 use tide_io::{MemSink, Source};
-use tide_model::FreePass;
+use tide_model::Turnstile;
 use tide_run::riptide;
 
 /// How a run ended.
@@ -18,15 +18,16 @@ pub struct Ending {
 }
 
 impl Ending {
-    /// Runs the program with these words, on what a source gives and to these sinks.
-    pub fn over<R: Machine, S: Source>(
+    /// Runs the program with these words, on what a source gives and to these sinks, with this turnstile.
+    pub fn over<R: Machine, S: Source, T: Turnstile>(
         rt: &R,
         words: &[String],
         source: &mut S,
         mut out: MemSink,
         mut err: MemSink,
+        gate: &T,
     ) -> Self {
-        let ended = riptide(rt, rt.alloc(), words, source, &mut out, &mut err, &FreePass);
+        let ended = riptide(rt, rt.alloc(), words, source, &mut out, &mut err, gate);
         Ending {
             status: ended.status,
             has_outcome: ended.outcome.is_some(),

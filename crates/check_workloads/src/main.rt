@@ -3,7 +3,9 @@
 //!
 //! Each line of its input is one check. Files lie in the folder that it is run in:
 //!
-//! - `runs FILE`: rows of runs whose source and sinks fail where they are told to (`runs.rt`).
+//! - `runs FILE`: rows of runs whose source and sinks fail where they are told to, and whose mutators are held where they are
+//!   told to (`runs.rt`).
+//! - `ways FILE`: a list of workloads, each of which comes to the same each way that it is run (`ways.rt`).
 //! - `ends FILE`: rows of sources and sinks alone (`ends.rt`).
 //!
 //! It prints what ended otherwise than expected, and then a line for each check. Where one was not as expected, the
@@ -12,10 +14,12 @@
 
 mod ending;
 mod ends;
+mod holds;
 mod machine;
 mod outcomes;
 mod real;
 mod runs;
+mod ways;
 
 use check_heap::{check_rows, tell_line, words_of};
 use ends::Ends;
@@ -23,11 +27,13 @@ use machine::Machine;
 use runs::check_runs;
 use std::io;
 use std::process::ExitCode;
+use ways::check_ways;
 
 /// Makes the check of a line, and answers whether all was as expected.
 fn check<R: Machine>(rt: &R, line: &str) -> io::Result<bool> {
     match *words_of(rt.alloc(), line)? {
         ["runs", file] => check_runs(rt, file),
+        ["ways", file] => check_ways(rt, file),
         ["ends", file] => check_rows::<R, Ends>(rt, file),
         _ => Ok(false),
     }

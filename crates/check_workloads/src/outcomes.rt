@@ -1,9 +1,9 @@
-//! The outcomes of runs, by `plain` and by `run`.
+//! The outcomes of runs, by `plain`, `words` and `run`.
 use crate::machine::Machine;
 use check_heap::{number_between, numbers_text, reply_text};
 use std::alloc::{AllocError, Global};
-use tide_model::FreePass;
-use tide_run::{Outcome, Report, plain, run};
+use tide_model::Turnstile;
+use tide_run::{Outcome, Report, plain, run, words};
 use tide_workload::read;
 
 /// The cycles of a run, and after them the cells that they freed.
@@ -48,13 +48,28 @@ pub fn in_turn(alloc: Global, bytes: &[u8]) -> Result<Option<String>, AllocError
     }
 }
 
-/// The outcome of a workload's run by `run`. None where the bytes are no workload.
-pub fn in_threads<R: Machine>(rt: &R, bytes: &[u8]) -> Result<Option<String>, AllocError> {
+/// The outcome of a workload's run by `words`. None where the bytes are no workload.
+pub fn on_words(alloc: Global, bytes: &[u8]) -> Result<Option<String>, AllocError> {
+    let Ok(load) = read(alloc, bytes) else {
+        return Ok(None);
+    };
+    match words(alloc, &load) {
+        Ok(outcome) => Ok(Some(outcome_text(alloc, &outcome)?)),
+        Err(_) => Err(AllocError),
+    }
+}
+
+/// The outcome of a workload's run by `run`, with this turnstile. None where the bytes are no workload.
+pub fn in_threads<R: Machine, T: Turnstile>(
+    rt: &R,
+    bytes: &[u8],
+    gate: &T,
+) -> Result<Option<String>, AllocError> {
     let alloc = rt.alloc();
     let Ok(load) = read(alloc, bytes) else {
         return Ok(None);
     };
-    match run(rt, alloc, &load, 0, &FreePass) {
+    match run(rt, alloc, &load, 0, gate) {
         Ok(outcome) => Ok(Some(outcome_text(alloc, &outcome)?)),
         Err(_) => Err(AllocError),
     }

@@ -1,19 +1,24 @@
-//! A run whose source and sinks give and take ten bytes a call, and fail where they are told to.
+//! A run whose source and sinks give and take ten bytes a call, and fail where they are told to, and whose mutators are held
+//! where they are told to.
 //!
 //! The lines of a row: `workload NAME` or `document LINE` is what there is to read, `text FILE` what is to be printed where
 //! that isn't the workload's text, `words WORDS` are those of the command line, which is `riptide` alone where none are given
 //! (`''` is the empty word); `reads fail CALLS`, `prints fail CALLS` and `tells fail CALLS` say which calls fail, from 0, and
-//! `room BYTES` how much may be printed. Then
+//! `room BYTES` how much may be printed. `hold POINT until POINT` holds a mutator at a point until another has come to one; a
+//! point is the mutator's number, `call` with the number of its call from 0, or `linked` with a cell (`holds.rt`). Then
 //!
 //! - `run` is answered with the status, and with an outcome where there is one; `run short of room` with `write faults` where
 //!   each room less than the text needs ends with one, and with as many first bytes of the text;
 //! - `printed` is answered with how much of the workload's text was: `all`, `nothing` or so many first bytes, `told` with the
 //!   line on the error output, and `, cut off` where it has no end; `left` with how many bytes weren't read, or `all`;
-//! - `plain` and `in threads` run the workload by `plain` and by `run`, and are answered with its calls and what lives then.
+//! - `held` is answered with the numbers of the holds that were kept, from 0;
+//! - `plain`, `on words` and `in threads` run the workload by `plain`, `words` and `run`, and are answered with its calls and
+//!   what lives then.
 
 use crate::ending::Ending;
+use crate::holds::Holds;
 use crate::machine::Machine;
-use crate::outcomes::{in_threads, in_turn};
+use crate::outcomes::{in_threads, in_turn, on_words};
 use check_heap::{
     joined, large_number, large_numbers, number_between, number_text, parts_of, tell_answer, text,
     words_of,
@@ -43,6 +48,7 @@ pub struct Trial {
     words: Vec<String>,
     faults: Faults,
     room: usize,
+    holds: Holds,
     ended: Option<Ending>,
     /// How many bytes the run left.
     left: usize,
@@ -98,6 +104,7 @@ impl Trial {
                 None => return Ok(None),
             },
             ["words", words @ ..] => self.words = command_line(alloc, words)?,
+            ["hold", words @ ..] => return self.holds.add(words),
             _ => return Ok(None),
         }
         Ok(Some(()))
@@ -111,7 +118,14 @@ impl Trial {
         let mut source = MemSource::new(document, 10, reads);
         let out = sink(alloc, room, self.faults.prints.as_slice())?;
         let err = sink(alloc, TOLD, self.faults.tells.as_slice())?;
-        let ended = Ending::over(rt, self.words.as_slice(), &mut source, out, err);
+        let ended = Ending::over(
+            rt,
+            self.words.as_slice(),
+            &mut source,
+            out,
+            err,
+            &self.holds,
+        );
         let left = match read_up_to(alloc, &mut source, MAX_BYTES) {
             Ok(rest) => rest.len(),
             Err(_) => 0,
@@ -159,6 +173,7 @@ impl Trial {
                 tells: Vec::new(alloc),
             },
             room: 10_000,
+            holds: Holds::none(alloc),
             ended: None,
             left: 0,
         })
@@ -174,12 +189,14 @@ impl Trial {
             (["run"], _) => Ok(Some(self.run_once(rt)?)),
             (["run", "short", "of", "room"], _) => Ok(Some(self.run_short_of_room(rt)?)),
             (["plain"], _) => Ok(in_turn(alloc, self.document.as_slice())?),
-            (["in", "threads"], _) => Ok(in_threads(rt, self.document.as_slice())?),
+            (["on", "words"], _) => Ok(on_words(alloc, self.document.as_slice())?),
+            (["in", "threads"], _) => Ok(in_threads(rt, self.document.as_slice(), &self.holds)?),
             (["printed"], Some(ended)) => Ok(Some(ended.printed_text(
                 alloc,
                 self.printed.as_slice(),
             )?)),
             (["told"], Some(ended)) => Ok(Some(ended.told_text(alloc)?)),
+            (["held"], _) => Ok(Some(self.holds.kept_text(alloc)?)),
             (["left"], _) if self.left == self.document.len() => Ok(Some(text(alloc, "all")?)),
             (["left"], _) => Ok(Some(number_text(alloc, self.left as u64)?)),
             _ => Ok(None),

@@ -38,18 +38,27 @@ pub record CallsIn (owns : OwnHeaps) (caller : Caller) (heap : Heap) (state : St
   pub reads : ReadsAs caller.layout caller.shapes heap state
   pub is_caller : IsCallerOf caller state
 
--- there is a heap and a state in which it may
-abbrev pub MayCallNow : OwnHeaps → Caller → Type 0
-MayCallNow owns caller = (heap : Heap) × (state : State) × CallsIn owns caller heap state
+-- it may now: some heap has its own words, and each heap that has them reads as a state in which it may call
+pub record MayCallNow (owns : OwnHeaps) (caller : Caller) : Type 0 where
+  pub heap : Heap
+  pub owned : owns caller.layout caller.who heap
+  pub each : (other : Heap) → owns caller.layout caller.who other → (state : State) × CallsIn owns caller other state
 
 -- it holds wherever the caller may call
 abbrev pub Always : OwnHeaps → Caller → (Heap → State → Type 0) → Type 0
 Always owns caller holds = (heap : Heap) (state : State) → CallsIn owns caller heap state → holds heap state
 
--- heaps that had a mutator's own words have them
-abbrev pub KeepsOwn : OwnHeaps → OwnHeaps → Type 0
-KeepsOwn before after = (layout : Layout) (who : ℕ) (heap : Heap) → before layout who heap → after layout who heap
+-- After own words of a mutator were read in some context, some heap has them as they are known now. Each that has them
+-- so had them as they were known before, and the rest is as it was.
+abbrev pub LeavesOwn : {C Rest : Type 0} → (C → OwnHeaps) → (C → OwnHeaps) → C → Layout → ℕ → Rest → Rest → Type 0
+LeavesOwn before after context layout who old new =
+    ((heap : Heap) × after context layout who heap)
+    × ((heap : Heap) → after context layout who heap → before context layout who heap) × (new ≡ old)
 
--- so do they after a call that reads own words in some context, and the rest is as it was
-abbrev pub LeavesOwn : {C Rest : Type 0} → (C → OwnHeaps) → (C → OwnHeaps) → C → Rest → Rest → Type 0
-LeavesOwn before after context old new = KeepsOwn (before context) (after context) × (new ≡ old)
+-- After a caller's own words were read in some context it may call still, nowhere but where it might before, and the
+-- rest is as it was.
+abbrev pub Leaves : {C Rest : Type 0} → (C → OwnHeaps) → (C → OwnHeaps) → C → Caller → Rest → Rest → Type 0
+Leaves before after context caller old new =
+    MayCallNow (after context) caller
+    × ((heap : Heap) (state : State) → CallsIn (after context) caller heap state →
+    CallsIn (before context) caller heap state) × (new ≡ old)

@@ -44,7 +44,7 @@ PlanWords layout heap who (plan.LoadSlot dst cell slot) (Seen value) took new =
 PlanWords layout heap who (plan.StoreSlot cell slot value) Done took new =
     (took ≡ None) × IsWritten layout heap new region.Slots (index_of_slot layout cell slot) (val_word value)
 PlanWords layout heap who (plan.Fill dst value) Done took new = (took ≡ None) × Fills layout heap who dst value new
-PlanWords layout heap who (plan.Show dst value) (Seen seen) took new =
+PlanWords layout heap who (plan.Show dst table place value) (Seen seen) took new =
     (took ≡ None) × (seen ≡ value) × Fills layout heap who dst value new
 PlanWords layout heap who (plan.Claim cell full) (Refused (Held holder)) took new =
     (took ≡ None) × (heap region.Claim cell ≡ claim_word (Some holder)) × IsUnwritten layout heap new

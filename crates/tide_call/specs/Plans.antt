@@ -10,6 +10,7 @@ use Rattle.tide_model.specs.Applied.{is_array_full, place_of}
 use Rattle.tide_model.specs.Refused.{claims_most, refusal_of, table_class}
 use Rattle.tide_model.specs.State.{State}
 use Rattle.tide_words.specs.heap.Heap.{Heap}
+use Rattle.tide_words.specs.heap.Reading.{IsPairOf, slot_word}
 use Rattle.tide_call.specs.declared.additions.Addition.{Addition}
 use Rattle.tide_call.specs.declared.plan.Plan.{Plan}
 use Rattle.tide_call.specs.declared.plan.Plan.TheVariants as plan
@@ -81,9 +82,10 @@ DoesSo caller heap state (PairSet src key val) does =
     × IsPlaceFor caller.layout heap state table place cell
     × (does ≡ plan.StorePair table place cell (state.registers caller.who val))
 DoesSo caller heap state (PairGet dst src key) does =
-    (table : ℕ) × (cell : ℕ) × (value : Val) × (state.registers caller.who src ≡ Cell table)
-    × (state.registers caller.who key ≡ Cell cell) × ((state.cells table).pairs cell ≡ Some value)
-    × (does ≡ plan.Show dst value)
+    (table : ℕ) × (cell : ℕ) × (place : ℕ) × (value : Val) × (state.registers caller.who src ≡ Cell table)
+    × (state.registers caller.who key ≡ Cell cell) × HasSlot caller.layout table place
+    × IsPairOf cell value (slot_word caller.layout heap table place) × ((state.cells table).pairs cell ≡ Some value)
+    × (does ≡ plan.Show dst table place value)
 DoesSo caller heap state (PairDel src key) does =
     (table : ℕ) × (cell : ℕ) × (place : ℕ) × (state.registers caller.who src ≡ Cell table)
     × (state.registers caller.who key ≡ Cell cell) × HasSlot caller.layout table place

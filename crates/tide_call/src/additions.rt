@@ -5,7 +5,7 @@ ghost use Rattle.tide_model.specs.Numbers.{is_among};
 ghost use Rattle.tide_model.specs.Refused.{refusal_of};
 ghost use Rattle.tide_model.specs.declared.op.Op.TheVariants.{Add};
 ghost use Rattle.tide_model.specs.declared.val.Val.TheVariants.{Cell};
-ghost use Rattle.tide_call.specs.Callers.{Always, LeavesOwn, MayCallNow};
+ghost use Rattle.tide_call.specs.Callers.{Always, Leaves, MayCallNow};
 ghost use Rattle.tide_call.specs.declared.plan.Plan.TheVariants.{Grow};
 ghost use Rattle.tide_call.specs.Plans.{IsAddition, IsPlan};
 
@@ -50,19 +50,19 @@ impl<'a, S: ShapeTable> Caller<'a, S> {
     ) -> Result<Addition, Refusal>
         requires of_layout { src < self.now.layout.registers }
         requires known { MayCallNow (O.owns own.old context.now) self.now }
-        ensures refused { IfErr result (λ refusal. Always (O.owns own.old context.now) self.now (λ heap state.
+        ensures refused { IfErr result (λ refusal. Always (O.owns own.new context.now) self.now (λ heap state.
             (val : ℕ) → refusal_of self.now.layout self.now.shapes state self.now.who (Add src key val) ≡
             Some refusal)) }
-        ensures granted { IfOk result (λ addition. Always (O.owns own.old context.now) self.now (λ heap state.
+        ensures granted { IfOk result (λ addition. Always (O.owns own.new context.now) self.now (λ heap state.
             (val : ℕ) → refusal_of self.now.layout self.now.shapes state self.now.who (Add src key val) ≡ None)) }
-        ensures cell { IfOk result (λ addition. Always (O.owns own.old context.now) self.now (λ heap state.
+        ensures cell { IfOk result (λ addition. Always (O.owns own.new context.now) self.now (λ heap state.
             state.registers self.now.who src ≡ Cell addition.cell)) }
-        ensures addition { IfOk result (λ addition. Always (O.owns own.old context.now) self.now (λ heap state.
+        ensures addition { IfOk result (λ addition. Always (O.owns own.new context.now) self.now (λ heap state.
             IsAddition self.now state key addition)) }
         ensures few { IfOk result (λ addition. addition.count < 64) }
         ensures within { IfOk result (λ addition. addition.cell < cell_count self.now.layout) }
         ensures claimed { IfOk result (λ addition. is_among self.now.claims addition.cell ≡ true) }
-        ensures owns { LeavesOwn (O.owns own.old) (O.owns own.new) context.now (O.rest own.old) (O.rest own.new) }
+        ensures owns { Leaves (O.owns own.old) (O.owns own.new) context.now self.now (O.rest own.old) (O.rest own.new) }
     {
         let cell = self.property_holder(own, context, src)?;
         let shape = self.shape_of(own, context, cell);
@@ -92,9 +92,9 @@ impl<'a, S: ShapeTable> Caller<'a, S> {
         requires of_layout { src < self.now.layout.registers }
         requires val_of_layout { val < self.now.layout.registers }
         requires known { MayCallNow (O.owns own.old context.now) self.now }
-        ensures plan { Always (O.owns own.old context.now) self.now (λ heap state.
+        ensures plan { Always (O.owns own.new context.now) self.now (λ heap state.
             IsPlan self.now heap state (Add src key val) result) }
-        ensures owns { LeavesOwn (O.owns own.old) (O.owns own.new) context.now (O.rest own.old) (O.rest own.new) }
+        ensures owns { Leaves (O.owns own.old) (O.owns own.new) context.now self.now (O.rest own.old) (O.rest own.new) }
     {
         let addition = match self.find_addition(own, context, src, key) {
             Ok(addition) => addition,

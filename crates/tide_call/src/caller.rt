@@ -7,7 +7,7 @@ ghost use Rattle.tide_model.specs.declared.op.Refusal.{Refusal as TheRefusal};
 ghost use Rattle.tide_model.specs.declared.val.Val.TheVariants.{Cell};
 ghost use Rattle.tide_shape.specs.ShapeTable.{IsShapeTable};
 ghost use Rattle.tide_words.specs.heap.Reading.{slot_word};
-ghost use Rattle.tide_call.specs.Callers.{Always, LeavesOwn, MayCallNow};
+ghost use Rattle.tide_call.specs.Callers.{Always, Leaves, MayCallNow};
 ghost use Rattle.tide_call.specs.ShapeWord.{IsShapeWord};
 
 use crate::claims::Claims;
@@ -86,9 +86,9 @@ impl<'a, S: ShapeTable> Caller<'a, S> {
     ) -> Val
         requires of_layout { register < self.now.layout.registers }
         requires known { MayCallNow (O.owns own.old context.now) self.now }
-        ensures value { Always (O.owns own.old context.now) self.now (λ heap state.
+        ensures value { Always (O.owns own.new context.now) self.now (λ heap state.
             state.registers self.now.who register ≡ result) }
-        ensures owns { LeavesOwn (O.owns own.old) (O.owns own.new) context.now (O.rest own.old) (O.rest own.new) }
+        ensures owns { Leaves (O.owns own.old) (O.owns own.new) context.now self.now (O.rest own.old) (O.rest own.new) }
     {
         word_val(own.register(context, self.layout, self.who, register)).unwrap_or(Val::Empty)
     }
@@ -103,12 +103,12 @@ impl<'a, S: ShapeTable> Caller<'a, S> {
         requires of_layout { register < self.now.layout.registers }
         requires known { MayCallNow (O.owns own.old context.now) self.now }
         ensures within { IfOk result (λ cell. cell < cell_count self.now.layout) }
-        ensures cell { IfOk result (λ cell. Always (O.owns own.old context.now) self.now (λ heap state.
+        ensures cell { IfOk result (λ cell. Always (O.owns own.new context.now) self.now (λ heap state.
             state.registers self.now.who register ≡ Cell cell)) }
-        ensures refused { IfErr result (λ refusal. Always (O.owns own.old context.now) self.now (λ heap state.
+        ensures refused { IfErr result (λ refusal. Always (O.owns own.new context.now) self.now (λ heap state.
             (further : ℕ → Option TheRefusal) →
             refusal_at (state.registers self.now.who register) register further ≡ Some refusal)) }
-        ensures owns { LeavesOwn (O.owns own.old) (O.owns own.new) context.now (O.rest own.old) (O.rest own.new) }
+        ensures owns { Leaves (O.owns own.old) (O.owns own.new) context.now self.now (O.rest own.old) (O.rest own.new) }
     {
         let cells = self.layout.cells();
         match self.value_in(own, context, register) {
@@ -122,10 +122,10 @@ impl<'a, S: ShapeTable> Caller<'a, S> {
         requires of_layout { cell < cell_count self.now.layout }
         requires claimed { is_among self.now.claims cell ≡ true }
         requires known { MayCallNow (O.owns own.old context.now) self.now }
-        ensures shape { Always (O.owns own.old context.now) self.now (λ heap state.
+        ensures shape { Always (O.owns own.new context.now) self.now (λ heap state.
             IsShapeWord self.now.shapes (state.cells cell).keys result) }
         ensures within { result < length self.now.shapes }
-        ensures owns { LeavesOwn (O.owns own.old) (O.owns own.new) context.now (O.rest own.old) (O.rest own.new) }
+        ensures owns { Leaves (O.owns own.old) (O.owns own.new) context.now self.now (O.rest own.old) (O.rest own.new) }
     {
         match word_structure(own.structure(context, self.layout, self.who, cell)) {
             Some(structure) => structure.shape,
@@ -143,9 +143,9 @@ impl<'a, S: ShapeTable> Caller<'a, S> {
         requires of_layout { cell < cell_count self.now.layout }
         requires claimed { is_among self.now.claims cell ≡ true }
         requires known { MayCallNow (O.owns own.old context.now) self.now }
-        ensures array { Always (O.owns own.old context.now) self.now (λ heap state.
+        ensures array { Always (O.owns own.new context.now) self.now (λ heap state.
             (state.cells cell).array ≡ result) }
-        ensures owns { LeavesOwn (O.owns own.old) (O.owns own.new) context.now (O.rest own.old) (O.rest own.new) }
+        ensures owns { Leaves (O.owns own.old) (O.owns own.new) context.now self.now (O.rest own.old) (O.rest own.new) }
     {
         let arrays = self.layout.arrays();
         let array = word_array(own.array(context, self.layout, self.who, cell))?;
@@ -163,9 +163,9 @@ impl<'a, S: ShapeTable> Caller<'a, S> {
         requires table { is_table self.now.layout table ≡ true }
         requires claimed { is_among self.now.claims table ≡ true }
         requires known { MayCallNow (O.owns own.old context.now) self.now }
-        ensures words { Always (O.owns own.old context.now) self.now (λ heap state. (place : ℕ) → place < 8 →
+        ensures words { Always (O.owns own.new context.now) self.now (λ heap state. (place : ℕ) → place < 8 →
             slice_index result place ≡ slot_word self.now.layout heap table place) }
-        ensures owns { LeavesOwn (O.owns own.old) (O.owns own.new) context.now (O.rest own.old) (O.rest own.new) }
+        ensures owns { Leaves (O.owns own.old) (O.owns own.new) context.now self.now (O.rest own.old) (O.rest own.new) }
     {
         let mut words = [0; 8];
         for place in 0..PAIRS {

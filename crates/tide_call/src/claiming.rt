@@ -3,7 +3,7 @@ ghost use Rattle.std.specs.Prelude.{◌≡◌, ◌<◌};
 ghost use Rattle.tide_model.specs.State.{State};
 ghost use Rattle.tide_words.specs.heap.Heap.{Heap};
 ghost use Rattle.tide_model.specs.declared.op.Op.TheVariants.{Claim, Release, Unclaim};
-ghost use Rattle.tide_call.specs.Callers.{Always, IsCallerOf, LeavesOwn, MayCallNow};
+ghost use Rattle.tide_call.specs.Callers.{Always, IsCallerOf, Leaves, MayCallNow};
 ghost use Rattle.tide_call.specs.Plans.{IsPlan};
 
 use crate::caller::Caller;
@@ -22,9 +22,9 @@ impl<'a, S: ShapeTable> Caller<'a, S> {
     ) -> Plan
         requires of_layout { src < self.now.layout.registers }
         requires known { MayCallNow (O.owns own.old context.now) self.now }
-        ensures plan { Always (O.owns own.old context.now) self.now (λ heap state.
+        ensures plan { Always (O.owns own.new context.now) self.now (λ heap state.
             IsPlan self.now heap state (Claim src) result) }
-        ensures owns { LeavesOwn (O.owns own.old) (O.owns own.new) context.now (O.rest own.old) (O.rest own.new) }
+        ensures owns { Leaves (O.owns own.old) (O.owns own.new) context.now self.now (O.rest own.old) (O.rest own.new) }
     {
         match self.cell_in(own, context, src) {
             Ok(cell) => Plan::Claim {
@@ -44,9 +44,9 @@ impl<'a, S: ShapeTable> Caller<'a, S> {
     ) -> Plan
         requires of_layout { src < self.now.layout.registers }
         requires known { MayCallNow (O.owns own.old context.now) self.now }
-        ensures plan { Always (O.owns own.old context.now) self.now (λ heap state.
+        ensures plan { Always (O.owns own.new context.now) self.now (λ heap state.
             IsPlan self.now heap state (Release src) result) }
-        ensures owns { LeavesOwn (O.owns own.old) (O.owns own.new) context.now (O.rest own.old) (O.rest own.new) }
+        ensures owns { Leaves (O.owns own.old) (O.owns own.new) context.now self.now (O.rest own.old) (O.rest own.new) }
     {
         match self.cell_in(own, context, src) {
             Ok(cell) if self.claims().contains(cell) => Plan::Release { cell },

@@ -6,7 +6,7 @@ ghost use Rattle.tide_model.specs.Refused.{first_of, is_table, pair_refusal};
 ghost use Rattle.tide_model.specs.declared.op.Op.TheVariants.{PairDel, PairGet, PairSet};
 ghost use Rattle.tide_model.specs.declared.op.Refusal.{Refusal as TheRefusal};
 ghost use Rattle.tide_model.specs.declared.val.Val.TheVariants.{Cell};
-ghost use Rattle.tide_call.specs.Callers.{Always, LeavesOwn, MayCallNow};
+ghost use Rattle.tide_call.specs.Callers.{Always, Leaves, MayCallNow};
 ghost use Rattle.tide_call.specs.Pairs.{HasNoZero, IsFirstZero, IsPlaceAmong, LacksKey, StandsAt};
 ghost use Rattle.tide_call.specs.Plans.{IsPlan};
 
@@ -84,21 +84,21 @@ impl<'a, S: ShapeTable> Caller<'a, S> {
         requires table_register { src < self.now.layout.registers }
         requires key_register { key < self.now.layout.registers }
         requires known { MayCallNow (O.owns own.old context.now) self.now }
-        ensures refused { IfErr result (λ refusal. Always (O.owns own.old context.now) self.now (λ heap state.
+        ensures refused { IfErr result (λ refusal. Always (O.owns own.new context.now) self.now (λ heap state.
             (further : ℕ → ℕ → Option TheRefusal) →
             pair_refusal self.now.layout state self.now.who src key further ≡ Some refusal)) }
-        ensures granted { IfOk result (λ cells. Always (O.owns own.old context.now) self.now (λ heap state.
+        ensures granted { IfOk result (λ cells. Always (O.owns own.new context.now) self.now (λ heap state.
             (further : ℕ → ℕ → Option TheRefusal) →
             pair_refusal self.now.layout state self.now.who src key further ≡
             first_of (further cells.table cells.key ∷ []))) }
-        ensures table { IfOk result (λ cells. Always (O.owns own.old context.now) self.now (λ heap state.
+        ensures table { IfOk result (λ cells. Always (O.owns own.new context.now) self.now (λ heap state.
             state.registers self.now.who src ≡ Cell cells.table)) }
-        ensures key { IfOk result (λ cells. Always (O.owns own.old context.now) self.now (λ heap state.
+        ensures key { IfOk result (λ cells. Always (O.owns own.new context.now) self.now (λ heap state.
             state.registers self.now.who key ≡ Cell cells.key)) }
         ensures within { IfOk result (λ cells. cells.table < cell_count self.now.layout) }
         ensures is_table { IfOk result (λ cells. is_table self.now.layout cells.table ≡ true) }
         ensures claimed { IfOk result (λ cells. is_among self.now.claims cells.table ≡ true) }
-        ensures owns { LeavesOwn (O.owns own.old) (O.owns own.new) context.now (O.rest own.old) (O.rest own.new) }
+        ensures owns { Leaves (O.owns own.old) (O.owns own.new) context.now self.now (O.rest own.old) (O.rest own.new) }
     {
         let table = self.cell_in(own, context, src)?;
         let key = self.cell_in(own, context, key)?;
@@ -124,9 +124,9 @@ impl<'a, S: ShapeTable> Caller<'a, S> {
         requires key_register { key < self.now.layout.registers }
         requires val_of_layout { val < self.now.layout.registers }
         requires known { MayCallNow (O.owns own.old context.now) self.now }
-        ensures plan { Always (O.owns own.old context.now) self.now (λ heap state.
+        ensures plan { Always (O.owns own.new context.now) self.now (λ heap state.
             IsPlan self.now heap state (PairSet src key val) result) }
-        ensures owns { LeavesOwn (O.owns own.old) (O.owns own.new) context.now (O.rest own.old) (O.rest own.new) }
+        ensures owns { Leaves (O.owns own.old) (O.owns own.new) context.now self.now (O.rest own.old) (O.rest own.new) }
     {
         let cells = match self.pair_cells(own, context, src, key) {
             Ok(cells) => cells,
@@ -158,9 +158,9 @@ impl<'a, S: ShapeTable> Caller<'a, S> {
         requires table_register { src < self.now.layout.registers }
         requires key_register { key < self.now.layout.registers }
         requires known { MayCallNow (O.owns own.old context.now) self.now }
-        ensures plan { Always (O.owns own.old context.now) self.now (λ heap state.
+        ensures plan { Always (O.owns own.new context.now) self.now (λ heap state.
             IsPlan self.now heap state (PairGet dst src key) result) }
-        ensures owns { LeavesOwn (O.owns own.old) (O.owns own.new) context.now (O.rest own.old) (O.rest own.new) }
+        ensures owns { Leaves (O.owns own.old) (O.owns own.new) context.now self.now (O.rest own.old) (O.rest own.new) }
     {
         let cells = match self.pair_cells(own, context, src, key) {
             Ok(cells) => cells,
@@ -170,6 +170,8 @@ impl<'a, S: ShapeTable> Caller<'a, S> {
         match pair_of(&words, cells.key) {
             Some(pair) => Plan::Show {
                 dst,
+                table: cells.table,
+                place: pair.place,
                 value: pair.value,
             },
             None => Plan::Refuse {
@@ -189,9 +191,9 @@ impl<'a, S: ShapeTable> Caller<'a, S> {
         requires table_register { src < self.now.layout.registers }
         requires key_register { key < self.now.layout.registers }
         requires known { MayCallNow (O.owns own.old context.now) self.now }
-        ensures plan { Always (O.owns own.old context.now) self.now (λ heap state.
+        ensures plan { Always (O.owns own.new context.now) self.now (λ heap state.
             IsPlan self.now heap state (PairDel src key) result) }
-        ensures owns { LeavesOwn (O.owns own.old) (O.owns own.new) context.now (O.rest own.old) (O.rest own.new) }
+        ensures owns { Leaves (O.owns own.old) (O.owns own.new) context.now self.now (O.rest own.old) (O.rest own.new) }
     {
         let cells = match self.pair_cells(own, context, src, key) {
             Ok(cells) => cells,

@@ -28,9 +28,11 @@ pub enum Plan {
         dst: u8,
         value: Val,
     },
-    /// To fill a register, and tell the value.
+    /// To fill a register with the value of a pair, and tell it.
     Show {
         dst: u8,
+        table: u32,
+        place: u8,
         value: Val,
     },
     /// To claim a cell where nobody does, unless the caller's claims are full.

@@ -2,7 +2,7 @@
 ghost use Rattle.std.specs.Prelude.{◌≡◌, ◌<◌, true};
 ghost use Rattle.tide_model.specs.Lawful.{FitsLayout};
 ghost use Rattle.tide_model.specs.declared.op.Op.TheVariants.{Group};
-ghost use Rattle.tide_call.specs.Callers.{Always, LeavesOwn, MayCallNow};
+ghost use Rattle.tide_call.specs.Callers.{Always, Leaves, MayCallNow};
 ghost use Rattle.tide_call.specs.Plans.{IsPlan, is_told_by_registers};
 
 use crate::caller::Caller;
@@ -23,9 +23,9 @@ impl<'a, S: ShapeTable> Caller<'a, S> {
     ) -> Plan
         requires of_layout { src < self.now.layout.registers }
         requires known { MayCallNow (O.owns own.old context.now) self.now }
-        ensures plan { Always (O.owns own.old context.now) self.now (λ heap state.
+        ensures plan { Always (O.owns own.new context.now) self.now (λ heap state.
             IsPlan self.now heap state (Group src group) result) }
-        ensures owns { LeavesOwn (O.owns own.old) (O.owns own.new) context.now (O.rest own.old) (O.rest own.new) }
+        ensures owns { Leaves (O.owns own.old) (O.owns own.new) context.now self.now (O.rest own.old) (O.rest own.new) }
     {
         match self.cell_in(own, context, src) {
             Ok(cell) => Plan::Join { cell, group },
@@ -39,9 +39,9 @@ impl<'a, S: ShapeTable> Caller<'a, S> {
         requires fits { FitsLayout self.now.layout op }
         requires told { is_told_by_registers op ≡ true }
         requires known { MayCallNow (O.owns own.old context.now) self.now }
-        ensures plan { Always (O.owns own.old context.now) self.now (λ heap state.
+        ensures plan { Always (O.owns own.new context.now) self.now (λ heap state.
             IsPlan self.now heap state op result) }
-        ensures owns { LeavesOwn (O.owns own.old) (O.owns own.new) context.now (O.rest own.old) (O.rest own.new) }
+        ensures owns { Leaves (O.owns own.old) (O.owns own.new) context.now self.now (O.rest own.old) (O.rest own.new) }
     {
         match op {
             Op::Alloc { dst, class } => Plan::Take { dst, class },
@@ -84,9 +84,9 @@ impl<'a, S: ShapeTable> Caller<'a, S> {
     pub fn plan_of<C, O: OwnWords<C>>(&self, own: &mut O, context: &C, op: Op) -> Plan
         requires fits { FitsLayout self.now.layout op }
         requires known { MayCallNow (O.owns own.old context.now) self.now }
-        ensures plan { Always (O.owns own.old context.now) self.now (λ heap state.
+        ensures plan { Always (O.owns own.new context.now) self.now (λ heap state.
             IsPlan self.now heap state op result) }
-        ensures owns { LeavesOwn (O.owns own.old) (O.owns own.new) context.now (O.rest own.old) (O.rest own.new) }
+        ensures owns { Leaves (O.owns own.old) (O.owns own.new) context.now self.now (O.rest own.old) (O.rest own.new) }
     {
         match op {
             Op::Add { src, key, val } => self.plan_add(own, context, src, key, val),

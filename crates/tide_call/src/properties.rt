@@ -8,7 +8,7 @@ ghost use Rattle.tide_model.specs.Refused.{first_of, holder_refusal, property_re
 ghost use Rattle.tide_model.specs.declared.op.Op.TheVariants.{GetProp, SetProp};
 ghost use Rattle.tide_model.specs.declared.op.Refusal.{Refusal as TheRefusal};
 ghost use Rattle.tide_model.specs.declared.val.Val.TheVariants.{Cell};
-ghost use Rattle.tide_call.specs.Callers.{Always, LeavesOwn, MayCallNow};
+ghost use Rattle.tide_call.specs.Callers.{Always, Leaves, MayCallNow};
 ghost use Rattle.tide_call.specs.Plans.{IsPlan};
 ghost use Rattle.tide_call.specs.Properties.{IsPropertyOf};
 
@@ -39,17 +39,17 @@ impl<'a, S: ShapeTable> Caller<'a, S> {
     ) -> Result<u32, Refusal>
         requires of_layout { src < self.now.layout.registers }
         requires known { MayCallNow (O.owns own.old context.now) self.now }
-        ensures refused { IfErr result (λ refusal. Always (O.owns own.old context.now) self.now (λ heap state.
+        ensures refused { IfErr result (λ refusal. Always (O.owns own.new context.now) self.now (λ heap state.
             (further : ℕ → List (Option TheRefusal)) →
             holder_refusal self.now.layout state self.now.who src further ≡ Some refusal)) }
-        ensures granted { IfOk result (λ cell. Always (O.owns own.old context.now) self.now (λ heap state.
+        ensures granted { IfOk result (λ cell. Always (O.owns own.new context.now) self.now (λ heap state.
             (further : ℕ → List (Option TheRefusal)) →
             holder_refusal self.now.layout state self.now.who src further ≡ first_of (further cell))) }
-        ensures cell { IfOk result (λ cell. Always (O.owns own.old context.now) self.now (λ heap state.
+        ensures cell { IfOk result (λ cell. Always (O.owns own.new context.now) self.now (λ heap state.
             state.registers self.now.who src ≡ Cell cell)) }
         ensures within { IfOk result (λ cell. cell < cell_count self.now.layout) }
         ensures claimed { IfOk result (λ cell. is_among self.now.claims cell ≡ true) }
-        ensures owns { LeavesOwn (O.owns own.old) (O.owns own.new) context.now (O.rest own.old) (O.rest own.new) }
+        ensures owns { Leaves (O.owns own.old) (O.owns own.new) context.now self.now (O.rest own.old) (O.rest own.new) }
     {
         let cell = self.cell_in(own, context, src)?;
         if class_of(self.layout(), cell) == TABLE {
@@ -71,11 +71,11 @@ impl<'a, S: ShapeTable> Caller<'a, S> {
     ) -> Result<Property, Refusal>
         requires of_layout { src < self.now.layout.registers }
         requires known { MayCallNow (O.owns own.old context.now) self.now }
-        ensures refused { IfErr result (λ refusal. Always (O.owns own.old context.now) self.now (λ heap state.
+        ensures refused { IfErr result (λ refusal. Always (O.owns own.new context.now) self.now (λ heap state.
             property_refusal self.now.layout state self.now.who src key ≡ Some refusal)) }
-        ensures property { IfOk result (λ found. Always (O.owns own.old context.now) self.now (λ heap state.
+        ensures property { IfOk result (λ found. Always (O.owns own.new context.now) self.now (λ heap state.
             IsPropertyOf self.now state src key found.cell found.array found.place)) }
-        ensures owns { LeavesOwn (O.owns own.old) (O.owns own.new) context.now (O.rest own.old) (O.rest own.new) }
+        ensures owns { Leaves (O.owns own.old) (O.owns own.new) context.now self.now (O.rest own.old) (O.rest own.new) }
     {
         let cell = self.property_holder(own, context, src)?;
         let shape = self.shape_of(own, context, cell);
@@ -103,9 +103,9 @@ impl<'a, S: ShapeTable> Caller<'a, S> {
     ) -> Plan
         requires of_layout { src < self.now.layout.registers }
         requires known { MayCallNow (O.owns own.old context.now) self.now }
-        ensures plan { Always (O.owns own.old context.now) self.now (λ heap state.
+        ensures plan { Always (O.owns own.new context.now) self.now (λ heap state.
             IsPlan self.now heap state (GetProp dst src key) result) }
-        ensures owns { LeavesOwn (O.owns own.old) (O.owns own.new) context.now (O.rest own.old) (O.rest own.new) }
+        ensures owns { Leaves (O.owns own.old) (O.owns own.new) context.now self.now (O.rest own.old) (O.rest own.new) }
     {
         match self.find_property(own, context, src, key) {
             Ok(Property { array, place, .. }) => Plan::LoadElement { dst, array, place },
@@ -125,9 +125,9 @@ impl<'a, S: ShapeTable> Caller<'a, S> {
         requires of_layout { src < self.now.layout.registers }
         requires val_of_layout { val < self.now.layout.registers }
         requires known { MayCallNow (O.owns own.old context.now) self.now }
-        ensures plan { Always (O.owns own.old context.now) self.now (λ heap state.
+        ensures plan { Always (O.owns own.new context.now) self.now (λ heap state.
             IsPlan self.now heap state (SetProp src key val) result) }
-        ensures owns { LeavesOwn (O.owns own.old) (O.owns own.new) context.now (O.rest own.old) (O.rest own.new) }
+        ensures owns { Leaves (O.owns own.old) (O.owns own.new) context.now self.now (O.rest own.old) (O.rest own.new) }
     {
         match self.find_property(own, context, src, key) {
             Ok(found) => Plan::StoreElement {

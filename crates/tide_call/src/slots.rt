@@ -4,7 +4,7 @@ ghost use Rattle.tide_layout.specs.Slots.{HasSlot};
 ghost use Rattle.tide_model.specs.Refused.{slot_refusal};
 ghost use Rattle.tide_model.specs.declared.op.Op.TheVariants.{Get, Put};
 ghost use Rattle.tide_model.specs.declared.val.Val.TheVariants.{Cell};
-ghost use Rattle.tide_call.specs.Callers.{Always, LeavesOwn, MayCallNow};
+ghost use Rattle.tide_call.specs.Callers.{Always, Leaves, MayCallNow};
 ghost use Rattle.tide_call.specs.Plans.{IsPlan};
 
 use crate::caller::Caller;
@@ -26,14 +26,14 @@ impl<'a, S: ShapeTable> Caller<'a, S> {
     ) -> Result<u32, Refusal>
         requires of_layout { src < self.now.layout.registers }
         requires known { MayCallNow (O.owns own.old context.now) self.now }
-        ensures refused { IfErr result (λ refusal. Always (O.owns own.old context.now) self.now (λ heap state.
+        ensures refused { IfErr result (λ refusal. Always (O.owns own.new context.now) self.now (λ heap state.
             slot_refusal self.now.layout (state.registers self.now.who src) src slot ≡ Some refusal)) }
-        ensures granted { IfOk result (λ cell. Always (O.owns own.old context.now) self.now (λ heap state.
+        ensures granted { IfOk result (λ cell. Always (O.owns own.new context.now) self.now (λ heap state.
             slot_refusal self.now.layout (state.registers self.now.who src) src slot ≡ None)) }
-        ensures cell { IfOk result (λ cell. Always (O.owns own.old context.now) self.now (λ heap state.
+        ensures cell { IfOk result (λ cell. Always (O.owns own.new context.now) self.now (λ heap state.
             state.registers self.now.who src ≡ Cell cell)) }
         ensures slot { IfOk result (λ cell. HasSlot self.now.layout cell slot) }
-        ensures owns { LeavesOwn (O.owns own.old) (O.owns own.new) context.now (O.rest own.old) (O.rest own.new) }
+        ensures owns { Leaves (O.owns own.old) (O.owns own.new) context.now self.now (O.rest own.old) (O.rest own.new) }
     {
         let cell = self.cell_in(own, context, src)?;
         let class = class_of(self.layout(), cell);
@@ -57,9 +57,9 @@ impl<'a, S: ShapeTable> Caller<'a, S> {
     ) -> Plan
         requires of_layout { src < self.now.layout.registers }
         requires known { MayCallNow (O.owns own.old context.now) self.now }
-        ensures plan { Always (O.owns own.old context.now) self.now (λ heap state.
+        ensures plan { Always (O.owns own.new context.now) self.now (λ heap state.
             IsPlan self.now heap state (Get dst src slot) result) }
-        ensures owns { LeavesOwn (O.owns own.old) (O.owns own.new) context.now (O.rest own.old) (O.rest own.new) }
+        ensures owns { Leaves (O.owns own.old) (O.owns own.new) context.now self.now (O.rest own.old) (O.rest own.new) }
     {
         match self.slot_holder(own, context, src, slot) {
             Ok(cell) => Plan::LoadSlot { dst, cell, slot },
@@ -79,9 +79,9 @@ impl<'a, S: ShapeTable> Caller<'a, S> {
         requires of_layout { src < self.now.layout.registers }
         requires val_of_layout { val < self.now.layout.registers }
         requires known { MayCallNow (O.owns own.old context.now) self.now }
-        ensures plan { Always (O.owns own.old context.now) self.now (λ heap state.
+        ensures plan { Always (O.owns own.new context.now) self.now (λ heap state.
             IsPlan self.now heap state (Put src slot val) result) }
-        ensures owns { LeavesOwn (O.owns own.old) (O.owns own.new) context.now (O.rest own.old) (O.rest own.new) }
+        ensures owns { Leaves (O.owns own.old) (O.owns own.new) context.now self.now (O.rest own.old) (O.rest own.new) }
     {
         match self.slot_holder(own, context, src, slot) {
             Ok(cell) => Plan::StoreSlot {

@@ -79,7 +79,7 @@ module _ (caller : Caller) (heap stored new : Heap) (state : State) (took : Opti
   granted (WeakGet dst at) does is passed = inr (λ source to stores. stores, subst (λ (p : Plan). Passed (source_of p)) is passed)
   granted (PairSet src key val) does (table, cell, place, is_t, is_k, has, stood, is) passed =
       inr (λ source to stores. stores, subst (λ (p : Plan). Passed (source_of p)) is passed)
-  granted (PairGet dst src key) does (table, cell, value, is_t, is_k, has, is) passed =
+  granted (PairGet dst src key) does (table, cell, place, value, is_t, is_k, slot, pair, has, is) passed =
       inr (λ source to stores. stores, subst (λ (p : Plan). Passed (source_of p)) is passed)
   granted (PairDel src key) does (table, cell, place, is_t, is_k, has, stood, is) passed =
       inr (λ source to stores. stores, subst (λ (p : Plan). Passed (source_of p)) is passed)

@@ -1,5 +1,5 @@
 -- What a call that is done leaves: its entry in its caller's order, and the claims of its mutator.
-use Rattle.std.proofs.Common.{ℕ, ◌≡◌, refl, sym, ◌∙◌, ap, subst, Bool, false, [], ◌∷◌, ◌++◌, length}
+use Rattle.std.proofs.Common.{ℕ, ◌≡◌, refl, sym, ◌∙◌, ap, subst, Bool, false, List, [], ◌∷◌, ◌++◌, length}
 use Rattle.std.specs.Prelude.{filter, nat_le}
 use Rattle.tide_call.specs.Callers.{Caller}
 use Rattle.tide_call.specs.PlanWords.{PlanWords}
@@ -18,14 +18,15 @@ use Rattle.tide_model.specs.Refused.{ShapeLists, claims_most}
 use Rattle.tide_model.specs.State.{State}
 use Rattle.tide_model.specs.declared.entry.Event.{Event}
 use Rattle.tide_model.specs.declared.op.Op.{Op}
-use Rattle.tide_model.specs.declared.op.Op.TheVariants.{Claim, Retire}
+use Rattle.tide_model.specs.declared.op.Op.TheVariants.{Claim, Release, Retire, Unclaim}
 use Rattle.tide_model.specs.declared.op.Reply.{Reply}
 use Rattle.tide_model.specs.declared.op.Reply.TheVariants.{Done}
 use Rattle.std.specs.Prelude.{Option}
-use Rattle.tide_mutator.proofs.OwnClaims.{own_at}
-use Rattle.tide_mutator.specs.Calling.{HasCalled, IsCalling, Kept}
-use Rattle.tide_mutator.specs.Made.{HasDone}
-use Rattle.tide_mutator.specs.Standing.{IsPlanned, caller_of, claims_after_calls, claims_of}
+use Rattle.tide_acting.proofs.OwnClaims.{own_at}
+use Rattle.tide_acting.specs.Calling.{IsCalling, Kept}
+use Rattle.tide_mutator.specs.Called.{HasCalled, is_of_claims}
+use Rattle.tide_acting.specs.Made.{HasDone}
+use Rattle.tide_acting.specs.Standing.{IsPlanned, caller_of, claims_after_calls, claims_of}
 use Rattle.tide_word_store.proofs.CallLaws.{claim_has_room, claims_kept}
 use Rattle.tide_word_store.specs.Acting.{claims_after}
 use Rattle.tide_words.specs.heap.Heap.{Heap}
@@ -40,6 +41,15 @@ retire_reply : (layout : Layout) (heap new : Heap) (who : ℕ) (reply : Reply) (
     PlanWords layout heap who plan.Retire reply took new → reply ≡ Done
 retire_reply layout heap new who Done took words = refl
 retire_reply layout heap new who reply took words = absurd words
+
+-- a call that isn't of claims leaves them
+claims_stay : (reply : Reply) (op : Op) (does : Plan) (claims : List ℕ) → is_of_claims op ≡ false →
+    claims_after reply op does claims ≡ claims
+claims_stay reply (Claim src) does claims other = absurd (cc)
+claims_stay reply (Release src) does claims other = absurd (cc)
+claims_stay reply Unclaim does claims other = absurd (cc)
+claims_stay Done op does claims other = refl
+claims_stay reply op does claims other = refl
 
 module _ (layout : Layout) (shapes : ShapeLists) (op : Op) (does : Plan) (reply : Reply) (v u : View)
     (calling : IsCalling layout v op) (planned : IsPlanned layout shapes v op does)
@@ -65,6 +75,17 @@ module _ (layout : Layout) (shapes : ShapeLists) (op : Op) (does : Plan) (reply 
   leaves is = retire_plan (caller_of layout shapes v) done.made.heap state does
       (subst (λ (o : Op). IsPlan (caller_of layout shapes v) done.made.heap state o does) is plan_is)
 
+  -- the claims that it has then
+  pub claims_then : claims_of u ≡ claims_after reply op does (claims_of v)
+  claims_then =
+      ap (λ (n : ℕ). claims_after_calls n u.mine) (ap (λ (k : Kept). k.who) done.made.kept)
+      ∙ ap (λ (o : Own). o.claims) (sym (own_at layout v.who (done.made.log ++ event ∷ []) u.mine
+      (sym (done.made.own ∙ ap (filter (λ e. is_call_of v.who e.entry)) done.made.seen))))
+      ∙ ap (λ (s : State). s.claims v.who) (state_after-push layout done.made.log event)
+      ∙ claims_kept (caller_of layout shapes v) done.made.heap done.made.new state op does reply done.made.took plan_is
+      done.made.words
+      ∙ ap (claims_after reply op does) done.made.stands.claims
+
   pub called_by : HasCalled layout shapes op reply v u
   called_by = record {
     makes = record {
@@ -89,6 +110,7 @@ module _ (layout : Layout) (shapes : ShapeLists) (op : Op) (does : Plan) (reply 
           done.made.words),
     );
     born = done.made.born;
+    claims = λ other. claims_then ∙ claims_stay reply op does (claims_of v) other;
   }
 
   -- it rests again
@@ -99,17 +121,6 @@ module _ (layout : Layout) (shapes : ShapeLists) (op : Op) (does : Plan) (reply 
     sweeping = ap (λ (k : Kept). k.sweeping) done.made.kept ∙ rests.sweeping;
     between = rests_between;
   }
-
-  -- the claims that it has then
-  pub claims_then : claims_of u ≡ claims_after reply op does (claims_of v)
-  claims_then =
-      ap (λ (n : ℕ). claims_after_calls n u.mine) (ap (λ (k : Kept). k.who) done.made.kept)
-      ∙ ap (λ (o : Own). o.claims) (sym (own_at layout v.who (done.made.log ++ event ∷ []) u.mine
-      (sym (done.made.own ∙ ap (filter (λ e. is_call_of v.who e.entry)) done.made.seen))))
-      ∙ ap (λ (s : State). s.claims v.who) (state_after-push layout done.made.log event)
-      ∙ claims_kept (caller_of layout shapes v) done.made.heap done.made.new state op does reply done.made.took plan_is
-      done.made.words
-      ∙ ap (claims_after reply op does) done.made.stands.claims
 
   pub has_room : (src cell : ℕ) (full : Bool) → op ≡ Claim src → does ≡ plan.Claim cell full → reply ≡ Done →
       nat_le claims_most (length (claims_of v)) ≡ false

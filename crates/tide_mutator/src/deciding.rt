@@ -1,4 +1,4 @@
-//! What a call is to do: its mutator's registers are loaded, and a plan is made. It acts on none.
+//! What a call is to do: its mutator's own words are loaded, and a plan is made. It acts on none.
 ghost use Rattle.std.specs.Prelude.{◌≡◌, ◌<◌, true, false, ℕ};
 ghost use Rattle.tide_call.specs.Plans.{is_told_by_registers};
 ghost use Rattle.tide_call.specs.declared.plan.Plan.TheVariants.{Take};
@@ -7,8 +7,9 @@ ghost use Rattle.tide_machine.specs.May.{IsBetweenCalls};
 ghost use Rattle.tide_machine.specs.kinds.TakeFree.{TakesCell};
 ghost use Rattle.tide_model.specs.Caller.{IsOwn};
 ghost use Rattle.tide_model.specs.Lawful.{FitsLayout};
-ghost use Rattle.tide_mutator.specs.Ops.{is_acted, is_called};
-ghost use Rattle.tide_mutator.specs.Standing.{IsPlanned, claims_of};
+ghost use Rattle.tide_acting.specs.Plans.{is_plain};
+ghost use Rattle.tide_acting.specs.Standing.{IsPlanned, claims_of};
+ghost use Rattle.tide_mutator.specs.Owning.{unread};
 ghost use Rattle.tide_word_store.specs.Needed.{FitsPlan};
 ghost use Rattle.tide_words.specs.heap.Heap.{Heap as TheWords};
 
@@ -32,15 +33,14 @@ pub(crate) fn decide<S: ShapeTable>(
     requires stays { own.old.pass.seat.me.0.left ≡ false }
     requires between { IsBetweenCalls own.old.pass.seat.me.0 }
     requires fits { FitsLayout heap.now.key.layout op }
-    requires told { is_told_by_registers op ≡ true }
     requires claims { claims.now ≡ claims_of own.old.pass.seat.me.0 }
     ensures same { (own.new.pass.seat.table_id ≡ own.old.pass.seat.table_id)
         × (own.new.pass.seat.id ≡ own.old.pass.seat.id)
-        × (own.new.pass.seat.me.0 ≡ own.old.pass.seat.me.0) }
+        × (unread own.new.pass.seat.me.0 ≡ unread own.old.pass.seat.me.0) }
     ensures limits { IsWithinLimits heap.now.key.layout }
     ensures own_calls { IsOwn own.old.pass.seat.me.0.who own.old.pass.seat.me.0.seen own.old.pass.seat.me.0.mine }
-    ensures planned { IsPlanned heap.now.key.layout (S.lists heap.now.key.shapes) own.old.pass.seat.me.0 op result }
-    ensures acted { is_called op ≡ true → is_acted result ≡ true }
+    ensures planned { IsPlanned heap.now.key.layout (S.lists heap.now.key.shapes) own.new.pass.seat.me.0 op result }
+    ensures told { is_plain result ≡ true → is_told_by_registers op ≡ true }
     ensures births { (dst class : ℕ) → result ≡ Take dst class → TakesCell op }
     ensures fits { (words : TheWords) × FitsPlan heap.now.key.layout words result }
 {
@@ -49,5 +49,5 @@ pub(crate) fn decide<S: ShapeTable>(
     let mutators = u32::from(heap.layout().mutators());
     prove!(who < mutators);
     let caller = Caller::new(who, heap.layout(), heap.shapes(), claims);
-    caller.plan_by_registers(own, heap, op)
+    caller.plan_of(own, heap, op)
 }

@@ -11,17 +11,18 @@ ghost use Rattle.tide_model.specs.Lawful.{FitsLayout};
 ghost use Rattle.tide_model.specs.Prefix.{IsPrefix};
 ghost use Rattle.tide_model.specs.Refused.{claims_most};
 ghost use Rattle.tide_model.specs.declared.op.Op.TheVariants.{Claim, Retire, Unclaim};
-ghost use Rattle.tide_model.specs.declared.op.Reply.TheVariants.{Done as IsDone};
-ghost use Rattle.tide_mutator.specs.Calling.{HasCalled, kept};
-ghost use Rattle.tide_mutator.specs.Ops.{is_called};
-ghost use Rattle.tide_mutator.specs.Standing.{claims_of};
+ghost use Rattle.tide_model.specs.declared.op.Refusal.{Refusal};
+ghost use Rattle.tide_model.specs.declared.op.Reply.TheVariants.{Done as IsDone, Refused as IsRefused};
+ghost use Rattle.tide_acting.specs.Calling.{kept};
+ghost use Rattle.tide_mutator.specs.Called.{ChangesNothing, HasCalled, is_of_claims};
+ghost use Rattle.tide_acting.specs.Standing.{claims_of};
 ghost use Rattle.tide_heap.specs.Turns.{heard_view, note_of};
 ghost use Rattle.tide_word_store.specs.Acting.{claims_after};
 
-use crate::acting::act;
 use crate::deciding::decide;
 use crate::own::OwnPass;
 use tide_call::{Claims, Plan};
+use tide_growing::act;
 use tide_model::{Op, Place, Reply, Turnstile};
 use tide_shape::ShapeTable;
 use tide_steps::{Heap, HeapShapes, Note, Pass, Ticket};
@@ -117,6 +118,13 @@ impl Mutator {
         self.own.pass.stop(heap, false)
     }
 
+    /// The number of its next call, modulo 2^64.
+    fn next_call(&self) -> u64
+        ensures { result ≡ (length self.now.own.pass.seat.me.0.mine + 1) % 2 ^ 64 }
+    {
+        self.calls.wrapping_add(1)
+    }
+
     /// Makes a call of any operation, and answers it.
     fn perform<S: ShapeTable, T: Turnstile>(&mut self, heap: &Heap<S>, op: Op, gate: &T) -> Reply
         requires own { self.old.own.pass.seat.table_id ≡ heap.now.table.shared.table_id }
@@ -124,7 +132,6 @@ impl Mutator {
         requires runs { self.old.own.pass.seat.me.0.runs ≡ true }
         requires stays { self.old.own.pass.seat.me.0.left ≡ false }
         requires fits { FitsLayout heap.now.key.layout op }
-        requires taken { is_called op ≡ true }
         requires few { TakesCell op → self.old.own.pass.seat.me.0.born + 1 < 2 ^ 32 }
         requires bare { op ≡ Retire → claims_of self.old.own.pass.seat.me.0 ≡ [] }
         ensures same { (self.new.own.pass.seat.table_id ≡ self.old.own.pass.seat.table_id)
@@ -134,8 +141,8 @@ impl Mutator {
     {
         let number = self.calls % (1 << 32);
         gate.at(self.own.pass.who(), Place::Call, number as u32);
+        let calls = self.next_call();
         let plan = decide(&mut self.own, heap, &self.claims, op);
-        let calls = self.calls.wrapping_add(1);
         let reply = act(&mut self.own.pass, heap, gate, op, calls, plan);
         self.calls = calls;
         keep_claims(&mut self.claims, op, plan, reply);
@@ -145,14 +152,13 @@ impl Mutator {
     /// Makes a call, and answers it. It takes no memory, and waits for nobody but the turnstile.
     ///
     /// The call stands in the one history at one of its steps, in whatever order others step meanwhile: a refusal is that
-    /// of the state there.
+    /// of the state there, and changes nothing of it.
     pub fn call<S: ShapeTable, T: Turnstile>(&mut self, heap: &Heap<S>, op: Op, gate: &T) -> Reply
         requires own { self.old.own.pass.seat.table_id ≡ heap.now.table.shared.table_id }
         requires mutator { self.old.own.pass.seat.me.0.who < heap.now.key.layout.mutators }
         requires begun { self.old.own.pass.seat.me.0.runs ≡ true }
         requires stays { self.old.own.pass.seat.me.0.left ≡ false }
         requires fits { FitsLayout heap.now.key.layout op }
-        requires taken { is_called op ≡ true }
         requires few { TakesCell op → self.old.own.pass.seat.me.0.born + 1 < 2 ^ 32 }
         requires goes_on { op ≢ Retire }
         ensures same { (self.new.own.pass.seat.table_id ≡ self.old.own.pass.seat.table_id)
@@ -160,9 +166,13 @@ impl Mutator {
         ensures makes { MakesCall heap.now.key.layout (S.lists heap.now.key.shapes) self.old.own.pass.seat.me.0.who op
             result self.old.own.pass.seat.me.0.seen self.new.own.pass.seat.me.0.seen self.old.own.pass.seat.me.0.mine
             self.new.own.pass.seat.me.0.mine }
+        ensures unchanged { (refusal : Refusal) → result ≡ IsRefused refusal → ChangesNothing heap.now.key.layout
+            (S.lists heap.now.key.shapes) op result self.old.own.pass.seat.me.0 self.new.own.pass.seat.me.0 }
         ensures kept { kept self.new.own.pass.seat.me.0 ≡ kept self.old.own.pass.seat.me.0 }
         ensures stays { self.new.own.pass.seat.me.0.left ≡ false }
         ensures births { self.new.own.pass.seat.me.0.born ≤ self.old.own.pass.seat.me.0.born + 1 }
+        ensures claims { is_of_claims op ≡ false →
+            claims_of self.new.own.pass.seat.me.0 ≡ claims_of self.old.own.pass.seat.me.0 }
     {
         self.perform(heap, op, gate)
     }

@@ -1,5 +1,6 @@
-//! One part of a mutator, from its ticket to its note: a row that meets each condition on its way.
-ghost use Rattle.std.specs.Prelude.{◌≡◌, ◌+◌, ◌<◌, ◌^◌, false};
+//! One part of a mutator, from its ticket to its note, and calls within one: rows that meet each condition on their way.
+ghost use Rattle.std.specs.Prelude.{◌≡◌, ◌+◌, ◌<◌, ◌^◌, true, false};
+ghost use Rattle.tide_acting.specs.Calling.{kept};
 
 use crate::mutator::Mutator;
 use tide_model::{Op, Reply, Turnstile};
@@ -54,4 +55,73 @@ pub fn make_calls<S: ShapeTable, T: Turnstile>(
         mutator.retire(heap, gate);
     }
     (seen, mutator.stop(heap))
+}
+
+/// Takes a table, claims it, stores a pair in it, sees it and drops it. The table holds its own pair.
+pub fn call_on_pairs<S: ShapeTable, T: Turnstile>(
+    heap: &Heap<S>,
+    mutator: &mut Mutator,
+    gate: &T,
+) -> Reply
+    requires own { mutator.old.own.pass.seat.table_id ≡ heap.now.table.shared.table_id }
+    requires mutator { mutator.old.own.pass.seat.me.0.who < heap.now.key.layout.mutators }
+    requires begun { mutator.old.own.pass.seat.me.0.runs ≡ true }
+    requires stays { mutator.old.own.pass.seat.me.0.left ≡ false }
+    requires has { 1 < heap.now.key.layout.registers }
+    requires few { mutator.old.own.pass.seat.me.0.born + 1 < 2 ^ 32 }
+    ensures kept { kept mutator.new.own.pass.seat.me.0 ≡ kept mutator.old.own.pass.seat.me.0 }
+{
+    let src = 0;
+    let key = 0;
+    let dst = 1;
+    let val = 1;
+    mutator.call(heap, Op::Table { dst: src }, gate);
+    mutator.call(heap, Op::Claim { src }, gate);
+    mutator.call(heap, Op::PairSet { src, key, val }, gate);
+    mutator.call(heap, Op::PairGet { dst, src, key }, gate);
+    mutator.call(heap, Op::PairDel { src, key }, gate)
+}
+
+/// Stores a property of a cell, and sees it, where the cell has it.
+pub fn call_on_properties<S: ShapeTable, T: Turnstile>(
+    heap: &Heap<S>,
+    mutator: &mut Mutator,
+    gate: &T,
+) -> Reply
+    requires own { mutator.old.own.pass.seat.table_id ≡ heap.now.table.shared.table_id }
+    requires mutator { mutator.old.own.pass.seat.me.0.who < heap.now.key.layout.mutators }
+    requires begun { mutator.old.own.pass.seat.me.0.runs ≡ true }
+    requires stays { mutator.old.own.pass.seat.me.0.left ≡ false }
+    requires has { 1 < heap.now.key.layout.registers }
+    ensures kept { kept mutator.new.own.pass.seat.me.0 ≡ kept mutator.old.own.pass.seat.me.0 }
+{
+    let src = 1;
+    let key = 0;
+    let dst = 0;
+    let val = 0;
+    mutator.call(heap, Op::SetProp { src, key, val }, gate);
+    mutator.call(heap, Op::GetProp { dst, src, key }, gate)
+}
+
+/// Takes a cell, claims it, and adds a property, for which it takes an array. Where the shapes have no such key, or no
+/// array is free, the last call is refused.
+pub fn call_on_growth<S: ShapeTable, T: Turnstile>(
+    heap: &Heap<S>,
+    mutator: &mut Mutator,
+    gate: &T,
+) -> Reply
+    requires own { mutator.old.own.pass.seat.table_id ≡ heap.now.table.shared.table_id }
+    requires mutator { mutator.old.own.pass.seat.me.0.who < heap.now.key.layout.mutators }
+    requires begun { mutator.old.own.pass.seat.me.0.runs ≡ true }
+    requires stays { mutator.old.own.pass.seat.me.0.left ≡ false }
+    requires has { 1 < heap.now.key.layout.registers }
+    requires few { mutator.old.own.pass.seat.me.0.born + 1 < 2 ^ 32 }
+    ensures kept { kept mutator.new.own.pass.seat.me.0 ≡ kept mutator.old.own.pass.seat.me.0 }
+{
+    let src = 1;
+    let key = 0;
+    let val = 0;
+    mutator.call(heap, Op::Alloc { dst: src, class: 0 }, gate);
+    mutator.call(heap, Op::Claim { src }, gate);
+    mutator.call(heap, Op::Add { src, key, val }, gate)
 }

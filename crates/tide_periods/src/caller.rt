@@ -44,7 +44,7 @@ pub struct Caller {
 
 impl Caller {
     /// What the mutator asks next, where it holds so many claims.
-    pub(crate) fn next(&self, claims: u32) -> Op
+    pub fn next(&self, claims: u32) -> Op
         ensures { result ≡ next_of self.now.ops.items (standing_of self.now) claims }
     {
         match self.ops.get(self.done) {
@@ -54,7 +54,7 @@ impl Caller {
     }
 
     /// Records a reply, and answers whether the mutator stops for this part.
-    pub(crate) fn take(&mut self, op: Op, reply: Reply) -> Result<bool, Memory>
+    pub fn take(&mut self, op: Op, reply: Reply) -> Result<bool, Memory>
         ensures took { IfOk result (λ stops. TookReply self.old self.new op reply) }
         ensures stops { IfOk result (λ stops. stops ≡ (is_asked reply || (not self.old.retry && is_full_reply reply))) }
     {

@@ -4,15 +4,14 @@
 //! gives back is what keeps the history, the report of its cycles, and each mutator's calls. `Parts` is what a run asks
 //! of a store: that it runs parts and freezes between them. `InTurn` is one in which mutators make their calls one after
 //! another, over any `Recorder`, which keeps the history of what was run on it. `Recording` is one over any `Store`, and
-//! the plain store is the first such. `run_own_share` is a mutator's share of a part where others make theirs meanwhile.
+//! the plain store is the first such. A `Caller` tells what a mutator asks next by its own calls alone, so that others may make
+//! theirs meanwhile; `laws` says what such shares make.
 #![tactic(auto)]
 
 mod answered;
 mod caller;
 mod in_turn;
 pub mod laws;
-mod mutates;
-mod own_share;
 mod pacing;
 mod part;
 mod parts;
@@ -27,8 +26,6 @@ mod store;
 pub use answered::Answered;
 pub use caller::{Caller, callers_of};
 pub use in_turn::InTurn;
-pub use mutates::Mutates;
-pub use own_share::run_own_share;
 pub use pacing::Pacing;
 pub use parts::Parts;
 pub use recorder::Recorder;

@@ -1,5 +1,5 @@
 -- A run over periods is a run of its workload.
-use Rattle.std.proofs.Common.{ℕ, ◌≡◌, ◌<◌, refl, sym, ◌∙◌, ap, subst, arith, List, [], ◌∷◌, length, get_or, Vec, Global}
+use Rattle.std.proofs.Common.{ℕ, ◌≡◌, ◌<◌, refl, sym, ◌∙◌, ap, subst, arith, List, [], ◌∷◌, length, get_or}
 use Rattle.std.proofs.lemmas.List.Elements.{All-cons, All-get_or, All-head, All-nil, All-tail, All-weaker}
 use Rattle.std.proofs.lemmas.Option.{slice_get_within, slice_get-get_or}
 use Rattle.std.specs.Prelude.{All, map, slice_get, Some}
@@ -19,8 +19,8 @@ use Rattle.tide_report.specs.Reports.{Reported}
 use Rattle.tide_periods.specs.Answered.{pair_of}
 use Rattle.tide_shape.specs.Shapes.{shapes_of_paths}
 use Rattle.tide_workload.specs.Words.{HasText, IsOperation, Settings, Work, limits_of, limits_with}
-use Rattle.tide_run.specs.declared.outcome.Kept.TheVariants.{Own}
-use Rattle.tide_run.specs.Outcome.{IsOutcome}
+use Rattle.tide_run.specs.declared.outcome.Kept.{Kept}
+use Rattle.tide_run.specs.Outcome.{IsOutcome, history_of}
 use Rattle.tide_run.proofs.Counted.{none_above}
 use Rattle.tide_run.specs.Runs.{IsRunOf, Ran, layout_of_work, layout_with, pace_of_work}
 
@@ -99,15 +99,15 @@ All-before f P [] all = All-nil (λ x. P (f x))
 All-before f P (x ∷ xs) all = All-cons (λ y. P (f y)) x xs (All-head P (f x) (map f xs) all) (All-before f P xs (All-tail P (f x) (map f xs) all))
 
 -- what a run left is an outcome
-pub IsOutcome-ran : (work : Work) (layout : Layout) (keys : List (List ℕ)) (setting : Setting) (pace : Pace) (scripts : List (List Op)) (events : Vec Event Global) (report : Reported)
-    (calls : List (List Answered)) (live : ℕ) → HasRun setting pace scripts events.items report calls live → setting.layout ≡ layout → keys ≡ work.keys →
+pub IsOutcome-ran : (work : Work) (layout : Layout) (keys : List (List ℕ)) (setting : Setting) (pace : Pace) (scripts : List (List Op)) (kept : Kept) (report : Reported)
+    (calls : List (List Answered)) (live : ℕ) → HasRun setting pace scripts (history_of kept) report calls live → setting.layout ≡ layout → keys ≡ work.keys →
     length scripts ≡ layout.mutators → All (All (IsOperation (limits_of work))) scripts →
-    IsOutcome layout keys (Own (record { events = events })) calls live report
-IsOutcome-ran work layout keys setting pace scripts events report calls live ran same names one_each within =
-    subst (λ (l : Layout). IsOutcome l keys (Own (record { events = events })) calls live report) same (record {
+    IsOutcome layout keys kept calls live report
+IsOutcome-ran work layout keys setting pace scripts kept report calls live ran same names one_each within =
+    subst (λ (l : Layout). IsOutcome l keys kept calls live report) same (record {
       one_each = ran.one_each;
       calls_are = ran.calls_are;
-      no_others = none_above setting.layout setting.shapes events.items ran.legal.lawful;
+      no_others = none_above setting.layout setting.shapes (history_of kept) ran.legal.lawful;
       texts = λ who own found.
           let here = slice_get_within calls who own found in
           let count = ran.one_each in

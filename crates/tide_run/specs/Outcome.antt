@@ -1,5 +1,5 @@
 -- What the fields of an outcome mean, and how they agree.
-use Rattle.std.specs.Prelude.{ℕ, ◌≡◌, ◌≤◌, false, List, [], length, map, slice_get, Some, All}
+use Rattle.std.specs.Prelude.{ℕ, ◌≡◌, ◌≤◌, Bool, true, false, List, [], length, map, slice_get, Some, All}
 use Rattle.tide_model.specs.declared.entry.Event.{Event}
 use Rattle.tide_model.specs.Cycle.{live_count}
 use Rattle.tide_model.specs.History.{state_after}
@@ -11,16 +11,22 @@ use Rattle.tide_report.specs.Ends.{TellsEnds}
 use Rattle.tide_report.specs.Reports.{Reported}
 use Rattle.tide_workload.specs.Words.{HasText}
 use Rattle.tide_run.specs.declared.outcome.Kept.{Kept}
-use Rattle.tide_run.specs.declared.outcome.Kept.TheVariants.{Own}
+use Rattle.tide_run.specs.declared.outcome.Kept.TheVariants.{Own, Heap}
 use Rattle.tide_run.specs.Runs.{Ran}
 
 -- the history that was kept
 abbrev pub history_of : Kept → List Event
 history_of (Own told) = told.events.items
+history_of (Heap closed) = closed.seat.me.0.seen
+
+-- whether a heap kept it
+abbrev pub is_heap : Kept → Bool
+is_heap (Own told) = false
+is_heap (Heap closed) = true
 
 -- the run that the fields of an outcome stand for
 abbrev pub ran_of : Layout → List (List ℕ) → Kept → Ran
-ran_of layout keys kept = record { layout = layout; keys = keys; history = history_of kept; is_heap = false }
+ran_of layout keys kept = record { layout = layout; keys = keys; history = history_of kept; is_heap = is_heap kept }
 
 -- the calls are those of the mutators, who alone made any; each of them has a text, so many cells live after the history,
 -- and the report tells its ends

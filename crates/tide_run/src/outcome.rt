@@ -6,6 +6,7 @@ use tide_layout::Layout;
 use tide_model::Event;
 use tide_periods::{Answered, Finished};
 use tide_report::Report;
+use tide_table::Closed;
 
 /// A history that a run kept itself: its events, in order.
 #[derive(Debug, Drop)]
@@ -14,14 +15,16 @@ pub struct Told {
 }
 
 /// Where a run's history was kept.
-#[derive(Debug, Drop)]
+#[derive(Drop)]
 pub enum Kept {
     /// By the run itself.
     Own(Told),
+    /// By a heap that threads shared, which this run opened and closed. Its history is for contracts alone.
+    Heap(Closed),
 }
 
 /// A run's history, its replies, its cycles and what lives at its end.
-#[derive(Debug, Drop)]
+#[derive(Drop)]
 pub struct Outcome {
     layout: Layout,
     /// The names of the property keys by number.
@@ -58,14 +61,13 @@ impl Outcome {
     ghost use Rattle.tide_run.specs.Outcome.{ran_of, IsOutcome};
 
     /// The outcome of a run that left this.
-    pub(crate) fn new(layout: Layout, names: Vec<Vec<u8>>, ran: Finished<Vec<Event>>) -> Outcome
-        requires { IsOutcome layout (map (λ name. name.items) names.items) (Kept.Own (record { events = ran.kept }))
+    pub(crate) fn new(layout: Layout, names: Vec<Vec<u8>>, ran: Finished<Kept>) -> Outcome
+        requires { IsOutcome layout (map (λ name. name.items) names.items) ran.kept
             (map (λ own. own.items) ran.calls.items) ran.live ran.report }
-        ensures { result ≡ ran_of layout (map (λ name. name.items) names.items)
-            (Kept.Own (record { events = ran.kept })) }
+        ensures { result ≡ ran_of layout (map (λ name. name.items) names.items) ran.kept }
     {
         let Finished {
-            kept: events,
+            kept,
             report,
             calls,
             live,
@@ -73,7 +75,7 @@ impl Outcome {
         Outcome {
             layout,
             names,
-            kept: Kept::Own(Told { events }),
+            kept,
             calls,
             live,
             report,

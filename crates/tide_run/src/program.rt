@@ -18,7 +18,7 @@ use tide_model::Turnstile;
 use tide_workload::{Fault, write_fault_line};
 
 /// How a program ended, with the outcome of its run where there was one.
-#[derive(Debug, Drop)]
+#[derive(Drop)]
 pub struct Ended {
     /// 0: printed whole. 2: the words are refused. 3: the bytes that were read are. 4: the source failed. 5: the
     /// sink failed. 6: want of memory.

@@ -1,9 +1,7 @@
 -- A heap on which nothing was run yet stands still, and its participants stand by.
-use Rattle.std.proofs.Common.{ℕ, ◌≡◌, ◌∙◌, refl, sym, ap, subst, arith, Bool, true, false, List, [], length, map, All}
+use Rattle.std.proofs.Common.{ℕ, ◌≡◌, ◌∙◌, refl, sym, ap, subst, arith, Bool, false, List, [], length}
 use Rattle.std.proofs.lemmas.List.{length-map}
-use Rattle.std.proofs.lemmas.List.Elements.{All-get_or}
-use Rattle.std.proofs.lemmas.Option.{slice_get-map, slice_get_within, get_or_from_slice_get}
-use Rattle.std.specs.Prelude.{Some, option_map, slice_get}
+use Rattle.std.specs.Prelude.{Some, slice_get}
 use Rattle.atomic_table.specs.Seated.{TableId}
 use Rattle.crossbeam_utils.specs.Padded.{padded_value}
 use Rattle.crossbeam_utils.specs.declared.cache_padded.CachePadded.{CachePadded}
@@ -20,7 +18,6 @@ use Rattle.tide_model.specs.Periods.{EndsInTime, open_count}
 use Rattle.tide_model.specs.Refused.{ShapeLists}
 use Rattle.tide_model.specs.declared.entry.Event.{Event}
 use Rattle.tide_model.specs.declared.op.Op.{Op}
-use Rattle.tide_mutator.specs.Ops.{is_called}
 use Rattle.tide_model.specs.History.{state_after}
 use Rattle.tide_periods.proofs.Starting.{IsSettled-nothing}
 use Rattle.tide_periods.specs.Asking.{AreNew, Standing}
@@ -72,44 +69,33 @@ IsParked-newcomer v p who none is = subst (IsParked v who false) (sym is) (recor
 
 -- so a participant that knows nothing stands by
 pub StandsBy-fresh : (id : TableId) (v : View) (who : ℕ) (x : Participant) → v.seen ≡ [] → x.caller.retired ≡ false →
-    All (λ op. is_called op ≡ true) x.caller.ops.items → IsFresh id who x → StandsBy id v who x
-StandsBy-fresh id v who x none active takes fresh = record {
+    IsFresh id who x → StandsBy id v who x
+StandsBy-fresh id v who x none active fresh = record {
   table = fresh.table;
   number = fresh.number;
   parked = subst (λ (b : Bool). IsParked v who b (view_of x.mutator)) (sym active)
       (IsParked-newcomer v (view_of x.mutator) who none fresh.view);
   no_ticket = fresh.no_ticket;
   no_note = fresh.no_note;
-  takes = takes;
 }
 
 -- all of them do at the start, each with a caller that has made no call
 pub AllStandBy-fresh : (id : TableId) (layout : Layout) (v : View) (xs : List (CachePadded Participant))
     (scripts : List (List Op)) → v.seen ≡ [] → length scripts ≡ layout.mutators → AreNew (callers_in xs) scripts →
-    All (All (λ op. is_called op ≡ true)) scripts →
     ((who : ℕ) (x : CachePadded Participant) → slice_get xs who ≡ Some x → IsFresh id who (padded_value x)) →
     AllStandBy id layout v xs
-AllStandBy-fresh id layout v xs scripts none many are called fresh = record {
+AllStandBy-fresh id layout v xs scripts none many are fresh = record {
   one_each = sym (length-map xs (λ (x : CachePadded Participant). (padded_value x).caller))
       ∙ sym (length-map (callers_in xs) script) ∙ ap length are.scripts_are ∙ many;
   each = λ who x found.
       let caller = (padded_value x).caller in
       let caller_found = callers_at xs who x found in
-      let at : slice_get lists who ≡ Some caller.ops.items =
-      slice_get-map script (callers_in xs) who ∙ ap (option_map script) caller_found in
-      let all = subst (All (All (λ op. is_called op ≡ true))) (sym are.scripts_are) called in
-      let takes = subst (All (λ op. is_called op ≡ true)) (get_or_from_slice_get lists who caller.ops.items caller.ops.items at)
-      (All-get_or (All (λ op. is_called op ≡ true)) lists who caller.ops.items
-      (slice_get_within lists who caller.ops.items at) all) in
       let standing = (are.each who caller caller_found).standing in
-      StandsBy-fresh id v who (padded_value x) none (ap (λ (s : Standing). s.retired) standing) takes (fresh who x found);
+      StandsBy-fresh id v who (padded_value x) none (ap (λ (s : Standing). s.retired) standing) (fresh who x found);
 }
   where
     script : Caller → List Op
     script c = c.ops.items
-
-    lists : List (List Op)
-    lists = map script (callers_in xs)
 
 -- a heap on which nothing was run is settled
 pub IsSettled-fresh : (setting : Setting) (history : List Event) → history ≡ [] → IsSettled (recorded_at setting history)

@@ -1,8 +1,8 @@
 -- Lemmas of this crate.
-pub mod CallsTaken
 pub mod Ending
 pub mod Freezes
 pub mod Fresh
+pub mod Grown
 pub mod Loops
 pub mod Making
 pub mod Parking

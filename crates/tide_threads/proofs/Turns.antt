@@ -3,7 +3,7 @@ use Rattle.std.proofs.Common.{ℕ, zero, suc, ◌≡◌, ◌<◌, ◌+◌, ◌�
 use Rattle.std.proofs.lemmas.Bool.{cases_Bool}
 use Rattle.std.proofs.lemmas.List.Elements.{Contains-append_cases, Contains-append_right}
 use Rattle.std.proofs.lemmas.Option.{slice_get_cases, slice_get_within}
-use Rattle.std.specs.Prelude.{All, Contains, None, Option, Some, Ok, Result, filter, if◌then◌else◌, slice_get}
+use Rattle.std.specs.Prelude.{Contains, None, Option, Some, Ok, Result, filter, if◌then◌else◌, slice_get}
 use Rattle.atomic_table.specs.Seated.{TableId}
 use Rattle.crossbeam_utils.specs.Padded.{padded_value}
 use Rattle.crossbeam_utils.specs.declared.cache_padded.CachePadded.{CachePadded}
@@ -17,8 +17,6 @@ use Rattle.tide_model.specs.Caller.{IsOwn}
 use Rattle.tide_model.specs.Refused.{ShapeLists}
 use Rattle.tide_model.specs.declared.Memory.{Memory}
 use Rattle.tide_model.specs.declared.entry.Event.{Event}
-use Rattle.tide_model.specs.declared.op.Op.{Op}
-use Rattle.tide_mutator.specs.Ops.{is_called}
 use Rattle.tide_mutator.specs.declared.mutator.Mutator.{Mutator}
 use Rattle.tide_periods.specs.Asking.{IsCallerAt}
 use Rattle.tide_periods.specs.Own.{RanOwnShare}
@@ -128,7 +126,6 @@ module _ (id : TableId) (layout : Layout) (shapes : ShapeLists) where
           begun = (let last = by.parked.begun in omega (arith, last, period));
           number = by.number ∙ sym by.parked.is;
           active = active;
-          takes = by.takes;
           knows = record {
             known = v0.seen;
             earlier = subst (λ (h : List Event). IsPrefix v0.seen h) (sym seen) (prefix_push v0.seen (open_entry run v0));
@@ -262,7 +259,6 @@ module _ (id : TableId) (layout : Layout) (shapes : ShapeLists) where
                     (sym (ap (λ (c : Caller). c.retired) rested.caller ∙ retired)) parked);
                 no_ticket = gave.ticket ∙ turn.no_ticket;
                 no_note = gave.no_note;
-                takes = subst (λ (c : Caller). All (λ op. is_called op ≡ true) c.ops.items) (sym rested.caller) by.takes;
               }
           | inr active ↦
               let made = (turn.made active).2 in
@@ -276,6 +272,5 @@ module _ (id : TableId) (layout : Layout) (shapes : ShapeLists) where
                     (subst (λ (n : ℕ). IsNoted v2 n (view_of y.mutator)) is (noted made.note made.is_out));
                 no_ticket = gave.ticket ∙ turn.no_ticket;
                 no_note = gave.no_note;
-                takes = subst (λ (ops : List Op). All (λ op. is_called op ≡ true) ops) (sym (ap (λ v. v.items) made.ran.ops)) by.takes;
               }
         ]))

@@ -1,5 +1,5 @@
 -- A participant before, in and after its part.
-use Rattle.std.specs.Prelude.{ℕ, ◌≡◌, ◌<◌, Bool, true, false, All, List, length, slice_get}
+use Rattle.std.specs.Prelude.{ℕ, ◌≡◌, ◌<◌, Bool, true, false, List, length, slice_get}
 use Rattle.std.specs.Prelude.{Option, None, Some, Result, Ok, Err}
 use Rattle.atomic_table.specs.Seated.{TableId}
 use Rattle.crossbeam_utils.specs.Padded.{padded_value}
@@ -11,7 +11,6 @@ use Rattle.tide_model.specs.Numbers.{any_below}
 use Rattle.tide_model.specs.Refused.{ShapeLists}
 use Rattle.tide_model.specs.declared.entry.Event.{Event}
 use Rattle.tide_model.specs.declared.Memory.{Memory}
-use Rattle.tide_mutator.specs.Ops.{is_called}
 use Rattle.tide_mutator.specs.declared.mutator.Mutator.{Mutator}
 use Rattle.tide_periods.specs.Own.{IsCallerWithin, RanOwnShare}
 use Rattle.tide_periods.specs.declared.caller.Caller.{Caller}
@@ -28,14 +27,13 @@ abbrev pub table_of : Mutator → TableId
 table_of mutator = mutator.own.pass.seat.table_id
 
 -- Between two parts a participant is of this table and parked, its caller is its mutator's, and it has neither a ticket
--- nor a note. Its calls take what its caller asks for.
+-- nor a note
 pub record StandsBy (id : TableId) (collector : View) (who : ℕ) (x : Participant) : Type 0 where
   pub table : table_of x.mutator ≡ id
   pub number : x.caller.who ≡ who
   pub parked : IsParked collector who x.caller.retired (view_of x.mutator)
   pub no_ticket : x.ticket ≡ None
   pub no_note : x.note ≡ None
-  pub takes : All (λ op. is_called op ≡ true) x.caller.ops.items
 
 -- one for each mutator, in order
 pub record AllStandBy (id : TableId) (layout : Layout) (collector : View) (participants : List (CachePadded Participant))
@@ -70,7 +68,6 @@ pub record IsReady (id : TableId) (layout : Layout) (shapes : ShapeLists) (ticke
   pub begun : (view_of mutator).begun < ticket.seat.me.0.period
   pub number : caller.who ≡ (view_of mutator).who
   pub active : caller.retired ≡ false
-  pub takes : All (λ op. is_called op ≡ true) caller.ops.items
   pub knows : IsCallerWithin (record { layout = layout; shapes = shapes }) ticket.seat.me.0.seen (view_of mutator).mine
       caller
 

@@ -1,11 +1,11 @@
 -- A mutator while it makes its share of a part.
-use Rattle.std.specs.Borrow.{GName, MutBor}
 use Rattle.std.specs.Prelude.{ℕ, ◌≡◌, ◌<◌, ◌-◌, ◌^◌, Bool, true, false}
 use Rattle.atomic_table.specs.Seated.{TableId}
+use Rattle.tide_acting.specs.Calling.{Kept, kept}
 use Rattle.tide_machine.specs.declared.view.View.{View}
 use Rattle.tide_model.specs.Layout.{Layout}
-use Rattle.tide_mutator.specs.Calling.{Kept, kept}
 use Rattle.tide_mutator.specs.declared.mutator.Mutator.{Mutator}
+use Rattle.tide_threads.specs.Playing.{table_of, view_of}
 
 -- it has begun, and has left for good or hasn't
 pub record IsWorking (layout : Layout) (v : View) (left : Bool) : Type 0 where
@@ -21,17 +21,15 @@ room_by false born = 2 ^ 32 - 1 - born
 abbrev pub room_of : View → ℕ
 room_of v = room_by v.left v.born
 
--- what none of its calls changes: which borrow of which mutator makes them, its table, and of its view what stays
+-- what none of its calls changes: its table, its seat there, and of its view what stays
 pub record Same : Type 0 where
-  pub borrow : GName
   pub table_id : TableId
   pub seat : ℕ
   pub kept : Kept
 
-abbrev pub same_of : MutBor Mutator → Same
+abbrev pub same_of : Mutator → Same
 same_of mutator = record {
-  borrow = mutator.ghost_name;
-  table_id = mutator.now.own.pass.seat.table_id;
-  seat = mutator.now.own.pass.seat.id;
-  kept = kept mutator.now.own.pass.seat.me.0;
+  table_id = table_of mutator;
+  seat = mutator.own.pass.seat.id;
+  kept = kept (view_of mutator);
 }

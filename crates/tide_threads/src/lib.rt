@@ -6,7 +6,6 @@
 //! marks is decided by the crates below.
 #![tactic(auto)]
 
-mod called;
 mod collecting;
 mod freezing;
 mod on_threads;
@@ -14,9 +13,8 @@ mod part;
 mod participant;
 mod periods;
 mod playing;
-mod working;
+mod sharing;
 
-pub use called::are_called;
 pub use freezing::{count_live, freeze_heap};
 pub use on_threads::OnThreads;
 pub use part::run_whole_part;

@@ -5,7 +5,6 @@ ghost use Rattle.atomic_table.specs.Seated.{TableId};
 ghost use Rattle.crossbeam_utils.specs.Padded.{padded_value};
 ghost use Rattle.crossbeam_utils.specs.declared.cache_padded.CachePadded.{CachePadded};
 ghost use Rattle.tide_model.specs.Cycle.{live_count};
-ghost use Rattle.tide_mutator.specs.Ops.{is_called};
 ghost use Rattle.tide_periods.specs.Asking.{scripts_of, IsAskable};
 ghost use Rattle.tide_periods.specs.Part.{AreCallers, RanPartBy};
 ghost use Rattle.tide_periods.specs.Periods.{pace_of, RanFreeze};
@@ -140,7 +139,6 @@ impl OnThreads {
         requires no_visitors { layout.visitors ≡ 0 }
         requires mutators { length scripts.items ≡ layout.mutators }
         requires askable { All (All (IsAskable layout)) (map (λ ops. ops.items) scripts.items) }
-        requires called { All (All (λ op. is_called op ≡ true)) (map (λ ops. ops.items) scripts.items) }
         ensures setting { IfOk result (λ new. setting_in new ≡ record { layout = layout; shapes = lists_of shapes }) }
         ensures nothing { IfOk result (λ new. (recorded_in new).history ≡ []) }
         ensures stands { IfOk result Stands }

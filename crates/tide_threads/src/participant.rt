@@ -6,10 +6,10 @@ ghost use Rattle.tide_shape.specs.Lists.{lists_of};
 ghost use Rattle.tide_threads.specs.Parked.{HasBegun};
 ghost use Rattle.tide_threads.specs.Playing.{table_of, view_of, DidPart, HasMade, IsReady, MayPlay};
 
-use crate::working::Working;
+use crate::sharing::make_share;
 use tide_model::{Memory, Turnstile};
 use tide_mutator::Mutator;
-use tide_periods::{Caller, run_own_share};
+use tide_periods::Caller;
 use tide_shape::Shapes;
 use tide_table::{Heap, Note, Pass, Ticket};
 
@@ -87,11 +87,7 @@ impl Participant {
     {
         let run = ticket.run();
         begin(&mut self.mutator, heap, ticket);
-        let mut working = Working {
-            mutator: &mut self.mutator,
-            heap,
-        };
-        let ended = run_own_share(&mut working, gate, &mut self.caller, run)?;
+        let ended = make_share(&mut self.mutator, heap, gate, &mut self.caller, run)?;
         let note = self.mutator.stop(heap);
         self.note = Some(note);
         Ok(ended)

@@ -33,8 +33,9 @@ use Rattle.tide_words.specs.heap.Heap.{Heap, Reads, heap_of}
 use Rattle.tide_words.specs.heap.Reading.{IsNamedAmong, ReadsAs, status_by}
 use Rattle.tide_call.specs.declared.plan.Plan.{Plan}
 use Rattle.tide_call.specs.declared.plan.Plan.TheVariants as plan
+use Rattle.tide_words.proofs.heap_laws.Frames.{ReadsAs-same}
 use Rattle.tide_words.proofs.heap_laws.HeapLaws.{Reads-heap_of}
-use Rattle.tide_call.specs.Callers.{Caller, CallsIn, IsCallerOf}
+use Rattle.tide_call.specs.Callers.{Caller, CallsIn, IsCallerOf, MayCallNow}
 use Rattle.tide_call.specs.Plans.{DoesSo, IsPlan}
 use Rattle.tide_call.specs.PlanWords.{PlanWords}
 use Rattle.tide_call.specs.Acting.{Acts, IsCounted}
@@ -294,14 +295,35 @@ may_call_in caller found words op state same all may =
       is_caller = is_caller caller (heap_of caller.layout words) op state may;
     })
 
--- and the plan is one of the call
-pub plan_is : (caller found : Caller) (words : List ℕ) (op : Op) (does : Plan) (state : State) → found ≡ caller → length words ≡ word_count caller.layout →
+-- so it may in each heap that has the words
+pub may_call_now : (caller found : Caller) (words : List ℕ) (op : Op) (state : State) → found ≡ caller → length words ≡ word_count caller.layout →
     MayCall caller.layout caller.shapes (heap_of caller.layout words) caller.claims caller.who op state →
-    ((heap : Heap) (at : State) → CallsIn (λ layout who one. Reads layout words one) found heap at → IsPlan found heap at op does) →
+    MayCallNow (λ layout who heap. Reads layout words heap) found
+may_call_now caller found words op state same all may =
+    subst (λ (one : Caller). MayCallNow (λ layout who heap. Reads layout words heap) one) (sym same) (record {
+      heap = heap_of caller.layout words;
+      owned = Reads-heap_of caller.layout words all;
+      each = λ heap words_are. (
+        state,
+        record {
+          owned = words_are;
+          reads = ReadsAs-same caller.layout caller.shapes (heap_of caller.layout words) heap state
+              (λ region is index within. sym (words_are.each region index within)) may.marking.reads;
+          is_caller = is_caller caller (heap_of caller.layout words) op state may;
+        },
+      );
+    })
+
+-- and the plan is one of the call, which left the words
+pub plan_is : (caller found : Caller) (words left : List ℕ) (op : Op) (does : Plan) (state : State) → found ≡ caller → length words ≡ word_count caller.layout →
+    MayCall caller.layout caller.shapes (heap_of caller.layout words) caller.claims caller.who op state → left ≡ words →
+    ((heap : Heap) (at : State) → CallsIn (λ layout who one. Reads layout left one) found heap at → IsPlan found heap at op does) →
     IsPlan caller (heap_of caller.layout words) state op does
-plan_is caller found words op does state same all may plans =
+plan_is caller found words left op does state same all may kept plans =
     subst (λ (one : Caller). IsPlan one (heap_of caller.layout words) state op does) same
-    (plans (heap_of caller.layout words) state (may_call_in caller found words op state same all may))
+    (plans (heap_of caller.layout words) state
+    (subst (λ (list : List ℕ). CallsIn (λ layout who one. Reads layout list one) found (heap_of caller.layout words) state)
+    (sym kept) (may_call_in caller found words op state same all may)))
 
 -- the call may stand after a history that leaves the state
 pub stands_call : (caller : Caller) (old new : Heap) (op : Op) (does : Plan) (reply : Reply) (took : Option ℕ) (history : List Event) →

@@ -167,7 +167,7 @@ module _ (caller : Caller) (heap : Heap) (state : State) (limits : IsWithinLimit
   granted-fits (WeakGet dst at) does fits none is = fits_as does _ is (fits.0, fits.1, (state.weak at, reads.roots.weak at fits.1))
   granted-fits (PairSet src key val) does fits none (table_cell, cell, place, is_t, is_k, has, stood, is) =
       fits_as does _ is (has, (let few = few_cells caller.layout limits in let inside = held key cell is_k in omega (arith, few, inside)))
-  granted-fits (PairGet dst src key) does fits none (table_cell, cell, value, is_t, is_k, has, is) = fits_as does _ is fits.0
+  granted-fits (PairGet dst src key) does fits none (table_cell, cell, place, value, is_t, is_k, has, stands, said, is) = fits_as does _ is (fits.0, has)
   granted-fits (PairDel src key) does fits none (table_cell, cell, place, is_t, is_k, has, stood, is) = fits_as does _ is has
   granted-fits (Group src n) does fits none (cell, holds, is) = fits_as does _ is (held src cell holds)
   granted-fits Collect does fits none is = fits_as does _ is tt

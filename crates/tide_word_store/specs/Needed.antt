@@ -44,7 +44,7 @@ FitsPlan layout heap (plan.LoadSlot dst cell slot) =
     (dst < layout.registers) × HasSlot layout cell slot × IsSomeValue (slot_word layout heap cell slot)
 FitsPlan layout heap (plan.StoreSlot cell slot value) = HasSlot layout cell slot
 FitsPlan layout heap (plan.Fill dst value) = dst < layout.registers
-FitsPlan layout heap (plan.Show dst value) = dst < layout.registers
+FitsPlan layout heap (plan.Show dst table place value) = (dst < layout.registers) × HasSlot layout table place
 FitsPlan layout heap (plan.Claim cell full) = (cell < cell_count layout) × IsSomeClaim (heap ClaimRegion cell)
 FitsPlan layout heap (plan.Release cell) = cell < cell_count layout
 FitsPlan layout heap (plan.LoadElement dst array place) =

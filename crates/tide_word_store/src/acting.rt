@@ -64,7 +64,7 @@ pub(crate) fn act<W: Words>(words: &mut W, layout: &Layout, who: u32, plan: Plan
         Plan::LoadSlot { dst, cell, slot } => load_slot(words, layout, who, dst, cell, slot),
         Plan::StoreSlot { cell, slot, value } => put_slot(words, layout, cell, slot, value),
         Plan::Fill { dst, value } => put_register(words, layout, who, dst, value),
-        Plan::Show { dst, value } => show_value(words, layout, who, dst, value),
+        Plan::Show { dst, value, .. } => show_value(words, layout, who, dst, value),
         Plan::Claim { cell, full } => claim(words, layout, who, cell, full),
         Plan::Release { cell } => release(words, layout, cell),
         Plan::LoadElement { dst, array, place } => {

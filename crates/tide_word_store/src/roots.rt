@@ -41,11 +41,11 @@ pub(crate) fn show_value<W: Words>(
 ) -> Called
     requires all_words { length (W.words words.old) ≡ word_count layout.now }
     requires mutator { who < layout.now.mutators }
-    requires fits { FitsPlan layout.now (heap_of layout.now (W.words words.old)) (Show dst value) }
+    requires register { dst < layout.now.registers }
     ensures all_words { length (W.words words.new) ≡ word_count layout.now }
     ensures same_rest { W.rest words.new ≡ W.rest words.old }
-    ensures acts { Acts layout.now (heap_of layout.now (W.words words.old))
-        (heap_of layout.now (W.words words.new)) who (Show dst value) result.reply result.took }
+    ensures acts { (table place : ℕ) → Acts layout.now (heap_of layout.now (W.words words.old))
+        (heap_of layout.now (W.words words.new)) who (Show dst table place value) result.reply result.took }
 {
     fill(words, layout, who, dst, value);
     Called::plain(Reply::Seen(value))

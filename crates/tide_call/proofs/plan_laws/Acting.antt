@@ -238,9 +238,9 @@ module _ (caller : Caller) (heap new : Heap) (state : State) (took : Option ℕ)
   set_pair src key val table_cell cell place is_t is_k has stood Done (none, written) = (none, (table_cell, cell, place, is_t, is_k, has, stood, written))
   set_pair src key val table_cell cell place is_t is_k has stood reply words = absurd words
 
-  get_pair : (dst src key table_cell cell : ℕ) (value : Val) → state.registers caller.who src ≡ Cell table_cell → state.registers caller.who key ≡ Cell cell →
-      (state.cells table_cell).pairs cell ≡ Some value → (reply : Reply) → Acts (plan.Show dst value) reply → Granted (PairGet dst src key) reply
-  get_pair dst src key table_cell cell value is_t is_k has (Seen seen) (none, same, filled) = (
+  get_pair : (dst src key table_cell cell place : ℕ) (value : Val) → state.registers caller.who src ≡ Cell table_cell → state.registers caller.who key ≡ Cell cell →
+      (state.cells table_cell).pairs cell ≡ Some value → (reply : Reply) → Acts (plan.Show dst table_cell place value) reply → Granted (PairGet dst src key) reply
+  get_pair dst src key table_cell cell place value is_t is_k has (Seen seen) (none, same, filled) = (
     (
       none,
       at_cell_of src table_cell (λ t. pair_of state t (state.registers caller.who key) ≡ Some seen) is_t
@@ -248,7 +248,7 @@ module _ (caller : Caller) (heap new : Heap) (state : State) (took : Option ℕ)
     ),
     subst (λ (v : Val). Fills caller.layout heap caller.who dst v new) (sym same) filled,
   )
-  get_pair dst src key table_cell cell value is_t is_k has reply words = absurd words
+  get_pair dst src key table_cell cell place value is_t is_k has reply words = absurd words
 
   clear_pair : (src key table_cell cell place : ℕ) → state.registers caller.who src ≡ Cell table_cell → state.registers caller.who key ≡ Cell cell →
       HasSlot caller.layout table_cell place → HasPairAt caller.layout heap table_cell place cell → (reply : Reply) →
@@ -292,8 +292,8 @@ module _ (caller : Caller) (heap new : Heap) (state : State) (took : Option ℕ)
   granted-acts (WeakGet dst at) does reply fits spare none is words = get_weak dst at fits.1 reply (acts does _ reply is words)
   granted-acts (PairSet src key val) does reply fits spare none (table_cell, cell, place, is_t, is_k, has, stood, is) words =
       set_pair src key val table_cell cell place is_t is_k has stood reply (acts does _ reply is words)
-  granted-acts (PairGet dst src key) does reply fits spare none (table_cell, cell, value, is_t, is_k, has, is) words =
-      get_pair dst src key table_cell cell value is_t is_k has reply (acts does _ reply is words)
+  granted-acts (PairGet dst src key) does reply fits spare none (table_cell, cell, place, value, is_t, is_k, slot, pair, has, is) words =
+      get_pair dst src key table_cell cell place value is_t is_k has reply (acts does _ reply is words)
   granted-acts (PairDel src key) does reply fits spare none (table_cell, cell, place, is_t, is_k, has, stood, is) words =
       clear_pair src key table_cell cell place is_t is_k has stood reply (acts does _ reply is words)
   granted-acts (Group src n) does reply fits spare none (cell, holds, is) words = join src n cell holds reply (acts does _ reply is words)

@@ -14,17 +14,37 @@ use Rattle.tide_words.specs.forms.StructureWord.{IsStructureWord, structure_word
 use Rattle.tide_words.specs.heap.Heap.{Heap}
 use Rattle.tide_words.specs.heap.Reading.{TakenReads}
 use Rattle.tide_words.proofs.form_laws.FormLaws.{same_from_structure_word}
-use Rattle.tide_call.specs.Callers.{Caller, CallsIn, KeepsOwn, OwnHeaps}
+use Rattle.tide_call.specs.Callers.{Caller, CallsIn, Leaves, LeavesOwn, MayCallNow, OwnHeaps}
 use Rattle.tide_call.specs.ShapeWord.{IsShapeWord}
 
--- where own words are kept, so is that the caller may call
-pub CallsIn-kept : (before after : OwnHeaps) (caller : Caller) (heap : Heap) (state : State) → KeepsOwn before after →
-    CallsIn before caller heap state → CallsIn after caller heap state
-CallsIn-kept before after caller heap state kept calls = record {
-  owned = kept caller.layout caller.who heap calls.owned;
-  reads = calls.reads;
-  is_caller = calls.is_caller;
-}
+-- a caller that may call now may do so somewhere
+pub somewhere : (owns : OwnHeaps) (caller : Caller) → MayCallNow owns caller →
+    (heap : Heap) × (state : State) × CallsIn owns caller heap state
+somewhere owns caller may = (let (state, calls) = may.each may.heap may.owned in (may.heap, state, calls))
+
+-- where its own words were read, a caller may call still
+pub Leaves-own : {C Rest : Type 0} (before after : C → OwnHeaps) (context : C) (view caller : Caller) (old new : Rest) →
+    view ≡ caller → MayCallNow (before context) caller →
+    LeavesOwn before after context view.layout view.who old new → Leaves before after context caller old new
+Leaves-own {C} {Rest} before after context view caller old new same may left = (
+  record {
+    heap = own.0.0;
+    owned = own.0.1;
+    each = λ heap owned. (let (state, calls) = may.each heap (own.1 heap owned) in (
+      state,
+      record { owned = owned; reads = calls.reads; is_caller = calls.is_caller },
+    ));
+  },
+  (λ heap state calls. record {
+    owned = own.1 heap calls.owned;
+    reads = calls.reads;
+    is_caller = calls.is_caller;
+  }),
+  own.2,
+)
+  where
+    own : LeavesOwn before after context caller.layout caller.who old new
+    own = subst (λ (one : Caller). LeavesOwn before after context one.layout one.who old new) same left
 
 -- the heap has the words of a caller that is seen otherwise
 pub owned-seen : (owns : OwnHeaps) (heap : Heap) (view caller : Caller) → view ≡ caller →
@@ -98,3 +118,11 @@ module _ (owns : OwnHeaps) (caller : Caller) (heap : Heap) (state : State) (call
           by_array None is = refl
           by_array (Some array) is = absurd (isnt array (calls.is_caller.arrays cell array is_held is)
               (sym (ap array_word is) ∙ sym claimed_reads.array ∙ sym same))
+
+-- each heap that has the words of a caller that may call says that it claims the cell
+pub claims-there : (owns : OwnHeaps) (view caller : Caller) → view ≡ caller → MayCallNow owns caller → (cell : ℕ) →
+    is_among caller.claims cell ≡ true → cell < cell_count caller.layout → (heap : Heap) →
+    owns view.layout view.who heap → heap Claim cell ≡ claim_word (Some view.who)
+claims-there owns view caller same may cell claimed within heap owned =
+    let (state, calls) = may.each heap (subst (λ (one : Caller). owns one.layout one.who heap) same owned) in
+    claim-seen heap cell view caller same (claimed_word owns caller heap state calls cell claimed within)

@@ -1,13 +1,14 @@
 -- What refuses an operation where the first tests are known.
-use Rattle.std.proofs.Common.{ℕ, ◌≡◌, ap, Bool, true, [], ◌∷◌, Option, None, Some}
+use Rattle.std.proofs.Common.{ℕ, ◌≡◌, ◌∙◌, ap, Bool, true, false, [], ◌∷◌, Option, None, Some}
 use Rattle.std.proofs.lemmas.Option.{none-some}
 use Rattle.std.specs.Prelude.{not}
 use Rattle.tide_model.specs.declared.op.Refusal.{Refusal}
-use Rattle.tide_model.specs.declared.op.Refusal.TheVariants.{NoShape, Present}
+use Rattle.tide_model.specs.declared.op.Refusal.TheVariants.{NoShape, NotHeld, NotTable, Present}
 use Rattle.tide_model.specs.declared.val.Val.{Val}
 use Rattle.tide_model.specs.declared.val.Val.TheVariants.{Cell, Empty, Int}
 use Rattle.tide_model.specs.Layout.{Layout}
-use Rattle.tide_model.specs.Refused.{first_of, refusal_at, refuse_if, slot_refusal}
+use Rattle.tide_model.specs.Refused.{first_of, holds, is_table, pair_refusal, refusal_at, refuse_if, slot_refusal}
+use Rattle.tide_model.specs.State.{State}
 
 -- a register without a cell refuses an operation on a slot
 pub slot_refusal-none : (layout : Layout) (value : Val) (register slot : ℕ) (refusal : Refusal) →
@@ -32,3 +33,29 @@ addition_refusals present declared known new is_known is_new =
 -- a present key refuses an addition whatever the shapes
 pub present_refused : (declared : Bool) → first_of (refuse_if true Present ∷ refuse_if declared NoShape ∷ []) ≡ Some Present
 present_refused declared = λ i. Some Present
+
+-- what refuses an operation on the pair of a table and a key cell that two registers hold, by its first two tests
+module _ (layout : Layout) (state : State) (who src register table key : ℕ) (further : ℕ → ℕ → Option Refusal)
+    (source : state.registers who src ≡ Cell table) (is_key : state.registers who register ≡ Cell key) where
+  abbrev tested : Bool → Bool → Option Refusal
+  tested one held = first_of (refuse_if (not one) NotTable ∷ refuse_if (not held) NotHeld ∷ further table key ∷ [])
+
+  by_tests : pair_refusal layout state who src register further ≡ tested (is_table layout table) (holds state who table)
+  by_tests =
+      ap (λ (v : Val). refusal_at v src (λ t. refusal_at (state.registers who register) register (λ k. first_of (
+      refuse_if (not (is_table layout t)) NotTable ∷ refuse_if (not (holds state who t)) NotHeld ∷ further t k ∷ []))))
+      source
+      ∙ ap (λ (v : Val). refusal_at v register (λ k. first_of (refuse_if (not (is_table layout table)) NotTable
+      ∷ refuse_if (not (holds state who table)) NotHeld ∷ further table k ∷ []))) is_key
+
+  pub pair_refusal-table : is_table layout table ≡ false →
+      pair_refusal layout state who src register further ≡ Some NotTable
+  pair_refusal-table isnt = by_tests ∙ ap (λ (one : Bool). tested one (holds state who table)) isnt
+
+  pub pair_refusal-held : is_table layout table ≡ true → holds state who table ≡ false →
+      pair_refusal layout state who src register further ≡ Some NotHeld
+  pair_refusal-held is isnt = by_tests ∙ (λ i. tested (is i) (isnt i))
+
+  pub pair_refusal-further : is_table layout table ≡ true → holds state who table ≡ true →
+      pair_refusal layout state who src register further ≡ first_of (further table key ∷ [])
+  pair_refusal-further is held = by_tests ∙ (λ i. tested (is i) (held i))

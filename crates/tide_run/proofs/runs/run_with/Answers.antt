@@ -10,6 +10,10 @@ use Rattle.tide_periods.specs.Recorded.{IsSettled, Recorded}
 use Rattle.tide_periods.specs.Run.{HasRun}
 use Rattle.tide_periods.specs.Store.{Setting}
 use Rattle.tide_workload.specs.Words.{Settings}
+use Rattle.tide_periods.specs.declared.run.Finished.{Finished}
+use Rattle.tide_run.specs.Outcome.{IsOutcome, history_of}
+use Rattle.tide_run.specs.declared.outcome.Kept.{Kept}
+use Rattle.tide_run.specs.declared.outcome.Kept.TheVariants.{Own}
 use Rattle.tide_run.specs.Runs.{Ran, layout_of_work, layout_with}
 use Rattle.tide_run.proofs.RunLaws.{AreAskable, IsOutcome-ran, IsRunOf-ran}
 use Rattle.tide_run.proofs.runs.run_with.Goals as goal
@@ -68,10 +72,13 @@ new-requires-2 g c =
     subst (λ (s : List (List Op)). HasRun setting (pace_of c.args.pacing) s ran.kept.items ran.report (map (λ own. own.items) ran.calls.items) ran.live) parts.ensures.scripts
     (subst (λ (r : Recorded). HasRun r.setting (pace_of c.args.pacing) (scripts_of parts.parts.callers.items) ran.kept.items ran.report (map (λ own. own.items) ran.calls.items) ran.live)
     parts.ensures.recorded c.in_ok-ran.ensures) in
-    IsOutcome-ran work c.layout_with-layout.result (map (λ name. name.items) c.in_ok-names.names.items) setting
-    (pace_of c.args.pacing) scripts ran.kept ran.report (map (λ own. own.items) ran.calls.items) ran.live ended
+    let keys = map (λ name. name.items) c.in_ok-names.names.items in
+    subst (λ (x : Finished Kept). IsOutcome c.layout_with-layout.result keys x.kept (map (λ own. own.items) x.calls.items) x.live x.report)
+    (sym c.kept_itself.ensures)
+    (IsOutcome-ran work c.layout_with-layout.result keys setting
+    (pace_of c.args.pacing) scripts (Own (record { events = ran.kept })) ran.report (map (λ own. own.items) ran.calls.items) ran.live ended
     (c.requires.layout ∙ sym layout)
-    c.in_ok-names.ensures as_many c.requires.within
+    c.in_ok-names.ensures as_many c.requires.within)
 
 pub returns : goal.returns
 returns g c =
@@ -91,5 +98,5 @@ returns g c =
           ran.kept.items ran.report (map (λ own. own.items) ran.calls.items) ran.live ended (ap (λ (n : ℕ). record { period = n; headroom = c.args.pacing.headroom; trigger = c.args.pacing.trigger }) c.requires.period
           ∙ ap (λ (n : ℕ). record { period = work.settings.period; headroom = n; trigger = c.args.pacing.trigger }) c.requires.headroom) c.requires.layout
           c.requires.shapes c.requires.scripts
-          (ap (λ (r : Ran). r.layout) c.new-2.ensures ∙ layout) (ap (λ (r : Ran). r.keys) c.new-2.ensures ∙ c.in_ok-names.ensures) (ap (λ (r : Ran). r.history) c.new-2.ensures);
+          (ap (λ (r : Ran). r.layout) c.new-2.ensures ∙ layout) (ap (λ (r : Ran). r.keys) c.new-2.ensures ∙ c.in_ok-names.ensures) (ap (λ (r : Ran). r.history) c.new-2.ensures ∙ ap (λ (x : Finished Kept). history_of x.kept) c.kept_itself.ensures);
     }

@@ -80,6 +80,12 @@ returns-in-Join-clause-room g c = λ class same. absurd (
     never_full layout (heap_of layout (g.W.Words.words c.args.words.now)) (heap_of layout (g.W.Words.words c.join.new.words)) c.args.who
     (plan.Join c.in-Join.cell c.in-Join.group) _ _ class refl (c.join.ensures.acts c.args.who) same)
 
+pub returns-in-Show-clause-room : goal.returns-in-Show-clause-room
+returns-in-Show-clause-room g c = λ class same. absurd (
+    let layout = c.args.layout.now in
+    never_full layout (heap_of layout (g.W.Words.words c.args.words.now)) (heap_of layout (g.W.Words.words c.show_value.new.words)) c.args.who
+    (plan.Show c.in-Show.dst 0 0 c.in-Show.value) _ _ class refl (c.show_value.ensures.acts 0 0) same)
+
 pub returns-in-Grow-clause-room : goal.returns-in-Grow-clause-room
 returns-in-Grow-clause-room g c = λ class same.
     let layout = c.args.layout.now in

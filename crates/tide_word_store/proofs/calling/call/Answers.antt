@@ -14,7 +14,7 @@ use Rattle.tide_core.proofs.CallLaws.{Marking-called, call_keeps_wave}
 use Rattle.tide_word_store.specs.Acting.{IsClassFull}
 use Rattle.tide_word_store.specs.MayCall.{MayCall}
 use Rattle.tide_word_store.specs.Needed.{FitsPlan}
-use Rattle.tide_word_store.proofs.CallLaws.{ComesTo, claim_has_room, comes_to, may_call_in, plan_fits, plan_is, stands_call, unclaim_finds}
+use Rattle.tide_word_store.proofs.CallLaws.{ComesTo, claim_has_room, comes_to, may_call_now, plan_fits, plan_is, stands_call, unclaim_finds}
 use Rattle.tide_word_store.proofs.calling.call.Given.{Over}
 use Rattle.tide_word_store.proofs.calling.call.Goals as goal
 use Rattle.tide_word_store.proofs.calling.call.Goals.{After-keep_claims}
@@ -24,15 +24,16 @@ plan_of-plan-requires-clause-known g c κs within =
     let caller : Caller = record { layout = c.args.layout.now; shapes = g.S.ShapeTable.lists c.args.shapes.now; who = c.args.who; claims = c.args.claims.now } in
     let words = g.W.Words.words c.args.words.now in
     let (state, may) = c.requires.known in
-    (heap_of c.args.layout.now words, state, may_call_in caller c.new-caller.result words c.args.op state c.new-caller.ensures.caller c.requires.all_words may)
+    may_call_now caller c.new-caller.result words c.args.op state c.new-caller.ensures.caller c.requires.all_words may
 
 pub act-called-requires-clause-fits : goal.act-called-requires-clause-fits
 act-called-requires-clause-fits g c =
     let caller : Caller = record { layout = c.args.layout.now; shapes = g.S.ShapeTable.lists c.args.shapes.now; who = c.args.who; claims = c.args.claims.now } in
     let words = g.W.Words.words c.args.words.now in
     let (state, may) = c.requires.known in
-    let is = plan_is caller c.new-caller.result words c.args.op c.plan_of-plan.result state c.new-caller.ensures.caller c.requires.all_words may c.plan_of-plan.ensures.plan in
-    subst (λ (list : List ℕ). FitsPlan c.args.layout.now (heap_of c.args.layout.now list) c.plan_of-plan.result) (sym (ap (λ pair. pair.0) c.plan_of-plan.ensures.owns.1))
+    let is = plan_is caller c.new-caller.result words (g.W.Words.words c.plan_of-plan.new.own) c.args.op c.plan_of-plan.result state c.new-caller.ensures.caller
+    c.requires.all_words may (ap (λ pair. pair.0) c.plan_of-plan.ensures.owns.2) c.plan_of-plan.ensures.plan in
+    subst (λ (list : List ℕ). FitsPlan c.args.layout.now (heap_of c.args.layout.now list) c.plan_of-plan.result) (sym (ap (λ pair. pair.0) c.plan_of-plan.ensures.owns.2))
     (plan_fits caller (heap_of c.args.layout.now words) c.args.op c.plan_of-plan.result state c.mutators.ensures.limits may is)
 
 pub keep_claims-requires-clause-room : goal.keep_claims-requires-clause-room
@@ -40,9 +41,10 @@ keep_claims-requires-clause-room g c = λ src cell full is_op is_plan is_reply.
     let caller : Caller = record { layout = c.args.layout.now; shapes = g.S.ShapeTable.lists c.args.shapes.now; who = c.args.who; claims = c.args.claims.now } in
     let words = g.W.Words.words c.args.words.now in
     let (state, may) = c.requires.known in
-    let is = plan_is caller c.new-caller.result words c.args.op c.plan_of-plan.result state c.new-caller.ensures.caller c.requires.all_words may c.plan_of-plan.ensures.plan in
+    let is = plan_is caller c.new-caller.result words (g.W.Words.words c.plan_of-plan.new.own) c.args.op c.plan_of-plan.result state c.new-caller.ensures.caller
+    c.requires.all_words may (ap (λ pair. pair.0) c.plan_of-plan.ensures.owns.2) c.plan_of-plan.ensures.plan in
     let acts = subst (λ (list : List ℕ). Acts c.args.layout.now (heap_of c.args.layout.now list) (heap_of c.args.layout.now (g.W.Words.words c.act-called.new.words)) c.args.who
-    c.plan_of-plan.result c.act-called.result.reply c.act-called.result.took) (ap (λ pair. pair.0) c.plan_of-plan.ensures.owns.1) c.act-called.ensures.acts in
+    c.plan_of-plan.result c.act-called.result.reply c.act-called.result.took) (ap (λ pair. pair.0) c.plan_of-plan.ensures.owns.2) c.act-called.ensures.acts in
     claim_has_room caller (heap_of c.args.layout.now words) acts.acted state c.args.op c.plan_of-plan.result c.act-called.result.reply src cell full c.act-called.result.took
     is acts.words is_op is_plan is_reply
 
@@ -51,9 +53,10 @@ keep_claims-requires-clause-some g c = λ is_op is_reply.
     let caller : Caller = record { layout = c.args.layout.now; shapes = g.S.ShapeTable.lists c.args.shapes.now; who = c.args.who; claims = c.args.claims.now } in
     let words = g.W.Words.words c.args.words.now in
     let (state, may) = c.requires.known in
-    let is = plan_is caller c.new-caller.result words c.args.op c.plan_of-plan.result state c.new-caller.ensures.caller c.requires.all_words may c.plan_of-plan.ensures.plan in
+    let is = plan_is caller c.new-caller.result words (g.W.Words.words c.plan_of-plan.new.own) c.args.op c.plan_of-plan.result state c.new-caller.ensures.caller
+    c.requires.all_words may (ap (λ pair. pair.0) c.plan_of-plan.ensures.owns.2) c.plan_of-plan.ensures.plan in
     let acts = subst (λ (list : List ℕ). Acts c.args.layout.now (heap_of c.args.layout.now list) (heap_of c.args.layout.now (g.W.Words.words c.act-called.new.words)) c.args.who
-    c.plan_of-plan.result c.act-called.result.reply c.act-called.result.took) (ap (λ pair. pair.0) c.plan_of-plan.ensures.owns.1) c.act-called.ensures.acts in
+    c.plan_of-plan.result c.act-called.result.reply c.act-called.result.took) (ap (λ pair. pair.0) c.plan_of-plan.ensures.owns.2) c.act-called.ensures.acts in
     unclaim_finds caller (heap_of c.args.layout.now words) acts.acted state c.args.op c.plan_of-plan.result c.act-called.result.reply c.act-called.result.took
     is acts.words is_op is_reply
 
@@ -73,17 +76,17 @@ module _ (g : Over) (c : After-keep_claims g) where
   comes state may =
       comes_to caller old (heap_of c.args.layout.now (g.W.Words.words c.act-called.new.words)) new c.args.op c.plan_of-plan.result c.act-called.result.reply c.act-called.result.took
       state may
-      (plan_is caller c.new-caller.result (g.W.Words.words c.args.words.now) c.args.op c.plan_of-plan.result state c.new-caller.ensures.caller c.requires.all_words may
-      c.plan_of-plan.ensures.plan)
+      (plan_is caller c.new-caller.result (g.W.Words.words c.args.words.now) (g.W.Words.words c.plan_of-plan.new.own) c.args.op c.plan_of-plan.result
+      state c.new-caller.ensures.caller c.requires.all_words may (ap (λ pair. pair.0) c.plan_of-plan.ensures.owns.2) c.plan_of-plan.ensures.plan)
       (subst (λ (list : List ℕ). Acts c.args.layout.now (heap_of c.args.layout.now list) (heap_of c.args.layout.now (g.W.Words.words c.act-called.new.words)) c.args.who
-      c.plan_of-plan.result c.act-called.result.reply c.act-called.result.took) (ap (λ pair. pair.0) c.plan_of-plan.ensures.owns.1) c.act-called.ensures.acts)
+      c.plan_of-plan.result c.act-called.result.reply c.act-called.result.took) (ap (λ pair. pair.0) c.plan_of-plan.ensures.owns.2) c.act-called.ensures.acts)
       c.count_call.ensures.counted
 
   -- a refusal for room has its cause
   room : (class : ℕ) → c.act-called.result.reply ≡ Refused (Full class) → (c.plan_of-plan.result ≡ Refuse (Full class)) ⊎ IsClassFull c.args.layout.now old class
   room = subst (λ (list : List ℕ). (class : ℕ) → c.act-called.result.reply ≡ Refused (Full class) →
       (c.plan_of-plan.result ≡ Refuse (Full class)) ⊎ IsClassFull c.args.layout.now (heap_of c.args.layout.now list) class)
-      (ap (λ pair. pair.0) c.plan_of-plan.ensures.owns.1) c.act-called.ensures.room
+      (ap (λ pair. pair.0) c.plan_of-plan.ensures.owns.2) c.act-called.ensures.room
 
 pub returns-clause-answers : goal.returns-clause-answers
 returns-clause-answers g c = λ state may. (comes g c state may).answers

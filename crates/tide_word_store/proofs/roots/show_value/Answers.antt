@@ -10,9 +10,9 @@ use Rattle.tide_word_store.proofs.ActingLaws.{acts_as, unwritten, written_as}
 use Rattle.tide_word_store.proofs.roots.show_value.Goals as goal
 
 pub returns-clause-acts : goal.returns-clause-acts
-returns-clause-acts g c =
+returns-clause-acts g c = λ table place.
     let layout = c.args.layout.now in
     let old = heap_of layout (g.W.Words.words c.args.words.now) in
     let new = heap_of layout (g.W.Words.words c.fill.new.words) in
-    acts_as layout old new new c.args.who (plan.Show c.args.dst c.args.value) (Seen c.args.value) _ None _ c.plain.ensures.reply c.plain.ensures.took
+    acts_as layout old new new c.args.who (plan.Show c.args.dst table place c.args.value) (Seen c.args.value) _ None _ c.plain.ensures.reply c.plain.ensures.took
     (refl, refl, c.fill.ensures.fills) (unwritten layout new)

@@ -7,7 +7,7 @@ use Rattle.tide_model.specs.Refused.{ShapeLists, has_key, may_add, refuse_if}
 use Rattle.tide_model.specs.State.{State}
 use Rattle.tide_shape.proofs.KeyLaws.{fewer_keys, may_add-absent, may_add-there}
 use Rattle.tide_call.proofs.plan_laws.KeyReading.{key-found, keys_of-cell, next-found, next-missing, next-word}
-use Rattle.tide_call.proofs.plan_laws.OwnLaws.{CallsIn-kept}
+use Rattle.tide_call.proofs.plan_laws.OwnLaws.{somewhere}
 use Rattle.tide_call.proofs.plan_laws.RefusalLaws.{addition_refusals}
 use Rattle.tide_call.proofs.caller.Caller.find_addition.Goals as goal
 
@@ -22,11 +22,10 @@ returns-in_err-cell-clause-refused g c =
     c.in_err-cell.ensures.refused heap state calls (own_refusals c.args.self.now.shapes state c.args.key))
 
 pub returns-then-is_some-clause-refused : goal.returns-then-is_some-clause-refused
-returns-then-is_some-clause-refused g c = λ heap state calls val.
+returns-then-is_some-clause-refused g c = λ heap state calls_then val.
     let shapes = c.args.self.now.shapes in
     let cell = c.in_ok-cell.cell in
-    let calls_then = CallsIn-kept (g.O.OwnRegisters.owns c.args.own.now c.args.context.now) (g.O.OwnRegisters.owns c.property_holder.new.own c.args.context.now)
-    c.args.self.now heap state c.property_holder.ensures.owns.0 calls in
+    let calls = c.shape_of-shape.ensures.owns.1 heap state calls_then in
     let known : has_key state cell c.args.key ≡ true =
     key-found (g.S.ShapeTable.lists c.shapes.result.now) shapes c.shapes.ensures.lists c.shape_of-shape.result (state.cells cell).keys
     (c.shape_of-shape.ensures.shape heap state calls_then) c.args.key c.place.result c.place.ensures.there c.place.ensures.none
@@ -35,11 +34,10 @@ returns-then-is_some-clause-refused g c = λ heap state calls val.
     ∙ addition_refusals (has_key state cell c.args.key) (may_add shapes state cell c.args.key) true (may_add shapes state cell c.args.key) known refl
 
 pub returns-in_default-clause-refused : goal.returns-in_default-clause-refused
-returns-in_default-clause-refused g c = λ heap state calls val.
+returns-in_default-clause-refused g c = λ heap state calls_then val.
     let shapes = c.args.self.now.shapes in
     let cell = c.in_ok-cell.cell in
-    let calls_then = CallsIn-kept (g.O.OwnRegisters.owns c.args.own.now c.args.context.now) (g.O.OwnRegisters.owns c.property_holder.new.own c.args.context.now)
-    c.args.self.now heap state c.property_holder.ensures.owns.0 calls in
+    let calls = c.shape_of-shape.ensures.owns.1 heap state calls_then in
     let is_shape = c.shape_of-shape.ensures.shape heap state calls_then in
     let known : has_key state cell c.args.key ≡ false =
     key-found (g.S.ShapeTable.lists c.shapes.result.now) shapes c.shapes.ensures.lists c.shape_of-shape.result (state.cells cell).keys
@@ -51,11 +49,10 @@ returns-in_default-clause-refused g c = λ heap state calls val.
     ∙ addition_refusals (has_key state cell c.args.key) (may_add shapes state cell c.args.key) false false known missing
 
 pub returns-clause-granted : goal.returns-clause-granted
-returns-clause-granted g c = λ heap state calls val.
+returns-clause-granted g c = λ heap state calls_then val.
     let shapes = c.args.self.now.shapes in
     let cell = c.in_ok-cell.cell in
-    let calls_then = CallsIn-kept (g.O.OwnRegisters.owns c.args.own.now c.args.context.now) (g.O.OwnRegisters.owns c.property_holder.new.own c.args.context.now)
-    c.args.self.now heap state c.property_holder.ensures.owns.0 calls in
+    let calls = c.shape_of-shape.ensures.owns.1 heap state calls_then in
     let is_shape = c.shape_of-shape.ensures.shape heap state calls_then in
     let known : has_key state cell c.args.key ≡ false =
     key-found (g.S.ShapeTable.lists c.shapes.result.now) shapes c.shapes.ensures.lists c.shape_of-shape.result (state.cells cell).keys
@@ -67,11 +64,10 @@ returns-clause-granted g c = λ heap state calls val.
     ∙ addition_refusals (has_key state cell c.args.key) (may_add shapes state cell c.args.key) false true known may
 
 pub returns-clause-addition : goal.returns-clause-addition
-returns-clause-addition g c = λ heap state calls.
+returns-clause-addition g c = λ heap state calls_then.
     let shapes = c.args.self.now.shapes in
     let cell = c.in_ok-cell.cell in
-    let calls_then = CallsIn-kept (g.O.OwnRegisters.owns c.args.own.now c.args.context.now) (g.O.OwnRegisters.owns c.property_holder.new.own c.args.context.now)
-    c.args.self.now heap state c.property_holder.ensures.owns.0 calls in
+    let calls = c.shape_of-shape.ensures.owns.1 heap state calls_then in
     let is_shape = c.shape_of-shape.ensures.shape heap state calls_then in
     let few : c.in-Some.next < 2 ^ 32 = search rules in
     record {
@@ -84,11 +80,10 @@ returns-clause-addition g c = λ heap state calls.
 
 pub returns-clause-few : goal.returns-clause-few
 returns-clause-few g c =
-    let (heap, state, calls) = c.requires.known in
+    let (heap, state, calls_then) = somewhere _ c.args.self.now c.shape_of-shape.ensures.owns.0 in
     let shapes = c.args.self.now.shapes in
     let cell = c.in_ok-cell.cell in
-    let calls_then = CallsIn-kept (g.O.OwnRegisters.owns c.args.own.now c.args.context.now) (g.O.OwnRegisters.owns c.property_holder.new.own c.args.context.now)
-    c.args.self.now heap state c.property_holder.ensures.owns.0 calls in
+    let calls = c.shape_of-shape.ensures.owns.1 heap state calls_then in
     let is_shape = c.shape_of-shape.ensures.shape heap state calls_then in
     let counted = c.count.ensures
     ∙ ap (λ (ks : List ℕ). length ks) (keys_of-cell (g.S.ShapeTable.lists c.shapes-3.result.now) shapes c.shapes-3.ensures.lists c.shape_of-shape.result (state.cells cell).keys is_shape) in

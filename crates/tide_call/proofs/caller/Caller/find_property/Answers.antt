@@ -9,7 +9,7 @@ use Rattle.tide_model.specs.Refused.{has_key, refuse_if}
 use Rattle.tide_shape.specs.ShapeTable.{keys_of}
 use Rattle.tide_shape.proofs.KeyLaws.{place_of-position}
 use Rattle.tide_call.proofs.plan_laws.KeyReading.{key-found, keys_of-cell}
-use Rattle.tide_call.proofs.plan_laws.OwnLaws.{CallsIn-kept, claimed_is_live}
+use Rattle.tide_call.proofs.plan_laws.OwnLaws.{claimed_is_live}
 use Rattle.tide_call.proofs.plan_laws.RefusalLaws.{last_refusal}
 use Rattle.tide_call.proofs.caller.Caller.find_property.Goals as goal
 
@@ -20,13 +20,11 @@ returns-in_err-cell-clause-refused g c =
     c.in_err-cell.ensures.refused heap state calls (λ cell. refuse_if (not (has_key state cell c.args.key)) Absent ∷ []))
 
 pub returns-in_default-clause-refused : goal.returns-in_default-clause-refused
-returns-in_default-clause-refused g c = λ heap state calls.
-    let owns = g.O.OwnRegisters.owns c.args.own.now c.args.context.now in
+returns-in_default-clause-refused g c = λ heap state calls_then.
     let lists = g.S.ShapeTable.lists c.shapes.result.now in
     let cell = c.in_ok-cell.cell in
     let key = c.args.key in
-    let calls_then = CallsIn-kept owns (g.O.OwnRegisters.owns c.property_holder.new.own c.args.context.now) c.args.self.now heap state
-    c.property_holder.ensures.owns.0 calls in
+    let calls = c.shape_of-shape.ensures.owns.1 heap state calls_then in
     let is_shape = c.shape_of-shape.ensures.shape heap state calls_then in
     let known : has_key state cell key ≡ false = key-found lists c.args.self.now.shapes c.shapes.ensures.lists c.shape_of-shape.result (state.cells cell).keys is_shape
     key None tt c.in_default.ensures.none in
@@ -34,39 +32,33 @@ returns-in_default-clause-refused g c = λ heap state calls.
     ∙ last_refusal (not (has_key state cell key)) true Absent (ap not known)
 
 pub returns-in_default-array_of-clause-refused : goal.returns-in_default-array_of-clause-refused
-returns-in_default-array_of-clause-refused g c = λ heap state calls.
-    let owns = g.O.OwnRegisters.owns c.args.own.now c.args.context.now in
+returns-in_default-array_of-clause-refused g c = λ heap state last.
     let lists = g.S.ShapeTable.lists c.shapes.result.now in
     let cell = c.in_ok-cell.cell in
-    let held = g.O.OwnRegisters.owns c.property_holder.new.own c.args.context.now in
-    let calls_then = CallsIn-kept owns held c.args.self.now heap state c.property_holder.ensures.owns.0 calls in
-    let calls_last = CallsIn-kept held (g.O.OwnRegisters.owns c.shape_of-shape.new.own c.args.context.now) c.args.self.now heap state
-    c.shape_of-shape.ensures.owns.0 calls_then in
+    let calls_then = c.array_of.ensures.owns.1 heap state last in
+    let calls = c.shape_of-shape.ensures.owns.1 heap state calls_then in
     let same = keys_of-cell lists c.args.self.now.shapes c.shapes.ensures.lists c.shape_of-shape.result (state.cells cell).keys
     (c.shape_of-shape.ensures.shape heap state calls_then) in
     let there = subst (λ (ks : List ℕ). slice_get ks c.in-Some.place ≡ Some c.args.key) same c.in-Some.ensures.there in
     let below = slice_get_within (state.cells cell).keys c.in-Some.place c.args.key there in
-    let live = claimed_is_live owns c.args.self.now heap state calls cell c.in_ok-cell.ensures.claimed in
+    let live = claimed_is_live _ c.args.self.now heap state calls cell c.in_ok-cell.ensures.claimed in
     let (array, is, has, value) = (calls.reads.parts.cells cell c.in_ok-cell.ensures.within).properties live c.in-Some.place below in
-    absurd (none-some array (sym (c.in_default-array_of.ensures.array heap state calls_last) ∙ is))
+    absurd (none-some array (sym (c.in_default-array_of.ensures.array heap state last) ∙ is))
 
 pub returns-clause-property : goal.returns-clause-property
-returns-clause-property g c = λ heap state calls.
-    let owns = g.O.OwnRegisters.owns c.args.own.now c.args.context.now in
+returns-clause-property g c = λ heap state last.
     let lists = g.S.ShapeTable.lists c.shapes.result.now in
     let cell = c.in_ok-cell.cell in
     let key = c.args.key in
-    let held = g.O.OwnRegisters.owns c.property_holder.new.own c.args.context.now in
-    let calls_then = CallsIn-kept owns held c.args.self.now heap state c.property_holder.ensures.owns.0 calls in
-    let calls_last = CallsIn-kept held (g.O.OwnRegisters.owns c.shape_of-shape.new.own c.args.context.now) c.args.self.now heap state
-    c.shape_of-shape.ensures.owns.0 calls_then in
+    let calls_then = c.array_of.ensures.owns.1 heap state last in
+    let calls = c.shape_of-shape.ensures.owns.1 heap state calls_then in
     let is_shape = c.shape_of-shape.ensures.shape heap state calls_then in
     let same = keys_of-cell lists c.args.self.now.shapes c.shapes.ensures.lists c.shape_of-shape.result (state.cells cell).keys is_shape in
     let there = subst (λ (ks : List ℕ). slice_get ks c.in-Some.place ≡ Some key) same c.in-Some.ensures.there in
     let below = slice_get_within (state.cells cell).keys c.in-Some.place key there in
-    let live = claimed_is_live owns c.args.self.now heap state calls cell c.in_ok-cell.ensures.claimed in
+    let live = claimed_is_live _ c.args.self.now heap state calls cell c.in_ok-cell.ensures.claimed in
     let (array, is, has, value) = (calls.reads.parts.cells cell c.in_ok-cell.ensures.within).properties live c.in-Some.place below in
-    let own = c.in-Some-array_of.ensures.array heap state calls_last in
+    let own = c.in-Some-array_of.ensures.array heap state last in
     let known : has_key state cell key ≡ true = key-found lists c.args.self.now.shapes c.shapes.ensures.lists c.shape_of-shape.result (state.cells cell).keys is_shape
     key (Some c.in-Some.place) c.in-Some.ensures.there tt in
     record {

@@ -5,18 +5,27 @@ use Rattle.std.proofs.lemmas.List.{get_or-set_other}
 use Rattle.std.proofs.lemmas.Grind.{get_or-set_at}
 use Rattle.tide_words.specs.heap.Reading.{slot_word}
 use Rattle.tide_call.specs.Callers.{Caller}
-use Rattle.tide_call.proofs.plan_laws.OwnLaws.{claim-seen, claimed_word, owned-seen}
+use Rattle.tide_call.proofs.plan_laws.OwnLaws.{Leaves-own, claims-there, owned-seen}
 use Rattle.tide_call.proofs.caller.Caller.pairs_of.Goals as goal
 
 pub loop-place-init : goal.loop-place-init
-loop-place-init g c = (((λ layout who heap owned. owned), refl), refl, (λ heap state calls place below. absurd (omega (arith, below))))
+loop-place-init g c = (
+  (c.requires.known, (λ heap state calls. calls), refl),
+  refl,
+  (λ heap state calls place below. absurd (omega (arith, below))),
+)
 
 pub pair-requires-clause-known : goal.pair-requires-clause-known
-pair-requires-clause-known g c = (let (heap, state, calls) = c.requires.known in (
-  heap,
-  owned-seen (g.O.OwnRegisters.owns c.loop-place.own c.args.context.now) heap _ c.args.self.now c.self.view_is
-      (c.loop-place.invariant.0.0 c.args.self.now.layout c.args.self.now.who heap calls.owned),
-))
+pair-requires-clause-known g c =
+    let may = c.loop-place.invariant.0.0 in (
+      may.heap,
+      owned-seen (g.O.OwnRegisters.owns c.loop-place.own c.args.context.now) may.heap _ c.args.self.now c.self.view_is
+          may.owned,
+    )
+
+pub pair-requires-clause-claimed : goal.pair-requires-clause-claimed
+pair-requires-clause-claimed g c = claims-there (g.O.OwnRegisters.owns c.loop-place.own c.args.context.now) _
+    c.args.self.now c.self.view_is c.loop-place.invariant.0.0 c.args.table c.requires.claimed c.requires.of_layout
 
 pub loop-place-preserved : goal.loop-place-preserved
 loop-place-preserved g c =
@@ -24,22 +33,23 @@ loop-place-preserved g c =
     let at = c.from.result in
     let is_at = c.from.ensures in
     let below = c.loop-place-test.true in
-    let whole = c.loop-place.invariant.1 in (
-      ((λ layout who heap owned. c.pair.ensures.owns.0 layout who heap (c.loop-place.invariant.0.0 layout who heap owned)), c.pair.ensures.owns.1 ∙ c.loop-place.invariant.0.1),
+    let before = c.loop-place.invariant.0 in
+    let whole = c.loop-place.invariant.1 in
+    let now = g.O.OwnRegisters.owns c.pair.new.self c.args.context.now in
+    let step = Leaves-own (g.O.OwnRegisters.owns c.loop-place.own) (g.O.OwnRegisters.owns c.pair.new.self)
+    c.args.context.now _ c.args.self.now _ _ c.self.view_is before.0 c.pair.ensures.owns in (
+      (step.0, (λ heap state calls. before.1 heap state (step.1 heap state calls)), step.2 ∙ before.2),
       length-set words at c.pair.result ∙ whole,
-      (λ heap state calls place before. elim (cases_eq place at) [
+      (λ heap state calls place earlier. elim (cases_eq place at) [
         | inl same ↦
-            let owned = owned-seen (g.O.OwnRegisters.owns c.loop-place.own c.args.context.now) heap _ c.args.self.now c.self.view_is
-            (c.loop-place.invariant.0.0 c.args.self.now.layout c.args.self.now.who heap calls.owned) in
-            let claimed = claim-seen heap c.args.table _ c.args.self.now c.self.view_is
-            (claimed_word (g.O.OwnRegisters.owns c.args.own.now c.args.context.now) c.args.self.now heap state calls c.args.table c.requires.claimed c.requires.of_layout) in
+            let owned = owned-seen now heap _ c.args.self.now c.self.view_is calls.owned in
             get_or-set_at words at place c.pair.result 0 same (omega (arith, whole, is_at, below))
-            ∙ c.pair.ensures.word heap owned claimed
+            ∙ c.pair.ensures.word heap owned
             ∙ ap (λ (caller : Caller). slot_word caller.layout heap c.args.table c.loop-place.place) c.self.view_is
             ∙ ap (slot_word c.args.self.now.layout heap c.args.table) (sym (same ∙ is_at))
         | inr apart ↦
             get_or-set_other words at place c.pair.result 0 apart
-            ∙ c.loop-place.invariant.2 heap state calls place (omega (arith, before, apart, is_at))
+            ∙ c.loop-place.invariant.2 heap state (step.1 heap state calls) place (omega (arith, earlier, apart, is_at))
       ]),
     )
 

@@ -8,7 +8,7 @@ use Rattle.tide_call.specs.declared.plan.Plan.{Plan}
 use Rattle.tide_call.specs.declared.plan.Plan.TheVariants.{Append, Grow}
 use Rattle.tide_call.specs.Plans.{IsPlan}
 use Rattle.tide_call.proofs.plan_laws.AdditionRoom.{full-none}
-use Rattle.tide_call.proofs.plan_laws.OwnLaws.{CallsIn-kept, claimed_is_live}
+use Rattle.tide_call.proofs.plan_laws.OwnLaws.{claimed_is_live}
 use Rattle.tide_call.proofs.reading_laws.ArrayRoom.{HasElement-next}
 use Rattle.tide_call.proofs.caller.Caller.plan_add.Goals as goal
 
@@ -20,18 +20,16 @@ pub returns-in-Err-clause-plan : goal.returns-in-Err-clause-plan
 returns-in-Err-clause-plan g c = λ heap state calls. c.in-Err.ensures.refused heap state calls c.args.val
 
 pub returns-clause-plan : goal.returns-clause-plan
-returns-clause-plan g c = λ heap state calls.
+returns-clause-plan g c = λ heap state last.
     let caller = c.args.self.now in
-    let owns = g.O.OwnRegisters.owns c.args.own.now c.args.context.now in
-    let found = g.O.OwnRegisters.owns c.find_addition.new.own c.args.context.now in
     let addition = c.in-Ok.addition in
-    let calls_then = CallsIn-kept owns found caller heap state c.find_addition.ensures.owns.0 calls in
-    let calls_last = CallsIn-kept found (g.O.OwnRegisters.owns c.value_in-value.new.own c.args.context.now) caller heap state c.value_in-value.ensures.owns.0 calls_then in
+    let calls_then = c.array_of.ensures.owns.1 heap state last in
+    let calls = c.value_in-value.ensures.owns.1 heap state calls_then in
     let is = c.in-Ok.ensures.addition heap state calls in
-    let live = claimed_is_live owns caller heap state calls addition.cell c.in-Ok.ensures.claimed in
+    let live = claimed_is_live _ caller heap state calls addition.cell c.in-Ok.ensures.claimed in
     let counted = c.from-count.ensures ∙ is.is_count in
     let few = c.in-Ok.ensures.few in
-    let own = c.in-Some.ensures.array heap state calls_last in
+    let own = c.in-Some.ensures.array heap state last in
     let room : is_array_full (state.cells addition.cell) ≡ false = has_room-at (state.cells addition.cell) c.from-count.result counted
     (subst_below (sym c.from-count.ensures) few) (λ full. c.if-count-capacity.false (full ∙ sym c.capacity.ensures)) in (
       c.in-Ok.ensures.granted heap state calls c.args.val,
@@ -53,12 +51,11 @@ returns-clause-plan g c = λ heap state calls.
     )
 
 pub returns-then-count-capacity-clause-plan : goal.returns-then-count-capacity-clause-plan
-returns-then-count-capacity-clause-plan g c = λ heap state calls.
+returns-then-count-capacity-clause-plan g c = λ heap state last.
     let caller = c.args.self.now in
-    let found = g.O.OwnRegisters.owns c.find_addition.new.own c.args.context.now in
     let addition = c.in-Ok.addition in
-    let calls_then = CallsIn-kept (g.O.OwnRegisters.owns c.args.own.now c.args.context.now) found caller heap state c.find_addition.ensures.owns.0 calls in
-    let calls_last = CallsIn-kept found (g.O.OwnRegisters.owns c.value_in-value.new.own c.args.context.now) caller heap state c.value_in-value.ensures.owns.0 calls_then in
+    let calls_then = c.array_of.ensures.owns.1 heap state last in
+    let calls = c.value_in-value.ensures.owns.1 heap state calls_then in
     let is = c.in-Ok.ensures.addition heap state calls in
     let counted = c.from-count.ensures ∙ is.is_count in
     subst (λ (plan : Plan). IsPlan caller heap state (Add c.args.src c.args.key c.args.val) plan) (sym c.growth-then-count-capacity.ensures) (
@@ -71,7 +68,7 @@ returns-then-count-capacity-clause-plan g c = λ heap state calls.
           array_class_for (addition.count + 1),
           Some c.in-Some.array,
           record {
-            is_its = c.in-Some.ensures.array heap state calls_last;
+            is_its = c.in-Some.ensures.array heap state last;
             full = is_array_full-at (state.cells addition.cell) c.from-count.result counted (subst_below (sym c.from-count.ensures) c.in-Ok.ensures.few)
                 (c.if-count-capacity.true ∙ c.capacity.ensures);
             is_class = ap (λ (count : ℕ). array_class_for (count + 1)) is.is_count;
@@ -83,16 +80,14 @@ returns-then-count-capacity-clause-plan g c = λ heap state calls.
     )
 
 pub returns-in_default-clause-plan : goal.returns-in_default-clause-plan
-returns-in_default-clause-plan g c = λ heap state calls.
+returns-in_default-clause-plan g c = λ heap state last.
     let caller = c.args.self.now in
-    let owns = g.O.OwnRegisters.owns c.args.own.now c.args.context.now in
-    let found = g.O.OwnRegisters.owns c.find_addition.new.own c.args.context.now in
     let addition = c.in-Ok.addition in
-    let calls_then = CallsIn-kept owns found caller heap state c.find_addition.ensures.owns.0 calls in
-    let calls_last = CallsIn-kept found (g.O.OwnRegisters.owns c.value_in-value.new.own c.args.context.now) caller heap state c.value_in-value.ensures.owns.0 calls_then in
+    let calls_then = c.array_of.ensures.owns.1 heap state last in
+    let calls = c.value_in-value.ensures.owns.1 heap state calls_then in
     let is = c.in-Ok.ensures.addition heap state calls in
-    let own = c.in_default.ensures.array heap state calls_last in
-    let live = claimed_is_live owns caller heap state calls addition.cell c.in-Ok.ensures.claimed in
+    let own = c.in_default.ensures.array heap state last in
+    let live = claimed_is_live _ caller heap state calls addition.cell c.in-Ok.ensures.claimed in
     subst (λ (plan : Plan). IsPlan caller heap state (Add c.args.src c.args.key c.args.val) plan) (sym c.growth.ensures) (
       c.in-Ok.ensures.granted heap state calls c.args.val,
       (
@@ -113,3 +108,19 @@ returns-in_default-clause-plan g c = λ heap state calls.
         ),
       ),
     )
+
+pub returns-then-count-capacity-clause-owns : goal.returns-then-count-capacity-clause-owns
+returns-then-count-capacity-clause-owns g c = (
+  c.array_of.ensures.owns.0,
+  (λ heap state last. c.find_addition.ensures.owns.1 heap state
+      (c.value_in-value.ensures.owns.1 heap state (c.array_of.ensures.owns.1 heap state last))),
+  c.array_of.ensures.owns.2 ∙ c.value_in-value.ensures.owns.2 ∙ c.find_addition.ensures.owns.2,
+)
+
+pub returns-clause-owns : goal.returns-clause-owns
+returns-clause-owns g c = (
+  c.array_of.ensures.owns.0,
+  (λ heap state last. c.find_addition.ensures.owns.1 heap state
+      (c.value_in-value.ensures.owns.1 heap state (c.array_of.ensures.owns.1 heap state last))),
+  c.array_of.ensures.owns.2 ∙ c.value_in-value.ensures.owns.2 ∙ c.find_addition.ensures.owns.2,
+)

@@ -2,20 +2,18 @@ use Rattle.std.proofs.Common.{refl, ◌∙◌, ap, true, false}
 use Rattle.std.specs.Prelude.{is_some, not}
 use Rattle.tide_model.specs.declared.op.Refusal.TheVariants.{Absent}
 use Rattle.tide_model.specs.Refused.{has_pair, refuse_if}
-use Rattle.tide_call.proofs.plan_laws.OwnLaws.{CallsIn-kept}
 use Rattle.tide_call.proofs.plan_laws.PairPlaces.{lacks-none, pair_slot, stands-here, stands-said}
 use Rattle.tide_call.proofs.plan_laws.RefusalLaws.{last_refusal}
 use Rattle.tide_call.proofs.caller.Caller.plan_pair_delete.Goals as goal
 
 pub returns-in-Some-clause-plan : goal.returns-in-Some-clause-plan
-returns-in-Some-clause-plan g c = λ heap state calls.
+returns-in-Some-clause-plan g c = λ heap state calls_then.
     let caller = c.args.self.now in
-    let owns = g.O.OwnRegisters.owns c.args.own.now c.args.context.now in
     let cells = c.in-Ok.cells in
     let found = c.in-Ok.ensures in
-    let calls_then = CallsIn-kept owns (g.O.OwnRegisters.owns c.pair_cells.new.own c.args.context.now) caller heap state c.pair_cells.ensures.owns.0 calls in
+    let calls = c.pairs_of-words.ensures.owns.1 heap state calls_then in
     let same = c.pairs_of-words.ensures.words heap state calls_then in
-    let said = stands-said owns caller heap state calls cells.table c.pairs_of-words.result found.within found.is_table found.claimed
+    let said = stands-said _ caller heap state calls cells.table c.pairs_of-words.result found.within found.is_table found.claimed
     (c.pairs_of-words.ensures.words heap state calls_then) cells.key c.in-Some.pair.value c.in-Some.pair.place c.in-Some.ensures.stands in (
       found.granted heap state calls (λ table key. refuse_if (not (has_pair state table key)) Absent)
           ∙ last_refusal (not (has_pair state cells.table cells.key)) false Absent (ap not (ap is_some said)),
@@ -25,11 +23,11 @@ returns-in-Some-clause-plan g c = λ heap state calls.
         c.in-Some.pair.place,
         found.table heap state calls,
         found.key heap state calls,
-        pair_slot owns caller heap state calls cells.table c.pairs_of-words.result found.within found.is_table found.claimed same
+        pair_slot _ caller heap state calls cells.table c.pairs_of-words.result found.within found.is_table found.claimed same
             c.in-Some.pair.place c.in-Some.ensures.stands.within,
         (
           c.in-Some.pair.value,
-          stands-here owns caller heap state calls cells.table c.pairs_of-words.result found.within found.is_table found.claimed same cells.key
+          stands-here _ caller heap state calls cells.table c.pairs_of-words.result found.within found.is_table found.claimed same cells.key
               c.in-Some.pair.value c.in-Some.pair.place c.in-Some.ensures.stands,
         ),
         refl,
@@ -37,13 +35,12 @@ returns-in-Some-clause-plan g c = λ heap state calls.
     )
 
 pub returns-in-None-clause-plan : goal.returns-in-None-clause-plan
-returns-in-None-clause-plan g c = λ heap state calls.
+returns-in-None-clause-plan g c = λ heap state calls_then.
     let caller = c.args.self.now in
-    let owns = g.O.OwnRegisters.owns c.args.own.now c.args.context.now in
     let cells = c.in-Ok.cells in
     let found = c.in-Ok.ensures in
-    let calls_then = CallsIn-kept owns (g.O.OwnRegisters.owns c.pair_cells.new.own c.args.context.now) caller heap state c.pair_cells.ensures.owns.0 calls in
-    let none = lacks-none owns caller heap state calls cells.table c.pairs_of-words.result found.within found.is_table found.claimed
+    let calls = c.pairs_of-words.ensures.owns.1 heap state calls_then in
+    let none = lacks-none _ caller heap state calls cells.table c.pairs_of-words.result found.within found.is_table found.claimed
     (c.pairs_of-words.ensures.words heap state calls_then) cells.key c.in-None.ensures.none in
     found.granted heap state calls (λ table key. refuse_if (not (has_pair state table key)) Absent)
     ∙ last_refusal (not (has_pair state cells.table cells.key)) true Absent (ap not (ap is_some none))

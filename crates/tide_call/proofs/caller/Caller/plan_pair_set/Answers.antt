@@ -4,48 +4,44 @@ use Rattle.tide_model.specs.declared.val.Val.{Val}
 use Rattle.tide_model.specs.declared.op.Refusal.TheVariants.{PairsFull}
 use Rattle.tide_model.specs.Refused.{has_pair, pair_count, pairs_most, refuse_if}
 use Rattle.tide_call.specs.declared.plan.Plan.TheVariants.{StorePair}
-use Rattle.tide_call.proofs.plan_laws.OwnLaws.{CallsIn-kept}
 use Rattle.tide_call.proofs.plan_laws.PairPlaces.{place-for, place-granted, place-refused, place-slot}
 use Rattle.tide_call.proofs.plan_laws.RefusalLaws.{last_refusal}
 use Rattle.tide_call.proofs.caller.Caller.plan_pair_set.Goals as goal
 
 pub returns-in_default-clause-plan : goal.returns-in_default-clause-plan
-returns-in_default-clause-plan g c = λ heap state calls.
+returns-in_default-clause-plan g c = λ heap state calls_then.
     let caller = c.args.self.now in
-    let owns = g.O.OwnRegisters.owns c.args.own.now c.args.context.now in
     let cells = c.in-Ok.cells in
     let found = c.in-Ok.ensures in
-    let calls_then = CallsIn-kept owns (g.O.OwnRegisters.owns c.pair_cells.new.own c.args.context.now) caller heap state c.pair_cells.ensures.owns.0 calls in
+    let calls = c.pairs_of-words.ensures.owns.1 heap state calls_then in
     let words = c.pairs_of-words.result in
     found.granted heap state calls (λ table key. refuse_if (not (has_pair state table key) && nat_le pairs_most (pair_count caller.layout state table)) PairsFull)
     ∙ last_refusal (not (has_pair state cells.table cells.key) && nat_le pairs_most (pair_count caller.layout state cells.table)) true PairsFull
-    (place-refused owns caller heap state calls cells.table words found.within found.is_table found.claimed
+    (place-refused _ caller heap state calls cells.table words found.within found.is_table found.claimed
     (c.pairs_of-words.ensures.words heap state calls_then) cells.key c.in_default.ensures.absent c.in_default.ensures.full)
 
 pub returns-clause-plan : goal.returns-clause-plan
-returns-clause-plan g c = λ heap state calls.
+returns-clause-plan g c = λ heap state last.
     let caller = c.args.self.now in
-    let owns = g.O.OwnRegisters.owns c.args.own.now c.args.context.now in
     let cells = c.in-Ok.cells in
     let found = c.in-Ok.ensures in
-    let held = g.O.OwnRegisters.owns c.pair_cells.new.own c.args.context.now in
-    let calls_then = CallsIn-kept owns held caller heap state c.pair_cells.ensures.owns.0 calls in
-    let calls_last = CallsIn-kept held (g.O.OwnRegisters.owns c.pairs_of-words.new.own c.args.context.now) caller heap state c.pairs_of-words.ensures.owns.0 calls_then in
+    let calls_then = c.value_in.ensures.owns.1 heap state last in
+    let calls = c.pairs_of-words.ensures.owns.1 heap state calls_then in
     let words = c.pairs_of-words.result in
     let same = c.pairs_of-words.ensures.words heap state calls_then in
     let place = c.in-Some.place in
     let is = c.in-Some.ensures.place in (
       found.granted heap state calls (λ table key. refuse_if (not (has_pair state table key) && nat_le pairs_most (pair_count caller.layout state table)) PairsFull)
           ∙ last_refusal (not (has_pair state cells.table cells.key) && nat_le pairs_most (pair_count caller.layout state cells.table)) false PairsFull
-          (place-granted owns caller heap state calls cells.table words found.within found.is_table found.claimed same cells.key place is),
+          (place-granted _ caller heap state calls cells.table words found.within found.is_table found.claimed same cells.key place is),
       (
         cells.table,
         cells.key,
         place,
         found.table heap state calls,
         found.key heap state calls,
-        place-slot owns caller heap state calls cells.table words found.within found.is_table found.claimed same cells.key place is,
-        place-for owns caller heap state calls cells.table words found.within found.is_table found.claimed same cells.key place is,
-        ap (λ (value : Val). StorePair cells.table place cells.key value) (sym (c.value_in.ensures.value heap state calls_last)),
+        place-slot _ caller heap state calls cells.table words found.within found.is_table found.claimed same cells.key place is,
+        place-for _ caller heap state calls cells.table words found.within found.is_table found.claimed same cells.key place is,
+        ap (λ (value : Val). StorePair cells.table place cells.key value) (sym (c.value_in.ensures.value heap state last)),
       ),
     )

@@ -22,7 +22,6 @@ returns-clause-stands c =
           parked = e.parked.keeps who _ _ by.parked;
           no_ticket = by.no_ticket;
           no_note = by.no_note;
-          takes = by.takes;
         };
       };
       no_calls = stands.no_calls;

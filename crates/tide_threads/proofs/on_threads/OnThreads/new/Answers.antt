@@ -64,7 +64,6 @@ returns-clause-stands c =
           (length-map c.args.scripts.items (λ ops. ops.items) ∙ c.requires.mutators
           ∙ ap (λ (l : Layout). l.mutators) (sym made.0))
           (subst (λ (l : List Caller). AreNew l scripts) (sym c.in_ok-participants.ensures.callers) c.in_ok-callers.ensures)
-          c.requires.called
           (c.in_ok-participants.ensures.fresh start.heap.table.shared.table_id c.in_ok-heap.ensures.mutators.1);
       no_calls = c.in_ok-calls.ensures;
     }

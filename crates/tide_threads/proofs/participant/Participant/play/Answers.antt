@@ -17,12 +17,12 @@ returns-clause-made g c =
     let x = c.args.self.now in
     let v = view_of x.mutator in
     let u0 = view_of c.begin.new.mutator in
-    let u1 = view_of c.run_own_share.new.maker.mutator.now in
+    let u1 = view_of c.make_share.new.mutator in
     let w = view_of c.stop-note.new.self in
-    let y = c.run_own_share.new.caller in
+    let y = c.make_share.new.caller in
     let ended = c.in_ok-ended.ended in
     let setting : Setting = record { layout = c.args.heap.now.key.layout; shapes = lists_of c.args.heap.now.key.shapes } in
-    let rest = c.run_own_share.ensures.rest in
+    let rest = c.make_share.ensures.same in
     let table = ap (λ (s : Same). s.table_id) rest ∙ c.begin.ensures.own ∙ ready.table in
     record {
       table = c.stop-note.ensures.same.0 ∙ table;
@@ -30,7 +30,7 @@ returns-clause-made g c =
       is_out = refl;
       of_heap = c.stop-note.ensures.note.0 ∙ table;
       played = HasPlayed-stopped t v u0 u1 w c.stop-note.result.seat.me.0 x.caller.who y.retired c.begin.ensures.begun
-          (ap (λ (s : Same). s.kept) rest) ready.number c.in_ok-ended.ensures.stands.stays c.stop-note.ensures.stopped
+          (ap (λ (s : Same). s.kept) rest) ready.number c.in_ok-ended.ensures.works.stays c.stop-note.ensures.stopped
           c.stop-note.ensures.note.1;
       seen = u0.seen;
       ran = subst (λ (z : View). RanOwnShare setting t.run u0.seen z.seen v.mine z.mine x.caller y ended) (sym c.stop-note.ensures.stopped)

@@ -1,0 +1,91 @@
+//! Acting on a plan: its steps, in their order, and the reply. It decides nothing.
+ghost use Rattle.std.specs.Prelude.{◌≡◌, ◌+◌, ◌%◌, ◌^◌, ◌<◌, length, true, ℕ};
+ghost use Rattle.tide_call.specs.Plans.{is_told_by_registers};
+ghost use Rattle.tide_call.specs.declared.plan.Plan.TheVariants.{Take};
+ghost use Rattle.tide_acting.specs.Calling.{IsCalling};
+ghost use Rattle.tide_acting.specs.Made.{HasDone};
+ghost use Rattle.tide_acting.specs.Plans.{is_acted, is_plain};
+ghost use Rattle.tide_acting.specs.Standing.{IsPlanned};
+ghost use Rattle.tide_word_store.specs.Needed.{FitsPlan};
+ghost use Rattle.tide_words.specs.heap.Heap.{Heap as TheWords};
+
+use crate::births::take;
+use crate::claiming::{claim, release};
+use crate::groups::join;
+use crate::handles::{get_strong, get_weak, put_strong, put_weak};
+use crate::leaving::leave;
+use crate::pairs::{drop_pair, get_pair, put_pair};
+use crate::properties::{append, get_property, put_property};
+use crate::registers::{ask, fill, refuse};
+use crate::slots::{get, put};
+use tide_call::Plan;
+use tide_model::{Op, Reply, Turnstile};
+use tide_steps::{Heap, HeapShapes, Pass};
+
+/// Acts on the plan of a call, whose number its call word tells then.
+pub fn act<S: HeapShapes, T: Turnstile>(
+    pass: &mut Pass,
+    heap: &Heap<S>,
+    gate: &T,
+    op: Op,
+    calls: u64,
+    plan: Plan,
+) -> Reply
+    requires own { pass.old.seat.table_id ≡ heap.now.table.shared.table_id }
+    requires calling { IsCalling heap.now.key.layout pass.old.seat.me.0 op }
+    requires told { is_plain plan ≡ true → is_told_by_registers op ≡ true }
+    requires acted { is_acted plan ≡ true }
+    requires counts { calls ≡ (length pass.old.seat.me.0.mine + 1) % 2 ^ 64 }
+    requires planned { IsPlanned heap.now.key.layout (S.lists heap.now.key.shapes) pass.old.seat.me.0 op plan }
+    requires fits { (words : TheWords) × FitsPlan heap.now.key.layout words plan }
+    requires few { (dst class : ℕ) → plan ≡ Take dst class → pass.old.seat.me.0.born + 1 < 2 ^ 32 }
+    ensures same { (pass.new.seat.table_id ≡ pass.old.seat.table_id) × (pass.new.seat.id ≡ pass.old.seat.id) }
+    ensures done { HasDone heap.now.key.layout (S.lists heap.now.key.shapes) op plan result
+        pass.old.seat.me.0 pass.new.seat.me.0 }
+{
+    match plan {
+        Plan::Refuse { refusal } => refuse(pass, heap, op, calls, refusal),
+        Plan::Take { dst, class } => take(pass, heap, op, calls, dst, class),
+        Plan::LoadSlot { dst, cell, slot } => get(pass, heap, op, calls, dst, cell, slot),
+        Plan::StoreSlot { cell, slot, value } => put(
+            pass, heap, gate, op, calls, cell, slot, value,
+        ),
+        Plan::Fill { dst, value } => fill(pass, heap, op, calls, dst, value),
+        Plan::Claim { cell, full } => claim(pass, heap, op, calls, cell, full),
+        Plan::Release { cell } => release(pass, heap, op, calls, cell),
+        Plan::StoreStrong { at, value } => put_strong(pass, heap, op, calls, at, value),
+        Plan::LoadStrong { dst, at } => get_strong(pass, heap, op, calls, dst, at),
+        Plan::StoreWeak { at, value } => put_weak(pass, heap, op, calls, at, value),
+        Plan::LoadWeak { dst, at } => get_weak(pass, heap, op, calls, dst, at),
+        Plan::LoadElement { dst, array, place } => {
+            get_property(pass, heap, op, calls, dst, array, place)
+        }
+        Plan::StoreElement {
+            cell,
+            array,
+            place,
+            value,
+        } => put_property(pass, heap, gate, op, calls, cell, array, place, value),
+        Plan::Append {
+            addition,
+            array,
+            value,
+        } => append(pass, heap, gate, op, calls, addition, array, value),
+        Plan::StorePair {
+            table,
+            place,
+            key,
+            value,
+        } => put_pair(pass, heap, op, calls, table, place, key, value),
+        Plan::ClearPair { table, place } => drop_pair(pass, heap, op, calls, table, place),
+        Plan::Show {
+            dst,
+            table,
+            place,
+            value,
+        } => get_pair(pass, heap, op, calls, dst, table, place, value),
+        Plan::Join { cell, group } => join(pass, heap, op, calls, cell, group),
+        Plan::Retire => leave(pass, heap, op, calls),
+        _ => ask(pass, heap, op, calls),
+    }
+}

@@ -1,0 +1,8 @@
+pub mod Acted
+pub mod Calls
+pub mod FullClass
+pub mod Grown
+pub mod Plans
+pub mod Reading
+pub mod Replacing
+pub mod Taking
