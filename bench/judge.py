@@ -13,7 +13,8 @@ some way through the freezes, in which all of this holds:
 - what it kept and freed adds up, and so do the live cells at the end;
 - it begins where the schedule says, and ends at the latest where the schedule says.
 
-Where there is no such way, the workload is kept in a temporary file, and the status is 1. The store is that of model.py,
+Several mutators run on threads: where no way fits with their calls one after another, judge_threads.py judges the text,
+whatever their order. Where there is no such way, the workload is kept in a temporary file, and the status is 1. The store is that of model.py,
 written from docs/WORKLOAD.md alone.
 """
 import copy
@@ -234,6 +235,16 @@ def drawn(seed):
     return work, document
 
 
+def judged(work, document, text):
+    """What is judged of the text, whose calls came in any order of several mutators' where they ran on threads."""
+    said = accepts(work, text)
+    if said or len(work["mutators"]) == 1:
+        return said
+    import judge_threads
+
+    return judge_threads.accepts(judge_threads.read_workload(document), text)
+
+
 def main():
     program, first, count = sys.argv[1], *[int(word) for word in (sys.argv[2:] + ["0", "200"][len(sys.argv) - 2:])[:2]]
     cycles = undecided = 0
@@ -241,7 +252,7 @@ def main():
         work, document = drawn(seed)
         ended = subprocess.run([program], input=document.encode(), capture_output=True)
         text = ended.stdout.decode()
-        said = accepts(work, text) if ended.returncode == 0 else False
+        said = judged(work, document, text) if ended.returncode == 0 else False
         if said is None:
             undecided += 1
         elif not said:

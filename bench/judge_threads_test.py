@@ -195,7 +195,7 @@ def changed(text, draw):
 def tiny(seed):
     """A short workload in which mutators meet often, and its document."""
     draw = random.Random(f"tiny {seed}")
-    work, _ = judge_threads.drawn(seed, judge_threads.ALL)
+    work, _ = judge_threads.mixed(seed)
     work["mutators"] = [ops[:draw.choice([3, 5, 8])] for ops in work["mutators"][:draw.choice([2, 2, 3])]]
     for ops in work["mutators"]:
         ops[:0] = [("alloc", 0, draw.choice([0, 1])), ("strong", 0, 0), ("sget", 0, 0), ("claim", 0)][:draw.randint(0, 4)]
@@ -301,7 +301,7 @@ def made_up(seeds):
     """Judges texts of runs that are made up."""
     spent, calls, undecided = [], 0, 0
     for seed in seeds:
-        work, document = judge_threads.drawn(seed, judge_threads.HEAP if seed % 2 else judge_threads.ALL)
+        work, document = judge_threads.mixed(seed)
         text = Made(work, random.Random(f"made {seed}")).text()
         begun = time.process_time()
         said = judge_threads.accepts(work, text)

@@ -1,0 +1,138 @@
+"""Runs on threads: riptide beside the unproved twin of twin.rs, from the program's start to its end.
+
+    python3 bench/twin/threads.py [PROGRAM [TIMES]]
+
+PROGRAM is crates/riptide/out/riptide where it isn't given; `cd crates/riptide && rt run < stdin` builds it. The twin is
+built by rustc into a folder of its own. It starts threads for each part as PROGRAM does, or runs its mutators in turns.
+The two are run TIMES times (21) on each workload, in turn, and medians count: of the seconds by the clock, of those of
+the processor, user and system, and of the ratios of two runs that stood side by side. A ratio holds within one run of
+this script alone; where other work runs beside, the clock tells of that work too.
+
+- `--make 7` is the generated workload: four mutators, 80,004 calls, 16,000 cells.
+- `four` is the same as a file, whose text is printed, and `one` is the first of its mutators alone.
+- N mutators make 65,536 calls without any cell, in parts of 4 for each. What a part costs is what such a run takes longer
+  than one of the same calls in a single part, by the number of parts more.
+
+It ends with 1 where a summary or, of one mutator, a text differs from the twin's.
+"""
+import os
+import statistics
+import subprocess
+import sys
+import tempfile
+import time
+
+HERE = os.path.dirname(os.path.abspath(__file__))
+HEAD = """registers = 10
+strong = 256
+blocks = [64, 64, 64, 64, 0]
+period = %d
+headroom = 4000
+trigger = %d
+"""
+
+
+def rounds(number, mutator, count=4000):
+    """The operations of a mutator of the generated workload, as crates/tide_make says."""
+    ops, seed = [], number + mutator
+    for i in range(count):
+        seed = (seed * 6364136223846793005 + 1442695040888963407) % 2**64
+        place = i % 50
+        back = (seed >> 33) % (min(place, 6) + 1)
+        new, linked = 1 + i % 7, 1 + (i - back) % 7
+        ops += [f"alloc r{new} {mutator}", f"put r{new} 0 r{9 if place == 0 else 0}", f"move r0 r{new}", f"put r0 1 r{linked}"]
+        ops.append(f"strong {64 * mutator + i // 50 % 64} r0" if place == 49 else "get r8 r0 0")
+    return ops
+
+
+def write(path, period, trigger, scripts):
+    with open(path, "w") as file:
+        file.write(HEAD % (period, trigger))
+        for ops in scripts:
+            file.write("\n[[mutator]]\nops = [\n")
+            file.writelines('  "%s",\n' % op for op in ops)
+            file.write("]\n")
+
+
+def run(command, path):
+    """The seconds of one run, by the clock and of the processor."""
+    with open(path) as source, open(os.devnull, "w") as sink:
+        began = time.perf_counter()
+        process = subprocess.Popen(command, stdin=source, stdout=sink, stderr=subprocess.DEVNULL)
+        _, status, used = os.wait4(process.pid, 0)
+        process.returncode = status
+        if status:
+            sys.exit(f"{command} ended with {status} on {path}")
+        return time.perf_counter() - began, used.ru_utime + used.ru_stime
+
+
+def beside(commands, path, times):
+    """What each command takes, run in turn: lists of (clock, processor)."""
+    return list(zip(*[[run(command, path) for command in commands] for _ in range(times)]))
+
+
+def median(values):
+    return statistics.median(values)
+
+
+def row(name, mine, others):
+    cells = [name]
+    for at in (0, 1):
+        cells += ["%.1f" % (1000 * median(one[at] for one in mine)), "%.1f" % (1000 * median(one[at] for one in others)),
+                  "%.2f" % median(one[at] / other[at] for one, other in zip(mine, others))]
+    print("| " + " | ".join(cells) + " |", flush=True)
+
+
+def said(command, path):
+    """What a command prints."""
+    with open(path) as source:
+        return subprocess.run(command, stdin=source, capture_output=True).stdout
+
+
+def built(room):
+    """The twin, built."""
+    twin, source = os.path.join(room, "twin"), os.path.join(HERE, "twin.rs")
+    subprocess.run(["rustc", "--edition", "2021", "-O", "-o", twin, source], check=True)
+    return twin
+
+
+def hand_over(program, twin, room, count, times):
+    """Prints what a part of so many mutators costs."""
+    cells, parts = [], 16384 // count
+    paths = [os.path.join(room, f"{period}.toml") for period in (4, 65536)]
+    for path, period in zip(paths, (4, 65536)):
+        write(path, period, 0, [["move r0 r1"] * (65536 // count)] * count)
+    many, few = [beside([[program], [twin]], path, times) for path in paths]
+    for at in (0, 1):
+        for one, other in zip(many, few):
+            cells.append("%.1f" % (1e6 * (median(run[at] for run in one) - median(run[at] for run in other)) / parts))
+    print(f"| {count} | " + " | ".join(cells) + " |", flush=True)
+
+
+def main():
+    out = os.path.join(HERE, "..", "..", "crates", "riptide", "out", "riptide")
+    program = sys.argv[1] if len(sys.argv) > 1 else out
+    times = int(sys.argv[2]) if len(sys.argv) > 2 else 21
+    differing = 0
+    with tempfile.TemporaryDirectory() as room:
+        twin, path = built(room), os.path.join(room, "workload.toml")
+        print("| Workload | Twin on | Clock, ms | Twin | Ratio | Processor, ms | Twin | Ratio |")
+        print("|---|---|---|---|---|---|---|---|")
+        for words in ([], ["--turns"]):
+            commands = [[program, "--make", "7"], [twin, *words, "--make", "7"]]
+            row("`--make 7` | " + ("turns" if words else "threads"), *beside(commands, os.devnull, times))
+            differing |= said(commands[0], os.devnull) != said(commands[1], os.devnull)
+        for name, count, words in (("four", 4, []), ("one", 1, []), ("one", 1, ["--turns"])):
+            write(path, 64, 1000, [rounds(7, mutator) for mutator in range(count)])
+            row(f"{name} | " + ("turns" if words else "threads"), *beside([[program], [twin, *words]], path, times))
+            differing |= count == 1 and said([program], path) != said([twin], path)
+        print()
+        print("| Mutators | A part by the clock, microseconds | Twin | Of the processor | Twin |")
+        print("|---|---|---|---|---|")
+        for count in (1, 4, 16):
+            hand_over(program, twin, room, count, max(3, times // 3))
+    return int(differing)
+
+
+if __name__ == "__main__":
+    sys.exit(main())
