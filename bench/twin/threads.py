@@ -10,6 +10,8 @@ this script alone; where other work runs beside, the clock tells of that work to
 
 - `--make 7` is the generated workload: four mutators, 80,004 calls, 16,000 cells.
 - `four` is the same as a file, whose text is printed, and `one` is the first of its mutators alone.
+- What `one` takes but for its reading is what it takes longer than reading the file alone: PROGRAM reads all of a file whose
+  last operation is none, and refuses it, and the twin ends there with `--read`.
 - N mutators make 65,536 calls without any cell, in parts of 4 for each. What a part costs is what such a run takes longer
   than one of the same calls in a single part, by the number of parts more.
 
@@ -54,14 +56,14 @@ def write(path, period, trigger, scripts):
             file.write("]\n")
 
 
-def run(command, path):
-    """The seconds of one run, by the clock and of the processor."""
+def run(command, path, ends=0):
+    """The seconds of one run that ends with this status, by the clock and of the processor."""
     with open(path) as source, open(os.devnull, "w") as sink:
         began = time.perf_counter()
         process = subprocess.Popen(command, stdin=source, stdout=sink, stderr=subprocess.DEVNULL)
         _, status, used = os.wait4(process.pid, 0)
         process.returncode = status
-        if status:
+        if os.waitstatus_to_exitcode(status) != ends:
             sys.exit(f"{command} ended with {status} on {path}")
         return time.perf_counter() - began, used.ru_utime + used.ru_stime
 
@@ -96,6 +98,20 @@ def built(room):
     return twin
 
 
+def but_for_reading(program, twin, path, times):
+    """Prints what the first mutator of the generated workload takes but for the reading of its file."""
+    mine, others = beside([[program], [twin, "--turns"]], path, times)
+    read = [run([twin, "--read"], path) for _ in range(times)]
+    write(path, 64, 1000, [rounds(7, 0) + ["none"]])
+    refused = [run([program], path, ends=3) for _ in range(times)]
+    cells = []
+    for at in (0, 1):
+        one, other = (1000 * (median(run[at] for run in all_) - median(run[at] for run in alone))
+                      for all_, alone in ((mine, refused), (others, read)))
+        cells += ["%.1f" % one, "%.1f" % other, "%.2f" % (one / other)]
+    print("| one, but for its reading | turns | " + " | ".join(cells) + " |", flush=True)
+
+
 def hand_over(program, twin, room, count, times):
     """Prints what a part of so many mutators costs."""
     cells, parts = [], 16384 // count
@@ -126,6 +142,7 @@ def main():
             write(path, 64, 1000, [rounds(7, mutator) for mutator in range(count)])
             row(f"{name} | " + ("turns" if words else "threads"), *beside([[program], [twin, *words]], path, times))
             differing |= count == 1 and said([program], path) != said([twin], path)
+        but_for_reading(program, twin, path, times)
         print()
         print("| Mutators | A part by the clock, microseconds | Twin | Of the processor | Twin |")
         print("|---|---|---|---|---|")
