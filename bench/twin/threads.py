@@ -12,6 +12,8 @@ this script alone; where other work runs beside, the clock tells of that work to
 - `four` is the same as a file, whose text is printed, and `one` is the first of its mutators alone.
 - What `one` takes but for its reading is what it takes longer than reading the file alone: PROGRAM reads all of a file whose
   last operation is none, and refuses it, and the twin ends there with `--read`.
+- `properties` and `ephemerons` are of four mutators, 65,536 calls in all: each gives cells of its own two properties, writes
+  one and reads one, or makes tables, gives each a pair whose key its register keeps, and reads it.
 - N mutators make 65,536 calls without any cell, in parts of 4 for each. What a part costs is what such a run takes longer
   than one of the same calls in a single part, by the number of parts more.
 
@@ -27,7 +29,9 @@ import time
 HERE = os.path.dirname(os.path.abspath(__file__))
 HEAD = """registers = 10
 strong = 256
-blocks = [64, 64, 64, 64, 0]
+blocks = [64, 64, 64, 64, %d]
+arrays = [%d, 0, 0, 0, 0]
+shapes = ["a b"]
 period = %d
 headroom = 4000
 trigger = %d
@@ -47,9 +51,19 @@ def rounds(number, mutator, count=4000):
     return ops
 
 
-def write(path, period, trigger, scripts):
+PROPERTIES = "alloc r0 {0}|claim r0|add r0 a r1|add r0 b r0|setp r0 a r0|getp r2 r0 b|release r0|drop r0"
+EPHEMERONS = "table r0|alloc r1 {0}|claim r0|pair r0 r1 r1|pget r2 r0 r1|release r0|drop r0|drop r2"
+
+
+def in_a_ring(operations, mutator):
+    """The operations of a mutator again and again: 16,384 calls of them."""
+    ops = operations.format(mutator).split("|")
+    return [ops[i % len(ops)] for i in range(16384)]
+
+
+def write(path, period, trigger, scripts, tables=0, arrays=0):
     with open(path, "w") as file:
-        file.write(HEAD % (period, trigger))
+        file.write(HEAD % (tables, arrays, period, trigger))
         for ops in scripts:
             file.write("\n[[mutator]]\nops = [\n")
             file.writelines('  "%s",\n' % op for op in ops)
@@ -143,6 +157,9 @@ def main():
             row(f"{name} | " + ("turns" if words else "threads"), *beside([[program], [twin, *words]], path, times))
             differing |= count == 1 and said([program], path) != said([twin], path)
         but_for_reading(program, twin, path, times)
+        for name, operations in (("properties", PROPERTIES), ("ephemerons", EPHEMERONS)):
+            write(path, 64, 1000, [in_a_ring(operations, mutator) for mutator in range(4)], 64, 64)
+            row(f"{name} | threads", *beside([[program], [twin]], path, times))
         print()
         print("| Mutators | A part by the clock, microseconds | Twin | Of the processor | Twin |")
         print("|---|---|---|---|---|")
