@@ -8,6 +8,7 @@ mod reference;
 mod structure;
 mod value_word;
 
+pub(crate) use colour_form::colour_cycle;
 pub use colour_form::{colour, colour_word, is_marked_in};
 pub use colours::Colour;
 pub use pairs::{MAX_CELLS, pair_word, word_pair};

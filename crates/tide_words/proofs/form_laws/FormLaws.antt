@@ -8,7 +8,7 @@ use Rattle.tide_model.specs.State.{idle, marking}
 use Rattle.tide_words.specs.declared.forms.colours.Colour.{Colour}
 use Rattle.tide_words.specs.declared.forms.colours.Colour.TheVariants.{Black, White, Grey}
 use Rattle.tide_words.specs.declared.forms.structure.Structure.{Structure}
-use Rattle.tide_words.specs.forms.ColourWord.{colour_state, colour_word, colour_of, is_marked_in, phase_word, phase_of, cycle_of}
+use Rattle.tide_words.specs.forms.ColourWord.{colour_state, colour_word, colour_cycle, colour_of, is_marked_in, phase_word, phase_of, cycle_of}
 use Rattle.tide_words.specs.forms.PairWord.{pair_word, max_cells, IsPairWord}
 use Rattle.tide_words.specs.forms.Reference.{optional_word, optional_of}
 use Rattle.tide_words.specs.forms.StructureWord.{structure_word, IsStructureWord}
@@ -106,6 +106,12 @@ same_from_colour_word c d White Grey e = absurd (omega arith)
 same_from_colour_word c d Grey Black e = absurd (omega arith)
 same_from_colour_word c d Grey White e = absurd (omega arith)
 same_from_colour_word c d Grey Grey e = (omega arith, refl)
+
+-- a colour's word names the cycle in which its cell got it
+pub colour_cycle-of : (cycle : ℕ) (colour : Colour) → colour_cycle (colour_word cycle colour) ≡ cycle
+colour_cycle-of cycle Black = omega arith
+colour_cycle-of cycle White = omega arith
+colour_cycle-of cycle Grey = omega arith
 
 -- a colour of the running cycle reads as itself
 pub colour_of-same : (cycle : ℕ) (colour : Colour) → colour_of (colour_word cycle colour) cycle ≡ colour
