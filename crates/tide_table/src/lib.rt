@@ -14,6 +14,7 @@ mod ledger;
 mod plays;
 mod start;
 mod visiting;
+mod zeros;
 
 pub use closed::Closed;
 pub use collector::{Collector, PeriodsSpent};

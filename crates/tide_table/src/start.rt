@@ -5,6 +5,7 @@ ghost use Rattle.tide_heap.specs.Parties.{IsParty};
 ghost use Rattle.tide_table.specs.Started.{ArePasses, HasFilled, IsStarted, is_but_next};
 
 use crate::collector::Collector;
+use crate::zeros::{zeros, zeros_besides};
 use atomic_table::Table;
 use std::alloc::{AllocError, Global};
 use tide_model::Memory;
@@ -36,11 +37,12 @@ impl<S: ShapeTable + Drop> Start<S> {
     {
         let mutators = u32::from(layout.mutators());
         let visitors = u32::from(layout.visitors());
-        let Ok(words) = vec![in alloc; 0; layout.words()] else {
+        let count = layout.words();
+        let Ok(others) = vec![in alloc; 0; zeros_besides(count)] else {
             return Err(Memory);
         };
         let key = Key { layout, shapes };
-        let Ok((table, seat)) = Table::of_words(alloc, words.as_slice(), &key) else {
+        let Ok((table, seat)) = Table::of_words(alloc, zeros(others.as_slice(), count), &key) else {
             return Err(Memory);
         };
         let heap = Heap { table, key };

@@ -1,4 +1,5 @@
 pub mod KeyLemmas
+pub mod NameLemmas
 pub mod NumeralLemmas
 pub mod OperationLemmas
 pub mod SeenLemmas

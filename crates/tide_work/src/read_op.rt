@@ -23,77 +23,90 @@ pub fn op_of(text: &[u8], limits: &OpLimits<'_>) -> Option<Op>
 fn op_named(name: &[u8], arguments: &[u8], limits: &OpLimits<'_>) -> Option<Op>
     ensures { result ≡ op_named limits.now name.now (words_in arguments.now) }
 {
-    if name == "alloc".as_bytes() {
-        let (dst, class) = limits.register_and_class(arguments)?;
-        Some(Op::Alloc { dst, class })
-    } else if name == "get".as_bytes() {
-        let (dst, src, slot) = limits.two_registers_and_slot(arguments)?;
-        Some(Op::Get { dst, src, slot })
-    } else if name == "put".as_bytes() {
-        let (src, slot, val) = limits.slot_between_registers(arguments)?;
-        Some(Op::Put { src, slot, val })
-    } else if name == "move".as_bytes() {
-        let (dst, src) = limits.two_registers(arguments)?;
-        Some(Op::Move { dst, src })
-    } else if name == "set".as_bytes() {
-        let (dst, n) = limits.register_and_number(arguments)?;
-        Some(Op::Set { dst, n })
-    } else if name == "drop".as_bytes() {
-        let dst = limits.one_register(arguments)?;
-        Some(Op::Drop { dst })
-    } else if name == "collect".as_bytes() {
-        alone(Op::Collect, arguments)
-    } else {
-        property_op_named(name, arguments, limits)
+    match name {
+        b"alloc" => {
+            let (dst, class) = limits.register_and_class(arguments)?;
+            Some(Op::Alloc { dst, class })
+        }
+        b"get" => {
+            let (dst, src, slot) = limits.two_registers_and_slot(arguments)?;
+            Some(Op::Get { dst, src, slot })
+        }
+        b"put" => {
+            let (src, slot, val) = limits.slot_between_registers(arguments)?;
+            Some(Op::Put { src, slot, val })
+        }
+        b"move" => {
+            let (dst, src) = limits.two_registers(arguments)?;
+            Some(Op::Move { dst, src })
+        }
+        b"set" => {
+            let (dst, n) = limits.register_and_number(arguments)?;
+            Some(Op::Set { dst, n })
+        }
+        b"drop" => {
+            let dst = limits.one_register(arguments)?;
+            Some(Op::Drop { dst })
+        }
+        b"collect" => alone(Op::Collect, arguments),
+        _ => property_op_named(name, arguments, limits),
     }
 }
 
 /// The operation on claims or properties of this name, or one on handles, tables or groups.
-#[tactic(auto, unfolding(crate::specs::ReadOp::property_op_named))]
+#[tactic(auto, using(crate::proofs::NameLemmas::name_read), unfolding(crate::specs::ReadOp::property_op_named))]
 fn property_op_named(name: &[u8], arguments: &[u8], limits: &OpLimits<'_>) -> Option<Op>
     ensures { result ≡ property_op_named limits.now name.now (words_in arguments.now) }
 {
-    if name == "claim".as_bytes() {
-        let src = limits.one_register(arguments)?;
-        Some(Op::Claim { src })
-    } else if name == "release".as_bytes() {
-        let src = limits.one_register(arguments)?;
-        Some(Op::Release { src })
-    } else if name == "unclaim".as_bytes() {
-        alone(Op::Unclaim, arguments)
-    } else if name == "add".as_bytes() {
-        let (src, key, val) = limits.key_between_registers(arguments)?;
-        Some(Op::Add { src, key, val })
-    } else if name == "getp".as_bytes() {
-        let (dst, src, key) = limits.two_registers_and_key(arguments)?;
-        Some(Op::GetProp { dst, src, key })
-    } else if name == "setp".as_bytes() {
-        let (src, key, val) = limits.key_between_registers(arguments)?;
-        Some(Op::SetProp { src, key, val })
-    } else {
-        handle_op_named(name, arguments, limits)
+    match name {
+        b"claim" => {
+            let src = limits.one_register(arguments)?;
+            Some(Op::Claim { src })
+        }
+        b"release" => {
+            let src = limits.one_register(arguments)?;
+            Some(Op::Release { src })
+        }
+        b"unclaim" => alone(Op::Unclaim, arguments),
+        b"add" => {
+            let (src, key, val) = limits.key_between_registers(arguments)?;
+            Some(Op::Add { src, key, val })
+        }
+        b"getp" => {
+            let (dst, src, key) = limits.two_registers_and_key(arguments)?;
+            Some(Op::GetProp { dst, src, key })
+        }
+        b"setp" => {
+            let (src, key, val) = limits.key_between_registers(arguments)?;
+            Some(Op::SetProp { src, key, val })
+        }
+        _ => handle_op_named(name, arguments, limits),
     }
 }
 
 /// The operation on handles of this name, or one on tables or groups.
-#[tactic(auto, unfolding(crate::specs::ReadOp::handle_op_named))]
+#[tactic(auto, using(crate::proofs::NameLemmas::name_read), unfolding(crate::specs::ReadOp::handle_op_named))]
 fn handle_op_named(name: &[u8], arguments: &[u8], limits: &OpLimits<'_>) -> Option<Op>
     ensures { result ≡ handle_op_named limits.now name.now (words_in arguments.now) }
 {
-    if name == "strong".as_bytes() {
-        let (at, val) = limits.strong_and_register(arguments)?;
-        Some(Op::StrongSet { at, val })
-    } else if name == "sget".as_bytes() {
-        let (dst, at) = limits.register_and_strong(arguments)?;
-        Some(Op::StrongGet { dst, at })
-    } else if name == "weak".as_bytes() {
-        let (at, val) = limits.weak_and_register(arguments)?;
-        Some(Op::WeakSet { at, val })
-    } else if name == "wget".as_bytes() {
-        let (dst, at) = limits.register_and_weak(arguments)?;
-        Some(Op::WeakGet { dst, at })
-    } else {
-        pair_op_named(name, arguments, limits)
+    match name {
+        b"strong" => {
+            let (at, val) = limits.strong_and_register(arguments)?;
+            Some(Op::StrongSet { at, val })
+        }
+        b"sget" => {
+            let (dst, at) = limits.register_and_strong(arguments)?;
+            Some(Op::StrongGet { dst, at })
+        }
+        b"weak" => {
+            let (at, val) = limits.weak_and_register(arguments)?;
+            Some(Op::WeakSet { at, val })
+        }
+        b"wget" => {
+            let (dst, at) = limits.register_and_weak(arguments)?;
+            Some(Op::WeakGet { dst, at })
+        }
+        _ => pair_op_named(name, arguments, limits),
     }
 }
 
@@ -102,23 +115,28 @@ fn handle_op_named(name: &[u8], arguments: &[u8], limits: &OpLimits<'_>) -> Opti
 fn pair_op_named(name: &[u8], arguments: &[u8], limits: &OpLimits<'_>) -> Option<Op>
     ensures { result ≡ pair_op_named limits.now name.now (words_in arguments.now) }
 {
-    if name == "table".as_bytes() {
-        let dst = limits.one_register(arguments)?;
-        Some(Op::Table { dst })
-    } else if name == "pair".as_bytes() {
-        let (src, key, val) = limits.three_registers(arguments)?;
-        Some(Op::PairSet { src, key, val })
-    } else if name == "pget".as_bytes() {
-        let (dst, src, key) = limits.three_registers(arguments)?;
-        Some(Op::PairGet { dst, src, key })
-    } else if name == "pdel".as_bytes() {
-        let (src, key) = limits.two_registers(arguments)?;
-        Some(Op::PairDel { src, key })
-    } else if name == "group".as_bytes() {
-        let (src, n) = limits.register_and_number(arguments)?;
-        Some(Op::Group { src, n })
-    } else {
-        None
+    match name {
+        b"table" => {
+            let dst = limits.one_register(arguments)?;
+            Some(Op::Table { dst })
+        }
+        b"pair" => {
+            let (src, key, val) = limits.three_registers(arguments)?;
+            Some(Op::PairSet { src, key, val })
+        }
+        b"pget" => {
+            let (dst, src, key) = limits.three_registers(arguments)?;
+            Some(Op::PairGet { dst, src, key })
+        }
+        b"pdel" => {
+            let (src, key) = limits.two_registers(arguments)?;
+            Some(Op::PairDel { src, key })
+        }
+        b"group" => {
+            let (src, n) = limits.register_and_number(arguments)?;
+            Some(Op::Group { src, n })
+        }
+        _ => None,
     }
 }
 

@@ -11,9 +11,16 @@ use Rattle.tide_table.proofs.start.Start.new.Goals as goal
 
 pub of_words-requires : goal.of_words-requires
 of_words-requires g c =
-    opens_at c.args.layout (g.S.ShapeTable.lists c.args.shapes) c.as_slice.result.now c.mutators.ensures.limits
+    opens_at c.args.layout (g.S.ShapeTable.lists c.args.shapes) c.zeros.result.now c.mutators.ensures.limits
     ((g.met.S.ShapeTable g.world.𝓛 g.world.𝓜 g.world.𝓡 (λ s a. a, λ a. a, λ a. a, λ a. a)).is_table c.args.shapes).empty
-    (c.as_slice.ensures.value ∙ c.in-Ok.ensures.items_if_clones_equal (λ y e. e) ∙ ap (λ (n : ℕ). replicate n 0) c.words.ensures.words)
+    (c.zeros.ensures.zeros ∙ ap (λ (n : ℕ). replicate n 0) c.words-count.ensures.words)
+
+pub zeros-requires : goal.zeros-requires
+zeros-requires g c = record {
+  enough = λ many.
+      c.as_slice.ensures.value ∙ c.in-Ok.ensures.items_if_clones_equal (λ y e. e)
+      ∙ ap (λ (n : ℕ). replicate n 0) (c.zeros_besides.ensures.enough many);
+}
 
 pub returns-clause-started : goal.returns-clause-started
 returns-clause-started g c =
