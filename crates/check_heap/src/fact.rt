@@ -82,27 +82,24 @@ pub fn pair_text(alloc: Global, word: u64) -> Result<String, AllocError> {
 }
 
 impl Heap {
-    /// The word of a colour of the running cycle.
-    fn colour_word(&mut self, part: u64) -> u64 {
-        let (cycle, _) = word_phase(self.get(Region::Phase, 0));
-        cycle.wrapping_mul(4).wrapping_add(part)
-    }
-
-    /// Writes what holds of a cell, and answers whether there is such a thing.
+    /// Writes what holds of a cell, and answers whether there is such a thing. A colour is of the running cycle.
     fn say_of_cell(&mut self, what: &str, cell: u32) -> bool {
-        match what {
-            "live" => self.take_cell(cell),
-            "died" => self.kill_cell(cell),
-            "black" => {
-                let word = self.colour_word(0);
-                self.set(Region::Colour, cell, word);
+        let colour = match what {
+            "live" => {
+                self.take_cell(cell);
+                return true;
             }
-            "grey" => {
-                let word = self.colour_word(2);
-                self.set(Region::Colour, cell, word);
+            "died" => {
+                self.kill_cell(cell);
+                return true;
             }
+            "black" => 0,
+            "grey" => 2,
             _ => return false,
-        }
+        };
+        let (cycle, _) = word_phase(self.get(Region::Phase, 0));
+        let word = cycle.wrapping_mul(4).wrapping_add(colour);
+        self.set(Region::Colour, cell, word);
         true
     }
 

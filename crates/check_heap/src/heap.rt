@@ -70,19 +70,13 @@ impl Heap {
         }
     }
 
-    /// The number of a mutator's register in their region, which is past its end where there is none.
-    fn index_of_register(&self, who: u32, register: u8) -> u32 {
-        let registers = self.layout.registers();
-        if who >= u32::from(self.layout.mutators()) || register >= registers {
-            return u32::MAX;
-        }
-        who * u32::from(registers) + u32::from(register)
-    }
-
     /// Puts a word into a register of a mutator.
     pub fn set_register(&mut self, who: u32, register: u8, word: u64) {
-        let index = self.index_of_register(who, register);
-        self.set(Region::Registers, index, word);
+        let registers = self.layout.registers();
+        if who < u32::from(self.layout.mutators()) && register < registers {
+            let index = who * u32::from(registers) + u32::from(register);
+            self.set(Region::Registers, index, word);
+        }
     }
 
     /// Takes a bit out of the free word of a block.

@@ -5,6 +5,7 @@
 //! does them is an `Answers`; it never sees what is expected. The library knows no check: those are the programs'.
 #![tactic(auto)]
 
+mod draw;
 mod fact;
 mod heap;
 mod labelled;
@@ -16,6 +17,7 @@ mod rows;
 mod system;
 mod texts;
 
+pub use draw::Draw;
 pub use fact::{pair_text, region_of, value_of, word_of, word_text};
 pub use heap::Heap;
 pub use labelled::label_text;

@@ -62,8 +62,12 @@ pub fn list_of(alloc: Global, layout: &Layout, listed: u32) -> Result<GreyList, 
     }
 }
 
-/// The cells of a list, the first pushed first.
-fn cells_in(alloc: Global, list: &mut GreyList) -> Result<Vec<u32>, AllocError> {
+/// The text of how many cells were marked, and of the list then, the first pushed first.
+fn marked_text(
+    alloc: Global,
+    count: u32,
+    list: &mut GreyList,
+) -> Result<Option<String>, AllocError> {
     let mut cells = Vec::new(alloc);
     for _cell in 0..list.len() {
         if let Some(cell) = list.pop() {
@@ -71,16 +75,6 @@ fn cells_in(alloc: Global, list: &mut GreyList) -> Result<Vec<u32>, AllocError> 
         }
     }
     cells.reverse();
-    Ok(cells)
-}
-
-/// The text of how many cells were marked, and of the list then.
-fn marked_text(
-    alloc: Global,
-    count: u32,
-    list: &mut GreyList,
-) -> Result<Option<String>, AllocError> {
-    let cells = cells_in(alloc, list)?;
     let cells = numbers_text(alloc, cells.as_slice())?;
     let count = number_between(alloc, "", u64::from(count), ": ")?;
     Ok(Some(joined(alloc, &[count.as_str(), cells.as_str()])?))
@@ -138,8 +132,12 @@ fn mark_one(
 }
 
 /// Whether a cell is one of the layout, and live.
-fn is_live_in(heap: &mut Heap, cell: u32) -> bool {
-    cell < heap.layout.cells() && is_live(&mut heap.words, &heap.layout, cell)
+fn live_text(alloc: Global, heap: &mut Heap, cell: Option<u32>) -> Result<String, AllocError> {
+    match cell {
+        Some(cell) if cell < heap.layout.cells() && is_live(&mut heap.words, &heap.layout, cell) =>
+            { text(alloc, "true") }
+        _ => text(alloc, "false"),
+    }
 }
 
 /// The marked cells, in rising order.
@@ -181,14 +179,41 @@ fn volatility_of(name: &str) -> Option<Volatility> {
     }
 }
 
-/// Does what a cycle's end does to handles or to pairs.
-fn clear(heap: &mut Heap, what: &str) -> bool {
+/// What is asked of a heap in one word.
+fn asked_alone(alloc: Global, heap: &mut Heap, what: &str) -> Result<Option<String>, AllocError> {
     match what {
-        "weak" => clear_weak(&mut heap.words, &heap.layout),
-        "pairs" => clear_pairs(&mut heap.words, &heap.layout),
-        _ => return false,
+        "length" => Ok(Some(number_text(alloc, heap.words.len() as u64)?)),
+        "marked" => {
+            let cells = marked_cells(alloc, heap)?;
+            Ok(Some(numbers_text(alloc, cells.as_slice())?))
+        }
+        _ => Ok(None),
     }
-    true
+}
+
+/// What is asked of a heap, or is done to it, in two words that no list is for.
+fn asked_of(
+    alloc: Global,
+    heap: &mut Heap,
+    what: &str,
+    at: &str,
+) -> Result<Option<String>, AllocError> {
+    match what {
+        "is_live" => Ok(Some(live_text(alloc, heap, number(at))?)),
+        "clear" => {
+            match at {
+                "weak" => clear_weak(&mut heap.words, &heap.layout),
+                "pairs" => clear_pairs(&mut heap.words, &heap.layout),
+                _ => return Ok(None),
+            }
+            Ok(Some(text(alloc, "")?))
+        }
+        "volatility" => match volatility_of(at) {
+            Some(volatility) => Ok(Some(format!(in alloc; "{volatility:?}")?)),
+            None => Ok(None),
+        },
+        _ => heap.word_text(alloc, what, at),
+    }
 }
 
 /// What is asked of a heap, or is done to it.
@@ -200,45 +225,49 @@ fn asked(
     words: &[&str],
 ) -> Result<Option<String>, AllocError> {
     match words {
+        [what] => asked_alone(alloc, heap, what),
         ["run", name] => run_named(alloc, heap, listed, room, name),
+        ["mark", cell] => mark_one(alloc, heap, listed, number(cell), 0),
+        [what, at] => asked_of(alloc, heap, what, at),
         ["mark", "named", word] => match word_of(word) {
             Some(word) => mark_one(alloc, heap, listed, None, word),
             None => Ok(None),
         },
-        ["mark", cell] => mark_one(alloc, heap, listed, number(cell), 0),
-        ["length"] => Ok(Some(number_text(alloc, heap.words.len() as u64)?)),
-        ["marked"] => {
-            let cells = marked_cells(alloc, heap)?;
-            Ok(Some(numbers_text(alloc, cells.as_slice())?))
-        }
-        ["is_live", cell] => match number(cell) {
-            Some(cell) if is_live_in(heap, cell) => Ok(Some(text(alloc, "true")?)),
-            _ => Ok(Some(text(alloc, "false")?)),
-        },
-        ["volatility", name] => match volatility_of(name) {
-            Some(volatility) => Ok(Some(format!(in alloc; "{volatility:?}")?)),
-            None => Ok(None),
-        },
-        ["clear", what] if clear(heap, what) => Ok(Some(text(alloc, "")?)),
         ["label", label, "beside", cell] => label_text(alloc, &heap.layout, label, cell),
-        [what, at] => heap.word_text(alloc, what, at),
         _ => Ok(None),
     }
 }
 
 impl Bench {
-    /// Does or answers what the words say, but for what is listed and which room there is.
+    /// Does what the words say of the list and of the room, and answers whether they say such a thing.
+    fn is_set(&mut self, words: &[&str]) -> bool {
+        match words {
+            ["listed", cell] => match number(cell) {
+                Some(cell) => self.listed = cell,
+                None => return false,
+            },
+            ["no", "room"] => self.room.is_wanting = true,
+            _ => return false,
+        }
+        true
+    }
+
+    /// Does or answers what the words say.
     fn do_or_answer(
         &mut self,
         alloc: Global,
         words: &[&str],
     ) -> Result<Option<String>, AllocError> {
-        let listed = self.listed;
-        let told = tell(alloc, &mut self.heap, words)?;
-        let (None, Some(heap)) = (&told, &mut self.heap) else {
-            return Ok(told);
-        };
-        asked(alloc, heap, listed, &mut self.room, words)
+        if self.is_set(words) {
+            return Ok(Some(text(alloc, "")?));
+        }
+        if let Some(told) = tell(alloc, &mut self.heap, words)? {
+            return Ok(Some(told));
+        }
+        match &mut self.heap {
+            Some(heap) => asked(alloc, heap, self.listed, &mut self.room, words),
+            None => Ok(None),
+        }
     }
 }
 
@@ -248,15 +277,6 @@ impl<R: System> Answers<R> for Bench {
     }
 
     fn answer(&mut self, rt: &R, words: &[&str]) -> io::Result<Option<String>> {
-        let alloc = rt.alloc();
-        match words {
-            ["listed", cell] => match number(cell) {
-                Some(cell) => self.listed = cell,
-                None => return Ok(None),
-            },
-            ["no", "room"] => self.room.is_wanting = true,
-            _ => return Ok(self.do_or_answer(alloc, words)?),
-        }
-        Ok(Some(text(alloc, "")?))
+        Ok(self.do_or_answer(rt.alloc(), words)?)
     }
 }

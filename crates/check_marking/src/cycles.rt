@@ -121,17 +121,16 @@ impl Cycles {
         alloc: Global,
         words: &[&str],
     ) -> Result<Option<String>, AllocError> {
-        let told = tell(alloc, &mut self.heap, words)?;
-        let (None, Some(heap)) = (&told, &mut self.heap) else {
-            return Ok(told);
-        };
-        match words {
-            [what] => answer_step(alloc, heap, &mut self.room, what),
-            [what @ ("pause" | "cycle"), budget] => match number(budget) {
+        if let Some(told) = tell(alloc, &mut self.heap, words)? {
+            return Ok(Some(told));
+        }
+        match (&mut self.heap, words) {
+            (Some(heap), [what]) => answer_step(alloc, heap, &mut self.room, what),
+            (Some(heap), [what @ ("pause" | "cycle"), budget]) => match number(budget) {
                 Some(budget) => answer_within(alloc, heap, &mut self.room, what, budget),
                 None => Ok(None),
             },
-            [what, at] => heap.word_text(alloc, what, at),
+            (Some(heap), [what, at]) => heap.word_text(alloc, what, at),
             _ => Ok(None),
         }
     }

@@ -47,6 +47,14 @@ pub fn solved_text(alloc: Global, solved: Solved) -> Result<String, AllocError> 
     }
 }
 
+/// Marks within a budget, and tells how that ended.
+fn solve(alloc: Global, marking: &mut Marking, budget: &str) -> Result<Option<String>, AllocError> {
+    match number(budget) {
+        Some(budget) => Ok(Some(solved_text(alloc, marking.solve(budget))?)),
+        None => Ok(None),
+    }
+}
+
 /// What a marking tells.
 fn told(
     alloc: Global,
@@ -54,10 +62,7 @@ fn told(
     words: &[&str],
 ) -> Result<Option<String>, AllocError> {
     let cells = match words {
-        ["solve", budget] => match number(budget) {
-            Some(budget) => return Ok(Some(solved_text(alloc, marking.solve(budget))?)),
-            None => return Ok(None),
-        },
+        ["solve", budget] => return solve(alloc, marking, budget),
         ["black"] => marking.cells_of(alloc, Colour::Black)?,
         ["grey"] => marking.cells_of(alloc, Colour::Grey)?,
         _ => return Ok(None),
@@ -66,22 +71,28 @@ fn told(
 }
 
 impl Marked {
-    /// Does what the words say to the heap: it is told a fact, or its marking begins.
-    fn tell_or_solve(
-        &mut self,
-        alloc: Global,
-        words: &[&str],
-    ) -> Result<Option<String>, AllocError> {
-        if words.first() != Some(&"solve") {
-            return tell(alloc, &mut self.heap, words);
-        }
+    /// Begins the marking of the heap, and marks within a budget.
+    fn begin_marking(&mut self, alloc: Global, budget: &str) -> Result<Option<String>, AllocError> {
         let Some(heap) = self.heap.take() else {
             return Ok(None);
         };
         let mut marking = Marking::begin(alloc, heap)?;
-        let answer = told(alloc, &mut marking, words)?;
+        let answer = solve(alloc, &mut marking, budget)?;
         self.marking = Some(marking);
         Ok(answer)
+    }
+
+    /// Does or answers what the words say: the heap is told a fact, or its marking begins, or tells.
+    fn do_or_answer(
+        &mut self,
+        alloc: Global,
+        words: &[&str],
+    ) -> Result<Option<String>, AllocError> {
+        match (&mut self.marking, words) {
+            (Some(marking), _) => told(alloc, marking, words),
+            (None, ["solve", budget]) => self.begin_marking(alloc, budget),
+            _ => tell(alloc, &mut self.heap, words),
+        }
     }
 }
 
@@ -91,9 +102,6 @@ impl<R: System> Answers<R> for Marked {
     }
 
     fn answer(&mut self, rt: &R, words: &[&str]) -> io::Result<Option<String>> {
-        match &mut self.marking {
-            Some(marking) => Ok(told(rt.alloc(), marking, words)?),
-            None => Ok(self.tell_or_solve(rt.alloc(), words)?),
-        }
+        Ok(self.do_or_answer(rt.alloc(), words)?)
     }
 }

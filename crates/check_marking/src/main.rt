@@ -20,7 +20,6 @@ mod bench;
 mod chains;
 mod collecting;
 mod cycles;
-mod draw;
 mod heaps;
 mod marking;
 mod runs;
@@ -77,31 +76,34 @@ struct Program<'a, R> {
     rt: &'a R,
 }
 
+/// Makes the check that words say.
+fn check_words<R: System>(rt: &R, words: &[&str]) -> io::Result<bool> {
+    match words {
+        ["heaps", file] => check_rows::<R, Marked>(rt, file),
+        ["constraints", file] => check_rows::<R, Bench>(rt, file),
+        ["cycles", file] => check_rows::<R, Cycles>(rt, file),
+        ["chain", kind, blocks] => match (chain_of(kind), small_number(blocks)) {
+            (Some(chain), Some(blocks)) if 1 <= blocks && blocks <= 64 => Ok(check_chain(
+                rt.alloc(),
+                chain,
+                blocks,
+            )?),
+            _ => Ok(false),
+        },
+        ["runs", kind, marked, times] => {
+            match (grouping_of(kind), marks_of(marked), number(times)) {
+                (Some(grouping), Some(marks), Some(times)) => time_runs(rt, grouping, marks, times),
+                _ => Ok(false),
+            }
+        }
+        _ => Ok(false),
+    }
+}
+
 impl<R: System> Checks for Program<'_, R> {
     fn check(&self, line: &str) -> io::Result<bool> {
-        let rt = self.rt;
-        match *words_of(rt.alloc(), line)? {
-            ["heaps", file] => check_rows::<R, Marked>(rt, file),
-            ["constraints", file] => check_rows::<R, Bench>(rt, file),
-            ["cycles", file] => check_rows::<R, Cycles>(rt, file),
-            ["chain", kind, blocks] => match (chain_of(kind), small_number(blocks)) {
-                (Some(chain), Some(blocks)) if 1 <= blocks && blocks <= 64 => Ok(check_chain(
-                    rt.alloc(),
-                    chain,
-                    blocks,
-                )?),
-                _ => Ok(false),
-            },
-            ["runs", kind, marked, times] => {
-                match (grouping_of(kind), marks_of(marked), number(times)) {
-                    (Some(grouping), Some(marks), Some(times)) => {
-                        time_runs(rt, grouping, marks, times)
-                    }
-                    _ => Ok(false),
-                }
-            }
-            _ => Ok(false),
-        }
+        let words = words_of(self.rt.alloc(), line)?;
+        check_words(self.rt, words.as_slice())
     }
 }
 

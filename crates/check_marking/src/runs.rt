@@ -4,8 +4,7 @@
 ghost use Rattle.std.specs.Prelude.{◌<◌, length};
 
 use crate::bench::{cycle_marks, list_of};
-use crate::draw::Draw;
-use check_heap::{Heap, System};
+use check_heap::{Draw, Heap, System};
 use std::alloc::{AllocError, Global};
 use std::io;
 use std::time::{Duration, Instant};
@@ -28,7 +27,6 @@ const CROWDED: [u64; 3] = [81_007, 18_456, 7_037];
 /// Which cells are in groups together.
 #[derive(Clone, Copy, Debug, PartialEq, Eq)]
 pub enum Grouping {
-    /// None.
     Alone,
     /// All.
     Together,
@@ -200,11 +198,13 @@ pub fn time_runs<R: System>(
     marks: Marks,
     times: u32,
 ) -> io::Result<bool> {
-    let mut runs = Runs::new(rt.alloc(), grouping, marks)?;
-    let count = set_marks(&mut runs.heap, runs.cells.as_slice(), runs.marks);
-    let twins = runs.unmarked_twins(count);
-    let groups = least_time(rt, &mut runs, times, &Groups, twins)?;
-    let pairs = least_time(rt, &mut runs, times, &Ephemerons, 0)?;
+    let (groups, pairs) = {
+        let mut runs = Runs::new(rt.alloc(), grouping, marks)?;
+        let count = set_marks(&mut runs.heap, runs.cells.as_slice(), runs.marks);
+        let twins = runs.unmarked_twins(count);
+        let groups = least_time(rt, &mut runs, times, &Groups, twins)?;
+        (groups, least_time(rt, &mut runs, times, &Ephemerons, 0)?)
+    };
     let (Some(groups), Some(pairs)) = (groups, pairs) else {
         return Ok(false);
     };

@@ -44,6 +44,11 @@ impl Caller {
         }
     }
 
+    /// The layout of the store.
+    pub fn layout(&self) -> &Layout {
+        &self.layout
+    }
+
     /// Makes a mutator's call, and tells what it is answered. Where the layout has no operands for it, where the mutator
     /// has retired, or where it would retire with a claim, nothing is called.
     pub fn call(&mut self, who: u32, op: Op) -> Option<Reply> {

@@ -140,6 +140,23 @@ impl Declared {
             None => Ok(None),
         }
     }
+
+    /// Does or answers what the words say.
+    fn do_or_answer(
+        &mut self,
+        alloc: Global,
+        words: &[&str],
+    ) -> Result<Option<String>, AllocError> {
+        match words {
+            ["path", keys @ ..] => self.declare(alloc, keys),
+            ["shapes"] => Ok(Some(self.make(alloc)?)),
+            ["capacity", count] => capacity_text(alloc, number(count)),
+            _ => match &self.shapes {
+                Some(shapes) => told(alloc, shapes, words),
+                None => Ok(None),
+            },
+        }
+    }
 }
 
 impl<R: System> Answers<R> for Declared {
@@ -151,15 +168,6 @@ impl<R: System> Answers<R> for Declared {
     }
 
     fn answer(&mut self, rt: &R, words: &[&str]) -> io::Result<Option<String>> {
-        let alloc = rt.alloc();
-        match words {
-            ["path", keys @ ..] => Ok(self.declare(alloc, keys)?),
-            ["shapes"] => Ok(Some(self.make(alloc)?)),
-            ["capacity", count] => Ok(capacity_text(alloc, number(count))?),
-            _ => match &self.shapes {
-                Some(shapes) => Ok(told(alloc, shapes, words)?),
-                None => Ok(None),
-            },
-        }
+        Ok(self.do_or_answer(rt.alloc(), words)?)
     }
 }

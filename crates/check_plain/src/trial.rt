@@ -8,20 +8,30 @@
 //! - `free CLASS`, `claims MUTATOR`, `live`, `taken` and `swept BLOCK` with what the store tells.
 
 use crate::caller::Caller;
-use crate::op::op_of;
+use crate::op::{numbered_keys, op_in};
 use check_heap::{
     Answers, System, behind, layout_of, number, number_or_none, number_text, numbers, numbers_text,
     reply_text, small_number, text,
 };
 use std::alloc::{AllocError, Global};
 use std::io;
-use tide_model::Op;
+use tide_work::Keys;
 
-/// A store, once its layout is given.
+/// A store, once its layout is given, and the keys that operations name.
 #[derive(Drop)]
 pub struct Trial {
     path: Vec<u32>,
+    keys: Keys,
     store: Option<Caller>,
+}
+
+/// The answer of what was done: no text, and `None` where it wasn't.
+fn nothing_if(alloc: Global, is_done: bool) -> Result<Option<String>, AllocError> {
+    if is_done {
+        Ok(Some(text(alloc, "")?))
+    } else {
+        Ok(None)
+    }
 }
 
 /// A number that the store tells of itself.
@@ -59,14 +69,14 @@ fn told(alloc: Global, store: &Caller, words: &[&str]) -> Result<Option<String>,
 fn call(
     alloc: Global,
     store: &mut Caller,
+    keys: &Keys,
     who: u32,
     words: &[&str],
 ) -> Result<Option<String>, AllocError> {
-    let reply = match op_of(words) {
-        Some(op) => store.call(who, op),
-        None => None,
+    let Some(op) = op_in(alloc, store.layout(), keys, words)? else {
+        return Ok(None);
     };
-    match reply {
+    match store.call(who, op) {
         Some(reply) => Ok(Some(reply_text(alloc, reply)?)),
         None => Ok(None),
     }
@@ -78,49 +88,75 @@ fn mutator_of(word: &str) -> Option<u32> {
 }
 
 /// Does what the words say to a store.
-fn ask(alloc: Global, store: &mut Caller, words: &[&str]) -> Result<Option<String>, AllocError> {
+fn ask(
+    alloc: Global,
+    store: &mut Caller,
+    keys: &Keys,
+    words: &[&str],
+) -> Result<Option<String>, AllocError> {
     match words {
         ["collect"] => {
             let freed = store.collect(alloc)?;
             Ok(Some(numbers_text(alloc, freed.as_slice())?))
         }
         [mutator, op @ ..] => match mutator_of(mutator) {
-            Some(who) => call(alloc, store, who, op),
+            Some(who) => call(alloc, store, keys, who, op),
             None => told(alloc, store, words),
         },
         [] => Ok(None),
     }
 }
 
+impl Trial {
+    /// Declares the path, and answers whether it is one.
+    fn declare(&mut self, alloc: Global, keys: &[&str]) -> Result<bool, AllocError> {
+        let path = numbers(alloc, keys)?;
+        let is_path = path.is_some();
+        self.path = path.unwrap_or(Vec::new(alloc));
+        Ok(is_path)
+    }
+
+    /// Makes the empty store of a layout, and answers whether it is one.
+    fn open(&mut self, alloc: Global, words: &[&str]) -> Result<bool, AllocError> {
+        let Some(layout) = layout_of(words) else {
+            return Ok(false);
+        };
+        let store = Caller::new(alloc, layout, self.path.as_slice())?;
+        self.store = Some(store);
+        Ok(true)
+    }
+
+    /// Does or answers what the words say.
+    fn do_or_answer(
+        &mut self,
+        alloc: Global,
+        words: &[&str],
+    ) -> Result<Option<String>, AllocError> {
+        let is_done = match words {
+            ["path", keys @ ..] => self.declare(alloc, keys)?,
+            ["layout", layout @ ..] => self.open(alloc, layout)?,
+            _ => {
+                return match &mut self.store {
+                    Some(store) => ask(alloc, store, &self.keys, words),
+                    None => Ok(None),
+                };
+            }
+        };
+        nothing_if(alloc, is_done)
+    }
+}
+
 impl<R: System> Answers<R> for Trial {
     fn begin(rt: &R) -> io::Result<Self> {
+        let alloc = rt.alloc();
         Ok(Trial {
-            path: Vec::new(rt.alloc()),
+            path: Vec::new(alloc),
+            keys: numbered_keys(alloc)?,
             store: None,
         })
     }
 
     fn answer(&mut self, rt: &R, words: &[&str]) -> io::Result<Option<String>> {
-        let alloc = rt.alloc();
-        match words {
-            ["path", keys @ ..] => {
-                let Some(path) = numbers(alloc, keys)? else {
-                    return Ok(None);
-                };
-                self.path = path;
-                Ok(Some(text(alloc, "")?))
-            }
-            ["layout", layout @ ..] => {
-                let Some(layout) = layout_of(layout) else {
-                    return Ok(None);
-                };
-                self.store = Some(Caller::new(alloc, layout, self.path.as_slice())?);
-                Ok(Some(text(alloc, "")?))
-            }
-            _ => match &mut self.store {
-                Some(store) => Ok(ask(alloc, store, words)?),
-                None => Ok(None),
-            },
-        }
+        Ok(self.do_or_answer(rt.alloc(), words)?)
     }
 }

@@ -27,20 +27,38 @@ struct Program<'a, R> {
     rt: &'a R,
 }
 
+/// Makes the check of one word.
+fn check_alone<R: System>(rt: &R, what: &str) -> io::Result<bool> {
+    match what {
+        "part" => tell_part(rt),
+        "parts" => tell_parts(rt),
+        "calls" => tell_calls(rt),
+        "freezes" => tell_freezes(rt),
+        _ => Ok(false),
+    }
+}
+
+/// Makes the check of a chain.
+fn check_chain<R: System>(rt: &R, file: &str, small: &str, large: &str) -> io::Result<bool> {
+    match (number(small), number(large)) {
+        (Some(small), Some(large)) => tell_chain(rt, file, [small, large]),
+        _ => Ok(false),
+    }
+}
+
+/// Makes the check that words say.
+fn check_words<R: System>(rt: &R, words: &[&str]) -> io::Result<bool> {
+    match words {
+        [what] => check_alone(rt, what),
+        ["chain", file, small, large] => check_chain(rt, file, small, large),
+        _ => Ok(false),
+    }
+}
+
 impl<R: System> Checks for Program<'_, R> {
     fn check(&self, line: &str) -> io::Result<bool> {
-        let rt = self.rt;
-        match *words_of(rt.alloc(), line)? {
-            ["part"] => tell_part(rt),
-            ["parts"] => tell_parts(rt),
-            ["calls"] => tell_calls(rt),
-            ["chain", file, small, large] => match (number(small), number(large)) {
-                (Some(small), Some(large)) => tell_chain(rt, file, [small, large]),
-                _ => Ok(false),
-            },
-            ["freezes"] => tell_freezes(rt),
-            _ => Ok(false),
-        }
+        let words = words_of(self.rt.alloc(), line)?;
+        check_words(self.rt, words.as_slice())
     }
 }
 

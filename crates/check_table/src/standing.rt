@@ -11,23 +11,35 @@ use tide_layout::Layout;
 use tide_model::Memory;
 use tide_words::{GreyList, MAX_CELLS};
 
+/// The layout that a line says.
+fn layout_in(alloc: Global, line: &str) -> Result<Option<Layout>, AllocError> {
+    let words = words_of(alloc, line)?;
+    match words.as_slice() {
+        ["layout", numbers @ ..] => Ok(layout_of(numbers)),
+        _ => Ok(None),
+    }
+}
+
+/// Lets a heap be as lines say, and answers whether each says something.
+fn say_all(alloc: Global, heap: &mut Heap, facts: &str) -> Result<bool, AllocError> {
+    for fact in facts.lines() {
+        let words = words_of(alloc, fact)?;
+        if heap.say(words.as_slice()).is_none() {
+            return Ok(false);
+        }
+    }
+    Ok(true)
+}
+
 /// The heap that facts say, of which the first line is its layout.
 pub fn heap_of_facts(alloc: Global, facts: &str) -> Result<Option<Heap>, AllocError> {
     let (first, others) = facts.split_once("\n").unwrap_or((facts, ""));
-    let words = words_of(alloc, first)?;
-    let ["layout", numbers @ ..] = words.as_slice() else {
-        return Ok(None);
-    };
-    let Some(layout) = layout_of(numbers) else {
+    let Some(layout) = layout_in(alloc, first)? else {
         return Ok(None);
     };
     let mut heap = Heap::new(alloc, layout)?;
-    for fact in others.lines() {
-        if heap.say(words_of(alloc, fact)?.as_slice()).is_none() {
-            return Ok(None);
-        }
-    }
-    Ok(Some(heap))
+    let is_said = say_all(alloc, &mut heap, others)?;
+    Ok(if is_said { Some(heap) } else { None })
 }
 
 /// Stores a chain over the words of a frozen heap of one mutator, and marks it in two pauses within these budgets.
@@ -40,6 +52,7 @@ pub fn mark_chain(
     if layout.mutators() != 1 || layout.visitors() != 0 {
         return Ok(None);
     }
+    let mut list = GreyList::new(alloc, MAX_CELLS)?;
     let Some(single) = start_single(alloc, layout)? else {
         return Ok(None);
     };
@@ -48,7 +61,6 @@ pub fn mark_chain(
         mut collector,
         mut pass,
     } = single;
-    let mut list = GreyList::new(alloc, MAX_CELLS)?;
     let Ok(mut frozen) = stand_still(&heap, &mut collector, &mut pass) else {
         return Ok(None);
     };
@@ -60,6 +72,8 @@ pub fn mark_chain(
 /// cycles that ended.
 pub fn freeze_single(alloc: Global) -> Result<Option<(Runs, Report)>, Memory> {
     let layout = Layout::new([1, 0, 0, 0, 1], [1, 0, 0, 0, 0], 4, 2, 2, 1, 0);
+    let mut list = GreyList::new(alloc, MAX_CELLS)?;
+    let mut report = Report::new(alloc, 4, 256)?;
     let Some(single) = start_single(alloc, layout)? else {
         return Ok(None);
     };
@@ -68,8 +82,6 @@ pub fn freeze_single(alloc: Global) -> Result<Option<(Runs, Report)>, Memory> {
         mut collector,
         mut pass,
     } = single;
-    let mut list = GreyList::new(alloc, MAX_CELLS)?;
-    let mut report = Report::new(alloc, 4, 256)?;
     let Ok(mut frozen) = stand_still(&heap, &mut collector, &mut pass) else {
         return Ok(None);
     };

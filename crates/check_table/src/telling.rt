@@ -1,95 +1,127 @@
 //! What the checks print.
 
+use crate::chains::Marked;
 use crate::standing::{freeze_single, heap_of_facts, mark_chain};
-use check_heap::{System, number_between, numbers_text, tell, text, word_text};
-use check_parts::{Ran, Told, called_parts, one_part, two_parts};
+use check_heap::{System, number_text, tell, text, word_text};
+use check_parts::{Found, Ran, Told, called_parts, one_part, two_parts};
 use std::alloc::{AllocError, Global};
 use std::{fs, io};
 use tide_cycle::Report;
 use tide_model::Memory;
 use tide_solver::Solved;
+use tide_table::Numbers;
 
-/// The word of a truth.
-fn truth(is_so: bool) -> &'static str {
-    if is_so { "yes" } else { "no" }
+/// What stands in a line behind a text.
+#[derive(Clone, Copy)]
+enum Piece {
+    Nothing,
+    Number(u64),
+    /// A word of a heap, in the text of what it says.
+    Word(u64),
+    Truth(bool),
 }
 
-/// Prints what a mutator told: its note, and the words that it found.
-fn tell_told<R: System>(rt: &R, told: &Told) -> io::Result<()> {
-    let alloc = rt.alloc();
-    let note = told.note;
-    let part = [told.period, note.part, note.run, note.begun];
-    let part = numbers_text(alloc, &part)?;
-    let counts = numbers_text(alloc, &[note.born, note.visits])?;
-    let who = number_between(alloc, "mutator ", u64::from(note.who), ": part ")?;
-    let cycle = number_between(alloc, ", cycle ", note.cycle, ", left ")?;
-    let register = word_text(alloc, told.found.register)?;
-    let strong = word_text(alloc, told.found.strong)?;
-    let weak = word_text(alloc, told.found.weak)?;
-    let slot = word_text(alloc, told.found.slot)?;
-    let claim = number_between(alloc, ", claim ", told.found.claim, "")?;
-    let calls = number_between(alloc, ", calls ", told.found.calls, "")?;
-    tell(
+/// The text of a piece.
+fn piece_text(alloc: Global, piece: Piece) -> Result<String, AllocError> {
+    match piece {
+        Piece::Nothing => text(alloc, ""),
+        Piece::Number(number) => number_text(alloc, number),
+        Piece::Word(word) => word_text(alloc, word),
+        Piece::Truth(true) => text(alloc, "yes"),
+        Piece::Truth(false) => text(alloc, "no"),
+    }
+}
+
+/// Prints a line of pieces, each behind its text.
+fn tell_pieces<R: System>(rt: &R, pieces: &[(&str, Piece)]) -> io::Result<()> {
+    let mut line = String::new(rt.alloc());
+    for (before, piece) in pieces {
+        let one = piece_text(rt.alloc(), *piece)?;
+        line.push_str(before)?;
+        line.push_str(one.as_str())?;
+    }
+    tell(rt, &[line.as_str()])
+}
+
+/// A number of 32 bits.
+fn number(number: u32) -> Piece {
+    Piece::Number(u64::from(number))
+}
+
+/// Prints the note of a mutator, whose ticket has this number, and how many calls its call word told.
+fn tell_note<R: System>(rt: &R, period: u32, note: Numbers, calls: u64) -> io::Result<()> {
+    tell_pieces(
         rt,
         &[
-            who.as_str(),
-            part.as_str(),
-            ", counted ",
-            counts.as_str(),
-            ", marks ",
-            truth(note.marking),
-            cycle.as_str(),
-            truth(note.left),
-            calls.as_str(),
+            ("mutator ", number(note.who)),
+            (": part ", number(period)),
+            (" ", number(note.part)),
+            (" ", number(note.run)),
+            (" ", number(note.begun)),
+            (", counted ", number(note.born)),
+            (" ", number(note.visits)),
+            (", marks ", Piece::Truth(note.marking)),
+            (", cycle ", Piece::Number(note.cycle)),
+            (", left ", Piece::Truth(note.left)),
+            (", calls ", Piece::Number(calls)),
         ],
-    )?;
-    tell(
+    )
+}
+
+/// Prints the words that a mutator found.
+fn tell_found<R: System>(rt: &R, found: Found) -> io::Result<()> {
+    tell_pieces(
         rt,
         &[
-            "it found ",
-            register.as_str(),
-            " ",
-            strong.as_str(),
-            " ",
-            weak.as_str(),
-            ", slot ",
-            slot.as_str(),
-            claim.as_str(),
+            ("it found ", Piece::Word(found.register)),
+            (" ", Piece::Word(found.strong)),
+            (" ", Piece::Word(found.weak)),
+            (", slot ", Piece::Word(found.slot)),
+            (", claim ", Piece::Number(found.claim)),
         ],
     )
 }
 
 /// Prints the cycles that ended.
 fn tell_cycles<R: System>(rt: &R, report: &Report) -> io::Result<()> {
-    let alloc = rt.alloc();
     for line in report.cycles() {
-        let cycle = number_between(alloc, "cycle ", line.number, ": kept ")?;
-        let kept = number_between(alloc, "", u64::from(line.kept), " freed ")?;
-        let freed = number_between(alloc, "", u64::from(line.freed), "")?;
-        tell(rt, &[cycle.as_str(), kept.as_str(), freed.as_str()])?;
+        tell_pieces(
+            rt,
+            &[
+                ("cycle ", Piece::Number(line.number)),
+                (": kept ", number(line.kept)),
+                (" freed ", number(line.freed)),
+            ],
+        )?;
     }
     Ok(())
 }
 
-/// Prints what both mutators told of a part.
+/// Prints what both mutators told of a part: their notes, and the words that they found.
 fn tell_both<R: System>(rt: &R, told: &[Told; 2]) -> io::Result<()> {
     for one in told {
-        tell_told(rt, one)?;
+        tell_note(rt, one.period, one.note, one.found.calls)?;
+        tell_found(rt, one.found)?;
     }
     Ok(())
 }
 
 /// Prints what a row ran: what was told of its parts, and between them the cycles that ended.
-fn tell_ran<R: System>(rt: &R, ran: Result<Option<Ran>, Memory>) -> io::Result<bool> {
-    let Ok(Some(ran)) = ran else {
-        return Ok(false);
-    };
+fn tell_parts_of<R: System>(rt: &R, ran: &Ran) -> io::Result<bool> {
     if let Some(first) = &ran.first {
         tell_both(rt, first)?;
     }
     tell_cycles(rt, &ran.report)?;
     tell_both(rt, &ran.last)?;
     Ok(true)
+}
+
+/// Prints what a row ran, if it did.
+fn tell_ran<R: System>(rt: &R, ran: Result<Option<Ran>, Memory>) -> io::Result<bool> {
+    match &ran {
+        Ok(Some(ran)) => tell_parts_of(rt, ran),
+        _ => Ok(false),
+    }
 }
 
 /// Runs one part of two mutators, and prints what they told.
@@ -108,48 +140,49 @@ pub fn tell_calls<R: System>(rt: &R) -> io::Result<bool> {
 }
 
 /// How a pause ended.
-fn pause_text(alloc: Global, solved: Option<Solved>) -> Result<String, AllocError> {
+fn pause_piece(solved: Option<Solved>) -> (&'static str, Piece) {
     match solved {
-        Some(Solved::Converged { visits }) => {
-            number_between(alloc, ", converged ", u64::from(visits), "")
-        }
-        Some(Solved::More { visits }) => number_between(alloc, ", more ", u64::from(visits), ""),
-        None => text(alloc, ", no cycle marks"),
+        Some(Solved::Converged { visits }) => (", converged ", number(visits)),
+        Some(Solved::More { visits }) => (", more ", number(visits)),
+        None => (", no cycle marks", Piece::Nothing),
+    }
+}
+
+/// Marks the chain that facts say over a frozen heap.
+fn marked_chain(alloc: Global, facts: &str, budgets: [u32; 2]) -> Result<Option<Marked>, Memory> {
+    match heap_of_facts(alloc, facts) {
+        Ok(Some(mut chain)) => mark_chain(alloc, &mut chain, budgets),
+        Ok(None) => Ok(None),
+        Err(_) => Err(Memory),
     }
 }
 
 /// Marks the chain of a file over a frozen heap, and prints how its pauses ended.
 pub fn tell_chain<R: System>(rt: &R, file: &str, budgets: [u32; 2]) -> io::Result<bool> {
-    let alloc = rt.alloc();
-    let facts = fs::read_to_string(rt, text(alloc, file)?)?;
-    let Some(mut chain) = heap_of_facts(alloc, facts.as_str())? else {
+    let facts = fs::read_to_string(rt, text(rt.alloc(), file)?)?;
+    let Ok(Some(marked)) = marked_chain(rt.alloc(), facts.as_str(), budgets) else {
         return Ok(false);
     };
-    let Ok(Some(marked)) = mark_chain(alloc, &mut chain, budgets) else {
-        return Ok(false);
-    };
-    let first = pause_text(alloc, marked.first)?;
-    let second = pause_text(alloc, marked.second)?;
-    tell(
+    let begun = ("begun ", Piece::Truth(marked.begun));
+    tell_pieces(
         rt,
-        &[
-            "begun ",
-            truth(marked.begun),
-            first.as_str(),
-            second.as_str(),
-        ],
+        &[begun, pause_piece(marked.first), pause_piece(marked.second)],
     )?;
     Ok(true)
 }
 
 /// Freezes twice, and prints how many calls come next after each, and the cycles that ended.
 pub fn tell_freezes<R: System>(rt: &R) -> io::Result<bool> {
-    let alloc = rt.alloc();
-    let Ok(Some((runs, report))) = freeze_single(alloc) else {
+    let Ok(Some((runs, report))) = freeze_single(rt.alloc()) else {
         return Ok(false);
     };
-    let next = numbers_text(alloc, &[runs.nothing_due, runs.must])?;
-    tell(rt, &["next runs ", next.as_str()])?;
+    tell_pieces(
+        rt,
+        &[
+            ("next runs ", number(runs.nothing_due)),
+            (" ", number(runs.must)),
+        ],
+    )?;
     tell_cycles(rt, &report)?;
     Ok(true)
 }

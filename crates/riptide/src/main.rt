@@ -1,15 +1,14 @@
 //! The program `riptide`: reads a workload from standard input, runs it and prints its calls and cycles.
 //!
-//! `main` makes what is outside, the words of the command line, standard input, output and error, and hands it to `answer`,
-//! whose exit status it ends with. Nothing is decided here.
+//! `main` makes what is outside, the words of the command line, standard input, output and error, and hands it to
+//! `answer` of `tide_answer`, whose exit status it ends with. Nothing is decided here.
 #![tactic(auto)]
 
-mod answer;
 mod words;
 
-use answer::answer;
 use std::env;
 use std::process::ExitCode;
+use tide_answer::answer;
 use tide_io::{Gathered, RealSink, RealSource};
 use words::words_of;
 

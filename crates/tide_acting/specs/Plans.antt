@@ -27,6 +27,20 @@ is_acted plan.Ask = true
 is_acted plan.Retire = true
 is_acted _ = false
 
+-- of these the plans of handles, of pairs and of groups, and those to retire and to ask for a cycle
+abbrev pub is_rest : Plan → Bool
+is_rest (plan.StoreStrong at value) = true
+is_rest (plan.LoadStrong dst at) = true
+is_rest (plan.StoreWeak at value) = true
+is_rest (plan.LoadWeak dst at) = true
+is_rest (plan.StorePair table place key value) = true
+is_rest (plan.ClearPair table place) = true
+is_rest (plan.Show dst table place value) = true
+is_rest (plan.Join cell group) = true
+is_rest plan.Ask = true
+is_rest plan.Retire = true
+is_rest _ = false
+
 -- registers alone tell of what a call with such a plan is
 abbrev pub is_plain : Plan → Bool
 is_plain (plan.Refuse refusal) = false

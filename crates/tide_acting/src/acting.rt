@@ -4,7 +4,7 @@ ghost use Rattle.tide_call.specs.Plans.{is_told_by_registers};
 ghost use Rattle.tide_call.specs.declared.plan.Plan.TheVariants.{Take};
 ghost use Rattle.tide_acting.specs.Calling.{IsCalling};
 ghost use Rattle.tide_acting.specs.Made.{HasDone};
-ghost use Rattle.tide_acting.specs.Plans.{is_acted, is_plain};
+ghost use Rattle.tide_acting.specs.Plans.{is_acted, is_plain, is_rest};
 ghost use Rattle.tide_acting.specs.Standing.{IsPlanned};
 ghost use Rattle.tide_word_store.specs.Needed.{FitsPlan};
 ghost use Rattle.tide_words.specs.heap.Heap.{Heap as TheWords};
@@ -21,6 +21,49 @@ use crate::slots::{get, put};
 use tide_call::Plan;
 use tide_model::{Op, Reply, Turnstile};
 use tide_steps::{Heap, HeapShapes, Pass};
+
+/// Acts on a plan of a handle, of a pair or of a group, or on one to retire or to ask for a cycle.
+fn act_on_rest<S: HeapShapes>(
+    pass: &mut Pass,
+    heap: &Heap<S>,
+    op: Op,
+    calls: u64,
+    plan: Plan,
+) -> Reply
+    requires own { pass.old.seat.table_id ≡ heap.now.table.shared.table_id }
+    requires calling { IsCalling heap.now.key.layout pass.old.seat.me.0 op }
+    requires told { is_plain plan ≡ true → is_told_by_registers op ≡ true }
+    requires rest { is_rest plan ≡ true }
+    requires counts { calls ≡ (length pass.old.seat.me.0.mine + 1) % 2 ^ 64 }
+    requires planned { IsPlanned heap.now.key.layout (S.lists heap.now.key.shapes) pass.old.seat.me.0 op plan }
+    requires fits { (words : TheWords) × FitsPlan heap.now.key.layout words plan }
+    ensures same { (pass.new.seat.table_id ≡ pass.old.seat.table_id) × (pass.new.seat.id ≡ pass.old.seat.id) }
+    ensures done { HasDone heap.now.key.layout (S.lists heap.now.key.shapes) op plan result
+        pass.old.seat.me.0 pass.new.seat.me.0 }
+{
+    match plan {
+        Plan::StoreStrong { at, value } => put_strong(pass, heap, op, calls, at, value),
+        Plan::LoadStrong { dst, at } => get_strong(pass, heap, op, calls, dst, at),
+        Plan::StoreWeak { at, value } => put_weak(pass, heap, op, calls, at, value),
+        Plan::LoadWeak { dst, at } => get_weak(pass, heap, op, calls, dst, at),
+        Plan::StorePair {
+            table,
+            place,
+            key,
+            value,
+        } => put_pair(pass, heap, op, calls, table, place, key, value),
+        Plan::ClearPair { table, place } => drop_pair(pass, heap, op, calls, table, place),
+        Plan::Show {
+            dst,
+            table,
+            place,
+            value,
+        } => get_pair(pass, heap, op, calls, dst, table, place, value),
+        Plan::Join { cell, group } => join(pass, heap, op, calls, cell, group),
+        Plan::Retire => leave(pass, heap, op, calls),
+        _ => ask(pass, heap, op, calls),
+    }
+}
 
 /// Acts on the plan of a call, whose number its call word tells then.
 pub fn act<S: HeapShapes, T: Turnstile>(
@@ -53,10 +96,6 @@ pub fn act<S: HeapShapes, T: Turnstile>(
         Plan::Fill { dst, value } => fill(pass, heap, op, calls, dst, value),
         Plan::Claim { cell, full } => claim(pass, heap, op, calls, cell, full),
         Plan::Release { cell } => release(pass, heap, op, calls, cell),
-        Plan::StoreStrong { at, value } => put_strong(pass, heap, op, calls, at, value),
-        Plan::LoadStrong { dst, at } => get_strong(pass, heap, op, calls, dst, at),
-        Plan::StoreWeak { at, value } => put_weak(pass, heap, op, calls, at, value),
-        Plan::LoadWeak { dst, at } => get_weak(pass, heap, op, calls, dst, at),
         Plan::LoadElement { dst, array, place } => {
             get_property(pass, heap, op, calls, dst, array, place)
         }
@@ -71,21 +110,6 @@ pub fn act<S: HeapShapes, T: Turnstile>(
             array,
             value,
         } => append(pass, heap, gate, op, calls, addition, array, value),
-        Plan::StorePair {
-            table,
-            place,
-            key,
-            value,
-        } => put_pair(pass, heap, op, calls, table, place, key, value),
-        Plan::ClearPair { table, place } => drop_pair(pass, heap, op, calls, table, place),
-        Plan::Show {
-            dst,
-            table,
-            place,
-            value,
-        } => get_pair(pass, heap, op, calls, dst, table, place, value),
-        Plan::Join { cell, group } => join(pass, heap, op, calls, cell, group),
-        Plan::Retire => leave(pass, heap, op, calls),
-        _ => ask(pass, heap, op, calls),
+        _ => act_on_rest(pass, heap, op, calls, plan),
     }
 }

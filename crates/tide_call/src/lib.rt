@@ -3,13 +3,13 @@
 //! `Caller::plan_of` decides by the words that its mutator alone changes whether a call is refused, and else what is to
 //! be done: a `Plan`. Words that stand still and words that others change beside the mutator are `OwnWords` alike. The
 //! functions of `laws` promise what the words read as once the plan's are written, and that marking is kept. A store
-//! and a mutator on a thread cite these alike. The crate stands on `tide_words` and `tide_shape`.
+//! and a mutator on a thread cite these alike. The crate stands on `tide_words`, `tide_shape` and `tide_claims`, whose
+//! `Claims` it hands on.
 #![tactic(auto)]
 
 mod additions;
 mod caller;
 mod claiming;
-mod claims;
 pub mod laws;
 mod own;
 mod pairs;
@@ -20,6 +20,6 @@ mod slots;
 
 pub use additions::Addition;
 pub use caller::Caller;
-pub use claims::Claims;
 pub use own::{OwnRegisters, OwnWords};
 pub use plan::Plan;
+pub use tide_claims::Claims;

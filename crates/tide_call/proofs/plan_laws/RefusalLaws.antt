@@ -1,13 +1,13 @@
 -- What refuses an operation where the first tests are known.
-use Rattle.std.proofs.Common.{ℕ, ◌≡◌, ◌∙◌, ap, Bool, true, false, [], ◌∷◌, Option, None, Some}
+use Rattle.std.proofs.Common.{ℕ, ◌≡◌, ◌∙◌, ap, Bool, true, false, List, [], ◌∷◌, Option, None, Some}
 use Rattle.std.proofs.lemmas.Option.{none-some}
 use Rattle.std.specs.Prelude.{not}
 use Rattle.tide_model.specs.declared.op.Refusal.{Refusal}
-use Rattle.tide_model.specs.declared.op.Refusal.TheVariants.{NoShape, NotHeld, NotTable, Present}
+use Rattle.tide_model.specs.declared.op.Refusal.TheVariants.{IsTable, NoShape, NotHeld, NotTable, Present}
 use Rattle.tide_model.specs.declared.val.Val.{Val}
 use Rattle.tide_model.specs.declared.val.Val.TheVariants.{Cell, Empty, Int}
 use Rattle.tide_model.specs.Layout.{Layout}
-use Rattle.tide_model.specs.Refused.{first_of, holds, is_table, pair_refusal, refusal_at, refuse_if, slot_refusal}
+use Rattle.tide_model.specs.Refused.{first_of, holder_refusal, holds, is_table, pair_refusal, refusal_at, refuse_if, slot_refusal}
 use Rattle.tide_model.specs.State.{State}
 
 -- a register without a cell refuses an operation on a slot
@@ -59,3 +59,24 @@ module _ (layout : Layout) (state : State) (who src register table key : ℕ) (f
   pub pair_refusal-further : is_table layout table ≡ true → holds state who table ≡ true →
       pair_refusal layout state who src register further ≡ first_of (further table key ∷ [])
   pair_refusal-further is held = by_tests ∙ (λ i. tested (is i) (held i))
+
+-- what refuses an operation on the properties of the cell that a register holds, by its first two tests
+module _ (layout : Layout) (state : State) (who src cell : ℕ) (further : ℕ → List (Option Refusal))
+    (source : state.registers who src ≡ Cell cell) where
+  abbrev asked : Bool → Bool → Option Refusal
+  asked table held = first_of (refuse_if table IsTable ∷ refuse_if (not held) NotHeld ∷ further cell)
+
+  by_holder : holder_refusal layout state who src further ≡ asked (is_table layout cell) (holds state who cell)
+  by_holder = ap (λ (v : Val). refusal_at v src (λ t. first_of (refuse_if (is_table layout t) IsTable
+      ∷ refuse_if (not (holds state who t)) NotHeld ∷ further t))) source
+
+  pub holder_refusal-table : is_table layout cell ≡ true → holder_refusal layout state who src further ≡ Some IsTable
+  holder_refusal-table is = by_holder ∙ ap (λ (table : Bool). asked table (holds state who cell)) is
+
+  pub holder_refusal-held : is_table layout cell ≡ false → holds state who cell ≡ false →
+      holder_refusal layout state who src further ≡ Some NotHeld
+  holder_refusal-held isnt not_held = by_holder ∙ (λ i. asked (isnt i) (not_held i))
+
+  pub holder_refusal-further : is_table layout cell ≡ false → holds state who cell ≡ true →
+      holder_refusal layout state who src further ≡ first_of (further cell)
+  holder_refusal-further isnt held = by_holder ∙ (λ i. asked (isnt i) (held i))

@@ -1,33 +1,16 @@
--- Of which operations the plans are, and that one that is none of the others asks for a cycle.
+-- Of which operations the plans are, and that one that is none of these is one of the rest.
 use Rattle.std.proofs.Common.{ap, subst, sym}
 use Rattle.tide_call.specs.declared.plan.Plan.{Plan}
-use Rattle.tide_acting.proofs.Asking.{asks_else}
+use Rattle.tide_acting.proofs.Asking.{rests_else}
 use Rattle.tide_acting.specs.Made.{HasDone}
 use Rattle.tide_acting.specs.Plans.{is_plain}
 use Rattle.tide_acting.specs.Standing.{IsPlanned}
 use Rattle.tide_acting.proofs.acting.act.Goals as goal
 
-pub ask-requires-clause-planned : goal.ask-requires-clause-planned
-ask-requires-clause-planned g c =
-    let h = c.args.heap.now in
+pub act_on_rest-requires-clause-rest : goal.act_on_rest-requires-clause-rest
+act_on_rest-requires-clause-rest g c =
     let d = c.in_default in
-    subst (λ (does : Plan). IsPlanned h.key.layout (g.S.HeapShapes.lists h.key.shapes) c.args.pass.now.seat.me.0
-    c.args.op
-    does) (asks_else c.args.plan c.requires.acted d.not-Refuse d.not-Take d.not-LoadSlot d.not-StoreSlot d.not-Fill
-    d.not-Claim
-    d.not-Release d.not-StoreStrong d.not-LoadStrong d.not-StoreWeak d.not-LoadWeak
-    d.not-LoadElement d.not-StoreElement d.not-Append d.not-StorePair d.not-ClearPair d.not-Show d.not-Join d.not-Retire) c.requires.planned
-
-pub returns-in_default-clause-done : goal.returns-in_default-clause-done
-returns-in_default-clause-done g c =
-    let h = c.args.heap.now in
-    let d = c.in_default in
-    subst (λ (does : Plan). HasDone h.key.layout (g.S.HeapShapes.lists h.key.shapes) c.args.op does c.ask.result
-    c.args.pass.now.seat.me.0 c.ask.new.pass.seat.me.0)
-    (sym (asks_else c.args.plan c.requires.acted d.not-Refuse d.not-Take d.not-LoadSlot d.not-StoreSlot d.not-Fill
-    d.not-Claim
-    d.not-Release d.not-StoreStrong d.not-LoadStrong d.not-StoreWeak d.not-LoadWeak
-    d.not-LoadElement d.not-StoreElement d.not-Append d.not-StorePair d.not-ClearPair d.not-Show d.not-Join d.not-Retire)) c.ask.ensures.done
+    rests_else c.args.plan c.requires.acted d.not-Refuse d.not-Take d.not-LoadSlot d.not-StoreSlot d.not-Fill d.not-Claim d.not-Release d.not-LoadElement d.not-StoreElement d.not-Append
 
 pub take-requires-clause-told : goal.take-requires-clause-told
 take-requires-clause-told g c = c.requires.told (ap is_plain c.in-Take.is)
@@ -47,28 +30,86 @@ claim-requires-clause-told g c = c.requires.told (ap is_plain c.in-Claim.is)
 pub release-requires-clause-told : goal.release-requires-clause-told
 release-requires-clause-told g c = c.requires.told (ap is_plain c.in-Release.is)
 
-pub put_strong-requires-clause-told : goal.put_strong-requires-clause-told
-put_strong-requires-clause-told g c = c.requires.told (ap is_plain c.in-StoreStrong.is)
+pub refuse-requires-clause-planned : goal.refuse-requires-clause-planned
+refuse-requires-clause-planned g c =
+    let h = c.args.heap.now in
+    subst (λ (does : Plan). IsPlanned h.key.layout (g.S.HeapShapes.lists h.key.shapes) c.args.pass.now.seat.me.0
+    c.args.op does) c.in-Refuse.is c.requires.planned
 
-pub get_strong-requires-clause-told : goal.get_strong-requires-clause-told
-get_strong-requires-clause-told g c = c.requires.told (ap is_plain c.in-LoadStrong.is)
+pub returns-in-Refuse-clause-done : goal.returns-in-Refuse-clause-done
+returns-in-Refuse-clause-done g c =
+    let h = c.args.heap.now in
+    subst (λ (does : Plan). HasDone h.key.layout (g.S.HeapShapes.lists h.key.shapes) c.args.op does c.refuse.result
+    c.args.pass.now.seat.me.0 c.refuse.new.pass.seat.me.0) (sym c.in-Refuse.is) c.refuse.ensures.done
 
-pub put_weak-requires-clause-told : goal.put_weak-requires-clause-told
-put_weak-requires-clause-told g c = c.requires.told (ap is_plain c.in-StoreWeak.is)
+pub take-requires-clause-planned : goal.take-requires-clause-planned
+take-requires-clause-planned g c =
+    let h = c.args.heap.now in
+    subst (λ (does : Plan). IsPlanned h.key.layout (g.S.HeapShapes.lists h.key.shapes) c.args.pass.now.seat.me.0
+    c.args.op does) c.in-Take.is c.requires.planned
 
-pub get_weak-requires-clause-told : goal.get_weak-requires-clause-told
-get_weak-requires-clause-told g c = c.requires.told (ap is_plain c.in-LoadWeak.is)
+pub returns-in-Take-clause-done : goal.returns-in-Take-clause-done
+returns-in-Take-clause-done g c =
+    let h = c.args.heap.now in
+    subst (λ (does : Plan). HasDone h.key.layout (g.S.HeapShapes.lists h.key.shapes) c.args.op does c.take.result
+    c.args.pass.now.seat.me.0 c.take.new.pass.seat.me.0) (sym c.in-Take.is) c.take.ensures.done
 
-pub leave-requires-clause-told : goal.leave-requires-clause-told
-leave-requires-clause-told g c = c.requires.told (ap is_plain c.in-Retire.is)
+pub get-requires-clause-planned : goal.get-requires-clause-planned
+get-requires-clause-planned g c =
+    let h = c.args.heap.now in
+    subst (λ (does : Plan). IsPlanned h.key.layout (g.S.HeapShapes.lists h.key.shapes) c.args.pass.now.seat.me.0
+    c.args.op does) c.in-LoadSlot.is c.requires.planned
 
-pub join-requires-clause-told : goal.join-requires-clause-told
-join-requires-clause-told g c = c.requires.told (ap is_plain c.in-Join.is)
+pub returns-in-LoadSlot-clause-done : goal.returns-in-LoadSlot-clause-done
+returns-in-LoadSlot-clause-done g c =
+    let h = c.args.heap.now in
+    subst (λ (does : Plan). HasDone h.key.layout (g.S.HeapShapes.lists h.key.shapes) c.args.op does c.get.result
+    c.args.pass.now.seat.me.0 c.get.new.pass.seat.me.0) (sym c.in-LoadSlot.is) c.get.ensures.done
 
-pub ask-requires-clause-told : goal.ask-requires-clause-told
-ask-requires-clause-told g c =
-    let d = c.in_default in
-    c.requires.told (ap is_plain (asks_else c.args.plan c.requires.acted d.not-Refuse d.not-Take d.not-LoadSlot d.not-StoreSlot d.not-Fill
-    d.not-Claim
-    d.not-Release d.not-StoreStrong d.not-LoadStrong d.not-StoreWeak d.not-LoadWeak
-    d.not-LoadElement d.not-StoreElement d.not-Append d.not-StorePair d.not-ClearPair d.not-Show d.not-Join d.not-Retire))
+pub fill-requires-clause-planned : goal.fill-requires-clause-planned
+fill-requires-clause-planned g c =
+    let h = c.args.heap.now in
+    subst (λ (does : Plan). IsPlanned h.key.layout (g.S.HeapShapes.lists h.key.shapes) c.args.pass.now.seat.me.0
+    c.args.op does) c.in-Fill.is c.requires.planned
+
+pub returns-in-Fill-clause-done : goal.returns-in-Fill-clause-done
+returns-in-Fill-clause-done g c =
+    let h = c.args.heap.now in
+    subst (λ (does : Plan). HasDone h.key.layout (g.S.HeapShapes.lists h.key.shapes) c.args.op does c.fill.result
+    c.args.pass.now.seat.me.0 c.fill.new.pass.seat.me.0) (sym c.in-Fill.is) c.fill.ensures.done
+
+pub claim-requires-clause-planned : goal.claim-requires-clause-planned
+claim-requires-clause-planned g c =
+    let h = c.args.heap.now in
+    subst (λ (does : Plan). IsPlanned h.key.layout (g.S.HeapShapes.lists h.key.shapes) c.args.pass.now.seat.me.0
+    c.args.op does) c.in-Claim.is c.requires.planned
+
+pub returns-in-Claim-clause-done : goal.returns-in-Claim-clause-done
+returns-in-Claim-clause-done g c =
+    let h = c.args.heap.now in
+    subst (λ (does : Plan). HasDone h.key.layout (g.S.HeapShapes.lists h.key.shapes) c.args.op does c.claim.result
+    c.args.pass.now.seat.me.0 c.claim.new.pass.seat.me.0) (sym c.in-Claim.is) c.claim.ensures.done
+
+pub release-requires-clause-planned : goal.release-requires-clause-planned
+release-requires-clause-planned g c =
+    let h = c.args.heap.now in
+    subst (λ (does : Plan). IsPlanned h.key.layout (g.S.HeapShapes.lists h.key.shapes) c.args.pass.now.seat.me.0
+    c.args.op does) c.in-Release.is c.requires.planned
+
+pub returns-in-Release-clause-done : goal.returns-in-Release-clause-done
+returns-in-Release-clause-done g c =
+    let h = c.args.heap.now in
+    subst (λ (does : Plan). HasDone h.key.layout (g.S.HeapShapes.lists h.key.shapes) c.args.op does c.release.result
+    c.args.pass.now.seat.me.0 c.release.new.pass.seat.me.0) (sym c.in-Release.is) c.release.ensures.done
+
+pub get_property-requires-clause-planned : goal.get_property-requires-clause-planned
+get_property-requires-clause-planned g c =
+    let h = c.args.heap.now in
+    subst (λ (does : Plan). IsPlanned h.key.layout (g.S.HeapShapes.lists h.key.shapes) c.args.pass.now.seat.me.0
+    c.args.op does) c.in-LoadElement.is c.requires.planned
+
+pub returns-in-LoadElement-clause-done : goal.returns-in-LoadElement-clause-done
+returns-in-LoadElement-clause-done g c =
+    let h = c.args.heap.now in
+    subst (λ (does : Plan). HasDone h.key.layout (g.S.HeapShapes.lists h.key.shapes) c.args.op does c.get_property.result
+    c.args.pass.now.seat.me.0 c.get_property.new.pass.seat.me.0) (sym c.in-LoadElement.is) c.get_property.ensures.done

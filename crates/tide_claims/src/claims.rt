@@ -1,4 +1,4 @@
-//! `Claims`: the cells that one mutator claims. It knows no word.
+//! `Claims`: the cells that one mutator claims, in the order in which the claims began.
 ghost use Rattle.std.specs.Prelude.{◌≡◌, ◌<◌, ◌==◌, ◌++◌, ◌∷◌, [], drop, filter, false, length, nat_le, not, slice_get};
 ghost use Rattle.tide_model.specs.Numbers.{is_among};
 ghost use Rattle.tide_model.specs.Refused.{claims_most};

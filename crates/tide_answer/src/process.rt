@@ -1,4 +1,4 @@
-//! All that the program does with what `main` hands it. It knows no real input or output.
+//! The one call of a process: the words of its command line, or that there was no memory for them, to its exit status.
 ghost use Rattle.std.specs.Prelude.{◌≡◌, ◌≢◌, ◌⊎◌, None, true, IfOk, IfSome, IsErr, IsOk};
 ghost use Rattle.std.specs.Io.KnownBytes.{Keeps};
 ghost use Rattle.tide_io.specs.Faults.{Rose};
@@ -6,7 +6,7 @@ ghost use Rattle.tide_options.specs.Options.{asked_by};
 ghost use Rattle.tide_workload.specs.Words.{reads_workload};
 ghost use Rattle.tide_run.specs.Asked.{AsksToRead, asks_for_made};
 ghost use Rattle.tide_run.specs.Program.{input_of, status_line, IsStatus, TellsLine, ToldFault};
-ghost use Rattle.riptide.specs.Answered.{HasPrinted, HasPrintedPart};
+ghost use Rattle.tide_answer.specs.Answered.{HasPrinted, HasPrintedPart};
 
 use std::alloc::{AllocError, Global};
 use std::marker::Sync;

@@ -1,0 +1,39 @@
+-- What refuses an operation on properties of the cell of a register, by the tests of that cell.
+use Rattle.std.proofs.Common.{ℕ, sym, ◌∙◌, ap, List}
+use Rattle.std.proofs.lemmas.Bool.{eq-eqb, ne_eqb}
+use Rattle.tide_model.specs.Layout.{Layout, class_of}
+use Rattle.tide_model.specs.Numbers.{is_among}
+use Rattle.tide_call.proofs.plan_laws.OwnLaws.{holds-claims}
+use Rattle.tide_call.proofs.plan_laws.RefusalLaws.{holder_refusal-table, holder_refusal-held, holder_refusal-further}
+use Rattle.tide_call.proofs.caller.Caller.property_holder.Goals as goal
+
+pub returns-then-class_of-eq-TABLE-clause-refused : goal.returns-then-class_of-eq-TABLE-clause-refused
+returns-then-class_of-eq-TABLE-clause-refused g c = λ heap state calls further.
+    let layout = c.args.self.now.layout in
+    let cell = c.in_ok-cell.cell in
+    let class = c.class_of.ensures.class ∙ ap (λ (l : Layout). class_of l cell) c.layout.ensures in
+    holder_refusal-table layout state c.args.self.now.who c.args.src cell further
+    (c.in_ok-cell.ensures.cell heap state calls)
+    (eq-eqb (class_of layout cell) 4 (sym class ∙ c.if-class_of-eq-TABLE.true))
+
+pub returns-then-not-contains-clause-refused : goal.returns-then-not-contains-clause-refused
+returns-then-not-contains-clause-refused g c = λ heap state calls further.
+    let layout = c.args.self.now.layout in
+    let cell = c.in_ok-cell.cell in
+    let class = c.class_of.ensures.class ∙ ap (λ (l : Layout). class_of l cell) c.layout.ensures in
+    holder_refusal-held layout state c.args.self.now.who c.args.src cell further
+    (c.in_ok-cell.ensures.cell heap state calls)
+    (ne_eqb (class_of layout cell) 4 (λ is. c.if-class_of-eq-TABLE.false (class ∙ is)))
+    (holds-claims _ c.args.self.now heap state calls cell
+    ∙ ap (λ (l : List ℕ). is_among l cell) (sym c.claims.ensures) ∙ sym c.contains.ensures ∙ c.if-not-contains.true)
+
+pub returns-clause-granted : goal.returns-clause-granted
+returns-clause-granted g c = λ heap state calls further.
+    let layout = c.args.self.now.layout in
+    let cell = c.in_ok-cell.cell in
+    let class = c.class_of.ensures.class ∙ ap (λ (l : Layout). class_of l cell) c.layout.ensures in
+    holder_refusal-further layout state c.args.self.now.who c.args.src cell further
+    (c.in_ok-cell.ensures.cell heap state calls)
+    (ne_eqb (class_of layout cell) 4 (λ is. c.if-class_of-eq-TABLE.false (class ∙ is)))
+    (holds-claims _ c.args.self.now heap state calls cell
+    ∙ ap (λ (l : List ℕ). is_among l cell) (sym c.claims.ensures) ∙ sym c.contains.ensures ∙ c.if-not-contains.false)
