@@ -1,5 +1,5 @@
--- A mutator that has made no call before a part of its, and its note after it.
-use Rattle.std.specs.Prelude.{ℕ, ◌≡◌, ◌<◌}
+-- A mutator that has made no call before a part of its, and its note after it, in which it has retired.
+use Rattle.std.specs.Prelude.{ℕ, ◌≡◌, ◌<◌, true}
 use Rattle.tide_machine.specs.Frozen.{newcomer}
 use Rattle.tide_machine.specs.declared.view.View.{View}
 use Rattle.tide_model.specs.Layout.{Layout}
@@ -11,7 +11,8 @@ pub record MayWork (layout : Layout) (v t : View) : Type 0 where
   pub part : 0 < t.period
   pub has : 1 < layout.registers
 
--- the note is the mutator's, of the ticket's part
+-- the note is the mutator's, of the ticket's part, and tells that it has retired
 pub record HasWorked (v t note : View) : Type 0 where
   pub who : note.who ≡ v.who
   pub part : note.period ≡ t.period
+  pub left : note.left ≡ true

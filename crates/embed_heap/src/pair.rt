@@ -1,9 +1,10 @@
 //! A heap of two mutators: it is opened for one part, in which each makes its calls in a thread of its own, and closed.
 ghost use Rattle.embed_heap.specs.Working.{HasWorked, MayWork};
-ghost use Rattle.std.specs.Prelude.{◌≡◌, ◌<◌, IfOk, IfSome, ℕ, false};
+ghost use Rattle.std.specs.Prelude.{◌≡◌, ◌<◌, IfOk, ℕ, false};
 ghost use Rattle.tide_machine.specs.Frozen.{newcomer};
 ghost use Rattle.tide_model.specs.History.{state_after};
 ghost use Rattle.tide_model.specs.Lawful.{IsLawful};
+ghost use Rattle.tide_mutator.specs.Viewed.{table_of, view_of};
 ghost use Rattle.tide_shape.specs.Lists.{lists_of};
 ghost use Rattle.tide_table.specs.Started.{IsStarted};
 
@@ -31,44 +32,44 @@ fn work_both<R: Threads + Sync>(
     other: Mutator,
     second: Ticket,
 ) -> (Worked, Worked)
-    requires own { (one.own.pass.seat.table_id ≡ heap.now.table.shared.table_id)
-        × (other.own.pass.seat.table_id ≡ heap.now.table.shared.table_id) }
+    requires own { (table_of one ≡ heap.now.table.shared.table_id)
+        × (table_of other ≡ heap.now.table.shared.table_id) }
     requires of_heap { (first.seat.table_id ≡ heap.now.table.shared.table_id)
         × (second.seat.table_id ≡ heap.now.table.shared.table_id) }
-    requires may_one { MayWork heap.now.key.layout one.own.pass.seat.me.0 first.seat.me.0 }
-    requires may_other { MayWork heap.now.key.layout other.own.pass.seat.me.0 second.seat.me.0 }
+    requires may_one { MayWork heap.now.key.layout (view_of one) first.seat.me.0 }
+    requires may_other { MayWork heap.now.key.layout (view_of other) second.seat.me.0 }
     ensures of_heap { (result.0.note.seat.table_id ≡ heap.now.table.shared.table_id)
         × (result.1.note.seat.table_id ≡ heap.now.table.shared.table_id) }
-    ensures one { HasWorked one.own.pass.seat.me.0 first.seat.me.0 result.0.note.seat.me.0 }
-    ensures other { HasWorked other.own.pass.seat.me.0 second.seat.me.0 result.1.note.seat.me.0 }
+    ensures one { HasWorked (view_of one) first.seat.me.0 result.0.note.seat.me.0 }
+    ensures other { HasWorked (view_of other) second.seat.me.0 result.1.note.seat.me.0 }
 {
     join(
         rt,
         || -> Worked
-            requires { (one.own.pass.seat.table_id ≡ heap.now.table.shared.table_id)
+            requires { (table_of one ≡ heap.now.table.shared.table_id)
                 × (first.seat.table_id ≡ heap.now.table.shared.table_id)
-                × MayWork heap.now.key.layout one.own.pass.seat.me.0 first.seat.me.0 }
+                × MayWork heap.now.key.layout (view_of one) first.seat.me.0 }
             ensures { (result.note.seat.table_id ≡ heap.entry.now.table.shared.table_id)
-                × HasWorked one.own.pass.seat.me.0 first.seat.me.0 result.note.seat.me.0 }
+                × HasWorked (view_of one) first.seat.me.0 result.note.seat.me.0 }
         { work(heap, one, first) },
         || -> Worked
-            requires { (other.own.pass.seat.table_id ≡ heap.now.table.shared.table_id)
+            requires { (table_of other ≡ heap.now.table.shared.table_id)
                 × (second.seat.table_id ≡ heap.now.table.shared.table_id)
-                × MayWork heap.now.key.layout other.own.pass.seat.me.0 second.seat.me.0 }
+                × MayWork heap.now.key.layout (view_of other) second.seat.me.0 }
             ensures { (result.note.seat.table_id ≡ heap.entry.now.table.shared.table_id)
-                × HasWorked other.own.pass.seat.me.0 second.seat.me.0 result.note.seat.me.0 }
+                × HasWorked (view_of other) second.seat.me.0 result.note.seat.me.0 }
         { work(heap, other, second) },
     )
 }
 
-/// Runs one part of two mutators in two threads, and closes the heap. `None` where one of them didn't retire.
+/// Runs one part of two mutators in two threads, and closes the heap.
 pub fn run_pair<R: Threads + Sync>(
     rt: &R,
     heap: Heap<Shapes>,
     mut collector: Collector,
     one: Pass,
     other: Pass,
-) -> Result<Option<Ran>, PeriodsSpent>
+) -> Result<Ran, PeriodsSpent>
     requires own { collector.seat.table_id ≡ heap.table.shared.table_id }
     requires of_heap { (one.seat.table_id ≡ heap.table.shared.table_id)
         × (other.seat.table_id ≡ heap.table.shared.table_id) }
@@ -76,10 +77,10 @@ pub fn run_pair<R: Threads + Sync>(
     requires newcomers { (one.seat.me.0 ≡ newcomer 0) × (other.seat.me.0 ≡ newcomer 1) }
     requires two { (heap.key.layout.mutators ≡ 2) × (heap.key.layout.visitors ≡ 0) }
     requires has { 1 < heap.key.layout.registers }
-    ensures lawful { IfOk result (λ o. IfSome o (λ ran.
-        IsLawful heap.key.layout (lists_of heap.key.shapes) ran.closed.seat.me.0.seen)) }
-    ensures retired { IfOk result (λ o. IfSome o (λ ran. (i : ℕ) → i < 2 →
-        (state_after heap.key.layout ran.closed.seat.me.0.seen).active i ≡ false)) }
+    ensures lawful { IfOk result (λ ran.
+        IsLawful heap.key.layout (lists_of heap.key.shapes) ran.closed.seat.me.0.seen) }
+    ensures retired { IfOk result (λ ran. (i : ℕ) → i < 2 →
+        (state_after heap.key.layout ran.closed.seat.me.0.seen).active i ≡ false) }
 {
     collector.open(&heap, 8)?;
     let first = collector.ticket(&heap);
@@ -92,15 +93,11 @@ pub fn run_pair<R: Threads + Sync>(
         Mutator::new(other),
         second,
     );
-    let all_retired = one.note.numbers().left && other.note.numbers().left;
     collector.take(&heap, one.note);
     collector.take(&heap, other.note);
     collector.freeze(&heap);
-    if !all_retired {
-        return Ok(None);
-    }
-    Ok(Some(Ran {
+    Ok(Ran {
         found: (one.found, other.found),
         closed: collector.close(heap),
-    }))
+    })
 }

@@ -8,8 +8,7 @@ use tide_model::Reply;
 use tide_shape::{Paths, Shapes};
 use tide_table::Start;
 
-/// Starts a small heap, runs a part of two mutators on it, and answers what each found. `None` where memory ran out, or
-/// one of them didn't retire.
+/// Starts a small heap, runs a part of two mutators on it, and answers what each found. `None` where memory ran out.
 pub fn run<R: Threads + Sync>(rt: &R, alloc: Global) -> Option<(Reply, Reply)> {
     let layout = Layout::new([1, 0, 0, 0, 1], [1, 0, 0, 0, 0], 4, 2, 2, 2, 0);
     let shapes = Shapes::new(alloc, &Paths::new(alloc)).ok()?;
@@ -22,6 +21,6 @@ pub fn run<R: Threads + Sync>(rt: &R, alloc: Global) -> Option<(Reply, Reply)> {
     let (Some(other), Some(one)) = (mutators.pop(), mutators.pop()) else {
         return None;
     };
-    let ran = run_pair(rt, heap, collector, one, other).ok()??;
+    let ran = run_pair(rt, heap, collector, one, other).ok()?;
     Some(ran.found)
 }

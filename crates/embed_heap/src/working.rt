@@ -1,6 +1,7 @@
 //! What one of the two mutators does in its thread: a part, from its ticket to its note.
 ghost use Rattle.embed_heap.specs.Working.{HasWorked, MayWork};
 ghost use Rattle.std.specs.Prelude.{◌≡◌};
+ghost use Rattle.tide_mutator.specs.Viewed.{table_of, view_of};
 
 use tide_model::{FreePass, Op, Reply};
 use tide_mutator::Mutator;
@@ -18,11 +19,11 @@ pub struct Worked {
 /// Begins a part, sets a register to 7, takes a cell, stores the number in its first slot and reads it again; lets go of
 /// the cell, retires, and stops.
 pub fn work<S: ShapeTable>(heap: &Heap<S>, mut mutator: Mutator, ticket: Ticket) -> Worked
-    requires own { mutator.own.pass.seat.table_id ≡ heap.now.table.shared.table_id }
+    requires own { table_of mutator ≡ heap.now.table.shared.table_id }
     requires of_heap { ticket.seat.table_id ≡ heap.now.table.shared.table_id }
-    requires may { MayWork heap.now.key.layout mutator.own.pass.seat.me.0 ticket.seat.me.0 }
+    requires may { MayWork heap.now.key.layout (view_of mutator) ticket.seat.me.0 }
     ensures of_heap { result.note.seat.table_id ≡ heap.now.table.shared.table_id }
-    ensures worked { HasWorked mutator.own.pass.seat.me.0 ticket.seat.me.0 result.note.seat.me.0 }
+    ensures worked { HasWorked (view_of mutator) ticket.seat.me.0 result.note.seat.me.0 }
 {
     let gate = &FreePass;
     mutator.begin(heap, ticket);
@@ -47,9 +48,7 @@ pub fn work<S: ShapeTable>(heap: &Heap<S>, mut mutator: Mutator, ticket: Ticket)
         gate,
     );
     mutator.call(heap, Op::Drop { dst: 1 }, gate);
-    if mutator.claims() == 0 {
-        mutator.retire(heap, gate);
-    }
+    mutator.retire(heap, gate);
     Worked {
         found,
         note: mutator.stop(heap),

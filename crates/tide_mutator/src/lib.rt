@@ -5,10 +5,9 @@
 //! a time, while others make theirs. It waits for nobody but the turnstile, has no lock, and takes no memory.
 #![tactic(auto)]
 
+mod calling;
 mod deciding;
 mod mutator;
 mod own;
-mod whole;
 
 pub use mutator::Mutator;
-pub use whole::{call_on_growth, call_on_pairs, call_on_properties, make_calls};

@@ -1,5 +1,5 @@
 -- What the words of a command line ask for, and what that comes to.
-use Rattle.std.specs.Prelude.{ℕ, ◌≡◌, Bool, true, false, List, Option, Some, None, is_some, if◌then◌else◌}
+use Rattle.std.specs.Prelude.{ℕ, ◌≡◌, Bool, false, not, List, Option, Some, None, is_some, if◌then◌else◌}
 use Rattle.std.specs.Option.{option_map_or}
 use Rattle.std.specs.Io.KnownBytes.{Keeps}
 use Rattle.tide_make.specs.Made.{made}
@@ -27,15 +27,15 @@ IsAskedFor None old new work = ReadWork old new work
 abbrev pub trigger_for : Options → Work → ℕ
 trigger_for options work = if options.plain then 0 else work.settings.trigger
 
--- The run is one of the workload that the options ask for. Where they don't ask for the plain store, a heap that threads
--- shared kept its history.
+-- The run is one of the workload that the options ask for. A heap that threads shared kept its history just where the
+-- options don't ask for the plain store.
 pub record RanAsked (asked : Option Options) (old new : Option (List ℕ)) (ran : Ran) : Type 0 where
   pub options : Options
   pub are_asked : asked ≡ Some options
   pub work : Work
   pub is_asked_for : IsAskedFor options.make old new work
   pub is_run : IsRunOf work (trigger_for options work) ran
-  pub on_heap : options.plain ≡ false → ran.is_heap ≡ true
+  pub on_heap : ran.is_heap ≡ not options.plain
 
 -- what is printed of a run: its summary where the workload was generated, and else its text
 abbrev pub printed_as : Bool → Ran → List ℕ

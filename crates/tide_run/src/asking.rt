@@ -1,5 +1,5 @@
 //! From the words of a command line to a run: the workload that they ask for, and the store that runs it.
-ghost use Rattle.std.specs.Prelude.{◌≡◌, ◌≢◌, ◌≤◌, ◌⊎◌, Some, None, IfOk, IfErr, is_some, true, false};
+ghost use Rattle.std.specs.Prelude.{◌≡◌, ◌≢◌, ◌≤◌, ◌⊎◌, Some, None, IfOk, IfErr, is_some, not, true};
 ghost use Rattle.std.specs.Io.KnownBytes.{Keeps};
 ghost use Rattle.tide_io.specs.Faults.{Rose};
 ghost use Rattle.tide_options.specs.Options.{asked_by};
@@ -95,7 +95,7 @@ fn run_asked<R: Threads + Sync, T: Turnstile>(
 ) -> Result<Outcome, Memory>
     requires { options.visitors ≤ 8 }
     ensures run { IfOk result (IsRunOf load.now (trigger_for options load.now)) }
-    ensures heap { IfOk result (λ ran. options.plain ≡ false → ran.is_heap ≡ true) }
+    ensures heap { IfOk result (λ ran. ran.is_heap ≡ not options.plain) }
 {
     if options.plain {
         plain(alloc, load)

@@ -1,5 +1,5 @@
 //! Running a workload.
-ghost use Rattle.std.specs.Prelude.{◌≡◌, ◌≤◌, [], length, map, true, All, IfOk};
+ghost use Rattle.std.specs.Prelude.{◌≡◌, ◌≤◌, [], length, map, false, true, All, IfOk};
 ghost use Rattle.tide_periods.specs.Recorded.{IsSettled};
 ghost use Rattle.tide_shape.specs.Shapes.{shapes_of_paths};
 ghost use Rattle.tide_workload.specs.Words.{IsOperation, MAX_OPS, limits_of};
@@ -38,6 +38,7 @@ fn run_with<T: Recorder + Drop>(
     requires headroom { pacing.headroom ≡ load.now.settings.headroom }
     requires paces { T.paces pacing }
     ensures run { IfOk result (IsRunOf load.now pacing.trigger) }
+    ensures own { IfOk result (λ ran. ran.is_heap ≡ false) }
 {
     let layout = layout_with(load.settings(), load.mutators());
     let names = names_of(alloc, load)?;
@@ -109,6 +110,7 @@ fn pacing_with(settings: Settings, trigger: u32) -> Pacing
 /// another, in the order of their numbers. No cycle begins by itself.
 pub fn plain(alloc: Global, load: &Workload) -> Result<Outcome, Memory>
     ensures run { IfOk result (IsRunOf load.now 0) }
+    ensures own { IfOk result (λ ran. ran.is_heap ≡ false) }
 {
     let layout = layout_with(load.settings(), load.mutators());
     let shapes = shapes_from(alloc, load.paths())?;
@@ -125,6 +127,7 @@ pub fn plain(alloc: Global, load: &Workload) -> Result<Outcome, Memory>
 /// tests.
 pub fn words(alloc: Global, load: &Workload) -> Result<Outcome, Memory>
     ensures run { IfOk result (IsRunOf load.now load.now.settings.trigger) }
+    ensures own { IfOk result (λ ran. ran.is_heap ≡ false) }
 {
     let settings = load.settings();
     let layout = layout_with(settings, load.mutators());

@@ -19,6 +19,7 @@ use Rattle.tide_model.specs.Refused.{ShapeLists}
 use Rattle.tide_model.specs.declared.entry.Event.{Event}
 use Rattle.tide_model.specs.declared.op.Op.{Op}
 use Rattle.tide_model.specs.History.{state_after}
+use Rattle.tide_mutator.specs.Viewed.{view_of}
 use Rattle.tide_periods.proofs.Starting.{IsSettled-nothing}
 use Rattle.tide_periods.specs.Asking.{AreNew, Standing}
 use Rattle.tide_periods.specs.Recorded.{IsSettled, recorded_at}
@@ -30,7 +31,7 @@ use Rattle.tide_words.specs.heap.Heap.{heap_of}
 use Rattle.tide_threads.proofs.Shares.{callers_at}
 use Rattle.tide_threads.specs.OnThreads.{callers_in, IsFresh}
 use Rattle.tide_threads.specs.Parked.{IsParked}
-use Rattle.tide_threads.specs.Playing.{AllStandBy, StandsBy, view_of}
+use Rattle.tide_threads.specs.Playing.{AllStandBy, StandsBy}
 use Rattle.tide_threads.specs.Standing.{StandsStill}
 use Rattle.tide_threads.specs.declared.participant.Participant.{Participant}
 

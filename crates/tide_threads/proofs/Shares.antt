@@ -21,6 +21,7 @@ use Rattle.tide_model.specs.Since.{is_call}
 use Rattle.tide_model.specs.declared.Memory.{Memory}
 use Rattle.tide_model.specs.declared.entry.Entry.TheVariants.{Open}
 use Rattle.tide_model.specs.declared.entry.Event.{Event}
+use Rattle.tide_mutator.specs.Viewed.{view_of}
 use Rattle.tide_mutator.specs.declared.mutator.Mutator.{Mutator}
 use Rattle.tide_periods.specs.Laws.{SharesMakePart, with_open}
 use Rattle.tide_periods.specs.Own.{AllTookPart, RanOwnShare, TookPart}
@@ -32,7 +33,7 @@ use Rattle.tide_steps.specs.declared.notes.Note.{Note}
 use Rattle.tide_threads.proofs.Standing.{StandsStill-part, seen_part}
 use Rattle.tide_threads.proofs.Turns.{Both-left, Both-right, StandsBy-frozen, TookTurn-did, all_in}
 use Rattle.tide_threads.specs.OnThreads.{callers_in}
-use Rattle.tide_threads.specs.Playing.{AllServed, AllStandBy, Both, DidPart, GaveNote, MayHear, StandsBy, TookTurn, WasHanded, ended_by, stopped_in, view_of}
+use Rattle.tide_threads.specs.Playing.{AllServed, AllStandBy, Both, DidPart, GaveNote, MayHear, StandsBy, TookTurn, WasHanded, ended_by, stopped_in}
 use Rattle.tide_threads.specs.Standing.{StandsStill}
 use Rattle.tide_threads.specs.Taken.{HasTaken, IsNoted}
 use Rattle.tide_threads.specs.declared.participant.Participant.{Participant}

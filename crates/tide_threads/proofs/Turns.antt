@@ -17,6 +17,7 @@ use Rattle.tide_model.specs.Caller.{IsOwn}
 use Rattle.tide_model.specs.Refused.{ShapeLists}
 use Rattle.tide_model.specs.declared.Memory.{Memory}
 use Rattle.tide_model.specs.declared.entry.Event.{Event}
+use Rattle.tide_mutator.specs.Viewed.{table_of, view_of}
 use Rattle.tide_mutator.specs.declared.mutator.Mutator.{Mutator}
 use Rattle.tide_periods.specs.Asking.{IsCallerAt}
 use Rattle.tide_periods.specs.Own.{RanOwnShare}
@@ -25,7 +26,7 @@ use Rattle.tide_steps.specs.declared.notes.Note.{Note}
 use Rattle.tide_steps.specs.declared.notes.Ticket.{Ticket}
 use Rattle.tide_threads.proofs.Parking.{IsParked-left, IsParked-played}
 use Rattle.tide_threads.specs.Parked.{HasLeft, HasPlayed, IsParked}
-use Rattle.tide_threads.specs.Playing.{Both, DidPart, GaveNote, HasMade, IsReady, IsTicketOf, MayHear, MayPlay, MayTake, StandsBy, TookTurn, WasHanded, table_of, view_of}
+use Rattle.tide_threads.specs.Playing.{Both, DidPart, GaveNote, HasMade, IsReady, IsTicketOf, MayHear, MayPlay, MayTake, StandsBy, TookTurn, WasHanded}
 use Rattle.tide_threads.specs.Standing.{StandsStill}
 use Rattle.tide_threads.specs.Taken.{HasTaken, IsNoted}
 use Rattle.tide_threads.specs.declared.participant.Participant.{Participant}

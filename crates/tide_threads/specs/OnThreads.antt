@@ -4,12 +4,13 @@ use Rattle.atomic_table.specs.Seated.{TableId}
 use Rattle.crossbeam_utils.specs.Padded.{padded_value}
 use Rattle.crossbeam_utils.specs.declared.cache_padded.CachePadded.{CachePadded}
 use Rattle.tide_machine.specs.Frozen.{newcomer}
+use Rattle.tide_mutator.specs.Viewed.{table_of, view_of}
 use Rattle.tide_periods.specs.Recorded.{Recorded, recorded_at}
 use Rattle.tide_periods.specs.Store.{Setting}
 use Rattle.tide_periods.specs.declared.caller.Caller.{Caller}
 use Rattle.tide_periods.specs.declared.pacing.Pacing.{Pacing}
 use Rattle.tide_shape.specs.Lists.{lists_of}
-use Rattle.tide_threads.specs.Playing.{AllStandBy, table_of, view_of}
+use Rattle.tide_threads.specs.Playing.{AllStandBy}
 use Rattle.tide_threads.specs.Standing.{KeepsBooks, StandsStill}
 use Rattle.tide_threads.specs.declared.on_threads.OnThreads.{OnThreads}
 use Rattle.tide_threads.specs.declared.participant.Participant.{Participant}

@@ -11,6 +11,7 @@ use Rattle.tide_model.specs.Numbers.{any_below}
 use Rattle.tide_model.specs.Refused.{ShapeLists}
 use Rattle.tide_model.specs.declared.entry.Event.{Event}
 use Rattle.tide_model.specs.declared.Memory.{Memory}
+use Rattle.tide_mutator.specs.Viewed.{table_of, view_of}
 use Rattle.tide_mutator.specs.declared.mutator.Mutator.{Mutator}
 use Rattle.tide_periods.specs.Own.{IsCallerWithin, RanOwnShare}
 use Rattle.tide_periods.specs.declared.caller.Caller.{Caller}
@@ -18,13 +19,6 @@ use Rattle.tide_steps.specs.declared.notes.Note.{Note}
 use Rattle.tide_steps.specs.declared.notes.Ticket.{Ticket}
 use Rattle.tide_threads.specs.Parked.{HasPlayed, IsParked}
 use Rattle.tide_threads.specs.declared.participant.Participant.{Participant}
-
--- what a mutator knows, and of which table it is
-abbrev pub view_of : Mutator → View
-view_of mutator = mutator.own.pass.seat.me.0
-
-abbrev pub table_of : Mutator → TableId
-table_of mutator = mutator.own.pass.seat.table_id
 
 -- Between two parts a participant is of this table and parked, its caller is its mutator's, and it has neither a ticket
 -- nor a note

@@ -4,8 +4,8 @@ use Rattle.atomic_table.specs.Seated.{TableId}
 use Rattle.tide_acting.specs.Calling.{Kept, kept}
 use Rattle.tide_machine.specs.declared.view.View.{View}
 use Rattle.tide_model.specs.Layout.{Layout}
+use Rattle.tide_mutator.specs.Viewed.{seat_of, table_of, view_of}
 use Rattle.tide_mutator.specs.declared.mutator.Mutator.{Mutator}
-use Rattle.tide_threads.specs.Playing.{table_of, view_of}
 
 -- it has begun, and has left for good or hasn't
 pub record IsWorking (layout : Layout) (v : View) (left : Bool) : Type 0 where
@@ -30,6 +30,6 @@ pub record Same : Type 0 where
 abbrev pub same_of : Mutator → Same
 same_of mutator = record {
   table_id = table_of mutator;
-  seat = mutator.own.pass.seat.id;
+  seat = seat_of mutator;
   kept = kept (view_of mutator);
 }

@@ -2,8 +2,9 @@
 ghost use Rattle.std.specs.Prelude.{◌≡◌, ℕ, Some, false, slice_get};
 ghost use Rattle.crossbeam_utils.specs.Padded.{padded_value};
 ghost use Rattle.crossbeam_utils.specs.declared.cache_padded.CachePadded.{CachePadded};
+ghost use Rattle.tide_mutator.specs.Viewed.{view_of};
 ghost use Rattle.tide_steps.specs.declared.notes.Note.{Note};
-ghost use Rattle.tide_threads.specs.Playing.{view_of, Both, GaveNote, MayTake, WasHanded};
+ghost use Rattle.tide_threads.specs.Playing.{Both, GaveNote, MayTake, WasHanded};
 ghost use Rattle.tide_threads.specs.Taken.{HasTaken, IsNoted};
 ghost use Rattle.tide_threads.specs.declared.participant.Participant.{Participant};
 

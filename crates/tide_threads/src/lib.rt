@@ -15,8 +15,6 @@ mod periods;
 mod playing;
 mod sharing;
 
-pub use freezing::{count_live, freeze_heap};
 pub use on_threads::OnThreads;
-pub use part::run_whole_part;
 pub use participant::Participant;
 pub use periods::run_on_threads;

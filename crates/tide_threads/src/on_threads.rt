@@ -77,6 +77,7 @@ fn participants_of(
     passes: Vec<Pass>,
     callers: Vec<Caller>,
 ) -> Result<Vec<CachePadded<Participant>>, Memory>
+    requires as_many { length callers.items ≡ length passes.items }
     requires passes { (id : TableId) × ArePasses id 0 passes.items }
     requires numbers { (who : ℕ) (caller : Caller) → slice_get callers.items who ≡ Some caller → caller.who ≡ who }
     ensures callers { IfOk result (λ made. callers_in made.items ≡ callers.items) }
@@ -87,7 +88,7 @@ fn participants_of(
     let mut rest = passes.into_iter();
     for caller in callers {
         let Some(pass) = rest.next() else {
-            return Err(Memory);
+            unreachable!()
         };
         let participant = Participant::new(pass, caller);
         append(&mut participants, CachePadded::new(participant))?;

@@ -2,9 +2,10 @@
 ghost use Rattle.std.specs.Prelude.{◌≡◌, ◌<◌, false, IfOk, None};
 ghost use Rattle.tide_machine.specs.Frozen.{newcomer};
 ghost use Rattle.tide_model.specs.Prefix.{IsPrefix};
+ghost use Rattle.tide_mutator.specs.Viewed.{table_of, view_of};
 ghost use Rattle.tide_shape.specs.Lists.{lists_of};
 ghost use Rattle.tide_threads.specs.Parked.{HasBegun};
-ghost use Rattle.tide_threads.specs.Playing.{table_of, view_of, DidPart, HasMade, IsReady, MayPlay};
+ghost use Rattle.tide_threads.specs.Playing.{DidPart, HasMade, IsReady, MayPlay};
 
 use crate::sharing::make_share;
 use tide_model::{Memory, Turnstile};
@@ -42,7 +43,7 @@ fn begin(mutator: &mut Mutator, heap: &Heap<Shapes>, ticket: Ticket)
 
 impl Participant {
     /// A participant with this pass that has made no call yet, and its caller.
-    pub fn new(pass: Pass, caller: Caller) -> Participant
+    pub(crate) fn new(pass: Pass, caller: Caller) -> Participant
         requires newcomer { pass.seat.me.0 ≡ newcomer caller.who }
         ensures table { table_of result.mutator ≡ pass.seat.table_id }
         ensures view { view_of result.mutator ≡ newcomer caller.who }
@@ -59,7 +60,7 @@ impl Participant {
     }
 
     /// Its caller, when all is run.
-    pub fn into_caller(self) -> Caller
+    pub(crate) fn into_caller(self) -> Caller
         ensures { result ≡ self.caller }
     {
         let Participant {

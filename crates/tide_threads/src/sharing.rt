@@ -5,9 +5,9 @@ ghost use Rattle.tide_model.specs.Caller.{MakesCall};
 ghost use Rattle.tide_model.specs.Lawful.{FitsLayout};
 ghost use Rattle.tide_model.specs.Script.{is_retire};
 ghost use Rattle.tide_model.specs.declared.op.Op.TheVariants.{Retire};
+ghost use Rattle.tide_mutator.specs.Viewed.{table_of, view_of};
 ghost use Rattle.tide_periods.specs.Own.{IsCallerWithin, RanOwnShare};
 ghost use Rattle.tide_shape.specs.Lists.{lists_of};
-ghost use Rattle.tide_threads.specs.Playing.{table_of, view_of};
 ghost use Rattle.tide_threads.specs.Works.{room_of, same_of, IsWorking};
 
 use tide_model::{Memory, Op, Reply, Turnstile};

@@ -11,7 +11,7 @@ use Rattle.tide_periods.specs.Run.{HasRun}
 use Rattle.tide_periods.specs.Store.{Setting}
 use Rattle.tide_workload.specs.Words.{Settings}
 use Rattle.tide_periods.specs.declared.run.Finished.{Finished}
-use Rattle.tide_run.specs.Outcome.{IsOutcome, history_of}
+use Rattle.tide_run.specs.Outcome.{IsOutcome, history_of, is_heap}
 use Rattle.tide_run.specs.declared.outcome.Kept.{Kept}
 use Rattle.tide_run.specs.declared.outcome.Kept.TheVariants.{Own}
 use Rattle.tide_run.specs.Runs.{Ran, layout_of_work, layout_with}
@@ -99,4 +99,5 @@ returns g c =
           ∙ ap (λ (n : ℕ). record { period = work.settings.period; headroom = n; trigger = c.args.pacing.trigger }) c.requires.headroom) c.requires.layout
           c.requires.shapes c.requires.scripts
           (ap (λ (r : Ran). r.layout) c.new-2.ensures ∙ layout) (ap (λ (r : Ran). r.keys) c.new-2.ensures ∙ c.in_ok-names.ensures) (ap (λ (r : Ran). r.history) c.new-2.ensures ∙ ap (λ (x : Finished Kept). history_of x.kept) c.kept_itself.ensures);
+      own = ap (λ (r : Ran). r.is_heap) c.new-2.ensures ∙ ap (λ (x : Finished Kept). is_heap x.kept) c.kept_itself.ensures;
     }

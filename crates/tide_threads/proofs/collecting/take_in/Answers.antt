@@ -5,9 +5,10 @@ use Rattle.std.proofs.lemmas.Option.{slice_get_within}
 use Rattle.std.specs.Prelude.{slice_get}
 use Rattle.crossbeam_utils.specs.Padded.{padded_value}
 use Rattle.crossbeam_utils.specs.declared.cache_padded.CachePadded.{CachePadded}
+use Rattle.tide_mutator.specs.Viewed.{view_of}
 use Rattle.tide_threads.proofs.Loops.{both_step, later_step, old_here}
 use Rattle.tide_threads.proofs.Parking.{HasTaken-trans, IsNoted-kept}
-use Rattle.tide_threads.specs.Playing.{GaveNote, view_of}
+use Rattle.tide_threads.specs.Playing.{GaveNote}
 use Rattle.tide_threads.specs.Taken.{IsNoted}
 use Rattle.tide_threads.specs.declared.participant.Participant.{Participant}
 use Rattle.tide_threads.proofs.collecting.take_in.Goals as goal

@@ -3,8 +3,9 @@ use Rattle.std.proofs.Common.{ℕ, ◌≡◌, ◌<◌, ◌≤◌}
 use Rattle.std.specs.Prelude.{Some, slice_get}
 use Rattle.crossbeam_utils.specs.Padded.{padded_value}
 use Rattle.crossbeam_utils.specs.declared.cache_padded.CachePadded.{CachePadded}
+use Rattle.tide_mutator.specs.Viewed.{view_of}
 use Rattle.tide_steps.specs.declared.notes.Note.{Note}
-use Rattle.tide_threads.specs.Playing.{GaveNote, view_of}
+use Rattle.tide_threads.specs.Playing.{GaveNote}
 use Rattle.tide_threads.specs.Taken.{HasTaken, IsNoted}
 use Rattle.tide_threads.specs.declared.participant.Participant.{Participant}
 use Rattle.tide_threads.proofs.collecting.take_in.Given as goal

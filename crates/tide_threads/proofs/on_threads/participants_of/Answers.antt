@@ -1,5 +1,5 @@
 -- Why there is a participant for each pass.
-use Rattle.std.proofs.Common.{ℕ, ◌≡◌, ◌∙◌, sym, ap, subst, List, [], ◌∷◌, ◌++◌, append_assoc, length, inl, inr}
+use Rattle.std.proofs.Common.{ℕ, suc, ◌≡◌, ◌∙◌, sym, ap, arith, subst, List, [], ◌∷◌, ◌++◌, append_assoc, length, inl, inr}
 use Rattle.std.proofs.lemmas.List.{length-map}
 use Rattle.std.specs.Prelude.{None, Some, slice_get}
 use Rattle.std.specs.Vec.Iter.{into_iter_items}
@@ -16,6 +16,9 @@ use Rattle.tide_threads.proofs.on_threads.participants_of.Goals as goal
 pub loop-caller-init : goal.loop-caller-init
 loop-caller-init c = record {
   callers = ap callers_in c.in_ok-participants.ensures;
+  as_many = ap length c.into_iter-caller-iterator.ensures.into_iter_gives.0 ∙ c.requires.as_many
+      ∙ sym (ap length c.into_iter-rest.ensures.rest);
+  counted = c.into_iter-rest.ensures.len ∙ c.args.passes.ok.0 ∙ sym (ap length c.into_iter-rest.ensures.rest);
   whole = c.into_iter-caller-iterator.ensures.into_iter_gives.0;
   left = λ id passes. subst (ArePasses id 0) (sym c.into_iter-rest.ensures.rest) passes;
   fresh = λ id passes who padded found.
@@ -55,6 +58,16 @@ loop-caller-preserved c =
           ∙ ap (λ (l : List Caller). l ++ (padded_value new).caller ∷ []) so.callers
           ∙ ap (λ (x : Participant). yielded ++ x.caller ∷ []) c.new.ensures
           ∙ ap (λ (k : Caller). yielded ++ k ∷ []) c.new-participant.ensures.caller;
+      as_many =
+          let so_many : suc (length left) ≡ suc (length (into_iter_items c.next-in-loop-caller.new.self)) =
+          sym (ap length c.in-Some.ensures.steps.0) ∙ so.as_many ∙ ap length c.in-Some-next.ensures.items in
+          omega (arith, so_many);
+      counted =
+          let passes : length (into_iter_items c.loop-caller.rest) ≡ suc (length (into_iter_items c.next-in-loop-caller.new.self)) =
+          ap length c.in-Some-next.ensures.items in
+          let before = so.counted in
+          let less = c.in-Some-next.ensures.len in
+          omega (arith, passes, before, less);
       whole = append_assoc yielded (caller ∷ []) left ∙ whole;
       left = λ id passes.
           let at = subst (ArePasses id (length yielded)) c.in-Some-next.ensures.items (so.left id passes) in

@@ -3,6 +3,7 @@ use Rattle.std.proofs.Common.{◌+◌, ◌∙◌, refl, sym, ap, arith, subst}
 use Rattle.tide_acting.specs.Standing.{claims_of}
 use Rattle.tide_model.proofs.CallLaws.{nothing_of_no_length}
 use Rattle.tide_model.specs.Lawful.{FitsLayout}
+use Rattle.tide_mutator.specs.Viewed.{view_of}
 use Rattle.tide_periods.proofs.CallerLaws.{bare-next, fits-next}
 use Rattle.tide_periods.proofs.OwnShares.{IsSharingOwn-nothing, RanOwnShare-over, RanOwnShare-stops}
 use Rattle.tide_periods.proofs.PartLoops.{IsSharingOwn}
@@ -10,7 +11,6 @@ use Rattle.tide_periods.specs.Asking.{Standing, standing_of}
 use Rattle.tide_periods.specs.Store.{Setting}
 use Rattle.tide_shape.specs.Lists.{lists_of}
 use Rattle.tide_threads.proofs.Grown.{IsSharingOwn-made}
-use Rattle.tide_threads.specs.Playing.{view_of}
 use Rattle.tide_threads.specs.Works.{IsWorking, Same}
 use Rattle.tide_threads.proofs.sharing.make_share.Goals as goal
 

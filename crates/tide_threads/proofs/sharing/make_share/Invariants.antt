@@ -1,8 +1,8 @@
 -- What the loop of sharing::make_share keeps.
 use Rattle.std.proofs.Common.{◌≡◌, ◌+◌, ◌≤◌, false}
+use Rattle.tide_mutator.specs.Viewed.{table_of, view_of}
 use Rattle.tide_periods.proofs.PartLoops.{IsSharingOwn}
 use Rattle.tide_shape.specs.Lists.{lists_of}
-use Rattle.tide_threads.specs.Playing.{table_of, view_of}
 use Rattle.tide_threads.specs.Works.{room_of, same_of, IsWorking}
 use Rattle.tide_threads.proofs.sharing.make_share.Given as goal
 

@@ -22,6 +22,12 @@ pub participants_of-requires-clause-passes : goal.participants_of-requires-claus
 participants_of-requires-clause-passes c =
     (c.in_ok-heap.field-0.heap.table.shared.table_id, c.in_ok-heap.ensures.mutators.1)
 
+pub participants_of-requires-clause-as_many : goal.participants_of-requires-clause-as_many
+participants_of-requires-clause-as_many c =
+    sym (length-map c.in_ok-callers.callers.items (λ (x : Caller). x.ops.items)) ∙ ap length c.in_ok-callers.ensures.scripts_are
+    ∙ length-map c.args.scripts.items (λ ops. ops.items) ∙ c.requires.mutators ∙ sym c.in_ok-heap.ensures.mutators.0
+    ∙ c.in_ok-heap.field-0.mutators.ok.0
+
 pub participants_of-requires-clause-numbers : goal.participants_of-requires-clause-numbers
 participants_of-requires-clause-numbers c = λ who caller found. (c.in_ok-callers.ensures.each who caller found).number
 

@@ -2,11 +2,11 @@
 use Rattle.std.proofs.Common.{ℕ, ◌∙◌, refl, sym, ap, subst, List}
 use Rattle.tide_machine.specs.declared.view.View.{View}
 use Rattle.tide_model.specs.declared.entry.Event.{Event}
+use Rattle.tide_mutator.specs.Viewed.{view_of}
 use Rattle.tide_periods.specs.Own.{RanOwnShare}
 use Rattle.tide_periods.specs.Store.{Setting}
 use Rattle.tide_shape.specs.Lists.{lists_of}
 use Rattle.tide_threads.proofs.Making.{HasPlayed-stopped}
-use Rattle.tide_threads.specs.Playing.{view_of}
 use Rattle.tide_threads.specs.Works.{Same}
 use Rattle.tide_threads.proofs.participant.Participant.play.Goals as goal
 
