@@ -10,8 +10,8 @@ this script alone; where other work runs beside, the clock tells of that work to
 
 - `--make 7` is the generated workload: four mutators, 80,004 calls, 16,000 cells.
 - `four` is the same as a file, whose text is printed, and `one` is the first of its mutators alone.
-- What `one` takes but for its reading is what it takes longer than reading the file alone: PROGRAM reads all of a file whose
-  last operation is none, and refuses it, and the twin ends there with `--read`.
+- What a file takes but for its reading is what it takes longer than reading it alone: PROGRAM reads all of a file whose last
+  operation is none, and refuses it, and the twin ends there with `--read`.
 - `properties` and `ephemerons` are of four mutators, 65,536 calls in all: each gives cells of its own two properties, writes
   one and reads one, or makes tables, gives each a pair whose key its register keeps, and reads it.
 - N mutators make 65,536 calls without any cell, in parts of 4 for each. What a part costs is what such a run takes longer
@@ -112,18 +112,16 @@ def built(room):
     return twin
 
 
-def but_for_reading(program, twin, path, times):
-    """Prints what the first mutator of the generated workload takes but for the reading of its file."""
-    mine, others = beside([[program], [twin, "--turns"]], path, times)
-    read = [run([twin, "--read"], path) for _ in range(times)]
-    write(path, 64, 1000, [rounds(7, 0) + ["none"]])
-    refused = [run([program], path, ends=3) for _ in range(times)]
+def but_for_reading(name, program, twin, words, path, refused, times):
+    """Prints what a file takes but for its reading; `refused` is the same file with an operation that is none behind it."""
+    runs = (([program], path, 0), ([program], refused, 3), ([twin, *words], path, 0), ([twin, "--read"], path, 0))
+    mine, alone, others, read = zip(*[[run(*one) for one in runs] for _ in range(times)])
     cells = []
     for at in (0, 1):
-        one, other = (1000 * (median(run[at] for run in all_) - median(run[at] for run in alone))
-                      for all_, alone in ((mine, refused), (others, read)))
+        one, other = (1000 * median(all_[at] - reading[at] for all_, reading in zip(*both))
+                      for both in ((mine, alone), (others, read)))
         cells += ["%.1f" % one, "%.1f" % other, "%.2f" % (one / other)]
-    print("| one, but for its reading | turns | " + " | ".join(cells) + " |", flush=True)
+    print(f"| {name}, but for its reading | {'turns' if words else 'threads'} | " + " | ".join(cells) + " |", flush=True)
 
 
 def hand_over(program, twin, room, count, times):
@@ -156,10 +154,15 @@ def main():
             write(path, 64, 1000, [rounds(7, mutator) for mutator in range(count)])
             row(f"{name} | " + ("turns" if words else "threads"), *beside([[program], [twin, *words]], path, times))
             differing |= count == 1 and said([program], path) != said([twin], path)
-        but_for_reading(program, twin, path, times)
+        refused = os.path.join(room, "refused.toml")
+        write(refused, 64, 1000, [rounds(7, 0) + ["none"]])
+        but_for_reading("one", program, twin, ["--turns"], path, refused, times)
         for name, operations in (("properties", PROPERTIES), ("ephemerons", EPHEMERONS)):
-            write(path, 64, 1000, [in_a_ring(operations, mutator) for mutator in range(4)], 64, 64)
+            scripts = [in_a_ring(operations, mutator) for mutator in range(4)]
+            write(path, 64, 1000, scripts, 64, 64)
             row(f"{name} | threads", *beside([[program], [twin]], path, times))
+            write(refused, 64, 1000, [*scripts[:3], scripts[3] + ["none"]], 64, 64)
+            but_for_reading(name, program, twin, [], path, refused, times)
         print()
         print("| Mutators | A part by the clock, microseconds | Twin | Of the processor | Twin |")
         print("|---|---|---|---|---|")
