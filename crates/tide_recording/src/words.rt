@@ -8,12 +8,12 @@ ghost use Rattle.tide_recording.specs.Kept.{recorded_in, StandsWhole};
 use std::alloc::Global;
 use tide_call::Claims;
 use tide_freeze::{Births, Chronicle};
-use tide_layout::{Layout, Region};
+use tide_layout::{BLOCK_SIZE, Layout, Region};
 use tide_model::{Entry, Event, Memory};
 use tide_periods::Room;
 use tide_report::Report;
 use tide_shape::Shapes;
-use tide_words::{GreyList, Words, is_live, store_word};
+use tide_words::{GreyList, Words, is_live, is_vacant, store_word};
 
 /// The words of a heap, with the history of what was run on them.
 ///
@@ -116,10 +116,18 @@ impl RecordedWords {
         ensures same { recorded_in self.new ≡ recorded_in self.old }
         ensures stands { StandsWhole self.new }
     {
+        let words = &mut self.chronicle.words;
+        let cells = self.layout.cells();
         let mut count = 0;
-        for cell in 0..self.layout.cells() {
-            if is_live(&mut self.chronicle.words, &self.layout, cell) {
-                count += 1;
+        let mut cell = 0;
+        while cell < cells {
+            if cell % BLOCK_SIZE == 0 && is_vacant(words, &self.layout, cell / BLOCK_SIZE) {
+                cell += BLOCK_SIZE;
+            } else {
+                if is_live(words, &self.layout, cell) {
+                    count += 1;
+                }
+                cell += 1;
             }
         }
         count
