@@ -2,10 +2,9 @@
 //!
 //! - **What each mutator did.** Its calls are its script, in order, and each reply is one that may be given after its own calls
 //!   (`held.rt`).
-//! - **What became of each cell.** It was freed as often as it was born, or once less, where it lives at the end: so no cell was
-//!   born while it lived, and only cells that lived were freed.
+//! - **What became of each cell.** It was freed as often as it was born, or once less, where it lives at the end.
 //! - **What the cycles tell.** They have their numbers, one after another, and the cells that each freed stand in rising order;
-//!   what each kept and freed adds up with the one before it, and the cells that live at the end with the last one.
+//!   what each kept and freed is no less than what the one before it kept, and no fewer live at the end than the last one kept.
 //!
 //! They are weaker than that some order of the calls gives the text, and take no search for one.
 
