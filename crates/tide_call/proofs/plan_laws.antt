@@ -8,3 +8,4 @@ pub mod OwnLaws
 pub mod PairCounts
 pub mod PairPlaces
 pub mod RefusalLaws
+pub mod Told

@@ -20,7 +20,7 @@ use tide_shape::ShapeTable;
 use tide_words::word_pair;
 
 /// The value of a key's pair, and the place of its word among those of a table.
-#[derive(Clone, Copy, Debug)]
+#[derive(Clone, Copy)]
 struct Pair {
     place: u8,
     value: Val,
@@ -66,7 +66,7 @@ fn place_for(words: &[u64; 8], key: u32) -> Option<u8>
 }
 
 /// A table and a key cell, which two registers hold.
-#[derive(Clone, Copy, Debug)]
+#[derive(Clone, Copy)]
 struct PairCells {
     table: u32,
     key: u32,

@@ -3,7 +3,7 @@ use crate::additions::Addition;
 use tide_model::{Refusal, Val};
 
 /// What a call is to do: `dst` is the register that gets what was read or born, `cell` the cell whose fields change.
-#[derive(Clone, Copy, Debug, PartialEq, Eq)]
+#[derive(Clone, Copy)]
 pub enum Plan {
     Refuse {
         refusal: Refusal,

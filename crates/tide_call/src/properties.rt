@@ -21,7 +21,7 @@ use tide_model::Refusal;
 use tide_shape::ShapeTable;
 
 /// A property: the cell that has it, and the element that it stands in.
-#[derive(Clone, Copy, Debug)]
+#[derive(Clone, Copy)]
 struct Property {
     cell: u32,
     array: u32,

@@ -1,12 +1,12 @@
 -- What refuses an operation where the first tests are known.
 use Rattle.std.proofs.Common.{ℕ, ◌≡◌, ◌∙◌, ap, Bool, true, false, List, [], ◌∷◌, Option, None, Some}
 use Rattle.std.proofs.lemmas.Option.{none-some}
-use Rattle.std.specs.Prelude.{not}
+use Rattle.std.specs.Prelude.{if◌then◌else◌, nat_lt, not}
 use Rattle.tide_model.specs.declared.op.Refusal.{Refusal}
-use Rattle.tide_model.specs.declared.op.Refusal.TheVariants.{IsTable, NoShape, NotHeld, NotTable, Present}
+use Rattle.tide_model.specs.declared.op.Refusal.TheVariants.{IsTable, NoShape, NoSlot, NotHeld, NotTable, Present}
 use Rattle.tide_model.specs.declared.val.Val.{Val}
 use Rattle.tide_model.specs.declared.val.Val.TheVariants.{Cell, Empty, Int}
-use Rattle.tide_model.specs.Layout.{Layout}
+use Rattle.tide_model.specs.Layout.{Layout, class_of, slots_of}
 use Rattle.tide_model.specs.Refused.{first_of, holder_refusal, holds, is_table, pair_refusal, refusal_at, refuse_if, slot_refusal}
 use Rattle.tide_model.specs.State.{State}
 
@@ -17,6 +17,25 @@ pub slot_refusal-none : (layout : Layout) (value : Val) (register slot : ℕ) (r
 slot_refusal-none layout Empty register slot refusal refused = refused (λ cell. None)
 slot_refusal-none layout (Int n) register slot refusal refused = refused (λ cell. None)
 slot_refusal-none layout (Cell cell) register slot refusal refused = absurd (none-some refusal (refused (λ at. None)))
+
+-- what refuses an operation on a slot of the cell that a register holds, by its two tests
+module _ (layout : Layout) (value : Val) (register slot cell : ℕ) (source : value ≡ Cell cell) where
+  abbrev tests : Bool → Bool → Option Refusal
+  tests table within = if table then Some IsTable else if within then None else Some (NoSlot slot)
+
+  by_slot : slot_refusal layout value register slot ≡ tests (is_table layout cell) (nat_lt slot (slots_of (class_of layout cell)))
+  by_slot = ap (λ (v : Val). slot_refusal layout v register slot) source
+
+  pub slot_refusal-table : is_table layout cell ≡ true → slot_refusal layout value register slot ≡ Some IsTable
+  slot_refusal-table is = by_slot ∙ ap (λ (table : Bool). tests table (nat_lt slot (slots_of (class_of layout cell)))) is
+
+  pub slot_refusal-lacks : is_table layout cell ≡ false → nat_lt slot (slots_of (class_of layout cell)) ≡ false →
+      slot_refusal layout value register slot ≡ Some (NoSlot slot)
+  slot_refusal-lacks isnt lacks = by_slot ∙ (λ i. tests (isnt i) (lacks i))
+
+  pub slot_refusal-has : is_table layout cell ≡ false → nat_lt slot (slots_of (class_of layout cell)) ≡ true →
+      slot_refusal layout value register slot ≡ None
+  slot_refusal-has isnt has = by_slot ∙ (λ i. tests (isnt i) (has i))
 
 -- the last refusal, by its test
 pub last_refusal : (test known : Bool) (refusal : Refusal) → test ≡ known →
@@ -33,6 +52,18 @@ addition_refusals present declared known new is_known is_new =
 -- a present key refuses an addition whatever the shapes
 pub present_refused : (declared : Bool) → first_of (refuse_if true Present ∷ refuse_if declared NoShape ∷ []) ≡ Some Present
 present_refused declared = λ i. Some Present
+
+-- a key register without a cell refuses an operation on a pair of the cell that the other register holds
+pub pair_refusal-key : (layout : Layout) (state : State) (who src register table : ℕ) (further : ℕ → ℕ → Option Refusal)
+    (refusal : Refusal) → state.registers who src ≡ Cell table →
+    ((after : ℕ → Option Refusal) → refusal_at (state.registers who register) register after ≡ Some refusal) →
+    pair_refusal layout state who src register further ≡ Some refusal
+pair_refusal-key layout state who src register table further refusal source refused =
+    ap (λ (v : Val). refusal_at v src (λ t. refusal_at (state.registers who register) register (λ k. first_of (
+    refuse_if (not (is_table layout t)) NotTable ∷ refuse_if (not (holds state who t)) NotHeld ∷ further t k ∷ []))))
+    source
+    ∙ refused (λ k. first_of (refuse_if (not (is_table layout table)) NotTable
+    ∷ refuse_if (not (holds state who table)) NotHeld ∷ further table k ∷ []))
 
 -- what refuses an operation on the pair of a table and a key cell that two registers hold, by its first two tests
 module _ (layout : Layout) (state : State) (who src register table key : ℕ) (further : ℕ → ℕ → Option Refusal)

@@ -8,40 +8,61 @@ use Rattle.tide_call.proofs.plan_laws.PairPlaces.{place-for, place-granted, plac
 use Rattle.tide_call.proofs.plan_laws.RefusalLaws.{last_refusal}
 use Rattle.tide_call.proofs.caller.Caller.plan_pair_set.Goals as goal
 
-pub returns-in_default-clause-plan : goal.returns-in_default-clause-plan
-returns-in_default-clause-plan g c = λ heap state calls_then.
-    let caller = c.args.self.now in
-    let cells = c.in-Ok.cells in
-    let found = c.in-Ok.ensures in
-    let calls = c.pairs_of-words.ensures.owns.1 heap state calls_then in
-    let words = c.pairs_of-words.result in
-    found.granted heap state calls (λ table key. refuse_if (not (has_pair state table key) && nat_le pairs_most (pair_count caller.layout state table)) PairsFull)
-    ∙ last_refusal (not (has_pair state cells.table cells.key) && nat_le pairs_most (pair_count caller.layout state cells.table)) true PairsFull
-    (place-refused _ caller heap state calls cells.table words found.within found.is_table found.claimed
-    (c.pairs_of-words.ensures.words heap state calls_then) cells.key c.in_default.ensures.absent c.in_default.ensures.full)
+pub returns-in-Err : goal.returns-in-Err
+returns-in-Err g c = record {
+  plan = λ heap state calls. c.in-Err.ensures.refused heap state calls (λ table key. refuse_if (not (has_pair state table key) && nat_le pairs_most (pair_count c.args.self.now.layout state table)) PairsFull);
+  owns = c.pair_cells.ensures.owns;
+}
 
-pub returns-clause-plan : goal.returns-clause-plan
-returns-clause-plan g c = λ heap state last.
-    let caller = c.args.self.now in
-    let cells = c.in-Ok.cells in
-    let found = c.in-Ok.ensures in
-    let calls_then = c.value_in.ensures.owns.1 heap state last in
-    let calls = c.pairs_of-words.ensures.owns.1 heap state calls_then in
-    let words = c.pairs_of-words.result in
-    let same = c.pairs_of-words.ensures.words heap state calls_then in
-    let place = c.in-Some.place in
-    let is = c.in-Some.ensures.place in (
+pub returns-in_default : goal.returns-in_default
+returns-in_default g c = record {
+  plan = λ heap state calls_then.
+      let caller = c.args.self.now in
+      let cells = c.in-Ok.cells in
+      let found = c.in-Ok.ensures in
+      let calls = c.pairs_of-words.ensures.owns.1 heap state calls_then in
+      let words = c.pairs_of-words.result in
       found.granted heap state calls (λ table key. refuse_if (not (has_pair state table key) && nat_le pairs_most (pair_count caller.layout state table)) PairsFull)
-          ∙ last_refusal (not (has_pair state cells.table cells.key) && nat_le pairs_most (pair_count caller.layout state cells.table)) false PairsFull
-          (place-granted _ caller heap state calls cells.table words found.within found.is_table found.claimed same cells.key place is),
-      (
-        cells.table,
-        cells.key,
-        place,
-        found.table heap state calls,
-        found.key heap state calls,
-        place-slot _ caller heap state calls cells.table words found.within found.is_table found.claimed same cells.key place is,
-        place-for _ caller heap state calls cells.table words found.within found.is_table found.claimed same cells.key place is,
-        ap (λ (value : Val). StorePair cells.table place cells.key value) (sym (c.value_in.ensures.value heap state last)),
-      ),
-    )
+      ∙ last_refusal (not (has_pair state cells.table cells.key) && nat_le pairs_most (pair_count caller.layout state cells.table)) true PairsFull
+      (place-refused _ caller heap state calls cells.table words found.within found.is_table found.claimed
+      (c.pairs_of-words.ensures.words heap state calls_then) cells.key c.in_default.ensures.absent c.in_default.ensures.full);
+  owns = (
+    c.pairs_of-words.ensures.owns.0,
+    (λ heap state last. c.pair_cells.ensures.owns.1 heap state (c.pairs_of-words.ensures.owns.1 heap state last)),
+    c.pairs_of-words.ensures.owns.2 ∙ c.pair_cells.ensures.owns.2,
+  );
+}
+
+pub returns : goal.returns
+returns g c = record {
+  plan = λ heap state last.
+      let caller = c.args.self.now in
+      let cells = c.in-Ok.cells in
+      let found = c.in-Ok.ensures in
+      let calls_then = c.value_in.ensures.owns.1 heap state last in
+      let calls = c.pairs_of-words.ensures.owns.1 heap state calls_then in
+      let words = c.pairs_of-words.result in
+      let same = c.pairs_of-words.ensures.words heap state calls_then in
+      let place = c.in-Some.place in
+      let is = c.in-Some.ensures.place in (
+        found.granted heap state calls (λ table key. refuse_if (not (has_pair state table key) && nat_le pairs_most (pair_count caller.layout state table)) PairsFull)
+            ∙ last_refusal (not (has_pair state cells.table cells.key) && nat_le pairs_most (pair_count caller.layout state cells.table)) false PairsFull
+            (place-granted _ caller heap state calls cells.table words found.within found.is_table found.claimed same cells.key place is),
+        (
+          cells.table,
+          cells.key,
+          place,
+          found.table heap state calls,
+          found.key heap state calls,
+          place-slot _ caller heap state calls cells.table words found.within found.is_table found.claimed same cells.key place is,
+          place-for _ caller heap state calls cells.table words found.within found.is_table found.claimed same cells.key place is,
+          ap (λ (value : Val). StorePair cells.table place cells.key value) (sym (c.value_in.ensures.value heap state last)),
+        ),
+      );
+  owns = (
+    c.value_in.ensures.owns.0,
+    (λ heap state last. c.pair_cells.ensures.owns.1 heap state
+        (c.pairs_of-words.ensures.owns.1 heap state (c.value_in.ensures.owns.1 heap state last))),
+    c.value_in.ensures.owns.2 ∙ c.pairs_of-words.ensures.owns.2 ∙ c.pair_cells.ensures.owns.2,
+  );
+}

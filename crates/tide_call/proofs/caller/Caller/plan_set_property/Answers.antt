@@ -3,24 +3,30 @@ use Rattle.tide_call.specs.declared.plan.Plan.TheVariants.{StoreElement}
 use Rattle.tide_layout.specs.Slots.{HasElement}
 use Rattle.tide_call.proofs.caller.Caller.plan_set_property.Goals as goal
 
-pub returns-in-Ok-clause-plan : goal.returns-in-Ok-clause-plan
-returns-in-Ok-clause-plan g c = λ heap state last.
-    let found = c.in-Ok.found in
-    let is = c.in-Ok.ensures.property heap state (c.value_in.ensures.owns.1 heap state last) in (
-      is.granted,
-      (
-        found.cell,
-        found.array,
-        is.holder,
-        is.is_array,
-        subst (λ (place : ℕ). HasElement c.args.self.now.layout found.array place) is.is_place is.has,
-        (λ i. StoreElement found.cell found.array (is.is_place i) (sym (c.value_in.ensures.value heap state last) i)),
-      ),
-    )
+pub returns-in-Err : goal.returns-in-Err
+returns-in-Err g c = record {
+  plan = c.in-Err.ensures.refused;
+  owns = c.find_property.ensures.owns;
+}
 
-pub returns-in-Ok-clause-owns : goal.returns-in-Ok-clause-owns
-returns-in-Ok-clause-owns g c = (
-  c.value_in.ensures.owns.0,
-  (λ heap state last. c.find_property.ensures.owns.1 heap state (c.value_in.ensures.owns.1 heap state last)),
-  c.value_in.ensures.owns.2 ∙ c.find_property.ensures.owns.2,
-)
+pub returns-in-Ok : goal.returns-in-Ok
+returns-in-Ok g c = record {
+  plan = λ heap state last.
+      let found = c.in-Ok.found in
+      let is = c.in-Ok.ensures.property heap state (c.value_in.ensures.owns.1 heap state last) in (
+        is.granted,
+        (
+          found.cell,
+          found.array,
+          is.holder,
+          is.is_array,
+          subst (λ (place : ℕ). HasElement c.args.self.now.layout found.array place) is.is_place is.has,
+          (λ i. StoreElement found.cell found.array (is.is_place i) (sym (c.value_in.ensures.value heap state last) i)),
+        ),
+      );
+  owns = (
+    c.value_in.ensures.owns.0,
+    (λ heap state last. c.find_property.ensures.owns.1 heap state (c.value_in.ensures.owns.1 heap state last)),
+    c.value_in.ensures.owns.2 ∙ c.find_property.ensures.owns.2,
+  );
+}
