@@ -1,22 +1,17 @@
 -- The command `riptide`, as `clap` reads a command.
 use Rattle.std.specs.Prelude.{true, Some, codes}
-use Rattle.clap.specs.Words.{App, Rule, new_app, new_rule, with_rule}
+use Rattle.clap.specs.Words.{App, Rule, Text, new_app, new_rule, with_rule}
 use Rattle.clap.specs.Simple.{on_top}
 use Rattle.clap.specs.declared.builder.action.ArgAction.TheVariants.{SetTrue}
 use Rattle.clap.specs.declared.builder.value_parser.ValueParser.TheVariants.{Unsigned}
 
--- `--visitors N`, with a number of 64 bits
-abbrev pub visitors_option : Rule
-visitors_option =
-    record (new_rule (codes "visitors")) { long = Some (codes "visitors"); parser = Some (Unsigned 0 18446744073709551615) }
+-- `--NAME N`, with a number of 64 bits
+abbrev pub number_option : Text → Rule
+number_option name = record (new_rule name) { long = Some name; parser = Some (Unsigned 0 18446744073709551615) }
 
--- `--plain`
-abbrev pub plain_flag : Rule
-plain_flag = record (new_rule (codes "plain")) { long = Some (codes "plain"); action = Some SetTrue }
-
--- `--make N`, with a number of 64 bits
-abbrev pub make_option : Rule
-make_option = record (new_rule (codes "make")) { long = Some (codes "make"); parser = Some (Unsigned 0 18446744073709551615) }
+-- `--NAME`
+abbrev pub flag : Text → Rule
+flag name = record (new_rule name) { long = Some name; action = Some SetTrue }
 
 -- the command of that name without `--help`
 abbrev pub named : App
@@ -24,4 +19,4 @@ named = on_top (λ shape. record shape { disable_help_flag = true }) (new_app (c
 
 -- the command with its two options and its flag
 abbrev pub command : App
-command = with_rule (with_rule (with_rule named visitors_option) plain_flag) make_option
+command = with_rule (with_rule (with_rule named (number_option (codes "visitors"))) (flag (codes "plain"))) (number_option (codes "make"))

@@ -1,3 +1,4 @@
+pub mod ArgumentLemmas
 pub mod KeyLemmas
 pub mod NameLemmas
 pub mod NumeralLemmas

@@ -1,5 +1,5 @@
-//! What the arguments of operations may name: each pattern of arguments that an operation has.
-ghost use Rattle.std.specs.Prelude.{◌≡◌};
+//! What the arguments of operations may name, and which operation they make, whose name is known.
+ghost use Rattle.std.specs.Prelude.{◌≡◌, option_map};
 ghost use Rattle.tide_work.specs.OpLimits.{limits_with};
 ghost use Rattle.tide_work.specs.ReadOp.{register_of, key_of, one, two, three};
 ghost use Rattle.tide_work.specs.Words.{words_in, number_of, number_below};
@@ -8,6 +8,7 @@ use crate::keys::Keys;
 use crate::settings::Settings;
 use crate::words::{byte_below, number_below, number_of, one_word, three_words, two_words};
 use std::marker::Model;
+use tide_model::Op;
 
 /// How many registers and handles there are, and the property keys.
 #[derive(Drop)]
@@ -49,153 +50,235 @@ impl<'a> OpLimits<'a> {
         }
     }
 
-    /// The property key that a word names.
-    fn key(&self, word: &[u8]) -> Option<u32>
-        ensures { result ≡ key_of self.now word.now }
+    /// `alloc rA C`, with a class of cells with slots
+    pub(crate) fn alloc(&self, arguments: &[u8]) -> Option<Op>
+        ensures { result ≡ option_map (λ o. Op.Alloc o.0 o.1)
+            (two (register_of self.now) (number_below 4) (words_in arguments.now)) }
     {
-        self.keys.number(word)
+        let (dst, class) = two_words(arguments)?;
+        Some(Op::Alloc {
+            dst: self.register(dst)?,
+            class: byte_below(class, CLASSES)?,
+        })
     }
 
-    /// The strong handle that a word names.
-    fn strong(&self, word: &[u8]) -> Option<u16>
-        ensures { result ≡ number_below self.now.strong word.now }
+    /// `table rA`
+    pub(crate) fn table(&self, arguments: &[u8]) -> Option<Op>
+        ensures { result ≡ option_map Op.Table (one (register_of self.now) (words_in arguments.now)) }
     {
-        number_below(word, self.strong)
+        let dst = self.register(one_word(arguments)?)?;
+        Some(Op::Table { dst })
     }
 
-    /// The weak handle that a word names.
-    fn weak(&self, word: &[u8]) -> Option<u16>
-        ensures { result ≡ number_below self.now.weak word.now }
+    /// `get rA rB K`, with a slot
+    pub(crate) fn get(&self, arguments: &[u8]) -> Option<Op>
+        ensures { result ≡ option_map (λ o. Op.Get o.0 o.1 o.2)
+            (three (register_of self.now) (register_of self.now) (number_below 16) (words_in arguments.now)) }
     {
-        number_below(word, self.weak)
+        let (dst, src, slot) = three_words(arguments)?;
+        Some(Op::Get {
+            dst: self.register(dst)?,
+            src: self.register(src)?,
+            slot: byte_below(slot, SLOTS)?,
+        })
     }
 
-    /// `rA`
-    pub(crate) fn one_register(&self, arguments: &[u8]) -> Option<u8>
-        ensures { result ≡ one (register_of self.now) (words_in arguments.now) }
+    /// `put rA K rB`, with a slot
+    pub(crate) fn put(&self, arguments: &[u8]) -> Option<Op>
+        ensures { result ≡ option_map (λ o. Op.Put o.0 o.1 o.2)
+            (three (register_of self.now) (number_below 16) (register_of self.now) (words_in arguments.now)) }
     {
-        self.register(one_word(arguments)?)
+        let (src, slot, val) = three_words(arguments)?;
+        Some(Op::Put {
+            src: self.register(src)?,
+            slot: byte_below(slot, SLOTS)?,
+            val: self.register(val)?,
+        })
     }
 
-    /// `rA rB`
-    pub(crate) fn two_registers(&self, arguments: &[u8]) -> Option<(u8, u8)>
-        ensures { result ≡ two (register_of self.now) (register_of self.now) (words_in arguments.now) }
+    /// `move rA rB`
+    pub(crate) fn move_register(&self, arguments: &[u8]) -> Option<Op>
+        ensures { result ≡ option_map (λ o. Op.Move o.0 o.1)
+            (two (register_of self.now) (register_of self.now) (words_in arguments.now)) }
     {
-        let (first, second) = two_words(arguments)?;
-        Some((self.register(first)?, self.register(second)?))
+        let (dst, src) = two_words(arguments)?;
+        Some(Op::Move {
+            dst: self.register(dst)?,
+            src: self.register(src)?,
+        })
     }
 
-    /// `rA rB rC`
-    pub(crate) fn three_registers(&self, arguments: &[u8]) -> Option<(u8, u8, u8)>
-        ensures { result ≡ three (register_of self.now) (register_of self.now) (register_of self.now)
-            (words_in arguments.now) }
+    /// `set rA N`
+    pub(crate) fn set(&self, arguments: &[u8]) -> Option<Op>
+        ensures { result ≡ option_map (λ o. Op.Set o.0 o.1)
+            (two (register_of self.now) number_of (words_in arguments.now)) }
     {
-        let (first, second, third) = three_words(arguments)?;
-        Some((
-            self.register(first)?,
-            self.register(second)?,
-            self.register(third)?,
-        ))
+        let (dst, n) = two_words(arguments)?;
+        Some(Op::Set {
+            dst: self.register(dst)?,
+            n: number_of(n)?,
+        })
     }
 
-    /// `rA C`, with a class of cells with slots
-    pub(crate) fn register_and_class(&self, arguments: &[u8]) -> Option<(u8, u8)>
-        ensures { result ≡ two (register_of self.now) (number_below 4) (words_in arguments.now) }
+    /// `drop rA`
+    pub(crate) fn drop_register(&self, arguments: &[u8]) -> Option<Op>
+        ensures { result ≡ option_map Op.Drop (one (register_of self.now) (words_in arguments.now)) }
     {
-        let (register, class) = two_words(arguments)?;
-        Some((self.register(register)?, byte_below(class, CLASSES)?))
+        let dst = self.register(one_word(arguments)?)?;
+        Some(Op::Drop { dst })
     }
 
-    /// `rA N`
-    pub(crate) fn register_and_number(&self, arguments: &[u8]) -> Option<(u8, u32)>
-        ensures { result ≡ two (register_of self.now) number_of (words_in arguments.now) }
+    /// `claim rA`
+    pub(crate) fn claim(&self, arguments: &[u8]) -> Option<Op>
+        ensures { result ≡ option_map Op.Claim (one (register_of self.now) (words_in arguments.now)) }
     {
-        let (register, number) = two_words(arguments)?;
-        Some((self.register(register)?, number_of(number)?))
+        let src = self.register(one_word(arguments)?)?;
+        Some(Op::Claim { src })
     }
 
-    /// `rA rB K`, with a slot
-    pub(crate) fn two_registers_and_slot(&self, arguments: &[u8]) -> Option<(u8, u8, u8)>
-        ensures { result ≡ three (register_of self.now) (register_of self.now) (number_below 16)
-            (words_in arguments.now) }
+    /// `release rA`
+    pub(crate) fn release(&self, arguments: &[u8]) -> Option<Op>
+        ensures { result ≡ option_map Op.Release (one (register_of self.now) (words_in arguments.now)) }
     {
-        let (first, second, slot) = three_words(arguments)?;
-        Some((
-            self.register(first)?,
-            self.register(second)?,
-            byte_below(slot, SLOTS)?,
-        ))
+        let src = self.register(one_word(arguments)?)?;
+        Some(Op::Release { src })
     }
 
-    /// `rA K rB`, with a slot
-    pub(crate) fn slot_between_registers(&self, arguments: &[u8]) -> Option<(u8, u8, u8)>
-        ensures { result ≡ three (register_of self.now) (number_below 16) (register_of self.now)
-            (words_in arguments.now) }
+    /// `add rA KEY rB`
+    pub(crate) fn add(&self, arguments: &[u8]) -> Option<Op>
+        ensures { result ≡ option_map (λ o. Op.Add o.0 o.1 o.2)
+            (three (register_of self.now) (key_of self.now) (register_of self.now) (words_in arguments.now)) }
     {
-        let (first, slot, second) = three_words(arguments)?;
-        Some((
-            self.register(first)?,
-            byte_below(slot, SLOTS)?,
-            self.register(second)?,
-        ))
+        let (src, key, val) = three_words(arguments)?;
+        Some(Op::Add {
+            src: self.register(src)?,
+            key: self.keys.number(key)?,
+            val: self.register(val)?,
+        })
     }
 
-    /// `rA rB KEY`
-    pub(crate) fn two_registers_and_key(&self, arguments: &[u8]) -> Option<(u8, u8, u32)>
-        ensures { result ≡ three (register_of self.now) (register_of self.now) (key_of self.now)
-            (words_in arguments.now) }
+    /// `getp rA rB KEY`
+    pub(crate) fn get_property(&self, arguments: &[u8]) -> Option<Op>
+        ensures { result ≡ option_map (λ o. Op.GetProp o.0 o.1 o.2)
+            (three (register_of self.now) (register_of self.now) (key_of self.now) (words_in arguments.now)) }
     {
-        let (first, second, key) = three_words(arguments)?;
-        Some((
-            self.register(first)?,
-            self.register(second)?,
-            self.key(key)?,
-        ))
+        let (dst, src, key) = three_words(arguments)?;
+        Some(Op::GetProp {
+            dst: self.register(dst)?,
+            src: self.register(src)?,
+            key: self.keys.number(key)?,
+        })
     }
 
-    /// `rA KEY rB`
-    pub(crate) fn key_between_registers(&self, arguments: &[u8]) -> Option<(u8, u32, u8)>
-        ensures { result ≡ three (register_of self.now) (key_of self.now) (register_of self.now)
-            (words_in arguments.now) }
+    /// `setp rA KEY rB`
+    pub(crate) fn set_property(&self, arguments: &[u8]) -> Option<Op>
+        ensures { result ≡ option_map (λ o. Op.SetProp o.0 o.1 o.2)
+            (three (register_of self.now) (key_of self.now) (register_of self.now) (words_in arguments.now)) }
     {
-        let (first, key, second) = three_words(arguments)?;
-        Some((
-            self.register(first)?,
-            self.key(key)?,
-            self.register(second)?,
-        ))
+        let (src, key, val) = three_words(arguments)?;
+        Some(Op::SetProp {
+            src: self.register(src)?,
+            key: self.keys.number(key)?,
+            val: self.register(val)?,
+        })
     }
 
-    /// `K rA`, with a strong handle
-    pub(crate) fn strong_and_register(&self, arguments: &[u8]) -> Option<(u16, u8)>
-        ensures { result ≡ two (number_below self.now.strong) (register_of self.now) (words_in arguments.now) }
+    /// `strong K rA`, with a strong handle
+    pub(crate) fn strong_set(&self, arguments: &[u8]) -> Option<Op>
+        ensures { result ≡ option_map (λ o. Op.StrongSet o.0 o.1)
+            (two (number_below self.now.strong) (register_of self.now) (words_in arguments.now)) }
     {
-        let (handle, register) = two_words(arguments)?;
-        Some((self.strong(handle)?, self.register(register)?))
+        let (at, val) = two_words(arguments)?;
+        Some(Op::StrongSet {
+            at: number_below(at, self.strong)?,
+            val: self.register(val)?,
+        })
     }
 
-    /// `rA K`, with a strong handle
-    pub(crate) fn register_and_strong(&self, arguments: &[u8]) -> Option<(u8, u16)>
-        ensures { result ≡ two (register_of self.now) (number_below self.now.strong) (words_in arguments.now) }
+    /// `sget rA K`, with a strong handle
+    pub(crate) fn strong_get(&self, arguments: &[u8]) -> Option<Op>
+        ensures { result ≡ option_map (λ o. Op.StrongGet o.0 o.1)
+            (two (register_of self.now) (number_below self.now.strong) (words_in arguments.now)) }
     {
-        let (register, handle) = two_words(arguments)?;
-        Some((self.register(register)?, self.strong(handle)?))
+        let (dst, at) = two_words(arguments)?;
+        Some(Op::StrongGet {
+            dst: self.register(dst)?,
+            at: number_below(at, self.strong)?,
+        })
     }
 
-    /// `K rA`, with a weak handle
-    pub(crate) fn weak_and_register(&self, arguments: &[u8]) -> Option<(u16, u8)>
-        ensures { result ≡ two (number_below self.now.weak) (register_of self.now) (words_in arguments.now) }
+    /// `weak K rA`, with a weak handle
+    pub(crate) fn weak_set(&self, arguments: &[u8]) -> Option<Op>
+        ensures { result ≡ option_map (λ o. Op.WeakSet o.0 o.1)
+            (two (number_below self.now.weak) (register_of self.now) (words_in arguments.now)) }
     {
-        let (handle, register) = two_words(arguments)?;
-        Some((self.weak(handle)?, self.register(register)?))
+        let (at, val) = two_words(arguments)?;
+        Some(Op::WeakSet {
+            at: number_below(at, self.weak)?,
+            val: self.register(val)?,
+        })
     }
 
-    /// `rA K`, with a weak handle
-    pub(crate) fn register_and_weak(&self, arguments: &[u8]) -> Option<(u8, u16)>
-        ensures { result ≡ two (register_of self.now) (number_below self.now.weak) (words_in arguments.now) }
+    /// `wget rA K`, with a weak handle
+    pub(crate) fn weak_get(&self, arguments: &[u8]) -> Option<Op>
+        ensures { result ≡ option_map (λ o. Op.WeakGet o.0 o.1)
+            (two (register_of self.now) (number_below self.now.weak) (words_in arguments.now)) }
     {
-        let (register, handle) = two_words(arguments)?;
-        Some((self.register(register)?, self.weak(handle)?))
+        let (dst, at) = two_words(arguments)?;
+        Some(Op::WeakGet {
+            dst: self.register(dst)?,
+            at: number_below(at, self.weak)?,
+        })
+    }
+
+    /// `pair rA rB rC`
+    pub(crate) fn pair_set(&self, arguments: &[u8]) -> Option<Op>
+        ensures { result ≡ option_map (λ o. Op.PairSet o.0 o.1 o.2)
+            (three (register_of self.now) (register_of self.now) (register_of self.now) (words_in arguments.now)) }
+    {
+        let (src, key, val) = three_words(arguments)?;
+        Some(Op::PairSet {
+            src: self.register(src)?,
+            key: self.register(key)?,
+            val: self.register(val)?,
+        })
+    }
+
+    /// `pget rA rB rC`
+    pub(crate) fn pair_get(&self, arguments: &[u8]) -> Option<Op>
+        ensures { result ≡ option_map (λ o. Op.PairGet o.0 o.1 o.2)
+            (three (register_of self.now) (register_of self.now) (register_of self.now) (words_in arguments.now)) }
+    {
+        let (dst, src, key) = three_words(arguments)?;
+        Some(Op::PairGet {
+            dst: self.register(dst)?,
+            src: self.register(src)?,
+            key: self.register(key)?,
+        })
+    }
+
+    /// `pdel rA rB`
+    pub(crate) fn pair_delete(&self, arguments: &[u8]) -> Option<Op>
+        ensures { result ≡ option_map (λ o. Op.PairDel o.0 o.1)
+            (two (register_of self.now) (register_of self.now) (words_in arguments.now)) }
+    {
+        let (src, key) = two_words(arguments)?;
+        Some(Op::PairDel {
+            src: self.register(src)?,
+            key: self.register(key)?,
+        })
+    }
+
+    /// `group rA N`
+    pub(crate) fn group(&self, arguments: &[u8]) -> Option<Op>
+        ensures { result ≡ option_map (λ o. Op.Group o.0 o.1)
+            (two (register_of self.now) number_of (words_in arguments.now)) }
+    {
+        let (src, n) = two_words(arguments)?;
+        Some(Op::Group {
+            src: self.register(src)?,
+            n: number_of(n)?,
+        })
     }
 }
 

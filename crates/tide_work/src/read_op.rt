@@ -24,88 +24,43 @@ fn op_named(name: &[u8], arguments: &[u8], limits: &OpLimits<'_>) -> Option<Op>
     ensures { result ≡ op_named limits.now name.now (words_in arguments.now) }
 {
     match name {
-        b"alloc" => {
-            let (dst, class) = limits.register_and_class(arguments)?;
-            Some(Op::Alloc { dst, class })
-        }
-        b"get" => {
-            let (dst, src, slot) = limits.two_registers_and_slot(arguments)?;
-            Some(Op::Get { dst, src, slot })
-        }
-        b"put" => {
-            let (src, slot, val) = limits.slot_between_registers(arguments)?;
-            Some(Op::Put { src, slot, val })
-        }
-        b"move" => {
-            let (dst, src) = limits.two_registers(arguments)?;
-            Some(Op::Move { dst, src })
-        }
-        b"set" => {
-            let (dst, n) = limits.register_and_number(arguments)?;
-            Some(Op::Set { dst, n })
-        }
-        b"drop" => {
-            let dst = limits.one_register(arguments)?;
-            Some(Op::Drop { dst })
-        }
+        b"alloc" => limits.alloc(arguments),
+        b"get" => limits.get(arguments),
+        b"put" => limits.put(arguments),
+        b"move" => limits.move_register(arguments),
+        b"set" => limits.set(arguments),
+        b"drop" => limits.drop_register(arguments),
         b"collect" => alone(Op::Collect, arguments),
         _ => property_op_named(name, arguments, limits),
     }
 }
 
 /// The operation on claims or properties of this name, or one on handles, tables or groups.
-#[tactic(auto, using(crate::proofs::NameLemmas::name_read), unfolding(crate::specs::ReadOp::property_op_named))]
+#[tactic(auto, unfolding(crate::specs::ReadOp::property_op_named))]
 fn property_op_named(name: &[u8], arguments: &[u8], limits: &OpLimits<'_>) -> Option<Op>
     ensures { result ≡ property_op_named limits.now name.now (words_in arguments.now) }
 {
     match name {
-        b"claim" => {
-            let src = limits.one_register(arguments)?;
-            Some(Op::Claim { src })
-        }
-        b"release" => {
-            let src = limits.one_register(arguments)?;
-            Some(Op::Release { src })
-        }
+        b"claim" => limits.claim(arguments),
+        b"release" => limits.release(arguments),
         b"unclaim" => alone(Op::Unclaim, arguments),
-        b"add" => {
-            let (src, key, val) = limits.key_between_registers(arguments)?;
-            Some(Op::Add { src, key, val })
-        }
-        b"getp" => {
-            let (dst, src, key) = limits.two_registers_and_key(arguments)?;
-            Some(Op::GetProp { dst, src, key })
-        }
-        b"setp" => {
-            let (src, key, val) = limits.key_between_registers(arguments)?;
-            Some(Op::SetProp { src, key, val })
-        }
+        b"add" => limits.add(arguments),
+        b"getp" => limits.get_property(arguments),
+        b"setp" => limits.set_property(arguments),
         _ => handle_op_named(name, arguments, limits),
     }
 }
 
 /// The operation on handles of this name, or one on tables or groups.
-#[tactic(auto, using(crate::proofs::NameLemmas::name_read), unfolding(crate::specs::ReadOp::handle_op_named))]
+#[tactic(auto, unfolding(crate::specs::ReadOp::handle_op_named))]
 fn handle_op_named(name: &[u8], arguments: &[u8], limits: &OpLimits<'_>) -> Option<Op>
     ensures { result ≡ handle_op_named limits.now name.now (words_in arguments.now) }
 {
     match name {
-        b"strong" => {
-            let (at, val) = limits.strong_and_register(arguments)?;
-            Some(Op::StrongSet { at, val })
-        }
-        b"sget" => {
-            let (dst, at) = limits.register_and_strong(arguments)?;
-            Some(Op::StrongGet { dst, at })
-        }
-        b"weak" => {
-            let (at, val) = limits.weak_and_register(arguments)?;
-            Some(Op::WeakSet { at, val })
-        }
-        b"wget" => {
-            let (dst, at) = limits.register_and_weak(arguments)?;
-            Some(Op::WeakGet { dst, at })
-        }
+        b"strong" => limits.strong_set(arguments),
+        b"sget" => limits.strong_get(arguments),
+        b"weak" => limits.weak_set(arguments),
+        b"wget" => limits.weak_get(arguments),
         _ => pair_op_named(name, arguments, limits),
     }
 }
@@ -116,26 +71,11 @@ fn pair_op_named(name: &[u8], arguments: &[u8], limits: &OpLimits<'_>) -> Option
     ensures { result ≡ pair_op_named limits.now name.now (words_in arguments.now) }
 {
     match name {
-        b"table" => {
-            let dst = limits.one_register(arguments)?;
-            Some(Op::Table { dst })
-        }
-        b"pair" => {
-            let (src, key, val) = limits.three_registers(arguments)?;
-            Some(Op::PairSet { src, key, val })
-        }
-        b"pget" => {
-            let (dst, src, key) = limits.three_registers(arguments)?;
-            Some(Op::PairGet { dst, src, key })
-        }
-        b"pdel" => {
-            let (src, key) = limits.two_registers(arguments)?;
-            Some(Op::PairDel { src, key })
-        }
-        b"group" => {
-            let (src, n) = limits.register_and_number(arguments)?;
-            Some(Op::Group { src, n })
-        }
+        b"table" => limits.table(arguments),
+        b"pair" => limits.pair_set(arguments),
+        b"pget" => limits.pair_get(arguments),
+        b"pdel" => limits.pair_delete(arguments),
+        b"group" => limits.group(arguments),
         _ => None,
     }
 }

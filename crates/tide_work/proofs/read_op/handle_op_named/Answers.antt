@@ -1,3 +1,4 @@
+-- The name is the one that its bytes read as, and none of those before.
 use Rattle.std.proofs.Common.{arith, rules, ◌≡◌, false}
 use Rattle.std.proofs.lemmas.Bool.Decides.{nat_tests}
 use Rattle.std.proofs.lemmas.Slice.Eq.{text_from_reads}
@@ -7,11 +8,29 @@ use Rattle.tide_work.proofs.NameLemmas.{name_read}
 use Rattle.tide_work.specs.ReadOp.{handle_op_named}
 use Rattle.tide_work.proofs.read_op.handle_op_named.Goals as goal
 
-pub returns-in_ok-at-in-strong : goal.returns-in_ok-at-in-strong
+pub returns-in-strong : goal.returns-in-strong
 unfolding handle_op_named
-returns-in_ok-at-in-strong c =
+returns-in-strong c =
     let is_strong : c.args.name.now ≡ codes "strong" = text_from_reads c.args.name.now (codes "strong") (search rules) (search rules) in
-    rw is_strong (search rules)
+    rw is_strong c.strong_set.ensures
+
+pub returns-in-sget : goal.returns-in-sget
+unfolding handle_op_named
+returns-in-sget c =
+    let is_sget : c.args.name.now ≡ codes "sget" = text_from_reads c.args.name.now (codes "sget") (search rules) (search rules) in
+    rw is_sget c.strong_get.ensures
+
+pub returns-in-weak : goal.returns-in-weak
+unfolding handle_op_named
+returns-in-weak c =
+    let is_weak : c.args.name.now ≡ codes "weak" = text_from_reads c.args.name.now (codes "weak") (search rules) (search rules) in
+    rw is_weak c.weak_set.ensures
+
+pub returns-in-wget : goal.returns-in-wget
+unfolding handle_op_named
+returns-in-wget c =
+    let is_wget : c.args.name.now ≡ codes "wget" = text_from_reads c.args.name.now (codes "wget") (search rules) (search rules) in
+    rw is_wget c.weak_get.ensures
 
 pub returns-in_default : goal.returns-in_default
 unfolding handle_op_named

@@ -1,3 +1,4 @@
+-- The name is the one that its bytes read as, and none of those before.
 use Rattle.std.proofs.Common.{arith, rules, ◌≡◌, false}
 use Rattle.std.proofs.lemmas.Bool.Decides.{nat_tests}
 use Rattle.std.proofs.lemmas.Slice.Eq.{text_from_reads}
@@ -7,11 +8,47 @@ use Rattle.tide_work.proofs.NameLemmas.{name_read}
 use Rattle.tide_work.specs.ReadOp.{op_named}
 use Rattle.tide_work.proofs.read_op.op_named.Goals as goal
 
+pub returns-in-alloc : goal.returns-in-alloc
+unfolding op_named
+returns-in-alloc c =
+    let is_alloc : c.args.name.now ≡ codes "alloc" = text_from_reads c.args.name.now (codes "alloc") (search rules) (search rules) in
+    rw is_alloc c.alloc.ensures
+
+pub returns-in-get : goal.returns-in-get
+unfolding op_named
+returns-in-get c =
+    let is_get : c.args.name.now ≡ codes "get" = text_from_reads c.args.name.now (codes "get") (search rules) (search rules) in
+    rw is_get c.get.ensures
+
+pub returns-in-put : goal.returns-in-put
+unfolding op_named
+returns-in-put c =
+    let is_put : c.args.name.now ≡ codes "put" = text_from_reads c.args.name.now (codes "put") (search rules) (search rules) in
+    rw is_put c.put.ensures
+
+pub returns-in-move : goal.returns-in-move
+unfolding op_named
+returns-in-move c =
+    let is_move : c.args.name.now ≡ codes "move" = text_from_reads c.args.name.now (codes "move") (search rules) (search rules) in
+    rw is_move c.move_register.ensures
+
+pub returns-in-set : goal.returns-in-set
+unfolding op_named
+returns-in-set c =
+    let is_set : c.args.name.now ≡ codes "set" = text_from_reads c.args.name.now (codes "set") (search rules) (search rules) in
+    rw is_set c.set.ensures
+
+pub returns-in-drop : goal.returns-in-drop
+unfolding op_named
+returns-in-drop c =
+    let is_drop : c.args.name.now ≡ codes "drop" = text_from_reads c.args.name.now (codes "drop") (search rules) (search rules) in
+    rw is_drop c.drop_register.ensures
+
 pub returns-in-collect : goal.returns-in-collect
 unfolding op_named
 returns-in-collect c =
     let is_collect : c.args.name.now ≡ codes "collect" = text_from_reads c.args.name.now (codes "collect") (search rules) (search rules) in
-    rw is_collect (search rules)
+    rw is_collect c.alone.ensures
 
 pub returns-in_default : goal.returns-in_default
 unfolding op_named
