@@ -5,8 +5,7 @@ use Rattle.std.proofs.lemmas.Bool.Decides.{nat_tests}
 use Rattle.std.proofs.lemmas.List.Elements.{Contains-append_left, Contains-append_right}
 use Rattle.std.proofs.lemmas.List.Sums.{sum_by-append}
 use Rattle.std.specs.List.{list_all}
-use Rattle.std.specs.Int.{bit_at}
-use Rattle.std.specs.Prelude.{Contains, ◌*◌, ◌-◌, ◌==◌, ◌&&◌, ◌||◌, count_by, if◌then◌else◌}
+use Rattle.std.specs.Prelude.{Contains, ◌==◌, ◌&&◌, ◌||◌, count_by, if◌then◌else◌}
 use Rattle.tide_freeze.proofs.BirthLaws.{born-none, born-push}
 use Rattle.tide_freeze.proofs.FewBirths.{live_called}
 use Rattle.tide_layout.proofs.ClassWidths.{count_where-le}
@@ -14,8 +13,7 @@ use Rattle.tide_layout.proofs.LimitLaws.{few_cells}
 use Rattle.tide_layout.specs.Limits.{IsWithinLimits}
 use Rattle.tide_layout.specs.Slots.{total_below}
 use Rattle.tide_machine.proofs.steps.Frames.{put_here, put_else}
-use Rattle.tide_machine.specs.Entries.{call_of, entry_of, added, reply_of_call, refused_or_full, full_if_empty, class_taken}
-use Rattle.tide_machine.specs.Kind.{Kind, Retire, StoreRegister, StoreCall, LoadStrong, StoreStrong, LoadWeak, StoreWeak, LoadLink, StoreLink, LoadFree, TakeFree, LoadPair, StorePair, StoreGroup, LoadClaim, TakeClaim, Release, LoadElement, StoreElement, TakeArray, StoreStructure}
+use Rattle.tide_machine.specs.Entries.{added}
 use Rattle.tide_machine.specs.World.{parties}
 use Rattle.tide_machine.specs.declared.view.View.{View}
 use Rattle.tide_machine.specs.points.Seen.{HasCallsAlone}
@@ -27,18 +25,12 @@ use Rattle.tide_model.specs.History.{is_call_of, is_open, state_after}
 use Rattle.tide_model.specs.Layout.{Layout, cell_count}
 use Rattle.tide_model.specs.Lawful.{IsLawful, Stands}
 use Rattle.tide_model.specs.Numbers.{is_among, put_at}
-use Rattle.tide_model.specs.Refused.{ShapeLists, refusal_of}
+use Rattle.tide_model.specs.Refused.{ShapeLists}
 use Rattle.tide_model.specs.Since.{born_since, is_birth, is_born_reply, is_call, since}
-use Rattle.tide_model.specs.State.{State, is_live}
+use Rattle.tide_model.specs.State.{is_live}
 use Rattle.tide_model.specs.declared.entry.Entry.{Entry}
 use Rattle.tide_model.specs.declared.entry.Entry.TheVariants.{Call, Begin, Pause, Visits, End, Sweep, Open}
 use Rattle.tide_model.specs.declared.entry.Event.{Event}
-use Rattle.tide_model.specs.declared.op.Op.{Op}
-use Rattle.tide_model.specs.declared.op.Op.TheVariants as op
-use Rattle.tide_model.specs.declared.op.Refusal.{Refusal}
-use Rattle.tide_model.specs.declared.op.Refusal.TheVariants.{Full}
-use Rattle.tide_model.specs.declared.op.Reply.TheVariants.{Born, Done, Refused}
-use Rattle.tide_layout.specs.Region.{cell_block_count}
 use Rattle.tide_heap.specs.Births.{births_in, born_to, is_birth_of, told_births}
 use Rattle.tide_heap.specs.Parties.{In}
 

@@ -186,86 +186,53 @@ at_end (x ∷ xs) a b (suc j) e = elim (at_end xs a b j e) [ inl h ↦ inl h | i
 appended : (P : ℕ → View → Type 0) (vs : List View) (x : View) → P (length vs) x → ((j : ℕ) (u : View) → get_elem? vs j ≡ some u → P j u) → (j : ℕ) (u : View) → get_elem? (vs ++ x ∷ []) j ≡ some u → P j u
 appended P vs x new old j u e = elim (at_end vs x u j e) [ inl h ↦ old j u h | inr h ↦ subst (λ (t : ℕ × View). P t.0 t.1) (λ i. (sym h.0 i, h.1 i)) new ]
 
+-- other seats, and another seat for each note, where each seat is right
+pub reseated : (layout : Layout) (shapes : ShapeLists) (words : List ℕ) (views others : List View) (log : List Event) (note_at : ℕ → ℕ) (k : Tabled layout shapes words views log) →
+    ((j : ℕ) (u : View) → get_elem? others j ≡ some u → SeatOk layout k.cv k.part k.seat_of note_at log j u) →
+    (t : Tabled layout shapes words others log) × (t.cv ≡ k.cv) × (t.part ≡ k.part) × (t.note_at ≡ note_at)
+reseated layout shapes words views others log note_at k each = (
+  record {
+    cv = k.cv;
+    part = k.part;
+    seat_of = k.seat_of;
+    note_at = note_at;
+    limits = k.limits;
+    empty_shape = k.empty_shape;
+    collects = k.collects;
+    each = each;
+    fresh = k.fresh;
+    strangers = k.strangers;
+    members = k.members;
+    prefix = k.prefix;
+    tip = k.tip;
+    retired = k.retired;
+    ledger = k.ledger;
+    births = k.births;
+    told = k.told;
+    start = k.start;
+    mode = k.mode;
+  },
+  refl,
+  refl,
+  refl,
+)
+
 pub add_copy : (layout : Layout) (shapes : ShapeLists) (words : List ℕ) (views : List View) (log : List Event) (x : View) (k : Tabled layout shapes words views log) → SeatOk layout k.cv k.part k.seat_of k.note_at log (length views) x → Tabled layout shapes words (views ++ x ∷ []) log
-add_copy layout shapes words views log x k new = record {
-  cv = k.cv;
-  part = k.part;
-  seat_of = k.seat_of;
-  note_at = k.note_at;
-  limits = k.limits;
-  empty_shape = k.empty_shape;
-  collects = k.collects;
-  each = appended (SeatOk layout k.cv k.part k.seat_of k.note_at log) views x new k.each;
-  fresh = k.fresh;
-  strangers = k.strangers;
-  members = k.members;
-  prefix = k.prefix;
-  tip = k.tip;
-  retired = k.retired;
-  ledger = k.ledger;
-  births = k.births;
-  told = k.told;
-  start = k.start;
-  mode = k.mode;
-}
+add_copy layout shapes words views log x k new =
+    (reseated layout shapes words views (views ++ x ∷ []) log k.note_at k (appended (SeatOk layout k.cv k.part k.seat_of k.note_at log) views x new k.each)).0
 
 -- a copy that was joined is spent
 pub spend : (layout : Layout) (shapes : ShapeLists) (words : List ℕ) (views : List View) (log : List Event) (me : ℕ) (w : View) (k : Tabled layout shapes words views log) → w.role ≡ Spent →
     (t : Tabled layout shapes words (set views me w) log) × (t.part ≡ k.part) × (t.note_at ≡ k.note_at)
-spend layout shapes words views log me w k is = (
-  record {
-    cv = k.cv;
-    part = k.part;
-    seat_of = k.seat_of;
-    note_at = k.note_at;
-    limits = k.limits;
-    empty_shape = k.empty_shape;
-    collects = k.collects;
-    each = each_set (SeatOk layout k.cv k.part k.seat_of k.note_at log) views me w (known_as layout k.cv k.part k.seat_of k.note_at log me w Spent is tt) (λ j u other at. k.each j u at);
-    fresh = k.fresh;
-    strangers = k.strangers;
-    members = k.members;
-    prefix = k.prefix;
-    tip = k.tip;
-    retired = k.retired;
-    ledger = k.ledger;
-    births = k.births;
-    told = k.told;
-    start = k.start;
-    mode = k.mode;
-  },
-  refl,
-  refl,
-)
+spend layout shapes words views log me w k is =
+    let t = reseated layout shapes words views (set views me w) log k.note_at k
+    (each_set (SeatOk layout k.cv k.part k.seat_of k.note_at log) views me w (known_as layout k.cv k.part k.seat_of k.note_at log me w Spent is tt) (λ j u other at. k.each j u at)) in (t.0, t.2, t.3)
 
 -- one that has no note of the open part out may get another seat for it
 pub renote : (layout : Layout) (shapes : ShapeLists) (words : List ℕ) (views : List View) (log : List Event) (who at : ℕ) (k : Tabled layout shapes words views log) → (k.part who).period < k.cv.period →
     (t : Tabled layout shapes words views log) × (t.cv ≡ k.cv) × (t.note_at ≡ put_at k.note_at who at)
-renote layout shapes words views log who at k later = (
-  record {
-    cv = k.cv;
-    part = k.part;
-    seat_of = k.seat_of;
-    note_at = put_at k.note_at who at;
-    limits = k.limits;
-    empty_shape = k.empty_shape;
-    collects = k.collects;
-    each = λ j u e. moved j u u.role (k.each j u e);
-    fresh = k.fresh;
-    strangers = k.strangers;
-    members = k.members;
-    prefix = k.prefix;
-    tip = k.tip;
-    retired = k.retired;
-    ledger = k.ledger;
-    births = k.births;
-    told = k.told;
-    start = k.start;
-    mode = k.mode;
-  },
-  refl,
-  refl,
-)
+renote layout shapes words views log who at k later =
+    let t = reseated layout shapes words views views log (put_at k.note_at who at) k (λ j u e. moved j u u.role (k.each j u e)) in (t.0, t.1, t.3)
   where
     number_else : (f : ℕ → ℕ) (i j x : ℕ) → j ≢ i → put_at f i x j ≡ f j
     number_else f i j x other = ap (λ (b : Bool). if b then x else f j) (ne_eqb j i other)

@@ -8,7 +8,7 @@ use Rattle.tide_machine.proofs.steps.Colouring.{write_same}
 use Rattle.tide_machine.specs.Kind.{Split, Join, Activate, StoreStopped, index_of_stopped}
 use Rattle.tide_machine.specs.May.{Rests}
 use Rattle.tide_machine.specs.RunningWave.{RunningWave}
-use Rattle.tide_machine.specs.declared.view.Role.TheVariants.{Member, Note}
+use Rattle.tide_machine.specs.declared.view.Role.TheVariants.{Member}
 use Rattle.tide_machine.specs.declared.view.View.{View}
 use Rattle.tide_machine.specs.kinds.Activate.{begun_view}
 use Rattle.tide_machine.specs.kinds.Join.{joined_view}

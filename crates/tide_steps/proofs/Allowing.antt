@@ -2,6 +2,7 @@
 use Rattle.std.proofs.Common.{ℕ, ◌≡◌, ◌<◌, ◌≤◌, ◌+◌, ◌⊎◌, arith, List, [], ◌∷◌, ◌++◌, refl, sym, ◌∙◌, ap, subst, inl, inr, Bool, true, false, Option, None, Some}
 use Rattle.std.specs.Prelude.{filter, slice_get, if◌then◌else◌, ◌||◌}
 use Rattle.atomic_table.specs.Table.{Me, Allows}
+use Rattle.atomic_table.specs.declared.shared.Seat.{Seat}
 use Rattle.tide_heap.specs.declared.heap.Heap.{Heap as Shared}
 use Rattle.tide_layout.proofs.Places.{place_in-below}
 use Rattle.tide_layout.specs.Limits.{IsWithinLimits}
@@ -294,3 +295,28 @@ module _ {own layout : Layout} {lists shapes : ShapeLists} {words : ℕ} (of : I
         (λ _ b. FollowsSome layout shapes kind m.0 b.0)) (λ i. ((sym of.same_layout) i, (sym of.same_shapes) i))
         (allows_put layout shapes kind slots id m at word is may),
   )
+
+-- so on a heap of this layout and these shapes, by the operation that is given
+module _ {S : Type 0} (lists : S → ShapeLists) (heap : Shared S) (layout : Layout) (shapes : ShapeLists) (kind : Kind)
+    (seat : Seat (Unit {0}) View) (at : ℕ) (given : Act) (own : seat.table_id ≡ heap.table.shared.table_id)
+    (same_layout : heap.key.layout ≡ layout) (same_shapes : lists heap.key.shapes ≡ shapes)
+    (is : seat.me.0.role ≡ Member) (may : May layout shapes seat.me.0 kind at given) where
+  of : IsTableOf heap.table.shared.key.layout layout (lists heap.table.shared.key.shapes) shapes
+      heap.table.shared.table_id.words
+  of = table_of lists heap layout shapes same_layout same_shapes
+
+  pub heap_finds : (act : Act) → given ≡ act → (seat.table_id ≡ heap.table.shared.table_id)
+      × (at < heap.table.shared.table_id.words)
+      × Allows (Rule heap.table.shared.key.layout (lists heap.table.shared.key.shapes)) heap.table.shared.table_id.slots
+      seat.id seat.me at (acted act) (λ r b. Follows layout shapes kind seat.me.0 r b.0)
+  heap_finds act is_given =
+      let f = table_finds of kind heap.table.shared.table_id.slots seat.id seat.me at is act
+      (subst (May layout shapes seat.me.0 kind at) is_given may) in (own, f.0, f.1)
+
+  pub heap_puts : (word : ℕ) → given ≡ Store word → (seat.table_id ≡ heap.table.shared.table_id)
+      × (at < heap.table.shared.table_id.words)
+      × Allows (Rule heap.table.shared.key.layout (lists heap.table.shared.key.shapes)) heap.table.shared.table_id.slots
+      seat.id seat.me at (λ _. word) (λ _ b. FollowsSome layout shapes kind seat.me.0 b.0)
+  heap_puts word is_given =
+      let f = table_puts of kind heap.table.shared.table_id.slots seat.id seat.me at is word
+      (subst (May layout shapes seat.me.0 kind at) is_given may) in (own, f.0, f.1)

@@ -13,10 +13,13 @@ use Rattle.tide_model.specs.Refused.{ShapeLists}
 use Rattle.tide_model.specs.declared.entry.Event.{Event}
 use Rattle.tide_machine.specs.Views.{view_after}
 use Rattle.tide_steps.proofs.Works.{Core, core, core_found, worked, worked_view, seen_after, mine_after}
+use Rattle.tide_heap.specs.declared.heap.Heap.{Heap}
+use Rattle.tide_steps.specs.Calls.{HasActed}
 use Rattle.tide_steps.specs.Follows.{Follows, FollowsSome, Tells}
 use Rattle.tide_steps.specs.Numbers.{AreOf}
 use Rattle.tide_steps.specs.Works.{is_work, is_leave, is_visit, is_plain, born_after, visits_after}
 use Rattle.tide_steps.specs.declared.pass.Numbers.{Numbers}
+use Rattle.tide_steps.specs.declared.pass.Pass.{Pass}
 
 -- the kind changes none of the numbers of a pass
 pub record IsPlain (kind : Kind) : Type 0 where
@@ -45,6 +48,20 @@ some_follow Swap layout shapes kind v read u f = (read, f)
 some_follow (And mask) layout shapes kind v read u f = (read, f)
 some_follow (Or mask) layout shapes kind v read u f = (read, f)
 some_follow (Exchange old new) layout shapes kind v read u f = (read, f)
+
+-- whatever the operation, the pass has made the step
+pub has_acted : {S : Type 0} (lists : S → ShapeLists) (act : Act) (heap : Heap S) (kind : Kind) (old : Pass) (read : ℕ)
+    (new : Pass) → new.seat.table_id ≡ old.seat.table_id → new.seat.id ≡ old.seat.id →
+    Tells act heap.key.layout (lists heap.key.shapes) kind old.seat.me.0 read new.seat.me.0 →
+    HasActed lists act heap kind old read new
+has_acted lists Load heap kind old read new table seat f = record { table = table; seat = seat; follows = f }
+has_acted lists (Store word) heap kind old read new table seat f =
+    (f.0, record { table = table; seat = seat; follows = f.1 })
+has_acted lists Swap heap kind old read new table seat f = record { table = table; seat = seat; follows = f }
+has_acted lists (And mask) heap kind old read new table seat f = record { table = table; seat = seat; follows = f }
+has_acted lists (Or mask) heap kind old read new table seat f = record { table = table; seat = seat; follows = f }
+has_acted lists (Exchange before after) heap kind old read new table seat f =
+    record { table = table; seat = seat; follows = f }
 
 module _ (layout : Layout) (shapes : ShapeLists) (kind : Kind) (v u : View) (read : ℕ)
     (f : Follows layout shapes kind v read u) (works : is_work kind ≡ true) where

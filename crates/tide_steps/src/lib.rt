@@ -19,5 +19,5 @@ mod visits;
 
 pub use notes::{Note, Ticket};
 pub use pass::{Numbers, Pass};
-pub use step::{Made, Step};
+pub use step::Made;
 pub use tide_heap::{Heap, HeapShapes, Key, Waves};

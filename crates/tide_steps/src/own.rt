@@ -5,7 +5,8 @@ ghost use Rattle.tide_model.specs.declared.op.Op.TheVariants as op;
 ghost use Rattle.tide_steps.specs.Calls.{CanStep, HasStepped, HasStored};
 
 use crate::acting::act_as;
-use crate::{Heap, HeapShapes, Made, Pass, Step};
+use crate::step::Step;
+use crate::{Heap, HeapShapes, Made, Pass};
 use std::marker::Brand;
 use tide_machine::Act;
 use tide_model::Op;

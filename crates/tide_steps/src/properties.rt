@@ -6,7 +6,8 @@ ghost use Rattle.tide_machine.specs.Kind.{LoadElement, LoadOwnArray, LoadOwnStru
 ghost use Rattle.tide_model.specs.Layout.{cell_count};
 ghost use Rattle.tide_steps.specs.Calls.{CanStep, HasStepped, HasStored};
 
-use crate::{Heap, HeapShapes, Made, Pass, Step};
+use crate::step::Step;
+use crate::{Heap, HeapShapes, Made, Pass};
 use tide_machine::Act;
 use tide_words::{Region, array_word};
 

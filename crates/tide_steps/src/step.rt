@@ -6,8 +6,8 @@ use tide_words::Region;
 pub type Made = Option<Op>;
 
 /// A kind of step with the place that it is on, the word that it stores, and the call that it makes, if it makes one.
-#[derive(Clone, Copy, Debug)]
-pub enum Step {
+#[derive(Clone, Copy)]
+pub(crate) enum Step {
     Retire(Made),
     LoadRegister(u8),
     StoreRegister(u8, u64, Made),

@@ -47,7 +47,7 @@ use Rattle.tide_heap.proofs.Members.{add_copy, few_parties, party_cases}
 use Rattle.tide_table.proofs.Spans.{marks_read, span_of, span_entered}
 use Rattle.tide_table.proofs.Tallies.{sum_one, total_few}
 use Rattle.tide_heap.specs.Parties.{In, IsParty, longer, tally}
-use Rattle.tide_heap.specs.Rule.{IsAsNoted, AgreesOnPart, MemberOk, NoteOk, IsFrozen, IsRunning, Tabled}
+use Rattle.tide_heap.specs.Rule.{AgreesOnPart, MemberOk, NoteOk, IsFrozen, IsRunning, Tabled}
 use Rattle.tide_heap.specs.Turns.{calls_of, ticket_of, noted, frozen_with, restored, entered_with, open_entry, opened}
 use Rattle.tide_words.proofs.heap_laws.HeapLaws.{reads_write, Reads-heap_of}
 use Rattle.tide_words.specs.heap.Heap.{Heap, SameIn, write, Reads, heap_of}

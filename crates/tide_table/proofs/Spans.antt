@@ -7,7 +7,7 @@ use Rattle.tide_model.proofs.Histories.{state_after-push}
 use Rattle.tide_model.proofs.LawfulReferences.{RefsAreLive-lawful}
 use Rattle.tide_model.proofs.ReferencesInCycles.{swept_cell-live}
 use Rattle.tide_model.specs.Freeze.{is_marking_phase, marks_after}
-use Rattle.tide_model.specs.History.{after_sweep, is_call_of, is_open, state_after}
+use Rattle.tide_model.specs.History.{is_call_of, state_after}
 use Rattle.tide_model.specs.Lawful.{IsLawful}
 use Rattle.tide_model.specs.Layout.{Layout, block_of_cell}
 use Rattle.tide_model.specs.References.{IsLive}

@@ -8,6 +8,7 @@ use crate::collector::Collector;
 use crate::zeros::{zeros, zeros_besides};
 use atomic_table::Table;
 use std::alloc::{AllocError, Global};
+use std::marker::Brand;
 use tide_model::Memory;
 use tide_shape::ShapeTable;
 use tide_steps::{Heap, HeapShapes, Key, Pass};
@@ -107,7 +108,7 @@ impl Collector {
     {
         let mut passes = Vec::new(alloc);
         for i in 0..count {
-            passes.push(self.seat_member(heap, first + i))?;
+            passes.push(self.seat_as::<S, Brand>(heap, first + i))?;
         }
         Ok(passes)
     }

@@ -30,15 +30,6 @@ impl Collector {
     {
         heap.table.shared.load::<EntersVisits<J>>(&mut self.seat, 0);
     }
-
-    fn enter_visits<S: HeapShapes>(&mut self, heap: &Heap<S>, visitor: u32, visits: u32)
-        requires own { self.old.seat.table_id ≡ heap.now.table.shared.table_id }
-        requires frozen { self.old.seat.me.0.frozen ≡ true }
-        ensures same { (self.new.seat.table_id ≡ self.old.seat.table_id) × (self.new.seat.id ≡ self.old.seat.id) }
-        ensures entered { self.new.seat.me.0 ≡ visits_entered visitor visits self.old.seat.me.0 }
-    {
-        self.enter_visits_as::<S, Brand>(heap, visitor, visits);
-    }
 }
 
 impl<'a, S: HeapShapes> Frozen<'a, S> {
@@ -56,6 +47,7 @@ impl<'a, S: HeapShapes> Frozen<'a, S> {
         ensures entered { self.new.collector.now.seat.me.0
             ≡ visits_entered visitor visits self.old.collector.now.seat.me.0 }
     {
-        self.collector.enter_visits(self.heap, visitor, visits);
+        self.collector
+            .enter_visits_as::<S, Brand>(self.heap, visitor, visits);
     }
 }

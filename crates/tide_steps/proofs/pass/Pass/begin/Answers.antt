@@ -2,7 +2,6 @@
 use Rattle.std.proofs.Common.{subst, ap, ◌∙◌}
 use Rattle.tide_machine.specs.declared.view.View.{View}
 use Rattle.tide_model.specs.Prefix.{IsPrefix}
-use Rattle.tide_heap.specs.Turns.{heard_view}
 use Rattle.tide_steps.proofs.Comings.{seen_begun}
 use Rattle.tide_steps.proofs.pass.Pass.begin.Goals as goal
 

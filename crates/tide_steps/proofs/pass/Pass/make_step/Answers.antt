@@ -1,5 +1,6 @@
 -- Why the numbers of the pass stay those of its view, and what the step tells.
-use Rattle.tide_steps.proofs.Ties.{role_kept, are_kept, plain_of, works_of, some_follow}
+use Rattle.std.proofs.Common.{refl}
+use Rattle.tide_steps.proofs.Ties.{role_kept, are_kept, plain_of, works_of, some_follow, has_acted}
 use Rattle.tide_steps.specs.Steps.{kind_of}
 use Rattle.tide_steps.proofs.pass.Pass.make_step.Goals as goal
 
@@ -16,3 +17,24 @@ invariant_of-self g c =
       tied = are_kept h.key.layout shapes kind v u f.0 f.1 works (plain_of kind c.requires.plain) c.args.self.now.numbers
           c.args.self.now.tied;
     }
+
+pub act_as-requires : goal.act_as-requires
+act_as-requires g c = record {
+  own = c.requires.may.own;
+  layout = refl;
+  shapes = refl;
+  role = c.args.self.now.member;
+  may = record {
+    works = works_of (kind_of c.args.step) c.requires.plain;
+    runs = c.requires.may.runs;
+    stands = c.requires.stands;
+    acts = c.requires.acts;
+    may = c.requires.may.may;
+  };
+}
+
+pub returns : goal.returns
+returns g c = record {
+  step = has_acted g.S.HeapShapes.lists c.args.act c.args.heap.now (kind_of c.args.step) c.args.self.now c.act_as.result _
+      c.act_as.ensures.same.0 c.act_as.ensures.same.1 c.act_as.ensures.step;
+}

@@ -7,8 +7,8 @@ use Rattle.tide_model.proofs.Histories.{IsLawful-prefix}
 use Rattle.tide_model.specs.declared.entry.Event.{Event}
 use Rattle.tide_table.proofs.collector.Collector.freeze_counting.Goals as goal
 
-pub add-requires-clause-in_cycle : goal.add-requires-clause-in_cycle
-add-requires-clause-in_cycle g c =
+pub add-requires : goal.add-requires
+add-requires g c =
     let f = c.freeze-frozen.ensures.frozen in
     let v = c.args.self.now.seat.me.0 in
     let h = c.args.heap.now in
@@ -17,21 +17,10 @@ add-requires-clause-in_cycle g c =
     let few = births-few h.key.layout (g.S.HeapShapes.lists h.key.shapes) v.start c.args.births.now f.limits lawful
     c.requires.counted in
     let more = f.few in
-    let same = ap (λ (x : View). x.births) f.view in
-    omega (arith, few.0, more, same)
-
-pub add-requires-clause-since_end : goal.add-requires-clause-since_end
-add-requires-clause-since_end g c =
-    let f = c.freeze-frozen.ensures.frozen in
-    let v = c.args.self.now.seat.me.0 in
-    let h = c.args.heap.now in
-    let lawful = IsLawful-prefix h.key.layout (g.S.HeapShapes.lists h.key.shapes) v.start v.seen
-    (record { rest = f.part; joins = sym f.since }) f.wave.lawful in
-    let few = births-few h.key.layout (g.S.HeapShapes.lists h.key.shapes) v.start c.args.births.now f.limits lawful
-    c.requires.counted in
-    let more = f.few in
-    let same = ap (λ (x : View). x.births) f.view in
-    omega (arith, few.1, more, same)
+    let same = ap (λ (x : View). x.births) f.view in record {
+      in_cycle = omega (arith, few.0, more, same);
+      since_end = omega (arith, few.1, more, same);
+    }
 
 pub returns-clause-counted : goal.returns-clause-counted
 returns-clause-counted g c =
