@@ -1,11 +1,11 @@
 -- Add where the array has room: the element is stored past the keys, and the store of the structure makes the call.
 use Rattle.std.proofs.Common.{ℕ, suc, ◌≡◌, ◌+◌, refl, sym, ◌∙◌, ap, subst, arith, Bool, true, false, List, [], ◌∷◌, length, None, Some, inl, inr}
 use Rattle.std.specs.Prelude.{◌==◌, ◌&&◌, not}
-use Rattle.tide_acting.proofs.Entering.{made_by, may_call, none_born, runs_there}
-use Rattle.tide_acting.proofs.Standing.{moment_in, stands_then}
-use Rattle.tide_acting.specs.Calling.{IsCalling}
-use Rattle.tide_acting.specs.Made.{HasMade, IsMade, Shown}
-use Rattle.tide_acting.specs.Standing.{IsPlanned, StandsAt, caller_of}
+use Rattle.tide_paying.proofs.Entering.{made_by, may_call, none_born, runs_there}
+use Rattle.tide_paying.proofs.Standing.{moment_in, stands_then}
+use Rattle.tide_paying.specs.Calling.{IsCalling}
+use Rattle.tide_paying.specs.Made.{HasMade, IsMade, Shown}
+use Rattle.tide_paying.specs.Standing.{IsPlanned, StandsAt, caller_of}
 use Rattle.tide_call.specs.Callers.{Caller}
 use Rattle.tide_call.specs.PlanWords.{PlanWords}
 use Rattle.tide_call.specs.Plans.{HasRoomIn, IsAddition, IsPlan}

@@ -20,11 +20,11 @@ use Rattle.tide_model.specs.declared.op.Op.TheVariants.{Claim, Move, Set, Drop}
 use Rattle.tide_model.specs.declared.op.Reply.TheVariants.{Done}
 use Rattle.tide_model.specs.declared.val.Val.{Val}
 use Rattle.tide_model.specs.declared.val.Val.TheVariants.{Empty, Int}
-use Rattle.tide_acting.proofs.Entering.{made_by, may_call, none_born}
-use Rattle.tide_acting.proofs.Standing.{moment_in, stands_then}
-use Rattle.tide_acting.specs.Calling.{IsCalling}
-use Rattle.tide_acting.specs.Made.{HasMade}
-use Rattle.tide_acting.specs.Standing.{IsPlanned, caller_of}
+use Rattle.tide_paying.proofs.Entering.{made_by, may_call, none_born}
+use Rattle.tide_paying.proofs.Standing.{moment_in, stands_then}
+use Rattle.tide_paying.specs.Calling.{IsCalling}
+use Rattle.tide_paying.specs.Made.{HasMade}
+use Rattle.tide_paying.specs.Standing.{IsPlanned, caller_of}
 use Rattle.tide_steps.specs.Follows.{FollowsSome, MayStep}
 use Rattle.tide_words.specs.forms.ValueWord.{val_word}
 use Rattle.tide_words.specs.heap.Heap.{Heap, write}

@@ -1,7 +1,7 @@
 -- What acting on a plan needs of the words, where its mutator stands.
 use Rattle.std.proofs.Common.{◌<◌, List}
-use Rattle.tide_acting.proofs.Standing.{calls_there}
-use Rattle.tide_acting.specs.Standing.{IsPlanned, StandsAt, caller_of}
+use Rattle.tide_paying.proofs.Standing.{calls_there}
+use Rattle.tide_paying.specs.Standing.{IsPlanned, StandsAt, caller_of}
 use Rattle.tide_call.specs.declared.plan.Plan.{Plan}
 use Rattle.tide_layout.specs.Limits.{IsWithinLimits}
 use Rattle.tide_machine.specs.declared.view.View.{View}

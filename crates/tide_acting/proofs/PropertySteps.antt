@@ -1,14 +1,14 @@
 -- GetProp and SetProp: the step on the element makes the call.
 use Rattle.std.proofs.Common.{ℕ, ◌≡◌, ◌<◌, refl, sym, ◌∙◌, ap, subst, Bool, true, false, List, [], ◌∷◌, None, Some, inl, inr}
 use Rattle.std.specs.Prelude.{not}
-use Rattle.tide_acting.proofs.Entering.{made_by, may_call, none_born}
+use Rattle.tide_paying.proofs.Entering.{made_by, may_call, none_born}
 use Rattle.tide_acting.proofs.Fitting.{fits_there}
-use Rattle.tide_acting.proofs.OwnFound.{own_found}
-use Rattle.tide_acting.proofs.Standing.{moment_in, stands_then}
-use Rattle.tide_acting.proofs.Values.{value_read}
-use Rattle.tide_acting.specs.Calling.{IsCalling, Kept}
-use Rattle.tide_acting.specs.Made.{HasMade}
-use Rattle.tide_acting.specs.Standing.{IsPlanned, caller_of}
+use Rattle.tide_linking.proofs.OwnFound.{own_found}
+use Rattle.tide_paying.proofs.Standing.{moment_in, stands_then}
+use Rattle.tide_linking.proofs.Values.{value_read}
+use Rattle.tide_paying.specs.Calling.{IsCalling, Kept}
+use Rattle.tide_paying.specs.Made.{HasMade}
+use Rattle.tide_paying.specs.Standing.{IsPlanned, caller_of}
 use Rattle.tide_call.specs.Callers.{Caller}
 use Rattle.tide_call.specs.PlanWords.{PlanWords}
 use Rattle.tide_call.specs.Plans.{IsPlan}

@@ -2,23 +2,23 @@
 ghost use Rattle.std.specs.Prelude.{◌≡◌, ◌+◌, ◌%◌, ◌^◌, ◌<◌, length, true, ℕ};
 ghost use Rattle.tide_call.specs.Plans.{is_told_by_registers};
 ghost use Rattle.tide_call.specs.declared.plan.Plan.TheVariants.{Take};
-ghost use Rattle.tide_acting.specs.Calling.{IsCalling};
-ghost use Rattle.tide_acting.specs.Made.{HasDone};
+ghost use Rattle.tide_paying.specs.Calling.{IsCalling};
+ghost use Rattle.tide_paying.specs.Made.{HasDone};
 ghost use Rattle.tide_acting.specs.Plans.{is_acted, is_plain, is_rest};
-ghost use Rattle.tide_acting.specs.Standing.{IsPlanned};
+ghost use Rattle.tide_paying.specs.Standing.{IsPlanned};
 ghost use Rattle.tide_word_store.specs.Needed.{FitsPlan};
 ghost use Rattle.tide_words.specs.heap.Heap.{Heap as TheWords};
 
-use crate::births::take;
-use crate::claiming::{claim, release};
 use crate::groups::join;
-use crate::handles::{get_strong, get_weak, put_strong, put_weak};
 use crate::leaving::leave;
-use crate::pairs::{drop_pair, get_pair, put_pair};
 use crate::properties::{append, get_property, put_property};
 use crate::registers::{ask, fill, refuse};
-use crate::slots::{get, put};
 use tide_call::Plan;
+use tide_linking::births::take;
+use tide_linking::claiming::{claim, release};
+use tide_linking::handles::{get_strong, get_weak, put_strong, put_weak};
+use tide_linking::pairs::{drop_pair, get_pair, put_pair};
+use tide_linking::slots::{get, put};
 use tide_model::{Op, Reply, Turnstile};
 use tide_steps::{Heap, HeapShapes, Pass};
 

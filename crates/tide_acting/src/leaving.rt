@@ -2,9 +2,9 @@
 ghost use Rattle.std.specs.Prelude.{◌≡◌, ◌+◌, ◌%◌, ◌^◌, length, true};
 ghost use Rattle.tide_call.specs.Plans.{is_told_by_registers};
 ghost use Rattle.tide_call.specs.declared.plan.Plan.TheVariants.{Retire as Leave};
-ghost use Rattle.tide_acting.specs.Calling.{IsCalling};
-ghost use Rattle.tide_acting.specs.Made.{HasDone};
-ghost use Rattle.tide_acting.specs.Standing.{IsPlanned};
+ghost use Rattle.tide_paying.specs.Calling.{IsCalling};
+ghost use Rattle.tide_paying.specs.Made.{HasDone};
+ghost use Rattle.tide_paying.specs.Standing.{IsPlanned};
 
 use tide_model::{Op, Reply};
 use tide_steps::{Heap, HeapShapes, Pass};

@@ -1,20 +1,18 @@
 //! Calls on properties of a cell that their mutator claims.
 ghost use Rattle.std.specs.Prelude.{◌≡◌, ◌+◌, ◌%◌, ◌^◌, ◌<◌, length};
-ghost use Rattle.tide_acting.specs.Calling.{IsCalling};
-ghost use Rattle.tide_acting.specs.Made.{HasDone};
-ghost use Rattle.tide_acting.specs.Standing.{IsPlanned};
-ghost use Rattle.tide_call.specs.ShapeWord.{whole_word};
+ghost use Rattle.tide_paying.specs.Calling.{IsCalling};
+ghost use Rattle.tide_paying.specs.Made.{HasDone};
+ghost use Rattle.tide_paying.specs.Standing.{IsPlanned};
 ghost use Rattle.tide_call.specs.declared.plan.Plan.TheVariants.{Append, LoadElement, StoreElement};
 ghost use Rattle.tide_layout.specs.Slots.{HasElement};
 ghost use Rattle.tide_model.specs.Layout.{cell_count};
 ghost use Rattle.tide_word_store.specs.Needed.{HasRoomFor};
 
-use crate::barrier::shade_for;
-use crate::registers::show;
 use tide_call::Addition;
 use tide_model::{Op, Reply, Turnstile, Val};
+use tide_paying::{shade_for, shape_word, show};
 use tide_steps::{Heap, HeapShapes, Pass};
-use tide_words::{Structure, structure_word, val_word};
+use tide_words::val_word;
 
 /// Loads a property, and fills a register with what it holds.
 pub(crate) fn get_property<S: HeapShapes>(
@@ -68,18 +66,6 @@ pub(crate) fn put_property<S: HeapShapes, T: Turnstile>(
     shade_for(pass, heap, gate, cell, value);
     pass.store_call(heap, calls, None);
     Reply::Done
-}
-
-/// The word of the shape that a cell has after an addition.
-pub fn shape_word(addition: Addition) -> u64
-    requires few { addition.count < 64 }
-    ensures { result ≡ whole_word addition.next (addition.count + 1) }
-{
-    structure_word(Structure {
-        shape: addition.next,
-        count: u32::from(addition.count) + 1,
-        nuked: false,
-    })
 }
 
 /// Adds a property that the cell's array has room for, and pays the barrier of the cell. The element is stored first:

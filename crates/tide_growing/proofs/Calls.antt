@@ -2,20 +2,20 @@
 use Rattle.std.proofs.Common.{ℕ, suc, ◌≡◌, ◌+◌, ◌<◌, refl, sym, ◌∙◌, ap, subst, arith, Bool, List, [], ◌∷◌, Option, None, Some, inl, inr}
 use Rattle.std.proofs.lemmas.Bool.{cases_lt}
 use Rattle.std.specs.Prelude.{Contains, slice_index}
-use Rattle.tide_acting.proofs.Looking.{made_before as made_looked}
-use Rattle.tide_acting.proofs.Shading.{owing_made}
-use Rattle.tide_acting.proofs.Telling.{still_mutator, still_runs}
-use Rattle.tide_acting.specs.Calling.{IsCalling, Kept}
-use Rattle.tide_acting.specs.Made.{HasMade, IsMade, Shown, shown}
-use Rattle.tide_acting.specs.Searching.{HasLooked}
-use Rattle.tide_acting.specs.Shading.{Owing}
-use Rattle.tide_acting.specs.Standing.{IsPlanned}
+use Rattle.tide_linking.proofs.Looking.{made_before as made_looked}
+use Rattle.tide_paying.proofs.Shading.{owing_made}
+use Rattle.tide_paying.proofs.Telling.{still_mutator, still_runs}
+use Rattle.tide_paying.specs.Calling.{IsCalling, Kept}
+use Rattle.tide_paying.specs.Made.{HasMade, IsMade, Shown, shown}
+use Rattle.tide_linking.specs.Searching.{HasLooked}
+use Rattle.tide_paying.specs.Shading.{Owing}
+use Rattle.tide_paying.specs.Standing.{IsPlanned}
 use Rattle.tide_call.specs.ShapeWord.{whole_word}
 use Rattle.tide_growing.proofs.Reading.{calling_still, planned_still, read_twice, ready_read}
 use Rattle.tide_growing.proofs.Taking.{elements_had, structure_known, structure_read, structure_small}
-use Rattle.tide_growing.specs.Growing.{HasRead, HasTaken, IsReady, KnowsElements, grown_out, plan_of}
-use Rattle.tide_growing.specs.Replacing.{HasReplaced, OwesGrowth}
-use Rattle.tide_growing.specs.declared.growth.Growth.{Growth}
+use Rattle.tide_growing.specs.Growing.{HasRead, HasTaken, IsReady, KnowsElements, plan_of}
+use Rattle.tide_paying.specs.Replacing.{HasReplaced, OwesGrowth, grown_out}
+use Rattle.tide_paying.specs.declared.growth.Growth.{Growth}
 use Rattle.tide_layout.specs.Slots.{index_of_element}
 use Rattle.tide_layout.specs.declared.region.Region.TheVariants as region
 use Rattle.tide_machine.specs.Kind.{LoadOwnStructure}

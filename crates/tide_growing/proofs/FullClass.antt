@@ -1,7 +1,7 @@
 -- A class in which each bit of each block was clear when it was last seen is full: calls free nothing.
 use Rattle.std.proofs.Common.{ℕ, ◌≡◌, ◌%◌, ◌≤◌, subst, arith, List}
-use Rattle.tide_acting.proofs.NewFree.{none_free_later, not_free_later}
-use Rattle.tide_acting.specs.Searching.{ClassIsLost}
+use Rattle.tide_linking.proofs.NewFree.{none_free_later, not_free_later}
+use Rattle.tide_linking.specs.Searching.{ClassIsLost}
 use Rattle.tide_layout.specs.declared.region.Region.{Region}
 use Rattle.tide_machine.specs.Moment.{Moment}
 use Rattle.tide_machine.specs.declared.view.View.{View}

@@ -4,5 +4,4 @@ pub mod FullClass
 pub mod Grown
 pub mod Plans
 pub mod Reading
-pub mod Replacing
 pub mod Taking

@@ -1,13 +1,13 @@
 -- What the plan of a growth says where its mutator stands.
 use Rattle.std.proofs.Common.{ℕ, zero, suc, ◌≡◌, ◌<◌, refl, sym, ◌∙◌, ap, subst, arith, Bool, true, false, List, [], ◌∷◌, Option, None, Some, inl, inr}
 use Rattle.std.specs.Prelude.{Contains, not}
-use Rattle.tide_acting.specs.Calling.{IsCalling}
-use Rattle.tide_acting.specs.Standing.{IsPlanned, StandsAt, caller_of}
+use Rattle.tide_paying.specs.Calling.{IsCalling}
+use Rattle.tide_paying.specs.Standing.{IsPlanned, StandsAt, caller_of}
 use Rattle.tide_call.specs.Callers.{Caller}
 use Rattle.tide_call.specs.Plans.{IsAddition, IsPlan, NeedsArray}
 use Rattle.tide_call.specs.declared.additions.Addition.{Addition}
 use Rattle.tide_growing.specs.Growing.{plan_of}
-use Rattle.tide_growing.specs.declared.growth.Growth.{Growth}
+use Rattle.tide_paying.specs.declared.growth.Growth.{Growth}
 use Rattle.tide_layout.specs.Slots.{HasElement, index_of_element}
 use Rattle.tide_layout.specs.declared.region.Region.TheVariants as region
 use Rattle.tide_machine.specs.Entries.{class_for_value, refused_or_full, reply_of_call}

@@ -2,14 +2,14 @@
 use Rattle.std.proofs.Common.{ℕ, suc, ◌≡◌, ◌+◌, ◌<◌, refl, sym, ◌∙◌, ap, subst, arith, List, ◌∷◌, length, Option, Some, inl, inr}
 use Rattle.std.proofs.lemmas.Bool.{cases_lt}
 use Rattle.std.specs.Prelude.{Contains, ◌%◌, ◌^◌, slice_index}
-use Rattle.tide_acting.specs.Calling.{IsCalling}
-use Rattle.tide_acting.specs.Made.{HasDone, IsMade, Shown, shown}
-use Rattle.tide_acting.specs.Searching.{HasLooked}
-use Rattle.tide_acting.specs.Standing.{IsPlanned}
-use Rattle.tide_acting.proofs.Looking.{calling_still as calling_looked, planned_still as planned_looked}
+use Rattle.tide_paying.specs.Calling.{IsCalling}
+use Rattle.tide_paying.specs.Made.{HasDone, IsMade, Shown, shown}
+use Rattle.tide_linking.specs.Searching.{HasLooked}
+use Rattle.tide_paying.specs.Standing.{IsPlanned}
+use Rattle.tide_linking.proofs.Looking.{calling_still as calling_looked, planned_still as planned_looked}
 use Rattle.tide_call.specs.declared.plan.Plan.{Plan}
 use Rattle.tide_growing.specs.Growing.{HasRead, IsReady, KnowsElements, plan_of}
-use Rattle.tide_growing.specs.declared.growth.Growth.{Growth}
+use Rattle.tide_paying.specs.declared.growth.Growth.{Growth}
 use Rattle.tide_layout.specs.Slots.{index_of_element}
 use Rattle.tide_layout.specs.declared.region.Region.{Region}
 use Rattle.tide_layout.specs.declared.region.Region.TheVariants as region

@@ -4,16 +4,16 @@ use Rattle.std.proofs.Common.{ℕ, suc, ◌≡◌, ◌+◌, ◌%◌, ◌<◌, �
 use Rattle.std.proofs.lemmas.Bool.{eq-eqb, eqb-false, ne_eqb}
 use Rattle.std.specs.Int.{bit_at}
 use Rattle.std.specs.Prelude.{Contains, ◌^◌, bit_and, if◌then◌else◌}
-use Rattle.tide_acting.proofs.Entering.{made_by, may_call, none_born, runs_there}
-use Rattle.tide_acting.proofs.Looking.{looked_once}
-use Rattle.tide_acting.proofs.OwnFound.{own_found}
-use Rattle.tide_acting.proofs.Refusing.{stored_at}
-use Rattle.tide_acting.proofs.Standing.{moment_in, stands_then}
-use Rattle.tide_acting.proofs.Unowned.{found_there}
-use Rattle.tide_acting.specs.Calling.{IsCalling, kept}
-use Rattle.tide_acting.specs.Made.{HasDone}
-use Rattle.tide_acting.specs.Searching.{ClassIsLost, HasLooked, HasSeen, IsLost}
-use Rattle.tide_acting.specs.Standing.{IsPlanned, caller_of}
+use Rattle.tide_paying.proofs.Entering.{made_by, may_call, none_born, runs_there}
+use Rattle.tide_linking.proofs.Looking.{looked_once}
+use Rattle.tide_linking.proofs.OwnFound.{own_found}
+use Rattle.tide_paying.proofs.Refusing.{stored_at}
+use Rattle.tide_paying.proofs.Standing.{moment_in, stands_then}
+use Rattle.tide_linking.proofs.Unowned.{found_there}
+use Rattle.tide_paying.specs.Calling.{IsCalling, kept}
+use Rattle.tide_paying.specs.Made.{HasDone}
+use Rattle.tide_linking.specs.Searching.{ClassIsLost, HasLooked, HasSeen, IsLost}
+use Rattle.tide_paying.specs.Standing.{IsPlanned, caller_of}
 use Rattle.tide_block.proofs.ArrayLaws.{block_of_arrays}
 use Rattle.tide_block.proofs.BitLaws.{without_bit-is}
 use Rattle.tide_call.specs.PlanWords.{PlanWords}
@@ -22,8 +22,9 @@ use Rattle.tide_growing.proofs.FullClass.{stands_full}
 use Rattle.tide_growing.proofs.Grown.{are_grown, grown_words}
 use Rattle.tide_growing.proofs.Plans.{IsGrowth, bare_there, claimed_there, element_there, full_reply, growth_there, structure_there}
 use Rattle.tide_growing.proofs.Reading.{read_once}
-use Rattle.tide_growing.specs.Growing.{HasRead, HasTaken, IsReady, grown_out, plan_of}
-use Rattle.tide_growing.specs.declared.growth.Growth.{Growth}
+use Rattle.tide_growing.specs.Growing.{HasRead, HasTaken, IsReady, plan_of}
+use Rattle.tide_paying.specs.Replacing.{grown_out}
+use Rattle.tide_paying.specs.declared.growth.Growth.{Growth}
 use Rattle.tide_layout.specs.Region.{block_count, cell_block_count}
 use Rattle.tide_layout.specs.Slots.{HasElement, index_of_element, width_of_array, width_of_class}
 use Rattle.tide_layout.specs.declared.region.Region.TheVariants as region

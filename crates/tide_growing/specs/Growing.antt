@@ -1,12 +1,13 @@
 -- What a mutator knows before it takes the array of a growth, and what the take leaves.
 use Rattle.std.specs.Prelude.{ℕ, suc, ◌≡◌, ◌+◌, ◌<◌, ◌^◌, List, ◌∷◌, slice_index, Contains, Option, None, Some}
-use Rattle.tide_acting.specs.Calling.{IsCalling}
-use Rattle.tide_acting.specs.Made.{IsMade, shown}
-use Rattle.tide_acting.specs.Standing.{IsPlanned}
+use Rattle.tide_paying.specs.Calling.{IsCalling}
+use Rattle.tide_paying.specs.Made.{IsMade, shown}
+use Rattle.tide_paying.specs.Replacing.{grown_out}
+use Rattle.tide_paying.specs.Standing.{IsPlanned}
 use Rattle.tide_call.specs.ShapeWord.{whole_word}
 use Rattle.tide_call.specs.declared.plan.Plan.{Plan}
 use Rattle.tide_call.specs.declared.plan.Plan.TheVariants as plan
-use Rattle.tide_growing.specs.declared.growth.Growth.{Growth}
+use Rattle.tide_paying.specs.declared.growth.Growth.{Growth}
 use Rattle.tide_layout.specs.Slots.{HasElement, index_of_element}
 use Rattle.tide_layout.specs.declared.region.Region.TheVariants as region
 use Rattle.tide_machine.specs.May.{barrier_for}
@@ -26,10 +27,6 @@ use Rattle.tide_word_store.specs.Needed.{MayGrow}
 -- the plan of the growth
 abbrev pub plan_of : Growth → Plan
 plan_of growth = plan.Grow growth.addition growth.array growth.class growth.value
-
--- the view as it will be once its growth is over, if it changes nothing else
-abbrev pub grown_out : View → View
-grown_out v = record v { growth = growing.Nothing }
 
 -- the view knows more words, and nothing else of it changed but the word found last
 pub record HasRead (v u : View) : Type 0 where

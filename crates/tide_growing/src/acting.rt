@@ -1,9 +1,9 @@
 //! Acting on a plan, of whatever kind: a growth here, and every other one in `tide_acting`.
 ghost use Rattle.std.specs.Prelude.{◌≡◌, ◌+◌, ◌%◌, ◌^◌, ◌<◌, length, true, ℕ};
-ghost use Rattle.tide_acting.specs.Calling.{IsCalling};
-ghost use Rattle.tide_acting.specs.Made.{HasDone};
+ghost use Rattle.tide_paying.specs.Calling.{IsCalling};
+ghost use Rattle.tide_paying.specs.Made.{HasDone};
 ghost use Rattle.tide_acting.specs.Plans.{is_plain};
-ghost use Rattle.tide_acting.specs.Standing.{IsPlanned};
+ghost use Rattle.tide_paying.specs.Standing.{IsPlanned};
 ghost use Rattle.tide_call.specs.Plans.{is_told_by_registers};
 ghost use Rattle.tide_call.specs.declared.plan.Plan.TheVariants.{Take};
 ghost use Rattle.tide_word_store.specs.Needed.{FitsPlan};

@@ -1,13 +1,9 @@
-//! What an array holds is read, and stored in the array that replaces it.
-ghost use Rattle.std.specs.Prelude.{◌≡◌, ◌<◌, ◌+◌, ◌^◌};
-ghost use Rattle.tide_call.specs.ShapeWord.{whole_word};
+//! What the array of a cell holds is read, before another replaces it.
+ghost use Rattle.std.specs.Prelude.{◌≡◌};
 ghost use Rattle.tide_growing.specs.Growing.{HasRead, IsReady, KnowsElements};
-ghost use Rattle.tide_growing.specs.Replacing.{HasReplaced, OwesGrowth};
-ghost use Rattle.tide_layout.specs.Slots.{HasElement};
-ghost use Rattle.tide_model.specs.Layout.{cell_count};
 
-use crate::growth::Growth;
-use tide_model::{Op, Place, Turnstile};
+use tide_model::Op;
+use tide_paying::Growth;
 use tide_steps::{Heap, HeapShapes, Pass};
 
 /// The words of the properties in the cell's array, if it has one.
@@ -31,35 +27,4 @@ pub(crate) fn load_elements<S: HeapShapes>(
         words[usize::from(place)] = pass.load_element(heap, array, place, None);
     }
     words
-}
-
-/// Fills the array that was taken, and gives it to its cell with the new structure. While the cell's array changes, its
-/// structure's word says so. The turnstile is met once that word is stored, and once the array is.
-pub(crate) fn replace<S: HeapShapes, T: Turnstile>(
-    pass: &mut Pass,
-    heap: &Heap<S>,
-    gate: &T,
-    growth: Growth,
-    taken: u32,
-    words: &[u64; 64],
-)
-    requires own { pass.old.seat.table_id ≡ heap.now.table.shared.table_id }
-    requires of_layout { growth.addition.cell < cell_count heap.now.key.layout }
-    requires few { growth.addition.count < 64 }
-    requires next { growth.next ≡ whole_word growth.addition.next (growth.addition.count + 1) }
-    requires small { growth.old + 1 < 2 ^ 64 }
-    requires holds { HasElement heap.now.key.layout taken growth.addition.count }
-    requires owes { OwesGrowth heap.now.key.layout pass.old.seat.me.0 pass.old.seat.me.0 growth taken words.now
-        (growth.addition.count + 1) }
-    ensures same { (pass.new.seat.table_id ≡ pass.old.seat.table_id) × (pass.new.seat.id ≡ pass.old.seat.id) }
-    ensures replaced { HasReplaced pass.old.seat.me.0 pass.new.seat.me.0 }
-{
-    for place in (0..growth.addition.count + 1).rev() {
-        pass.store_element(heap, taken, place, words[usize::from(place)], None);
-    }
-    pass.nuke(heap, growth.addition.cell, growth.old + 1);
-    gate.at(pass.who(), Place::Nuked, growth.addition.cell);
-    pass.store_array(heap, growth.addition.cell, taken);
-    gate.at(pass.who(), Place::Stored, growth.addition.cell);
-    pass.store_structure(heap, growth.addition.cell, growth.next, None);
 }

@@ -9,7 +9,6 @@
 mod acting;
 mod copying;
 mod growing;
-mod growth;
 mod searching;
 
 pub use acting::act;

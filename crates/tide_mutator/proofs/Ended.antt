@@ -22,11 +22,11 @@ use Rattle.tide_model.specs.declared.op.Op.TheVariants.{Claim, Release, Retire, 
 use Rattle.tide_model.specs.declared.op.Reply.{Reply}
 use Rattle.tide_model.specs.declared.op.Reply.TheVariants.{Done}
 use Rattle.std.specs.Prelude.{Option}
-use Rattle.tide_acting.proofs.OwnClaims.{own_at}
-use Rattle.tide_acting.specs.Calling.{IsCalling, Kept}
+use Rattle.tide_paying.proofs.OwnClaims.{own_at}
+use Rattle.tide_paying.specs.Calling.{IsCalling, Kept}
 use Rattle.tide_mutator.specs.Called.{HasCalled, is_of_claims}
-use Rattle.tide_acting.specs.Made.{HasDone}
-use Rattle.tide_acting.specs.Standing.{IsPlanned, caller_of, claims_after_calls, claims_of}
+use Rattle.tide_paying.specs.Made.{HasDone}
+use Rattle.tide_paying.specs.Standing.{IsPlanned, caller_of, claims_after_calls, claims_of}
 use Rattle.tide_word_store.proofs.CallLaws.{claim_has_room, claims_kept}
 use Rattle.tide_word_store.specs.Acting.{claims_after}
 use Rattle.tide_words.specs.heap.Heap.{Heap}

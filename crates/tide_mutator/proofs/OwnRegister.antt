@@ -11,9 +11,9 @@ use Rattle.tide_model.specs.History.{state_after}
 use Rattle.tide_model.specs.Layout.{Layout}
 use Rattle.tide_model.specs.Refused.{ShapeLists}
 use Rattle.tide_model.specs.declared.entry.Event.{Event}
-use Rattle.tide_acting.proofs.OwnClaims.{own_at}
-use Rattle.tide_acting.proofs.OwnFound.{own_found}
-use Rattle.tide_acting.specs.Standing.{StandsAt}
+use Rattle.tide_paying.proofs.OwnClaims.{own_at}
+use Rattle.tide_linking.proofs.OwnFound.{own_found}
+use Rattle.tide_paying.specs.Standing.{StandsAt}
 use Rattle.tide_steps.specs.Follows.{Follows}
 use Rattle.tide_words.specs.forms.ValueWord.{val_word}
 use Rattle.tide_words.specs.heap.Heap.{Heap}

@@ -20,9 +20,9 @@ use Rattle.tide_model.specs.History.{state_after}
 use Rattle.tide_model.specs.Layout.{Layout, cell_count}
 use Rattle.tide_model.specs.Refused.{ShapeLists, is_table}
 use Rattle.tide_model.specs.declared.entry.Event.{Event}
-use Rattle.tide_acting.proofs.OwnFound.{own_found}
-use Rattle.tide_acting.proofs.Standing.{moment_in, stands_then}
-use Rattle.tide_acting.specs.Standing.{StandsAt, claims_of}
+use Rattle.tide_linking.proofs.OwnFound.{own_found}
+use Rattle.tide_paying.proofs.Standing.{moment_in, stands_then}
+use Rattle.tide_paying.specs.Standing.{StandsAt, claims_of}
 use Rattle.tide_mutator.specs.Owning.{OwnsAt, unread}
 use Rattle.tide_steps.specs.Follows.{Follows, MayStep}
 use Rattle.tide_words.proofs.heap_laws.Frames.{is_read}

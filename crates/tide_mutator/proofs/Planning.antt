@@ -13,8 +13,8 @@ use Rattle.tide_model.specs.Refused.{ShapeLists}
 use Rattle.tide_model.specs.State.{State}
 use Rattle.tide_model.specs.declared.entry.Event.{Event}
 use Rattle.tide_model.specs.declared.op.Op.{Op}
-use Rattle.tide_acting.proofs.Standing.{calls_there, stands_then}
-use Rattle.tide_acting.specs.Standing.{IsPlanned, StandsAt, caller_of, claims_of}
+use Rattle.tide_paying.proofs.Standing.{calls_there, stands_then}
+use Rattle.tide_paying.specs.Standing.{IsPlanned, StandsAt, caller_of, claims_of}
 use Rattle.tide_mutator.specs.Owning.{OwnsAt}
 use Rattle.tide_words.specs.heap.Heap.{Heap}
 

@@ -6,7 +6,7 @@ use Rattle.tide_machine.specs.declared.view.View.{View}
 use Rattle.tide_machine.specs.kinds.Activate.{begun_view}
 use Rattle.tide_machine.specs.kinds.Split.{split_view}
 use Rattle.tide_machine.specs.kinds.StoreStopped.{stopped_view}
-use Rattle.tide_acting.specs.Standing.{claims_of}
+use Rattle.tide_paying.specs.Standing.{claims_of}
 use Rattle.tide_heap.specs.Turns.{heard_view}
 
 pub record RestsAsBefore (v u : View) : Type 0 where

@@ -9,9 +9,9 @@ use Rattle.tide_model.specs.Refused.{ShapeLists}
 use Rattle.tide_model.specs.declared.op.Op.{Op}
 use Rattle.tide_model.specs.declared.op.Reply.{Reply}
 use Rattle.tide_mutator.proofs.Planning.{IsCalm}
-use Rattle.tide_acting.specs.Calling.{IsCalling, kept}
+use Rattle.tide_paying.specs.Calling.{IsCalling, kept}
 use Rattle.tide_mutator.specs.Called.{HasCalled}
-use Rattle.tide_acting.specs.Standing.{caller_of, claims_of}
+use Rattle.tide_paying.specs.Standing.{caller_of, claims_of}
 use Rattle.tide_mutator.specs.Owning.{unread}
 
 module _ (v u : View) (same : unread u ≡ unread v) where

@@ -1,7 +1,7 @@
 -- What a mutator's view is after a call.
 use Rattle.std.specs.Prelude.{◌≡◌, ◌≤◌, ◌+◌, Bool, true, false}
-use Rattle.tide_acting.specs.Calling.{kept}
-use Rattle.tide_acting.specs.Standing.{claims_of}
+use Rattle.tide_paying.specs.Calling.{kept}
+use Rattle.tide_paying.specs.Standing.{claims_of}
 use Rattle.tide_machine.specs.May.{IsBetweenCalls}
 use Rattle.tide_machine.specs.declared.view.View.{View}
 use Rattle.tide_model.specs.Caller.{MakesCall}

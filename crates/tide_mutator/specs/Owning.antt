@@ -1,6 +1,6 @@
 -- Where a mutator that decides may stand, by the words that it has read.
 use Rattle.std.specs.Prelude.{ℕ, ◌≡◌, true, false, List, []}
-use Rattle.tide_acting.specs.Standing.{StandsAt}
+use Rattle.tide_paying.specs.Standing.{StandsAt}
 use Rattle.tide_machine.specs.declared.view.Growth.TheVariants.{Nothing}
 use Rattle.tide_machine.specs.declared.view.View.{View}
 use Rattle.tide_model.specs.Layout.{Layout}

@@ -1,6 +1,6 @@
 //! `Mutator`: a mutator of a heap, as it is between two calls.
 ghost use Rattle.std.specs.Prelude.{◌≡◌, ◌%◌, ◌^◌};
-ghost use Rattle.tide_acting.specs.Standing.{claims_of};
+ghost use Rattle.tide_paying.specs.Standing.{claims_of};
 ghost use Rattle.tide_machine.specs.May.{Rests};
 
 use crate::own::OwnPass;

@@ -1,7 +1,7 @@
 -- A mutator while it makes its share of a part.
 use Rattle.std.specs.Prelude.{ℕ, ◌≡◌, ◌<◌, ◌-◌, ◌^◌, Bool, true, false}
 use Rattle.atomic_table.specs.Seated.{TableId}
-use Rattle.tide_acting.specs.Calling.{Kept, kept}
+use Rattle.tide_paying.specs.Calling.{Kept, kept}
 use Rattle.tide_machine.specs.declared.view.View.{View}
 use Rattle.tide_model.specs.Layout.{Layout}
 use Rattle.tide_mutator.specs.Viewed.{seat_of, table_of, view_of}

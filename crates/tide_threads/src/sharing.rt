@@ -1,6 +1,6 @@
 //! A mutator's share of a part, which it makes on a shared heap whatever others call meanwhile. It knows no other mutator.
 ghost use Rattle.std.specs.Prelude.{◌≡◌, ◌≤◌, ◌<◌, ◌+◌, [], IfOk, false};
-ghost use Rattle.tide_acting.specs.Standing.{claims_of};
+ghost use Rattle.tide_paying.specs.Standing.{claims_of};
 ghost use Rattle.tide_model.specs.Caller.{MakesCall};
 ghost use Rattle.tide_model.specs.Lawful.{FitsLayout};
 ghost use Rattle.tide_model.specs.Script.{is_retire};

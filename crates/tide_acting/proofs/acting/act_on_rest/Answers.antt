@@ -2,9 +2,9 @@
 use Rattle.std.proofs.Common.{ap, subst, sym}
 use Rattle.tide_call.specs.declared.plan.Plan.{Plan}
 use Rattle.tide_acting.proofs.Asking.{asks_else}
-use Rattle.tide_acting.specs.Made.{HasDone}
+use Rattle.tide_paying.specs.Made.{HasDone}
 use Rattle.tide_acting.specs.Plans.{is_plain}
-use Rattle.tide_acting.specs.Standing.{IsPlanned}
+use Rattle.tide_paying.specs.Standing.{IsPlanned}
 use Rattle.tide_acting.proofs.acting.act_on_rest.Goals as goal
 
 pub ask-requires-clause-planned : goal.ask-requires-clause-planned

@@ -3,7 +3,7 @@ use Rattle.std.proofs.Common.{◌∙◌}
 use Rattle.tide_call.specs.declared.plan.Plan.TheVariants.{Join}
 use Rattle.tide_model.specs.declared.op.Reply.TheVariants.{Done}
 use Rattle.tide_acting.proofs.GroupSteps.{joined_by, may_join}
-use Rattle.tide_acting.proofs.Telling.{done_by, may_tell, still_mutator, still_runs}
+use Rattle.tide_paying.proofs.Telling.{done_by, may_tell, still_mutator, still_runs}
 use Rattle.tide_acting.proofs.groups.join.Goals as goal
 
 pub store_group-requires-clause-may : goal.store_group-requires-clause-may

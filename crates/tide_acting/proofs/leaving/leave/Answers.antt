@@ -3,7 +3,7 @@ use Rattle.std.proofs.Common.{◌∙◌}
 use Rattle.tide_call.specs.declared.plan.Plan.TheVariants as plan
 use Rattle.tide_model.specs.declared.op.Reply.TheVariants.{Done}
 use Rattle.tide_acting.proofs.Retiring.{left_by, may_leave}
-use Rattle.tide_acting.proofs.Telling.{done_by, may_tell, still_mutator, still_runs}
+use Rattle.tide_paying.proofs.Telling.{done_by, may_tell, still_mutator, still_runs}
 use Rattle.tide_acting.proofs.leaving.leave.Goals as goal
 
 pub retire-requires-clause-may : goal.retire-requires-clause-may

@@ -4,10 +4,10 @@ use Rattle.tide_call.specs.declared.plan.Plan.TheVariants.{Append}
 use Rattle.tide_machine.specs.May.{barrier_for}
 use Rattle.tide_model.specs.declared.op.Reply.TheVariants.{Done}
 use Rattle.tide_acting.proofs.AppendSteps.{added_by, may_add_stored, may_store_past, stored_runs}
-use Rattle.tide_acting.proofs.Shading.{made_shaded, owing_made}
-use Rattle.tide_acting.proofs.Telling.{done_by, may_tell, still_mutator, still_runs}
-use Rattle.tide_acting.specs.Calling.{Kept}
-use Rattle.tide_acting.specs.Shading.{Owing}
+use Rattle.tide_paying.proofs.Shading.{made_shaded, owing_made}
+use Rattle.tide_paying.proofs.Telling.{done_by, may_tell, still_mutator, still_runs}
+use Rattle.tide_paying.specs.Calling.{Kept}
+use Rattle.tide_paying.specs.Shading.{Owing}
 use Rattle.tide_words.specs.forms.ValueWord.{val_word}
 use Rattle.tide_acting.proofs.properties.append.Goals as goal
 

@@ -5,9 +5,9 @@ use Rattle.tide_machine.specs.Words.{value_of}
 use Rattle.tide_model.specs.declared.op.Reply.{Reply}
 use Rattle.tide_model.specs.declared.op.Reply.TheVariants.{Seen}
 use Rattle.tide_acting.proofs.PropertySteps.{element_value, got_property_by, may_get_property}
-use Rattle.tide_acting.proofs.Paying.{done_paid, owes_register}
-use Rattle.tide_acting.proofs.Telling.{told_count}
-use Rattle.tide_acting.specs.Made.{HasDone}
+use Rattle.tide_paying.proofs.Paying.{done_paid, owes_register}
+use Rattle.tide_paying.proofs.Telling.{told_count}
+use Rattle.tide_paying.specs.Made.{HasDone}
 use Rattle.tide_acting.proofs.properties.get_property.Goals as goal
 
 pub load_element-word-requires-clause-may : goal.load_element-word-requires-clause-may

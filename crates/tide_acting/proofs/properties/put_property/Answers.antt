@@ -3,8 +3,8 @@ use Rattle.std.proofs.Common.{◌∙◌}
 use Rattle.tide_call.specs.declared.plan.Plan.TheVariants.{StoreElement}
 use Rattle.tide_model.specs.declared.op.Reply.TheVariants.{Done}
 use Rattle.tide_acting.proofs.PropertySteps.{may_put_property, put_property_by}
-use Rattle.tide_acting.proofs.Shading.{made_shaded, owing_made}
-use Rattle.tide_acting.proofs.Telling.{done_by, may_tell, still_mutator, still_runs}
+use Rattle.tide_paying.proofs.Shading.{made_shaded, owing_made}
+use Rattle.tide_paying.proofs.Telling.{done_by, may_tell, still_mutator, still_runs}
 use Rattle.tide_acting.proofs.properties.put_property.Goals as goal
 
 pub store_element-requires-clause-may : goal.store_element-requires-clause-may

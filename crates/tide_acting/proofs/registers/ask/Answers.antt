@@ -1,5 +1,5 @@
 -- Why the store of the call word makes the call.
-use Rattle.tide_acting.proofs.Refusing.{asked_by, may_ask}
+use Rattle.tide_paying.proofs.Refusing.{asked_by, may_ask}
 use Rattle.tide_acting.proofs.registers.ask.Goals as goal
 
 pub store_call-requires-clause-may : goal.store_call-requires-clause-may

@@ -3,7 +3,7 @@ use Rattle.std.proofs.Common.{◌∙◌}
 use Rattle.tide_call.specs.declared.plan.Plan.TheVariants.{Fill}
 use Rattle.tide_model.specs.declared.op.Reply.TheVariants.{Done}
 use Rattle.tide_acting.proofs.Filling.{filled_with, may_fill_with}
-use Rattle.tide_acting.proofs.Telling.{done_by, may_tell, still_mutator, still_runs}
+use Rattle.tide_paying.proofs.Telling.{done_by, may_tell, still_mutator, still_runs}
 use Rattle.tide_acting.proofs.registers.fill.Goals as goal
 
 pub store_register-requires-clause-may : goal.store_register-requires-clause-may

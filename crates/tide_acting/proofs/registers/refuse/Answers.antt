@@ -1,5 +1,5 @@
 -- Why the store of the call word makes the call.
-use Rattle.tide_acting.proofs.Refusing.{may_refuse, refused_by}
+use Rattle.tide_paying.proofs.Refusing.{may_refuse, refused_by}
 use Rattle.tide_acting.proofs.registers.refuse.Goals as goal
 
 pub store_call-requires-clause-may : goal.store_call-requires-clause-may

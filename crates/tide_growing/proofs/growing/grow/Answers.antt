@@ -2,15 +2,15 @@
 use Rattle.std.proofs.Common.{ℕ, ◌∙◌, sym, arith, Option}
 use Rattle.std.proofs.lemmas.Grind.{get_or-set_at}
 use Rattle.std.proofs.lemmas.List.{get_or-set_other}
-use Rattle.tide_acting.proofs.Looking.{counted_still as counted_looked, has_done_before as has_done_looked}
-use Rattle.tide_acting.proofs.Shading.{made_shaded}
-use Rattle.tide_acting.proofs.Telling.{done_by, may_tell, still_mutator, still_runs}
+use Rattle.tide_linking.proofs.Looking.{counted_still as counted_looked, has_done_before as has_done_looked}
+use Rattle.tide_paying.proofs.Shading.{made_shaded}
+use Rattle.tide_paying.proofs.Telling.{done_by, may_tell, still_mutator, still_runs}
 use Rattle.tide_call.specs.declared.additions.Addition.{Addition}
 use Rattle.tide_growing.proofs.Calls.{made_replaced, owes_first, owing_replaced, read_loaded, ready_first, ready_loaded}
 use Rattle.tide_growing.proofs.Reading.{counted_still, has_done_before, knows_below, ready_looked}
 use Rattle.tide_growing.proofs.Taking.{full_by, may_load_structure, may_tell_full}
 use Rattle.tide_growing.specs.Growing.{plan_of}
-use Rattle.tide_growing.specs.declared.growth.Growth.{Growth}
+use Rattle.tide_paying.specs.declared.growth.Growth.{Growth}
 use Rattle.tide_model.specs.declared.op.Refusal.TheVariants.{Full}
 use Rattle.tide_model.specs.declared.op.Reply.TheVariants.{Done, Refused}
 use Rattle.tide_model.specs.declared.val.Val.{Val}

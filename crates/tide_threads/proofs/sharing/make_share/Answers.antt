@@ -1,6 +1,6 @@
 -- Answers to the goals of sharing::make_share.
 use Rattle.std.proofs.Common.{◌+◌, ◌∙◌, refl, sym, ap, arith, subst}
-use Rattle.tide_acting.specs.Standing.{claims_of}
+use Rattle.tide_paying.specs.Standing.{claims_of}
 use Rattle.tide_model.proofs.CallLaws.{nothing_of_no_length}
 use Rattle.tide_model.specs.Lawful.{FitsLayout}
 use Rattle.tide_mutator.specs.Viewed.{view_of}

@@ -1,10 +1,12 @@
 -- Why a call that is done stands in its caller's order, and its mutator rests again with the claims that it has.
-use Rattle.std.proofs.Common.{◌≡◌, ◌+◌, ◌<◌, ◌^◌, sym, ◌∙◌, ap, subst}
+use Rattle.std.proofs.Common.{◌≡◌, ◌+◌, ◌<◌, ◌^◌, sym, ◌∙◌, ap, subst, false, List, length, ℕ}
+use Rattle.std.specs.Prelude.{nat_le}
 use Rattle.tide_machine.specs.declared.view.View.{View}
 use Rattle.tide_machine.specs.kinds.TakeFree.{TakesCell}
-use Rattle.tide_mutator.proofs.Ended.{called_by, claims_then, rests_after}
+use Rattle.tide_model.specs.Refused.{claims_most}
+use Rattle.tide_mutator.proofs.Ended.{called_by, claims_then, has_room, rests_after}
 use Rattle.tide_mutator.proofs.Unread.{called_unread, calling_unread, claims_unread, counts_unread, rests_unread}
-use Rattle.tide_acting.specs.Calling.{IsCalling}
+use Rattle.tide_paying.specs.Calling.{IsCalling}
 use Rattle.tide_word_store.specs.Acting.{claims_after}
 use Rattle.tide_mutator.proofs.mutator.Mutator.perform.Goals as goal
 
@@ -108,3 +110,28 @@ invariant_of-self-clause-claimed g c =
     (c.args.self.now.claimed ∙ sym (claims_unread v w d.same.2))
     ∙ sym (claims_then layout shapes c.args.op c.decide-plan.result c.act-reply.result w u calling_now d.planned
     c.act-reply.ensures.done)
+
+pub keep_claims-requires-clause-room : goal.keep_claims-requires-clause-room
+keep_claims-requires-clause-room g c = λ src cell full same_op same_plan same_reply.
+    let h = c.args.heap.now in
+    let layout = h.key.layout in
+    let shapes = g.S.ShapeTable.lists h.key.shapes in
+    let v = c.args.self.now.own.pass.seat.me.0 in
+    let w = c.decide-plan.new.own.pass.seat.me.0 in
+    let d = c.decide-plan.ensures in
+    let calling : IsCalling layout v c.args.op = record {
+      limits = d.limits;
+      is_mutator = c.requires.mutator;
+      runs = c.requires.runs;
+      stays = c.requires.stays;
+      between = c.args.self.now.rests.between;
+      own = d.own_calls;
+      fits = c.requires.fits;
+      bare = c.requires.bare;
+    } in
+    let calling_now = calling_unread v w d.same.2 layout c.args.op calling in
+    let u = c.act-reply.new.pass.seat.me.0 in
+    subst (λ (l : List ℕ). nat_le claims_most (length l) ≡ false)
+    (claims_unread v w d.same.2 ∙ sym c.args.self.now.claimed)
+    (has_room layout shapes c.args.op c.decide-plan.result c.act-reply.result w u calling_now d.planned
+    c.act-reply.ensures.done src cell full same_op same_plan same_reply)

@@ -1,0 +1,10 @@
+pub mod BirthSteps
+pub mod ClaimSteps
+pub mod HandleSteps
+pub mod Looking
+pub mod NewFree
+pub mod OwnFound
+pub mod PairSteps
+pub mod SlotSteps
+pub mod Unowned
+pub mod Values

@@ -1,0 +1,6 @@
+pub mod Calling
+pub mod Made
+pub mod Paying
+pub mod Replacing
+pub mod Shading
+pub mod Standing
