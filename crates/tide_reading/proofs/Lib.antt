@@ -4,4 +4,5 @@ pub mod PathLemmas
 pub mod ScriptLemmas
 pub mod ShapeLemmas
 pub mod TableLemmas
+pub mod TextLemmas
 pub mod WorkLemmas

@@ -1,5 +1,6 @@
 -- What the tables of a document's mutators say.
-use Rattle.std.specs.Prelude.{ℕ, List, [], ◌∷◌, Option, Some, None, Result, Ok, Err}
+use Rattle.std.specs.Prelude.{ℕ, Bool, List, [], ◌∷◌, Option, Some, None, Result, Ok, Err, is_some}
+use Rattle.std.specs.Option.{unwrap_or}
 use Rattle.tide_model.specs.declared.op.Op.{Op}
 use Rattle.toml.specs.Data.{Data, as_str, as_table, Members}
 use Rattle.tide_work.specs.declared.workload.TheConstants.{MAX_MUTATORS, MAX_OPS}
@@ -25,6 +26,14 @@ mutators_of document = do
 -- the text that a value is
 abbrev pub text_in : Data → Result (List ℕ) Fault
 text_in value = good Ops (as_str value)
+
+-- whether a value is a text
+abbrev pub is_text : Data → Bool
+is_text value = is_some (as_str value)
+
+-- the text that a value is, and no byte where it is none
+abbrev pub text_or_none : Data → List ℕ
+text_or_none value = unwrap_or (as_str value) []
 
 -- the texts of a mutator's operations
 abbrev pub texts_of : Members → Result (List (List ℕ)) Fault

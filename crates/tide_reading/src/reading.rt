@@ -1,8 +1,9 @@
 //! Reading a workload from bytes: the order in which faults are looked for.
 ghost use Rattle.std.specs.Prelude.{◌≡◌, ◌≢◌, ◌≤◌, All, IfOk, IfErr, Ok, Err, length, map};
 ghost use Rattle.toml.specs.Errors.{IsMemory};
-ghost use Rattle.toml.specs.View.{table_view};
+ghost use Rattle.toml.specs.View.{view, table_view};
 ghost use Rattle.tide_reading.specs.Reading.{document_or, load_with, settings_of, work_of, reads_workload};
+ghost use Rattle.tide_reading.specs.Scripts.{text_or_none};
 ghost use Rattle.tide_reading.specs.Steps.{Gives};
 ghost use Rattle.tide_work.specs.Work.{AreKeys, ArePaths, AreSettings};
 
@@ -12,7 +13,7 @@ use crate::shapes::declared_in;
 use std::alloc::Global;
 use tide_shape::Paths;
 use tide_work::{Fault, Field, Keys, MAX_MUTATORS, MAX_OPS, OpLimits, Settings, Workload};
-use toml::Table;
+use toml::{Table, Value};
 
 /// How many bytes a workload may have.
 pub const MAX_BYTES: usize = 4_194_304;
@@ -106,16 +107,16 @@ fn load_of(
     settings: Settings,
     keys: Keys,
     paths: Paths,
-    texts: &[Vec<&str>],
+    texts: &[&[Value]],
 ) -> Result<Workload, Fault>
     requires settings { AreSettings settings }
     requires keys { AreKeys keys }
     requires paths { ArePaths (length keys) paths }
     requires some { 1 ≤ length texts.now }
     requires few { length texts.now ≤ MAX_MUTATORS }
-    requires short { All (λ texts. length texts.items ≤ MAX_OPS) texts.now }
+    requires short { All (λ texts. length texts.now ≤ MAX_OPS) texts.now }
     ensures { Gives (λ load. load) result
-        (load_with settings keys paths (map (λ texts. map (λ text. text.now) texts.items) texts.now)) }
+        (load_with settings keys paths (map (λ texts. map (λ value. text_or_none (view value)) texts.now) texts.now)) }
 {
     let limits = OpLimits::new(&settings, &keys);
     let scripts = scripts_of(alloc, &limits, texts)?;

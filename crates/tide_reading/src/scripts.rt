@@ -1,8 +1,9 @@
 //! The tables of a document's mutators. Which operation a text is, `tide_work` knows.
 ghost use Rattle.std.specs.Prelude.{◌≡◌, ◌≤◌, All, IfOk, length, map};
+ghost use Rattle.std.specs.List.{list_all};
 ghost use Rattle.std.specs.Result.{result_map_both};
 ghost use Rattle.toml.specs.View.{view, table_view};
-ghost use Rattle.tide_reading.specs.Scripts.{table_in, mutators_of, text_in, texts_of, script_texts, op_at, ops_of, scripts_of};
+ghost use Rattle.tide_reading.specs.Scripts.{table_in, mutators_of, is_text, text_or_none, texts_of, script_texts, op_at, ops_of, scripts_of};
 ghost use Rattle.tide_reading.specs.Steps.{each, Gives};
 
 use crate::fields::{has_only, required, values_in};
@@ -36,33 +37,42 @@ pub(crate) fn mutators_of(alloc: Global, document: &Table) -> Result<Vec<&Table>
     Ok(tables)
 }
 
-/// The text that a value is.
-fn text_in(value: &Value) -> Result<&str, Fault>
-    ensures { result_map_both (λ text. text.now) (λ fault. fault) result ≡ text_in (view value.now) }
+/// The text that a value is, and no byte where it is none.
+fn text_or_none(value: &Value) -> &str
+    ensures { result.now ≡ text_or_none (view value.now) }
 {
-    value.as_str().ok_or(Fault::Bad { field: Field::Ops })
+    value.as_str().unwrap_or("")
 }
 
-/// The texts of a mutator's operations.
-fn texts_of(alloc: Global, mutator: &Table) -> Result<Vec<&str>, Fault>
-    ensures texts { Gives (λ texts. map (λ text. text.now) texts.items) result (texts_of (table_view mutator.now)) }
-    ensures short { IfOk result (λ texts. length texts.items ≤ MAX_OPS) }
+/// Whether each of some values is a text.
+fn are_texts(values: &[Value]) -> bool
+    ensures { result ≡ list_all (λ value. is_text (view value)) values.now }
+{
+    values.iter().all(|value| value.is_str())
+}
+
+/// The values of a mutator's operations, each of which is a text. The texts stay where they are.
+fn texts_of(mutator: &Table) -> Result<&[Value], Fault>
+    ensures texts { Gives (λ values. map (λ value. text_or_none (view value)) values.now) result
+        (texts_of (table_view mutator.now)) }
+    ensures short { IfOk result (λ values. length values.now ≤ MAX_OPS) }
 {
     let value = required(mutator, Field::Ops)?;
     let values = values_in(Field::Ops, value, 0, MAX_OPS)?;
-    let mut texts = Vec::with_capacity(alloc, values.len())?;
-    for value in values {
-        texts.push(text_in(value)?)?;
+    if are_texts(values) {
+        Ok(values)
+    } else {
+        Err(Fault::Bad { field: Field::Ops })
     }
-    Ok(texts)
 }
 
 /// The texts of a mutator whose table has nothing else.
-fn script_texts(alloc: Global, mutator: &Table) -> Result<Vec<&str>, Fault>
-    ensures texts { Gives (λ texts. map (λ text. text.now) texts.items) result (script_texts (table_view mutator.now)) }
-    ensures short { IfOk result (λ texts. length texts.items ≤ MAX_OPS) }
+fn script_texts(mutator: &Table) -> Result<&[Value], Fault>
+    ensures texts { Gives (λ values. map (λ value. text_or_none (view value)) values.now) result
+        (script_texts (table_view mutator.now)) }
+    ensures short { IfOk result (λ values. length values.now ≤ MAX_OPS) }
 {
-    let texts = texts_of(alloc, mutator)?;
+    let texts = texts_of(mutator)?;
     has_only(mutator, &[Field::Ops])?;
     Ok(texts)
 }
@@ -71,15 +81,15 @@ fn script_texts(alloc: Global, mutator: &Table) -> Result<Vec<&str>, Fault>
 pub(crate) fn texts_of_each<'a>(
     alloc: Global,
     mutators: &[&'a Table],
-) -> Result<Vec<Vec<&'a str>>, Fault>
-    ensures texts { Gives (λ scripts. map (λ texts. map (λ text. text.now) texts.items) scripts.items) result
-        (each script_texts (map (λ table. table_view table.now) mutators.now)) }
+) -> Result<Vec<&'a [Value]>, Fault>
+    ensures texts { Gives (λ scripts. map (λ texts. map (λ value. text_or_none (view value)) texts.now) scripts.items)
+        result (each script_texts (map (λ table. table_view table.now) mutators.now)) }
     ensures count { IfOk result (λ scripts. length scripts.items ≡ length mutators.now) }
-    ensures short { IfOk result (λ scripts. All (λ texts. length texts.items ≤ MAX_OPS) scripts.items) }
+    ensures short { IfOk result (λ scripts. All (λ texts. length texts.now ≤ MAX_OPS) scripts.items) }
 {
     let mut scripts = Vec::with_capacity(alloc, mutators.len())?;
     for mutator in mutators {
-        scripts.push(script_texts(alloc, mutator)?)?;
+        scripts.push(script_texts(mutator)?)?;
     }
     Ok(scripts)
 }
@@ -96,14 +106,16 @@ fn ops_of(
     alloc: Global,
     limits: &OpLimits<'_>,
     mutator: u32,
-    texts: &[&str],
+    texts: &[Value],
 ) -> Result<Vec<Op>, Fault>
     requires { length texts.now ≤ MAX_OPS }
-    ensures ops { Gives (λ ops. ops.items) result (ops_of limits.now mutator (map (λ text. text.now) texts.now)) }
+    ensures ops { Gives (λ ops. ops.items) result
+        (ops_of limits.now mutator (map (λ value. text_or_none (view value)) texts.now)) }
     ensures short { IfOk result (λ ops. length ops.items ≤ MAX_OPS) }
 {
     let mut ops = Vec::with_capacity(alloc, texts.len())?;
-    for (at, text) in texts.iter().enumerate() {
+    for (at, value) in texts.iter().enumerate() {
+        let text = text_or_none(value);
         ops.push(op_at(limits, mutator, at as u32, text)?)?;
     }
     Ok(ops)
@@ -113,18 +125,18 @@ fn ops_of(
 pub(crate) fn scripts_of(
     alloc: Global,
     limits: &OpLimits<'_>,
-    scripts: &[Vec<&str>],
+    scripts: &[&[Value]],
 ) -> Result<Vec<Vec<Op>>, Fault>
     requires few { length scripts.now ≤ MAX_MUTATORS }
-    requires short { All (λ texts. length texts.items ≤ MAX_OPS) scripts.now }
+    requires short { All (λ texts. length texts.now ≤ MAX_OPS) scripts.now }
     ensures scripts { Gives (λ ops. map (λ ops. ops.items) ops.items) result
-        (scripts_of limits.now (map (λ texts. map (λ text. text.now) texts.items) scripts.now)) }
+        (scripts_of limits.now (map (λ texts. map (λ value. text_or_none (view value)) texts.now) scripts.now)) }
     ensures count { IfOk result (λ ops. length ops.items ≡ length scripts.now) }
     ensures short { IfOk result (λ ops. All (λ ops. length ops.items ≤ MAX_OPS) ops.items) }
 {
     let mut ops = Vec::with_capacity(alloc, scripts.len())?;
     for (mutator, texts) in scripts.iter().enumerate() {
-        ops.push(ops_of(alloc, limits, mutator as u32, texts.as_slice())?)?;
+        ops.push(ops_of(alloc, limits, mutator as u32, texts)?)?;
     }
     Ok(ops)
 }

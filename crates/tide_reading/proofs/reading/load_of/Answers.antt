@@ -1,5 +1,8 @@
-use Rattle.std.proofs.Common.{map, arith, ℕ, List, Bor, Vec, Global}
+use Rattle.std.proofs.Common.{map, arith, List, Bor}
+use Rattle.toml.specs.View.{view}
+use Rattle.toml.specs.declared.value.Value.{Value}
 use Rattle.tide_work.specs.OpLimits.{limits_with}
+use Rattle.tide_reading.specs.Scripts.{text_or_none}
 use Rattle.tide_reading.proofs.ScriptLemmas.{scripts_within}
 use Rattle.tide_reading.proofs.ScriptLemmas.{scripts_sized}
 use Rattle.tide_reading.proofs.reading.load_of.Goals as goal
@@ -13,5 +16,5 @@ new-requires c =
       keys = c.requires.keys;
       paths = c.requires.paths;
       sized = scripts_sized c.in_ok-scripts.scripts.items (omega (arith, made.count, c.requires.some)) (omega (arith, made.count, c.requires.few)) made.short;
-      operations = scripts_within (limits_with c.args.settings c.args.keys) (map (λ (texts : Vec (Bor (List ℕ)) Global). map (λ (text : Bor (List ℕ)). text.now) texts.items) c.args.texts.now) (map (λ ops. ops.items) c.in_ok-scripts.scripts.items) read;
+      operations = scripts_within (limits_with c.args.settings c.args.keys) (map (λ (texts : Bor (List Value)). map (λ (value : Value). text_or_none (view value)) texts.now) c.args.texts.now) (map (λ ops. ops.items) c.in_ok-scripts.scripts.items) read;
     }

@@ -1,6 +1,8 @@
-use Rattle.std.proofs.Common.{sym, subst, map, ℕ, List, Bor, Vec, Global, Result}
-use Rattle.toml.specs.View.{table_view}
+use Rattle.std.proofs.Common.{sym, subst, map, List, Bor, Result}
+use Rattle.toml.specs.View.{view, table_view}
+use Rattle.toml.specs.declared.value.Value.{Value}
 use Rattle.tide_work.specs.declared.fault.Fault.{Fault}
+use Rattle.tide_reading.specs.Scripts.{text_or_none}
 use Rattle.tide_reading.specs.Steps.{Gives}
 use Rattle.tide_work.specs.Work.{Work}
 use Rattle.tide_reading.proofs.WorkLemmas.{work_by}
@@ -12,6 +14,6 @@ returns c =
     let read = rw c.as_slice-2.ensures.value at c.load_of.ensures in
     subst (λ (reading : Result Work Fault). Gives (λ (load : Work). load) c.load_of.result reading)
     (sym (work_by (table_view c.args.document.now) c.in_ok-settings.settings c.in_ok-keys.keys c.in_ok-keys.paths (map (λ table. table_view table.now) c.in_ok-mutators.mutators.items)
-    (map (λ (texts : Vec (Bor (List ℕ)) Global). map (λ (text : Bor (List ℕ)). text.now) texts.items) c.in_ok-texts.texts.items)
+    (map (λ (texts : Bor (List Value)). map (λ (value : Value). text_or_none (view value)) texts.now) c.in_ok-texts.texts.items)
     (sym c.in_ok-settings.ensures.value) c.in_ok-keys.ensures.shapes c.in_ok-mutators.ensures.tables (sym c.in_ok-has_only.ensures) texts))
     read
