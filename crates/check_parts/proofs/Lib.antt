@@ -1,4 +1,4 @@
-pub mod Calls
+pub mod Looks
 pub mod Popped
 pub mod Books
 pub mod Nexts

@@ -1,6 +1,6 @@
 -- From a part of which all notes are in to the freeze code, and from there to the next part.
 use Rattle.std.proofs.Common.{ℕ, ◌≡◌, ◌+◌, ◌<◌, ◌≤◌, ◌^◌, refl, sym, ◌∙◌, ap, subst, arith, true, List, []}
-use Rattle.check_parts.proofs.Books.{begins_open, begins_part, books_open, books_part}
+use Rattle.check_parts.proofs.Books.{begins_open, begins_part, books_none, books_open, books_part}
 use Rattle.check_parts.specs.Between.{AreBooks, HasOpenedNext, MayFreeze, MayOpenNext, RunsPart}
 use Rattle.tide_freeze.specs.Births.{AreBornIn}
 use Rattle.tide_freeze.specs.declared.births.Births.{Births}
@@ -13,9 +13,11 @@ use Rattle.tide_model.specs.Cycle.{begin_count}
 use Rattle.tide_model.specs.Layout.{Layout}
 use Rattle.tide_model.specs.Refused.{ShapeLists}
 use Rattle.tide_model.specs.declared.entry.Event.{Event}
+use Rattle.tide_report.specs.Ends.{TellsEnds}
 use Rattle.tide_report.specs.Reports.{Reported}
 use Rattle.tide_table.specs.Openings.{MayFollow}
 use Rattle.tide_table.specs.Shown.{bare}
+use Rattle.tide_table.specs.Started.{IsStarted}
 use Rattle.tide_words.specs.heap.Heap.{SameIn, heap_of}
 
 -- below, v is the collector's view before it froze, and w right after it
@@ -118,3 +120,14 @@ next_after layout births report v u w period gone next = record {
   notes = next.notes;
   gone = next.gone ∙ gone;
 }
+
+-- below, v is the collector's view at the start of a heap
+pub first_next : (layout : Layout) (shapes : ShapeLists) (run : ℕ) (births : Births) (report : Reported) (v w : View) →
+    IsStarted layout shapes v → w ≡ opened layout run v → AreBornIn [] births → TellsEnds layout [] report →
+    HasOpenedNext layout births report v w
+first_next layout shapes run births report v w started is born told =
+    let at = started.period in
+    opened_next layout run births report v w is (omega (arith, at))
+    (subst (λ (h : List Event). begin_count h ≤ v.period) (sym started.seen) (omega arith))
+    (subst (λ (h : List Event). AreBooks layout h births report) (sym started.seen)
+    (books_none layout births report born told))

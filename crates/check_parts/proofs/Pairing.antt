@@ -2,10 +2,11 @@
 use Rattle.std.proofs.Common.{ℕ, zero, suc, ◌≡◌, ◌+◌, ◌<◌, ◌≤◌, ◌⊎◌, refl, sym, ◌∙◌, ap, subst, arith, inl, inr, Bool, true, false, List, [], ◌∷◌}
 use Rattle.std.proofs.lemmas.Bool.{eqb-true}
 use Rattle.std.specs.Prelude.{◌==◌, if◌then◌else◌}
+use Rattle.check_callers.specs.Working.{IsReady, Stays}
 use Rattle.check_parts.specs.Between.{HasOpenedNext, RunsPart}
 use Rattle.check_parts.specs.Pairs.{HasOpened, HaveBegun, HaveCalled, HaveStopped, SameCalls, gone_if}
 use Rattle.check_parts.specs.Resting.{IsAtRest, TakesPart}
-use Rattle.check_parts.specs.Working.{HasLooked, IsReady, IsSmall, Stays}
+use Rattle.check_parts.specs.Working.{HasLooked, IsSmall}
 use Rattle.check_parts.specs.declared.pair.Pair.{Pair}
 use Rattle.tide_freeze.specs.declared.births.Births.{Births}
 use Rattle.tide_heap.specs.Parties.{In, IsParty}

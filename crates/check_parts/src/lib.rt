@@ -7,14 +7,12 @@
 mod between;
 mod pair;
 mod pairs;
-mod parts;
 mod rows;
 mod starting;
 mod working;
 
 pub use between::{PACING, Stopped};
 pub use pair::Pair;
-pub use parts::{begin_part, stop_part};
 pub use rows::{Ran, Told, called_parts, one_part, two_parts};
 pub use starting::{Single, start_single};
 pub use working::Found;

@@ -1,13 +1,13 @@
 //! What both mutators of a `Pair` do, one after the other. Each call leaves them as the next one wants them.
 ghost use Rattle.std.specs.Prelude.{◌≡◌, true, false, OnOk};
+ghost use Rattle.check_callers.specs.Working.{all_calls, put_calls};
 ghost use Rattle.check_parts.specs.Pairs.{no_calls, HasOpened, HasStarted, HaveBegun, HaveCalled, HaveStopped};
 ghost use Rattle.check_parts.specs.Pairs.{IsClosedOf, SameCalls};
-ghost use Rattle.check_parts.specs.Working.{all_calls, put_calls};
 
-use crate::between::{Stopped, next_part, open_first};
+use crate::between::{Stopped, next_part};
 use crate::pair::Pair;
-use crate::parts::{begin_part, stop_part};
-use crate::working::{Found, leave, look, put};
+use crate::working::{Found, look, put};
+use check_callers::{begin_part, leave, open_first, stop_part};
 use tide_cycle::Report;
 use tide_table::{Closed, Numbers, PeriodsSpent};
 

@@ -1,7 +1,7 @@
 //! Rows of parts of two mutators, from the start of a heap to its close. It prints nothing.
 ghost use Rattle.std.specs.Prelude.{false, IfSome};
+ghost use Rattle.check_callers.specs.Working.{put_calls};
 ghost use Rattle.check_parts.specs.Pairs.{no_calls, HasOpened, HasStarted, HaveCalled, IsClosedOf};
-ghost use Rattle.check_parts.specs.Working.{put_calls};
 
 use crate::pair::Pair;
 use crate::starting::start_pair;

@@ -1,7 +1,9 @@
 //! Heaps that start. It opens no part.
-ghost use Rattle.std.specs.Prelude.{◌≡◌, IfOk, IfSome, vec_len};
+ghost use Rattle.std.specs.Prelude.{◌≡◌, [], IfOk, IfSome, vec_len};
 ghost use Rattle.check_parts.specs.Pairs.{HasStarted};
+ghost use Rattle.check_parts.specs.Working.{IsSmall};
 ghost use Rattle.tide_machine.specs.Frozen.{newcomer};
+ghost use Rattle.tide_report.specs.Ends.{TellsEnds};
 ghost use Rattle.tide_shape.specs.Lists.{lists_of};
 ghost use Rattle.tide_table.specs.Started.{ArePasses, IsStarted};
 
@@ -35,17 +37,17 @@ pub struct Single {
     pub heap: Heap<Shapes>,
     pub collector: Collector,
     pub pass: Pass,
+    ghost own: { collector.seat.table_id ≡ heap.table.shared.table_id },
+    ghost of_heap: { pass.seat.table_id ≡ heap.table.shared.table_id },
+    ghost newcomer: { pass.seat.me.0 ≡ newcomer 0 },
 }
 
 /// A heap of a layout that has one mutator.
 pub fn start_single(alloc: Global, layout: Layout) -> Result<Option<Single>, Memory>
     requires one { layout.mutators ≡ 1 }
     ensures layout { IfOk result (λ o. IfSome o (λ s. s.heap.key.layout ≡ layout)) }
-    ensures own { IfOk result (λ o. IfSome o (λ s. s.collector.seat.table_id ≡ s.heap.table.shared.table_id)) }
-    ensures of_heap { IfOk result (λ o. IfSome o (λ s. s.pass.seat.table_id ≡ s.heap.table.shared.table_id)) }
     ensures started { IfOk result (λ o. IfSome o (λ s.
         IsStarted layout (lists_of s.heap.key.shapes) s.collector.seat.me.0)) }
-    ensures newcomer { IfOk result (λ o. IfSome o (λ s. s.pass.seat.me.0 ≡ newcomer 0)) }
 {
     let Start {
         heap,
@@ -63,23 +65,28 @@ pub fn start_single(alloc: Global, layout: Layout) -> Result<Option<Single>, Mem
     }))
 }
 
-/// A small heap of two mutators.
-pub fn start_pair(alloc: Global) -> Result<Option<Pair>, Memory>
-    ensures started { IfOk result (λ o. IfSome o HasStarted) }
+/// A pair of what was started for two mutators, without births.
+fn pair_of(start: Start<Shapes>, list: GreyList, report: Report) -> Option<Pair>
+    requires small { IsSmall start.heap.key.layout }
+    requires own { start.collector.seat.table_id ≡ start.heap.table.shared.table_id }
+    requires started { IsStarted start.heap.key.layout (lists_of start.heap.key.shapes) start.collector.seat.me.0 }
+    requires two { vec_len start.mutators ≡ 2 }
+    requires passes { ArePasses start.heap.table.shared.table_id 0 start.mutators.items }
+    requires empty { list.cells ≡ [] }
+    requires room { list.cap ≡ 20480 }
+    requires told { TellsEnds start.heap.key.layout [] report }
+    ensures started { IfSome result HasStarted }
 {
-    let layout = Layout::new([1, 0, 0, 0, 1], [1, 0, 0, 0, 0], 4, 2, 2, 2, 0);
-    let list = GreyList::new(alloc, MAX_CELLS)?;
-    let report = Report::new(alloc, 4, 256)?;
     let Start {
         heap,
         collector,
         mut mutators,
         visitors: _,
-    } = start(alloc, layout)?;
+    } = start;
     let (Some(other), Some(one)) = (mutators.pop(), mutators.pop()) else {
-        return Ok(None);
+        return None;
     };
-    Ok(Some(Pair {
+    Some(Pair {
         heap,
         collector,
         one,
@@ -87,5 +94,16 @@ pub fn start_pair(alloc: Global) -> Result<Option<Pair>, Memory>
         births: Births::none(),
         list,
         report,
-    }))
+    })
+}
+
+/// A small heap of two mutators.
+pub fn start_pair(alloc: Global) -> Result<Option<Pair>, Memory>
+    ensures started { IfOk result (λ o. IfSome o HasStarted) }
+{
+    let layout = Layout::new([1, 0, 0, 0, 1], [1, 0, 0, 0, 0], 4, 2, 2, 2, 0);
+    let list = GreyList::new(alloc, MAX_CELLS)?;
+    let report = Report::new(alloc, 4, 256)?;
+    let start = start(alloc, layout)?;
+    Ok(pair_of(start, list, report))
 }

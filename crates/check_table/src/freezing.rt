@@ -5,7 +5,8 @@ ghost use Rattle.tide_report.specs.Ends.{TellsEnds};
 ghost use Rattle.tide_machine.specs.Frozen.{newcomer};
 ghost use Rattle.tide_table.specs.Started.{IsStarted};
 
-use check_parts::{PACING, begin_part, stop_part};
+use check_callers::{begin_part, open_first, stop_and_freeze};
+use check_parts::PACING;
 use tide_cycle::Report;
 use tide_freeze::{Births, freeze};
 use tide_layout::Layout;
@@ -28,10 +29,9 @@ pub fn stand_still<'a, S: HeapShapes>(
     ensures stands { IfOk result (λ f.
         StandsStill heap.now.key.layout (S.lists heap.now.key.shapes) 5 f.collector.now.seat.me.0) }
 {
-    collector.open(heap, 5)?;
+    open_first(heap, collector, 5)?;
     begin_part(heap, collector, pass);
-    stop_part(heap, collector, pass);
-    Ok(collector.freeze(heap))
+    Ok(stop_and_freeze(heap, collector, pass))
 }
 
 /// What two freezes answered: how many calls each mutator has in the part that opens next.

@@ -1,5 +1,9 @@
 //! What is done to heaps that stand still: a chain is marked, and the freeze code runs twice. It prints nothing.
-ghost use Rattle.std.specs.Prelude.{◌≡◌};
+ghost use Rattle.std.specs.Prelude.{◌≡◌, ◌≤◌, []};
+ghost use Rattle.check_table.specs.Standing.{opened_once};
+ghost use Rattle.tide_report.specs.Ends.{TellsEnds};
+ghost use Rattle.tide_shape.specs.Lists.{lists_of};
+ghost use Rattle.tide_table.specs.Started.{IsStarted};
 
 use crate::chains::{Marked, mark_in_two, store_all};
 use crate::freezing::{Runs, freeze_twice, stand_still};
@@ -11,13 +15,18 @@ use tide_layout::Layout;
 use tide_model::Memory;
 use tide_words::{GreyList, MAX_CELLS};
 
+/// The layout that words say.
+fn layout_among(words: &[&str]) -> Option<Layout> {
+    match words {
+        ["layout", numbers @ ..] => layout_of(numbers),
+        _ => None,
+    }
+}
+
 /// The layout that a line says.
 fn layout_in(alloc: Global, line: &str) -> Result<Option<Layout>, AllocError> {
     let words = words_of(alloc, line)?;
-    match words.as_slice() {
-        ["layout", numbers @ ..] => Ok(layout_of(numbers)),
-        _ => Ok(None),
-    }
+    Ok(layout_among(words.as_slice()))
 }
 
 /// Lets a heap be as lines say, and answers whether each says something.
@@ -42,6 +51,32 @@ pub fn heap_of_facts(alloc: Global, facts: &str) -> Result<Option<Heap>, AllocEr
     Ok(if is_said { Some(heap) } else { None })
 }
 
+/// Stores a chain over the words of a heap that stands still, and marks it in two pauses within these budgets.
+fn mark_over(
+    single: Single,
+    layout: &Layout,
+    chain: &mut Heap,
+    list: &mut GreyList,
+    budgets: [u32; 2],
+) -> Option<Marked>
+    requires layout { single.heap.key.layout ≡ layout.now }
+    requires started { IsStarted layout.now (lists_of single.heap.key.shapes) single.collector.seat.me.0 }
+    requires one { (layout.now.mutators ≡ 1) × (layout.now.visitors ≡ 0) }
+    requires empty { list.old.cells ≡ [] }
+    requires room { 20480 ≤ list.old.cap }
+{
+    let Single {
+        heap,
+        mut collector,
+        mut pass,
+    } = single;
+    let Ok(mut frozen) = stand_still(&heap, &mut collector, &mut pass) else {
+        return None;
+    };
+    store_all(&mut frozen, layout, chain);
+    Some(mark_in_two(&mut frozen, layout, list, budgets))
+}
+
 /// Stores a chain over the words of a frozen heap of one mutator, and marks it in two pauses within these budgets.
 pub fn mark_chain(
     alloc: Global,
@@ -53,19 +88,35 @@ pub fn mark_chain(
         return Ok(None);
     }
     let mut list = GreyList::new(alloc, MAX_CELLS)?;
-    let Some(single) = start_single(alloc, layout)? else {
-        return Ok(None);
-    };
+    match start_single(alloc, layout)? {
+        Some(single) => Ok(mark_over(single, &layout, chain, &mut list, budgets)),
+        None => Ok(None),
+    }
+}
+
+/// Runs the freeze code twice over a heap that stands still. The report tells the cycles that ended.
+fn freeze_over(
+    single: Single,
+    layout: &Layout,
+    list: &mut GreyList,
+    report: &mut Report,
+) -> Result<Option<Runs>, Memory>
+    requires layout { single.heap.key.layout ≡ layout.now }
+    requires started { IsStarted layout.now (lists_of single.heap.key.shapes) single.collector.seat.me.0 }
+    requires one { (layout.now.mutators ≡ 1) × (layout.now.visitors ≡ 0) }
+    requires empty { list.old.cells ≡ [] }
+    requires room { list.old.cap ≡ 20480 }
+    requires told { TellsEnds layout.now (opened_once 5) report.old }
+{
     let Single {
         heap,
         mut collector,
         mut pass,
     } = single;
-    let Ok(mut frozen) = stand_still(&heap, &mut collector, &mut pass) else {
-        return Ok(None);
-    };
-    store_all(&mut frozen, &layout, chain);
-    Ok(Some(mark_in_two(&mut frozen, &layout, &mut list, budgets)))
+    match stand_still(&heap, &mut collector, &mut pass) {
+        Ok(mut frozen) => Ok(Some(freeze_twice(&mut frozen, layout, list, report)?)),
+        Err(_) => Ok(None),
+    }
 }
 
 /// Runs the freeze code twice over a frozen heap of one mutator: with nothing due, and as a must. The report tells the
@@ -77,14 +128,8 @@ pub fn freeze_single(alloc: Global) -> Result<Option<(Runs, Report)>, Memory> {
     let Some(single) = start_single(alloc, layout)? else {
         return Ok(None);
     };
-    let Single {
-        heap,
-        mut collector,
-        mut pass,
-    } = single;
-    let Ok(mut frozen) = stand_still(&heap, &mut collector, &mut pass) else {
-        return Ok(None);
-    };
-    let runs = freeze_twice(&mut frozen, &layout, &mut list, &mut report)?;
-    Ok(Some((runs, report)))
+    match freeze_over(single, &layout, &mut list, &mut report)? {
+        Some(runs) => Ok(Some((runs, report))),
+        None => Ok(None),
+    }
 }

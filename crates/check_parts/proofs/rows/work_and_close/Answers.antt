@@ -1,8 +1,8 @@
 -- Each call of the pair is asked for what the one before it left.
-use Rattle.std.proofs.Common.{◌∙◌, subst, false, true}
+use Rattle.std.proofs.Common.{◌∙◌, subst, false}
 use Rattle.check_parts.proofs.Pairing.{called_still}
 use Rattle.check_parts.specs.Pairs.{IsClosedOf, no_calls}
-use Rattle.check_parts.specs.Working.{all_calls, put_calls}
+use Rattle.check_callers.specs.Working.{put_calls}
 use Rattle.tide_heap.specs.declared.heap.Heap.{Heap}
 use Rattle.tide_shape.specs.declared.shapes.Shapes.{Shapes}
 use Rattle.check_parts.proofs.rows.work_and_close.Goals as goal

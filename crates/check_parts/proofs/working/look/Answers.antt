@@ -1,6 +1,5 @@
 -- Each load leaves all but the word that it found.
-use Rattle.std.proofs.Common.{◌≡◌}
-use Rattle.check_parts.proofs.Calls.{looked_on}
+use Rattle.check_parts.proofs.Looks.{looked_on}
 use Rattle.check_parts.specs.Working.{HasLooked}
 use Rattle.check_parts.proofs.working.look.Goals as goal
 

@@ -1,7 +1,5 @@
 -- Both have left, and both notes are those of all.
-use Rattle.std.proofs.Common.{◌∙◌, ap}
-use Rattle.check_parts.proofs.Pairing.{all_in, both_gone}
-use Rattle.check_parts.specs.Pairs.{gone_if}
+use Rattle.check_parts.proofs.Pairing.{all_in}
 use Rattle.check_parts.proofs.pair.Pair.close.Goals as goal
 
 pub freeze-requires-clause-all : goal.freeze-requires-clause-all

@@ -1,8 +1,8 @@
 -- A register may always be set.
-use Rattle.std.proofs.Common.{refl, arith, []}
-use Rattle.check_parts.proofs.Calls.{may_call}
+use Rattle.std.proofs.Common.{refl, arith, [], rules}
+use Rattle.check_callers.proofs.Calls.{may_call}
 use Rattle.tide_model.specs.declared.op.Op.TheVariants.{Set}
-use Rattle.check_parts.proofs.working.set_register.Goals as goal
+use Rattle.check_callers.proofs.acts.set_register.Goals as goal
 
 pub store_register-requires-clause-may : goal.store_register-requires-clause-may
 store_register-requires-clause-may g c = record {
@@ -14,3 +14,12 @@ store_register-requires-clause-may g c = record {
     (refl, c.val_word-word.ensures),
   );
 }
+
+pub store_call-requires-clause-may : goal.store_call-requires-clause-may
+store_call-requires-clause-may g c = search rules depth 3
+
+pub returns-clause-ready : goal.returns-clause-ready
+returns-clause-ready g c = search rules depth 3
+
+pub returns-clause-stays : goal.returns-clause-stays
+returns-clause-stays g c = search rules

@@ -1,11 +1,14 @@
 -- A mutator has always done its part.
-use Rattle.std.proofs.Common.{◌≤◌, ◌∙◌, ap, arith, inl, subst, Bool, false}
+use Rattle.std.proofs.Common.{ℕ, ◌≤◌, ◌∙◌, ap, arith, inl, subst, Bool, false, rules}
 use Rattle.std.specs.Prelude.{◌||◌}
+use Rattle.tide_heap.specs.Parties.{In}
 use Rattle.tide_heap.specs.Turns.{note_of, noted}
+use Rattle.tide_machine.specs.declared.view.View.{View}
 use Rattle.tide_machine.specs.kinds.StoreStopped.{stopped_view}
 use Rattle.tide_model.specs.Layout.{Layout}
 use Rattle.tide_steps.proofs.Comings.{numbers_tell}
-use Rattle.check_parts.proofs.parts.stop_part.Goals as goal
+use Rattle.check_callers.proofs.Notes.{noted_in}
+use Rattle.check_callers.proofs.stops.stop_part.Goals as goal
 
 pub stop-note-requires-clause-round : goal.stop-note-requires-clause-round
 stop-note-requires-clause-round g c =
@@ -13,6 +16,12 @@ stop-note-requires-clause-round g c =
     let below = c.requires.mutator in
     let yes = numbers_tell c.args.pass.now.seat.me.0 (inl (omega (arith, m, below))) in
     λ isnt. absurd (cc)
+
+pub returns-clause-is_in : goal.returns-clause-is_in
+returns-clause-is_in g c =
+    let v = c.args.pass.now.seat.me.0 in
+    subst (λ (n : ℕ). In n c.take.new.self.seat.me.0.notes) (ap (λ (x : View). x.who) c.stop-note.ensures.note.1)
+    (noted_in c.args.collector.now.seat.me.0 c.stop-note.result.seat.me.0 c.take.new.self.seat.me.0 c.take.ensures.noted)
 
 pub returns-clause-noted : goal.returns-clause-noted
 returns-clause-noted g c =
@@ -22,3 +31,6 @@ returns-clause-noted g c =
     c.take.ensures.noted
     ∙ ap (noted c.args.collector.now.seat.me.0) (c.stop-note.ensures.note.1
     ∙ ap (λ (b : Bool). note_of (b || false) (stopped_view v)) (numbers_tell v (inl (omega (arith, m, below)))))
+
+pub take-requires-clause-now : goal.take-requires-clause-now
+take-requires-clause-now g c = search rules

@@ -1,12 +1,12 @@
 -- The register holds what was set, whatever others did.
 use Rattle.std.proofs.Common.{refl, sym, ap, ◌∙◌}
-use Rattle.check_parts.proofs.Calls.{may_call, own_now, seven}
-use Rattle.check_parts.specs.Working.{strong_calls}
+use Rattle.check_callers.proofs.Calls.{may_call, own_now, seven}
+use Rattle.check_callers.specs.Working.{strong_calls}
 use Rattle.tide_machine.specs.Own.{Own}
 use Rattle.tide_model.specs.declared.op.Op.TheVariants.{WeakSet}
 use Rattle.tide_model.specs.declared.val.Val.{Val}
 use Rattle.tide_words.specs.forms.ValueWord.{val_word}
-use Rattle.check_parts.proofs.working.put_weak.Goals as goal
+use Rattle.check_callers.proofs.acts.put_weak.Goals as goal
 
 pub store_weak-requires-clause-may : goal.store_weak-requires-clause-may
 store_weak-requires-clause-may g c = record {

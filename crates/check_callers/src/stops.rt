@@ -1,13 +1,13 @@
-//! A mutator begins a part, and stops in it. It makes no call.
-ghost use Rattle.std.specs.Prelude.{◌≡◌, ◌<◌, true, false};
-ghost use Rattle.tide_heap.specs.Parties.{IsParty};
-ghost use Rattle.tide_heap.specs.Turns.{heard_view, note_of, noted, ticket_of};
+//! A mutator begins a part, and stops in it, after which the part of an only one is frozen. It makes no call.
+ghost use Rattle.std.specs.Prelude.{◌≡◌, ◌<◌, ℕ, true, false};
+ghost use Rattle.tide_heap.specs.Parties.{In, IsParty};
+ghost use Rattle.tide_heap.specs.Turns.{heard_view, note_of, noted, ticket_of, Freezes};
 ghost use Rattle.tide_machine.specs.May.{Rests};
 ghost use Rattle.tide_machine.specs.kinds.Activate.{begun_view};
 ghost use Rattle.tide_machine.specs.kinds.Split.{split_view};
 ghost use Rattle.tide_machine.specs.kinds.StoreStopped.{stopped_view};
 
-use tide_table::{Collector, Heap, HeapShapes, Numbers, Pass};
+use tide_table::{Collector, Frozen, Heap, HeapShapes, Numbers, Pass};
 
 /// Begins a part with its ticket, and answers its number.
 pub fn begin_part<S: HeapShapes>(heap: &Heap<S>, collector: &mut Collector, pass: &mut Pass) -> u32
@@ -47,6 +47,7 @@ pub fn stop_part<S: HeapShapes>(
     ensures same { collector.new.seat.table_id ≡ collector.old.seat.table_id }
     ensures stopped { (pass.new.seat.table_id ≡ pass.old.seat.table_id)
         × (pass.new.seat.me.0 ≡ split_view (stopped_view pass.old.seat.me.0)) }
+    ensures is_in { In pass.old.seat.me.0.who collector.new.seat.me.0.notes }
     ensures noted { collector.new.seat.me.0 ≡ noted collector.old.seat.me.0
         (note_of true (stopped_view pass.old.seat.me.0)) }
 {
@@ -55,4 +56,28 @@ pub fn stop_part<S: HeapShapes>(
     let numbers = note.numbers();
     collector.take(heap, note);
     numbers
+}
+
+/// The only participant stops in the open part, and the part is frozen.
+pub fn stop_and_freeze<'a, S: HeapShapes>(
+    heap: &'a Heap<S>,
+    collector: &'a mut Collector,
+    pass: &mut Pass,
+) -> Frozen<'a, S>
+    requires own { collector.old.seat.table_id ≡ heap.now.table.shared.table_id }
+    requires of_heap { pass.old.seat.table_id ≡ heap.now.table.shared.table_id }
+    requires running { collector.old.seat.me.0.frozen ≡ false }
+    requires mutator { pass.old.seat.me.0.who < heap.now.key.layout.mutators }
+    requires runs { pass.old.seat.me.0.runs ≡ true }
+    requires rests { Rests pass.old.seat.me.0 }
+    requires began { pass.old.seat.me.0.begun ≡ pass.old.seat.me.0.ticket }
+    requires once { pass.old.seat.me.0.period < pass.old.seat.me.0.ticket }
+    requires of_part { pass.old.seat.me.0.ticket ≡ collector.old.seat.me.0.period }
+    requires alone { (i : ℕ) → IsParty heap.now.key.layout i → i ≡ pass.old.seat.me.0.who }
+    ensures heap { result.heap.now ≡ heap.now }
+    ensures frozen { Freezes heap.now.key.layout (S.lists heap.now.key.shapes) (noted collector.old.seat.me.0
+        (note_of true (stopped_view pass.old.seat.me.0))) result.collector.now.seat.me.0 }
+{
+    stop_part(heap, collector, pass);
+    collector.freeze(heap)
 }

@@ -2,7 +2,7 @@
 use Rattle.std.proofs.Common.{ℕ, ◌≡◌, refl, sym, ◌∙◌, ap, subst, true, false, List, ◌<◌, None}
 use Rattle.std.proofs.lemmas.Bool.{eq-eqb}
 use Rattle.std.specs.Prelude.{Bool, if◌then◌else◌}
-use Rattle.check_parts.specs.Working.{HasLooked, IsReady, set_calls}
+use Rattle.check_callers.specs.Working.{IsReady, set_calls}
 use Rattle.tide_machine.proofs.steps.OwnState.{own_state}
 use Rattle.tide_machine.specs.May.{RunsAsMutator, MayCall, IsBetweenCalls}
 use Rattle.tide_machine.specs.Own.{Own, own_of}
@@ -58,10 +58,3 @@ may_call layout shapes v mine op ready active fits granted w wave is = record {
 pub seven : (layout : Layout) (who : ℕ) → (state_after layout (set_calls who)).registers who 0 ≡ Int 7
 seven layout who =
     ap (λ (b : Bool). (if b then put_at (λ (r : ℕ). Empty) 0 (Int 7) else (λ (r : ℕ). Empty)) 0) (eq-eqb who who refl)
-
--- who looks twice has looked
-pub looked_on : (v u w : View) → HasLooked v u → HasLooked u w → HasLooked v w
-looked_on v u w one other = record {
-  found = other.found;
-  is = other.is ∙ ap (λ (x : View). record x { found = other.found }) one.is;
-}

@@ -1,12 +1,12 @@
 -- The register holds what was set, whatever others did.
-use Rattle.std.proofs.Common.{refl, sym, ap, ◌∙◌}
-use Rattle.check_parts.proofs.Calls.{may_call, own_now, seven}
-use Rattle.check_parts.specs.Working.{set_calls}
+use Rattle.std.proofs.Common.{refl, sym, ap, ◌∙◌, rules}
+use Rattle.check_callers.proofs.Calls.{may_call, own_now, seven}
+use Rattle.check_callers.specs.Working.{set_calls}
 use Rattle.tide_machine.specs.Own.{Own}
 use Rattle.tide_model.specs.declared.op.Op.TheVariants.{StrongSet}
 use Rattle.tide_model.specs.declared.val.Val.{Val}
 use Rattle.tide_words.specs.forms.ValueWord.{val_word}
-use Rattle.check_parts.proofs.working.put_strong.Goals as goal
+use Rattle.check_callers.proofs.acts.put_strong.Goals as goal
 
 pub store_strong-requires-clause-may : goal.store_strong-requires-clause-may
 store_strong-requires-clause-may g c = record {
@@ -24,3 +24,12 @@ store_strong-requires-clause-may g c = record {
             (λ s same. refl) w wave is,
       );
 }
+
+pub store_call-requires-clause-may : goal.store_call-requires-clause-may
+store_call-requires-clause-may g c = search rules depth 3
+
+pub returns-clause-ready : goal.returns-clause-ready
+returns-clause-ready g c = search rules depth 3
+
+pub returns-clause-stays : goal.returns-clause-stays
+returns-clause-stays g c = search rules
