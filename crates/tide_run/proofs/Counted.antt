@@ -9,13 +9,11 @@ use Rattle.tide_model.specs.declared.entry.Entry.TheVariants.{Call, Begin, Pause
 use Rattle.tide_model.specs.declared.entry.Event.{Event}
 use Rattle.tide_model.specs.declared.op.Op.{Op}
 use Rattle.tide_model.specs.declared.op.Reply.{Reply}
-use Rattle.tide_model.specs.Layout.{Layout}
-use Rattle.tide_model.specs.Lawful.{IsLawful, StandsEntry}
-use Rattle.tide_model.specs.Refused.{ShapeLists}
 use Rattle.tide_model.specs.Script.{calls_of, own_calls}
 use Rattle.tide_periods.specs.Answered.{pair_of}
 use Rattle.tide_periods.specs.declared.answered.Answered.{Answered}
 use Rattle.tide_workload.specs.Words.{counts_with, replies_in, reply_in}
+use Rattle.tide_outcome.proofs.Outsiders.{own_calls-other}
 
 -- a mutator's replies
 abbrev pub replies_of : ℕ → List Event → List Reply
@@ -54,10 +52,6 @@ pub record IsCount (count : List Reply → ℕ) : Type 0 where
 abbrev pub replies_to : ℕ → Entry → List Reply
 replies_to zero entry = []
 replies_to (suc count) entry = replies_to count entry ++ map (λ (call : Op × Reply). call.1) (own_calls count entry)
-
--- of a call that another makes, a mutator has none
-own_calls-other : (who w : ℕ) (op : Op) (reply : Reply) → (w == who) ≡ false → own_calls who (Call w op reply) ≡ []
-own_calls-other who w op reply apart = ap (λ (b : Bool). if b then (op, reply) ∷ [] else []) apart
 
 own_calls-own : (who w : ℕ) (op : Op) (reply : Reply) → (w == who) ≡ true → own_calls who (Call w op reply) ≡ (op, reply) ∷ []
 own_calls-own who w op reply same = ap (λ (b : Bool). if b then (op, reply) ∷ [] else []) same
@@ -175,28 +169,3 @@ pub counts_below : (mutators : ℕ) (history : List Event) (live : ℕ) → ((wh
     counts_with mutators (replies_below mutators history) live ≡ counts_with mutators (replies_in history) live
 counts_below mutators history live none =
     counts_with-same mutators live (replies_below mutators history) (replies_in history) (λ count is. count_below count is mutators history none)
-
--- what stands at no place of a history is no call of it
-calls_of-none : (who : ℕ) (history : List Event) → ((place : ℕ) (event : Event) → slice_get history place ≡ Some event → own_calls who event.entry ≡ []) →
-    calls_of who history ≡ []
-calls_of-none who [] none = refl
-calls_of-none who (event ∷ events) none =
-    ap (λ (calls : List (Op × Reply)). calls ++ calls_of who events) (none 0 event refl)
-    ∙ calls_of-none who events (λ place one at. none (suc place) one at)
-
--- nobody but the layout's mutators makes a call in a lawful history
-pub none_above : (layout : Layout) (shapes : ShapeLists) (history : List Event) → IsLawful layout shapes history → (who : ℕ) → layout.mutators ≤ who → calls_of who history ≡ []
-none_above layout shapes history lawful who past = calls_of-none who history (λ place event at. one (take place history) event.entry event.took (lawful place event at))
-  where
-    one : (before : List Event) (entry : Entry) (took : Option ℕ) → StandsEntry layout shapes before entry took → own_calls who entry ≡ []
-    one before (Call w op reply) took stands = step (w == who) refl
-      where
-        step : (same : Bool) → (w == who) ≡ same → own_calls who (Call w op reply) ≡ []
-        step true e = (let is = eqb-true w who e in let below = stands.is_mutator in absurd (omega (arith, is, below, past)))
-        step false e = own_calls-other who w op reply e
-    one before (Begin cycle) took stands = refl
-    one before (Pause visits) took stands = refl
-    one before (Visits w visits) took stands = refl
-    one before (End cycle freed) took stands = refl
-    one before (Sweep block) took stands = refl
-    one before (Open number run) took stands = refl

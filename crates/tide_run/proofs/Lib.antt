@@ -1,6 +1,4 @@
 -- The lemmas of this crate.
 pub mod Causes
-pub mod Copies
 pub mod Counted
 pub mod Printed
-pub mod RunLaws

@@ -1,6 +1,5 @@
 -- The definitions of this crate.
 pub mod Asked
-pub mod Outcome
 pub mod Printing
 pub mod Program
 pub mod Runs

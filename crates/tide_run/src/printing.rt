@@ -7,8 +7,8 @@ ghost use Rattle.tide_workload.specs.Words.{HasText, cycles_from, mutator_text, 
 ghost use Rattle.tide_model.specs.State.{empty_state};
 ghost use Rattle.tide_run.specs.Printing.{answered_line, reported_line};
 
-use crate::outcome::Outcome;
 use tide_io::{Failed, Sink};
+use tide_outcome::Outcome;
 use tide_periods::Answered;
 use tide_report::{CycleLine, Report};
 use tide_workload::{

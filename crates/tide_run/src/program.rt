@@ -8,13 +8,13 @@ ghost use Rattle.tide_run.specs.Asked.{AsksToRead, RanAsked, asks_for_made, prin
 ghost use Rattle.tide_run.specs.Program.{input_of, status_line, IsStatus, TellsLine, ToldFault};
 
 use crate::asking::{Printable, attempt};
-use crate::outcome::Outcome;
 use crate::printing::{print_summary, print_text};
 use std::alloc::Global;
 use std::marker::Sync;
 use std::thread::Threads;
 use tide_io::{Failed, Sink, Source, write_all};
 use tide_model::Turnstile;
+use tide_outcome::Outcome;
 use tide_workload::{Fault, write_fault_line};
 
 /// How a program ended, with the outcome of its run where there was one.

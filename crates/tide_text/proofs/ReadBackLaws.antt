@@ -14,7 +14,7 @@ use Rattle.tide_work.specs.Work.{AreKeys, AreSettings, IsOperation}
 use Rattle.tide_work.proofs.KeyLemmas.{key-word, position_of_name}
 use Rattle.tide_work.proofs.NumeralLemmas.{decimal-word, number_of-decimal, number_below-decimal}
 use Rattle.tide_work.proofs.SpacedLemmas.{IsWord, spaced, spaced-trimmed, words_in-spaced, words_in-word, word-trimmed}
-use Rattle.tide_text.specs.OpText.{op_text}
+use Rattle.tide_line.specs.OpText.{op_text}
 use Rattle.tide_text.specs.ReadBack.{AreReadBack, IsReadBack}
 
 -- a text that is a name with arguments behind it reads as what they name

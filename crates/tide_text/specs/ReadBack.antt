@@ -5,7 +5,7 @@ use Rattle.tide_work.specs.declared.settings.Settings.{Settings}
 use Rattle.tide_work.specs.OpLimits.{OpLimits, limits_with}
 use Rattle.tide_work.specs.ReadOp.{op_of}
 use Rattle.tide_work.specs.Work.{AreKeys, AreSettings, IsOperation}
-use Rattle.tide_text.specs.OpText.{op_text}
+use Rattle.tide_line.specs.OpText.{op_text}
 
 -- the text of the operation reads as that operation
 abbrev pub IsReadBack : OpLimits → Op → Type 0

@@ -9,8 +9,8 @@ use Rattle.tide_work.specs.declared.field.Field.TheVariants.{Registers, Ops, Oth
 use Rattle.tide_model.specs.declared.entry.Entry.TheVariants.{Call, Begin, Pause, End}
 use Rattle.tide_model.specs.History.{plain}
 use Rattle.tide_model.specs.Rows.{small}
-use Rattle.tide_text.specs.FaultLine.{fault_line}
-use Rattle.tide_text.specs.Line.{call_line, cycle_line, live_line, mutator_line, refusal_text}
+use Rattle.tide_line.specs.FaultLine.{fault_line}
+use Rattle.tide_line.specs.Line.{call_line, cycle_line, live_line, mutator_line, refusal_text}
 use Rattle.tide_text.specs.declared.counts.Counts.{Counts}
 use Rattle.tide_text.specs.Summary.{counts_with, summary_of, summary_text}
 

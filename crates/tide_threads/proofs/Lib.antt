@@ -3,7 +3,6 @@ pub mod Counting
 pub mod Ending
 pub mod Freezes
 pub mod Fresh
-pub mod Grown
 pub mod Loops
 pub mod Making
 pub mod Parking

@@ -4,4 +4,3 @@ pub mod Parked
 pub mod Playing
 pub mod Standing
 pub mod Taken
-pub mod Works

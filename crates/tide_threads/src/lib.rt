@@ -13,7 +13,6 @@ mod part;
 mod participant;
 mod periods;
 mod playing;
-mod sharing;
 
 pub use on_threads::OnThreads;
 pub use participant::Participant;

@@ -7,11 +7,11 @@ ghost use Rattle.tide_shape.specs.Lists.{lists_of};
 ghost use Rattle.tide_threads.specs.Parked.{HasBegun};
 ghost use Rattle.tide_threads.specs.Playing.{DidPart, HasMade, IsReady, MayPlay};
 
-use crate::sharing::make_share;
 use tide_model::{Memory, Turnstile};
 use tide_mutator::Mutator;
 use tide_periods::Caller;
 use tide_shape::Shapes;
+use tide_share::make_share;
 use tide_table::{Heap, Note, Pass, Ticket};
 
 /// A mutator with what it asks for. Between two parts it has neither a ticket nor a note.

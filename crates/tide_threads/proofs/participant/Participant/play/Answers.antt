@@ -7,7 +7,7 @@ use Rattle.tide_periods.specs.Own.{RanOwnShare}
 use Rattle.tide_periods.specs.Store.{Setting}
 use Rattle.tide_shape.specs.Lists.{lists_of}
 use Rattle.tide_threads.proofs.Making.{HasPlayed-stopped}
-use Rattle.tide_threads.specs.Works.{Same}
+use Rattle.tide_share.specs.Works.{Same}
 use Rattle.tide_threads.proofs.participant.Participant.play.Goals as goal
 
 pub returns-clause-made : goal.returns-clause-made

@@ -1,0 +1,4 @@
+-- The definitions of this crate.
+pub mod FaultLine
+pub mod Line
+pub mod OpText

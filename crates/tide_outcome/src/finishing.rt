@@ -1,0 +1,67 @@
+//! What a run left, as the outcome of its workload.
+ghost use Rattle.std.specs.Prelude.{ℕ, ◌≡◌, map};
+ghost use Rattle.tide_outcome.specs.Outcome.{is_heap, HasLeft};
+ghost use Rattle.tide_outcome.specs.Runs.{IsRunOf};
+
+use crate::outcome::{Kept, Outcome, Told};
+use crate::starting::layout_of;
+use tide_model::Event;
+use tide_periods::Finished;
+use tide_table::Closed;
+use tide_workload::Workload;
+
+/// What a run left that kept its history itself.
+pub(crate) fn kept_itself(ran: Finished<Vec<Event>>) -> Finished<Kept>
+    ensures { result ≡ record {
+      kept = Kept.Own (record { events = ran.kept });
+      report = ran.report;
+      calls = ran.calls;
+      live = ran.live;
+    } }
+{
+    let Finished {
+        kept: events,
+        report,
+        calls,
+        live,
+    } = ran;
+    Finished {
+        kept: Kept::Own(Told { events }),
+        report,
+        calls,
+        live,
+    }
+}
+
+/// What a run left whose history a heap kept.
+pub(crate) fn kept_by_heap(ran: Finished<Closed>) -> Finished<Kept>
+    ensures { result ≡ record {
+      kept = Kept.Heap ran.kept;
+      report = ran.report;
+      calls = ran.calls;
+      live = ran.live;
+    } }
+{
+    let Finished {
+        kept: closed,
+        report,
+        calls,
+        live,
+    } = ran;
+    Finished {
+        kept: Kept::Heap(closed),
+        report,
+        calls,
+        live,
+    }
+}
+
+/// The outcome of a run of a workload that left this, with the names of the workload's keys.
+pub(crate) fn outcome_of(load: &Workload, names: Vec<Vec<u8>>, ran: Finished<Kept>) -> Outcome
+    requires names { map (λ name. name.items) names.items ≡ load.now.keys }
+    requires left { (trigger : ℕ) × HasLeft load.now trigger ran }
+    ensures run { (trigger : ℕ) → HasLeft load.now trigger ran → IsRunOf load.now trigger result }
+    ensures heap { result.is_heap ≡ is_heap ran.kept }
+{
+    Outcome::new(layout_of(load), names, ran)
+}

@@ -1,0 +1,104 @@
+//! What a run takes of its workload.
+ghost use Rattle.std.specs.Prelude.{◌≡◌, ◌≤◌, ◌++◌, ◌∷◌, [], None, length, map, All, IfOk, OnOk};
+ghost use Rattle.tide_shape.specs.Lists.{lists_of};
+ghost use Rattle.tide_shape.specs.Shapes.{first_double, shapes_of_paths, IsPath};
+ghost use Rattle.tide_workload.specs.Words.{AreSettings};
+ghost use Rattle.tide_outcome.specs.Runs.{layout_of_work, layout_with, AreScripts};
+
+use std::alloc::Global;
+use tide_layout::Layout;
+use tide_model::{Memory, Op};
+use tide_shape::{Paths, Shapes, ShapesRefused};
+use tide_workload::{Settings, Workload};
+
+/// One more at the end of a list.
+fn append<T: Drop>(list: &mut Vec<T>, item: T) -> Result<(), Memory>
+    ensures { OnOk result (list.new.items ≡ list.old.items ++ item ∷ []) }
+{
+    match list.push(item) {
+        Ok(()) => Ok(()),
+        Err(_) => Err(Memory),
+    }
+}
+
+/// The layout of a store with these settings, for so many mutators and no visitor.
+fn layout_with(settings: Settings, mutators: u32) -> Layout
+    requires settings { AreSettings settings }
+    requires mutators { mutators ≤ 16 }
+    ensures { result ≡ layout_with settings mutators }
+{
+    Layout::new(
+        settings.blocks,
+        settings.arrays,
+        settings.registers,
+        settings.strong,
+        settings.weak,
+        mutators as u8,
+        0,
+    )
+}
+
+/// The layout of the store that a workload asks for.
+pub(crate) fn layout_of(load: &Workload) -> Layout
+    ensures { result ≡ layout_of_work load.now }
+{
+    layout_with(load.settings(), load.mutators())
+}
+
+/// The shapes of declared paths, none of which names a key twice.
+pub(crate) fn shapes_from(alloc: Global, paths: &Paths) -> Result<Shapes, Memory>
+    requires few { length paths.now ≤ 64 }
+    requires sized { All IsPath paths.now }
+    requires distinct { first_double paths.now ≡ None }
+    ensures { IfOk result (λ shapes. lists_of shapes ≡ shapes_of_paths paths.now) }
+{
+    match Shapes::new(alloc, paths) {
+        Ok(shapes) => Ok(shapes),
+        Err(ShapesRefused::Memory) => Err(Memory),
+        Err(ShapesRefused::DoubleKey { .. }) => unreachable!(),
+    }
+}
+
+/// A copy of some bytes.
+fn copied(alloc: Global, bytes: &[u8]) -> Result<Vec<u8>, Memory>
+    ensures { IfOk result (λ copy. copy.items ≡ bytes.now) }
+{
+    match bytes.to_vec(alloc) {
+        Ok(copy) => Ok(copy),
+        Err(_) => Err(Memory),
+    }
+}
+
+/// The names of a workload's property keys, by number.
+pub(crate) fn names_of(alloc: Global, load: &Workload) -> Result<Vec<Vec<u8>>, Memory>
+    ensures { IfOk result (λ names. map (λ name. name.items) names.items ≡ load.now.keys) }
+{
+    let mut names = Vec::new(alloc);
+    for key in 0..load.key_count() {
+        let name = copied(alloc, load.key_name(key))?;
+        append(&mut names, name)?;
+    }
+    Ok(names)
+}
+
+/// A copy of some operations.
+fn copied_ops(alloc: Global, ops: &[Op]) -> Result<Vec<Op>, Memory>
+    ensures { IfOk result (λ copy. copy.items ≡ ops.now) }
+{
+    match ops.to_vec(alloc) {
+        Ok(copy) => Ok(copy),
+        Err(_) => Err(Memory),
+    }
+}
+
+/// A copy of each mutator's operations.
+pub(crate) fn copied_scripts(alloc: Global, load: &Workload) -> Result<Vec<Vec<Op>>, Memory>
+    ensures { IfOk result (λ scripts. AreScripts load.now (map (λ ops. ops.items) scripts.items)) }
+{
+    let mut scripts = Vec::new(alloc);
+    for m in 0..load.mutators() {
+        let ops = copied_ops(alloc, load.ops(m))?;
+        append(&mut scripts, ops)?;
+    }
+    Ok(scripts)
+}
