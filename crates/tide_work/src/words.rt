@@ -1,9 +1,9 @@
 //! The words of a text and the numbers that they spell, whatever they stand for.
-ghost use Rattle.std.specs.Prelude.{◌≡◌, true, [], ◌∷◌, position, MatchOption, option_map};
+ghost use Rattle.std.specs.Prelude.{◌≡◌, ◌≤◌, if◌then◌else◌, Some, None, [], ◌∷◌, length, position, MatchOption, option_map};
 ghost use Rattle.std.specs.Char.{is_ascii_digit};
 ghost use Rattle.std.specs.List.{list_all};
 ghost use Rattle.std.specs.Str.Parse.{digits_value};
-ghost use Rattle.tide_work.specs.Words.{is_space, is_word_byte, is_trimmed, words_in, one_word, two_words, three_words, is_numeral, number_of, number_below};
+ghost use Rattle.tide_work.specs.Words.{is_space, is_word_byte, is_trimmed, words_in, one_word, two_words, three_words, number_of, number_below};
 
 /// Whether a text neither begins nor ends with a space.
 pub fn is_trimmed(text: &[u8]) -> bool
@@ -69,40 +69,39 @@ pub fn three_words(text: &[u8]) -> Option<(&[u8], &[u8], &[u8])>
     Some((first, second, third))
 }
 
-fn has_digits_only(word: &[u8]) -> bool
-    ensures { result ≡ list_all is_ascii_digit word.now }
-{
-    word.iter().all(|byte| byte.is_ascii_digit())
-}
-
-/// Whether a word has one to ten decimal digits and nothing else.
-fn is_numeral(word: &[u8]) -> bool
-    ensures { result ≡ is_numeral word.now }
-{
-    !word.is_empty() && word.len() <= MAX_DIGITS && has_digits_only(word)
-}
-
-/// What the digits of a numeral spell.
-fn numeral_value(word: &[u8]) -> u64
-    requires { is_numeral word.now ≡ true }
-    ensures { result ≡ digits_value 10 word.now }
+/// What a word of no more than ten bytes spells, where each of them is a digit.
+fn digits_value(word: &[u8]) -> Option<u64>
+    requires { length word.now ≤ MAX_DIGITS }
+    ensures { result ≡ (if list_all is_ascii_digit word.now then Some (digits_value 10 word.now) else None) }
 {
     let mut value = 0u64;
     for byte in word {
+        if !byte.is_ascii_digit() {
+            return None;
+        }
         value = 10 * value + u64::from(*byte - b'0');
     }
-    value
+    Some(value)
 }
 
-/// The number that a word spells.
+/// The number that a word spells. A single digit, as most registers have, takes no loop.
 pub fn number_of(word: &[u8]) -> Option<u32>
     ensures { result ≡ number_of word.now }
 {
-    if is_numeral(word) {
-        u32::try_from(numeral_value(word)).ok()
-    } else {
-        None
+    match word {
+        [digit @ b'0'..=b'9'] => Some(u32::from(*digit - b'0')),
+        _ => longer_number(word),
     }
+}
+
+/// The number that a word of any length spells.
+fn longer_number(word: &[u8]) -> Option<u32>
+    ensures { result ≡ number_of word.now }
+{
+    if word.is_empty() || word.len() > MAX_DIGITS {
+        return None;
+    }
+    u32::try_from(digits_value(word)?).ok()
 }
 
 /// The number that a word spells, where it is below a limit.
