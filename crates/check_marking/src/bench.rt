@@ -17,7 +17,7 @@ ghost use Rattle.tide_words.specs.marking.Colours.{is_marking};
 ghost use Rattle.tide_words.specs.marking.Greyed.{HasRoom};
 ghost use Rattle.tide_words.specs.heap.Heap.{heap_of, Heap as HeapWords};
 
-use crate::heaps::tell;
+use crate::heaps::{answered, answered_numbers, nothing_if, tell};
 use check_heap::{
     Answers, Heap, System, joined, label_text, number, number_between, number_text, numbers_text,
     text, word_of,
@@ -77,7 +77,7 @@ fn marked_text(
     cells.reverse();
     let cells = numbers_text(alloc, cells.as_slice())?;
     let count = number_between(alloc, "", u64::from(count), ": ")?;
-    Ok(Some(joined(alloc, &[count.as_str(), cells.as_str()])?))
+    answered(joined(alloc, &[count.as_str(), cells.as_str()]))
 }
 
 /// Whether a cycle marks in a heap.
@@ -86,8 +86,7 @@ pub fn cycle_marks(heap: &mut Heap) -> bool
     ensures words { heap.new.words ≡ heap.old.words }
     ensures marking { result ≡ true → is_marking (heap_of heap.old.layout heap.old.words) ≡ true }
 {
-    let (_, marks) = word_phase(heap.words.load(heap.layout.place(Region::Phase, 0)));
-    marks
+    word_phase(heap.words.load(heap.layout.place(Region::Phase, 0))).1
 }
 
 /// Runs a constraint once beside a list that holds one cell, and that has this room for notes.
@@ -169,26 +168,30 @@ fn run_named(
 }
 
 /// When the constraint of a name may have something new to mark.
-fn volatility_of(name: &str) -> Option<Volatility> {
-    match name {
-        "registers" => Some(Registers.volatility()),
-        "strong" => Some(Strong.volatility()),
-        "ephemerons" => Some(Ephemerons.volatility()),
-        "groups" => Some(Groups.volatility()),
-        _ => None,
-    }
+fn volatility_text(alloc: Global, name: &str) -> Result<Option<String>, AllocError> {
+    let volatility = match name {
+        "registers" => Registers.volatility(),
+        "strong" => Strong.volatility(),
+        "ephemerons" => Ephemerons.volatility(),
+        "groups" => Groups.volatility(),
+        _ => return Ok(None),
+    };
+    let volatility = match volatility {
+        Volatility::SeldomGreyed => "SeldomGreyed",
+        Volatility::GreyedByExecution => "GreyedByExecution",
+        Volatility::GreyedByMarking => "GreyedByMarking",
+    };
+    answered(text(alloc, volatility))
 }
 
-/// What is asked of a heap in one word.
-fn asked_alone(alloc: Global, heap: &mut Heap, what: &str) -> Result<Option<String>, AllocError> {
+/// Clears the weak handles to cells that aren't marked, or the pairs, and answers whether the word says which.
+fn clear(heap: &mut Heap, what: &str) -> bool {
     match what {
-        "length" => Ok(Some(number_text(alloc, heap.words.len() as u64)?)),
-        "marked" => {
-            let cells = marked_cells(alloc, heap)?;
-            Ok(Some(numbers_text(alloc, cells.as_slice())?))
-        }
-        _ => Ok(None),
+        "weak" => clear_weak(&mut heap.words, &heap.layout),
+        "pairs" => clear_pairs(&mut heap.words, &heap.layout),
+        _ => return false,
     }
+    true
 }
 
 /// What is asked of a heap, or is done to it, in two words that no list is for.
@@ -199,19 +202,9 @@ fn asked_of(
     at: &str,
 ) -> Result<Option<String>, AllocError> {
     match what {
-        "is_live" => Ok(Some(live_text(alloc, heap, number(at))?)),
-        "clear" => {
-            match at {
-                "weak" => clear_weak(&mut heap.words, &heap.layout),
-                "pairs" => clear_pairs(&mut heap.words, &heap.layout),
-                _ => return Ok(None),
-            }
-            Ok(Some(text(alloc, "")?))
-        }
-        "volatility" => match volatility_of(at) {
-            Some(volatility) => Ok(Some(format!(in alloc; "{volatility:?}")?)),
-            None => Ok(None),
-        },
+        "is_live" => answered(live_text(alloc, heap, number(at))),
+        "clear" => nothing_if(alloc, clear(heap, at)),
+        "volatility" => volatility_text(alloc, at),
         _ => heap.word_text(alloc, what, at),
     }
 }
@@ -225,7 +218,8 @@ fn asked(
     words: &[&str],
 ) -> Result<Option<String>, AllocError> {
     match words {
-        [what] => asked_alone(alloc, heap, what),
+        ["length"] => answered(number_text(alloc, heap.words.len() as u64)),
+        ["marked"] => answered_numbers(alloc, marked_cells(alloc, heap)),
         ["run", name] => run_named(alloc, heap, listed, room, name),
         ["mark", cell] => mark_one(alloc, heap, listed, number(cell), 0),
         [what, at] => asked_of(alloc, heap, what, at),
@@ -259,7 +253,7 @@ impl Bench {
         words: &[&str],
     ) -> Result<Option<String>, AllocError> {
         if self.is_set(words) {
-            return Ok(Some(text(alloc, "")?));
+            return nothing_if(alloc, true);
         }
         if let Some(told) = tell(alloc, &mut self.heap, words)? {
             return Ok(Some(told));

@@ -1,8 +1,8 @@
 //! Long chains.
-ghost use Rattle.std.specs.Prelude.{◌≡◌, ◌*◌, ◌<◌, ◌≤◌};
+ghost use Rattle.std.specs.Prelude.{◌<◌, ◌≤◌};
 
 use crate::marking::Marking;
-use check_heap::Heap;
+use check_heap::{Heap, small_number};
 use std::alloc::{AllocError, Global};
 use tide_layout::{Layout, Region};
 use tide_model::Val;
@@ -10,8 +10,8 @@ use tide_solver::Solved;
 use tide_words::{Colour, pair_word, val_word};
 
 /// By what each cell of a chain holds the next one.
-#[derive(Clone, Copy, Debug, PartialEq, Eq)]
-pub enum Chain {
+#[derive(Clone, Copy, PartialEq, Eq)]
+enum Chain {
     /// Each cell that has slots by a slot.
     Links,
     /// By a slot and by a group in turn, so that each round of the solver finds one cell.
@@ -23,11 +23,15 @@ pub enum Chain {
     Leaps,
 }
 
-/// How many cells a class of so many blocks has.
-fn class_size(blocks: u8) -> u32
-    ensures { result ≡ 64 * blocks }
-{
-    64 * u32::from(blocks)
+/// The chain of a name.
+fn chain_of(kind: &str) -> Option<Chain> {
+    match kind {
+        "links" => Some(Chain::Links),
+        "turns" => Some(Chain::Turns),
+        "tables" => Some(Chain::Tables),
+        "leaps" => Some(Chain::Leaps),
+        _ => None,
+    }
 }
 
 /// The word of a cell as a value.
@@ -87,7 +91,7 @@ fn heap_of(alloc: Global, chain: Chain, blocks: u8) -> Result<Heap, AllocError>
     requires { blocks ≤ 64 }
 {
     let layout = Layout::new([blocks; 5], [0; 5], 2, 0, 0, 1, 0);
-    let tables = class_size(blocks);
+    let tables = 64 * u32::from(blocks);
     let first_table = 4 * tables;
     let mut heap = Heap::new(alloc, layout)?;
     for cell in 0..5 * tables {
@@ -101,11 +105,14 @@ fn heap_of(alloc: Global, chain: Chain, blocks: u8) -> Result<Heap, AllocError>
     Ok(heap)
 }
 
-/// Marks the chain of a layout with so many blocks in each class of cells, all of which is retained, and answers whether
-/// all of it is marked.
-pub fn check_chain(alloc: Global, chain: Chain, blocks: u8) -> Result<bool, AllocError>
-    requires { blocks ≤ 64 }
-{
+/// Marks a chain of this kind, of so many blocks a class. Answers whether the words say one, all of which was marked.
+pub fn check_chain(alloc: Global, kind: &str, blocks: &str) -> Result<bool, AllocError> {
+    let (Some(chain), Some(blocks)) = (chain_of(kind), small_number(blocks)) else {
+        return Ok(false);
+    };
+    if blocks < 1 || blocks > 64 {
+        return Ok(false);
+    }
     let heap = heap_of(alloc, chain, blocks)?;
     let mut marking = Marking::begin(alloc, heap)?;
     let visits = marking.cells();

@@ -29,8 +29,12 @@ pub struct Room {
 impl Room {
     /// Room for so many cycles of any heap, which free so many cells.
     pub fn new(alloc: Global, cycles: u32, freed: u32) -> Result<Self, AllocError> {
-        let list = GreyList::new(alloc, MAX_CELLS).map_err(|_| AllocError)?;
-        let report = Report::new(alloc, cycles, freed).map_err(|_| AllocError)?;
+        let Ok(list) = GreyList::new(alloc, MAX_CELLS) else {
+            return Err(AllocError);
+        };
+        let Ok(report) = Report::new(alloc, cycles, freed) else {
+            return Err(AllocError);
+        };
         Ok(Room { list, report })
     }
 }

@@ -11,10 +11,8 @@
 ghost use Rattle.std.specs.Prelude.{◌+◌, ◌≤◌, length};
 
 use crate::collecting::{Room, begin_in, collect, end_in, pause_in, sweep_all};
-use crate::heaps::{solved_text, tell};
-use check_heap::{
-    Answers, Heap, System, joined, number, number_between, number_text, numbers_text, text,
-};
+use crate::heaps::{answered, answered_numbers, nothing_if, solved_text, tell};
+use check_heap::{Answers, Heap, System, joined, number, number_between, number_text, numbers_text};
 use std::alloc::{AllocError, Global};
 use std::io;
 use tide_block::{bit_of, block_of_cell, has_bit};
@@ -40,7 +38,7 @@ fn line_text(alloc: Global, report: &Report, line: CycleLine) -> Result<String, 
 /// What the last cycle kept and freed.
 fn last_text(alloc: Global, report: &Report) -> Result<Option<String>, AllocError> {
     match report.cycles().last() {
-        Some(line) => Ok(Some(line_text(alloc, report, *line)?)),
+        Some(line) => answered(line_text(alloc, report, *line)),
         None => Ok(None),
     }
 }
@@ -59,7 +57,7 @@ fn report_text(alloc: Global, report: &Report) -> Result<String, AllocError> {
 }
 
 /// The cells that have their bit in a shared grey word.
-fn shared_text(alloc: Global, heap: &mut Heap) -> Result<String, AllocError> {
+fn shared_cells(alloc: Global, heap: &mut Heap) -> Result<Vec<u32>, AllocError> {
     let mut cells = Vec::new(alloc);
     for cell in 0..heap.layout.cells() {
         let word = heap.get(Region::GreyShared, block_of_cell(cell));
@@ -67,7 +65,7 @@ fn shared_text(alloc: Global, heap: &mut Heap) -> Result<String, AllocError> {
             cells.push(cell)?;
         }
     }
-    numbers_text(alloc, cells.as_slice())
+    Ok(cells)
 }
 
 /// Does what has a budget, and answers it.
@@ -86,7 +84,7 @@ fn answer_within(
         };
     }
     match pause_in(heap, &mut room.list, budget) {
-        Some(solved) => Ok(Some(solved_text(alloc, solved)?)),
+        Some(solved) => answered(solved_text(alloc, solved)),
         None => Ok(None),
     }
 }
@@ -99,17 +97,14 @@ fn answer_step(
     what: &str,
 ) -> Result<Option<String>, AllocError> {
     match what {
-        "begin" if begin_in(heap) => Ok(Some(text(alloc, "")?)),
+        "begin" => nothing_if(alloc, begin_in(heap)),
         "end" => match end_in(heap, &mut room.report) {
-            Some(freed) => Ok(Some(number_text(alloc, u64::from(freed))?)),
+            Some(freed) => answered(number_text(alloc, u64::from(freed))),
             None => Ok(None),
         },
-        "sweep" => {
-            let blocks = sweep_all(alloc, heap)?;
-            Ok(Some(numbers_text(alloc, blocks.as_slice())?))
-        }
-        "report" => Ok(Some(report_text(alloc, &room.report)?)),
-        "shared" => Ok(Some(shared_text(alloc, heap)?)),
+        "sweep" => answered_numbers(alloc, sweep_all(alloc, heap)),
+        "report" => answered(report_text(alloc, &room.report)),
+        "shared" => answered_numbers(alloc, shared_cells(alloc, heap)),
         _ => Ok(None),
     }
 }

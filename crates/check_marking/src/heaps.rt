@@ -17,6 +17,24 @@ pub struct Marked {
     marking: Option<Marking>,
 }
 
+/// A text as the answer of what was asked.
+pub fn answered(text: Result<String, AllocError>) -> Result<Option<String>, AllocError> {
+    Ok(Some(text?))
+}
+
+/// Numbers as the answer of what was asked.
+pub fn answered_numbers(
+    alloc: Global,
+    numbers: Result<Vec<u32>, AllocError>,
+) -> Result<Option<String>, AllocError> {
+    answered(numbers_text(alloc, numbers?.as_slice()))
+}
+
+/// The answer of what was done: no text, and `None` where it wasn't.
+pub fn nothing_if(alloc: Global, is_done: bool) -> Result<Option<String>, AllocError> {
+    if is_done { answered(text(alloc, "")) } else { Ok(None) }
+}
+
 /// Tells a heap what the words say: a layout, with which a new one begins, or a fact of it.
 pub fn tell(
     alloc: Global,
@@ -28,13 +46,10 @@ pub fn tell(
             return Ok(None);
         };
         *heap = Some(Heap::new(alloc, layout)?);
-        return Ok(Some(text(alloc, "")?));
+        return nothing_if(alloc, true);
     }
-    let Some(heap) = heap else {
-        return Ok(None);
-    };
-    match heap.say(words) {
-        Some(_) => Ok(Some(text(alloc, "")?)),
+    match heap {
+        Some(heap) => nothing_if(alloc, heap.say(words).is_some()),
         None => Ok(None),
     }
 }
@@ -50,7 +65,7 @@ pub fn solved_text(alloc: Global, solved: Solved) -> Result<String, AllocError> 
 /// Marks within a budget, and tells how that ended.
 fn solve(alloc: Global, marking: &mut Marking, budget: &str) -> Result<Option<String>, AllocError> {
     match number(budget) {
-        Some(budget) => Ok(Some(solved_text(alloc, marking.solve(budget))?)),
+        Some(budget) => answered(solved_text(alloc, marking.solve(budget))),
         None => Ok(None),
     }
 }
@@ -61,13 +76,12 @@ fn told(
     marking: &mut Marking,
     words: &[&str],
 ) -> Result<Option<String>, AllocError> {
-    let cells = match words {
-        ["solve", budget] => return solve(alloc, marking, budget),
-        ["black"] => marking.cells_of(alloc, Colour::Black)?,
-        ["grey"] => marking.cells_of(alloc, Colour::Grey)?,
-        _ => return Ok(None),
-    };
-    Ok(Some(numbers_text(alloc, cells.as_slice())?))
+    match words {
+        ["solve", budget] => solve(alloc, marking, budget),
+        ["black"] => answered_numbers(alloc, marking.cells_of(alloc, Colour::Black)),
+        ["grey"] => answered_numbers(alloc, marking.cells_of(alloc, Colour::Grey)),
+        _ => Ok(None),
+    }
 }
 
 impl Marked {

@@ -25,50 +25,13 @@ mod marking;
 mod runs;
 
 use bench::Bench;
-use chains::{Chain, check_chain};
-use check_heap::{Checks, System, check_lines, check_rows, number, small_number, words_of};
+use chains::check_chain;
+use check_heap::{Checks, System, check_lines, check_rows, words_of};
 use cycles::Cycles;
 use heaps::Marked;
-use runs::{Grouping, Marks, time_runs};
+use runs::time_runs;
 use std::io;
 use std::process::ExitCode;
-
-/// The chain of a name.
-fn chain_of(kind: &str) -> Option<Chain> {
-    match kind {
-        "links" => Some(Chain::Links),
-        "turns" => Some(Chain::Turns),
-        "tables" => Some(Chain::Tables),
-        "leaps" => Some(Chain::Leaps),
-        _ => None,
-    }
-}
-
-/// The groups of a name.
-fn grouping_of(kind: &str) -> Option<Grouping> {
-    match kind {
-        "alone" => Some(Grouping::Alone),
-        "together" => Some(Grouping::Together),
-        "beside" => Some(Grouping::Beside),
-        "apart" => Some(Grouping::Apart),
-        "drawn" => Some(Grouping::Drawn),
-        "crowded" => Some(Grouping::Crowded),
-        "worst" => Some(Grouping::Worst),
-        _ => None,
-    }
-}
-
-/// The marks of a name.
-fn marks_of(kind: &str) -> Option<Marks> {
-    match kind {
-        "nothing" => Some(Marks::Nothing),
-        "few" => Some(Marks::Few),
-        "half" => Some(Marks::Half),
-        "cells" => Some(Marks::HalfButTables),
-        "all" => Some(Marks::All),
-        _ => None,
-    }
-}
 
 /// The checks of this program.
 #[derive(Clone, Copy)]
@@ -82,20 +45,8 @@ fn check_words<R: System>(rt: &R, words: &[&str]) -> io::Result<bool> {
         ["heaps", file] => check_rows::<R, Marked>(rt, file),
         ["constraints", file] => check_rows::<R, Bench>(rt, file),
         ["cycles", file] => check_rows::<R, Cycles>(rt, file),
-        ["chain", kind, blocks] => match (chain_of(kind), small_number(blocks)) {
-            (Some(chain), Some(blocks)) if 1 <= blocks && blocks <= 64 => Ok(check_chain(
-                rt.alloc(),
-                chain,
-                blocks,
-            )?),
-            _ => Ok(false),
-        },
-        ["runs", kind, marked, times] => {
-            match (grouping_of(kind), marks_of(marked), number(times)) {
-                (Some(grouping), Some(marks), Some(times)) => time_runs(rt, grouping, marks, times),
-                _ => Ok(false),
-            }
-        }
+        ["chain", kind, blocks] => Ok(check_chain(rt.alloc(), kind, blocks)?),
+        ["runs", kind, marked, times] => time_runs(rt, kind, marked, times),
         _ => Ok(false),
     }
 }

@@ -4,7 +4,7 @@
 ghost use Rattle.std.specs.Prelude.{◌<◌, length};
 
 use crate::bench::{cycle_marks, list_of};
-use check_heap::{Draw, Heap, System};
+use check_heap::{Draw, Heap, System, number};
 use std::alloc::{AllocError, Global};
 use std::io;
 use std::time::{Duration, Instant};
@@ -18,15 +18,14 @@ const CYCLE: u64 = 1;
 
 /// How many cells the largest layout has, and the first of them that is a table.
 const CELLS: u32 = 20_480;
-
 const TABLES: u32 = 16_384;
 
 /// For each factor that `Groups` tries alone, a number whose multiples nearly all have one slot for their own.
 const CROWDED: [u64; 3] = [81_007, 18_456, 7_037];
 
 /// Which cells are in groups together.
-#[derive(Clone, Copy, Debug, PartialEq, Eq)]
-pub enum Grouping {
+#[derive(Clone, Copy, PartialEq, Eq)]
+enum Grouping {
     Alone,
     /// All.
     Together,
@@ -43,8 +42,8 @@ pub enum Grouping {
 }
 
 /// Which cells are marked before a run.
-#[derive(Clone, Copy, Debug, PartialEq, Eq)]
-pub enum Marks {
+#[derive(Clone, Copy)]
+enum Marks {
     Nothing,
     /// One of each 130.
     Few,
@@ -53,6 +52,32 @@ pub enum Marks {
     /// One of each two that is no table.
     HalfButTables,
     All,
+}
+
+/// The groups of a name.
+fn grouping_of(kind: &str) -> Option<Grouping> {
+    match kind {
+        "alone" => Some(Grouping::Alone),
+        "together" => Some(Grouping::Together),
+        "beside" => Some(Grouping::Beside),
+        "apart" => Some(Grouping::Apart),
+        "drawn" => Some(Grouping::Drawn),
+        "crowded" => Some(Grouping::Crowded),
+        "worst" => Some(Grouping::Worst),
+        _ => None,
+    }
+}
+
+/// The marks of a name.
+fn marks_of(kind: &str) -> Option<Marks> {
+    match kind {
+        "nothing" => Some(Marks::Nothing),
+        "few" => Some(Marks::Few),
+        "half" => Some(Marks::Half),
+        "cells" => Some(Marks::HalfButTables),
+        "all" => Some(Marks::All),
+        _ => None,
+    }
 }
 
 /// A heap, its cells in the order in which two and two are in groups together, and which are marked before a run.
@@ -190,25 +215,35 @@ fn least_time<R: System, C: Constraint>(
     Ok(Some(least))
 }
 
-/// Tells the least time of so many runs of `Groups` and of `Ephemerons`, over the same words. Answers whether each marked
-/// as many cells as it should.
-pub fn time_runs<R: System>(
+/// The least times of so many runs of `Groups` and of `Ephemerons` over the same words, where each marks what it should.
+fn least_times<R: System>(
     rt: &R,
     grouping: Grouping,
     marks: Marks,
     times: u32,
-) -> io::Result<bool> {
-    let (groups, pairs) = {
-        let mut runs = Runs::new(rt.alloc(), grouping, marks)?;
-        let count = set_marks(&mut runs.heap, runs.cells.as_slice(), runs.marks);
-        let twins = runs.unmarked_twins(count);
-        let groups = least_time(rt, &mut runs, times, &Groups, twins)?;
-        (groups, least_time(rt, &mut runs, times, &Ephemerons, 0)?)
+) -> io::Result<Option<(Duration, Duration)>> {
+    let mut runs = Runs::new(rt.alloc(), grouping, marks)?;
+    let count = set_marks(&mut runs.heap, runs.cells.as_slice(), runs.marks);
+    let twins = runs.unmarked_twins(count);
+    let groups = least_time(rt, &mut runs, times, &Groups, twins)?;
+    let pairs = least_time(rt, &mut runs, times, &Ephemerons, 0)?;
+    match (groups, pairs) {
+        (Some(groups), Some(pairs)) => Ok(Some((groups, pairs))),
+        _ => Ok(None),
+    }
+}
+
+/// Tells the least times of so many runs. Answers whether the words say such runs, each of which marked what it should.
+pub fn time_runs<R: System>(rt: &R, kind: &str, marked: &str, times: &str) -> io::Result<bool> {
+    let (Some(grouping), Some(marks), Some(times)) =
+        (grouping_of(kind), marks_of(marked), number(times))
+    else {
+        return Ok(false);
     };
-    let (Some(groups), Some(pairs)) = (groups, pairs) else {
+    let Some((groups, pairs)) = least_times(rt, grouping, marks, times)? else {
         return Ok(false);
     };
     let (groups, pairs) = (groups.as_nanos(), pairs.as_nanos());
-    eprintln!(rt; "{grouping:?} {marks:?} {groups} {pairs}")?;
+    eprintln!(rt; "{kind} {marked} {groups} {pairs}")?;
     Ok(true)
 }
