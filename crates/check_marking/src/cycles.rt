@@ -12,7 +12,9 @@ ghost use Rattle.std.specs.Prelude.{◌+◌, ◌≤◌, length};
 
 use crate::collecting::{Room, begin_in, collect, end_in, pause_in, sweep_all};
 use crate::heaps::{answered, answered_numbers, nothing_if, solved_text, tell};
-use check_heap::{Answers, Heap, System, joined, number, number_between, number_text, numbers_text};
+use check_heap::{
+    Answers, Heap, System, joined, number, number_between, number_text, numbers_text,
+};
 use std::alloc::{AllocError, Global};
 use std::io;
 use tide_block::{bit_of, block_of_cell, has_bit};

@@ -17,30 +17,30 @@ pub struct Marked {
     marking: Option<Marking>,
 }
 
+/// What is answered of a line, or `None` where its words ask nothing that can be answered.
+pub type Answer = Result<Option<String>, AllocError>;
+
 /// A text as the answer of what was asked.
-pub fn answered(text: Result<String, AllocError>) -> Result<Option<String>, AllocError> {
+pub fn answered(text: Result<String, AllocError>) -> Answer {
     Ok(Some(text?))
 }
 
 /// Numbers as the answer of what was asked.
-pub fn answered_numbers(
-    alloc: Global,
-    numbers: Result<Vec<u32>, AllocError>,
-) -> Result<Option<String>, AllocError> {
+pub fn answered_numbers(alloc: Global, numbers: Result<Vec<u32>, AllocError>) -> Answer {
     answered(numbers_text(alloc, numbers?.as_slice()))
 }
 
-/// The answer of what was done: no text, and `None` where it wasn't.
-pub fn nothing_if(alloc: Global, is_done: bool) -> Result<Option<String>, AllocError> {
-    if is_done { answered(text(alloc, "")) } else { Ok(None) }
+/// An empty text as the answer where something was done, and `None` where it wasn't.
+pub fn nothing_if(alloc: Global, is_done: bool) -> Answer {
+    if is_done {
+        answered(text(alloc, ""))
+    } else {
+        Ok(None)
+    }
 }
 
 /// Tells a heap what the words say: a layout, with which a new one begins, or a fact of it.
-pub fn tell(
-    alloc: Global,
-    heap: &mut Option<Heap>,
-    words: &[&str],
-) -> Result<Option<String>, AllocError> {
+pub fn tell(alloc: Global, heap: &mut Option<Heap>, words: &[&str]) -> Answer {
     if let ["layout", layout @ ..] = words {
         let Some(layout) = layout_of(layout) else {
             return Ok(None);
@@ -63,7 +63,7 @@ pub fn solved_text(alloc: Global, solved: Solved) -> Result<String, AllocError> 
 }
 
 /// Marks within a budget, and tells how that ended.
-fn solve(alloc: Global, marking: &mut Marking, budget: &str) -> Result<Option<String>, AllocError> {
+fn solve(alloc: Global, marking: &mut Marking, budget: &str) -> Answer {
     match number(budget) {
         Some(budget) => answered(solved_text(alloc, marking.solve(budget))),
         None => Ok(None),
@@ -71,11 +71,7 @@ fn solve(alloc: Global, marking: &mut Marking, budget: &str) -> Result<Option<St
 }
 
 /// What a marking tells.
-fn told(
-    alloc: Global,
-    marking: &mut Marking,
-    words: &[&str],
-) -> Result<Option<String>, AllocError> {
+fn told(alloc: Global, marking: &mut Marking, words: &[&str]) -> Answer {
     match words {
         ["solve", budget] => solve(alloc, marking, budget),
         ["black"] => answered_numbers(alloc, marking.cells_of(alloc, Colour::Black)),
@@ -86,7 +82,7 @@ fn told(
 
 impl Marked {
     /// Begins the marking of the heap, and marks within a budget.
-    fn begin_marking(&mut self, alloc: Global, budget: &str) -> Result<Option<String>, AllocError> {
+    fn begin_marking(&mut self, alloc: Global, budget: &str) -> Answer {
         let Some(heap) = self.heap.take() else {
             return Ok(None);
         };
@@ -97,11 +93,7 @@ impl Marked {
     }
 
     /// Does or answers what the words say: the heap is told a fact, or its marking begins, or tells.
-    fn do_or_answer(
-        &mut self,
-        alloc: Global,
-        words: &[&str],
-    ) -> Result<Option<String>, AllocError> {
+    fn do_or_answer(&mut self, alloc: Global, words: &[&str]) -> Answer {
         match (&mut self.marking, words) {
             (Some(marking), _) => told(alloc, marking, words),
             (None, ["solve", budget]) => self.begin_marking(alloc, budget),

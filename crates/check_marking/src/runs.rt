@@ -16,8 +16,10 @@ use tide_words::{Colour, Constraint, colour_word, phase_word};
 /// The cycle that marks.
 const CYCLE: u64 = 1;
 
-/// How many cells the largest layout has, and the first of them that is a table.
+/// How many cells the largest layout has.
 const CELLS: u32 = 20_480;
+
+/// The first of them that is a table.
 const TABLES: u32 = 16_384;
 
 /// For each factor that `Groups` tries alone, a number whose multiples nearly all have one slot for their own.
@@ -235,9 +237,8 @@ fn least_times<R: System>(
 
 /// Tells the least times of so many runs. Answers whether the words say such runs, each of which marked what it should.
 pub fn time_runs<R: System>(rt: &R, kind: &str, marked: &str, times: &str) -> io::Result<bool> {
-    let (Some(grouping), Some(marks), Some(times)) =
-        (grouping_of(kind), marks_of(marked), number(times))
-    else {
+    let named = (grouping_of(kind), marks_of(marked), number(times));
+    let (Some(grouping), Some(marks), Some(times)) = named else {
         return Ok(false);
     };
     let Some((groups, pairs)) = least_times(rt, grouping, marks, times)? else {

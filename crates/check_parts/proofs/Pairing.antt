@@ -271,16 +271,6 @@ all_in layout notes gone small is i party = subst (λ (l : List ℕ). In i l ⊎
     by (inl mutator) = inl (low i (subst (λ (n : ℕ). i < n) small.two mutator))
     by (inr (least, most)) = absurd (let none = small.no_visitors in omega (arith, least, most, none))
 
--- both have left for good
-pub both_gone : (layout : Layout) (gone : List ℕ) → IsSmall layout → gone ≡ 1 ∷ 0 ∷ [] → (i : ℕ) →
-    i < layout.mutators → In i gone
-both_gone layout gone small is i below = subst (In i) (sym is) (low i (subst (λ (n : ℕ). i < n) small.two below))
-  where
-    low : (n : ℕ) → n < 2 → In n (1 ∷ 0 ∷ [])
-    low zero below = inr (inl refl)
-    low (suc zero) below = inl refl
-    low (suc (suc n)) below = absurd (omega (arith, below))
-
 -- the next part is opened
 pub opened_both : (q : Pair) (c : View) → IsAtRest 0 (c.period + 1) q.one.seat.me.0 →
     IsAtRest 1 (c.period + 1) q.other.seat.me.0 → q.one.seat.me.0.left ≡ false → q.other.seat.me.0.left ≡ false →

@@ -31,7 +31,7 @@ text_in value = good Ops (as_str value)
 abbrev pub is_text : Data → Bool
 is_text value = is_some (as_str value)
 
--- the text that a value is, and no byte where it is none
+-- the text that a value is, or an empty one where it is no text
 abbrev pub text_or_none : Data → List ℕ
 text_or_none value = unwrap_or (as_str value) []
 

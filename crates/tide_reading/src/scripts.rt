@@ -37,7 +37,7 @@ pub(crate) fn mutators_of(alloc: Global, document: &Table) -> Result<Vec<&Table>
     Ok(tables)
 }
 
-/// The text that a value is, and no byte where it is none.
+/// The text that a value is, or an empty one where it is no text.
 fn text_or_none(value: &Value) -> &str
     ensures { result.now ≡ text_or_none (view value.now) }
 {

@@ -1,4 +1,4 @@
-//! A mutator's share of a part: it asks its caller for each call, makes it, and hands the reply back. It knows no other mutator.
+//! A mutator's share of a part: its caller is asked for each call, which is made and replied. It knows no other mutator.
 ghost use Rattle.std.specs.Prelude.{◌≡◌, ◌≤◌, ◌<◌, ◌+◌, [], IfOk, false};
 ghost use Rattle.tide_paying.specs.Standing.{claims_of};
 ghost use Rattle.tide_model.specs.Caller.{MakesCall};

@@ -1,4 +1,4 @@
-//! Writing lines to a sink, each as one piece but for the line of a cycle. How a line is composed stands in `line`.
+//! Writing lines to a sink, each as one piece but for the line of a cycle. How a line is composed, `tide_line` says.
 ghost use Rattle.std.specs.Prelude.{◌≡◌, ◌+◌, ◌≤◌, [], ◌++◌, length, OnErr, OnOk};
 ghost use Rattle.std.specs.List.{flat_map};
 ghost use Rattle.std.specs.Io.KnownBytes.{Appends};
@@ -92,6 +92,7 @@ fn compose_counts(line: &mut RunLine, number: u64, kept: u32, freed: usize)
     line.text(" freed").operand(freed);
 }
 
+// Writes them as one piece.
 fn write_counts<K: Sink>(out: &mut K, number: u64, kept: u32, freed: usize) -> Result<(), Failed>
     ensures whole { OnOk result (Appends (K.held out.old) (K.held out.new) (counts_text number kept freed)) }
     ensures part { OnErr result (AppendsPart (K.held out.old) (K.held out.new) (counts_text number kept freed)) }
