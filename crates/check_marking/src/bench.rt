@@ -25,12 +25,11 @@ use check_heap::{
 use std::alloc::{AllocError, Global};
 use std::io;
 use tide_ephemeron::{Ephemerons, clear_pairs};
+use tide_greying::{mark, mark_named};
 use tide_groups::Groups;
 use tide_layout::{Layout, Region};
 use tide_roots::{Registers, Strong, clear_weak};
-use tide_words::{
-    Constraint, GreyList, Volatility, Words, is_live, is_marked, mark, mark_named, word_phase,
-};
+use tide_words::{Constraint, GreyList, Volatility, Words, is_live, is_marked, word_phase};
 
 /// The room for notes that the next list has: what the one before it left, or its own, or none.
 #[derive(Default, Drop)]

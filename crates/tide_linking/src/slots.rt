@@ -60,7 +60,8 @@ pub fn put<S: HeapShapes, T: Turnstile>(
     ensures done { HasDone heap.now.key.layout (S.lists heap.now.key.shapes) op (StoreSlot cell slot value) result
         pass.old.seat.me.0 pass.new.seat.me.0 }
 {
-    pass.store_link(heap, cell, slot, val_word(value), Some(op));
+    let word = val_word(value);
+    pass.store_link(heap, cell, slot, word, Some(op));
     shade_for(pass, heap, gate, cell, value);
     pass.store_call(heap, calls, None);
     Reply::Done

@@ -8,8 +8,7 @@ mod reference;
 mod structure;
 mod value_word;
 
-pub(crate) use colour_form::colour_cycle;
-pub use colour_form::{colour, colour_word, is_marked_in};
+pub use colour_form::{colour, colour_cycle, colour_word, is_marked_in};
 pub use colours::Colour;
 pub use pairs::{MAX_CELLS, pair_word, word_pair};
 pub use phase_form::{phase_word, word_phase};

@@ -11,14 +11,12 @@ mod heap;
 mod marking;
 
 pub use forms::{
-    Colour, MAX_CELLS, Structure, array_word, claim_word, colour, colour_word, is_marked_in,
-    pair_word, phase_word, structure_word, val_word, word_array, word_claim, word_pair, word_phase,
-    word_structure, word_val,
+    Colour, MAX_CELLS, Structure, array_word, claim_word, colour, colour_cycle, colour_word,
+    is_marked_in, pair_word, phase_word, structure_word, val_word, word_array, word_claim,
+    word_pair, word_phase, word_structure, word_val,
 };
 pub use heap::{
     Fields, VecWords, Words, array_of, clear_bit, is_live, is_vacant, set_bit, store_word,
 };
-pub use marking::{
-    Constraint, GreyList, Volatility, blacken, is_grey, is_marked, mark, mark_named, running_cycle,
-};
+pub use marking::{Constraint, GreyList, Volatility, is_grey, is_marked, running_cycle};
 pub use tide_layout::{Layout, Region};

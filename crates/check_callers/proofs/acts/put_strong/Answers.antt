@@ -1,8 +1,10 @@
 -- The register holds what was set, whatever others did.
-use Rattle.std.proofs.Common.{refl, sym, ap, ◌∙◌, rules}
-use Rattle.check_callers.proofs.Calls.{may_call, own_now, seven}
-use Rattle.check_callers.specs.Working.{set_calls}
+use Rattle.std.proofs.Common.{refl, sym, ap, ◌∙◌, ◌++◌, ◌∷◌, [], List, false, rules}
+use Rattle.check_callers.proofs.Calls.{between_calls, may_call, may_tell, own_now, seven, told_ready}
+use Rattle.check_callers.specs.Working.{done, set_calls, strong_calls}
 use Rattle.tide_machine.specs.Own.{Own}
+use Rattle.tide_machine.specs.declared.view.View.{View}
+use Rattle.tide_model.specs.declared.entry.Event.{Event}
 use Rattle.tide_model.specs.declared.op.Op.TheVariants.{StrongSet}
 use Rattle.tide_model.specs.declared.val.Val.{Val}
 use Rattle.tide_words.specs.forms.ValueWord.{val_word}
@@ -26,10 +28,29 @@ store_strong-requires-clause-may g c = record {
 }
 
 pub store_call-requires-clause-may : goal.store_call-requires-clause-may
-store_call-requires-clause-may g c = search rules depth 3
+store_call-requires-clause-may g c =
+    let v = c.args.pass.now.seat.me.0 in
+    let step = c.store_strong.ensures.step.1 in
+    let stepped = step.follows.view in record {
+      own = step.table ∙ c.requires.own;
+      runs = ap (λ (x : View). x.runs) stepped ∙ c.requires.ready.runs;
+      may = may_tell c.args.heap.now.key.layout (g.S.HeapShapes.lists c.args.heap.now.key.shapes) v
+          c.store_strong.new.self.seat.me.0 (set_calls v.who) (strong_calls v.who) _ c.requires.ready (ap between_calls stepped)
+          (ap (λ (x : View). x.mine) stepped
+          ∙ ap (λ (l : List Event). l ++ done v.who (StrongSet 0 0) ∷ []) c.requires.ready.made) refl;
+    }
 
 pub returns-clause-ready : goal.returns-clause-ready
-returns-clause-ready g c = search rules depth 3
+returns-clause-ready g c =
+    let v = c.args.pass.now.seat.me.0 in
+    let stepped = c.store_strong.ensures.step.1.follows.view in
+    let tell = c.store_call.ensures.step in
+    told_ready c.args.heap.now.key.layout (g.S.HeapShapes.lists c.args.heap.now.key.shapes) v
+    c.store_strong.new.self.seat.me.0 c.store_call.new.self.seat.me.0 (set_calls v.who) (strong_calls v.who) false _ c.requires.ready
+    (ap between_calls stepped) (ap (λ (x : View). x.owed) stepped)
+    (ap (λ (x : View). x.mine) stepped
+    ∙ ap (λ (l : List Event). l ++ done v.who (StrongSet 0 0) ∷ []) c.requires.ready.made)
+    (ap (λ (x : View). x.left) stepped ∙ c.requires.ready.is_left) (tell.0, tell.1.follows)
 
 pub returns-clause-stays : goal.returns-clause-stays
 returns-clause-stays g c = search rules

@@ -45,6 +45,8 @@ store_call-requires-clause-may g c =
           made.made c.args.calls c.requires.counts;
     }
 
+-- the store of the handle made the call,
+-- and the call word tells it
 pub returns-clause-done : goal.returns-clause-done
 returns-clause-done g c =
     let h = c.args.heap.now in

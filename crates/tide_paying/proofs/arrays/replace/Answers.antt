@@ -1,9 +1,28 @@
 -- Why each store of a growth may be made, in this order.
-use Rattle.std.proofs.Common.{suc, ◌≡◌, ◌-◌, ◌∙◌, refl, ap, subst, arith}
+use Rattle.std.proofs.Common.{suc, ◌≡◌, ◌+◌, ◌-◌, ◌∙◌, refl, ap, subst, arith, rules}
 use Rattle.tide_paying.proofs.Replacing.{has_nuked, has_replaced, has_stored, may_nuke, may_pay, may_store_array, may_store_structure, paid}
 use Rattle.std.specs.Prelude.{slice_index}
 use Rattle.tide_paying.specs.Replacing.{OwesGrowth}
 use Rattle.tide_paying.proofs.arrays.replace.Goals as goal
+
+pub store_array-requires-clause-may : goal.store_array-requires-clause-may
+store_array-requires-clause-may g c =
+    let h = c.args.heap.now in
+    let shapes = g.S.HeapShapes.lists h.key.shapes in
+    let v = c.args.pass.now.seat.me.0 in
+    let u = c.loop-place.pass.seat.me.0 in
+    let test = c.loop-place-test.false in
+    let none : c.loop-place.place ≡ 0 = omega (arith, test) in
+    let owes = subst (OwesGrowth h.key.layout v u c.args.growth c.args.taken c.args.words.now) none
+    c.loop-place.invariant.owes in
+    record {
+      own = c.nuke.ensures.step.1.table ∙ c.loop-place.invariant.same.0 ∙ c.requires.own;
+      runs = (has_nuked h.key.layout shapes v u c.args.growth c.args.taken c.args.words.now owes _
+          c.nuke.new.self.seat.me.0 (c.nuke.ensures.step.0, c.nuke.ensures.step.1.follows)).runs;
+      may = may_store_array h.key.layout shapes v _ c.args.growth c.args.taken
+          (has_nuked h.key.layout shapes v u c.args.growth c.args.taken c.args.words.now owes (c.args.growth.old + 1) _
+          (search rules depth 1));
+    }
 
 pub loop-place-init : goal.loop-place-init
 loop-place-init g c = record { same = search; most = omega arith; owes = c.requires.owes }
@@ -70,25 +89,6 @@ nuke-requires-clause-may g c =
       own = c.loop-place.invariant.same.0 ∙ c.requires.own;
       runs = owes.holds.runs;
       may = may_nuke h.key.layout shapes v u c.args.growth c.args.taken c.args.words.now owes _ refl;
-    }
-
-pub store_array-requires-clause-may : goal.store_array-requires-clause-may
-store_array-requires-clause-may g c =
-    let h = c.args.heap.now in
-    let shapes = g.S.HeapShapes.lists h.key.shapes in
-    let v = c.args.pass.now.seat.me.0 in
-    let u = c.loop-place.pass.seat.me.0 in
-    let w = c.nuke.new.self.seat.me.0 in
-    let test = c.loop-place-test.false in
-    let none : c.loop-place.place ≡ 0 = omega (arith, test) in
-    let owes = subst (OwesGrowth h.key.layout v u c.args.growth c.args.taken c.args.words.now) none
-    c.loop-place.invariant.owes in
-    let step = c.nuke.ensures.step in
-    let nuked = has_nuked h.key.layout shapes v u c.args.growth c.args.taken c.args.words.now owes _ w
-    (step.0, step.1.follows) in record {
-      own = step.1.table ∙ c.loop-place.invariant.same.0 ∙ c.requires.own;
-      runs = nuked.runs;
-      may = may_store_array h.key.layout shapes v w c.args.growth c.args.taken nuked;
     }
 
 pub store_structure-requires-clause-may : goal.store_structure-requires-clause-may
