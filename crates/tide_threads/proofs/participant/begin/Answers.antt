@@ -1,6 +1,21 @@
--- Why a mutator has begun.
+-- Why a mutator may begin, and has begun.
+use Rattle.tide_mutator.specs.Viewed.{view_of}
 use Rattle.tide_threads.proofs.Making.{HasBegun-by}
 use Rattle.tide_threads.proofs.participant.begin.Goals as goal
 
-pub returns-clause-begun : goal.returns-clause-begun
-returns-clause-begun c = HasBegun-by _ _ _ c.begin.ensures.begun c.requires.begun
+pub begin-requires : goal.begin-requires
+begin-requires c = record {
+  own = c.requires.own;
+  of_heap = c.requires.of_heap;
+  parked = c.requires.rests;
+  stays = c.requires.stays;
+  later = c.requires.period;
+}
+
+pub returns : goal.returns
+returns c = record {
+  own = c.begin.ensures.same.0;
+  begun = HasBegun-by c.args.ticket.seat.me.0 (view_of c.args.mutator.now) (view_of c.begin.new.self) c.begin.ensures.begun c.requires.begun;
+  told = c.begin.ensures.told;
+  mine = c.begin.ensures.mine;
+}

@@ -1,5 +1,6 @@
 -- Why a part and its freeze make a period.
 use Rattle.std.proofs.Common.{ℕ, ◌≡◌, ◌∙◌, sym, ap, arith, subst, Bool, List}
+use Rattle.std.proofs.lemmas.Result.{err_from_is_err_and}
 use Rattle.std.specs.Prelude.{◌||◌}
 use Rattle.tide_model.specs.Periods.{is_over}
 use Rattle.tide_periods.proofs.Freezing.{RanPeriod-by, is_over-callers}
@@ -12,49 +13,68 @@ use Rattle.tide_threads.specs.OnThreads.{callers_on, recorded_in}
 use Rattle.tide_threads.proofs.periods.run_period.Goals as goal
 use Rattle.tide_threads.proofs.periods.run_period.Goals.{then-stopped, else-stopped}
 
-pub freeze-requires-clause-opened : goal.freeze-requires-clause-opened
-freeze-requires-clause-opened g c =
-    let opened = c.in_ok-stopped.ensures.ran.ran.opened.parts in
-    let same = c.in_ok-stopped.ensures.ran.ran.ran.counts.parts in
-    omega (arith, opened, same)
+pub run_part-requires-clause-settled : goal.run_part-requires-clause-settled
+run_part-requires-clause-settled g c κs within = c.requires.settled
 
-pub returns-clause-ran : goal.returns-clause-ran
-returns-clause-ran g c =
+pub run_part-requires-clause-stands : goal.run_part-requires-clause-stands
+run_part-requires-clause-stands g c κs within = c.requires.stands
+
+pub run_part-requires-clause-callers : goal.run_part-requires-clause-callers
+run_part-requires-clause-callers g c κs within = c.requires.callers
+
+pub run_part-requires-clause-few : goal.run_part-requires-clause-few
+run_part-requires-clause-few g c κs within = c.requires.few
+
+pub freeze-requires : goal.freeze-requires
+freeze-requires g c =
+    let part = c.in_ok-stopped.ensures.ran.ran in
+    let opened = part.opened.parts in
+    let parts = part.ran.counts.parts in
+    let began = part.opened.cycles in
+    let cycles = part.ran.counts.cycles in
+    let room = c.requires.room in record {
+      settled = part.ran.settled;
+      stands = c.in_ok-stopped.ensures.stands;
+      opened = omega (arith, opened, parts);
+      room = omega (arith, room, began, cycles);
+      paces = c.requires.paces;
+    }
+
+pub returns-in_err-stopped : goal.returns-in_err-stopped
+returns-in_err-stopped g c =
+    let failed = err_from_is_err_and c.from_residual.result c.from_residual.ensures.1 in
+    rw failed.1 (record { ran = tt; stands = tt; left = tt; callers = tt; scripts = tt })
+
+pub returns-in_err-next : goal.returns-in_err-next
+returns-in_err-next g c =
+    let failed = err_from_is_err_and c.from_residual-in_err-next.result c.from_residual-in_err-next.ensures.1 in
+    rw failed.1 (record { ran = tt; stands = tt; left = tt; callers = tt; scripts = tt })
+
+pub returns : goal.returns
+returns g c =
     let old = recorded_in c.args.on.now in
     let ran = recorded_in c.run_part.new.self in
+    let new = recorded_in c.freeze.new.self in
     let part = c.in_ok-stopped.ensures.ran in
     let stopped = c.in_ok-stopped.stopped in
-    let over = c.are_all_retired-is_over.ensures ∙ is_over-callers ran (callers_on c.run_part.new.self) part.callers in
+    let callers = callers_on c.args.on.now in
+    let callers_ran = callers_on c.run_part.new.self in
+    let froze : RanFreeze ran new (pace_of c.args.pacing) c.if-stopped.freeze c.in_ok-next.next = c.in_ok-next.ensures.ran in
+    let over = c.are_all_retired-is_over.ensures ∙ is_over-callers ran callers_ran part.callers in
     let must : c.if-stopped.freeze ≡ (stopped || is_over ran.setting.layout ran.history) = elim c.if-stopped.branch [
       | then-stopped w ↦ w.freeze-is ∙ w.if-stopped.true
           ∙ sym (ap (λ (b : Bool). b || is_over ran.setting.layout ran.history) w.if-stopped.true)
       | else-stopped w ↦ w.freeze-is ∙ over
           ∙ sym (ap (λ (b : Bool). b || is_over ran.setting.layout ran.history) w.if-stopped.false)
     ] in
-    RanPeriod-by old part.ran.begun ran (recorded_in c.freeze.new.self) (pace_of c.args.pacing) c.args.run c.in_ok-next.next stopped
-    c.if-stopped.freeze c.requires.goes_on c.requires.run part.ran.opened part.ran.ran c.in_ok-next.ensures.ran must
-
-pub returns-clause-callers : goal.returns-clause-callers
-returns-clause-callers g c =
-    let ran = recorded_in c.run_part.new.self in
-    let new = recorded_in c.freeze.new.self in
-    let froze : RanFreeze ran new (pace_of c.args.pacing) c.if-stopped.freeze c.in_ok-next.next = c.in_ok-next.ensures.ran in
-    subst (AreCallers new) (sym c.in_ok-next.ensures.callers)
-    (AreCallers-same ran new (callers_on c.run_part.new.self) froze.freeze froze.same froze.history froze.quiet
-    c.in_ok-stopped.ensures.ran.callers)
-
-pub returns-clause-scripts : goal.returns-clause-scripts
-returns-clause-scripts g c = ap scripts_of c.in_ok-next.ensures.callers ∙ c.in_ok-stopped.ensures.ran.scripts
-
-pub returns-clause-left : goal.returns-clause-left
-returns-clause-left g c =
-    let old = recorded_in c.args.on.now in
-    let ran = recorded_in c.run_part.new.self in
-    let new = recorded_in c.freeze.new.self in
-    let callers = callers_on c.args.on.now in
-    let callers_ran = callers_on c.run_part.new.self in
-    let froze : RanFreeze ran new (pace_of c.args.pacing) c.if-stopped.freeze c.in_ok-next.next = c.in_ok-next.ensures.ran in
     let at_last : total_left new (callers_on c.freeze.new.self) ≡ total_left ran callers_ran =
     ap (total_left new) c.in_ok-next.ensures.callers ∙ ap (λ (claims : ℕ → List ℕ). total_by claims callers_ran) froze.claims in
-    let fewer = c.in_ok-stopped.ensures.ran.fewer c.requires.calls (is_over-callers old callers c.requires.callers ∙ c.requires.goes_on) in
-    omega (arith, at_last, fewer)
+    let fewer = part.fewer c.requires.calls (is_over-callers old callers c.requires.callers ∙ c.requires.goes_on) in record {
+      ran = RanPeriod-by old part.ran.begun ran new (pace_of c.args.pacing) c.args.run c.in_ok-next.next stopped
+          c.if-stopped.freeze c.requires.goes_on c.requires.run part.ran.opened part.ran.ran froze must;
+      stands = c.in_ok-next.ensures.stands;
+      left = omega (arith, at_last, fewer);
+      callers = subst (AreCallers new) (sym c.in_ok-next.ensures.callers)
+          (AreCallers-same ran new callers_ran froze.freeze froze.same froze.history froze.quiet part.callers);
+      scripts = ap scripts_of c.in_ok-next.ensures.callers ∙ part.scripts;
+    }

@@ -1,5 +1,5 @@
 -- Why the heap stands as it did once cells are counted.
-use Rattle.std.proofs.Common.{◌∙◌, sym, ap, subst}
+use Rattle.std.proofs.Common.{◌∙◌, refl, sym, ap, subst}
 use Rattle.tide_machine.specs.declared.view.View.{View}
 use Rattle.tide_periods.specs.Recorded.{recorded_at}
 use Rattle.tide_shape.specs.Lists.{lists_of}
@@ -8,20 +8,24 @@ use Rattle.tide_threads.specs.Playing.{AllStandBy}
 use Rattle.tide_threads.specs.Standing.{KeepsBooks, StandsStill}
 use Rattle.tide_threads.proofs.on_threads.OnThreads.live.Goals as goal
 
-pub returns-clause-same : goal.returns-clause-same
-returns-clause-same c =
-    ap (λ (v : View). recorded_at (setting_in c.args.self.now) v.seen) c.count_live.ensures.same
+pub count_live-requires : goal.count_live-requires
+count_live-requires c = record { own = c.requires.stands.of_heap; still = c.requires.stands.still }
 
-pub returns-clause-stands : goal.returns-clause-stands
-returns-clause-stands c =
+pub returns : goal.returns
+returns c =
     let self = c.args.self.now in
     let layout = self.heap.key.layout in
     let stands = c.requires.stands in
     let same = sym c.count_live.ensures.same in
     record {
-      of_heap = c.count_live.ensures.own ∙ stands.of_heap;
-      still = subst (StandsStill layout (lists_of self.heap.key.shapes)) same stands.still;
-      books = subst (λ (v : View). KeepsBooks layout v self.births self.report self.greys) same stands.books;
-      all = subst (λ (v : View). AllStandBy self.heap.table.shared.table_id layout v self.participants.items) same stands.all;
-      no_calls = stands.no_calls;
+      live = c.count_live.ensures.live;
+      same = ap (λ (v : View). recorded_at (setting_in self) v.seen) c.count_live.ensures.same;
+      callers = refl;
+      stands = record {
+        of_heap = c.count_live.ensures.own ∙ stands.of_heap;
+        still = subst (StandsStill layout (lists_of self.heap.key.shapes)) same stands.still;
+        books = subst (λ (v : View). KeepsBooks layout v self.births self.report self.greys) same stands.books;
+        all = subst (λ (v : View). AllStandBy self.heap.table.shared.table_id layout v self.participants.items) same stands.all;
+        no_calls = stands.no_calls;
+      };
     }

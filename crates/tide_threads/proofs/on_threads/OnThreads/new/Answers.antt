@@ -1,6 +1,7 @@
 -- Why a heap with its mutators stands at the start.
 use Rattle.std.proofs.Common.{◌∙◌, sym, ap, subst, arith, List, All, length, map}
 use Rattle.std.proofs.lemmas.List.{length-map}
+use Rattle.std.proofs.lemmas.Result.{err_from_is_err_and}
 use Rattle.tide_freeze.specs.Births.{AreBornIn}
 use Rattle.tide_model.specs.Layout.{Layout, cell_count}
 use Rattle.tide_model.specs.declared.entry.Event.{Event}
@@ -18,73 +19,90 @@ use Rattle.tide_threads.specs.Standing.{StandsStill}
 use Rattle.tide_words.specs.marking.Greys.{Greys}
 use Rattle.tide_threads.proofs.on_threads.OnThreads.new.Goals as goal
 
-pub participants_of-requires-clause-passes : goal.participants_of-requires-clause-passes
-participants_of-requires-clause-passes c =
-    (c.in_ok-heap.field-0.heap.table.shared.table_id, c.in_ok-heap.ensures.mutators.1)
+pub participants_of-requires : goal.participants_of-requires
+participants_of-requires c = record {
+  as_many = (sym (length-map c.in_ok-callers.callers.items (λ (x : Caller). x.ops.items)) ∙ ap length c.in_ok-callers.ensures.scripts_are
+      ∙ length-map c.args.scripts.items (λ ops. ops.items) ∙ c.requires.mutators ∙ sym c.in_ok-heap.ensures.mutators.0
+      ∙ c.in_ok-heap.field-0.mutators.ok.0);
+  passes = (c.in_ok-heap.field-0.heap.table.shared.table_id, c.in_ok-heap.ensures.mutators.1);
+  numbers = λ who caller found. (c.in_ok-callers.ensures.each who caller found).number;
+}
 
-pub participants_of-requires-clause-as_many : goal.participants_of-requires-clause-as_many
-participants_of-requires-clause-as_many c =
-    sym (length-map c.in_ok-callers.callers.items (λ (x : Caller). x.ops.items)) ∙ ap length c.in_ok-callers.ensures.scripts_are
-    ∙ length-map c.args.scripts.items (λ ops. ops.items) ∙ c.requires.mutators ∙ sym c.in_ok-heap.ensures.mutators.0
-    ∙ c.in_ok-heap.field-0.mutators.ok.0
+pub returns-in_err-calls : goal.returns-in_err-calls
+returns-in_err-calls c =
+    let failed = err_from_is_err_and c.from_residual.result c.from_residual.ensures.1 in
+    rw failed.1 (record { setting = tt; nothing = tt; stands = tt; callers = tt; scripts = tt })
 
-pub participants_of-requires-clause-numbers : goal.participants_of-requires-clause-numbers
-participants_of-requires-clause-numbers c = λ who caller found. (c.in_ok-callers.ensures.each who caller found).number
+pub returns-in_err-callers : goal.returns-in_err-callers
+returns-in_err-callers c =
+    let failed = err_from_is_err_and c.from_residual-in_err-callers.result c.from_residual-in_err-callers.ensures.1 in
+    rw failed.1 (record { setting = tt; nothing = tt; stands = tt; callers = tt; scripts = tt })
 
-pub returns-clause-setting : goal.returns-clause-setting
-returns-clause-setting c =
-    let made = c.in_ok-heap.ensures.made in λ i. record { layout = made.0 i; shapes = lists_of (made.1 i) }
+pub returns-in_err-greys : goal.returns-in_err-greys
+returns-in_err-greys c =
+    let failed = err_from_is_err_and c.from_residual-in_err-greys.result c.from_residual-in_err-greys.ensures.1 in
+    rw failed.1 (record { setting = tt; nothing = tt; stands = tt; callers = tt; scripts = tt })
 
-pub returns-clause-nothing : goal.returns-clause-nothing
-returns-clause-nothing c = c.in_ok-heap.ensures.started.seen
+pub returns-in_err-report : goal.returns-in_err-report
+returns-in_err-report c =
+    let failed = err_from_is_err_and c.from_residual-in_err-report.result c.from_residual-in_err-report.ensures.1 in
+    rw failed.1 (record { setting = tt; nothing = tt; stands = tt; callers = tt; scripts = tt })
 
-pub returns-clause-scripts : goal.returns-clause-scripts
-returns-clause-scripts c = ap scripts_of c.in_ok-participants.ensures.callers ∙ c.in_ok-callers.ensures.scripts_are
+pub returns-in_err-heap : goal.returns-in_err-heap
+returns-in_err-heap c =
+    let failed = err_from_is_err_and c.from_residual-in_err-heap.result c.from_residual-in_err-heap.ensures.1 in
+    rw failed.1 (record { setting = tt; nothing = tt; stands = tt; callers = tt; scripts = tt })
 
-pub returns-clause-stands : goal.returns-clause-stands
-returns-clause-stands c =
-    let layout = c.args.layout in
-    let start = c.in_ok-heap.field-0 in
-    let made = c.in_ok-heap.ensures.made in
-    let started = c.in_ok-heap.ensures.started in
-    let v = start.collector.seat.me.0 in
-    let xs = c.in_ok-participants.participants.items in
-    let scripts = map (λ ops. ops.items) c.args.scripts.items in
-    record {
-      of_heap = c.in_ok-heap.ensures.collector;
-      still = subst (λ (l : Layout). StandsStill l (lists_of start.heap.key.shapes) v) (sym made.0)
-          (subst (λ (s : Shapes). StandsStill layout (lists_of s) v) (sym made.1)
-          (StandsStill-started layout (lists_of c.args.shapes) v started c.mutators.ensures.limits c.requires.no_visitors));
-      books = record {
-        counted = subst (λ (h : List Event). AreBornIn h c.none.result) (sym started.seen) c.none.ensures;
-        told = TellsEnds-nothing start.heap.key.layout v.seen c.in_ok-report.report started.seen
-            (ap (λ (r : Reported). r.cycles) c.in_ok-report.ensures) (ap (λ (r : Reported). r.ids) c.in_ok-report.ensures);
-        empty = ap (λ (greys : Greys). greys.cells) c.in_ok-greys.ensures;
-        room =
-            let count = c.cells.ensures.count in
-            let same = ap cell_count made.0 in
-            let cap = ap (λ (greys : Greys). greys.cap) c.in_ok-greys.ensures in
-            omega (arith, count, same, cap);
-      };
-      all = AllStandBy-fresh start.heap.table.shared.table_id start.heap.key.layout v xs scripts started.seen
-          (length-map c.args.scripts.items (λ ops. ops.items) ∙ c.requires.mutators
-          ∙ ap (λ (l : Layout). l.mutators) (sym made.0))
-          (subst (λ (l : List Caller). AreNew l scripts) (sym c.in_ok-participants.ensures.callers) c.in_ok-callers.ensures)
-          (c.in_ok-participants.ensures.fresh start.heap.table.shared.table_id c.in_ok-heap.ensures.mutators.1);
-      no_calls = c.in_ok-calls.ensures;
-    }
+pub returns-in_err-participants : goal.returns-in_err-participants
+returns-in_err-participants c =
+    let failed = err_from_is_err_and c.from_residual-in_err-participants.result c.from_residual-in_err-participants.ensures.1 in
+    rw failed.1 (record { setting = tt; nothing = tt; stands = tt; callers = tt; scripts = tt })
 
-pub returns-clause-callers : goal.returns-clause-callers
-returns-clause-callers c =
-    let start = c.in_ok-heap.field-0 in
-    let made = c.in_ok-heap.ensures.made in
-    let v = start.collector.seat.me.0 in
-    let xs = c.in_ok-participants.participants.items in
-    let scripts = map (λ ops. ops.items) c.args.scripts.items in
-    let are : AreNew (callers_in xs) scripts =
-    subst (λ (l : List Caller). AreNew l scripts) (sym c.in_ok-participants.ensures.callers) c.in_ok-callers.ensures in
-    AreCallers-nothing (recorded_at (record { layout = start.heap.key.layout; shapes = lists_of start.heap.key.shapes }) v.seen)
-    (callers_in xs) scripts c.in_ok-heap.ensures.started.seen are
-    (sym (length-map (callers_in xs) (λ (x : Caller). x.ops.items)) ∙ ap length are.scripts_are
-    ∙ length-map c.args.scripts.items (λ ops. ops.items) ∙ c.requires.mutators ∙ ap (λ (l : Layout). l.mutators) (sym made.0))
-    (subst (λ (l : Layout). All (All (IsAskable l)) scripts) (sym made.0) c.requires.askable)
+pub returns : goal.returns
+returns c = record {
+  setting = let made = c.in_ok-heap.ensures.made in λ i. record { layout = made.0 i; shapes = lists_of (made.1 i) };
+  nothing = c.in_ok-heap.ensures.started.seen;
+  stands = (let layout = c.args.layout in
+      let start = c.in_ok-heap.field-0 in
+      let made = c.in_ok-heap.ensures.made in
+      let started = c.in_ok-heap.ensures.started in
+      let v = start.collector.seat.me.0 in
+      let xs = c.in_ok-participants.participants.items in
+      let scripts = map (λ ops. ops.items) c.args.scripts.items in
+      record {
+        of_heap = c.in_ok-heap.ensures.collector;
+        still = subst (λ (l : Layout). StandsStill l (lists_of start.heap.key.shapes) v) (sym made.0)
+            (subst (λ (s : Shapes). StandsStill layout (lists_of s) v) (sym made.1)
+            (StandsStill-started layout (lists_of c.args.shapes) v started c.mutators.ensures.limits c.requires.no_visitors));
+        books = record {
+          counted = subst (λ (h : List Event). AreBornIn h c.none.result) (sym started.seen) c.none.ensures;
+          told = TellsEnds-nothing start.heap.key.layout v.seen c.in_ok-report.report started.seen
+              (ap (λ (r : Reported). r.cycles) c.in_ok-report.ensures) (ap (λ (r : Reported). r.ids) c.in_ok-report.ensures);
+          empty = ap (λ (greys : Greys). greys.cells) c.in_ok-greys.ensures;
+          room =
+              let count = c.cells.ensures.count in
+              let same = ap cell_count made.0 in
+              let cap = ap (λ (greys : Greys). greys.cap) c.in_ok-greys.ensures in
+              omega (arith, count, same, cap);
+        };
+        all = AllStandBy-fresh start.heap.table.shared.table_id start.heap.key.layout v xs scripts started.seen
+            (length-map c.args.scripts.items (λ ops. ops.items) ∙ c.requires.mutators
+            ∙ ap (λ (l : Layout). l.mutators) (sym made.0))
+            (subst (λ (l : List Caller). AreNew l scripts) (sym c.in_ok-participants.ensures.callers) c.in_ok-callers.ensures)
+            (c.in_ok-participants.ensures.fresh start.heap.table.shared.table_id c.in_ok-heap.ensures.mutators.1);
+        no_calls = c.in_ok-calls.ensures;
+      });
+  callers = (let start = c.in_ok-heap.field-0 in
+      let made = c.in_ok-heap.ensures.made in
+      let v = start.collector.seat.me.0 in
+      let xs = c.in_ok-participants.participants.items in
+      let scripts = map (λ ops. ops.items) c.args.scripts.items in
+      let are : AreNew (callers_in xs) scripts =
+      subst (λ (l : List Caller). AreNew l scripts) (sym c.in_ok-participants.ensures.callers) c.in_ok-callers.ensures in
+      AreCallers-nothing (recorded_at (record { layout = start.heap.key.layout; shapes = lists_of start.heap.key.shapes }) v.seen)
+      (callers_in xs) scripts c.in_ok-heap.ensures.started.seen are
+      (sym (length-map (callers_in xs) (λ (x : Caller). x.ops.items)) ∙ ap length are.scripts_are
+      ∙ length-map c.args.scripts.items (λ ops. ops.items) ∙ c.requires.mutators ∙ ap (λ (l : Layout). l.mutators) (sym made.0))
+      (subst (λ (l : Layout). All (All (IsAskable l)) scripts) (sym made.0) c.requires.askable));
+  scripts = ap scripts_of c.in_ok-participants.ensures.callers ∙ c.in_ok-callers.ensures.scripts_are;
+}

@@ -1,6 +1,7 @@
 -- Why a part may be run, and why the heap stands after it.
 use Rattle.std.proofs.Common.{◌∙◌, sym, ap, subst, arith, List, length}
 use Rattle.std.proofs.lemmas.List.{with_items_is}
+use Rattle.std.proofs.lemmas.Result.{err_from_is_err_and}
 use Rattle.crossbeam_utils.specs.declared.cache_padded.CachePadded.{CachePadded}
 use Rattle.tide_periods.specs.Part.{AreCallers, RanPartBy}
 use Rattle.tide_periods.specs.Recorded.{recorded_at}
@@ -9,11 +10,22 @@ use Rattle.tide_threads.specs.Playing.{AllStandBy}
 use Rattle.tide_threads.specs.declared.participant.Participant.{Participant}
 use Rattle.tide_threads.proofs.on_threads.OnThreads.run_part.Goals as goal
 
+pub run_whole_part-requires-clause-own : goal.run_whole_part-requires-clause-own
+run_whole_part-requires-clause-own g c κs within = c.requires.stands.of_heap
+
+pub run_whole_part-requires-clause-still : goal.run_whole_part-requires-clause-still
+run_whole_part-requires-clause-still g c κs within = c.requires.stands.still
+
 pub run_whole_part-requires-clause-all : goal.run_whole_part-requires-clause-all
 run_whole_part-requires-clause-all g c κs within =
-    let self = c.args.self.now in
-    subst (AllStandBy self.heap.table.shared.table_id self.heap.key.layout self.collector.seat.me.0)
+    subst (AllStandBy c.args.self.now.heap.table.shared.table_id c.args.self.now.heap.key.layout c.args.self.now.collector.seat.me.0)
     (sym c.as_mut_slice.ensures.value) c.requires.stands.all
+
+pub run_whole_part-requires-clause-counted : goal.run_whole_part-requires-clause-counted
+run_whole_part-requires-clause-counted g c κs within = c.requires.stands.books.counted
+
+pub run_whole_part-requires-clause-settled : goal.run_whole_part-requires-clause-settled
+run_whole_part-requires-clause-settled g c κs within = c.requires.settled
 
 pub run_whole_part-requires-clause-callers : goal.run_whole_part-requires-clause-callers
 run_whole_part-requires-clause-callers g c κs within =
@@ -24,42 +36,38 @@ pub run_whole_part-requires-clause-few : goal.run_whole_part-requires-clause-few
 run_whole_part-requires-clause-few g c κs within =
     (let few = c.requires.few in let period = c.requires.stands.still.period in omega (arith, few, period))
 
-pub returns-clause-stands : goal.returns-clause-stands
-returns-clause-stands g c =
+pub returns-in_err-ended : goal.returns-in_err-ended
+returns-in_err-ended g c =
+    let failed = err_from_is_err_and c.from_residual.result c.from_residual.ensures.1 in
+    rw failed.1 (record { ran = tt; stands = tt })
+
+pub returns : goal.returns
+returns g c =
     let self = c.args.self.now in
     let stands = c.requires.stands in
     let e = c.in_ok-ended.ensures in
     let made = c.run_whole_part.new.participants in
     let w = c.run_whole_part.new.collector.seat.me.0 in
+    let new = recorded_at (setting_in self) w.seen in
     let many = e.all.one_each in
     let had = stands.all.one_each in
     let value = ap length c.as_mut_slice.ensures.value in
     let whole = with_items_is self.participants made (omega (arith, many, had, value, c.as_mut_slice.ensures.len)) in
     record {
-      of_heap = e.own ∙ stands.of_heap;
-      still = e.still;
-      books = record {
-        counted = e.counted;
-        told = e.told self.report stands.books.told;
-        empty = stands.books.empty;
-        room = stands.books.room;
+      ran = subst (λ (l : List (CachePadded Participant)). RanPartBy (recorded_in self) new c.args.run (callers_on self) (callers_in l)
+          c.in_ok-ended.ended) (sym whole)
+          (subst (λ (l : List (CachePadded Participant)). RanPartBy (recorded_in self) new c.args.run (callers_in l) (callers_in made)
+          c.in_ok-ended.ended) c.as_mut_slice.ensures.value e.ran);
+      stands = record {
+        of_heap = e.own ∙ stands.of_heap;
+        still = e.still;
+        books = record {
+          counted = e.counted;
+          told = e.told self.report stands.books.told;
+          empty = stands.books.empty;
+          room = stands.books.room;
+        };
+        all = subst (AllStandBy self.heap.table.shared.table_id self.heap.key.layout w) (sym whole) e.all;
+        no_calls = stands.no_calls;
       };
-      all = subst (AllStandBy self.heap.table.shared.table_id self.heap.key.layout w) (sym whole) e.all;
-      no_calls = stands.no_calls;
     }
-
-pub returns-clause-ran : goal.returns-clause-ran
-returns-clause-ran g c =
-    let self = c.args.self.now in
-    let e = c.in_ok-ended.ensures in
-    let made = c.run_whole_part.new.participants in
-    let w = c.run_whole_part.new.collector.seat.me.0 in
-    let many = e.all.one_each in
-    let had = c.requires.stands.all.one_each in
-    let value = ap length c.as_mut_slice.ensures.value in
-    let whole = with_items_is self.participants made (omega (arith, many, had, value, c.as_mut_slice.ensures.len)) in
-    let new = recorded_at (setting_in self) w.seen in
-    subst (λ (l : List (CachePadded Participant)). RanPartBy (recorded_in self) new c.args.run (callers_on self) (callers_in l)
-    c.in_ok-ended.ended) (sym whole)
-    (subst (λ (l : List (CachePadded Participant)). RanPartBy (recorded_in self) new c.args.run (callers_in l) (callers_in made)
-    c.in_ok-ended.ended) c.as_mut_slice.ensures.value e.ran)

@@ -1,5 +1,6 @@
 -- What a participant's part makes.
-use Rattle.std.proofs.Common.{ℕ, ◌∙◌, refl, sym, ap, subst, List}
+use Rattle.std.proofs.Common.{ℕ, ◌<◌, ◌∙◌, refl, sym, ap, subst, arith, List}
+use Rattle.std.proofs.lemmas.Result.{err_from_is_err_and}
 use Rattle.tide_machine.specs.declared.view.View.{View}
 use Rattle.tide_model.specs.declared.entry.Event.{Event}
 use Rattle.tide_mutator.specs.Viewed.{view_of}
@@ -10,8 +11,39 @@ use Rattle.tide_threads.proofs.Making.{HasPlayed-stopped}
 use Rattle.tide_share.specs.Works.{Same}
 use Rattle.tide_threads.proofs.participant.Participant.play.Goals as goal
 
-pub returns-clause-made : goal.returns-clause-made
-returns-clause-made g c =
+pub begin-requires : goal.begin-requires
+begin-requires g c =
+    let ready = c.requires.ready in record {
+      own = ready.table;
+      of_heap = ready.of_heap;
+      rests = ready.rests;
+      stays = ready.stays;
+      period = ready.period;
+      begun = ready.begun;
+    }
+
+pub returns-in_err-ended : goal.returns-in_err-ended
+returns-in_err-ended g c =
+    let failed = err_from_is_err_and c.from_residual.result c.from_residual.ensures.1 in
+    rw failed.1 (record { made = tt; ticket = refl })
+
+pub stop-note-requires : goal.stop-note-requires
+stop-note-requires g c =
+    let ready = c.requires.ready in
+    let began = c.begin.ensures.begun in
+    let rest = c.make_share.ensures.same in
+    let ticket = ap (λ (s : Same). s.kept.ticket) rest ∙ began.ticket in
+    let period = ap (λ (s : Same). s.kept.period) rest ∙ began.period in
+    let earlier = ready.period in record {
+      own = ap (λ (s : Same). s.table_id) rest ∙ c.begin.ensures.own ∙ ready.table;
+      mutator = subst (λ (who : ℕ). who < c.args.heap.now.key.layout.mutators) (sym (ap (λ (s : Same). s.kept.who) rest ∙ began.who)) ready.is_mutator;
+      begun = ap (λ (s : Same). s.kept.runs) rest ∙ began.runs;
+      of_part = ap (λ (s : Same). s.kept.begun) rest ∙ began.begun ∙ sym ticket;
+      once = omega (arith, ticket, period, earlier);
+    }
+
+pub returns : goal.returns
+returns g c =
     let ready = c.requires.ready in
     let t = c.args.ticket.seat.me.0 in
     let x = c.args.self.now in
@@ -25,16 +57,19 @@ returns-clause-made g c =
     let rest = c.make_share.ensures.same in
     let table = ap (λ (s : Same). s.table_id) rest ∙ c.begin.ensures.own ∙ ready.table in
     record {
-      table = c.stop-note.ensures.same.0 ∙ table;
-      note = c.stop-note.result;
-      is_out = refl;
-      of_heap = c.stop-note.ensures.note.0 ∙ table;
-      played = HasPlayed-stopped t v u0 u1 w c.stop-note.result.seat.me.0 x.caller.who y.retired c.begin.ensures.begun
-          (ap (λ (s : Same). s.kept) rest) ready.number c.in_ok-ended.ensures.works.stays c.stop-note.ensures.stopped
-          c.stop-note.ensures.note.1;
-      seen = u0.seen;
-      ran = subst (λ (z : View). RanOwnShare setting t.run u0.seen z.seen v.mine z.mine x.caller y ended) (sym c.stop-note.ensures.stopped)
-          (subst (λ (l : List Event). RanOwnShare setting t.run u0.seen u1.seen l u1.mine x.caller y ended) c.begin.ensures.mine
-          (subst (λ (n : ℕ). RanOwnShare setting n u0.seen u1.seen u0.mine u1.mine x.caller y ended) c.run-run.ensures
-          c.in_ok-ended.ensures.ran));
+      made = record {
+        table = c.stop-note.ensures.same.0 ∙ table;
+        note = c.stop-note.result;
+        is_out = refl;
+        of_heap = c.stop-note.ensures.note.0 ∙ table;
+        played = HasPlayed-stopped t v u0 u1 w c.stop-note.result.seat.me.0 x.caller.who y.retired c.begin.ensures.begun
+            (ap (λ (s : Same). s.kept) rest) ready.number c.in_ok-ended.ensures.works.stays c.stop-note.ensures.stopped
+            c.stop-note.ensures.note.1;
+        seen = u0.seen;
+        ran = subst (λ (z : View). RanOwnShare setting t.run u0.seen z.seen v.mine z.mine x.caller y ended) (sym c.stop-note.ensures.stopped)
+            (subst (λ (l : List Event). RanOwnShare setting t.run u0.seen u1.seen l u1.mine x.caller y ended) c.begin.ensures.mine
+            (subst (λ (n : ℕ). RanOwnShare setting n u0.seen u1.seen u0.mine u1.mine x.caller y ended) c.run-run.ensures
+            c.in_ok-ended.ensures.ran));
+      };
+      ticket = refl;
     }
