@@ -30,7 +30,7 @@ fn is_retire(op: Op) -> bool
 }
 
 /// A mutator of a run, by its own calls alone.
-#[derive(Debug, Drop)]
+#[derive(Drop)]
 pub struct Caller {
     pub(crate) who: u32,
     pub(crate) ops: Vec<Op>,

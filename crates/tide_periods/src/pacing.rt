@@ -2,7 +2,7 @@
 
 /// Calls and visits of a period; cells that may be born in a cycle until it stops all calls; and cells born after which
 /// a cycle begins by itself, 0 for never.
-#[derive(Clone, Copy, Debug)]
+#[derive(Clone, Copy)]
 pub struct Pacing {
     pub period: u32,
     pub headroom: u32,

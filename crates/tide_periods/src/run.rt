@@ -15,7 +15,7 @@ use tide_model::Memory;
 use tide_report::Report;
 
 /// What a run leaves.
-#[derive(Debug, Drop)]
+#[derive(Drop)]
 pub struct Finished<K> {
     /// What keeps each event, in order.
     pub kept: K,

@@ -7,7 +7,7 @@ use Rattle.tide_run.specs.declared.program.Stop.TheVariants.{Usage, ReadFault, B
 use Rattle.tide_options.specs.declared.options.Options.{Options}
 use Rattle.tide_run.specs.Asked.{AsksToRead, IsAskedFor, RanAsked, asks_for_made}
 use Rattle.tide_run.specs.Runs.{Ran}
-use Rattle.tide_run.specs.Program.{input_of, Took, ReadWork, RefusedInput, stop_status, stop_line, status_line}
+use Rattle.tide_run.specs.Program.{input_of, Took, ReadWork, RefusedInput, IsStatus, stop_status, stop_line, status_line}
 
 -- the first bytes of two parts, where the first part is that long or all there is
 take_first : (count : ℕ) (xs ys : List ℕ) → length xs ≤ count → (length xs < count → ys ≡ []) → take count (xs ++ ys) ≡ xs
@@ -94,3 +94,78 @@ told-stop Usage status is other = ap status_line (sym is)
 told-stop ReadFault status is other = ap status_line (sym is)
 told-stop (BadInput fault) status is other = absurd (other is)
 told-stop Memory status is other = ap status_line (sym is)
+
+-- the status of a program that ran something is one of those that there are
+pub ran_status : (status : ℕ) → (status ≡ 0) ⊎ (status ≡ 5) → IsStatus status
+ran_status status (inl is) = subst IsStatus (sym is) refl
+ran_status status (inr is) = subst IsStatus (sym is) refl
+
+-- and none of these
+pub ran_neither : (status : ℕ) → (status ≡ 0) ⊎ (status ≡ 5) → (status ≡ 0 → ⊥) → (status ≡ 5 → ⊥) → ⊥
+ran_neither status (inl is) not_whole not_part = not_whole is
+ran_neither status (inr is) not_whole not_part = not_part is
+
+-- nor that of a program that ran nothing
+pub ran_is_no_stop : (status other : ℕ) → (status ≡ 0) ⊎ (status ≡ 5) → status ≡ other → (0 ≡ other → ⊥) → (5 ≡ other → ⊥) → ⊥
+ran_is_no_stop status other (inl is) same not_whole not_part = not_whole (sym is ∙ same)
+ran_is_no_stop status other (inr is) same not_whole not_part = not_part (sym is ∙ same)
+
+-- what was run was asked for
+pub ran_was_asked : (asked : Option Options) (left new : Option (List ℕ)) (ran : Ran) → RanAsked asked left new ran → asked ≡ None → ⊥
+ran_was_asked asked left new ran input none = let some = sym none ∙ input.are_asked in absurd (cc)
+
+-- what was run was printed, unless the sink failed
+pub ran_unless : (status : ℕ) (Faulty : Type 0) → (status ≡ 0) ⊎ (status ≡ 5) → (status ≡ 5 → Faulty) → (Faulty → ⊥) → (status ≡ 0) ⊎ (status ≡ 6)
+ran_unless status Faulty (inl is) why no_fault = inl is
+ran_unless status Faulty (inr is) why no_fault = absurd (no_fault (why is))
+
+pub accepts-ran : (status : ℕ) (asked : Option Options) (left : Option (List ℕ)) (Unread Faulty : Type 0) → (status ≡ 0) ⊎ (status ≡ 5) →
+    (status ≡ 5 → Faulty) →
+    IfSome left (λ bytes. AsksToRead asked → IsOk (reads_workload (input_of bytes)) → (Unread → ⊥) → (Faulty → ⊥) → (status ≡ 0) ⊎ (status ≡ 6))
+accepts-ran status asked None Unread Faulty is why = tt
+accepts-ran status asked (Some xs) Unread Faulty is why = λ reads accepted read no_fault. ran_unless status Faulty is why no_fault
+
+-- the status of a program that ran nothing is one of those that there are, and not that of a run
+pub stop_is_status : (stop : Stop) → IsStatus (stop_status stop)
+stop_is_status Usage = refl
+stop_is_status ReadFault = refl
+stop_is_status (BadInput fault) = refl
+stop_is_status Memory = refl
+
+pub stop_did_not_run : (stop : Stop) → (stop_status stop ≡ 0) ⊎ (stop_status stop ≡ 5) → ⊥
+stop_did_not_run Usage (inl is) = absurd (omega (arith, is))
+stop_did_not_run Usage (inr is) = absurd (omega (arith, is))
+stop_did_not_run ReadFault (inl is) = absurd (omega (arith, is))
+stop_did_not_run ReadFault (inr is) = absurd (omega (arith, is))
+stop_did_not_run (BadInput fault) (inl is) = absurd (omega (arith, is))
+stop_did_not_run (BadInput fault) (inr is) = absurd (omega (arith, is))
+stop_did_not_run Memory (inl is) = absurd (omega (arith, is))
+stop_did_not_run Memory (inr is) = absurd (omega (arith, is))
+
+-- the status tells why nothing was run
+pub usage-stop : (stop : Stop) → stop_status stop ≡ 2 → stop ≡ Usage
+usage-stop Usage is = refl
+usage-stop ReadFault is = absurd (omega (arith, is))
+usage-stop (BadInput fault) is = absurd (omega (arith, is))
+usage-stop Memory is = absurd (omega (arith, is))
+
+pub read-stop : (stop : Stop) → stop_status stop ≡ 4 → stop ≡ ReadFault
+read-stop Usage is = absurd (omega (arith, is))
+read-stop ReadFault is = refl
+read-stop (BadInput fault) is = absurd (omega (arith, is))
+read-stop Memory is = absurd (omega (arith, is))
+
+-- refused words have their status, unless memory ran out
+pub refused-stop : (stop : Stop) (status : ℕ) → status ≡ stop_status stop → (stop ≡ Usage) ⊎ (stop ≡ Memory) → (status ≡ 2) ⊎ (status ≡ 6)
+refused-stop stop status is (inl usage) = inl (is ∙ ap stop_status usage)
+refused-stop stop status is (inr memory) = inr (is ∙ ap stop_status memory)
+
+-- and so has a workload that is refused, unless the source failed
+pub refuses-stop : (stop : Stop) (status : ℕ) (asked : Option Options) (left new : Option (List ℕ)) (Faulty : Type 0) → status ≡ stop_status stop →
+    IsStop asked left new Faulty stop →
+    IfSome left (λ bytes. AsksToRead asked → IsErr (reads_workload (input_of bytes)) → (Faulty → ⊥) → (status ≡ 3) ⊎ (status ≡ 6))
+refuses-stop stop status asked None new Faulty is why = tt
+refuses-stop Usage status asked (Some xs) new Faulty is why = λ reads refused no_fault. absurd (subst AsksToRead (why.usage refl) reads)
+refuses-stop ReadFault status asked (Some xs) new Faulty is why = λ reads refused no_fault. absurd (no_fault (why.read_fault refl).1)
+refuses-stop (BadInput fault) status asked (Some xs) new Faulty is why = λ reads refused no_fault. inl is
+refuses-stop Memory status asked (Some xs) new Faulty is why = λ reads refused no_fault. inr is

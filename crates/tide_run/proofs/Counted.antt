@@ -3,7 +3,7 @@ use Rattle.std.proofs.Common.{ℕ, zero, suc, ◌≡◌, ◌+◌, ◌<◌, ◌�
 use Rattle.std.proofs.lemmas.Bool.{cases_lt, eqb-true, eqb-false}
 use Rattle.std.proofs.lemmas.List.{length-append, map-append, take_more}
 use Rattle.std.proofs.lemmas.List.Elements.{filter-append}
-use Rattle.std.specs.Prelude.{map, filter, ◌==◌, ◌⊎◌, Option, slice_get, Some, if◌then◌else◌}
+use Rattle.std.specs.Prelude.{map, filter, ◌==◌, ◌⊎◌, if◌then◌else◌}
 use Rattle.tide_model.specs.declared.entry.Entry.{Entry}
 use Rattle.tide_model.specs.declared.entry.Entry.TheVariants.{Call, Begin, Pause, Visits, End, Sweep, Open}
 use Rattle.tide_model.specs.declared.entry.Event.{Event}

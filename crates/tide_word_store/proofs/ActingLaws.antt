@@ -1,5 +1,5 @@
 -- Acting on a plan, from what was written.
-use Rattle.std.proofs.Common.{ℕ, ◌≡◌, ◌<◌, refl, sym, ◌∙◌, subst, arith, Bool, true, false, Option}
+use Rattle.std.proofs.Common.{ℕ, ◌≡◌, ◌<◌, refl, sym, subst, arith, Bool, true, false, Option}
 use Rattle.std.specs.Prelude.{◌^◌}
 use Rattle.tide_layout.specs.declared.region.Region.{Region}
 use Rattle.tide_layout.specs.declared.region.Region.TheVariants.{Phase}

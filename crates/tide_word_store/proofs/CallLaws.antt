@@ -1,5 +1,5 @@
 -- What a call leaves of its mutator's claims, and when it is refused for room.
-use Rattle.std.proofs.Common.{ℕ, ◌≡◌, ◌≢◌, ◌<◌, refl, sym, ◌∙◌, ap, subst, arith, Bool, true, false, List, [], ◌∷◌, ◌++◌, length, Option, None, Some, inl, inr}
+use Rattle.std.proofs.Common.{ℕ, ◌≡◌, ◌<◌, refl, sym, ◌∙◌, ap, subst, arith, Bool, true, false, List, [], ◌∷◌, ◌++◌, length, Option, None, Some, inl, inr}
 use Rattle.std.proofs.lemmas.Bool.{false_from_ne_true}
 use Rattle.std.proofs.lemmas.Nat.Bits.{bit_at-zero}
 use Rattle.std.specs.Int.{bit_at}
@@ -16,7 +16,7 @@ use Rattle.tide_model.specs.declared.val.Val.TheVariants.{Cell, Empty, Int}
 use Rattle.tide_layout.specs.Limits.{IsWithinLimits}
 use Rattle.tide_layout.specs.Region.{word_count}
 use Rattle.tide_model.specs.Answer.{IsAnswer}
-use Rattle.tide_model.specs.Applied.{add_property, after_call, at_cell, put_cell, put_claims, put_pair, put_property, put_slot}
+use Rattle.tide_model.specs.Applied.{add_property, after_call, at_cell, put_cell, put_claims, put_pair, put_property}
 use Rattle.tide_model.specs.declared.entry.Event.{Event}
 use Rattle.tide_model.specs.History.{state_after}
 use Rattle.tide_model.specs.Lawful.{StandsCall}

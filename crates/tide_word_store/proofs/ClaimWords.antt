@@ -1,5 +1,5 @@
 -- What the claim word of a cell is.
-use Rattle.std.proofs.Common.{ℕ, ◌≡◌, ◌<◌, refl, sym, subst, arith, Bool, true, List, [], ◌∷◌, Option, None, Some, inl, inr}
+use Rattle.std.proofs.Common.{ℕ, ◌≡◌, ◌<◌, refl, sym, subst, arith, Bool, true, List, [], ◌∷◌, None, Some, inl, inr}
 use Rattle.std.proofs.lemmas.Bool.{cases_lt}
 use Rattle.std.proofs.lemmas.Option.{none-some, same_Some}
 use Rattle.std.specs.Prelude.{Contains, ◌^◌}

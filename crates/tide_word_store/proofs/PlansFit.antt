@@ -1,27 +1,22 @@
 -- What acting on a plan needs of the words holds wherever the plan is of a call that may be made.
 use Rattle.std.proofs.Common.{ℕ, ◌≡◌, ◌+◌, ◌<◌, ◌≤◌, refl, sym, ◌∙◌, ap, subst, arith, Bool, true, false, List, [], ◌∷◌, ◌++◌, length, Option, None, Some, inl, inr}
 use Rattle.std.proofs.lemmas.Bool.{cases_lt}
-use Rattle.std.proofs.lemmas.Option.{none-some, same_Some}
+use Rattle.std.proofs.lemmas.Option.{same_Some}
 use Rattle.std.specs.Prelude.{Contains, IfSome, nat_lt, not, if◌then◌else◌}
-use Rattle.tide_layout.specs.declared.region.Region.TheVariants as region
 use Rattle.tide_layout.specs.Limits.{IsWithinLimits}
 use Rattle.tide_layout.specs.Slots.{HasElement, HasSlot}
 use Rattle.tide_layout.proofs.LimitLaws.{few_cells}
 use Rattle.tide_model.specs.declared.op.Op.{Op}
 use Rattle.tide_model.specs.declared.op.Op.TheVariants.{Alloc, Table, Get, Put, Move, Set, Drop, Claim, Release, Unclaim, Add, GetProp, SetProp, StrongSet, StrongGet, WeakSet, WeakGet, PairSet, PairGet, PairDel, Group, Collect, Retire}
 use Rattle.tide_model.specs.declared.op.Refusal.TheVariants.{Absent, IsTable, NotHeld}
-use Rattle.tide_model.specs.declared.val.Val.{Val}
 use Rattle.tide_model.specs.declared.val.Val.TheVariants.{Cell}
 use Rattle.tide_model.specs.Applied.{place_of}
 use Rattle.tide_model.specs.Lawful.{FitsLayout}
-use Rattle.tide_model.specs.Layout.{Layout, array_class_for, array_count, cell_count}
-use Rattle.tide_model.specs.Numbers.{is_among}
+use Rattle.tide_model.specs.Layout.{array_class_for, array_count, cell_count}
 use Rattle.tide_model.specs.References.{ClaimsAreOwn, IsLive, RefsAreLive}
-use Rattle.tide_model.specs.Refused.{first_of, has_key, holds, is_table, property_refusal, refusal_of, refuse_if, slot_refusal, table_class}
-use Rattle.tide_model.specs.State.{State, free, is_free, live}
+use Rattle.tide_model.specs.Refused.{first_of, has_key, holds, is_table, property_refusal, refusal_of, refuse_if, slot_refusal}
+use Rattle.tide_model.specs.State.{State, is_free}
 use Rattle.tide_model.proofs.ReferenceLaws.{place_of-below}
-use Rattle.tide_words.specs.forms.PairWord.{max_cells}
-use Rattle.tide_words.specs.forms.Reference.{claim_word}
 use Rattle.tide_words.specs.heap.Heap.{Heap}
 use Rattle.tide_words.specs.heap.Reading.{CellReads, IsValueOf, ReadsAs, element_word, slot_word}
 use Rattle.tide_words.proofs.heap_laws.ReadingLaws.{live_within}
@@ -32,7 +27,7 @@ use Rattle.tide_call.specs.Callers.{Caller, IsCallerOf}
 use Rattle.tide_call.specs.Plans.{DoesAdd, DoesSo, IsAddition, IsPlan}
 use Rattle.tide_call.proofs.reading_laws.ArrayRoom.{width-for}
 use Rattle.tide_call.proofs.reading_laws.CallReading.{allowed_at, slot_allowed, third_allowed}
-use Rattle.tide_word_store.specs.Needed.{FitsPlan, HasRoomFor, IsSomeClaim, IsSomeValue, MayGrow}
+use Rattle.tide_word_store.specs.Needed.{FitsPlan, HasRoomFor, IsSomeValue, MayGrow}
 use Rattle.tide_word_store.proofs.ClaimWords.{some_claim}
 
 -- there are five classes of arrays

@@ -9,7 +9,7 @@ use Rattle.tide_layout.specs.declared.region.Region.TheVariants.{Free}
 use Rattle.tide_layout.specs.Limits.{IsWithinLimits}
 use Rattle.tide_layout.specs.Region.{block_count}
 use Rattle.tide_layout.specs.Slots.{width_of_array, width_of_class}
-use Rattle.tide_model.specs.Layout.{IsBlockOf, Layout, block_of_array, block_of_cell, first_block_of}
+use Rattle.tide_model.specs.Layout.{IsBlockOf, Layout, block_of_array, block_of_cell, blocks_of, first_block_of}
 use Rattle.tide_words.specs.heap.Heap.{Heap}
 use Rattle.tide_words.specs.heap.Written.{IsBitPut}
 use Rattle.tide_call.specs.PlanWords.{IsFreeArrayIn, IsFreeCellIn}
@@ -24,6 +24,22 @@ class_block-within layout class block limits few of =
     let ends = first_block_of-end layout limits.five_cell_classes limits.five_array_classes in
     let below = of.below in
     omega (arith, next, later, ends, below)
+
+-- a block that is counted from the class's first one is one of the class
+pub class_block-between : (layout : Layout) (class block first count room : ℕ) → first ≡ first_block_of layout class → count ≡ blocks_of layout class →
+    room ≡ count → first ≤ block → block < first + room → IsBlockOf layout class block
+class_block-between layout class block first count room is_first is_count same from below = record {
+  from = omega (arith, is_first, from);
+  below = omega (arith, is_first, is_count, same, below);
+}
+
+-- and each block of the class is counted so
+pub class_block-counted : (layout : Layout) (class block first count room end : ℕ) → first ≡ first_block_of layout class → count ≡ blocks_of layout class →
+    room ≡ count → first + room ≤ end → IsBlockOf layout class block → (first ≤ block) × (block < end)
+class_block-counted layout class block first count room end is_first is_count same past of =
+    let from = of.from in
+    let below = of.below in
+    (omega (arith, is_first, from), omega (arith, is_first, is_count, same, past, below))
 
 module _ (layout : Layout) (old new : Heap) (class block bit : ℕ) (limits : IsWithinLimits layout) (taken : IsTakenOf layout old new class block bit) where
   -- of a class of cells: the cell was free

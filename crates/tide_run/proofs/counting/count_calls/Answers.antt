@@ -1,5 +1,5 @@
 -- Each call's reply is counted.
-use Rattle.std.proofs.Common.{ℕ, ◌≡◌, ◌+◌, ◌≤◌, ◌∙◌, ◌++◌, ap, arith, length, take, take_all, List, append_assoc}
+use Rattle.std.proofs.Common.{◌≤◌, ◌∙◌, ◌++◌, ap, arith, length, take, take_all, List, append_assoc}
 use Rattle.std.specs.Prelude.{map}
 use Rattle.tide_model.specs.declared.op.Reply.{Reply}
 use Rattle.tide_periods.specs.declared.answered.Answered.{Answered}

@@ -1,6 +1,5 @@
 -- Each mutator's replies are counted, and those of all are as many as the history's.
-use Rattle.std.proofs.Common.{◌≡◌, ◌∙◌, ◌++◌, ap, sym, arith, ℕ, List}
-use Rattle.std.specs.Prelude.{map}
+use Rattle.std.proofs.Common.{◌≡◌, ◌∙◌, ◌++◌, ap, arith, ℕ, List}
 use Rattle.tide_model.specs.declared.op.Reply.{Reply}
 use Rattle.tide_model.specs.Cycle.{live_count}
 use Rattle.tide_model.specs.History.{state_after}

@@ -1,5 +1,5 @@
 -- Why `claim` meets its contract.
-use Rattle.std.proofs.Common.{ℕ, ◌≡◌, refl, sym, ◌∙◌, ap, subst, true, false, List, Option, None, Some}
+use Rattle.std.proofs.Common.{ℕ, ◌≡◌, refl, sym, ◌∙◌, ap, subst, List, None, Some}
 use Rattle.std.specs.Prelude.{slice_index, ◌^◌, ◌<◌}
 use Rattle.tide_layout.specs.declared.region.Region.TheVariants.{Claim}
 use Rattle.tide_model.specs.declared.op.Refusal.TheVariants.{ClaimsFull, Held}

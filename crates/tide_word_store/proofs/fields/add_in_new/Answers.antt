@@ -1,9 +1,9 @@
 -- Why `add_in_new` meets its contract.
-use Rattle.std.proofs.Common.{◌∙◌, refl, sym, subst, List}
-use Rattle.std.specs.Prelude.{None, Some}
+use Rattle.std.proofs.Common.{refl, sym, subst, List}
+use Rattle.std.specs.Prelude.{None}
 use Rattle.tide_layout.specs.declared.region.Region.TheVariants.{Phase}
 use Rattle.tide_model.specs.declared.op.Refusal.TheVariants.{Full}
-use Rattle.tide_model.specs.declared.op.Reply.TheVariants.{Done, Refused}
+use Rattle.tide_model.specs.declared.op.Reply.TheVariants.{Refused}
 use Rattle.tide_words.specs.heap.Heap.{heap_of}
 use Rattle.tide_call.specs.Acting.{Acts}
 use Rattle.tide_call.specs.declared.plan.Plan.TheVariants as plan

@@ -1,7 +1,6 @@
 -- Why `load_element` meets its contract.
 use Rattle.std.proofs.Common.{ℕ, refl, sym, subst}
 use Rattle.std.specs.Prelude.{None, slice_index}
-use Rattle.tide_layout.specs.declared.region.Region.TheVariants as region
 use Rattle.tide_model.specs.declared.op.Reply.TheVariants.{Seen}
 use Rattle.tide_words.specs.heap.Heap.{heap_of}
 use Rattle.tide_words.specs.heap.Reading.{IsValueOf}

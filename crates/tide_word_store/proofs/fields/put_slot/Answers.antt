@@ -1,13 +1,10 @@
 -- Why `put_slot` meets its contract.
-use Rattle.std.proofs.Common.{ℕ, ◌≡◌, ◌∙◌, refl, ap, subst, arith}
+use Rattle.std.proofs.Common.{refl}
 use Rattle.std.specs.Prelude.{None}
 use Rattle.tide_layout.specs.declared.region.Region.TheVariants.{Slots, Phase}
-use Rattle.tide_layout.specs.Slots.{index_of_element, index_of_slot}
 use Rattle.tide_model.specs.declared.op.Reply.TheVariants.{Done}
-use Rattle.tide_words.specs.forms.ColourWord.{cycle_of}
 use Rattle.tide_words.specs.forms.ValueWord.{val_word}
 use Rattle.tide_words.specs.heap.Heap.{heap_of}
-use Rattle.tide_words.specs.marking.Colours.{HasColours}
 use Rattle.tide_words.proofs.heap_laws.WriteLaws.{written-other_region}
 use Rattle.tide_call.specs.declared.plan.Plan.TheVariants as plan
 use Rattle.tide_word_store.proofs.ActingLaws.{acts_as, few-same, written_as}

@@ -1,14 +1,14 @@
 -- Why `copy` meets its contract.
-use Rattle.std.proofs.Common.{rules, ℕ, ◌≡◌, ◌+◌, ◌<◌, ◌≤◌, ◌∙◌, refl, sym, ap, subst, arith, List, length, Option, None, Some}
+use Rattle.std.proofs.Common.{ℕ, ◌≡◌, ◌<◌, ◌∙◌, refl, sym, ap, subst, arith, List, length, Option}
 use Rattle.std.specs.Prelude.{IfSome, slice_index}
 use Rattle.tide_layout.specs.declared.region.Region.TheVariants.{Elements}
-use Rattle.tide_layout.specs.Slots.{HasElement, index_of_element, width_of_array, width_of_class}
+use Rattle.tide_layout.specs.Slots.{HasElement, index_of_element, width_of_class}
 use Rattle.tide_model.specs.Layout.{array_count}
 use Rattle.tide_words.specs.heap.Heap.{heap_of}
 use Rattle.tide_words.specs.heap.Reading.{element_word}
 use Rattle.tide_words.specs.heap.Written.{IsWritten}
 use Rattle.tide_call.specs.Grown.{AreCopied}
-use Rattle.tide_word_store.proofs.CopyLaws.{copied-all, copied-more, copied-none, copied-start}
+use Rattle.tide_word_store.proofs.CopyLaws.{copied-all, copied-more, copied-start}
 use Rattle.tide_word_store.proofs.growing.copy.Goals as goal
 
 pub loop-place-init : goal.loop-place-init

@@ -1,7 +1,6 @@
 -- Why `grow` meets its contract.
-use Rattle.std.proofs.Common.{ℕ, ◌≡◌, ◌<◌, ◌≤◌, sym, ◌∙◌, subst, arith}
-use Rattle.tide_layout.specs.declared.region.Region.TheVariants.{Array, Elements, Structure}
-use Rattle.tide_layout.specs.Slots.{HasElement, width_of_array}
+use Rattle.std.proofs.Common.{arith}
+use Rattle.tide_layout.specs.declared.region.Region.TheVariants.{Array, Elements}
 use Rattle.tide_words.specs.forms.Reference.{array_word}
 use Rattle.tide_words.specs.forms.ValueWord.{val_word}
 use Rattle.tide_words.specs.heap.Heap.{heap_of}

@@ -1,12 +1,10 @@
 -- Why `show_value` meets its contract.
 use Rattle.std.proofs.Common.{refl}
 use Rattle.std.specs.Prelude.{None}
-use Rattle.tide_layout.specs.declared.region.Region.TheVariants as region
 use Rattle.tide_model.specs.declared.op.Reply.TheVariants.{Seen}
-use Rattle.tide_words.specs.forms.ValueWord.{val_word}
 use Rattle.tide_words.specs.heap.Heap.{heap_of}
 use Rattle.tide_call.specs.declared.plan.Plan.TheVariants as plan
-use Rattle.tide_word_store.proofs.ActingLaws.{acts_as, unwritten, written_as}
+use Rattle.tide_word_store.proofs.ActingLaws.{acts_as, unwritten}
 use Rattle.tide_word_store.proofs.roots.show_value.Goals as goal
 
 pub returns-clause-acts : goal.returns-clause-acts
