@@ -1,8 +1,9 @@
 //! How much the judged texts had of what makes them hard.
 
-use crate::doctored::WAYS;
+use crate::doctored::Way;
 use crate::facts::Facts;
 use check_heap::{System, number_between, tell};
+use std::alloc::{AllocError, Global};
 use std::io;
 use tide_model::{Op, Refusal, Reply};
 use tide_run::Answered;
@@ -23,7 +24,7 @@ pub struct Counts {
     cycles: u64,
     freed: u64,
     /// How many texts each way changed.
-    changed: [u64; WAYS],
+    changed: [u64; 6],
 }
 
 impl Counts {
@@ -37,7 +38,7 @@ impl Counts {
             full: [0; 2],
             cycles: 0,
             freed: 0,
-            changed: [0; WAYS],
+            changed: [0; 6],
         }
     }
 
@@ -85,44 +86,46 @@ impl Counts {
         self.freed = self.freed.saturating_add(told.freed.len() as u64);
     }
 
-    /// Counts a text that was changed in one of the ways.
-    pub fn take_changed(&mut self, way: usize) {
-        if let Some(count) = self.changed.get_mut(way) {
-            *count = count.saturating_add(1);
-        }
+    /// Counts a text that was changed in this way.
+    pub fn take_changed(&mut self, way: Way) {
+        let place = way as usize;
+        self.changed[place] = self.changed[place].saturating_add(1);
     }
 
     /// Whether some text was changed in each of the ways.
     pub fn has_each_way(&self) -> bool {
-        self.changed.iter().all(|count| *count > 0)
+        !self.changed.contains(&0)
+    }
+
+    /// The numbers, each with what stands behind it in a line.
+    fn numbers(&self) -> [(u64, &'static str); 9] {
+        let [cells, arrays] = self.full;
+        [
+            (self.calls, " calls, "),
+            (self.claims, " claims, "),
+            (self.held, " refused as another's, "),
+            (self.properties, " properties, "),
+            (self.grown, " by growth, "),
+            (cells, " calls refused for cells, "),
+            (arrays, " for arrays, "),
+            (self.cycles, " cycles, "),
+            (self.freed, " cells freed"),
+        ]
+    }
+
+    /// A line of all.
+    fn text(&self, alloc: Global) -> Result<String, AllocError> {
+        let mut line = String::new(alloc);
+        for (number, behind) in &self.numbers() {
+            let one = number_between(alloc, "", *number, behind)?;
+            line.push_str(one.as_str())?;
+        }
+        Ok(line)
     }
 
     /// Prints a line of all.
     pub fn tell<R: System>(&self, rt: &R) -> io::Result<()> {
-        let alloc = rt.alloc();
-        let [cells, arrays] = self.full;
-        let calls = number_between(alloc, "", self.calls, " calls, ")?;
-        let claims = number_between(alloc, "", self.claims, " claims, ")?;
-        let held = number_between(alloc, "", self.held, " refused as another's, ")?;
-        let properties = number_between(alloc, "", self.properties, " properties, ")?;
-        let grown = number_between(alloc, "", self.grown, " by growth, ")?;
-        let cells = number_between(alloc, "", cells, " calls refused for cells, ")?;
-        let arrays = number_between(alloc, "", arrays, " for arrays, ")?;
-        let cycles = number_between(alloc, "", self.cycles, " cycles, ")?;
-        let freed = number_between(alloc, "", self.freed, " cells freed")?;
-        tell(
-            rt,
-            &[
-                calls.as_str(),
-                claims.as_str(),
-                held.as_str(),
-                properties.as_str(),
-                grown.as_str(),
-                cells.as_str(),
-                arrays.as_str(),
-                cycles.as_str(),
-                freed.as_str(),
-            ],
-        )
+        let line = self.text(rt.alloc())?;
+        tell(rt, &[line.as_str()])
     }
 }

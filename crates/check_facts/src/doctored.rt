@@ -5,8 +5,32 @@ use crate::held::CELLS;
 use tide_model::Reply;
 use tide_run::{Answered, CycleLine};
 
-/// How many ways there are to change what a text tells.
-pub const WAYS: usize = 6;
+/// A way to change what a text tells.
+#[derive(Clone, Copy)]
+pub enum Way {
+    /// All births are of one cell.
+    BearOne,
+    /// The last freed cell isn't told.
+    HideFreed,
+    /// The first cycle keeps more cells than there are.
+    KeepMore,
+    /// The first mutator doesn't retire.
+    StayOn,
+    /// Its first call is answered as no such call is.
+    AnswerAsked,
+    /// One cell more lives at the end.
+    LiveOneMore,
+}
+
+/// Each way.
+pub const WAYS: [Way; 6] = [
+    Way::BearOne,
+    Way::HideFreed,
+    Way::KeepMore,
+    Way::StayOn,
+    Way::AnswerAsked,
+    Way::LiveOneMore,
+];
 
 /// Keeps more cells in the first cycle than there are, and answers whether there is one.
 fn keep_more(cycles: &mut [CycleLine]) -> bool {
@@ -47,26 +71,37 @@ impl Facts {
         changes
     }
 
-    /// Changes what a text tells in one of the ways, and answers whether it is another then: all births are of one cell; the
-    /// last freed cell isn't told; the first cycle keeps more cells than there are; the first mutator doesn't retire; its first
-    /// call is answered as no such call is; one cell more lives at the end.
-    pub fn change(&mut self, way: usize) -> bool {
+    /// Takes the last call from the first mutator's, and answers whether there is one.
+    fn stay_on(&mut self) -> bool {
+        match self.calls.as_mut_slice() {
+            [first, ..] => first.pop().is_some(),
+            [] => false,
+        }
+    }
+
+    /// Answers the first mutator's first call as one that asked for a cycle, and answers whether there is one.
+    fn answer_asked(&mut self) -> bool {
+        match self.calls.as_mut_slice() {
+            [first, ..] => answer_first(first.as_mut_slice(), Reply::Asked),
+            [] => false,
+        }
+    }
+
+    /// Lets one cell more live at the end, which is another text in any case.
+    fn live_one_more(&mut self) -> bool {
+        self.live = self.live.wrapping_add(1);
+        true
+    }
+
+    /// Changes what a text tells in this way, and answers whether it is another then.
+    pub fn change(&mut self, way: Way) -> bool {
         match way {
-            0 => self.bear_one(),
-            1 => self.freed.pop().is_some(),
-            2 => keep_more(self.cycles.as_mut_slice()),
-            3 => match self.calls.as_mut_slice() {
-                [first, ..] => first.pop().is_some(),
-                _ => false,
-            },
-            4 => match self.calls.as_mut_slice() {
-                [first, ..] => answer_first(first.as_mut_slice(), Reply::Asked),
-                _ => false,
-            },
-            _ => {
-                self.live = self.live.wrapping_add(1);
-                true
-            }
+            Way::BearOne => self.bear_one(),
+            Way::HideFreed => self.freed.pop().is_some(),
+            Way::KeepMore => keep_more(self.cycles.as_mut_slice()),
+            Way::StayOn => self.stay_on(),
+            Way::AnswerAsked => self.answer_asked(),
+            Way::LiveOneMore => self.live_one_more(),
         }
     }
 }

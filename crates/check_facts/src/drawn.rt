@@ -22,11 +22,11 @@ struct Letters {
 }
 
 /// The digit of a number below the bound.
-fn digit(draw: &mut Draw, bound: u8) -> u8
+fn digit(draw: &mut Draw, bound: u32) -> u8
     requires some { 0 < bound }
     requires digits { bound ≤ 10 }
 {
-    b'0' + draw.below(u32::from(bound)) as u8
+    b'0' + draw.below(bound) as u8
 }
 
 impl Letters {

@@ -1,7 +1,7 @@
 //! Runs of drawn workloads on threads, whose texts are judged.
 
 use crate::counts::Counts;
-use crate::doctored::WAYS;
+use crate::doctored::{WAYS, Way};
 use crate::drawn::drawn;
 use crate::facts::Facts;
 use crate::machine::Machine;
@@ -12,8 +12,25 @@ use tide_model::FreePass;
 use tide_run::{Outcome, run};
 use tide_workload::{Workload, read};
 
-/// Whether the facts hold of a run's outcome, and of no changed one.
-fn is_judged_so(
+/// Whether the facts don't hold of an outcome that is changed in this way. Where that leaves it as it was, there is nothing
+/// to refuse.
+fn is_refused(
+    alloc: Global,
+    load: &Workload,
+    outcome: &Outcome,
+    way: Way,
+    counts: &mut Counts,
+) -> Result<bool, AllocError> {
+    let mut told = Facts::of(alloc, outcome)?;
+    if !told.change(way) {
+        return Ok(true);
+    }
+    counts.take_changed(way);
+    Ok(!told.hold(alloc, load)?)
+}
+
+/// Whether the facts hold of a run's outcome.
+fn is_held(
     alloc: Global,
     load: &Workload,
     outcome: &Outcome,
@@ -21,34 +38,59 @@ fn is_judged_so(
 ) -> Result<bool, AllocError> {
     let told = Facts::of(alloc, outcome)?;
     counts.take(&told);
-    let mut is_so = told.hold(alloc, load)?;
-    for way in 0..WAYS {
-        let mut changed = Facts::of(alloc, outcome)?;
-        if changed.change(way) {
-            counts.take_changed(way);
-            is_so = !changed.hold(alloc, load)? && is_so;
-        }
+    told.hold(alloc, load)
+}
+
+/// Whether the facts hold of a run's outcome, and of no changed one.
+fn is_judged_so(
+    alloc: Global,
+    load: &Workload,
+    outcome: &Outcome,
+    counts: &mut Counts,
+) -> Result<bool, AllocError> {
+    let mut is_so = is_held(alloc, load, outcome, counts)?;
+    for way in &WAYS {
+        is_so = is_refused(alloc, load, outcome, *way, counts)? && is_so;
     }
     Ok(is_so)
 }
 
+/// The workload that is drawn for a seed, if what is drawn is one.
+fn load_of(alloc: Global, files: [&str; 2], seed: u64) -> Result<Option<Workload>, AllocError> {
+    let [settings, meetings] = files;
+    let document = drawn(alloc, settings, meetings, seed)?;
+    match read(alloc, document.as_slice()) {
+        Ok(load) => Ok(Some(load)),
+        Err(_) => Ok(None),
+    }
+}
+
+/// Runs a workload, and answers whether its text is judged as expected.
+fn is_run_so<R: Machine>(rt: &R, load: &Workload, counts: &mut Counts) -> Result<bool, AllocError> {
+    let alloc = rt.alloc();
+    match run(rt, alloc, load, 0, &FreePass) {
+        Ok(outcome) => is_judged_so(alloc, load, &outcome, counts),
+        Err(_) => Err(AllocError),
+    }
+}
+
 /// Runs the workload of a seed, and answers whether its text is judged as expected.
-fn is_run_so<R: Machine>(
+fn is_seed_so<R: Machine>(
     rt: &R,
     files: [&str; 2],
     seed: u64,
     counts: &mut Counts,
 ) -> Result<bool, AllocError> {
-    let alloc = rt.alloc();
-    let [settings, meetings] = files;
-    let document = drawn(alloc, settings, meetings, seed)?;
-    let Ok(load) = read(alloc, document.as_slice()) else {
-        return Ok(false);
-    };
-    match run(rt, alloc, &load, 0, &FreePass) {
-        Ok(outcome) => is_judged_so(alloc, &load, &outcome, counts),
-        Err(_) => Err(AllocError),
+    match load_of(rt.alloc(), files, seed)? {
+        Some(load) => is_run_so(rt, &load, counts),
+        None => Ok(false),
     }
+}
+
+/// Tells a seed whose text isn't judged as expected.
+fn tell_seed<R: Machine>(rt: &R, seed: u64) -> io::Result<()> {
+    let seed = number_text(rt.alloc(), seed)?;
+    tell(rt, &["the facts aren't so of seed ", seed.as_str()])
 }
 
 /// Runs the workloads of so many seeds from this one, and tells those whose text isn't judged as expected. Each way to doctor
@@ -63,13 +105,32 @@ fn are_runs_so<R: Machine>(
     let mut all = true;
     for place in 0..count {
         let seed = first.wrapping_add(place);
-        if !is_run_so(rt, files, seed, counts)? {
-            let seed = number_text(rt.alloc(), seed)?;
-            tell(rt, &["the facts aren't so of seed ", seed.as_str()])?;
+        if !is_seed_so(rt, files, seed, counts)? {
+            tell_seed(rt, seed)?;
             all = false;
         }
     }
     Ok(all && counts.has_each_way())
+}
+
+/// Judges the texts of the workloads that are drawn from two texts, and tells what they had if it is asked to.
+fn check_runs<R: Machine>(
+    rt: &R,
+    files: [&str; 2],
+    seeds: [u64; 2],
+    tells: bool,
+) -> io::Result<bool> {
+    let mut counts = Counts::new();
+    let all = are_runs_so(rt, files, seeds, &mut counts)?;
+    if tells {
+        counts.tell(rt)?;
+    }
+    Ok(all)
+}
+
+/// The text of a file.
+fn text_in<R: Machine>(rt: &R, file: &str) -> io::Result<String> {
+    fs::read_to_string(rt, text(rt.alloc(), file)?)
 }
 
 /// Judges the texts of the workloads that are drawn from two files, for so many seeds from this one, and tells what they had
@@ -85,13 +146,8 @@ pub fn check_facts<R: Machine>(
         return Ok(false);
     };
     let [settings, meetings] = files;
-    let settings = fs::read_to_string(rt, text(rt.alloc(), settings)?)?;
-    let meetings = fs::read_to_string(rt, text(rt.alloc(), meetings)?)?;
-    let mut counts = Counts::new();
+    let settings = text_in(rt, settings)?;
+    let meetings = text_in(rt, meetings)?;
     let files = [settings.as_str(), meetings.as_str()];
-    let all = are_runs_so(rt, files, [first, count], &mut counts)?;
-    if tells {
-        counts.tell(rt)?;
-    }
-    Ok(all)
+    check_runs(rt, files, [first, count], tells)
 }

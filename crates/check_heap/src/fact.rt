@@ -115,20 +115,15 @@ impl Heap {
 
     /// Writes a word, which is named by a slot, an element, a register or its number in a region.
     fn say_word(&mut self, what: &str, at: &str, word: u64) -> Option<()> {
+        let Some((whole, part)) = pair_of_numbers(at) else {
+            self.set(region_of(what)?, number(at)?, word);
+            return Some(());
+        };
         match what {
-            "slot" => {
-                let (cell, slot) = pair_of_numbers(at)?;
-                self.set_slot(cell, slot, word);
-            }
-            "element" => {
-                let (array, place) = pair_of_numbers(at)?;
-                self.set_element(array, place, word);
-            }
-            "register" => {
-                let (who, register) = pair_of_numbers(at)?;
-                self.set_register(who, register, word);
-            }
-            _ => self.set(region_of(what)?, number(at)?, word),
+            "slot" => self.set_slot(whole, part, word),
+            "element" => self.set_element(whole, part, word),
+            "register" => self.set_register(whole, part, word),
+            _ => return None,
         }
         Some(())
     }
@@ -164,18 +159,15 @@ impl Heap {
         }
     }
 
-    /// The word that is named by a slot, an element, a register or its number in a region.
+    /// The word that is named by a slot, an element or its number in a region.
     fn word(&mut self, what: &str, at: &str) -> Option<u64> {
+        let Some((whole, part)) = pair_of_numbers(at) else {
+            return Some(self.get(region_of(what)?, number(at)?));
+        };
         match what {
-            "slot" | "pair" => {
-                let (cell, slot) = pair_of_numbers(at)?;
-                Some(self.slot(cell, slot))
-            }
-            "element" => {
-                let (array, place) = pair_of_numbers(at)?;
-                Some(self.element(array, place))
-            }
-            _ => Some(self.get(region_of(what)?, number(at)?)),
+            "slot" | "pair" => Some(self.slot(whole, part)),
+            "element" => Some(self.element(whole, part)),
+            _ => None,
         }
     }
 

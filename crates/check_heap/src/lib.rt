@@ -24,8 +24,8 @@ pub use labelled::label_text;
 pub use lines::{Checks, check_lines, tell_line};
 pub use places::{place_of_element, place_of_slot, place_of_word};
 pub use reading::{
-    behind, large_number, large_numbers, layout_of, number, numbers, pair_of_numbers, short_number,
-    small_number, words_of,
+    behind, large_number, large_numbers, layout_of, number, numbers, pair_of_numbers, small_number,
+    words_of,
 };
 pub use reply::{reply_text, value_text};
 pub use rows::{Answers, check_rows, parts_of, tell_answer};

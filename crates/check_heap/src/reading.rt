@@ -24,16 +24,6 @@ pub fn number(word: &str) -> Option<u32> {
     }
 }
 
-/// The number of 16 bits that a word is.
-pub fn short_number(word: &str) -> Option<u16> {
-    let number = large_number(word)?;
-    if number <= 65_535 {
-        Some(number as u16)
-    } else {
-        None
-    }
-}
-
 /// The number of 8 bits that a word is.
 pub fn small_number(word: &str) -> Option<u8> {
     let number = large_number(word)?;
@@ -79,14 +69,6 @@ pub fn large_numbers(alloc: Global, words: &[&str]) -> Result<Option<Vec<u64>>, 
     Ok(Some(all))
 }
 
-/// A number that is at most so large.
-fn at_most(most: u16, word: &str) -> Option<u16>
-    ensures { IfSome result (λ count. count ≤ most) }
-{
-    let count = short_number(word)?;
-    if count <= most { Some(count) } else { None }
-}
-
 /// A number that is at most so large, and 255.
 fn byte_at_most(most: u8, word: &str) -> Option<u8>
     ensures { IfSome result (λ count. count ≤ most) }
@@ -109,42 +91,44 @@ fn five(words: [&str; 5]) -> Option<[u8; 5]>
     ])
 }
 
-/// The layout of words: five blocks of cells, `+`, five of arrays, and then how many `registers`, `strong` and `weak` handles,
-/// `mutators` and, if they are told, `visitors` there are: as `1 0 0 0 1 + 1 0 0 0 0 4 2 2 1`.
-pub fn layout_of(words: &[&str]) -> Option<Layout> {
-    let [
-        a,
-        b,
-        c,
-        d,
-        e,
-        "+",
-        f,
-        g,
-        h,
-        i,
-        j,
-        registers,
-        strong,
-        weak,
-        mutators,
-        rest @ ..,
-    ] = words
-    else {
+/// The layout of the words of two times five blocks, and of how many registers, strong and weak handles, mutators and visitors
+/// there are.
+fn layout_with(cells: [&str; 5], arrays: [&str; 5], others: [&str; 5]) -> Option<Layout> {
+    let (cells, arrays) = (five(cells)?, five(arrays)?);
+    let [registers, strong, weak, mutators, visitors] = others;
+    let (strong, weak) = (number(strong)?, number(weak)?);
+    if strong > 256 || weak > 256 {
         return None;
-    };
-    let visitors = match rest {
-        [] => "0",
-        [visitors] => visitors,
-        _ => return None,
-    };
+    }
     Some(Layout::new(
-        five([a, b, c, d, e])?,
-        five([f, g, h, i, j])?,
+        cells,
+        arrays,
         byte_at_most(16, registers)?,
-        at_most(256, strong)?,
-        at_most(256, weak)?,
+        strong as u16,
+        weak as u16,
         byte_at_most(16, mutators)?,
         byte_at_most(8, visitors)?,
     ))
+}
+
+/// The layout of the words of five blocks of cells, and of what stands behind them, of which the visitors may be left out.
+fn layout_by(cells: [&str; 5], words: &[&str]) -> Option<Layout> {
+    match words {
+        ["+", f, g, h, i, j, r, s, w, m] => {
+            layout_with(cells, [f, g, h, i, j], [r, s, w, m, "0"])
+        }
+        ["+", f, g, h, i, j, r, s, w, m, v] => {
+            layout_with(cells, [f, g, h, i, j], [r, s, w, m, v])
+        }
+        _ => None,
+    }
+}
+
+/// The layout of words: five blocks of cells, `+`, five of arrays, and then how many `registers`, `strong` and `weak` handles,
+/// `mutators` and, if they are told, `visitors` there are: as `1 0 0 0 1 + 1 0 0 0 0 4 2 2 1`.
+pub fn layout_of(words: &[&str]) -> Option<Layout> {
+    match words {
+        [a, b, c, d, e, others @ ..] => layout_by([a, b, c, d, e], others),
+        _ => None,
+    }
 }

@@ -28,21 +28,19 @@ pub fn tell_answer<R: System>(
     answer: Option<String>,
 ) -> io::Result<bool> {
     let (said, expected) = parts_of(line);
-    match answer {
-        Some(answer) if answer.as_str() == expected => Ok(true),
+    let told = match &answer {
+        Some(answer) if answer.as_str() == expected => return Ok(true),
         Some(answer) => {
             let answer = answer.as_str();
             tell(
                 rt,
                 &[row, ": ", said, " = ", answer, ", and not ", expected],
-            )?;
-            Ok(false)
+            )
         }
-        None => {
-            tell(rt, &[row, ": ", line, ": nothing that is known"])?;
-            Ok(false)
-        }
-    }
+        None => tell(rt, &[row, ": ", line, ": nothing that is known"]),
+    };
+    told?;
+    Ok(false)
 }
 
 /// Does a line, `DO` or `DO = EXPECTED`, and prints what was answered where it is other than expected.

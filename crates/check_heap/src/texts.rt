@@ -36,14 +36,15 @@ pub fn number_text(alloc: Global, number: u64) -> Result<String, AllocError> {
 
 /// Some numbers with spaces between, and `none` where there are none.
 pub fn numbers_text(alloc: Global, numbers: &[u32]) -> Result<String, AllocError> {
+    if numbers.is_empty() {
+        return text(alloc, "none");
+    }
     let mut all = String::new(alloc);
+    let mut space = "";
     for number in numbers {
-        let space = if all.as_str().is_empty() { "" } else { " " };
         let one = number_between(alloc, space, u64::from(*number), "")?;
         all.push_str(one.as_str())?;
-    }
-    if all.as_str().is_empty() {
-        all.push_str("none")?;
+        space = " ";
     }
     Ok(all)
 }

@@ -12,7 +12,7 @@ use tide_words::{GreyList, MAX_CELLS, Words, word_phase};
 const LAST_CYCLE: u64 = 1 << 60;
 
 /// What a cycle answered: whether it began, and its two pauses.
-#[derive(Clone, Copy, Debug, PartialEq, Eq)]
+#[derive(Clone, Copy)]
 pub struct Marked {
     pub begun: bool,
     pub first: Option<Solved>,

@@ -35,7 +35,7 @@ pub fn stand_still<'a, S: HeapShapes>(
 }
 
 /// What two freezes answered: how many calls each mutator has in the part that opens next.
-#[derive(Clone, Copy, Debug, PartialEq, Eq)]
+#[derive(Clone, Copy)]
 pub struct Runs {
     pub nothing_due: u32,
     pub must: u32,

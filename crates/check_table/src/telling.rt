@@ -1,6 +1,7 @@
 //! What the checks print.
 
 use crate::chains::Marked;
+use crate::freezing::Runs;
 use crate::standing::{freeze_single, heap_of_facts, mark_chain};
 use check_heap::{System, number_text, tell, text, word_text};
 use check_parts::{Found, Ran, Told, called_parts, one_part, two_parts};
@@ -32,14 +33,20 @@ fn piece_text(alloc: Global, piece: Piece) -> Result<String, AllocError> {
     }
 }
 
-/// Prints a line of pieces, each behind its text.
-fn tell_pieces<R: System>(rt: &R, pieces: &[(&str, Piece)]) -> io::Result<()> {
-    let mut line = String::new(rt.alloc());
+/// A line of pieces, each behind its text.
+fn line_of(alloc: Global, pieces: &[(&str, Piece)]) -> Result<String, AllocError> {
+    let mut line = String::new(alloc);
     for (before, piece) in pieces {
-        let one = piece_text(rt.alloc(), *piece)?;
         line.push_str(before)?;
+        let one = piece_text(alloc, *piece)?;
         line.push_str(one.as_str())?;
     }
+    Ok(line)
+}
+
+/// Prints a line of pieces, each behind its text.
+fn tell_pieces<R: System>(rt: &R, pieces: &[(&str, Piece)]) -> io::Result<()> {
+    let line = line_of(rt.alloc(), pieces)?;
     tell(rt, &[line.as_str()])
 }
 
@@ -48,38 +55,32 @@ fn number(number: u32) -> Piece {
     Piece::Number(u64::from(number))
 }
 
-/// Prints the note of a mutator, whose ticket has this number, and how many calls its call word told.
-fn tell_note<R: System>(rt: &R, period: u32, note: Numbers, calls: u64) -> io::Result<()> {
-    tell_pieces(
-        rt,
-        &[
-            ("mutator ", number(note.who)),
-            (": part ", number(period)),
-            (" ", number(note.part)),
-            (" ", number(note.run)),
-            (" ", number(note.begun)),
-            (", counted ", number(note.born)),
-            (" ", number(note.visits)),
-            (", marks ", Piece::Truth(note.marking)),
-            (", cycle ", Piece::Number(note.cycle)),
-            (", left ", Piece::Truth(note.left)),
-            (", calls ", Piece::Number(calls)),
-        ],
-    )
+/// The note of a mutator, whose ticket has this number, and how many calls its call word told.
+fn note_pieces(period: u32, note: Numbers, calls: u64) -> [(&'static str, Piece); 11] {
+    [
+        ("mutator ", number(note.who)),
+        (": part ", number(period)),
+        (" ", number(note.part)),
+        (" ", number(note.run)),
+        (" ", number(note.begun)),
+        (", counted ", number(note.born)),
+        (" ", number(note.visits)),
+        (", marks ", Piece::Truth(note.marking)),
+        (", cycle ", Piece::Number(note.cycle)),
+        (", left ", Piece::Truth(note.left)),
+        (", calls ", Piece::Number(calls)),
+    ]
 }
 
-/// Prints the words that a mutator found.
-fn tell_found<R: System>(rt: &R, found: Found) -> io::Result<()> {
-    tell_pieces(
-        rt,
-        &[
-            ("it found ", Piece::Word(found.register)),
-            (" ", Piece::Word(found.strong)),
-            (" ", Piece::Word(found.weak)),
-            (", slot ", Piece::Word(found.slot)),
-            (", claim ", Piece::Number(found.claim)),
-        ],
-    )
+/// The words that a mutator found.
+fn found_pieces(found: Found) -> [(&'static str, Piece); 5] {
+    [
+        ("it found ", Piece::Word(found.register)),
+        (" ", Piece::Word(found.strong)),
+        (" ", Piece::Word(found.weak)),
+        (", slot ", Piece::Word(found.slot)),
+        (", claim ", Piece::Number(found.claim)),
+    ]
 }
 
 /// Prints the cycles that ended.
@@ -100,8 +101,8 @@ fn tell_cycles<R: System>(rt: &R, report: &Report) -> io::Result<()> {
 /// Prints what both mutators told of a part: their notes, and the words that they found.
 fn tell_both<R: System>(rt: &R, told: &[Told; 2]) -> io::Result<()> {
     for one in told {
-        tell_note(rt, one.period, one.note, one.found.calls)?;
-        tell_found(rt, one.found)?;
+        tell_pieces(rt, &note_pieces(one.period, one.note, one.found.calls))?;
+        tell_pieces(rt, &found_pieces(one.found))?;
     }
     Ok(())
 }
@@ -157,12 +158,8 @@ fn marked_chain(alloc: Global, facts: &str, budgets: [u32; 2]) -> Result<Option<
     }
 }
 
-/// Marks the chain of a file over a frozen heap, and prints how its pauses ended.
-pub fn tell_chain<R: System>(rt: &R, file: &str, budgets: [u32; 2]) -> io::Result<bool> {
-    let facts = fs::read_to_string(rt, text(rt.alloc(), file)?)?;
-    let Ok(Some(marked)) = marked_chain(rt.alloc(), facts.as_str(), budgets) else {
-        return Ok(false);
-    };
+/// Prints how the pauses of a chain ended.
+fn tell_marked<R: System>(rt: &R, marked: Marked) -> io::Result<bool> {
     let begun = ("begun ", Piece::Truth(marked.begun));
     tell_pieces(
         rt,
@@ -171,11 +168,17 @@ pub fn tell_chain<R: System>(rt: &R, file: &str, budgets: [u32; 2]) -> io::Resul
     Ok(true)
 }
 
-/// Freezes twice, and prints how many calls come next after each, and the cycles that ended.
-pub fn tell_freezes<R: System>(rt: &R) -> io::Result<bool> {
-    let Ok(Some((runs, report))) = freeze_single(rt.alloc()) else {
-        return Ok(false);
-    };
+/// Marks the chain of a file over a frozen heap, and prints how its pauses ended.
+pub fn tell_chain<R: System>(rt: &R, file: &str, budgets: [u32; 2]) -> io::Result<bool> {
+    let facts = fs::read_to_string(rt, text(rt.alloc(), file)?)?;
+    match marked_chain(rt.alloc(), facts.as_str(), budgets) {
+        Ok(Some(marked)) => tell_marked(rt, marked),
+        _ => Ok(false),
+    }
+}
+
+/// Prints how many calls come next after each of two freezes, and the cycles that ended.
+fn tell_runs<R: System>(rt: &R, runs: Runs, report: &Report) -> io::Result<bool> {
     tell_pieces(
         rt,
         &[
@@ -183,6 +186,14 @@ pub fn tell_freezes<R: System>(rt: &R) -> io::Result<bool> {
             (" ", number(runs.must)),
         ],
     )?;
-    tell_cycles(rt, &report)?;
+    tell_cycles(rt, report)?;
     Ok(true)
+}
+
+/// Freezes twice, and prints how many calls come next after each, and the cycles that ended.
+pub fn tell_freezes<R: System>(rt: &R) -> io::Result<bool> {
+    match freeze_single(rt.alloc()) {
+        Ok(Some((runs, report))) => tell_runs(rt, runs, &report),
+        _ => Ok(false),
+    }
 }
