@@ -1,33 +1,20 @@
-//! The program `check_workloads`: runs workloads by `tide_run::riptide`, over files and bytes in memory and over sources
-//! and sinks that fail where they are told to, and compares how each run ends with what stands in a file.
-//!
-//! Each line of its input is one check. Files lie in the folder that it is run in:
+//! The program `check_workloads`: makes the checks of runs (`check_runs`) and of sources and sinks (`check_ends`) that the lines
+//! of its input say, over the files of the folder that it is run in.
 //!
 //! - `runs FILE`: rows of runs whose source and sinks fail where they are told to, and whose mutators are held where they are
-//!   told to (`runs.rt`).
-//! - `ways FILE`: a list of workloads, each of which comes to the same each way that it is run (`ways.rt`).
-//! - `ends FILE`: rows of sources and sinks alone (`ends.rt`).
+//!   told to.
+//! - `ways FILE`: a list of workloads, each of which comes to the same each way that it is run.
+//! - `ends FILE`: rows of sources and sinks alone.
 //!
 //! It prints what ended otherwise than expected, and then a line for each check. Where one was not as expected, the
 //! status is 1. The workloads and the refused documents of its folder `data` are run by `.ci/workloads`.
 #![tactic(auto)]
 
-mod ending;
-mod ends;
-mod holds;
-mod machine;
-mod outcomes;
-mod real;
-mod runs;
-mod ways;
-
+use check_ends::Ends;
 use check_heap::{check_rows, tell_line, words_of};
-use ends::Ends;
-use machine::Machine;
-use runs::check_runs;
+use check_runs::{Machine, check_runs, check_ways};
 use std::io;
 use std::process::ExitCode;
-use ways::check_ways;
 
 /// Makes the check of a line, and answers whether all was as expected.
 fn check<R: Machine>(rt: &R, line: &str) -> io::Result<bool> {

@@ -1,0 +1,298 @@
+//! A run whose source and sinks give and take ten bytes a call, and fail where they are told to, and whose mutators are held
+//! where they are told to.
+//!
+//! The lines of a row: `workload NAME` or `document LINE` is what there is to read, `text FILE` what is to be printed where
+//! that isn't the workload's text, `words WORDS` are those of the command line, which is `riptide` alone where none are given
+//! (`''` is the empty word); `reads fail CALLS`, `prints fail CALLS` and `tells fail CALLS` say which calls fail, from 0, and
+//! `room BYTES` how much may be printed. `hold POINT until POINT` holds a mutator at a point until another has come to one; a
+//! point is the mutator's number, `call` with the number of its call from 0, or `linked` with a cell (`holds.rt`). Then
+//!
+//! - `run` is answered with the status, and with an outcome where there is one; `run short of room` with `write faults` where
+//!   each room less than the text needs ends with one, and with as many first bytes of the text;
+//! - `printed` is answered with how much of the workload's text was: `all`, `nothing` or so many first bytes, `told` with the
+//!   line on the error output, and `, cut off` where it has no end; `left` with how many bytes weren't read, or `all`;
+//! - `held` is answered with the numbers of the holds that were kept, from 0;
+//! - `plain`, `on words` and `in threads` run the workload by `plain`, `words` and `run`, and are answered with its calls and
+//!   what lives then.
+
+use crate::ending::Ending;
+use crate::holds::Holds;
+use crate::machine::{Machine, bytes_of};
+use crate::outcomes::{in_threads, in_turn, on_words};
+use check_heap::{large_number, large_numbers, number_between, number_text, text};
+use std::alloc::{AllocError, Global};
+use std::io;
+use tide_io::{MemSink, MemSource, read_up_to};
+use tide_workload::{MAX_BYTES, Workload, read};
+
+/// How many bytes there is room for on the error output.
+const TOLD: usize = 100;
+
+/// The calls of the source and of the two sinks that fail.
+#[derive(Drop)]
+struct Faults {
+    reads: Vec<u64>,
+    prints: Vec<u64>,
+    tells: Vec<u64>,
+}
+
+/// What is to be run, and how it ended once it was.
+#[derive(Drop)]
+pub struct Trial {
+    document: Vec<u8>,
+    /// The text that its run prints.
+    printed: Vec<u8>,
+    words: Vec<String>,
+    faults: Faults,
+    room: usize,
+    holds: Holds,
+    ended: Option<Ending>,
+    /// How many bytes the run left.
+    left: usize,
+}
+
+/// The words of a command line.
+fn command_line(alloc: Global, words: &[&str]) -> Result<Vec<String>, AllocError> {
+    let mut all = Vec::new(alloc);
+    for word in words {
+        let word = if *word == "''" { "" } else { word };
+        all.push(text(alloc, word)?)?;
+    }
+    Ok(all)
+}
+
+/// An empty sink with so much room, which takes ten bytes a call, and whose calls with these numbers fail.
+fn sink(alloc: Global, room: usize, fails: &[u64]) -> Result<MemSink, AllocError> {
+    let fails = fails.to_vec(alloc)?;
+    match MemSink::new(alloc, room, 10, fails) {
+        Ok(sink) => Ok(sink),
+        Err(_) => Err(AllocError),
+    }
+}
+
+/// How many bytes a source still gives.
+fn left_of(alloc: Global, source: &mut MemSource) -> usize {
+    match read_up_to(alloc, source, MAX_BYTES) {
+        Ok(rest) => rest.len(),
+        Err(_) => 0,
+    }
+}
+
+impl Faults {
+    /// No call fails.
+    fn none(alloc: Global) -> Self {
+        Faults {
+            reads: Vec::new(alloc),
+            prints: Vec::new(alloc),
+            tells: Vec::new(alloc),
+        }
+    }
+
+    /// Takes which calls fail of the source or a sink. `None` where the words tell none.
+    fn set(&mut self, alloc: Global, who: &str, calls: &[&str]) -> Result<Option<()>, AllocError> {
+        let Some(calls) = large_numbers(alloc, calls)? else {
+            return Ok(None);
+        };
+        match who {
+            "reads" => self.reads = calls,
+            "prints" => self.prints = calls,
+            "tells" => self.tells = calls,
+            _ => return Ok(None),
+        }
+        Ok(Some(()))
+    }
+}
+
+// What is to be run.
+impl Trial {
+    /// Before the first line of a row.
+    pub fn begin(alloc: Global) -> Result<Self, AllocError> {
+        let words = command_line(alloc, &["riptide"])?;
+        Ok(Trial {
+            document: Vec::new(alloc),
+            printed: Vec::new(alloc),
+            words,
+            faults: Faults::none(alloc),
+            room: 10_000,
+            holds: Holds::none(alloc),
+            ended: None,
+            left: 0,
+        })
+    }
+
+    /// Takes a workload and its text.
+    fn take_workload<R: Machine>(&mut self, rt: &R, name: &str) -> io::Result<()> {
+        self.document = bytes_of(rt, &["workloads/", name, ".toml"])?;
+        self.printed = bytes_of(rt, &["workloads/", name, ".txt"])?;
+        Ok(())
+    }
+
+    /// Takes a line of a document.
+    fn take_line(&mut self, line: &[&str]) -> Result<(), AllocError> {
+        for word in line {
+            self.document.extend_from_slice(word.as_bytes())?;
+            self.document.push(b' ')?;
+        }
+        Ok(())
+    }
+
+    /// Takes what is to be read.
+    fn take<R: Machine>(&mut self, rt: &R, words: &[&str]) -> io::Result<bool> {
+        match words {
+            ["workload", name] => self.take_workload(rt, name)?,
+            ["text", file] => self.printed = bytes_of(rt, &[file])?,
+            ["document", line @ ..] => self.take_line(line)?,
+            _ => return Ok(false),
+        }
+        Ok(true)
+    }
+
+    /// Takes how much room there is.
+    fn set_room(&mut self, room: &str) -> Option<()> {
+        self.room = large_number(room)? as usize;
+        Some(())
+    }
+
+    /// Takes the words of the command line.
+    fn set_words(&mut self, alloc: Global, words: &[&str]) -> Result<Option<()>, AllocError> {
+        self.words = command_line(alloc, words)?;
+        Ok(Some(()))
+    }
+
+    /// Takes which calls fail, how much room there is, and the words of the command line.
+    fn set(&mut self, alloc: Global, words: &[&str]) -> Result<Option<()>, AllocError> {
+        match words {
+            [who, "fail", calls @ ..] => self.faults.set(alloc, who, calls),
+            ["room", room] => Ok(self.set_room(room)),
+            ["words", words @ ..] => self.set_words(alloc, words),
+            ["hold", words @ ..] => self.holds.add(words),
+            _ => Ok(None),
+        }
+    }
+}
+
+// Its runs.
+impl Trial {
+    /// A source of what is to be read.
+    fn source(&self, alloc: Global) -> Result<MemSource, AllocError> {
+        let document = self.document.as_slice().to_vec(alloc)?;
+        let reads = self.faults.reads.as_slice().to_vec(alloc)?;
+        Ok(MemSource::new(document, 10, reads))
+    }
+
+    /// Runs the program on what a source gives, with so much room to print.
+    fn run<R: Machine>(
+        &self,
+        rt: &R,
+        source: &mut MemSource,
+        room: usize,
+    ) -> Result<Ending, AllocError> {
+        let out = sink(rt.alloc(), room, self.faults.prints.as_slice())?;
+        let err = sink(rt.alloc(), TOLD, self.faults.tells.as_slice())?;
+        let words = self.words.as_slice();
+        Ok(Ending::over(rt, words, source, out, err, &self.holds))
+    }
+
+    /// Runs the program, and answers with its status.
+    fn run_once<R: Machine>(&mut self, rt: &R) -> Result<String, AllocError> {
+        let alloc = rt.alloc();
+        let mut source = self.source(alloc)?;
+        let ended = self.run(rt, &mut source, self.room)?;
+        self.left = left_of(alloc, &mut source);
+        let answer = ended.status_text(alloc);
+        self.ended = Some(ended);
+        answer
+    }
+
+    /// Whether the program ends with a write fault where there is just room for this first part of its text.
+    fn falls_short<R: Machine>(&self, rt: &R, first: &[u8]) -> Result<bool, AllocError> {
+        let mut source = self.source(rt.alloc())?;
+        let ended = self.run(rt, &mut source, first.len())?;
+        Ok(ended.is_write_fault(first))
+    }
+
+    /// Runs the program with each room that is too small for its text, and answers with the first that doesn't end with the
+    /// line of a write fault and as many first bytes of the text, if one doesn't.
+    fn run_short_of_room<R: Machine>(&self, rt: &R) -> Result<String, AllocError> {
+        for room in 0..self.printed.len() {
+            if !self.falls_short(rt, &self.printed[..room])? {
+                return number_between(rt.alloc(), "otherwise at ", room as u64, "");
+            }
+        }
+        text(rt.alloc(), "write faults")
+    }
+
+    /// Runs a workload by itself, as words say, and answers with its outcome.
+    fn run_alone<R: Machine>(
+        &self,
+        rt: &R,
+        load: &Workload,
+        words: &[&str],
+    ) -> Result<Option<String>, AllocError> {
+        let answer = match words {
+            ["plain"] => in_turn(rt.alloc(), load)?,
+            ["on", "words"] => on_words(rt.alloc(), load)?,
+            ["in", "threads"] => in_threads(rt, load, &self.holds)?,
+            _ => return Ok(None),
+        };
+        Ok(Some(answer))
+    }
+
+    /// Runs what is to be read by itself, if it is a workload.
+    fn read_and_run<R: Machine>(
+        &self,
+        rt: &R,
+        words: &[&str],
+    ) -> Result<Option<String>, AllocError> {
+        match read(rt.alloc(), self.document.as_slice()) {
+            Ok(load) => self.run_alone(rt, &load, words),
+            Err(_) => Ok(None),
+        }
+    }
+}
+
+// What a line says.
+impl Trial {
+    /// How many bytes the run left.
+    fn left_text(&self, alloc: Global) -> Result<String, AllocError> {
+        if self.left == self.document.len() {
+            return text(alloc, "all");
+        }
+        number_text(alloc, self.left as u64)
+    }
+
+    /// What was printed or told by the run that ended.
+    fn told(&self, alloc: Global, what: &str) -> Result<Option<String>, AllocError> {
+        let Some(ended) = &self.ended else {
+            return Ok(None);
+        };
+        let answer = match what {
+            "printed" => ended.printed_text(alloc, self.printed.as_slice())?,
+            "told" => ended.told_text(alloc)?,
+            _ => return Ok(None),
+        };
+        Ok(Some(answer))
+    }
+
+    /// Does what a line says that takes nothing, and answers it.
+    fn asked<R: Machine>(&mut self, rt: &R, words: &[&str]) -> Result<Option<String>, AllocError> {
+        let answer = match words {
+            ["run"] => self.run_once(rt)?,
+            ["run", "short", "of", "room"] => self.run_short_of_room(rt)?,
+            ["held"] => self.holds.kept_text(rt.alloc())?,
+            ["left"] => self.left_text(rt.alloc())?,
+            [what @ ("printed" | "told")] => return self.told(rt.alloc(), what),
+            _ => return self.read_and_run(rt, words),
+        };
+        Ok(Some(answer))
+    }
+
+    /// Does what the words of a line say, and answers it.
+    pub fn answer<R: Machine>(&mut self, rt: &R, words: &[&str]) -> io::Result<Option<String>> {
+        let alloc = rt.alloc();
+        if self.take(rt, words)? || self.set(alloc, words)?.is_some() {
+            return Ok(Some(text(alloc, "")?));
+        }
+        Ok(self.asked(rt, words)?)
+    }
+}
