@@ -2,7 +2,7 @@
 
     python3 docs/seconds.py [COMMAND...]
 
-COMMAND is `bash .ci/run --anew` where none is given, and its output and status are passed on. Then docs/seconds.txt is written: a
+COMMAND is `bash .ci/run` where none is given, and its output and status are passed on. Then docs/seconds.txt is written: a
 line a crate with the processor seconds, user and system, of its proof, of building and running it, and of its edits, and a
 line for all else. docs/lists.py takes the columns of docs/GATE.md from there.
 
@@ -94,7 +94,7 @@ class Watch:
 
 
 def main():
-    command = sys.argv[1:] or ["bash", str(TOP / ".ci" / "run"), "--anew"]
+    command = sys.argv[1:] or ["bash", str(TOP / ".ci" / "run")]
     child = subprocess.Popen(command, cwd=TOP)
     watch = Watch(child.pid)
     thread = threading.Thread(target=watch.run)
