@@ -305,7 +305,7 @@ def measured():
 def sizes(_):
     """The size of each crate, and what it took of the processor when that was last measured."""
     seconds = measured()
-    lines = ["| Crate | Lines of code | Functions | Lines of specs and proofs | Edits | Proof | Running | Edits |"]
+    lines = ["| Crate | Lines of code | Functions | Lines of specs and proofs | Edits | Proof, s | Running, s | Edits, s |"]
     lines.append("|---|---|---|---|---|---|---|---|")
     for crate in crates():
         code = code_of(crate)
