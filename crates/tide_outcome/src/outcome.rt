@@ -9,7 +9,7 @@ use tide_report::Report;
 use tide_table::Closed;
 
 /// A history that a run kept itself: its events, in order.
-#[derive(Debug, Drop)]
+#[derive(Drop)]
 pub struct Told {
     pub(crate) events: Vec<Event>,
 }

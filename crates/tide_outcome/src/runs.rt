@@ -1,21 +1,18 @@
-//! Running a workload.
-ghost use Rattle.std.specs.Prelude.{◌≡◌, ◌<◌, ◌≤◌, false, map, true, IfOk};
+//! Running a workload on a store of one thread.
+ghost use Rattle.std.specs.Prelude.{◌≡◌, ◌<◌, false, map, IfOk};
 ghost use Rattle.tide_outcome.specs.Runs.{AreScripts, IsNew, IsRunOf};
 
-use crate::finishing::{kept_by_heap, kept_itself, outcome_of};
+use crate::finishing::{kept_itself, outcome_of};
 use crate::outcome::Outcome;
 use crate::starting::{copied_scripts, names_of};
-use crate::stores::{heap_for, plain_for, words_for};
+use crate::stores::{plain_for, words_for};
 use std::alloc::Global;
-use std::marker::Sync;
-use std::thread::Threads;
-use tide_model::{Memory, Op, Turnstile};
+use tide_model::{Memory, Op};
 use tide_periods::{InTurn, Pacing, Recorder, room_for, run_on};
-use tide_threads::run_on_threads;
 use tide_workload::{Settings, Workload};
 
 /// The numbers of a workload's periods, with this trigger.
-fn pacing_with(settings: Settings, trigger: u32) -> Pacing
+pub fn pacing_with(settings: Settings, trigger: u32) -> Pacing
     ensures period { result.period ≡ settings.period }
     ensures headroom { result.headroom ≡ settings.headroom }
     ensures trigger { result.trigger ≡ trigger }
@@ -78,28 +75,4 @@ pub fn words(alloc: Global, load: &Workload) -> Result<Outcome, Memory>
     let pacing = pacing_with(settings, settings.trigger);
     let outcome = run_with(alloc, load, scripts, recorder, pacing)?;
     Ok(outcome)
-}
-
-/// Runs a workload on one heap, with a thread for each mutator in each part. A cycle marks while calls go on between its
-/// pauses, and begins by itself where the workload's trigger asks for it.
-///
-/// Up to 8 visitors may be asked for. None is started yet, so their number says nothing of the run.
-pub fn run<R: Threads + Sync, T: Turnstile>(
-    rt: &R,
-    alloc: Global,
-    load: &Workload,
-    visitors: u8,
-    gate: &T,
-) -> Result<Outcome, Memory>
-    requires { visitors ≤ 8 }
-    ensures run { IfOk result (IsRunOf load.now load.now.settings.trigger) }
-    ensures heap { IfOk result (λ ran. ran.is_heap ≡ true) }
-{
-    let _ = visitors;
-    let settings = load.settings();
-    let names = names_of(alloc, load)?;
-    let on = heap_for(alloc, load)?;
-    let pacing = pacing_with(settings, settings.trigger);
-    let ran = run_on_threads(rt, gate, on, pacing)?;
-    Ok(outcome_of(load, names, kept_by_heap(ran)))
 }

@@ -39,14 +39,14 @@ fn layout_with(settings: Settings, mutators: u32) -> Layout
 }
 
 /// The layout of the store that a workload asks for.
-pub(crate) fn layout_of(load: &Workload) -> Layout
+pub fn layout_of(load: &Workload) -> Layout
     ensures { result ≡ layout_of_work load.now }
 {
     layout_with(load.settings(), load.mutators())
 }
 
 /// The shapes of declared paths, none of which names a key twice.
-pub(crate) fn shapes_from(alloc: Global, paths: &Paths) -> Result<Shapes, Memory>
+pub fn shapes_from(alloc: Global, paths: &Paths) -> Result<Shapes, Memory>
     requires few { length paths.now ≤ 64 }
     requires sized { All IsPath paths.now }
     requires distinct { first_double paths.now ≡ None }
@@ -70,7 +70,7 @@ fn copied(alloc: Global, bytes: &[u8]) -> Result<Vec<u8>, Memory>
 }
 
 /// The names of a workload's property keys, by number.
-pub(crate) fn names_of(alloc: Global, load: &Workload) -> Result<Vec<Vec<u8>>, Memory>
+pub fn names_of(alloc: Global, load: &Workload) -> Result<Vec<Vec<u8>>, Memory>
     ensures { IfOk result (λ names. map (λ name. name.items) names.items ≡ load.now.keys) }
 {
     let mut names = Vec::new(alloc);
@@ -92,7 +92,7 @@ fn copied_ops(alloc: Global, ops: &[Op]) -> Result<Vec<Op>, Memory>
 }
 
 /// A copy of each mutator's operations.
-pub(crate) fn copied_scripts(alloc: Global, load: &Workload) -> Result<Vec<Vec<Op>>, Memory>
+pub fn copied_scripts(alloc: Global, load: &Workload) -> Result<Vec<Vec<Op>>, Memory>
     ensures { IfOk result (λ scripts. AreScripts load.now (map (λ ops. ops.items) scripts.items)) }
 {
     let mut scripts = Vec::new(alloc);

@@ -3,11 +3,9 @@ use Rattle.std.specs.Prelude.{ℕ, Bool, true, List, [], replicate, None}
 use Rattle.std.specs.List.{slice_index_or}
 use Rattle.tide_model.specs.declared.val.Val.{Val}
 use Rattle.tide_model.specs.declared.val.Val.TheVariants.{Empty}
-use Rattle.tide_model.specs.State.{Status, free, live, spent}
+use Rattle.tide_statuses.specs.declared.statuses.ArrayStatus.{ArrayStatus}
 use Rattle.tide_parts.specs.declared.mutators.StoredMutator.{StoredMutator}
 use Rattle.tide_parts.specs.declared.cells.StoredCell.{StoredCell}
-use Rattle.tide_parts.specs.declared.arrays.ArrayStatus.{ArrayStatus}
-use Rattle.tide_parts.specs.declared.arrays.ArrayStatus.TheVariants.{Free, Live, Spent}
 
 -- what the handles hold, the strong ones and the weak ones
 pub record HandleLists : Type 0 where
@@ -39,13 +37,3 @@ no_elements = replicate 64 Empty
 -- the mutator of this number
 abbrev pub mutator_at : List StoredMutator → ℕ → StoredMutator
 mutator_at mutators who = slice_index_or mutators who blank_mutator
-
--- the status of an array
-abbrev pub status_of : ArrayStatus → Status
-status_of Free = free
-status_of Live = live
-status_of Spent = spent
-
--- the arrays
-abbrev pub arrays_of : List ArrayStatus → ℕ → Status
-arrays_of statuses array = status_of (slice_index_or statuses array Free)

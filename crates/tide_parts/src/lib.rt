@@ -2,7 +2,8 @@
 //!
 //! Each part is a struct with private fields. Contracts see the lists that it holds (`specs/PartLists.antt`), and say
 //! what they are after a change and what a sweep leaves of them. No part knows another one, the layout or the shapes;
-//! what the lists mean together, and that they agree, is for tide_stored to say. It stands on tide_model for values.
+//! what the lists mean together, and that they agree, is for tide_stored to say. It stands on tide_model for values,
+//! and on tide_statuses for what becomes of an array.
 #![tactic(auto)]
 
 mod arrays;
@@ -13,7 +14,7 @@ mod pairs;
 mod sweeping;
 mod taken;
 
-pub use arrays::{ArrayStatus, Arrays, Elements};
+pub use arrays::{Arrays, Elements};
 pub use cells::{Cells, Pair, StoredCell};
 pub use handles::Handles;
 pub use mutators::{Mutators, StoredMutator};

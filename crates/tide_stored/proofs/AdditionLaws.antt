@@ -14,10 +14,10 @@ use Rattle.tide_model.specs.References.{IsLive, RefsAreLive}
 use Rattle.tide_model.specs.State.{State, CellState, free, live}
 use Rattle.tide_model.proofs.NumberLaws.{among_from_contains, contains_from_among}
 use Rattle.tide_shape.proofs.KeyLaws.{fewer_keys}
-use Rattle.tide_parts.specs.declared.arrays.ArrayStatus.{ArrayStatus}
+use Rattle.tide_statuses.specs.declared.statuses.ArrayStatus.{ArrayStatus}
 use Rattle.tide_parts.specs.declared.cells.StoredCell.{StoredCell}
 use Rattle.tide_parts.specs.Changes.{elements_of}
-use Rattle.tide_parts.specs.PartLists.{arrays_of}
+use Rattle.tide_statuses.specs.Statuses.{arrays_of}
 use Rattle.tide_stored.specs.Stored.{Stored, properties_of}
 use Rattle.tide_stored.specs.Contents.{state_of, stored_at, IsSound, IsStored}
 use Rattle.tide_stored.specs.Properties.{with_array, with_property, IsOwnArray}

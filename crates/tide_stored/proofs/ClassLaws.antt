@@ -14,9 +14,9 @@ use Rattle.tide_block.proofs.BlockLaws.{first_block_of-next, first_block_of-rise
 use Rattle.tide_block.proofs.PlaceLaws.{block_of_cells}
 use Rattle.tide_block.proofs.ArrayLaws.{first_block_of-end, block_of_arrays}
 use Rattle.tide_stored.specs.Stored.{Stored}
-use Rattle.tide_parts.specs.declared.arrays.ArrayStatus.{ArrayStatus}
-use Rattle.tide_parts.specs.declared.arrays.ArrayStatus.TheVariants.{Free, Live, Spent}
-use Rattle.tide_parts.specs.PartLists.{status_of}
+use Rattle.tide_statuses.specs.declared.statuses.ArrayStatus.{ArrayStatus}
+use Rattle.tide_statuses.specs.declared.statuses.ArrayStatus.TheVariants.{Free, Live, Spent}
+use Rattle.tide_statuses.specs.Statuses.{status_of}
 use Rattle.tide_stored.specs.Stored.{live_cell}
 use Rattle.tide_stored.specs.Contents.{state_of, stored_at, IsStored}
 

@@ -10,9 +10,10 @@ use Rattle.tide_layout.specs.Limits.{IsWithinLimits}
 use Rattle.tide_shape.specs.ShapeTable.{IsShapeTable}
 use Rattle.tide_stored.specs.Stored.{Stored}
 use Rattle.tide_parts.specs.declared.mutators.StoredMutator.{StoredMutator}
-use Rattle.tide_parts.specs.declared.arrays.ArrayStatus.{ArrayStatus}
-use Rattle.tide_parts.specs.declared.arrays.ArrayStatus.TheVariants.{Free}
-use Rattle.tide_parts.specs.PartLists.{blank_mutator, blank_stored, no_elements, mutator_at, status_of}
+use Rattle.tide_statuses.specs.declared.statuses.ArrayStatus.{ArrayStatus}
+use Rattle.tide_statuses.specs.declared.statuses.ArrayStatus.TheVariants.{Free}
+use Rattle.tide_statuses.specs.Statuses.{status_of}
+use Rattle.tide_parts.specs.PartLists.{blank_mutator, blank_stored, no_elements, mutator_at}
 use Rattle.tide_stored.specs.Stored.{live_cell}
 use Rattle.tide_stored.specs.Contents.{state_of, IsStored}
 use Rattle.tide_parts.proofs.Copies.{get_or-copies}

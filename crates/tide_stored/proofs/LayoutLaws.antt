@@ -6,10 +6,11 @@ use Rattle.std.specs.Prelude.{if◌then◌else◌}
 use Rattle.tide_model.specs.declared.val.Val.TheVariants.{Empty}
 use Rattle.tide_model.specs.State.{CellState, free, dead, blank_cell}
 use Rattle.tide_shape.specs.ShapeTable.{keys_of}
-use Rattle.tide_parts.specs.declared.arrays.ArrayStatus.{ArrayStatus}
-use Rattle.tide_parts.specs.declared.arrays.ArrayStatus.TheVariants.{Free, Live, Spent}
+use Rattle.tide_statuses.specs.declared.statuses.ArrayStatus.{ArrayStatus}
+use Rattle.tide_statuses.specs.declared.statuses.ArrayStatus.TheVariants.{Free, Live, Spent}
 use Rattle.tide_parts.specs.declared.mutators.StoredMutator.{StoredMutator}
-use Rattle.tide_parts.specs.PartLists.{blank_mutator, blank_stored, mutator_at, status_of}
+use Rattle.tide_statuses.specs.Statuses.{status_of}
+use Rattle.tide_parts.specs.PartLists.{blank_mutator, blank_stored, mutator_at}
 use Rattle.tide_stored.specs.Stored.{Stored, live_cell}
 use Rattle.tide_stored.specs.Contents.{state_of, stored_at, IsStored, IsWithinLayout}
 use Rattle.tide_stored.proofs.CellLaws.{live_below}

@@ -14,9 +14,10 @@ use Rattle.tide_model.specs.State.{CellState, free, live}
 use Rattle.tide_shape.specs.ShapeTable.{keys_of}
 use Rattle.tide_stored.specs.Stored.{Stored}
 use Rattle.tide_parts.specs.declared.cells.StoredCell.{StoredCell}
-use Rattle.tide_parts.specs.declared.arrays.ArrayStatus.{ArrayStatus}
-use Rattle.tide_parts.specs.declared.arrays.ArrayStatus.TheVariants.{Free}
-use Rattle.tide_parts.specs.PartLists.{blank_stored, no_elements, arrays_of, status_of}
+use Rattle.tide_statuses.specs.declared.statuses.ArrayStatus.{ArrayStatus}
+use Rattle.tide_statuses.specs.declared.statuses.ArrayStatus.TheVariants.{Free}
+use Rattle.tide_statuses.specs.Statuses.{arrays_of, status_of}
+use Rattle.tide_parts.specs.PartLists.{blank_stored, no_elements}
 use Rattle.tide_stored.specs.Stored.{properties_of, live_cell}
 use Rattle.tide_stored.specs.Contents.{state_of, stored_at, IsStored, IsSound}
 use Rattle.tide_stored.specs.Properties.{IsOwnArray, IsPut, with_array, with_property}

@@ -10,7 +10,7 @@ use Rattle.tide_model.specs.State.{CellState}
 use Rattle.tide_shape.specs.ShapeTable.{keys_of}
 use Rattle.tide_stored.specs.Stored.{Stored}
 use Rattle.tide_parts.specs.declared.cells.StoredCell.{StoredCell}
-use Rattle.tide_parts.specs.declared.arrays.ArrayStatus.{ArrayStatus}
+use Rattle.tide_statuses.specs.declared.statuses.ArrayStatus.{ArrayStatus}
 use Rattle.tide_stored.specs.Contents.{state_of, stored_at, IsSound, IsStored}
 use Rattle.tide_parts.specs.Pairs.{IsDistinctPairs}
 use Rattle.tide_parts.specs.PartLists.{blank_stored}

@@ -9,7 +9,8 @@ use Rattle.tide_layout.specs.Limits.{IsWithinLimits}
 use Rattle.tide_shape.specs.ShapeTable.{keys_of, IsShapeTable}
 use Rattle.tide_parts.specs.declared.cells.StoredCell.{StoredCell}
 use Rattle.tide_parts.specs.Pairs.{IsDistinctPairs}
-use Rattle.tide_parts.specs.PartLists.{blank_stored, mutator_at, arrays_of}
+use Rattle.tide_statuses.specs.Statuses.{arrays_of}
+use Rattle.tide_parts.specs.PartLists.{blank_stored, mutator_at}
 use Rattle.tide_stored.specs.Stored.{Stored, cells_of}
 
 -- the state for which the contents stand, in which no cycle marks

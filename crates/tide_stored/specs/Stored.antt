@@ -9,7 +9,7 @@ use Rattle.tide_model.specs.State.{CellState, blank_cell, free, live}
 use Rattle.tide_shape.specs.ShapeTable.{keys_of}
 use Rattle.tide_parts.specs.declared.mutators.StoredMutator.{StoredMutator}
 use Rattle.tide_parts.specs.declared.cells.StoredCell.{StoredCell}
-use Rattle.tide_parts.specs.declared.arrays.ArrayStatus.{ArrayStatus}
+use Rattle.tide_statuses.specs.declared.statuses.ArrayStatus.{ArrayStatus}
 use Rattle.tide_parts.specs.Pairs.{pairs_of}
 use Rattle.tide_parts.specs.PartLists.{blank_stored, no_elements}
 

@@ -9,4 +9,5 @@
 mod contents;
 
 pub use contents::Contents;
-pub use tide_parts::{ArrayStatus, Pair};
+pub use tide_parts::Pair;
+pub use tide_statuses::ArrayStatus;

@@ -5,8 +5,9 @@ ghost use Rattle.tide_model.specs.declared.val.Val.TheVariants.{Empty};
 
 use crate::contents::Contents;
 use tide_model::Val;
-use tide_parts::{ArrayStatus, Pair};
+use tide_parts::Pair;
 use tide_shape::ShapeTable;
+use tide_statuses::ArrayStatus;
 
 impl Contents {
     ghost use Rattle.tide_model.specs.Layout.{array_count};
@@ -14,7 +15,7 @@ impl Contents {
     ghost use Rattle.tide_model.specs.State.{is_live};
     ghost use Rattle.tide_stored.specs.Contents.{state_of};
     ghost use Rattle.tide_parts.specs.Pairs.{pairs_of, IsDistinctPairs};
-    ghost use Rattle.tide_parts.specs.PartLists.{status_of};
+    ghost use Rattle.tide_statuses.specs.Statuses.{status_of};
 
     /// Whether a mutator is active.
     pub fn is_active(&self, who: u32) -> bool

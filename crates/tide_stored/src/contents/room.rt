@@ -4,7 +4,7 @@ ghost use Rattle.std.specs.Prelude.{◌≡◌, ◌<◌, ◌≤◌, ℕ, IfSome, 
 use crate::contents::Contents;
 use tide_block::{class_of, class_of_array, first_array_of, first_of};
 use tide_layout::BLOCK_SIZE;
-use tide_parts::ArrayStatus;
+use tide_statuses::ArrayStatus;
 
 impl Contents {
     ghost use Rattle.tide_model.specs.Answer.{IsFreeArrayOf, IsFreeCellOf};

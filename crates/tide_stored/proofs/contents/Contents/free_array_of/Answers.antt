@@ -4,7 +4,7 @@ use Rattle.tide_layout.proofs.LimitLaws.{few_arrays}
 use Rattle.tide_model.specs.Layout.{array_count}
 use Rattle.tide_stored.specs.Stored.{Stored}
 use Rattle.tide_stored.specs.Parts.{parts_of}
-use Rattle.tide_parts.specs.declared.arrays.ArrayStatus.TheVariants.{Free}
+use Rattle.tide_statuses.specs.declared.statuses.ArrayStatus.TheVariants.{Free}
 use Rattle.tide_stored.proofs.ClassLaws.{array_is-free, arrays_of_class-end, arrays_of_class-full, found-holds, found-lowest, found-none, IsFirstFound, IsFreeArrayOf-stored}
 use Rattle.tide_stored.proofs.contents.Contents.free_array_of.Goals as goal
 

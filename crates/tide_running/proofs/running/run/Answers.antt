@@ -10,7 +10,7 @@ use Rattle.tide_outcome.specs.Outcome.{HasLeft, is_heap}
 use Rattle.tide_outcome.specs.declared.outcome.Kept.{Kept}
 use Rattle.tide_outcome.specs.declared.outcome.Kept.TheVariants.{Heap}
 use Rattle.tide_outcome.proofs.RunLaws.{HasLeft-ran}
-use Rattle.tide_outcome.proofs.runs.run.Goals as goal
+use Rattle.tide_running.proofs.running.run.Goals as goal
 
 pub run_on_threads-requires-clause-few : goal.run_on_threads-requires-clause-few
 run_on_threads-requires-clause-few g c κs within =

@@ -9,7 +9,7 @@ use Rattle.tide_shape.specs.Lists.{lists_of}
 use Rattle.tide_shape.specs.Shapes.{shapes_of_paths}
 use Rattle.tide_outcome.specs.Runs.{AreScripts, layout_of_work}
 use Rattle.tide_outcome.proofs.RunLaws.{AreAskable, few_of}
-use Rattle.tide_outcome.proofs.stores.heap_for.Goals as goal
+use Rattle.tide_running.proofs.running.heap_for.Goals as goal
 
 pub room_for-room-requires-clause-few : goal.room_for-room-requires-clause-few
 room_for-room-requires-clause-few c =
