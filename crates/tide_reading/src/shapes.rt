@@ -8,7 +8,7 @@ ghost use Rattle.tide_work.specs.FieldNames.{name_of};
 ghost use Rattle.toml.specs.View.{view, table_view};
 ghost use Rattle.tide_work.specs.Keys.{is_key_byte, is_key, key_number};
 ghost use Rattle.tide_reading.specs.Shapes.{are_keys, path_words, path_in, paths_in, add_names, key_names, paths_by_number, unless_double, declared_in};
-ghost use Rattle.tide_reading.specs.Steps.{Gives};
+ghost use Rattle.tide_reading.specs.Steps.{each, Gives};
 ghost use Rattle.tide_work.specs.Words.{is_trimmed, words_in};
 ghost use Rattle.tide_work.specs.Work.{AreKeys, ArePaths};
 
@@ -86,6 +86,21 @@ fn path_in(alloc: Global, value: &Value) -> Result<Vec<&[u8]>, Fault>
     path_words(alloc, text.as_bytes())?.ok_or(bad)
 }
 
+/// The words of each of some paths, whose texts these values are.
+fn paths_of_each(alloc: Global, values: &[Value]) -> Result<Vec<Vec<&[u8]>>, Fault>
+    ensures words { Gives (λ paths. map (λ words. map (λ word. word.now) words.items) paths.items)
+        result (each path_in (map view values.now)) }
+    ensures count { IfOk result (λ paths. length paths.items ≡ length values.now) }
+    ensures keys { IfOk result (λ paths.
+        All (λ words. are_keys (map (λ word. word.now) words.items) ≡ true) paths.items) }
+{
+    let mut paths = Vec::new(alloc);
+    for value in values {
+        paths.push(path_in(alloc, value)?)?;
+    }
+    Ok(paths)
+}
+
 /// The words of each path that a value declares.
 fn paths_in(alloc: Global, value: &Value) -> Result<Vec<Vec<&[u8]>>, Fault>
     ensures words { Gives (λ paths. map (λ words. map (λ word. word.now) words.items) paths.items)
@@ -95,11 +110,7 @@ fn paths_in(alloc: Global, value: &Value) -> Result<Vec<Vec<&[u8]>>, Fault>
         All (λ words. are_keys (map (λ word. word.now) words.items) ≡ true) paths.items) }
 {
     let values = values_in(Field::Shapes, value, 0, MAX_PATHS)?;
-    let mut paths = Vec::with_capacity(alloc, values.len())?;
-    for value in values {
-        paths.push(path_in(alloc, value)?)?;
-    }
-    Ok(paths)
+    paths_of_each(alloc, values)
 }
 
 /// Puts those words of a path that are new behind the names of the keys.

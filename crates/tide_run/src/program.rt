@@ -27,7 +27,7 @@ pub struct Ended {
 }
 
 /// Why nothing was run.
-#[derive(Clone, Copy, Debug, PartialEq, Eq)]
+#[derive(Clone, Copy)]
 pub enum Stop {
     Usage,
     ReadFault,

@@ -53,11 +53,8 @@ pub fn two_words(text: &[u8]) -> Option<(&[u8], &[u8])>
     ensures { option_map (λ words. (words.0.now, words.1.now)) result ≡ two_words (words_in text.now) }
 {
     let (first, rest) = next_word(text)?;
-    let (second, rest) = next_word(rest)?;
-    match next_word(rest) {
-        Some(_) => None,
-        None => Some((first, second)),
-    }
+    let second = one_word(rest)?;
+    Some((first, second))
 }
 
 /// The words of a text that has no more than these three.

@@ -2,7 +2,7 @@ use Rattle.std.proofs.Common.{◌≡◌, true, length, map, drop, All}
 use Rattle.toml.specs.View.{view}
 use Rattle.tide_reading.specs.Shapes.{are_keys, path_in}
 use Rattle.tide_reading.proofs.EachLemmas.{Reads}
-use Rattle.tide_reading.proofs.shapes.paths_in.Given as goal
+use Rattle.tide_reading.proofs.shapes.paths_of_each.Given as goal
 
 abbrev pub invariant-loop-value : goal.invariant-loop-value
 invariant-loop-value l =
