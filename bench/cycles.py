@@ -3,8 +3,8 @@
 
     python3 bench/cycles.py [--check]
 
-It writes check_plain/data/cycles.txt, the operations with their replies and what each collection frees, and
-check_marking/data/cycles.txt, what the operations change in words with what each whole cycle leaves there: the cells
+It writes checks/data/plain/cycles.txt, the operations with their replies and what each collection frees, and
+checks/data/marking/cycles.txt, what the operations change in words with what each whole cycle leaves there: the cells
 that it frees and how many it keeps, the weak handles, the pairs of tables, and which cells and arrays are free. What is
 expected in both is what the model of bench/model.py says. With --check it compares in place of writing.
 """
@@ -14,7 +14,7 @@ import sys
 
 from model import ROOM, SLOTS, TABLE, Refused, Store, shown, text_of
 
-CRATES = pathlib.Path(__file__).resolve().parent.parent / "crates"
+DATA = pathlib.Path(__file__).resolve().parent.parent / "crates" / "checks" / "data"
 WORK = {
     "blocks": [1, 1, 0, 0, 1], "arrays": [1, 1, 0, 0, 0], "registers": 4, "strong": 2, "weak": 2,
     "mutators": [[], []], "shapes": [["k0", "k1", "k2", "k3", "k4"]],
@@ -176,8 +176,8 @@ def main():
         for lines, more in zip((plain, heap), history(seed)):
             lines += ["", f"=== several cycles of random heap {seed}"] + more
     same = True
-    for crate, lines in (("check_plain", plain), ("check_marking", heap)):
-        path, text = CRATES / crate / "data" / "cycles.txt", "\n".join(lines) + "\n"
+    for folder, lines in (("plain", plain), ("marking", heap)):
+        path, text = DATA / folder / "cycles.txt", "\n".join(lines) + "\n"
         if "--check" not in sys.argv:
             path.write_text(text)
         elif path.read_text() != text:

@@ -16,7 +16,7 @@ set -u
 here=$(cd "$(dirname "$0")" && pwd)
 program=${1:-$here/../crates/riptide/out/riptide}
 most=${2:-300}
-data=$here/../crates/check_workloads/data/workloads
+data=$here/../crates/checks/data/workloads
 folder=$(mktemp -d)
 trap 'rm -rf "$folder"' EXIT
 

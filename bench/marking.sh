@@ -1,10 +1,10 @@
 #!/usr/bin/env bash
-# Times chains of cells, marked in words by check_marking and collected in the plain store by riptide, and single runs of two
+# Times chains of cells, marked in words by checks and collected in the plain store by riptide, and single runs of two
 # constraints over the largest layout, and prints a table of each.
 #
-#   bash bench/marking.sh [CHECK_MARKING [RIPTIDE]]
+#   bash bench/marking.sh [CHECKS [RIPTIDE]]
 #
-# The programs are crates/check_marking/out/check_marking and crates/riptide/out/riptide where they aren't given; in each
+# The programs are crates/checks/out/checks and crates/riptide/out/riptide where they aren't given; in each
 # of the two folders `rt run < stdin` builds it. The columns of a program that isn't there are left empty. It needs bash
 # and awk. Seconds are user time, from the program's start to its end, the least of three times: of one run each or, where
 # that takes less than 0.2 seconds, the mean of twenty. Microseconds are those of the program's own clock around one run of
@@ -12,7 +12,7 @@
 set -u
 
 here=$(cd "$(dirname "$0")" && pwd)
-words=${1:-$here/../crates/check_marking/out/check_marking}
+words=${1:-$here/../crates/checks/out/checks}
 plain=${2:-$here/../crates/riptide/out/riptide}
 folder=$(mktemp -d)
 trap 'rm -rf "$folder"' EXIT
@@ -61,9 +61,9 @@ least() { # FILE PROGRAM [WORD...]
 
 # The seconds of a chain in words.
 of_words() { # KIND BLOCKS
-    echo "chain $1 $2" > "$folder/line"
+    echo "marking chain $1 $2" > "$folder/line"
     [ -x "$words" ] || return
-    if [ "$("$words" < "$folder/line")" = "chain $1 $2: as expected" ]; then least "$folder/line" "$words"; else echo "not as expected"; fi
+    if [ "$("$words" < "$folder/line")" = "marking chain $1 $2: as expected" ]; then least "$folder/line" "$words"; else echo "not as expected"; fi
 }
 
 # The seconds of a chain in the plain store. It has no leaps, whose tables no register reaches in that order.
@@ -85,7 +85,7 @@ done
 
 # A row of what a run of Groups takes, and a run of Ephemerons over the same words.
 of_runs() { # GROUPS MARKED
-    echo "runs $1 $2 400" > "$folder/line"
+    echo "marking runs $1 $2 400" > "$folder/line"
     "$words" < "$folder/line" 2> "$folder/times" > "$folder/text" || return
     awk -v groups="$1" -v marked="$2" '{
         printf "| %s | %s | %.1f | %.1f | %.1f |\n", groups, marked, $3 / 1000, $4 / 1000, $3 / $4

@@ -1,9 +1,9 @@
 #!/usr/bin/env bash
 # Times whole cycles over heaps in words, from their beginning to the sweep of each block, and prints a table.
 #
-#   bash bench/whole.sh [CHECK_MARKING]
+#   bash bench/whole.sh [CHECKS]
 #
-# The program is crates/check_marking/out/check_marking where it isn't given; in that folder `rt run < stdin` builds it. It
+# The program is crates/checks/out/checks where it isn't given; in that folder `rt run < stdin` builds it. It
 # needs bash and awk. A heap has so many blocks in each class of cells and of arrays. It is `empty`; or its cells are all live
 # and `kept`, each with slots by a slot of the one before it and each table by a slot too; or all live and `freed`. Each row
 # is the mean of many cycles, one after another: the user time of a run with them less that of a run without, the least of
@@ -11,7 +11,7 @@
 set -u
 
 here=$(cd "$(dirname "$0")" && pwd)
-program=$(realpath "${1:-$here/../crates/check_marking/out/check_marking}")
+program=$(realpath "${1:-$here/../crates/checks/out/checks}")
 folder=$(mktemp -d)
 trap 'rm -rf "$folder"' EXIT
 cd "$folder" || exit 1
@@ -44,8 +44,8 @@ rows() { # CONTENT BLOCKS ROWS CYCLES WITH_CYCLES
 # The user seconds of one run, the least of five.
 seconds() { # FILE
     for _ in 1 2 3 4 5; do
-        { time echo "cycles $1" | "$program" > text; } 2>&1
-        [ "$(cat text)" = "cycles $1: as expected" ] || echo "not as expected" >&2
+        { time echo "marking cycles $1" | "$program" > text; } 2>&1
+        [ "$(cat text)" = "marking cycles $1: as expected" ] || echo "not as expected" >&2
     done | sort -n | head -n 1
 }
 

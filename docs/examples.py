@@ -1,9 +1,9 @@
 #!/usr/bin/env python3
-"""Tells which examples of README.md and of the pages of docs/ are no files that the program check_workloads runs.
+"""Tells which examples of README.md and of the pages of docs/ are no files that the gate runs.
 
     python3 docs/examples.py         prints what differs, and ends with 1 where anything does
 
-- A block of ```toml is a workload of crates/check_workloads/data, without the comment at its head, and the block of
+- A block of ```toml is a workload of crates/checks/data, without the comment at its head, and the block of
   text behind it, if one follows before the next, is the text of that workload's run.
 - A table with the columns Operation, Printed and Why has one row for each call of the workload that the link before it
   names, in order.
@@ -19,7 +19,7 @@ import sys
 from pathlib import Path
 
 TOP = Path(__file__).resolve().parent.parent
-DATA = TOP / "crates" / "check_workloads" / "data"
+DATA = TOP / "crates" / "checks" / "data"
 WITH_OPERANDS = """
     alloc table get put move set drop claim release add getp setp strong sget weak wget pair pget pdel group
 """.split()

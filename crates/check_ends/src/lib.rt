@@ -1,6 +1,6 @@
 //! Rows of sources and sinks of `tide_io`: those in memory, and those over readers and writers of std.
 //!
-//! It knows no program: `check_workloads` calls it for a line of its input.
+//! It knows no program: `checks` calls it for a line of its input.
 #![tactic(auto)]
 
 mod ends;

@@ -17,7 +17,7 @@ pub struct Counts {
     held: u64,
     properties: u64,
     /// Properties for which a cell's array grew: its fifth and its ninth one, which are the keys 4 and 8 in
-    /// `data/settings.txt`.
+    /// `checks/data/facts/settings.txt`.
     grown: u64,
     /// Calls that were refused for room, of cells and of arrays.
     full: [u64; 2],

@@ -1,7 +1,7 @@
 //! The checks of runs: rows of runs by `tide_run::riptide`, over sources and sinks that fail where they are told to and with
 //! mutators that are held where they are told to, and lists of workloads that come to the same each way.
 //!
-//! It knows no program: `check_workloads` calls it for the lines of its input.
+//! It knows no program: `checks` calls it for the lines of its input.
 #![tactic(auto)]
 
 mod ending;

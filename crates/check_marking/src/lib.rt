@@ -1,7 +1,8 @@
-//! The program `check_marking`: marks heaps of words by `tide_solver::solve` with the four constraints of a collector, runs
-//! single constraints, collects heaps by whole cycles, and compares what comes with what is expected.
+//! Marking of heaps of words by `tide_solver::solve` with the four constraints of a collector, single constraints and whole
+//! cycles, compared with what is expected.
 //!
-//! Each line of its input is one check. A FILE lies in the folder that it is run in, and its rows are done one by one:
+//! It knows no program: `checks` calls it for the lines of its input that begin with `marking`. A FILE lies in the folder that
+//! the program is run in, and its rows are done one by one:
 //!
 //! - `heaps FILE`: heaps that are marked, wholly or within a budget (`heaps.rt` tells what a line of a row says).
 //! - `constraints FILE`: one run of a constraint, and what is marked then (`bench.rt`).
@@ -26,21 +27,14 @@ mod runs;
 
 use bench::Bench;
 use chains::check_chain;
-use check_heap::{Checks, System, check_lines, check_rows, words_of};
+use check_heap::{System, check_rows};
 use cycles::Cycles;
 use heaps::Marked;
 use runs::time_runs;
 use std::io;
-use std::process::ExitCode;
 
-/// The checks of this program.
-#[derive(Clone, Copy)]
-struct Program<'a, R> {
-    rt: &'a R,
-}
-
-/// Makes the check that words say.
-fn check_words<R: System>(rt: &R, words: &[&str]) -> io::Result<bool> {
+/// Makes the check that words say, and answers whether all was as expected.
+pub fn check_marking<R: System>(rt: &R, words: &[&str]) -> io::Result<bool> {
     match words {
         ["heaps", file] => check_rows::<R, Marked>(rt, file),
         ["constraints", file] => check_rows::<R, Bench>(rt, file),
@@ -49,15 +43,4 @@ fn check_words<R: System>(rt: &R, words: &[&str]) -> io::Result<bool> {
         ["runs", kind, marked, times] => time_runs(rt, kind, marked, times),
         _ => Ok(false),
     }
-}
-
-impl<R: System> Checks for Program<'_, R> {
-    fn check(&self, line: &str) -> io::Result<bool> {
-        let words = words_of(self.rt.alloc(), line)?;
-        check_words(self.rt, words.as_slice())
-    }
-}
-
-fn main(rt: HostRuntime) -> ExitCode {
-    check_lines(&rt, &Program { rt: &rt })
 }

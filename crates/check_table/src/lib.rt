@@ -1,7 +1,6 @@
-//! The program `check_table`: runs parts, pauses and freezes over the table of words, on one thread, and prints what they
-//! answer.
+//! Parts, pauses and freezes over the table of words, on one thread, which print what they answer.
 //!
-//! Each line of its input is one check:
+//! It knows no program: `checks` calls it for the lines of its input that begin with `table`:
 //!
 //! - `part`: two mutators begin a part, work, retire and stop; it is frozen and closed.
 //! - `parts`: the same after a part in which nobody makes a call, and a whole cycle.
@@ -16,16 +15,9 @@ mod freezing;
 mod standing;
 mod telling;
 
-use check_heap::{Checks, System, check_lines, number, words_of};
+use check_heap::{System, number};
 use std::io;
-use std::process::ExitCode;
 use telling::{tell_calls, tell_chain, tell_freezes, tell_part, tell_parts};
-
-/// The checks of this program.
-#[derive(Clone, Copy)]
-struct Program<'a, R> {
-    rt: &'a R,
-}
 
 /// Makes the check of one word.
 fn check_alone<R: System>(rt: &R, what: &str) -> io::Result<bool> {
@@ -46,22 +38,11 @@ fn check_chain<R: System>(rt: &R, file: &str, small: &str, large: &str) -> io::R
     }
 }
 
-/// Makes the check that words say.
-fn check_words<R: System>(rt: &R, words: &[&str]) -> io::Result<bool> {
+/// Makes the check that words say, and answers whether it could be made.
+pub fn check_table<R: System>(rt: &R, words: &[&str]) -> io::Result<bool> {
     match words {
         [what] => check_alone(rt, what),
         ["chain", file, small, large] => check_chain(rt, file, small, large),
         _ => Ok(false),
     }
-}
-
-impl<R: System> Checks for Program<'_, R> {
-    fn check(&self, line: &str) -> io::Result<bool> {
-        let words = words_of(self.rt.alloc(), line)?;
-        check_words(self.rt, words.as_slice())
-    }
-}
-
-fn main(rt: HostRuntime) -> ExitCode {
-    check_lines(&rt, &Program { rt: &rt })
 }
