@@ -30,4 +30,6 @@ pub use reading::{
 pub use reply::{reply_text, value_text};
 pub use rows::{Answers, check_rows, parts_of, tell_answer};
 pub use system::System;
-pub use texts::{joined, number_between, number_or_none, number_text, numbers_text, tell, text};
+pub use texts::{
+    file_text, joined, number_between, number_or_none, number_text, numbers_text, tell, text,
+};

@@ -77,11 +77,13 @@ fn byte_at_most(most: u8, word: &str) -> Option<u8>
     if count <= most { Some(count) } else { None }
 }
 
-/// How many blocks each of five classes has.
-fn five(words: [&str; 5]) -> Option<[u8; 5]>
+/// How many blocks each of five classes has, by five words.
+fn five(words: &[&str]) -> Option<[u8; 5]>
     ensures { IfSome result (All (λ count. count ≤ 64)) }
 {
-    let [a, b, c, d, e] = words;
+    let [a, b, c, d, e] = words else {
+        return None;
+    };
     Some([
         byte_at_most(64, a)?,
         byte_at_most(64, b)?,
@@ -91,15 +93,19 @@ fn five(words: [&str; 5]) -> Option<[u8; 5]>
     ])
 }
 
-/// The layout of the words of two times five blocks, and of how many registers, strong and weak handles, mutators and visitors
-/// there are.
-fn layout_with(cells: [&str; 5], arrays: [&str; 5], others: [&str; 5]) -> Option<Layout> {
-    let (cells, arrays) = (five(cells)?, five(arrays)?);
-    let [registers, strong, weak, mutators, visitors] = others;
+/// The layout of two times five blocks, and of the words of all else, of which the visitors may be left out.
+fn layout_with(cells: [u8; 5], arrays: [u8; 5], others: &[&str]) -> Option<Layout>
+    requires few_cells { All (λ count. count ≤ 64) cells }
+    requires few_arrays { All (λ count. count ≤ 64) arrays }
+{
+    let [registers, strong, weak, mutators, visitors @ ..] = others else {
+        return None;
+    };
     let (strong, weak) = (number(strong)?, number(weak)?);
     if strong > 256 || weak > 256 {
         return None;
     }
+    let visitors = visitors.first().copied().unwrap_or("0");
     Some(Layout::new(
         cells,
         arrays,
@@ -111,24 +117,11 @@ fn layout_with(cells: [&str; 5], arrays: [&str; 5], others: [&str; 5]) -> Option
     ))
 }
 
-/// The layout of the words of five blocks of cells, and of what stands behind them, of which the visitors may be left out.
-fn layout_by(cells: [&str; 5], words: &[&str]) -> Option<Layout> {
-    match words {
-        ["+", f, g, h, i, j, r, s, w, m] => {
-            layout_with(cells, [f, g, h, i, j], [r, s, w, m, "0"])
-        }
-        ["+", f, g, h, i, j, r, s, w, m, v] => {
-            layout_with(cells, [f, g, h, i, j], [r, s, w, m, v])
-        }
-        _ => None,
-    }
-}
-
 /// The layout of words: five blocks of cells, `+`, five of arrays, and then how many `registers`, `strong` and `weak` handles,
 /// `mutators` and, if they are told, `visitors` there are: as `1 0 0 0 1 + 1 0 0 0 0 4 2 2 1`.
 pub fn layout_of(words: &[&str]) -> Option<Layout> {
-    match words {
-        [a, b, c, d, e, others @ ..] => layout_by([a, b, c, d, e], others),
-        _ => None,
+    if words.len() < 15 || words.len() > 16 || words[5] != "+" {
+        return None;
     }
+    layout_with(five(&words[..5])?, five(&words[6..11])?, &words[11..])
 }

@@ -2,8 +2,8 @@
 
 use crate::System;
 use crate::reading::words_of;
-use crate::texts::{tell, text};
-use std::{fs, io};
+use crate::texts::{file_text, tell};
+use std::io;
 
 /// What does the lines of a row and answers them.
 pub trait Answers<R: System>: Drop {
@@ -75,13 +75,16 @@ fn are_lines_so<R: System, A: Answers<R>>(
 fn is_row_so<R: System, A: Answers<R>>(rt: &R, first: &str, row: &str) -> io::Result<bool> {
     let (name, lines) = row.split_once("\n").unwrap_or((row, ""));
     let mut answers = A::begin(rt)?;
-    Ok(are_lines_so(rt, &mut answers, name, first)? && are_lines_so(rt, &mut answers, name, lines)?)
+    if !are_lines_so(rt, &mut answers, name, first)? {
+        return Ok(false);
+    }
+    are_lines_so(rt, &mut answers, name, lines)
 }
 
 /// Does each row of a file. A row is a line `=== NAME` and the lines below it, to the next; what stands before the first
 /// is done at the beginning of each. A file without rows is none.
 pub fn check_rows<R: System, A: Answers<R>>(rt: &R, file: &str) -> io::Result<bool> {
-    let file = fs::read_to_string(rt, text(rt.alloc(), file)?)?;
+    let file = file_text(rt, &[file])?;
     let Some((first, rows)) = file.as_str().split_once("=== ") else {
         return Ok(false);
     };

@@ -1,9 +1,9 @@
 //! What a check needs of the system.
 
-use check_heap::{System, joined};
+use check_heap::{System, file_text};
+use std::io;
 use std::marker::Sync;
 use std::thread::Threads;
-use std::{fs, io};
 
 /// Files, memory, a place to print, and what a run takes.
 pub trait Machine: System + Threads + Sync {}
@@ -12,5 +12,5 @@ impl<R: System + Threads + Sync> Machine for R {}
 
 /// The bytes of the file whose name is these texts, one behind the other.
 pub fn bytes_of<R: System>(rt: &R, name: &[&str]) -> io::Result<Vec<u8>> {
-    fs::read(rt, joined(rt.alloc(), name)?)
+    Ok(file_text(rt, name)?.into_bytes())
 }

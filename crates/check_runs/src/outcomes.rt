@@ -19,20 +19,18 @@ fn add_number(
     all.push_str(one.as_str())
 }
 
-/// Puts a call with its reply at the end of a text.
-fn add_call(alloc: Global, all: &mut String, call: Answered) -> Result<(), AllocError> {
-    let op = format!(in alloc; "{:?} ", call.op)?;
-    all.push_str(op.as_str())?;
+/// The text of a call with its reply.
+fn call_text(alloc: Global, call: Answered) -> Result<String, AllocError> {
     let reply = reply_text(alloc, call.reply)?;
-    all.push_str(reply.as_str())?;
-    all.push_str(", ")
+    format!(in alloc; "{:?} {}, ", call.op, reply.as_str())
 }
 
 /// Puts the calls of each mutator at the end of a text.
 fn add_calls(alloc: Global, all: &mut String, outcome: &Outcome) -> Result<(), AllocError> {
     for m in 0..outcome.mutators() {
         for call in outcome.calls(m) {
-            add_call(alloc, all, *call)?;
+            let call = call_text(alloc, *call)?;
+            all.push_str(call.as_str())?;
         }
     }
     Ok(())

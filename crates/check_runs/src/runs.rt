@@ -4,8 +4,8 @@
 
 use crate::machine::Machine;
 use crate::trial::Trial;
-use check_heap::{parts_of, tell_answer, text, words_of};
-use std::{fs, io};
+use check_heap::{file_text, parts_of, tell_answer, words_of};
+use std::io;
 
 /// Does a line, and answers whether it was answered as expected.
 fn is_line_so<R: Machine>(rt: &R, trial: &mut Trial, row: &str, line: &str) -> io::Result<bool> {
@@ -29,7 +29,7 @@ fn is_row_so<R: Machine>(rt: &R, row: &str) -> io::Result<bool> {
 
 /// Does each row of a file, as `check_rows` does those of other kinds.
 pub fn check_runs<R: Machine>(rt: &R, file: &str) -> io::Result<bool> {
-    let file = fs::read_to_string(rt, text(rt.alloc(), file)?)?;
+    let file = file_text(rt, &[file])?;
     let Some((_, rows)) = file.as_str().split_once("=== ") else {
         return Ok(false);
     };

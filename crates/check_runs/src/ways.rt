@@ -3,9 +3,9 @@
 
 use crate::machine::{Machine, bytes_of};
 use crate::outcomes::{in_threads, in_turn, on_words};
-use check_heap::{tell, text};
+use check_heap::{file_text, tell};
 use std::alloc::{AllocError, Global};
-use std::{fs, io};
+use std::io;
 use tide_model::FreePass;
 use tide_workload::{Workload, read};
 
@@ -49,7 +49,7 @@ fn is_so<R: Machine>(rt: &R, name: &str) -> io::Result<bool> {
 
 /// Runs each workload of a list each way, and tells those that come to different things.
 pub fn check_ways<R: Machine>(rt: &R, file: &str) -> io::Result<bool> {
-    let list = fs::read_to_string(rt, text(rt.alloc(), file)?)?;
+    let list = file_text(rt, &[file])?;
     let mut all = true;
     for name in list.as_str().lines() {
         if !is_so(rt, name)? {
