@@ -1,20 +1,11 @@
 //! A plain store whose callers may ask anything: what it can't be asked is refused here.
 
+use crate::shapes::shapes_from;
 use std::alloc::{AllocError, Global};
 use std::marker::Model;
 use tide_layout::{Layout, fits};
 use tide_model::{Op, Reply};
 use tide_plain::PlainStore;
-use tide_shape::{Paths, Shapes};
-
-/// The shapes of one path of 1 to 64 keys, or the empty shape alone where it isn't that.
-fn shapes(alloc: Global, path: &[u32]) -> Result<Shapes, AllocError> {
-    let mut paths = Paths::new(alloc);
-    if 1 <= path.len() && path.len() <= 64 && paths.push(path.to_vec(alloc)?).is_err() {
-        return Err(AllocError);
-    }
-    Shapes::new(alloc, &paths).map_err(|_| AllocError)
-}
 
 /// A plain store.
 #[derive(Drop)]
@@ -35,9 +26,11 @@ impl Model for Caller {
 }
 
 impl Caller {
-    /// The empty store of a layout, whose shapes are those of one path of keys.
-    pub fn new(alloc: Global, layout: Layout, path: &[u32]) -> Result<Self, AllocError> {
-        let shapes = shapes(alloc, path)?;
+    /// The empty store of a layout, whose shapes are those of declared paths.
+    pub fn new(alloc: Global, layout: Layout, declared: &[Vec<u32>]) -> Result<Self, AllocError> {
+        let Ok(shapes) = shapes_from(alloc, declared)? else {
+            return Err(AllocError);
+        };
         match PlainStore::new(alloc, layout, shapes) {
             Ok(store) => Ok(Caller { layout, store }),
             Err(_) => Err(AllocError),

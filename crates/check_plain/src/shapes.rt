@@ -5,6 +5,7 @@
 //! shape's keys one by one, and `place KEY in KEYS` with the place of a key in it, each with `none` where there is none.
 //! `capacity COUNT` is answered with the capacity of the array that so many properties take.
 ghost use Rattle.std.specs.Prelude.{◌≡◌, ◌<◌, length, IfSome};
+ghost use Rattle.tide_shape.specs.Lists.{lists_of};
 
 use check_heap::{
     Answers, System, number, number_between, number_or_none, number_text, numbers, numbers_text,
@@ -22,7 +23,7 @@ pub struct Declared {
 }
 
 /// The shapes of at most 64 paths of 1 to 64 keys, or why there are none.
-fn shapes_from(
+pub fn shapes_from(
     alloc: Global,
     declared: &[Vec<u32>],
 ) -> Result<Result<Shapes, ShapesRefused>, AllocError> {
@@ -38,8 +39,8 @@ fn shapes_from(
 }
 
 /// The shape that has these keys, found from the empty one.
-fn found<S: ShapeTable>(table: &S, keys: &[u32]) -> Option<u32>
-    ensures { IfSome result (λ shape. shape < length (S.lists table.now)) }
+fn found(table: &Shapes, keys: &[u32]) -> Option<u32>
+    ensures { IfSome result (λ shape. shape < length (lists_of table.now)) }
 {
     let mut shape = 0;
     for key in keys {
@@ -49,17 +50,13 @@ fn found<S: ShapeTable>(table: &S, keys: &[u32]) -> Option<u32>
 }
 
 /// The place of a key in the shape that has these keys.
-fn place_in<S: ShapeTable>(table: &S, keys: &[u32], key: u32) -> Option<u32> {
+fn place_in(table: &Shapes, keys: &[u32], key: u32) -> Option<u32> {
     let shape = found(table, keys)?;
     table.place(shape, key)
 }
 
 /// The keys of the shape that has these keys, one by one.
-fn keys_of<S: ShapeTable>(
-    alloc: Global,
-    table: &S,
-    keys: &[u32],
-) -> Result<Option<Vec<u32>>, AllocError> {
+fn keys_of(alloc: Global, table: &Shapes, keys: &[u32]) -> Result<Option<Vec<u32>>, AllocError> {
     let Some(shape) = found(table, keys) else {
         return Ok(None);
     };

@@ -17,10 +17,10 @@ use std::alloc::{AllocError, Global};
 use std::io;
 use tide_work::Keys;
 
-/// A store, once its layout is given, and the keys that operations name.
+/// A store, once its layout is given, the path that is declared, if one is, and the keys that operations name.
 #[derive(Drop)]
 pub struct Trial {
-    path: Vec<u32>,
+    declared: Vec<Vec<u32>>,
     keys: Keys,
     store: Option<Caller>,
 }
@@ -110,10 +110,13 @@ fn ask(
 impl Trial {
     /// Declares the path, and answers whether it is one.
     fn declare(&mut self, alloc: Global, keys: &[&str]) -> Result<bool, AllocError> {
-        let path = numbers(alloc, keys)?;
-        let is_path = path.is_some();
-        self.path = path.unwrap_or(Vec::new(alloc));
-        Ok(is_path)
+        let Some(path) = numbers(alloc, keys)? else {
+            return Ok(false);
+        };
+        let mut declared = Vec::new(alloc);
+        declared.push(path)?;
+        self.declared = declared;
+        Ok(true)
     }
 
     /// Makes the empty store of a layout, and answers whether it is one.
@@ -121,7 +124,7 @@ impl Trial {
         let Some(layout) = layout_of(words) else {
             return Ok(false);
         };
-        let store = Caller::new(alloc, layout, self.path.as_slice())?;
+        let store = Caller::new(alloc, layout, self.declared.as_slice())?;
         self.store = Some(store);
         Ok(true)
     }
@@ -150,7 +153,7 @@ impl<R: System> Answers<R> for Trial {
     fn begin(rt: &R) -> io::Result<Self> {
         let alloc = rt.alloc();
         Ok(Trial {
-            path: Vec::new(alloc),
+            declared: Vec::new(alloc),
             keys: numbered_keys(alloc)?,
             store: None,
         })

@@ -3,6 +3,7 @@ ghost use Rattle.std.specs.Prelude.{◌≡◌, [], IfOk};
 ghost use Rattle.check_table.specs.Standing.{opened_once, StandsStill};
 ghost use Rattle.tide_report.specs.Ends.{TellsEnds};
 ghost use Rattle.tide_machine.specs.Frozen.{newcomer};
+ghost use Rattle.tide_shape.specs.Lists.{lists_of};
 ghost use Rattle.tide_table.specs.Started.{IsStarted};
 
 use check_callers::{begin_part, open_first, stop_and_freeze};
@@ -11,23 +12,24 @@ use tide_cycle::Report;
 use tide_freeze::{Births, freeze};
 use tide_layout::Layout;
 use tide_model::Memory;
-use tide_table::{Collector, Frozen, Heap, HeapShapes, Pass, PeriodsSpent};
+use tide_shape::Shapes;
+use tide_table::{Collector, Frozen, Heap, Pass, PeriodsSpent};
 use tide_words::{GreyList, MAX_CELLS};
 
 /// Opens the first part, in which the one mutator begins and stops without a call, and freezes.
-pub fn stand_still<'a, S: HeapShapes>(
-    heap: &'a Heap<S>,
+pub fn stand_still<'a>(
+    heap: &'a Heap<Shapes>,
     collector: &'a mut Collector,
     pass: &mut Pass,
-) -> Result<Frozen<'a, S>, PeriodsSpent>
+) -> Result<Frozen<'a, Shapes>, PeriodsSpent>
     requires own { collector.old.seat.table_id ≡ heap.now.table.shared.table_id }
     requires of_heap { pass.old.seat.table_id ≡ heap.now.table.shared.table_id }
-    requires started { IsStarted heap.now.key.layout (S.lists heap.now.key.shapes) collector.old.seat.me.0 }
+    requires started { IsStarted heap.now.key.layout (lists_of heap.now.key.shapes) collector.old.seat.me.0 }
     requires newcomer { pass.old.seat.me.0 ≡ newcomer 0 }
     requires one { (heap.now.key.layout.mutators ≡ 1) × (heap.now.key.layout.visitors ≡ 0) }
     ensures heap { IfOk result (λ f. f.heap.now ≡ heap.now) }
     ensures stands { IfOk result (λ f.
-        StandsStill heap.now.key.layout (S.lists heap.now.key.shapes) 5 f.collector.now.seat.me.0) }
+        StandsStill heap.now.key.layout (lists_of heap.now.key.shapes) 5 f.collector.now.seat.me.0) }
 {
     open_first(heap, collector, 5)?;
     begin_part(heap, collector, pass);
@@ -42,13 +44,13 @@ pub struct Runs {
 }
 
 /// Freezes with nothing due, and then once more as a must. Answers both, and leaves the ends in the report.
-pub fn freeze_twice<S: HeapShapes>(
-    frozen: &mut Frozen<'_, S>,
+pub fn freeze_twice(
+    frozen: &mut Frozen<'_, Shapes>,
     layout: &Layout,
     list: &mut GreyList,
     report: &mut Report,
 ) -> Result<Runs, Memory>
-    requires stands { StandsStill layout.now (S.lists frozen.old.heap.now.key.shapes) 5
+    requires stands { StandsStill layout.now (lists_of frozen.old.heap.now.key.shapes) 5
         frozen.old.collector.now.seat.me.0 }
     requires layout { frozen.old.heap.now.key.layout ≡ layout.now }
     requires empty { list.old.cells ≡ [] }
