@@ -10,8 +10,6 @@ mod doctored;
 mod drawn;
 mod facts;
 mod held;
-mod machine;
 mod runs;
 
-pub use machine::Machine;
 pub use runs::check_facts;

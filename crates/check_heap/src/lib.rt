@@ -1,8 +1,8 @@
-//! What the check programs share: the loop over the lines of their input and over the rows of a file, the text of
-//! layouts, numbers and replies, and heaps in words that are written a fact at a time.
+//! What the libraries of checks share: how the check of a line ended, the rows of a file, the text of layouts, numbers and
+//! replies, and heaps in words that are written a fact at a time.
 //!
 //! A row of a file is a name and lines, each of which is something to do, with the answer that is expected of it. What
-//! does them is an `Answers`; it never sees what is expected. The library knows no check: those are the programs'.
+//! does them is an `Answers`; it never sees what is expected. The library knows no check.
 #![tactic(auto)]
 
 mod draw;
@@ -21,7 +21,7 @@ pub use draw::Draw;
 pub use fact::{pair_text, region_of, value_of, word_of, word_text};
 pub use heap::Heap;
 pub use labelled::label_text;
-pub use lines::{Checks, check_lines, tell_line};
+pub use lines::tell_line;
 pub use places::{place_of_element, place_of_slot, place_of_word};
 pub use reading::{
     behind, large_number, large_numbers, layout_of, number, numbers, pair_of_numbers, small_number,
@@ -29,7 +29,7 @@ pub use reading::{
 };
 pub use reply::{reply_text, value_text};
 pub use rows::{Answers, check_rows, parts_of, tell_answer};
-pub use system::System;
+pub use system::{Machine, System};
 pub use texts::{
     file_text, joined, number_between, number_or_none, number_text, numbers_text, tell, text,
 };

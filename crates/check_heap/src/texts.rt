@@ -1,5 +1,5 @@
-//! Texts that are put together, and the one place where they are printed and where files are read. A check program uses these alone: each kind
-//! of formatting or parsing that a crate uses for the first time is costly to prove there.
+//! Texts that are put together, and the one place where they are printed and where files are read. A library of checks uses
+//! these alone: each kind of formatting or parsing that a crate uses for the first time is costly to prove there.
 
 use crate::System;
 use std::alloc::{AllocError, Global};

@@ -1,8 +1,7 @@
 //! How a run ended, and the texts of it.
 ghost use Rattle.std.specs.Prelude.{◌≡◌, true};
 
-use crate::machine::Machine;
-use check_heap::{joined, number_between, number_text, text};
+use check_heap::{Machine, joined, number_between, number_text, text};
 use std::alloc::{AllocError, Global};
 use tide_io::{MemSink, Source};
 use tide_model::Turnstile;

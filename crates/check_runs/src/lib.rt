@@ -5,13 +5,12 @@
 #![tactic(auto)]
 
 mod ending;
+mod files;
 mod holds;
-mod machine;
 mod outcomes;
 mod runs;
 mod trial;
 mod ways;
 
-pub use machine::Machine;
 pub use runs::check_runs;
 pub use ways::check_ways;

@@ -1,7 +1,6 @@
 //! The outcomes of runs, by `plain`, `words` and `run`.
 
-use crate::machine::Machine;
-use check_heap::{number_between, numbers_text, reply_text};
+use check_heap::{Machine, number_between, numbers_text, reply_text};
 use std::alloc::{AllocError, Global};
 use tide_model::{Memory, Turnstile};
 use tide_run::{Answered, Outcome, Report, plain, run, words};

@@ -2,9 +2,8 @@
 //!
 //! They are done here and not by `check_rows`, since what a run may start threads with isn't handed to a trait's method.
 
-use crate::machine::Machine;
 use crate::trial::Trial;
-use check_heap::{file_text, parts_of, tell_answer, words_of};
+use check_heap::{Machine, file_text, parts_of, tell_answer, words_of};
 use std::io;
 
 /// Does a line, and answers whether it was answered as expected.

@@ -16,10 +16,10 @@
 //!   what lives then.
 
 use crate::ending::Ending;
+use crate::files::bytes_of;
 use crate::holds::Holds;
-use crate::machine::{Machine, bytes_of};
 use crate::outcomes::{in_threads, in_turn, on_words};
-use check_heap::{large_number, large_numbers, number_between, number_text, text};
+use check_heap::{Machine, large_number, large_numbers, number_between, number_text, text};
 use std::alloc::{AllocError, Global};
 use std::io;
 use tide_io::{MemSink, MemSource, read_up_to};

@@ -1,9 +1,9 @@
 //! The workloads of a list, each run each way: on a store of words, on the plain store where no cycle begins by itself,
 //! and on a heap where there is one mutator, so that no order of the threads' steps can change what it comes to.
 
-use crate::machine::{Machine, bytes_of};
+use crate::files::bytes_of;
 use crate::outcomes::{in_threads, in_turn, on_words};
-use check_heap::{file_text, tell};
+use check_heap::{Machine, file_text, tell};
 use std::alloc::{AllocError, Global};
 use std::io;
 use tide_model::FreePass;

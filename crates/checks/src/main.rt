@@ -18,17 +18,17 @@
 #![tactic(auto)]
 
 use check_ends::Ends;
-use check_facts::{Machine as FactMachine, check_facts};
-use check_heap::{check_rows, tell_line, words_of};
+use check_facts::check_facts;
+use check_heap::{Machine, check_rows, tell_line, words_of};
 use check_marking::check_marking;
 use check_plain::check_plain;
-use check_runs::{Machine, check_runs, check_ways};
+use check_runs::{check_runs, check_ways};
 use check_table::check_table;
 use std::io;
 use std::process::ExitCode;
 
 /// Makes the check that words say, and answers whether all was as expected.
-fn check_words<R: Machine + FactMachine>(rt: &R, words: &[&str]) -> io::Result<bool> {
+fn check_words<R: Machine>(rt: &R, words: &[&str]) -> io::Result<bool> {
     match words {
         ["plain", check @ ..] => check_plain(rt, check),
         ["marking", check @ ..] => check_marking(rt, check),
@@ -44,13 +44,13 @@ fn check_words<R: Machine + FactMachine>(rt: &R, words: &[&str]) -> io::Result<b
 }
 
 /// Makes the check of a line, and answers whether all was as expected.
-fn check<R: Machine + FactMachine>(rt: &R, line: &str) -> io::Result<bool> {
+fn check<R: Machine>(rt: &R, line: &str) -> io::Result<bool> {
     let words = words_of(rt.alloc(), line)?;
     check_words(rt, words.as_slice())
 }
 
 /// Makes the check of each line. What a run may start threads with isn't handed to a trait's method.
-fn check_each<R: Machine + FactMachine>(rt: &R) -> io::Result<bool> {
+fn check_each<R: Machine>(rt: &R) -> io::Result<bool> {
     let mut all = true;
     for line in rt.lines(rt.alloc()) {
         let line = line?;
