@@ -25,18 +25,15 @@ pub fn tell_answer<R: System>(
     rt: &R,
     row: &str,
     line: &str,
-    answer: Option<String>,
+    answer: Option<&str>,
 ) -> io::Result<bool> {
     let (said, expected) = parts_of(line);
-    let told = match &answer {
-        Some(answer) if answer.as_str() == expected => return Ok(true),
-        Some(answer) => {
-            let answer = answer.as_str();
-            tell(
-                rt,
-                &[row, ": ", said, " = ", answer, ", and not ", expected],
-            )
-        }
+    let told = match answer {
+        Some(answer) if answer == expected => return Ok(true),
+        Some(answer) => tell(
+            rt,
+            &[row, ": ", said, " = ", answer, ", and not ", expected],
+        ),
         None => tell(rt, &[row, ": ", line, ": nothing that is known"]),
     };
     told?;
@@ -53,7 +50,7 @@ fn is_line_so<R: System, A: Answers<R>>(
     let (said, _) = parts_of(line);
     let words = words_of(rt.alloc(), said)?;
     let answer = answers.answer(rt, words.as_slice())?;
-    tell_answer(rt, row, line, answer)
+    tell_answer(rt, row, line, answer.as_deref())
 }
 
 /// Does lines one after another, up to the first that ends otherwise than expected.
@@ -81,11 +78,10 @@ fn is_row_so<R: System, A: Answers<R>>(rt: &R, first: &str, row: &str) -> io::Re
     are_lines_so(rt, &mut answers, name, lines)
 }
 
-/// Does each row of a file. A row is a line `=== NAME` and the lines below it, to the next; what stands before the first
-/// is done at the beginning of each. A file without rows is none.
-pub fn check_rows<R: System, A: Answers<R>>(rt: &R, file: &str) -> io::Result<bool> {
-    let file = file_text(rt, &[file])?;
-    let Some((first, rows)) = file.as_str().split_once("=== ") else {
+/// Does each row of a text. A row is a line `=== NAME` and the lines below it, to the next; what stands before the first
+/// is done at the beginning of each. A text without rows is none.
+fn are_rows_so<R: System, A: Answers<R>>(rt: &R, text: &str) -> io::Result<bool> {
+    let Some((first, rows)) = text.split_once("=== ") else {
         return Ok(false);
     };
     let mut all = true;
@@ -93,4 +89,10 @@ pub fn check_rows<R: System, A: Answers<R>>(rt: &R, file: &str) -> io::Result<bo
         all = is_row_so::<R, A>(rt, first, row)? && all;
     }
     Ok(all)
+}
+
+/// Does each row of a file.
+pub fn check_rows<R: System, A: Answers<R>>(rt: &R, file: &str) -> io::Result<bool> {
+    let file = file_text(rt, &[file])?;
+    are_rows_so::<R, A>(rt, file.as_str())
 }

@@ -47,15 +47,20 @@ fn is_so<R: Machine>(rt: &R, name: &str) -> io::Result<bool> {
     }
 }
 
-/// Runs each workload of a list each way, and tells those that come to different things.
-pub fn check_ways<R: Machine>(rt: &R, file: &str) -> io::Result<bool> {
-    let list = file_text(rt, &[file])?;
+/// Runs each workload of some names each way, and tells those that come to different things.
+fn are_so<R: Machine>(rt: &R, names: &str) -> io::Result<bool> {
     let mut all = true;
-    for name in list.as_str().lines() {
+    for name in names.lines() {
         if !is_so(rt, name)? {
             tell(rt, &[name, ": not the same each way"])?;
             all = false;
         }
     }
     Ok(all)
+}
+
+/// Runs each workload of a list each way.
+pub fn check_ways<R: Machine>(rt: &R, file: &str) -> io::Result<bool> {
+    let list = file_text(rt, &[file])?;
+    are_so(rt, list.as_str())
 }
