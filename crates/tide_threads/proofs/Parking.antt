@@ -11,10 +11,10 @@ use Rattle.tide_model.specs.Prefix.{IsPrefix}
 use Rattle.tide_model.specs.Refused.{ShapeLists}
 use Rattle.tide_model.specs.Caller.{IsOwn}
 use Rattle.tide_threads.specs.Parked.{HasLeft, HasPlayed, IsParked}
-use Rattle.tide_threads.specs.Taken.{HasTaken, IsNoted}
+use Rattle.tide_threads.specs.Taken.{TookNotes, IsNoted}
 
-pub HasTaken-refl : (v : View) → HasTaken v v
-HasTaken-refl v = record {
+pub TookNotes-refl : (v : View) → TookNotes v v
+TookNotes-refl v = record {
   frozen = refl;
   period = refl;
   start = refl;
@@ -25,8 +25,8 @@ HasTaken-refl v = record {
 }
 
 -- notes that were taken in one after another
-pub HasTaken-trans : (u v w : View) → HasTaken u v → HasTaken v w → HasTaken u w
-HasTaken-trans u v w one other = record {
+pub TookNotes-trans : (u v w : View) → TookNotes u v → TookNotes v w → TookNotes u w
+TookNotes-trans u v w one other = record {
   frozen = other.frozen ∙ one.frozen;
   period = other.period ∙ one.period;
   start = other.start ∙ one.start;
@@ -42,8 +42,8 @@ gone_more true i who gone a = inr a
 gone_more false i who gone a = a
 
 -- one note more
-pub HasTaken-noted : (v w u : View) → HasTaken v w → u.visits ≡ 0 → HasTaken v (noted w u)
-HasTaken-noted v w u taken still = record {
+pub TookNotes-noted : (v w u : View) → TookNotes v w → u.visits ≡ 0 → TookNotes v (noted w u)
+TookNotes-noted v w u taken still = record {
   frozen = taken.frozen;
   period = taken.period;
   start = taken.start;
@@ -58,7 +58,7 @@ HasTaken-noted v w u taken still = record {
     none false = omega arith
 
 -- a note that was in is in still
-pub IsNoted-kept : (v w p : View) (who : ℕ) → HasTaken v w → IsNoted v who p → IsNoted w who p
+pub IsNoted-kept : (v w p : View) (who : ℕ) → TookNotes v w → IsNoted v who p → IsNoted w who p
 IsNoted-kept v w p who taken is = record {
   note = taken.notes who is.note;
   noted = taken.noted (calls_of p) is.noted;

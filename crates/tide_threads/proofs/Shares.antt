@@ -35,7 +35,7 @@ use Rattle.tide_threads.proofs.Turns.{Both-left, Both-right, StandsBy-frozen, To
 use Rattle.tide_threads.specs.OnThreads.{callers_in}
 use Rattle.tide_threads.specs.Playing.{AllServed, AllStandBy, Both, DidPart, GaveNote, MayHear, StandsBy, TookTurn, WasHanded, ended_by, stopped_in}
 use Rattle.tide_threads.specs.Standing.{StandsStill}
-use Rattle.tide_threads.specs.Taken.{HasTaken, IsNoted}
+use Rattle.tide_threads.specs.Taken.{TookNotes, IsNoted}
 use Rattle.tide_threads.specs.declared.participant.Participant.{Participant}
 
 -- two answers that are the same
@@ -93,7 +93,7 @@ callers_many (x ∷ xs) = ap suc (callers_many xs)
 
 -- each party's note is in, or it has left
 pub AllIn-turns : (id : TableId) (layout : Layout) (shapes : ShapeLists) (v0 v1 v2 : View) (run : ℕ) →
-    StandsStill layout shapes v0 → v1 ≡ opened layout run v0 → HasTaken v1 v2 →
+    StandsStill layout shapes v0 → v1 ≡ opened layout run v0 → TookNotes v1 v2 →
     (xs ys : List (CachePadded Participant)) → AllStandBy id layout v0 xs → Both (TookTurn id layout shapes v1) xs ys →
     ((who : ℕ) (y : CachePadded Participant) (note : Note) → slice_get ys who ≡ Some y →
     (padded_value y).note ≡ Some note →
@@ -112,7 +112,7 @@ AllIn-turns id layout shapes v0 v1 v2 run still is_opened taken xs ys by turns n
 ]
 
 module _ (id : TableId) (layout : Layout) (shapes : ShapeLists) (v0 v1 v2 v3 : View) (run : ℕ)
-    (still : StandsStill layout shapes v0) (is_opened : v1 ≡ opened layout run v0) (taken : HasTaken v1 v2)
+    (still : StandsStill layout shapes v0) (is_opened : v1 ≡ opened layout run v0) (taken : TookNotes v1 v2)
     (freezes : Freezes layout shapes v2 v3) (xs ys zs : List (CachePadded Participant)) (by : AllStandBy id layout v0 xs)
     (turns : Both (TookTurn id layout shapes v1) xs ys) (gave : Both GaveNote ys zs)
     (noted : (who : ℕ) (y : CachePadded Participant) (note : Note) → slice_get ys who ≡ Some y →

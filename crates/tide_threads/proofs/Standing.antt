@@ -20,7 +20,7 @@ use Rattle.tide_model.specs.declared.entry.Entry.TheVariants.{Begin, Call, End, 
 use Rattle.tide_model.specs.declared.entry.Event.{Event}
 use Rattle.tide_words.specs.heap.Heap.{SameIn, heap_of}
 use Rattle.tide_threads.specs.Standing.{StandsStill}
-use Rattle.tide_threads.specs.Taken.{HasTaken}
+use Rattle.tide_threads.specs.Taken.{TookNotes}
 
 -- a call ends no cycle and opens no part
 no_end : (entry : Entry) → is_call entry ≡ true → not (is_end entry) ≡ true
@@ -61,7 +61,7 @@ open_count-calls history (event ∷ events) all =
     omega (arith, rest, joined, counted, none)
 
 module _ (layout : Layout) (shapes : ShapeLists) (v0 v1 v2 v3 : View) (run : ℕ) (still : StandsStill layout shapes v0)
-    (is_opened : v1 ≡ opened layout run v0) (taken : HasTaken v1 v2) (freezes : Freezes layout shapes v2 v3) where
+    (is_opened : v1 ≡ opened layout run v0) (taken : TookNotes v1 v2) (freezes : Freezes layout shapes v2 v3) where
   abbrev begun : List Event
   begun = v0.seen ++ open_entry run v0 ∷ []
 

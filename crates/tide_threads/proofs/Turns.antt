@@ -26,9 +26,9 @@ use Rattle.tide_steps.specs.declared.notes.Note.{Note}
 use Rattle.tide_steps.specs.declared.notes.Ticket.{Ticket}
 use Rattle.tide_threads.proofs.Parking.{IsParked-left, IsParked-played}
 use Rattle.tide_threads.specs.Parked.{HasLeft, HasPlayed, IsParked}
-use Rattle.tide_threads.specs.Playing.{Both, DidPart, GaveNote, HasMade, IsReady, IsTicketOf, MayHear, MayPlay, MayTake, StandsBy, TookTurn, WasHanded}
+use Rattle.tide_threads.specs.Playing.{Both, DidPart, GaveNote, HasMadeShare, MayBeginPart, IsTicketOf, MayHear, MayPlay, MayTake, StandsBy, TookTurn, WasHanded}
 use Rattle.tide_threads.specs.Standing.{StandsStill}
-use Rattle.tide_threads.specs.Taken.{HasTaken, IsNoted}
+use Rattle.tide_threads.specs.Taken.{TookNotes, IsNoted}
 use Rattle.tide_threads.specs.declared.participant.Participant.{Participant}
 
 -- the element of the first of two lists beside one of the second
@@ -89,10 +89,10 @@ pub ticket_same : (one other : Ticket) (o : Option Ticket) → o ≡ Some one �
 ticket_same one other o first second = (let e : Some one ≡ Some other = sym first ∙ second in cc)
 
 -- the answer that is kept says nothing of the rest
-pub HasMade-outcome : (id : TableId) (layout : Layout) (shapes : ShapeLists) (t : View) (m : Mutator) (c : Caller)
-    (z : Participant) (outcome : Result Bool Memory) (ended : Bool) → HasMade id layout shapes t m c z ended →
-    HasMade id layout shapes t m c (record z { outcome = outcome }) ended
-HasMade-outcome id layout shapes t m c z outcome ended made = record {
+pub HasMadeShare-outcome : (id : TableId) (layout : Layout) (shapes : ShapeLists) (t : View) (m : Mutator) (c : Caller)
+    (z : Participant) (outcome : Result Bool Memory) (ended : Bool) → HasMadeShare id layout shapes t m c z ended →
+    HasMadeShare id layout shapes t m c (record z { outcome = outcome }) ended
+HasMadeShare-outcome id layout shapes t m c z outcome ended made = record {
   table = made.table;
   note = made.note;
   is_out = made.is_out;
@@ -146,8 +146,8 @@ module _ (id : TableId) (layout : Layout) (shapes : ShapeLists) where
         let given = handed.ticket active in
         let same : ticket ≡ given.0 = (let e : Some ticket ≡ Some given.0 = sym has ∙ given.1 in cc) in
         let ready = may.ready active ticket (subst (IsTicketOf id v1) (sym same) given.2) in
-        subst (λ (m : Mutator). IsReady id layout shapes ticket m y.caller) (sym handed.mutator)
-        (subst (λ (c : Caller). IsReady id layout shapes ticket x.mutator c) (sym handed.caller) ready)
+        subst (λ (m : Mutator). MayBeginPart id layout shapes ticket m y.caller) (sym handed.mutator)
+        (subst (λ (c : Caller). MayBeginPart id layout shapes ticket x.mutator c) (sym handed.caller) ready)
   ]
 
   -- from the tickets handed out to the parts done
@@ -167,15 +167,15 @@ module _ (id : TableId) (layout : Layout) (shapes : ShapeLists) where
         let run : given.0.seat.me.0 ≡ ticket_of v1 = given.2.tells in (
           ended,
           served,
-          subst (λ (m : Mutator). HasMade id layout shapes v1 m x.caller z ended) handed.mutator
-              (subst (λ (c : Caller). HasMade id layout shapes v1 y.mutator c z ended) handed.caller
-              (HasMade-ticket v1 given.0.seat.me.0 y.mutator y.caller z ended run made)),
+          subst (λ (m : Mutator). HasMadeShare id layout shapes v1 m x.caller z ended) handed.mutator
+              (subst (λ (c : Caller). HasMadeShare id layout shapes v1 y.mutator c z ended) handed.caller
+              (HasMadeShare-ticket v1 given.0.seat.me.0 y.mutator y.caller z ended run made)),
         );
   }
     where
-      HasMade-ticket : (v1 t : View) (m : Mutator) (c : Caller) (z : Participant) (ended : Bool) → t ≡ ticket_of v1 →
-          HasMade id layout shapes t m c z ended → HasMade id layout shapes v1 m c z ended
-      HasMade-ticket v1 t m c z ended same made = record {
+      HasMadeShare-ticket : (v1 t : View) (m : Mutator) (c : Caller) (z : Participant) (ended : Bool) → t ≡ ticket_of v1 →
+          HasMadeShare id layout shapes t m c z ended → HasMadeShare id layout shapes v1 m c z ended
+      HasMadeShare-ticket v1 t m c z ended same made = record {
         table = made.table;
         note = made.note;
         is_out = made.is_out;
@@ -213,7 +213,7 @@ module _ (id : TableId) (layout : Layout) (shapes : ShapeLists) where
   ]
 
   module _ (v0 v1 v2 v3 : View) (run : ℕ) (still : StandsStill layout shapes v0) (is_opened : v1 ≡ opened layout run v0)
-      (taken : HasTaken v1 v2) where
+      (taken : TookNotes v1 v2) where
     -- who had left is known so when all notes are in
     left_still : (who : ℕ) (v : View) → v.left ≡ true → HasLeft v0 who v → In who v2.gone × Contains v2.noted_calls (calls_of v)
     left_still who v gone left = (

@@ -51,7 +51,7 @@ pub record WasHanded (id : TableId) (collector : View) (x y : Participant) : Typ
 
 -- A mutator with this caller may begin its part with this ticket: the ticket is of a later part than its last one, and
 -- the caller knows of its mutator what the ticket tells of the history.
-pub record IsReady (id : TableId) (layout : Layout) (shapes : ShapeLists) (ticket : Ticket) (mutator : Mutator)
+pub record MayBeginPart (id : TableId) (layout : Layout) (shapes : ShapeLists) (ticket : Ticket) (mutator : Mutator)
     (caller : Caller) : Type 0 where
   pub table : table_of mutator ≡ id
   pub of_heap : ticket.seat.table_id ≡ id
@@ -68,11 +68,11 @@ pub record IsReady (id : TableId) (layout : Layout) (shapes : ShapeLists) (ticke
 -- where a participant has a ticket, it may begin its part
 abbrev pub MayPlay : TableId → Layout → ShapeLists → Participant → Type 0
 MayPlay id layout shapes x =
-    (ticket : Ticket) → x.ticket ≡ Some ticket → IsReady id layout shapes ticket x.mutator x.caller
+    (ticket : Ticket) → x.ticket ≡ Some ticket → MayBeginPart id layout shapes ticket x.mutator x.caller
 
 -- a mutator made its share of the part of a ticket with this view, and its note is out: from what it and its caller
 -- were to what the participant is, and whether it stopped before its share was over
-pub record HasMade (id : TableId) (layout : Layout) (shapes : ShapeLists) (ticket : View) (mutator : Mutator)
+pub record HasMadeShare (id : TableId) (layout : Layout) (shapes : ShapeLists) (ticket : View) (mutator : Mutator)
     (caller : Caller) (y : Participant) (ended : Bool) : Type 0 where
   pub table : table_of y.mutator ≡ id
   pub note : Note
@@ -95,7 +95,7 @@ pub record DidPart (id : TableId) (layout : Layout) (shapes : ShapeLists) (x y :
   pub no_ticket : y.ticket ≡ None
   pub rested : x.ticket ≡ None → HasRested x y
   pub made : (ticket : Ticket) → x.ticket ≡ Some ticket → (ended : Bool) → y.outcome ≡ Ok ended →
-      HasMade id layout shapes ticket.seat.me.0 x.mutator x.caller y ended
+      HasMadeShare id layout shapes ticket.seat.me.0 x.mutator x.caller y ended
 
 -- the note may be taken in while the part with this number is open: it tells what its participant knows, and no visits
 pub record MayTake (id : TableId) (period : ℕ) (x : Participant) (note : Note) : Type 0 where
@@ -123,7 +123,7 @@ pub record MayHear (id : TableId) (layout : Layout) (shapes : ShapeLists) (colle
     : Type 0 where
   pub no_ticket : x.ticket ≡ None
   pub ready : x.caller.retired ≡ false → (ticket : Ticket) → IsTicketOf id collector ticket →
-      IsReady id layout shapes ticket x.mutator x.caller
+      MayBeginPart id layout shapes ticket x.mutator x.caller
 
 -- a participant took part in the part that this collector's view opened: it did nothing where it had retired, and else
 -- it made its share, and its note is out
@@ -132,7 +132,7 @@ pub record TookTurn (id : TableId) (layout : Layout) (shapes : ShapeLists) (coll
   pub no_ticket : y.ticket ≡ None
   pub rested : x.caller.retired ≡ true → HasRested x y
   pub made : x.caller.retired ≡ false →
-      (ended : Bool) × (y.outcome ≡ Ok ended) × HasMade id layout shapes collector x.mutator x.caller y ended
+      (ended : Bool) × (y.outcome ≡ Ok ended) × HasMadeShare id layout shapes collector x.mutator x.caller y ended
 
 -- whether a participant stopped before its share was over
 abbrev pub ended_by : Result Bool Memory → Bool

@@ -7,7 +7,7 @@ use Rattle.tide_machine.specs.declared.view.View.{View}
 
 -- Notes that tell no visits were taken in, from the first view of the collector to the second. It knows all that it
 -- knew of notes, and who has left.
-pub record HasTaken (v w : View) : Type 0 where
+pub record TookNotes (v w : View) : Type 0 where
   pub frozen : w.frozen ≡ v.frozen
   pub period : w.period ≡ v.period
   pub start : w.start ≡ v.start

@@ -5,7 +5,7 @@ ghost use Rattle.crossbeam_utils.specs.declared.cache_padded.CachePadded.{CacheP
 ghost use Rattle.tide_mutator.specs.Viewed.{view_of};
 ghost use Rattle.tide_steps.specs.declared.notes.Note.{Note};
 ghost use Rattle.tide_threads.specs.Playing.{Both, GaveNote, MayTake, WasHanded};
-ghost use Rattle.tide_threads.specs.Taken.{HasTaken, IsNoted};
+ghost use Rattle.tide_threads.specs.Taken.{TookNotes, IsNoted};
 ghost use Rattle.tide_threads.specs.declared.participant.Participant.{Participant};
 
 use crate::participant::Participant;
@@ -53,7 +53,7 @@ fn take_from(collector: &mut Collector, heap: &Heap<Shapes>, padded: &mut CacheP
     requires may { (note : Note) → (padded_value padded.old).note ≡ Some note →
         MayTake heap.now.table.shared.table_id collector.old.seat.me.0.period (padded_value padded.old) note }
     ensures same { collector.new.seat.table_id ≡ collector.old.seat.table_id }
-    ensures taken { HasTaken collector.old.seat.me.0 collector.new.seat.me.0 }
+    ensures taken { TookNotes collector.old.seat.me.0 collector.new.seat.me.0 }
     ensures noted { (note : Note) → (padded_value padded.old).note ≡ Some note → IsNoted collector.new.seat.me.0
         (view_of (padded_value padded.old).mutator).who (view_of (padded_value padded.old).mutator) }
     ensures gave { GaveNote (padded_value padded.old) (padded_value padded.new) }
@@ -76,7 +76,7 @@ pub(crate) fn take_in(
         slice_get participants.old who ≡ Some padded → (padded_value padded).note ≡ Some note →
         MayTake heap.now.table.shared.table_id collector.old.seat.me.0.period (padded_value padded) note }
     ensures same { collector.new.seat.table_id ≡ collector.old.seat.table_id }
-    ensures taken { HasTaken collector.old.seat.me.0 collector.new.seat.me.0 }
+    ensures taken { TookNotes collector.old.seat.me.0 collector.new.seat.me.0 }
     ensures noted { (who : ℕ) (padded : CachePadded Participant) (note : Note) →
         slice_get participants.old who ≡ Some padded → (padded_value padded).note ≡ Some note →
         IsNoted collector.new.seat.me.0 (view_of (padded_value padded).mutator).who

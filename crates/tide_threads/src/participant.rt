@@ -5,7 +5,7 @@ ghost use Rattle.tide_model.specs.Prefix.{IsPrefix};
 ghost use Rattle.tide_mutator.specs.Viewed.{table_of, view_of};
 ghost use Rattle.tide_shape.specs.Lists.{lists_of};
 ghost use Rattle.tide_threads.specs.Parked.{HasBegun};
-ghost use Rattle.tide_threads.specs.Playing.{DidPart, HasMade, IsReady, MayPlay};
+ghost use Rattle.tide_threads.specs.Playing.{DidPart, HasMadeShare, MayBeginPart, MayPlay};
 
 use tide_model::{Memory, Turnstile};
 use tide_mutator::Mutator;
@@ -80,9 +80,9 @@ impl Participant {
         gate: &T,
         ticket: Ticket,
     ) -> Result<bool, Memory>
-        requires ready { IsReady heap.now.table.shared.table_id heap.now.key.layout (lists_of heap.now.key.shapes)
+        requires ready { MayBeginPart heap.now.table.shared.table_id heap.now.key.layout (lists_of heap.now.key.shapes)
             ticket self.old.mutator self.old.caller }
-        ensures made { IfOk result (HasMade heap.now.table.shared.table_id heap.now.key.layout
+        ensures made { IfOk result (HasMadeShare heap.now.table.shared.table_id heap.now.key.layout
             (lists_of heap.now.key.shapes) ticket.seat.me.0 self.old.mutator self.old.caller self.new) }
         ensures ticket { self.new.ticket ≡ self.old.ticket }
     {

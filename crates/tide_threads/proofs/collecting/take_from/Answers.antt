@@ -3,8 +3,8 @@ use Rattle.std.proofs.Common.{◌≡◌, ◌∙◌, refl, sym, ap, subst, Some}
 use Rattle.crossbeam_utils.specs.Padded.{padded_value}
 use Rattle.tide_machine.specs.declared.view.View.{View}
 use Rattle.tide_mutator.specs.Viewed.{view_of}
-use Rattle.tide_threads.proofs.Parking.{HasTaken-noted, HasTaken-refl, IsNoted-here}
-use Rattle.tide_threads.specs.Taken.{HasTaken, IsNoted}
+use Rattle.tide_threads.proofs.Parking.{TookNotes-noted, TookNotes-refl, IsNoted-here}
+use Rattle.tide_threads.specs.Taken.{TookNotes, IsNoted}
 use Rattle.tide_threads.specs.declared.participant.Participant.{Participant}
 use Rattle.tide_threads.proofs.collecting.take_from.Goals as goal
 
@@ -29,7 +29,7 @@ returns-in-Some c =
     sym (ap (λ (x : Participant). x.note) value) ∙ sym c.take.ensures.value ∙ c.in-Some.is in
     let may = c.requires.may c.in-Some.note out in record {
       same = c.take-in-Some.ensures.same.0;
-      taken = subst (HasTaken v) (sym c.take-in-Some.ensures.noted) (HasTaken-noted v v u (HasTaken-refl v) may.still);
+      taken = subst (TookNotes v) (sym c.take-in-Some.ensures.noted) (TookNotes-noted v v u (TookNotes-refl v) may.still);
       noted = λ note is. subst (λ (w : View). IsNoted w p.who p) (sym c.take-in-Some.ensures.noted) (IsNoted-here v p u p.who refl may.told);
       gave = record {
         mutator = ap (λ (x : Participant). x.mutator) value;
@@ -44,7 +44,7 @@ pub returns-in_default : goal.returns-in_default
 returns-in_default c =
     let value = c.deref_mut-participant.ensures.value in record {
       same = refl;
-      taken = HasTaken-refl c.args.collector.now.seat.me.0;
+      taken = TookNotes-refl c.args.collector.now.seat.me.0;
       noted = λ note is. absurd (c.in_default.not-Some note (c.take.ensures.value ∙ ap (λ (x : Participant). x.note) value ∙ is));
       gave = record {
         mutator = ap (λ (x : Participant). x.mutator) value;

@@ -7,7 +7,7 @@ use Rattle.crossbeam_utils.specs.Padded.{padded_value}
 use Rattle.crossbeam_utils.specs.declared.cache_padded.CachePadded.{CachePadded}
 use Rattle.tide_mutator.specs.Viewed.{view_of}
 use Rattle.tide_threads.proofs.Loops.{both_step, later_step, old_here}
-use Rattle.tide_threads.proofs.Parking.{HasTaken-trans, IsNoted-kept}
+use Rattle.tide_threads.proofs.Parking.{TookNotes-trans, IsNoted-kept}
 use Rattle.tide_threads.specs.Playing.{GaveNote}
 use Rattle.tide_threads.specs.Taken.{IsNoted}
 use Rattle.tide_threads.specs.declared.participant.Participant.{Participant}
@@ -23,7 +23,7 @@ loop-padded-preserved c =
     let took = c.take_from.ensures in
     record {
       table = took.same ∙ so.table;
-      taken = HasTaken-trans c.args.collector.now.seat.me.0 c.loop-padded.collector.seat.me.0 c.take_from.new.collector.seat.me.0
+      taken = TookNotes-trans c.args.collector.now.seat.me.0 c.loop-padded.collector.seat.me.0 c.take_from.new.collector.seat.me.0
           so.taken took.taken;
       noted = λ who x note within found out. elim (cases_eq who at) [
         | inl same ↦

@@ -14,7 +14,7 @@ use Rattle.tide_threads.proofs.Shares.{AllIn-turns, AllStandBy-frozen, RanPartBy
 use Rattle.tide_threads.proofs.Standing.{StandsStill-part, no_ends, seen_part}
 use Rattle.tide_threads.proofs.Turns.{Both-left, MayHear-opened, MayTake-turn}
 use Rattle.tide_threads.specs.Playing.{MayTake, TookTurn}
-use Rattle.tide_threads.specs.Taken.{HasTaken}
+use Rattle.tide_threads.specs.Taken.{TookNotes}
 use Rattle.tide_threads.proofs.part.run_whole_part.Goals as goal
 
 pub play_part-requires-clause-own : goal.play_part-requires-clause-own
@@ -76,7 +76,7 @@ freeze_part-requires g c =
     let w1 = c.play_part.new.collector.seat.me.0 in
     let same : w1 ≡ v1 = c.play_part.ensures.same.1 in
     let v2 = c.take_in.new.collector.seat.me.0 in
-    let taken : HasTaken v1 v2 = subst (λ (v : View). HasTaken v v2) same c.take_in.ensures.taken in
+    let taken : TookNotes v1 v2 = subst (λ (v : View). TookNotes v v2) same c.take_in.ensures.taken in
     let xs = c.args.participants.now in
     let ys = c.play_part.new.participants in
     let turns = c.in_ok-ended.ensures.turns in record {
@@ -98,7 +98,7 @@ returns g c =
     let w1 = c.play_part.new.collector.seat.me.0 in
     let same : w1 ≡ v1 = c.play_part.ensures.same.1 in
     let v2 = c.take_in.new.collector.seat.me.0 in
-    let taken : HasTaken v1 v2 = subst (λ (v : View). HasTaken v v2) same c.take_in.ensures.taken in
+    let taken : TookNotes v1 v2 = subst (λ (v : View). TookNotes v v2) same c.take_in.ensures.taken in
     let xs = c.args.participants.now in
     let ys = c.play_part.new.participants in
     let turns = c.in_ok-ended.ensures.turns in
