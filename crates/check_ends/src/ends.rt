@@ -11,11 +11,8 @@
 //! - what `real.rt` answers.
 
 use crate::real::on_real_end;
-use check_heap::{
-    Answers, System, joined, large_number, large_numbers, number_between, number_text, text,
-};
+use check_heap::{Answers, joined, large_number, large_numbers, number_between, number_text, text};
 use std::alloc::{AllocError, Global};
-use std::io;
 use tide_io::{MemSink, MemSource, ReadError, Sink, Source, read_up_to, write_all};
 
 /// A source and a sink, once they are made.
@@ -175,20 +172,19 @@ impl Ends {
     }
 }
 
-impl<R: System> Answers<R> for Ends {
-    fn begin(_rt: &R) -> io::Result<Self> {
+impl Answers for Ends {
+    fn begin(_alloc: Global) -> Result<Self, AllocError> {
         Ok(Ends {
             source: None,
             sink: None,
         })
     }
 
-    fn answer(&mut self, rt: &R, words: &[&str]) -> io::Result<Option<String>> {
-        let alloc = rt.alloc();
+    fn answer(&mut self, alloc: Global, words: &[&str]) -> Result<Option<String>, AllocError> {
         match words {
             ["source", source @ ..] => self.source = source_of(alloc, source)?,
             ["sink", sink @ ..] => self.sink = sink_of(alloc, sink)?,
-            _ => return Ok(self.told(alloc, words)?),
+            _ => return self.told(alloc, words),
         }
         Ok(Some(text(alloc, "")?))
     }

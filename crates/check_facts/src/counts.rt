@@ -2,9 +2,8 @@
 
 use crate::doctored::Way;
 use crate::facts::Facts;
-use check_heap::{System, number_between, tell};
+use check_heap::{number_between, tell};
 use std::alloc::{AllocError, Global};
-use std::io;
 use tide_model::{Op, Refusal, Reply};
 use tide_run::Answered;
 
@@ -123,9 +122,9 @@ impl Counts {
         Ok(line)
     }
 
-    /// Prints a line of all.
-    pub fn tell<R: System>(&self, rt: &R) -> io::Result<()> {
-        let line = self.text(rt.alloc())?;
-        tell(rt, &[line.as_str()])
+    /// Tells a line of all.
+    pub fn tell(&self, alloc: Global, told: &mut String) -> Result<(), AllocError> {
+        let line = self.text(alloc)?;
+        tell(told, &[line.as_str()])
     }
 }

@@ -4,9 +4,10 @@ use crate::counts::Counts;
 use crate::doctored::{WAYS, Way};
 use crate::drawn::drawn;
 use crate::facts::Facts;
-use check_heap::{Machine, large_number, number_text, tell, text};
+use check_heap::{large_number, number_text, tell};
 use std::alloc::{AllocError, Global};
-use std::{fs, io};
+use std::marker::Sync;
+use std::thread::Threads;
 use tide_model::FreePass;
 use tide_run::{Outcome, run};
 use tide_workload::{Workload, read};
@@ -65,8 +66,12 @@ fn load_of(alloc: Global, files: [&str; 2], seed: u64) -> Result<Option<Workload
 }
 
 /// Runs a workload, and answers whether its text is judged as expected.
-fn is_run_so<R: Machine>(rt: &R, load: &Workload, counts: &mut Counts) -> Result<bool, AllocError> {
-    let alloc = rt.alloc();
+fn is_run_so<R: Threads + Sync>(
+    rt: &R,
+    alloc: Global,
+    load: &Workload,
+    counts: &mut Counts,
+) -> Result<bool, AllocError> {
     match run(rt, alloc, load, 0, &FreePass) {
         Ok(outcome) => is_judged_so(alloc, load, &outcome, counts),
         Err(_) => Err(AllocError),
@@ -74,79 +79,65 @@ fn is_run_so<R: Machine>(rt: &R, load: &Workload, counts: &mut Counts) -> Result
 }
 
 /// Runs the workload of a seed, and answers whether its text is judged as expected.
-fn is_seed_so<R: Machine>(
+fn is_seed_so<R: Threads + Sync>(
     rt: &R,
+    alloc: Global,
     files: [&str; 2],
     seed: u64,
     counts: &mut Counts,
 ) -> Result<bool, AllocError> {
-    match load_of(rt.alloc(), files, seed)? {
-        Some(load) => is_run_so(rt, &load, counts),
+    match load_of(alloc, files, seed)? {
+        Some(load) => is_run_so(rt, alloc, &load, counts),
         None => Ok(false),
     }
 }
 
 /// Tells a seed whose text isn't judged as expected.
-fn tell_seed<R: Machine>(rt: &R, seed: u64) -> io::Result<()> {
-    let seed = number_text(rt.alloc(), seed)?;
-    tell(rt, &["the facts aren't so of seed ", seed.as_str()])
+fn tell_seed(alloc: Global, told: &mut String, seed: u64) -> Result<(), AllocError> {
+    let seed = number_text(alloc, seed)?;
+    tell(told, &["the facts aren't so of seed ", seed.as_str()])
 }
 
 /// Runs the workloads of so many seeds from this one, and tells those whose text isn't judged as expected. Each way to doctor
 /// a text has to be tried.
-fn are_runs_so<R: Machine>(
+fn are_runs_so<R: Threads + Sync>(
     rt: &R,
+    alloc: Global,
+    told: &mut String,
     files: [&str; 2],
     seeds: [u64; 2],
     counts: &mut Counts,
-) -> io::Result<bool> {
+) -> Result<bool, AllocError> {
     let [first, count] = seeds;
     let mut all = true;
     for place in 0..count {
         let seed = first.wrapping_add(place);
-        if !is_seed_so(rt, files, seed, counts)? {
-            tell_seed(rt, seed)?;
+        if !is_seed_so(rt, alloc, files, seed, counts)? {
+            tell_seed(alloc, told, seed)?;
             all = false;
         }
     }
     Ok(all && counts.has_each_way())
 }
 
-/// Judges the texts of the workloads that are drawn from two texts, and tells what they had if it is asked to.
-fn check_runs<R: Machine>(
+/// Judges the texts of the workloads that are drawn from two texts, for so many seeds from this one, and tells what they had if
+/// it is asked to.
+pub fn check_facts<R: Threads + Sync>(
     rt: &R,
-    files: [&str; 2],
-    seeds: [u64; 2],
-    tells: bool,
-) -> io::Result<bool> {
-    let mut counts = Counts::new();
-    let all = are_runs_so(rt, files, seeds, &mut counts)?;
-    if tells {
-        counts.tell(rt)?;
-    }
-    Ok(all)
-}
-
-/// The text of a file.
-fn text_in<R: Machine>(rt: &R, file: &str) -> io::Result<String> {
-    fs::read_to_string(rt, text(rt.alloc(), file)?)
-}
-
-/// Judges the texts of the workloads that are drawn from two files, for so many seeds from this one, and tells what they had
-/// if it is asked to.
-pub fn check_facts<R: Machine>(
-    rt: &R,
+    alloc: Global,
+    told: &mut String,
     files: [&str; 2],
     seeds: [&str; 2],
     tells: bool,
-) -> io::Result<bool> {
+) -> Result<bool, AllocError> {
     let [first, count] = seeds;
     let (Some(first), Some(count)) = (large_number(first), large_number(count)) else {
         return Ok(false);
     };
-    let [settings, meetings] = files;
-    let settings = text_in(rt, settings)?;
-    let meetings = text_in(rt, meetings)?;
-    let files = [settings.as_str(), meetings.as_str()];
-    check_runs(rt, files, [first, count], tells)
+    let mut counts = Counts::new();
+    let all = are_runs_so(rt, alloc, told, files, [first, count], &mut counts)?;
+    if tells {
+        counts.tell(alloc, told)?;
+    }
+    Ok(all)
 }

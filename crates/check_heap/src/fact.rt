@@ -114,7 +114,8 @@ impl Heap {
     }
 
     /// Writes a word, which is named by a slot, an element, a register or its number in a region.
-    fn say_word(&mut self, what: &str, at: &str, word: u64) -> Option<()> {
+    fn say_word(&mut self, what: &str, at: &str, word: &str) -> Option<()> {
+        let word = word_of(word)?;
         let Some((whole, part)) = pair_of_numbers(at) else {
             self.set(region_of(what)?, number(at)?, word);
             return Some(());
@@ -129,12 +130,20 @@ impl Heap {
     }
 
     /// Writes a pair of a table.
-    fn say_pair(&mut self, at: &str, key: u32, value: Val) -> Option<()> {
+    fn say_pair(&mut self, at: &str, key: &str, value: &str) -> Option<()> {
         let (table, place) = pair_of_numbers(at)?;
+        let key = number(key)?;
+        let value = value_of(value)?;
         if key >= MAX_CELLS {
             return None;
         }
         self.set_slot(table, place, pair_word(key, value));
+        Some(())
+    }
+
+    /// Writes the properties of a cell.
+    fn say_properties(&mut self, cell: &str, array: &str, count: &str) -> Option<()> {
+        self.set_properties(number(cell)?, number(array)?, number(count)?);
         Some(())
     }
 
@@ -146,15 +155,12 @@ impl Heap {
     /// - `properties CELL ARRAY COUNT`.
     pub fn say(&mut self, words: &[&str]) -> Option<()> {
         match words {
-            ["pair", at, key, value] => self.say_pair(at, number(key)?, value_of(value)?),
-            ["properties", cell, array, count] => {
-                self.set_properties(number(cell)?, number(array)?, number(count)?);
-                Some(())
-            }
+            ["pair", at, key, value] => self.say_pair(at, key, value),
+            ["properties", cell, array, count] => self.say_properties(cell, array, count),
             [what @ ("live" | "died" | "black" | "grey"), cells @ ..] => self.say_of_cells(
                 what, cells,
             ),
-            [what, at, word] => self.say_word(what, at, word_of(word)?),
+            [what, at, word] => self.say_word(what, at, word),
             _ => None,
         }
     }

@@ -1,27 +1,25 @@
-//! What the libraries of checks share: how the check of a line ended, the rows of a file, the text of layouts, numbers and
-//! replies, and heaps in words that are written a fact at a time.
+//! What the libraries of checks share: the rows of a text, the text of layouts, numbers and replies, and heaps in words that
+//! are written a fact at a time.
 //!
-//! A row of a file is a name and lines, each of which is something to do, with the answer that is expected of it. What
-//! does them is an `Answers`; it never sees what is expected. The library knows no check.
+//! A row is a name and lines, each of which is something to do, with the answer that is expected of it. What does them is an
+//! `Answers`; it never sees what is expected. What a check has to tell it puts at the end of a text, `told`. The library knows
+//! no check, and nothing of the system: the program reads the files and prints.
 #![tactic(auto)]
 
 mod draw;
 mod fact;
 mod heap;
 mod labelled;
-mod lines;
 mod places;
 mod reading;
 mod reply;
 mod rows;
-mod system;
 mod texts;
 
 pub use draw::Draw;
 pub use fact::{pair_text, region_of, value_of, word_of, word_text};
 pub use heap::Heap;
 pub use labelled::label_text;
-pub use lines::tell_line;
 pub use places::{place_of_element, place_of_slot, place_of_word};
 pub use reading::{
     behind, large_number, large_numbers, layout_of, number, numbers, pair_of_numbers, small_number,
@@ -29,7 +27,4 @@ pub use reading::{
 };
 pub use reply::{reply_text, value_text};
 pub use rows::{Answers, check_rows, parts_of, tell_answer};
-pub use system::{Machine, System};
-pub use texts::{
-    file_text, joined, number_between, number_or_none, number_text, numbers_text, tell, text,
-};
+pub use texts::{joined, number_between, number_or_none, number_text, numbers_text, tell, text};

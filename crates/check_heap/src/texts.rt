@@ -1,9 +1,7 @@
-//! Texts that are put together, and the one place where they are printed and where files are read. A library of checks uses
-//! these alone: each kind of formatting or parsing that a crate uses for the first time is costly to prove there.
+//! Texts that are put together. A library of checks uses these alone: each kind of formatting or parsing that a crate uses for
+//! the first time is costly to prove there.
 
-use crate::System;
 use std::alloc::{AllocError, Global};
-use std::{fs, io};
 
 /// A text of its own.
 pub fn text(alloc: Global, text: &str) -> Result<String, AllocError> {
@@ -57,13 +55,10 @@ pub fn number_or_none(alloc: Global, number: Option<u32>) -> Result<String, Allo
     }
 }
 
-/// Prints a line of these texts.
-pub fn tell<R: System>(rt: &R, parts: &[&str]) -> io::Result<()> {
-    let line = joined(rt.alloc(), parts)?;
-    println!(rt; "{line}")
-}
-
-/// The text of the file whose name is these texts, one behind the other.
-pub fn file_text<R: System>(rt: &R, name: &[&str]) -> io::Result<String> {
-    fs::read_to_string(rt, joined(rt.alloc(), name)?)
+/// Puts a line of these texts at the end of what a check tells.
+pub fn tell(told: &mut String, parts: &[&str]) -> Result<(), AllocError> {
+    for part in parts {
+        told.push_str(part)?;
+    }
+    told.push_str("\n")
 }

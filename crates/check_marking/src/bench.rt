@@ -19,11 +19,10 @@ ghost use Rattle.tide_words.specs.heap.Heap.{heap_of, Heap as HeapWords};
 
 use crate::heaps::{answered, answered_numbers, nothing_if, tell};
 use check_heap::{
-    Answers, Heap, System, joined, label_text, number, number_between, number_text, numbers_text,
-    text, word_of,
+    Answers, Heap, joined, label_text, number, number_between, number_text, numbers_text, text,
+    word_of,
 };
 use std::alloc::{AllocError, Global};
-use std::io;
 use tide_ephemeron::{Ephemerons, clear_pairs};
 use tide_greying::{mark, mark_named};
 use tide_groups::Groups;
@@ -244,13 +243,14 @@ impl Bench {
         }
         true
     }
+}
 
-    /// Does or answers what the words say.
-    fn do_or_answer(
-        &mut self,
-        alloc: Global,
-        words: &[&str],
-    ) -> Result<Option<String>, AllocError> {
+impl Answers for Bench {
+    fn begin(_alloc: Global) -> Result<Self, AllocError> {
+        Ok(Bench::default())
+    }
+
+    fn answer(&mut self, alloc: Global, words: &[&str]) -> Result<Option<String>, AllocError> {
         if self.is_set(words) {
             return nothing_if(alloc, true);
         }
@@ -261,15 +261,5 @@ impl Bench {
             Some(heap) => asked(alloc, heap, self.listed, &mut self.room, words),
             None => Ok(None),
         }
-    }
-}
-
-impl<R: System> Answers<R> for Bench {
-    fn begin(_rt: &R) -> io::Result<Self> {
-        Ok(Bench::default())
-    }
-
-    fn answer(&mut self, rt: &R, words: &[&str]) -> io::Result<Option<String>> {
-        Ok(self.do_or_answer(rt.alloc(), words)?)
     }
 }

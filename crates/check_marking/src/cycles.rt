@@ -12,11 +12,8 @@ ghost use Rattle.std.specs.Prelude.{◌+◌, ◌≤◌, length};
 
 use crate::collecting::{Room, begin_in, collect, end_in, pause_in, sweep_all};
 use crate::heaps::{answered, answered_numbers, nothing_if, solved_text, tell};
-use check_heap::{
-    Answers, Heap, System, joined, number, number_between, number_text, numbers_text,
-};
+use check_heap::{Answers, Heap, joined, number, number_between, number_text, numbers_text};
 use std::alloc::{AllocError, Global};
-use std::io;
 use tide_block::{bit_of, block_of_cell, has_bit};
 use tide_cycle::{CycleLine, Report};
 use tide_layout::Region;
@@ -111,13 +108,15 @@ fn answer_step(
     }
 }
 
-impl Cycles {
-    /// Does or answers what the words say.
-    fn do_or_answer(
-        &mut self,
-        alloc: Global,
-        words: &[&str],
-    ) -> Result<Option<String>, AllocError> {
+impl Answers for Cycles {
+    fn begin(alloc: Global) -> Result<Self, AllocError> {
+        Ok(Cycles {
+            heap: None,
+            room: Room::new(alloc, 4_096, 1_310_720)?,
+        })
+    }
+
+    fn answer(&mut self, alloc: Global, words: &[&str]) -> Result<Option<String>, AllocError> {
         if let Some(told) = tell(alloc, &mut self.heap, words)? {
             return Ok(Some(told));
         }
@@ -130,18 +129,5 @@ impl Cycles {
             (Some(heap), [what, at]) => heap.word_text(alloc, what, at),
             _ => Ok(None),
         }
-    }
-}
-
-impl<R: System> Answers<R> for Cycles {
-    fn begin(rt: &R) -> io::Result<Self> {
-        Ok(Cycles {
-            heap: None,
-            room: Room::new(rt.alloc(), 4_096, 1_310_720)?,
-        })
-    }
-
-    fn answer(&mut self, rt: &R, words: &[&str]) -> io::Result<Option<String>> {
-        Ok(self.do_or_answer(rt.alloc(), words)?)
     }
 }

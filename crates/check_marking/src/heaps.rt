@@ -4,9 +4,8 @@
 //! and the number of visits, and `black` and `grey` with the cells of that colour.
 
 use crate::marking::Marking;
-use check_heap::{Answers, Heap, System, layout_of, number, number_between, numbers_text, text};
+use check_heap::{Answers, Heap, layout_of, number, number_between, numbers_text, text};
 use std::alloc::{AllocError, Global};
-use std::io;
 use tide_solver::Solved;
 use tide_words::Colour;
 
@@ -91,23 +90,18 @@ impl Marked {
         self.marking = Some(marking);
         Ok(answer)
     }
+}
 
-    /// Does or answers what the words say: the heap is told a fact, or its marking begins, or tells.
-    fn do_or_answer(&mut self, alloc: Global, words: &[&str]) -> Answer {
+impl Answers for Marked {
+    fn begin(_alloc: Global) -> Result<Self, AllocError> {
+        Ok(Marked::default())
+    }
+
+    fn answer(&mut self, alloc: Global, words: &[&str]) -> Result<Option<String>, AllocError> {
         match (&mut self.marking, words) {
             (Some(marking), _) => told(alloc, marking, words),
             (None, ["solve", budget]) => self.begin_marking(alloc, budget),
             _ => tell(alloc, &mut self.heap, words),
         }
-    }
-}
-
-impl<R: System> Answers<R> for Marked {
-    fn begin(_rt: &R) -> io::Result<Self> {
-        Ok(Marked::default())
-    }
-
-    fn answer(&mut self, rt: &R, words: &[&str]) -> io::Result<Option<String>> {
-        Ok(self.do_or_answer(rt.alloc(), words)?)
     }
 }

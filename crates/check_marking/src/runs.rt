@@ -4,10 +4,11 @@
 ghost use Rattle.std.specs.Prelude.{◌<◌, length};
 
 use crate::bench::{cycle_marks, list_of};
-use check_heap::{Draw, Heap, System, number};
+use check_heap::{Draw, Heap, number};
 use std::alloc::{AllocError, Global};
 use std::io;
-use std::time::{Duration, Instant};
+use std::io::Eprint;
+use std::time::{Clock, Duration, Instant};
 use tide_ephemeron::Ephemerons;
 use tide_groups::Groups;
 use tide_layout::{Layout, Region};
@@ -184,23 +185,25 @@ impl Runs {
 }
 
 /// Runs a constraint once beside a list that holds one cell. Answers how many cells it marked and how long it took.
-fn time_run<R: System, C: Constraint>(
+fn time_run<R: Clock, C: Constraint>(
     rt: &R,
+    alloc: Global,
     heap: &mut Heap,
     constraint: &C,
 ) -> io::Result<Option<(u32, Duration)>> {
     if !cycle_marks(heap) {
         return Ok(None);
     }
-    let mut list = list_of(rt.alloc(), &heap.layout, 0)?;
+    let mut list = list_of(alloc, &heap.layout, 0)?;
     let start = Instant::now(rt)?;
     let count = constraint.run(&mut heap.words, &heap.layout, &mut list);
     Ok(Some((count, start.elapsed(rt)?)))
 }
 
 /// The least time that a constraint took in so many runs, each of which marks so many cells, or `None` where one doesn't.
-fn least_time<R: System, C: Constraint>(
+fn least_time<R: Clock, C: Constraint>(
     rt: &R,
+    alloc: Global,
     runs: &mut Runs,
     times: u32,
     constraint: &C,
@@ -209,7 +212,7 @@ fn least_time<R: System, C: Constraint>(
     let mut least = Duration::MAX;
     for _time in 0..times {
         set_marks(&mut runs.heap, runs.cells.as_slice(), runs.marks);
-        match time_run(rt, &mut runs.heap, constraint)? {
+        match time_run(rt, alloc, &mut runs.heap, constraint)? {
             Some((count, took)) if count as usize == finds => least = least.min(took),
             _ => return Ok(None),
         }
@@ -218,17 +221,18 @@ fn least_time<R: System, C: Constraint>(
 }
 
 /// The least times of so many runs of `Groups` and of `Ephemerons` over the same words, where each marks what it should.
-fn least_times<R: System>(
+fn least_times<R: Clock>(
     rt: &R,
+    alloc: Global,
     grouping: Grouping,
     marks: Marks,
     times: u32,
 ) -> io::Result<Option<(Duration, Duration)>> {
-    let mut runs = Runs::new(rt.alloc(), grouping, marks)?;
+    let mut runs = Runs::new(alloc, grouping, marks)?;
     let count = set_marks(&mut runs.heap, runs.cells.as_slice(), runs.marks);
     let twins = runs.unmarked_twins(count);
-    let groups = least_time(rt, &mut runs, times, &Groups, twins)?;
-    let pairs = least_time(rt, &mut runs, times, &Ephemerons, 0)?;
+    let groups = least_time(rt, alloc, &mut runs, times, &Groups, twins)?;
+    let pairs = least_time(rt, alloc, &mut runs, times, &Ephemerons, 0)?;
     match (groups, pairs) {
         (Some(groups), Some(pairs)) => Ok(Some((groups, pairs))),
         _ => Ok(None),
@@ -236,12 +240,18 @@ fn least_times<R: System>(
 }
 
 /// Tells the least times of so many runs. Answers whether the words say such runs, each of which marked what it should.
-pub fn time_runs<R: System>(rt: &R, kind: &str, marked: &str, times: &str) -> io::Result<bool> {
+pub fn time_runs<R: Clock + Eprint>(
+    rt: &R,
+    alloc: Global,
+    kind: &str,
+    marked: &str,
+    times: &str,
+) -> io::Result<bool> {
     let named = (grouping_of(kind), marks_of(marked), number(times));
     let (Some(grouping), Some(marks), Some(times)) = named else {
         return Ok(false);
     };
-    let Some((groups, pairs)) = least_times(rt, grouping, marks, times)? else {
+    let Some((groups, pairs)) = least_times(rt, alloc, grouping, marks, times)? else {
         return Ok(false);
     };
     let (groups, pairs) = (groups.as_nanos(), pairs.as_nanos());

@@ -1,10 +1,10 @@
 //! Calls on plain stores, collections of them and shapes, whose answers are compared with what is expected.
 //!
-//! It knows no program: `checks` calls it for the lines of its input that begin with `plain`. A FILE lies in the folder that
-//! the program is run in, and its rows are done one by one:
+//! It knows no program: `checks` calls it for the lines of its input that begin with `plain`. Where ROWS
+//! stand in them is the text of a file, whose rows are done one by one:
 //!
-//! - `stores FILE`: plain stores (`trial.rt` tells what a line of a row says).
-//! - `shapes FILE`: the shapes of declared paths (`shapes.rt`).
+//! - `stores ROWS`: plain stores (`trial.rt` tells what a line of a row says).
+//! - `shapes ROWS`: the shapes of declared paths (`shapes.rt`).
 #![tactic(auto)]
 
 mod caller;
@@ -12,16 +12,16 @@ mod op;
 mod shapes;
 mod trial;
 
-use check_heap::{System, check_rows};
+use check_heap::check_rows;
 use shapes::Declared;
-use std::io;
+use std::alloc::{AllocError, Global};
 use trial::Trial;
 
-/// Makes the check that words say, and answers whether all was as expected.
-pub fn check_plain<R: System>(rt: &R, words: &[&str]) -> io::Result<bool> {
+/// Makes the check that words say, tells what was otherwise than expected, and answers whether all was as expected.
+pub fn check_plain(alloc: Global, told: &mut String, words: &[&str]) -> Result<bool, AllocError> {
     match words {
-        ["stores", file] => check_rows::<R, Trial>(rt, file),
-        ["shapes", file] => check_rows::<R, Declared>(rt, file),
+        ["stores", rows] => check_rows::<Trial>(alloc, told, rows),
+        ["shapes", rows] => check_rows::<Declared>(alloc, told, rows),
         _ => Ok(false),
     }
 }

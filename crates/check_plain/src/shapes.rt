@@ -8,11 +8,9 @@ ghost use Rattle.std.specs.Prelude.{◌≡◌, ◌<◌, length, IfSome};
 ghost use Rattle.tide_shape.specs.Lists.{lists_of};
 
 use check_heap::{
-    Answers, System, number, number_between, number_or_none, number_text, numbers, numbers_text,
-    text,
+    Answers, number, number_between, number_or_none, number_text, numbers, numbers_text, text,
 };
 use std::alloc::{AllocError, Global};
-use std::io;
 use tide_shape::{Paths, ShapeTable, Shapes, ShapesRefused, capacity};
 
 /// The declared paths, and their shapes once they are made.
@@ -137,13 +135,17 @@ impl Declared {
             None => Ok(None),
         }
     }
+}
 
-    /// Does or answers what the words say.
-    fn do_or_answer(
-        &mut self,
-        alloc: Global,
-        words: &[&str],
-    ) -> Result<Option<String>, AllocError> {
+impl Answers for Declared {
+    fn begin(alloc: Global) -> Result<Self, AllocError> {
+        Ok(Declared {
+            paths: Vec::new(alloc),
+            shapes: None,
+        })
+    }
+
+    fn answer(&mut self, alloc: Global, words: &[&str]) -> Result<Option<String>, AllocError> {
         match words {
             ["path", keys @ ..] => self.declare(alloc, keys),
             ["shapes"] => Ok(Some(self.make(alloc)?)),
@@ -153,18 +155,5 @@ impl Declared {
                 None => Ok(None),
             },
         }
-    }
-}
-
-impl<R: System> Answers<R> for Declared {
-    fn begin(rt: &R) -> io::Result<Self> {
-        Ok(Declared {
-            paths: Vec::new(rt.alloc()),
-            shapes: None,
-        })
-    }
-
-    fn answer(&mut self, rt: &R, words: &[&str]) -> io::Result<Option<String>> {
-        Ok(self.do_or_answer(rt.alloc(), words)?)
     }
 }

@@ -10,11 +10,10 @@
 use crate::caller::Caller;
 use crate::op::{numbered_keys, op_in};
 use check_heap::{
-    Answers, System, behind, layout_of, number, number_or_none, number_text, numbers, numbers_text,
+    Answers, behind, layout_of, number, number_or_none, number_text, numbers, numbers_text,
     reply_text, small_number, text,
 };
 use std::alloc::{AllocError, Global};
-use std::io;
 use tide_work::Keys;
 
 /// A store, once its layout is given, the path that is declared, if one is, and the keys that operations name.
@@ -128,13 +127,18 @@ impl Trial {
         self.store = Some(store);
         Ok(true)
     }
+}
 
-    /// Does or answers what the words say.
-    fn do_or_answer(
-        &mut self,
-        alloc: Global,
-        words: &[&str],
-    ) -> Result<Option<String>, AllocError> {
+impl Answers for Trial {
+    fn begin(alloc: Global) -> Result<Self, AllocError> {
+        Ok(Trial {
+            declared: Vec::new(alloc),
+            keys: numbered_keys(alloc)?,
+            store: None,
+        })
+    }
+
+    fn answer(&mut self, alloc: Global, words: &[&str]) -> Result<Option<String>, AllocError> {
         let is_done = match words {
             ["path", keys @ ..] => self.declare(alloc, keys)?,
             ["layout", layout @ ..] => self.open(alloc, layout)?,
@@ -146,20 +150,5 @@ impl Trial {
             }
         };
         nothing_if(alloc, is_done)
-    }
-}
-
-impl<R: System> Answers<R> for Trial {
-    fn begin(rt: &R) -> io::Result<Self> {
-        let alloc = rt.alloc();
-        Ok(Trial {
-            declared: Vec::new(alloc),
-            keys: numbered_keys(alloc)?,
-            store: None,
-        })
-    }
-
-    fn answer(&mut self, rt: &R, words: &[&str]) -> io::Result<Option<String>> {
-        Ok(self.do_or_answer(rt.alloc(), words)?)
     }
 }

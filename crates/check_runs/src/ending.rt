@@ -1,8 +1,10 @@
 //! How a run ended, and the texts of it.
 ghost use Rattle.std.specs.Prelude.{◌≡◌, true};
 
-use check_heap::{Machine, joined, number_between, number_text, text};
+use check_heap::{joined, number_between, number_text, text};
 use std::alloc::{AllocError, Global};
+use std::marker::Sync;
+use std::thread::Threads;
 use tide_io::{MemSink, Source};
 use tide_model::Turnstile;
 use tide_run::riptide;
@@ -18,15 +20,16 @@ pub struct Ending {
 
 impl Ending {
     /// Runs the program with these words, on what a source gives and to these sinks, with this turnstile.
-    pub fn over<R: Machine, S: Source, T: Turnstile>(
+    pub fn over<R: Threads + Sync, S: Source, T: Turnstile>(
         rt: &R,
+        alloc: Global,
         words: &[String],
         source: &mut S,
         mut out: MemSink,
         mut err: MemSink,
         gate: &T,
     ) -> Self {
-        let ended = riptide(rt, rt.alloc(), words, source, &mut out, &mut err, gate);
+        let ended = riptide(rt, alloc, words, source, &mut out, &mut err, gate);
         Ending {
             status: ended.status,
             has_outcome: ended.outcome.is_some(),

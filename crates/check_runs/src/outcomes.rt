@@ -1,7 +1,9 @@
 //! The outcomes of runs, by `plain`, `words` and `run`.
 
-use check_heap::{Machine, number_between, numbers_text, reply_text};
+use check_heap::{number_between, numbers_text, reply_text};
 use std::alloc::{AllocError, Global};
+use std::marker::Sync;
+use std::thread::Threads;
 use tide_model::{Memory, Turnstile};
 use tide_run::{Answered, Outcome, Report, plain, run, words};
 use tide_workload::Workload;
@@ -75,10 +77,11 @@ pub fn on_words(alloc: Global, load: &Workload) -> Result<String, AllocError> {
 }
 
 /// The outcome of a workload's run by `run`, with this turnstile.
-pub fn in_threads<R: Machine, T: Turnstile>(
+pub fn in_threads<R: Threads + Sync, T: Turnstile>(
     rt: &R,
+    alloc: Global,
     load: &Workload,
     gate: &T,
 ) -> Result<String, AllocError> {
-    text_of(rt.alloc(), run(rt, rt.alloc(), load, 0, gate))
+    text_of(alloc, run(rt, alloc, load, 0, gate))
 }

@@ -1,7 +1,7 @@
 //! A run whose source and sinks give and take ten bytes a call, and fail where they are told to, and whose mutators are held
 //! where they are told to.
 //!
-//! The lines of a row: `workload NAME` or `document LINE` is what there is to read, `text FILE` what is to be printed where
+//! The lines of a row: `workload NAME` or `document LINE` is what there is to read, `text NAME` what is to be printed where
 //! that isn't the workload's text, `words WORDS` are those of the command line, which is `riptide` alone where none are given
 //! (`''` is the empty word); `reads fail CALLS`, `prints fail CALLS` and `tells fail CALLS` say which calls fail, from 0, and
 //! `room BYTES` how much may be printed. `hold POINT until POINT` holds a mutator at a point until another has come to one; a
@@ -16,12 +16,13 @@
 //!   what lives then.
 
 use crate::ending::Ending;
-use crate::files::bytes_of;
 use crate::holds::Holds;
 use crate::outcomes::{in_threads, in_turn, on_words};
-use check_heap::{Machine, large_number, large_numbers, number_between, number_text, text};
+use crate::shelf::Shelf;
+use check_heap::{large_number, large_numbers, number_between, number_text, text};
 use std::alloc::{AllocError, Global};
-use std::io;
+use std::marker::Sync;
+use std::thread::Threads;
 use tide_io::{MemSink, MemSource, read_up_to};
 use tide_workload::{MAX_BYTES, Workload, read};
 
@@ -38,7 +39,8 @@ struct Faults {
 
 /// What is to be run, and how it ended once it was.
 #[derive(Drop)]
-pub struct Trial {
+pub struct Trial<'a> {
+    shelf: &'a Shelf,
     document: Vec<u8>,
     /// The text that its run prints.
     printed: Vec<u8>,
@@ -104,11 +106,12 @@ impl Faults {
 }
 
 // What is to be run.
-impl Trial {
+impl<'a> Trial<'a> {
     /// Before the first line of a row.
-    pub fn begin(alloc: Global) -> Result<Self, AllocError> {
+    pub fn begin(alloc: Global, shelf: &'a Shelf) -> Result<Self, AllocError> {
         let words = command_line(alloc, &["riptide"])?;
         Ok(Trial {
+            shelf,
             document: Vec::new(alloc),
             printed: Vec::new(alloc),
             words,
@@ -121,30 +124,41 @@ impl Trial {
     }
 
     /// Takes a workload and its text.
-    fn take_workload<R: Machine>(&mut self, rt: &R, name: &str) -> io::Result<()> {
-        self.document = bytes_of(rt, &["workloads/", name, ".toml"])?;
-        self.printed = bytes_of(rt, &["workloads/", name, ".txt"])?;
-        Ok(())
+    fn take_workload(&mut self, alloc: Global, name: &str) -> Result<bool, AllocError> {
+        let Some(stored) = self.shelf.find(name) else {
+            return Ok(false);
+        };
+        self.document = stored.document().to_vec(alloc)?;
+        self.printed = stored.printed().to_vec(alloc)?;
+        Ok(true)
+    }
+
+    /// Takes the text of a workload.
+    fn take_text(&mut self, alloc: Global, name: &str) -> Result<bool, AllocError> {
+        let Some(stored) = self.shelf.find(name) else {
+            return Ok(false);
+        };
+        self.printed = stored.printed().to_vec(alloc)?;
+        Ok(true)
     }
 
     /// Takes a line of a document.
-    fn take_line(&mut self, line: &[&str]) -> Result<(), AllocError> {
+    fn take_line(&mut self, line: &[&str]) -> Result<bool, AllocError> {
         for word in line {
             self.document.extend_from_slice(word.as_bytes())?;
             self.document.push(b' ')?;
         }
-        Ok(())
+        Ok(true)
     }
 
     /// Takes what is to be read.
-    fn take<R: Machine>(&mut self, rt: &R, words: &[&str]) -> io::Result<bool> {
+    fn take(&mut self, alloc: Global, words: &[&str]) -> Result<bool, AllocError> {
         match words {
-            ["workload", name] => self.take_workload(rt, name)?,
-            ["text", file] => self.printed = bytes_of(rt, &[file])?,
-            ["document", line @ ..] => self.take_line(line)?,
-            _ => return Ok(false),
+            ["workload", name] => self.take_workload(alloc, name),
+            ["text", name] => self.take_text(alloc, name),
+            ["document", line @ ..] => self.take_line(line),
+            _ => Ok(false),
         }
-        Ok(true)
     }
 
     /// Takes how much room there is.
@@ -172,7 +186,7 @@ impl Trial {
 }
 
 // Its runs.
-impl Trial {
+impl<'a> Trial<'a> {
     /// A source of what is to be read.
     fn source(&self, alloc: Global) -> Result<MemSource, AllocError> {
         let document = self.document.as_slice().to_vec(alloc)?;
@@ -181,23 +195,23 @@ impl Trial {
     }
 
     /// Runs the program on what a source gives, with so much room to print.
-    fn run<R: Machine>(
+    fn run<R: Threads + Sync>(
         &self,
         rt: &R,
+        alloc: Global,
         source: &mut MemSource,
         room: usize,
     ) -> Result<Ending, AllocError> {
-        let out = sink(rt.alloc(), room, self.faults.prints.as_slice())?;
-        let err = sink(rt.alloc(), TOLD, self.faults.tells.as_slice())?;
+        let out = sink(alloc, room, self.faults.prints.as_slice())?;
+        let err = sink(alloc, TOLD, self.faults.tells.as_slice())?;
         let words = self.words.as_slice();
-        Ok(Ending::over(rt, words, source, out, err, &self.holds))
+        Ok(Ending::over(rt, alloc, words, source, out, err, &self.holds))
     }
 
     /// Runs the program, and answers with its status.
-    fn run_once<R: Machine>(&mut self, rt: &R) -> Result<String, AllocError> {
-        let alloc = rt.alloc();
+    fn run_once<R: Threads + Sync>(&mut self, rt: &R, alloc: Global) -> Result<String, AllocError> {
         let mut source = self.source(alloc)?;
-        let ended = self.run(rt, &mut source, self.room)?;
+        let ended = self.run(rt, alloc, &mut source, self.room)?;
         self.left = left_of(alloc, &mut source);
         let answer = ended.status_text(alloc);
         self.ended = Some(ended);
@@ -205,54 +219,65 @@ impl Trial {
     }
 
     /// Whether the program ends with a write fault where there is just room for this first part of its text.
-    fn falls_short<R: Machine>(&self, rt: &R, first: &[u8]) -> Result<bool, AllocError> {
-        let mut source = self.source(rt.alloc())?;
-        let ended = self.run(rt, &mut source, first.len())?;
+    fn falls_short<R: Threads + Sync>(
+        &self,
+        rt: &R,
+        alloc: Global,
+        first: &[u8],
+    ) -> Result<bool, AllocError> {
+        let mut source = self.source(alloc)?;
+        let ended = self.run(rt, alloc, &mut source, first.len())?;
         Ok(ended.is_write_fault(first))
     }
 
     /// Runs the program with each room that is too small for its text, and answers with the first that doesn't end with the
     /// line of a write fault and as many first bytes of the text, if one doesn't.
-    fn run_short_of_room<R: Machine>(&self, rt: &R) -> Result<String, AllocError> {
+    fn run_short_of_room<R: Threads + Sync>(
+        &self,
+        rt: &R,
+        alloc: Global,
+    ) -> Result<String, AllocError> {
         for room in 0..self.printed.len() {
-            if !self.falls_short(rt, &self.printed[..room])? {
-                return number_between(rt.alloc(), "otherwise at ", room as u64, "");
+            if !self.falls_short(rt, alloc, &self.printed[..room])? {
+                return number_between(alloc, "otherwise at ", room as u64, "");
             }
         }
-        text(rt.alloc(), "write faults")
+        text(alloc, "write faults")
     }
 
     /// Runs a workload by itself, as words say, and answers with its outcome.
-    fn run_alone<R: Machine>(
+    fn run_alone<R: Threads + Sync>(
         &self,
         rt: &R,
+        alloc: Global,
         load: &Workload,
         words: &[&str],
     ) -> Result<Option<String>, AllocError> {
         let answer = match words {
-            ["plain"] => in_turn(rt.alloc(), load)?,
-            ["on", "words"] => on_words(rt.alloc(), load)?,
-            ["in", "threads"] => in_threads(rt, load, &self.holds)?,
+            ["plain"] => in_turn(alloc, load)?,
+            ["on", "words"] => on_words(alloc, load)?,
+            ["in", "threads"] => in_threads(rt, alloc, load, &self.holds)?,
             _ => return Ok(None),
         };
         Ok(Some(answer))
     }
 
     /// Runs what is to be read by itself, if it is a workload.
-    fn read_and_run<R: Machine>(
+    fn read_and_run<R: Threads + Sync>(
         &self,
         rt: &R,
+        alloc: Global,
         words: &[&str],
     ) -> Result<Option<String>, AllocError> {
-        match read(rt.alloc(), self.document.as_slice()) {
-            Ok(load) => self.run_alone(rt, &load, words),
+        match read(alloc, self.document.as_slice()) {
+            Ok(load) => self.run_alone(rt, alloc, &load, words),
             Err(_) => Ok(None),
         }
     }
 }
 
 // What a line says.
-impl Trial {
+impl<'a> Trial<'a> {
     /// How many bytes the run left.
     fn left_text(&self, alloc: Global) -> Result<String, AllocError> {
         if self.left == self.document.len() {
@@ -275,24 +300,33 @@ impl Trial {
     }
 
     /// Does what a line says that takes nothing, and answers it.
-    fn asked<R: Machine>(&mut self, rt: &R, words: &[&str]) -> Result<Option<String>, AllocError> {
+    fn asked<R: Threads + Sync>(
+        &mut self,
+        rt: &R,
+        alloc: Global,
+        words: &[&str],
+    ) -> Result<Option<String>, AllocError> {
         let answer = match words {
-            ["run"] => self.run_once(rt)?,
-            ["run", "short", "of", "room"] => self.run_short_of_room(rt)?,
-            ["held"] => self.holds.kept_text(rt.alloc())?,
-            ["left"] => self.left_text(rt.alloc())?,
-            [what @ ("printed" | "told")] => return self.told(rt.alloc(), what),
-            _ => return self.read_and_run(rt, words),
+            ["run"] => self.run_once(rt, alloc)?,
+            ["run", "short", "of", "room"] => self.run_short_of_room(rt, alloc)?,
+            ["held"] => self.holds.kept_text(alloc)?,
+            ["left"] => self.left_text(alloc)?,
+            [what @ ("printed" | "told")] => return self.told(alloc, what),
+            _ => return self.read_and_run(rt, alloc, words),
         };
         Ok(Some(answer))
     }
 
     /// Does what the words of a line say, and answers it.
-    pub fn answer<R: Machine>(&mut self, rt: &R, words: &[&str]) -> io::Result<Option<String>> {
-        let alloc = rt.alloc();
-        if self.take(rt, words)? || self.set(alloc, words)?.is_some() {
+    pub fn answer<R: Threads + Sync>(
+        &mut self,
+        rt: &R,
+        alloc: Global,
+        words: &[&str],
+    ) -> Result<Option<String>, AllocError> {
+        if self.take(alloc, words)? || self.set(alloc, words)?.is_some() {
             return Ok(Some(text(alloc, "")?));
         }
-        Ok(self.asked(rt, words)?)
+        self.asked(rt, alloc, words)
     }
 }

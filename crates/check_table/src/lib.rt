@@ -1,11 +1,11 @@
-//! Parts, pauses and freezes over the table of words, on one thread, which print what they answer.
+//! Parts, pauses and freezes over the table of words, on one thread, which tell what they answer.
 //!
 //! It knows no program: `checks` calls it for the lines of its input that begin with `table`:
 //!
 //! - `part`: two mutators begin a part, work, retire and stop; it is frozen and closed.
 //! - `parts`: the same after a part in which nobody makes a call, and a whole cycle.
 //! - `calls`: the same, but that the mutators work in the first part, and retire in the second one.
-//! - `chain FILE SMALL LARGE`: the heap that the facts of a file say is stored over a frozen heap, and marked in two
+//! - `chain FACTS SMALL LARGE`: the heap that the text FACTS says is stored over a frozen heap, and marked in two
 //!   pauses within these budgets.
 //! - `freezes`: the freeze code runs twice over a frozen heap, with nothing due and as a must.
 #![tactic(auto)]
@@ -15,34 +15,40 @@ mod freezing;
 mod standing;
 mod telling;
 
-use check_heap::{System, number};
-use std::io;
+use check_heap::number;
+use std::alloc::{AllocError, Global};
 use telling::{tell_calls, tell_chain, tell_freezes, tell_part, tell_parts};
 
 /// Makes the check of one word.
-fn check_alone<R: System>(rt: &R, what: &str) -> io::Result<bool> {
+fn check_alone(alloc: Global, told: &mut String, what: &str) -> Result<bool, AllocError> {
     match what {
-        "part" => tell_part(rt),
-        "parts" => tell_parts(rt),
-        "calls" => tell_calls(rt),
-        "freezes" => tell_freezes(rt),
+        "part" => tell_part(alloc, told),
+        "parts" => tell_parts(alloc, told),
+        "calls" => tell_calls(alloc, told),
+        "freezes" => tell_freezes(alloc, told),
         _ => Ok(false),
     }
 }
 
 /// Makes the check of a chain.
-fn check_chain<R: System>(rt: &R, file: &str, small: &str, large: &str) -> io::Result<bool> {
+fn check_chain(
+    alloc: Global,
+    told: &mut String,
+    facts: &str,
+    budgets: [&str; 2],
+) -> Result<bool, AllocError> {
+    let [small, large] = budgets;
     match (number(small), number(large)) {
-        (Some(small), Some(large)) => tell_chain(rt, file, [small, large]),
+        (Some(small), Some(large)) => tell_chain(alloc, told, facts, [small, large]),
         _ => Ok(false),
     }
 }
 
 /// Makes the check that words say, and answers whether it could be made.
-pub fn check_table<R: System>(rt: &R, words: &[&str]) -> io::Result<bool> {
+pub fn check_table(alloc: Global, told: &mut String, words: &[&str]) -> Result<bool, AllocError> {
     match words {
-        [what] => check_alone(rt, what),
-        ["chain", file, small, large] => check_chain(rt, file, small, large),
+        [what] => check_alone(alloc, told, what),
+        ["chain", facts, small, large] => check_chain(alloc, told, facts, [small, large]),
         _ => Ok(false),
     }
 }

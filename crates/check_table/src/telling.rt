@@ -1,12 +1,11 @@
-//! What the checks print.
+//! What the checks tell.
 
 use crate::chains::Marked;
 use crate::freezing::Runs;
 use crate::standing::{freeze_single, heap_of_facts, mark_chain};
-use check_heap::{System, number_text, tell, text, word_text};
+use check_heap::{number_text, tell, text, word_text};
 use check_parts::{Found, Ran, Told, called_parts, one_part, two_parts};
 use std::alloc::{AllocError, Global};
-use std::{fs, io};
 use tide_cycle::Report;
 use tide_model::Memory;
 use tide_solver::Solved;
@@ -44,10 +43,14 @@ fn line_of(alloc: Global, pieces: &[(&str, Piece)]) -> Result<String, AllocError
     Ok(line)
 }
 
-/// Prints a line of pieces, each behind its text.
-fn tell_pieces<R: System>(rt: &R, pieces: &[(&str, Piece)]) -> io::Result<()> {
-    let line = line_of(rt.alloc(), pieces)?;
-    tell(rt, &[line.as_str()])
+/// Tells a line of pieces, each behind its text.
+fn tell_pieces(
+    alloc: Global,
+    told: &mut String,
+    pieces: &[(&str, Piece)],
+) -> Result<(), AllocError> {
+    let line = line_of(alloc, pieces)?;
+    tell(told, &[line.as_str()])
 }
 
 /// A number of 32 bits.
@@ -83,11 +86,12 @@ fn found_pieces(found: Found) -> [(&'static str, Piece); 5] {
     ]
 }
 
-/// Prints the cycles that ended.
-fn tell_cycles<R: System>(rt: &R, report: &Report) -> io::Result<()> {
+/// Tells the cycles that ended.
+fn tell_cycles(alloc: Global, told: &mut String, report: &Report) -> Result<(), AllocError> {
     for line in report.cycles() {
         tell_pieces(
-            rt,
+            alloc,
+            told,
             &[
                 ("cycle ", Piece::Number(line.number)),
                 (": kept ", number(line.kept)),
@@ -98,46 +102,54 @@ fn tell_cycles<R: System>(rt: &R, report: &Report) -> io::Result<()> {
     Ok(())
 }
 
-/// Prints what both mutators told of a part: their notes, and the words that they found.
-fn tell_both<R: System>(rt: &R, told: &[Told; 2]) -> io::Result<()> {
-    for one in told {
-        tell_pieces(rt, &note_pieces(one.period, one.note, one.found.calls))?;
-        tell_pieces(rt, &found_pieces(one.found))?;
+/// Tells what both mutators told of a part: their notes, and the words that they found.
+fn tell_both(alloc: Global, told: &mut String, both: &[Told; 2]) -> Result<(), AllocError> {
+    for one in both {
+        tell_pieces(
+            alloc,
+            told,
+            &note_pieces(one.period, one.note, one.found.calls),
+        )?;
+        tell_pieces(alloc, told, &found_pieces(one.found))?;
     }
     Ok(())
 }
 
-/// Prints what a row ran: what was told of its parts, and between them the cycles that ended.
-fn tell_parts_of<R: System>(rt: &R, ran: &Ran) -> io::Result<bool> {
+/// Tells what a row ran: what was told of its parts, and between them the cycles that ended.
+fn tell_parts_of(alloc: Global, told: &mut String, ran: &Ran) -> Result<bool, AllocError> {
     if let Some(first) = &ran.first {
-        tell_both(rt, first)?;
+        tell_both(alloc, told, first)?;
     }
-    tell_cycles(rt, &ran.report)?;
-    tell_both(rt, &ran.last)?;
+    tell_cycles(alloc, told, &ran.report)?;
+    tell_both(alloc, told, &ran.last)?;
     Ok(true)
 }
 
-/// Prints what a row ran, if it did.
-fn tell_ran<R: System>(rt: &R, ran: Result<Option<Ran>, Memory>) -> io::Result<bool> {
+/// Tells what a row ran, if it did.
+fn tell_ran(
+    alloc: Global,
+    told: &mut String,
+    ran: Result<Option<Ran>, Memory>,
+) -> Result<bool, AllocError> {
     match &ran {
-        Ok(Some(ran)) => tell_parts_of(rt, ran),
+        Ok(Some(ran)) => tell_parts_of(alloc, told, ran),
         _ => Ok(false),
     }
 }
 
-/// Runs one part of two mutators, and prints what they told.
-pub fn tell_part<R: System>(rt: &R) -> io::Result<bool> {
-    tell_ran(rt, one_part(rt.alloc()))
+/// Runs one part of two mutators, and tells what they told.
+pub fn tell_part(alloc: Global, told: &mut String) -> Result<bool, AllocError> {
+    tell_ran(alloc, told, one_part(alloc))
 }
 
-/// Runs two parts of two mutators with a whole cycle between them, and prints the cycle and what the mutators told.
-pub fn tell_parts<R: System>(rt: &R) -> io::Result<bool> {
-    tell_ran(rt, two_parts(rt.alloc()))
+/// Runs two parts of two mutators with a whole cycle between them, and tells the cycle and what the mutators told.
+pub fn tell_parts(alloc: Global, told: &mut String) -> Result<bool, AllocError> {
+    tell_ran(alloc, told, two_parts(alloc))
 }
 
 /// The same with calls in both parts.
-pub fn tell_calls<R: System>(rt: &R) -> io::Result<bool> {
-    tell_ran(rt, called_parts(rt.alloc()))
+pub fn tell_calls(alloc: Global, told: &mut String) -> Result<bool, AllocError> {
+    tell_ran(alloc, told, called_parts(alloc))
 }
 
 /// How a pause ended.
@@ -158,42 +170,53 @@ fn marked_chain(alloc: Global, facts: &str, budgets: [u32; 2]) -> Result<Option<
     }
 }
 
-/// Prints how the pauses of a chain ended.
-fn tell_marked<R: System>(rt: &R, marked: Marked) -> io::Result<bool> {
+/// Tells how the pauses of a chain ended.
+fn tell_marked(alloc: Global, told: &mut String, marked: Marked) -> Result<bool, AllocError> {
     let begun = ("begun ", Piece::Truth(marked.begun));
     tell_pieces(
-        rt,
+        alloc,
+        told,
         &[begun, pause_piece(marked.first), pause_piece(marked.second)],
     )?;
     Ok(true)
 }
 
-/// Marks the chain of a file over a frozen heap, and prints how its pauses ended.
-pub fn tell_chain<R: System>(rt: &R, file: &str, budgets: [u32; 2]) -> io::Result<bool> {
-    let facts = fs::read_to_string(rt, text(rt.alloc(), file)?)?;
-    match marked_chain(rt.alloc(), facts.as_str(), budgets) {
-        Ok(Some(marked)) => tell_marked(rt, marked),
+/// Marks the chain that facts say over a frozen heap, and tells how its pauses ended.
+pub fn tell_chain(
+    alloc: Global,
+    told: &mut String,
+    facts: &str,
+    budgets: [u32; 2],
+) -> Result<bool, AllocError> {
+    match marked_chain(alloc, facts, budgets) {
+        Ok(Some(marked)) => tell_marked(alloc, told, marked),
         _ => Ok(false),
     }
 }
 
-/// Prints how many calls come next after each of two freezes, and the cycles that ended.
-fn tell_runs<R: System>(rt: &R, runs: Runs, report: &Report) -> io::Result<bool> {
+/// Tells how many calls come next after each of two freezes, and the cycles that ended.
+fn tell_runs(
+    alloc: Global,
+    told: &mut String,
+    runs: Runs,
+    report: &Report,
+) -> Result<bool, AllocError> {
     tell_pieces(
-        rt,
+        alloc,
+        told,
         &[
             ("next runs ", number(runs.nothing_due)),
             (" ", number(runs.must)),
         ],
     )?;
-    tell_cycles(rt, report)?;
+    tell_cycles(alloc, told, report)?;
     Ok(true)
 }
 
-/// Freezes twice, and prints how many calls come next after each, and the cycles that ended.
-pub fn tell_freezes<R: System>(rt: &R) -> io::Result<bool> {
-    match freeze_single(rt.alloc()) {
-        Ok(Some((runs, report))) => tell_runs(rt, runs, &report),
+/// Freezes twice, and tells how many calls come next after each, and the cycles that ended.
+pub fn tell_freezes(alloc: Global, told: &mut String) -> Result<bool, AllocError> {
+    match freeze_single(alloc) {
+        Ok(Some((runs, report))) => tell_runs(alloc, told, runs, &report),
         _ => Ok(false),
     }
 }

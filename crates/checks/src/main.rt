@@ -1,17 +1,18 @@
 //! The program `checks`: makes the checks that the lines of its input say, over the files of the folder that it is run in.
 //!
-//! A line begins with a word that says which library makes its check. What stands behind it says which one, and is told there:
+//! A line begins with a word that says which library makes its check. What stands behind it says which one, and is told there.
+//! A word that ends in `.txt` is the name of a file, and the library is given the text of that in its place:
 //!
 //! - `plain CHECK`: on plain stores and shapes (`check_plain`).
 //! - `marking CHECK`: on heaps of words that are marked and collected (`check_marking`).
 //! - `table CHECK`: on the table of words that threads share (`check_table`).
 //! - `facts SETTINGS MEETINGS SEED COUNT`: the texts of so many workloads, from this seed on, which are drawn from these files,
 //!   and judged (`check_facts`).
-//! - `counts SETTINGS MEETINGS SEED COUNT`: the same, and prints how much the texts had.
-//! - `runs FILE`: rows of runs whose source and sinks fail where they are told to, and whose mutators are held where they are
-//!   told to (`check_runs`).
-//! - `ways FILE`: a list of workloads, each of which comes to the same each way that it is run (`check_runs`).
-//! - `ends FILE`: rows of sources and sinks alone (`check_ends`).
+//! - `counts SETTINGS MEETINGS SEED COUNT`: the same, and tells how much the texts had.
+//! - `runs ROWS WORKLOADS MADE`: rows of runs whose source and sinks fail where they are told to, and whose mutators are held
+//!   where they are told to, of the workloads of a list, and of the generated one whose summary is MADE (`check_runs`).
+//! - `ways WORKLOADS`: a list of workloads, each of which comes to the same each way that it is run (`check_runs`).
+//! - `ends ROWS`: rows of sources and sinks alone (`check_ends`).
 //!
 //! It prints what ended otherwise than expected, and then a line for each check. Where one was not as expected, the
 //! status is 1. The workloads and the refused documents of its folder `data` are run by `.ci/workloads`.
@@ -19,43 +20,139 @@
 
 use check_ends::Ends;
 use check_facts::check_facts;
-use check_heap::{Machine, check_rows, tell_line, words_of};
-use check_marking::check_marking;
+use check_heap::{check_rows, joined, tell, text, words_of};
+use check_marking::{check_marking, time_runs};
 use check_plain::check_plain;
-use check_runs::{check_runs, check_ways};
+use check_runs::{Shelf, check_runs, check_ways};
 use check_table::check_table;
-use std::io;
+use std::alloc::{AllocError, Global};
+use std::marker::Sync;
 use std::process::ExitCode;
+use std::rt::Runtime;
+use std::thread::Threads;
+use std::{fs, io};
 
-/// Makes the check that words say, and answers whether all was as expected.
-fn check_words<R: Machine>(rt: &R, words: &[&str]) -> io::Result<bool> {
+/// The workloads of a list, each with the text that its run prints.
+fn shelf_of<R: Runtime + AllocGlobal>(rt: &R, list: &str) -> io::Result<Shelf> {
+    let alloc = rt.alloc();
+    let mut shelf = Shelf::new(alloc);
+    for name in list.lines() {
+        let document = fs::read_to_string(rt, joined(alloc, &["workloads/", name, ".toml"])?)?;
+        let printed = fs::read_to_string(rt, joined(alloc, &["workloads/", name, ".txt"])?)?;
+        shelf.add(text(alloc, name)?, document, printed)?;
+    }
+    Ok(shelf)
+}
+
+/// Does rows of runs, of the workloads of a list, and of the generated one with this summary.
+fn check_rows_of_runs<R: Runtime + AllocGlobal + Threads + Sync>(
+    rt: &R,
+    told: &mut String,
+    rows: &str,
+    list: &str,
+    made: &str,
+) -> io::Result<bool> {
+    let alloc = rt.alloc();
+    let mut shelf = shelf_of(rt, list)?;
+    shelf.add(
+        text(alloc, "make_7.txt")?,
+        text(alloc, "")?,
+        text(alloc, made)?,
+    )?;
+    Ok(check_runs(rt, alloc, told, &shelf, rows)?)
+}
+
+/// Makes a check that needs no thread, nor anything else of the system.
+fn check_alone(alloc: Global, told: &mut String, words: &[&str]) -> Result<bool, AllocError> {
     match words {
-        ["plain", check @ ..] => check_plain(rt, check),
-        ["marking", check @ ..] => check_marking(rt, check),
-        ["table", check @ ..] => check_table(rt, check),
-        [what @ ("facts" | "counts"), settings, meetings, seed, count] => {
-            check_facts(rt, [settings, meetings], [seed, count], *what == "counts")
-        }
-        ["runs", file] => check_runs(rt, file),
-        ["ways", file] => check_ways(rt, file),
-        ["ends", file] => check_rows::<R, Ends>(rt, file),
+        ["plain", check @ ..] => check_plain(alloc, told, check),
+        ["marking", check @ ..] => check_marking(alloc, told, check),
+        ["table", check @ ..] => check_table(alloc, told, check),
+        ["ends", rows] => check_rows::<Ends>(alloc, told, rows),
         _ => Ok(false),
     }
 }
 
-/// Makes the check of a line, and answers whether all was as expected.
-fn check<R: Machine>(rt: &R, line: &str) -> io::Result<bool> {
-    let words = words_of(rt.alloc(), line)?;
-    check_words(rt, words.as_slice())
+/// Makes the check that words say, in which the text of a file stands in place of its name.
+fn check_words<R: Runtime + AllocGlobal + Threads + Sync>(
+    rt: &R,
+    told: &mut String,
+    words: &[&str],
+) -> io::Result<bool> {
+    let alloc = rt.alloc();
+    match words {
+        ["marking", "runs", kind, marked, times] => time_runs(rt, alloc, kind, marked, times),
+        [what @ ("facts" | "counts"), settings, meetings, seed, count] => {
+            let tells = *what == "counts";
+            let all = check_facts(rt, alloc, told, [settings, meetings], [seed, count], tells)?;
+            Ok(all)
+        }
+        ["runs", rows, list, made] => check_rows_of_runs(rt, told, rows, list, made),
+        ["ways", list] => {
+            let shelf = shelf_of(rt, list)?;
+            Ok(check_ways(rt, alloc, told, &shelf, list)?)
+        }
+        _ => Ok(check_alone(alloc, told, words)?),
+    }
 }
 
-/// Makes the check of each line. What a run may start threads with isn't handed to a trait's method.
-fn check_each<R: Machine>(rt: &R) -> io::Result<bool> {
+/// What a word stands for: the text of a file, where it is the name of one, and else itself.
+fn meant_by<R: Runtime + AllocGlobal>(rt: &R, word: &str) -> io::Result<String> {
+    let name = text(rt.alloc(), word)?;
+    if word.ends_with(".txt") {
+        fs::read_to_string(rt, name)
+    } else {
+        Ok(name)
+    }
+}
+
+/// What words stand for.
+fn all_meant_by<R: Runtime + AllocGlobal>(rt: &R, words: &[&str]) -> io::Result<Vec<String>> {
+    let mut all = Vec::new(rt.alloc());
+    for word in words {
+        all.push(meant_by(rt, word)?)?;
+    }
+    Ok(all)
+}
+
+/// Some texts, borrowed.
+fn borrowed<'a>(alloc: Global, texts: &'a [String]) -> Result<Vec<&'a str>, AllocError> {
+    let mut all = Vec::new(alloc);
+    for text in texts {
+        all.push(text.as_str())?;
+    }
+    Ok(all)
+}
+
+/// Makes the check of a line.
+fn check<R: Runtime + AllocGlobal + Threads + Sync>(
+    rt: &R,
+    told: &mut String,
+    line: &str,
+) -> io::Result<bool> {
+    let alloc = rt.alloc();
+    let meant = all_meant_by(rt, words_of(alloc, line)?.as_slice())?;
+    check_words(rt, told, borrowed(alloc, meant.as_slice())?.as_slice())
+}
+
+/// Makes the check of a line, prints what it told and how it ended, and answers whether that was as expected.
+fn check_line<R: Runtime + AllocGlobal + Threads + Sync>(rt: &R, line: &str) -> io::Result<bool> {
+    let mut told = String::new(rt.alloc());
+    let (is_so, end) = match check(rt, &mut told, line) {
+        Ok(true) => (true, "as expected"),
+        Ok(false) => (false, "not as expected"),
+        Err(_) => (false, "a file or memory is wanting"),
+    };
+    tell(&mut told, &[line, ": ", end])?;
+    print!(rt; "{told}")?;
+    Ok(is_so)
+}
+
+/// Makes the check of each line.
+fn check_each<R: Runtime + AllocGlobal + Threads + Sync>(rt: &R) -> io::Result<bool> {
     let mut all = true;
     for line in rt.lines(rt.alloc()) {
-        let line = line?;
-        let ended = check(rt, line.as_str());
-        all = tell_line(rt, line.as_str(), ended)? && all;
+        all = check_line(rt, line?.as_str())? && all;
     }
     Ok(all)
 }

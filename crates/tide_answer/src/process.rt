@@ -26,6 +26,16 @@ pub fn answer<R: Threads + Sync, S: Source, K: Sink, E: Sink>(
 ) -> u8
     ensures status { IsStatus result }
 
+    // Each status but 6 has its cause, and without words it is 6.
+    ensures usage { result ≡ 2 → IfOk words (λ words. asked_by words.items ≡ None) }
+    ensures bad_input { result ≡ 3 → IfOk words (λ words. AsksToRead (asked_by words.items)) ×
+        ToldFault (S.left source.old) (S.left source.new)
+        (E.held err.old) (E.held err.new) (E.faults err.old) (E.faults err.new) }
+    ensures read_fault { result ≡ 4 → IfOk words (λ words. AsksToRead (asked_by words.items)) ×
+        Rose (S.faults source.old) (S.faults source.new) }
+    ensures write_fault { result ≡ 5 → Rose (K.faults out.old) (K.faults out.new) }
+    ensures no_words { IsErr words → result ≡ 6 }
+
     // At 0 the text of a legal history of the workload is printed whole, or its summary, at 5 a first part of it; else
     // nothing is.
     ensures printed { result ≡ 0 → IfOk words (λ words. HasPrinted (asked_by words.items)
@@ -35,17 +45,9 @@ pub fn answer<R: Threads + Sync, S: Source, K: Sink, E: Sink>(
         (S.left source.old) (S.left source.new) (K.held out.old) (K.held out.new)) }
     ensures nothing_printed { result ≢ 0 → result ≢ 5 → Keeps (K.held out.old) (K.held out.new) }
 
-    // Each status but 6 has its cause.
-    ensures usage { result ≡ 2 → IfOk words (λ words. asked_by words.items ≡ None) }
+    // Words that ask for nothing are refused with nothing read, unless memory ran out.
     ensures refused { IfOk words (λ words. asked_by words.items ≡ None → (result ≡ 2) ⊎ (result ≡ 6)) }
-    ensures no_words { IsErr words → result ≡ 6 }
     ensures unread { result ≡ 2 → Keeps (S.left source.old) (S.left source.new) }
-    ensures bad_input { result ≡ 3 → IfOk words (λ words. AsksToRead (asked_by words.items)) ×
-        ToldFault (S.left source.old) (S.left source.new)
-        (E.held err.old) (E.held err.new) (E.faults err.old) (E.faults err.new) }
-    ensures read_fault { result ≡ 4 → IfOk words (λ words. AsksToRead (asked_by words.items)) ×
-        Rose (S.faults source.old) (S.faults source.new) }
-    ensures write_fault { result ≡ 5 → Rose (K.faults out.old) (K.faults out.new) }
 
     // What is accepted is run, and what is refused is refused, unless something failed or memory ran out.
     ensures accepts { IfOk words (λ words. IfSome (S.left source.old) (λ bytes.
