@@ -1,6 +1,6 @@
 //! Callers of the table of words, each of a call or two: acts of a mutator, its stop, a freeze and an opening.
 //!
-//! They are what `check_parts` and `check_table` put parts together of, and where the gate tries what a caller may not do.
+//! They are what `check_table` puts parts together of, and where the gate tries what a caller may not do.
 //! Whoever calls them knows the layout and what has been called before.
 #![tactic(auto)]
 

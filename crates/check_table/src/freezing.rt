@@ -6,8 +6,8 @@ ghost use Rattle.tide_machine.specs.Frozen.{newcomer};
 ghost use Rattle.tide_shape.specs.Lists.{lists_of};
 ghost use Rattle.tide_table.specs.Started.{IsStarted};
 
+use crate::between::PACING;
 use check_callers::{begin_part, open_first, stop_and_freeze};
-use check_parts::PACING;
 use tide_cycle::Report;
 use tide_freeze::{Births, freeze};
 use tide_layout::Layout;

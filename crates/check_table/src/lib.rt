@@ -1,5 +1,9 @@
 //! Parts, pauses and freezes over the table of words, on one thread, which tell what they answer.
 //!
+//! `Pair` is a small heap of two mutators with its passes and its books. Each of its calls leaves it as the next one wants it;
+//! the rows of `rows.rt` put them together, one part after the other, from the heap's start to its close. Between two parts the
+//! freeze code runs over the words.
+//!
 //! It knows no program: `checks` calls it for the lines of its input that begin with `table`:
 //!
 //! - `part`: two mutators begin a part, work, retire and stop; it is frozen and closed.
@@ -10,10 +14,16 @@
 //! - `freezes`: the freeze code runs twice over a frozen heap, with nothing due and as a must.
 #![tactic(auto)]
 
+mod between;
 mod chains;
 mod freezing;
+mod pair;
+mod pairs;
+mod rows;
 mod standing;
+mod starting;
 mod telling;
+mod working;
 
 use check_heap::number;
 use std::alloc::{AllocError, Global};

@@ -7,8 +7,8 @@ ghost use Rattle.tide_table.specs.Started.{IsStarted};
 
 use crate::chains::{Marked, mark_in_two, store_all};
 use crate::freezing::{Runs, freeze_twice, stand_still};
+use crate::starting::{Single, start_single};
 use check_heap::{Heap, layout_of, words_of};
-use check_parts::{Single, start_single};
 use std::alloc::{AllocError, Global};
 use tide_cycle::Report;
 use tide_layout::Layout;

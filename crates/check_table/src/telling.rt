@@ -2,9 +2,10 @@
 
 use crate::chains::Marked;
 use crate::freezing::Runs;
+use crate::rows::{Ran, Told, called_parts, one_part, two_parts};
 use crate::standing::{freeze_single, heap_of_facts, mark_chain};
+use crate::working::Found;
 use check_heap::{number_text, tell, text, word_text};
-use check_parts::{Found, Ran, Told, called_parts, one_part, two_parts};
 use std::alloc::{AllocError, Global};
 use tide_cycle::Report;
 use tide_model::Memory;

@@ -13,6 +13,7 @@
 //!   where they are told to, of the workloads of a list, and of the generated one whose summary is MADE (`check_runs`).
 //! - `ways WORKLOADS`: a list of workloads, each of which comes to the same each way that it is run (`check_runs`).
 //! - `ends ROWS`: rows of sources and sinks alone (`check_ends`).
+//! - `embed`: two mutators on a heap of their own, each of which finds what it stored (`embed_heap`).
 //!
 //! It prints what ended otherwise than expected, and then a line for each check. Where one was not as expected, the
 //! status is 1. The workloads and the refused documents of its folder `data` are run by `.ci/workloads`.
@@ -25,6 +26,7 @@ use check_marking::{check_marking, time_runs};
 use check_plain::check_plain;
 use check_runs::{Shelf, check_runs, check_ways};
 use check_table::check_table;
+use embed_heap::both_find_seven;
 use std::alloc::{AllocError, Global};
 use std::marker::Sync;
 use std::process::ExitCode;
@@ -92,6 +94,7 @@ fn check_words<R: Runtime + AllocGlobal + Threads + Sync>(
             let shelf = shelf_of(rt, list)?;
             Ok(check_ways(rt, alloc, told, &shelf, list)?)
         }
+        ["embed"] => Ok(both_find_seven(rt, alloc)),
         _ => Ok(check_alone(alloc, told, words)?),
     }
 }

@@ -1,4 +1,0 @@
-pub mod Working
-pub mod Between
-pub mod Resting
-pub mod Pairs

@@ -1,0 +1,123 @@
+//! What both mutators of a `Pair` do, one after the other. Each call leaves them as the next one wants them.
+ghost use Rattle.std.specs.Prelude.{◌≡◌, true, false, OnOk};
+ghost use Rattle.check_callers.specs.Working.{all_calls, put_calls};
+ghost use Rattle.check_table.specs.Pairs.{no_calls, HasOpened, HasStarted, HaveBegun, HaveCalled, HaveStopped};
+ghost use Rattle.check_table.specs.Pairs.{IsClosedOf, SameCalls};
+
+use crate::between::{Stopped, next_part};
+use crate::pair::Pair;
+use crate::working::{Found, look, put};
+use check_callers::{begin_part, leave, open_first, stop_part};
+use tide_cycle::Report;
+use tide_table::{Closed, Numbers, PeriodsSpent};
+
+impl Pair {
+    /// Opens the first part.
+    pub fn open(&mut self, run: u32) -> Result<(), PeriodsSpent>
+        requires started { HasStarted self.old }
+        ensures heap { self.new.heap ≡ self.old.heap }
+        ensures opened { OnOk result (HasOpened self.new) }
+        ensures calls { OnOk result (HaveCalled no_calls false self.new) }
+    {
+        open_first(&self.heap, &mut self.collector, run)?;
+        Ok(())
+    }
+
+    /// Both begin the open part. Answers its number, as each one's ticket tells it.
+    pub fn begin(&mut self) -> [u32; 2]
+        requires opened { HasOpened self.old }
+        ensures heap { self.new.heap ≡ self.old.heap }
+        ensures begun { HaveBegun self.new }
+        ensures calls { SameCalls self.old self.new }
+    {
+        [
+            begin_part(&self.heap, &mut self.collector, &mut self.one),
+            begin_part(&self.heap, &mut self.collector, &mut self.other),
+        ]
+    }
+
+    /// Both set a register, and put it into a strong and a weak handle.
+    pub fn put(&mut self)
+        requires begun { HaveBegun self.old }
+        requires calls { HaveCalled no_calls false self.old }
+        ensures heap { self.new.heap ≡ self.old.heap }
+        ensures begun { HaveBegun self.new }
+        ensures calls { HaveCalled put_calls false self.new }
+    {
+        put(&self.heap, &mut self.one);
+        put(&self.heap, &mut self.other);
+    }
+
+    /// Both look at their own words, at handles, at a slot and at a claim.
+    pub fn look(&mut self) -> [Found; 2]
+        requires begun { HaveBegun self.old }
+        ensures heap { self.new.heap ≡ self.old.heap }
+        ensures begun { HaveBegun self.new }
+        ensures calls { SameCalls self.old self.new }
+    {
+        [
+            look(&self.heap, &mut self.one),
+            look(&self.heap, &mut self.other),
+        ]
+    }
+
+    /// Both retire.
+    pub fn leave(&mut self)
+        requires begun { HaveBegun self.old }
+        requires calls { HaveCalled put_calls false self.old }
+        ensures heap { self.new.heap ≡ self.old.heap }
+        ensures begun { HaveBegun self.new }
+        ensures calls { HaveCalled all_calls true self.new }
+    {
+        leave(&self.heap, &mut self.one);
+        leave(&self.heap, &mut self.other);
+    }
+
+    /// Both stop, and hand their notes in. Answers what these tell.
+    pub fn stop(&mut self) -> [Numbers; 2]
+        requires begun { HaveBegun self.old }
+        ensures heap { self.new.heap ≡ self.old.heap }
+        ensures stopped { HaveStopped self.new }
+        ensures calls { SameCalls self.old self.new }
+    {
+        [
+            stop_part(&self.heap, &mut self.collector, &mut self.one),
+            stop_part(&self.heap, &mut self.collector, &mut self.other),
+        ]
+    }
+
+    /// Freezes the part, runs a whole cycle, and opens the next one.
+    pub fn next(&mut self) -> Result<(), Stopped>
+        requires stopped { HaveStopped self.old }
+        requires stay { self.old.one.seat.me.0.left ≡ false }
+        ensures heap { self.new.heap ≡ self.old.heap }
+        ensures opened { OnOk result (HasOpened self.new) }
+        ensures calls { SameCalls self.old self.new }
+    {
+        next_part(
+            &self.heap,
+            &mut self.collector,
+            true,
+            &mut self.births,
+            &mut self.list,
+            &mut self.report,
+        )?;
+        Ok(())
+    }
+
+    /// Freezes the last part, and closes the heap.
+    pub fn close(self) -> (Closed, Report)
+        requires stopped { HaveStopped self }
+        requires left { self.one.seat.me.0.left ≡ true }
+        ensures closed { IsClosedOf self.heap result.0 }
+    {
+        let Pair {
+            heap,
+            mut collector,
+            report,
+            ..
+        } = self;
+        collector.freeze(&heap);
+        (collector.close(heap), report)
+    }
+}

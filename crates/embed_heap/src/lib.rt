@@ -1,0 +1,27 @@
+//! A caller of one's own of the heap that threads share: two mutators run in two threads, and each reads again what it stored.
+//!
+//! It is a library that a program hands its runtime: `fn main(rt: HostRuntime)` calls `both_find_seven(&rt, rt.alloc())`.
+#![tactic(auto)]
+
+mod pair;
+mod starting;
+mod working;
+
+use starting::run;
+use std::alloc::Global;
+use std::marker::Sync;
+use std::thread::Threads;
+use tide_model::{Reply, Val};
+
+/// A mutator read the number that it had stored.
+fn is_seven(found: Reply) -> bool {
+    matches!(found, Reply::Seen(Val::Int(7)))
+}
+
+/// Runs two mutators on a heap of their own, and answers whether each found the number that it had stored.
+pub fn both_find_seven<R: Threads + Sync>(rt: &R, alloc: Global) -> bool {
+    match run(rt, alloc) {
+        Some((first, second)) => is_seven(first) && is_seven(second),
+        None => false,
+    }
+}
