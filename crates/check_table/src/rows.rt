@@ -12,7 +12,7 @@ use tide_model::Memory;
 use tide_table::{Closed, Numbers};
 
 /// What one mutator told of a part: its number, as its ticket has it, what it found, and its note.
-#[derive(Clone, Copy, Debug, PartialEq, Eq)]
+#[derive(Clone, Copy)]
 pub struct Told {
     pub period: u32,
     pub found: Found,

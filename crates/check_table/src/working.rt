@@ -8,7 +8,7 @@ use check_callers::{put_strong, put_weak, set_register};
 use tide_table::{Heap, HeapShapes, Pass};
 
 /// The words that a mutator found: its register, its call word, two handles, a slot and a claim.
-#[derive(Clone, Copy, Debug, PartialEq, Eq)]
+#[derive(Clone, Copy)]
 pub struct Found {
     pub register: u64,
     pub calls: u64,

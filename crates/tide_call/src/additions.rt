@@ -16,7 +16,7 @@ use tide_model::{Refusal, Val};
 use tide_shape::{ShapeTable, array_class_for, capacity};
 
 /// One more property of a cell.
-#[derive(Clone, Copy, Debug, PartialEq, Eq)]
+#[derive(Clone, Copy)]
 pub struct Addition {
     pub cell: u32,
     pub shape: u32,

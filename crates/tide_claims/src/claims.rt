@@ -7,7 +7,7 @@ use arrayvec::ArrayVec;
 use std::marker::Model;
 
 /// The cells that a mutator claims, the oldest claim first. Contracts see the list of them.
-#[derive(Debug, Drop)]
+#[derive(Drop)]
 pub struct Claims {
     cells: ArrayVec<u32, 8>,
 }

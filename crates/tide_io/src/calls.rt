@@ -4,7 +4,7 @@ ghost use Rattle.std.specs.Prelude.{◌≡◌, ◌≤◌, ◌↔◌, IsTrue};
 use std::marker::Model;
 
 /// The calls of a fake: which of them fail, how many came, and how many of these failed.
-#[derive(Debug, Drop)]
+#[derive(Drop)]
 pub(crate) struct Calls {
     fails: Vec<u64>,
     count: u64,

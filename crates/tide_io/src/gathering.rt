@@ -13,7 +13,7 @@ pub const PIECE: usize = 32_768;
 
 /// A sink that gathers what it takes, and hands it on to another in pieces of `PIECE` bytes. What is left at the end goes
 /// there by `flush`, and is lost without it.
-#[derive(Debug, Drop)]
+#[derive(Drop)]
 pub struct Gathered<K: Sink> {
     out: K,
     bytes: ArrayVec<u8, PIECE>,

@@ -10,7 +10,7 @@ use std::marker::Model;
 use tide_model::Memory;
 
 /// A sink in memory, which takes its bytes in steps, has room for so many, and fails where it is told to.
-#[derive(Debug, Drop)]
+#[derive(Drop)]
 pub struct MemSink {
     held: Vec<u8>,
     cap: usize,

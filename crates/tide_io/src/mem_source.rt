@@ -8,7 +8,7 @@ use crate::{Failed, Source};
 use std::marker::Model;
 
 /// A source in memory, which gives its bytes in steps and fails where it is told to.
-#[derive(Debug, Drop)]
+#[derive(Drop)]
 pub struct MemSource {
     bytes: Vec<u8>,
     at: usize,

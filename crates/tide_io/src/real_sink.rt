@@ -15,7 +15,7 @@ use std::marker::Model;
 ///
 /// A write that takes nothing is a fault. So is a failed flush, and the writer may then have passed on some of
 /// the bytes.
-#[derive(Debug, Drop)]
+#[derive(Drop)]
 pub struct RealSink<W: Write> {
     inner: W,
     faults: u64,

@@ -12,7 +12,7 @@ use std::marker::Model;
 ///
 /// A read that was interrupted is tried again, `MAX_TRIES` times in all. Each failure of the reader is counted, also one
 /// after which it went on.
-#[derive(Debug, Drop)]
+#[derive(Drop)]
 pub struct RealSource<R: Read> {
     inner: R,
     faults: u64,

@@ -5,7 +5,7 @@ use crate::op::{Op, Reply};
 use std::marker::Model;
 
 /// Some ids in order, which contracts see as a list.
-#[derive(Debug, Drop)]
+#[derive(Drop)]
 pub struct Ids {
     ids: Vec<u32>,
 }
@@ -32,7 +32,7 @@ impl Ids {
 }
 
 /// One entry of a history.
-#[derive(Debug, Drop)]
+#[derive(Drop)]
 pub enum Entry {
     /// Mutator `who` asked for `op` and was answered `reply`.
     Call { who: u32, op: Op, reply: Reply },
@@ -51,7 +51,7 @@ pub enum Entry {
 }
 
 /// An entry, with the array that it took where it is an `add` that grew its cell's array.
-#[derive(Debug, Drop)]
+#[derive(Drop)]
 pub struct Event {
     pub entry: Entry,
     pub took: Option<u32>,

@@ -28,7 +28,7 @@ pub trait Turnstile: Sync {
 }
 
 /// The turnstile that holds nobody.
-#[derive(Clone, Copy, Debug)]
+#[derive(Clone, Copy)]
 pub struct FreePass;
 
 impl Turnstile for FreePass {

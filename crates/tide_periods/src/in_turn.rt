@@ -86,7 +86,7 @@ impl<T: Recorder + Drop> Parts for InTurn<T> {
     }
 
     fn are_all_retired(&self) -> bool {
-        self.callers.iter().all(|caller| caller.has_retired())
+        self.callers.iter().all(Caller::has_retired)
     }
 
     fn freeze(&mut self, is_must: bool, pacing: Pacing, alloc: Global) -> Result<u32, Memory> {

@@ -16,7 +16,7 @@ const ENDS: usize = 2;
 const ENTRIES: usize = 6;
 
 /// What a run leaves at most.
-#[derive(Clone, Copy, PartialEq, Eq)]
+#[derive(Clone, Copy)]
 pub struct Room {
     /// The events, but for the sweeps.
     pub events: usize,

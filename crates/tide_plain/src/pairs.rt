@@ -17,7 +17,7 @@ use tide_model::{Refusal, Reply};
 use tide_stored::Contents;
 
 /// A table and a key cell, which two registers hold.
-#[derive(Clone, Copy, Debug)]
+#[derive(Clone, Copy)]
 struct PairCells {
     table: u32,
     key: u32,

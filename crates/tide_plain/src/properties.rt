@@ -18,7 +18,7 @@ use tide_model::{Refusal, Reply};
 use tide_stored::Contents;
 
 /// A property: the cell that has it, and its place among those of the cell.
-#[derive(Clone, Copy, Debug)]
+#[derive(Clone, Copy)]
 struct Property {
     cell: u32,
     place: u32,

@@ -48,7 +48,7 @@ fn text_or_none(value: &Value) -> &str
 fn are_texts(values: &[Value]) -> bool
     ensures { result ≡ list_all (λ value. is_text (view value)) values.now }
 {
-    values.iter().all(|value| value.is_str())
+    values.iter().all(Value::is_str)
 }
 
 /// The values of a mutator's operations, each of which is a text. The texts stay where they are.

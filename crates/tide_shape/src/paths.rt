@@ -6,7 +6,7 @@ use std::marker::Model;
 use tide_model::Memory;
 
 /// Declared paths of property keys, in order: 64 at most. Contracts see the keys of each.
-#[derive(Debug, Drop)]
+#[derive(Drop)]
 pub struct Paths {
     paths: Vec<Vec<u32>>,
 }

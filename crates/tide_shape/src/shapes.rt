@@ -8,7 +8,7 @@ use crate::{Paths, ShapeTable, ShapesRefused};
 use std::alloc::{AllocError, Global};
 
 /// The table of the shapes that declared paths have.
-#[derive(Debug, Drop)]
+#[derive(Drop)]
 pub struct Shapes {
     tree: Tree,
     pub ghost is_table: { IsShapeTable tree },

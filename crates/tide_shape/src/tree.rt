@@ -8,7 +8,7 @@ use std::alloc::{AllocError, Global};
 use std::marker::Model;
 
 /// A shape, and where those with one more key are.
-#[derive(Debug, Drop)]
+#[derive(Drop)]
 struct Shape {
     keys: Vec<u32>,
     /// The last key, and 0 for the empty shape.
@@ -20,7 +20,7 @@ struct Shape {
 }
 
 /// The shapes, which contracts see as the list of keys of each.
-#[derive(Debug, Drop)]
+#[derive(Drop)]
 pub(crate) struct Tree {
     shapes: Vec<Shape>,
 }

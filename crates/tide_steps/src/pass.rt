@@ -8,7 +8,7 @@ use atomic_table::Seat;
 use tide_machine::View;
 
 /// What a participant knows of its part in numbers.
-#[derive(Clone, Copy, Debug, PartialEq, Eq)]
+#[derive(Clone, Copy)]
 pub struct Numbers {
     /// A mutator's number, or 16 plus a visitor's.
     pub who: u32,

@@ -125,7 +125,7 @@ fn have_retired(participants: &[CachePadded<Participant>]) -> bool
     ensures { result ≡ list_all
         (λ (padded : CachePadded Participant). (padded_value padded).caller.retired) participants.now }
 {
-    participants.iter().all(|padded| has_retired(padded))
+    participants.iter().all(has_retired)
 }
 
 impl OnThreads {

@@ -21,7 +21,7 @@ use tide_model::{Refusal, Reply};
 use tide_words::{Layout, Words};
 
 /// What a call comes to: its reply, and the array that it took, if it took one.
-#[derive(Clone, Copy, PartialEq, Eq)]
+#[derive(Clone, Copy)]
 pub struct Called {
     pub reply: Reply,
     pub took: Option<u32>,

@@ -3,7 +3,7 @@ ghost use Rattle.std.specs.Prelude.{◌≡◌, ◌≤◌, IfNone, IfSome};
 ghost use Rattle.tide_words.specs.forms.StructureWord.{structure_word, IsStructureWord};
 
 /// What a cell's structure word says of its properties.
-#[derive(Clone, Copy, Debug, PartialEq, Eq)]
+#[derive(Clone, Copy)]
 pub struct Structure {
     pub shape: u32,
     /// The number of properties, at most 64 in a word.

@@ -8,7 +8,7 @@ use std::marker::Model;
 use tide_model::Memory;
 
 /// The words of a heap in one `Vec`.
-#[derive(Debug, Drop)]
+#[derive(Drop)]
 pub struct VecWords {
     words: Vec<u64>,
 }
