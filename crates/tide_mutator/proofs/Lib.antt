@@ -6,3 +6,5 @@ pub mod Resting
 pub mod Taken
 pub mod Unchanged
 pub mod Unread
+pub mod acting_laws
+pub mod growth_laws

@@ -9,7 +9,7 @@ use Rattle.tide_model.specs.declared.op.Op.{Op}
 use Rattle.tide_model.specs.declared.op.Op.TheVariants.{Alloc, Table, Get, Put, Move, Set, Drop, Claim, Release, Unclaim, Add, GetProp, SetProp, StrongSet, StrongGet, WeakSet, WeakGet, PairSet, PairGet, PairDel, Group, Collect, Retire}
 use Rattle.tide_model.specs.declared.op.Refusal.{Refusal}
 use Rattle.tide_model.specs.declared.val.Val.{Val}
-use Rattle.tide_acting.specs.Plans.{is_plain}
+use Rattle.tide_mutator.specs.Plans.{is_plain}
 use Rattle.tide_words.specs.heap.Heap.{Heap}
 
 -- an operation with a plain plan is told by registers

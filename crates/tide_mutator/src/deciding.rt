@@ -7,7 +7,7 @@ ghost use Rattle.tide_machine.specs.May.{IsBetweenCalls};
 ghost use Rattle.tide_machine.specs.kinds.TakeFree.{TakesCell};
 ghost use Rattle.tide_model.specs.Caller.{IsOwn};
 ghost use Rattle.tide_model.specs.Lawful.{FitsLayout};
-ghost use Rattle.tide_acting.specs.Plans.{is_plain};
+ghost use Rattle.tide_mutator.specs.Plans.{is_plain};
 ghost use Rattle.tide_paying.specs.Standing.{IsPlanned, claims_of};
 ghost use Rattle.tide_mutator.specs.Owning.{unread};
 ghost use Rattle.tide_word_store.specs.Needed.{FitsPlan};

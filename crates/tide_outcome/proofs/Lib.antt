@@ -2,3 +2,4 @@
 pub mod Copies
 pub mod Outsiders
 pub mod RunLaws
+pub mod recording_laws

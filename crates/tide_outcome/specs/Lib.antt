@@ -1,3 +1,4 @@
 -- The definitions of this crate.
+pub mod Kept
 pub mod Outcome
 pub mod Runs

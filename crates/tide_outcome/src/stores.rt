@@ -2,12 +2,12 @@
 ghost use Rattle.std.specs.Prelude.{IfOk};
 ghost use Rattle.tide_outcome.specs.Runs.{IsNew};
 
+use crate::recording::RecordedWords;
 use crate::starting::{layout_of, shapes_from};
 use std::alloc::Global;
 use tide_model::Memory;
 use tide_periods::{Recorder, Recording, Room};
 use tide_plain::PlainStore;
-use tide_recording::RecordedWords;
 use tide_workload::Workload;
 
 /// The plain store, with room for so many events beside it.

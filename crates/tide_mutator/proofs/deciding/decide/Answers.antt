@@ -7,12 +7,12 @@ use Rattle.tide_machine.specs.declared.view.View.{View}
 use Rattle.tide_model.specs.History.{state_after}
 use Rattle.tide_model.specs.Layout.{Layout}
 use Rattle.tide_model.specs.Refused.{ShapeLists}
-use Rattle.tide_acting.proofs.Fitting.{fits_there}
+use Rattle.tide_mutator.proofs.acting_laws.Fitting.{fits_there}
 use Rattle.tide_linking.proofs.BirthSteps.{is_taking}
 use Rattle.tide_mutator.proofs.Planning.{IsCalm, asked, owns_then, planned_by, same_caller, stands_still}
 use Rattle.tide_mutator.proofs.Taken.{told_by_plan}
 use Rattle.tide_mutator.proofs.Unread.{below_unread, calm_unread}
-use Rattle.tide_acting.specs.Plans.{is_plain}
+use Rattle.tide_mutator.specs.Plans.{is_plain}
 use Rattle.tide_paying.specs.Standing.{IsPlanned, caller_of, claims_of}
 use Rattle.tide_mutator.specs.Owning.{OwnsAt, unread}
 use Rattle.tide_words.specs.heap.Heap.{Heap}

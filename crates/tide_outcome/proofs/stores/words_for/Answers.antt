@@ -2,7 +2,7 @@
 use Rattle.std.proofs.Common.{◌∙◌, ap}
 use Rattle.tide_model.specs.Layout.{Layout}
 use Rattle.tide_model.specs.Refused.{ShapeLists}
-use Rattle.tide_recording.specs.Kept.{shapes_in}
+use Rattle.tide_outcome.specs.Kept.{shapes_in}
 use Rattle.tide_shape.specs.Shapes.{shapes_of_paths}
 use Rattle.tide_outcome.specs.Runs.{layout_of_work}
 use Rattle.tide_outcome.proofs.stores.words_for.Goals as goal

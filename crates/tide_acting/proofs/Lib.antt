@@ -1,7 +1,0 @@
-pub mod AppendSteps
-pub mod Asking
-pub mod Filling
-pub mod Fitting
-pub mod GroupSteps
-pub mod PropertySteps
-pub mod Retiring

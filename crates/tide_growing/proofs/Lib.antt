@@ -1,7 +1,0 @@
-pub mod Acted
-pub mod Calls
-pub mod FullClass
-pub mod Grown
-pub mod Plans
-pub mod Reading
-pub mod Taking

@@ -1,0 +1,4 @@
+-- The laws of words that keep a history.
+pub mod Calling
+pub mod FrozenParts
+pub mod Opening
