@@ -1,6 +1,7 @@
 -- A loop that reads each of some values in order.
-use Rattle.std.proofs.Common.{◌≡◌, ℕ, ◌+◌, ◌<◌, ◌≤◌, List, [], ◌∷◌, ◌++◌, length, get_or, map, drop, Result, Ok, Err, refl, ap, sym, ◌∙◌, append_assoc}
-use Rattle.std.proofs.lemmas.List.{drop_more, drop_all, append-nil}
+use Rattle.std.proofs.Common.{◌≡◌, ℕ, ◌+◌, ◌<◌, ◌≤◌, List, [], ◌∷◌, ◌++◌, length, get_or, map, drop, All, Result, Ok, Err, refl, ap, sym, ◌∙◌, arith, append_assoc, length-append}
+use Rattle.std.proofs.lemmas.List.{drop_more, drop_all, append-nil, map-append}
+use Rattle.std.proofs.lemmas.List.Elements.{All-push, All-same}
 use Rattle.tide_work.specs.declared.fault.Fault.{Fault}
 use Rattle.tide_reading.specs.Steps.{◌>>=◌, each, each_from}
 
@@ -81,3 +82,22 @@ module _ {V A B : Type 0} (f : ℕ → A → Result B Fault) (show : V → A) wh
   pub ReadsFrom-all : (done : List B) (all : List V) (i : ℕ) → length all ≤ i → ReadsFrom done i (drop i all) all → each_from f 0 (map show all) ≡ Ok done
   ReadsFrom-all done all i past reads =
       sym reads ∙ ap (λ vs. then_rest done (each_from f i (map show vs))) (drop_all i all past) ∙ ap Ok (append-nil done)
+
+module _ {W : Type 0} (done now : List W) (w : W) (pushed : now ≡ done ++ w ∷ []) where
+  -- what is put behind those so far is one more of them
+  pub pushed_length : (i : ℕ) → length done ≡ i → length now ≡ i + 1
+  pushed_length i so_far = omega (arith, ap length pushed, length-append done (w ∷ []))
+
+  pub pushed_all : (P : W → Type 0) → All P done → P w → All P now
+  pushed_all P so_far here = All-same P now (done ++ w ∷ []) pushed (All-push P done w so_far here)
+
+  pub Reads-push : {V A B : Type 0} (f : A → Result B Fault) (show : V → A) (shown : W → B) (all : List V) (i : ℕ) (v : V) → i < length all
+      → v ≡ get_or all i v → f (show v) ≡ Ok (shown w) → Reads f show (map shown done) (drop i all) all → Reads f show (map shown now) (drop (i + 1) all) all
+  Reads-push f show shown all i v within here gave reads =
+      rw (pushed, map-append) (Reads-more f show (map shown done) all i v (shown w) within here gave reads)
+
+  pub ReadsFrom-push : {V A B : Type 0} (f : ℕ → A → Result B Fault) (show : V → A) (shown : W → B) (all : List V) (i : ℕ) (v : V) → i < length all
+      → v ≡ get_or all i v → f i (show v) ≡ Ok (shown w) → ReadsFrom f show (map shown done) i (drop i all) all
+      → ReadsFrom f show (map shown now) (i + 1) (drop (i + 1) all) all
+  ReadsFrom-push f show shown all i v within here gave reads =
+      rw (pushed, map-append) (ReadsFrom-more f show (map shown done) all i v (shown w) within here gave reads)
