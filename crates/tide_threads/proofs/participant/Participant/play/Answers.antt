@@ -1,14 +1,15 @@
 -- What a participant's part makes.
-use Rattle.std.proofs.Common.{ℕ, ◌<◌, ◌∙◌, refl, sym, ap, subst, arith, List}
+use Rattle.std.proofs.Common.{ℕ, ◌≡◌, ◌<◌, ◌≤◌, ◌∙◌, refl, sym, ap, subst, arith, Bool, false, List}
 use Rattle.std.proofs.lemmas.Result.{err_from_is_err_and}
 use Rattle.tide_machine.specs.declared.view.View.{View}
+use Rattle.tide_model.specs.Prefix.{prefix_trans}
 use Rattle.tide_model.specs.declared.entry.Event.{Event}
 use Rattle.tide_mutator.specs.Viewed.{view_of}
 use Rattle.tide_periods.specs.Own.{RanOwnShare}
 use Rattle.tide_periods.specs.Store.{Setting}
 use Rattle.tide_shape.specs.Lists.{lists_of}
 use Rattle.tide_threads.proofs.Making.{HasPlayed-stopped}
-use Rattle.tide_share.specs.Works.{Same}
+use Rattle.tide_share.specs.Works.{room_by, Same}
 use Rattle.tide_threads.proofs.participant.Participant.play.Goals as goal
 
 pub begin-requires : goal.begin-requires
@@ -73,3 +74,40 @@ returns g c =
       };
       ticket = refl;
     }
+
+-- a mutator without births in a part has room for each number of calls that a part may have
+room : (left : Bool) (born run : ℕ) → left ≡ false → born ≡ 0 → run < 4294967296 → run ≤ room_by left born
+room left born run stays none few =
+    subst (λ (b : Bool). run ≤ room_by b born) (sym stays) (subst (λ (n : ℕ). run ≤ room_by false n) (sym none) (omega arith))
+
+pub make_share-requires : goal.make_share-requires
+make_share-requires g c =
+    let ready = c.requires.ready in
+    let began = c.begin.ensures.begun in
+    let u = view_of c.begin.new.mutator in
+    let knows = ready.knows in (
+      c.type_bounds.sync-T,
+      (
+        c.begin.ensures.own ∙ ready.table,
+        (
+          ready.number ∙ sym began.who,
+          (
+            record {
+              is_mutator = subst (λ (who : ℕ). who < c.args.heap.now.key.layout.mutators) (sym began.who) ready.is_mutator;
+              runs = began.runs;
+              stays = began.left ∙ ready.stays ∙ sym ready.active;
+            },
+            (
+              room u.left u.born c.run-run.result (began.left ∙ ready.stays) began.born c.run-run.type_inv,
+              record {
+                known = knows.known;
+                earlier = prefix_trans knows.known c.args.ticket.seat.me.0.seen u.seen knows.earlier c.begin.ensures.told;
+                lawful = knows.lawful;
+                own = c.begin.ensures.mine ∙ knows.own;
+                at = knows.at;
+              },
+            ),
+          ),
+        ),
+      ),
+    )
