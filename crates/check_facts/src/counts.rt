@@ -123,8 +123,8 @@ impl Counts {
     }
 
     /// Tells a line of all.
-    pub fn tell(&self, alloc: Global, told: &mut String) -> Result<(), AllocError> {
+    pub fn tell(&self, alloc: Global, findings: &mut String) -> Result<(), AllocError> {
         let line = self.text(alloc)?;
-        tell(told, &[line.as_str()])
+        tell(findings, &[line.as_str()])
     }
 }

@@ -93,9 +93,9 @@ fn is_seed_so<R: Threads + Sync>(
 }
 
 /// Tells a seed whose text isn't judged as expected.
-fn tell_seed(alloc: Global, told: &mut String, seed: u64) -> Result<(), AllocError> {
+fn tell_seed(alloc: Global, findings: &mut String, seed: u64) -> Result<(), AllocError> {
     let seed = number_text(alloc, seed)?;
-    tell(told, &["the facts aren't so of seed ", seed.as_str()])
+    tell(findings, &["the facts aren't so of seed ", seed.as_str()])
 }
 
 /// Runs the workloads of so many seeds from this one, and tells those whose text isn't judged as expected. Each way to doctor
@@ -103,7 +103,7 @@ fn tell_seed(alloc: Global, told: &mut String, seed: u64) -> Result<(), AllocErr
 fn are_runs_so<R: Threads + Sync>(
     rt: &R,
     alloc: Global,
-    told: &mut String,
+    findings: &mut String,
     files: [&str; 2],
     seeds: [u64; 2],
     counts: &mut Counts,
@@ -113,7 +113,7 @@ fn are_runs_so<R: Threads + Sync>(
     for place in 0..count {
         let seed = first.wrapping_add(place);
         if !is_seed_so(rt, alloc, files, seed, counts)? {
-            tell_seed(alloc, told, seed)?;
+            tell_seed(alloc, findings, seed)?;
             all = false;
         }
     }
@@ -125,7 +125,7 @@ fn are_runs_so<R: Threads + Sync>(
 pub fn check_facts<R: Threads + Sync>(
     rt: &R,
     alloc: Global,
-    told: &mut String,
+    findings: &mut String,
     files: [&str; 2],
     seeds: [&str; 2],
     tells: bool,
@@ -135,9 +135,9 @@ pub fn check_facts<R: Threads + Sync>(
         return Ok(false);
     };
     let mut counts = Counts::new();
-    let all = are_runs_so(rt, alloc, told, files, [first, count], &mut counts)?;
+    let all = are_runs_so(rt, alloc, findings, files, [first, count], &mut counts)?;
     if tells {
-        counts.tell(alloc, told)?;
+        counts.tell(alloc, findings)?;
     }
     Ok(all)
 }

@@ -21,7 +21,7 @@ pub fn parts_of(line: &str) -> (&str, &str) {
 
 /// Answers whether a line was answered as expected, and tells what it was answered where it wasn't.
 pub fn tell_answer(
-    told: &mut String,
+    findings: &mut String,
     row: &str,
     line: &str,
     answer: Option<&str>,
@@ -30,10 +30,10 @@ pub fn tell_answer(
     match answer {
         Some(answer) if answer == expected => return Ok(true),
         Some(answer) => tell(
-            told,
+            findings,
             &[row, ": ", said, " = ", answer, ", and not ", expected],
         )?,
-        None => tell(told, &[row, ": ", line, ": nothing that is known"])?,
+        None => tell(findings, &[row, ": ", line, ": nothing that is known"])?,
     }
     Ok(false)
 }
@@ -41,7 +41,7 @@ pub fn tell_answer(
 /// Does a line, `DO` or `DO = EXPECTED`, and tells what was answered where it is other than expected.
 fn is_line_so<A: Answers>(
     alloc: Global,
-    told: &mut String,
+    findings: &mut String,
     answers: &mut A,
     row: &str,
     line: &str,
@@ -49,19 +49,19 @@ fn is_line_so<A: Answers>(
     let (said, _) = parts_of(line);
     let words = words_of(alloc, said)?;
     let answer = answers.answer(alloc, words.as_slice())?;
-    tell_answer(told, row, line, answer.as_deref())
+    tell_answer(findings, row, line, answer.as_deref())
 }
 
 /// Does lines one after another, up to the first that ends otherwise than expected.
 fn are_lines_so<A: Answers>(
     alloc: Global,
-    told: &mut String,
+    findings: &mut String,
     answers: &mut A,
     row: &str,
     lines: &str,
 ) -> Result<bool, AllocError> {
     for line in lines.lines() {
-        if !line.is_empty() && !is_line_so(alloc, told, answers, row, line)? {
+        if !line.is_empty() && !is_line_so(alloc, findings, answers, row, line)? {
             return Ok(false);
         }
     }
@@ -71,23 +71,23 @@ fn are_lines_so<A: Answers>(
 /// Does a row, after the lines that each row of its text begins with.
 fn is_row_so<A: Answers>(
     alloc: Global,
-    told: &mut String,
+    findings: &mut String,
     first: &str,
     row: &str,
 ) -> Result<bool, AllocError> {
     let (name, lines) = row.split_once("\n").unwrap_or((row, ""));
     let mut answers = A::begin(alloc)?;
-    if !are_lines_so(alloc, told, &mut answers, name, first)? {
+    if !are_lines_so(alloc, findings, &mut answers, name, first)? {
         return Ok(false);
     }
-    are_lines_so(alloc, told, &mut answers, name, lines)
+    are_lines_so(alloc, findings, &mut answers, name, lines)
 }
 
 /// Does each row of a text, and tells the lines that end otherwise than expected. A row is a line `=== NAME` and the lines
 /// below it, to the next; what stands before the first is done at the beginning of each. A text without rows is none.
 pub fn check_rows<A: Answers>(
     alloc: Global,
-    told: &mut String,
+    findings: &mut String,
     text: &str,
 ) -> Result<bool, AllocError> {
     let Some((first, rows)) = text.split_once("=== ") else {
@@ -95,7 +95,7 @@ pub fn check_rows<A: Answers>(
     };
     let mut all = true;
     for row in rows.split("=== ") {
-        all = is_row_so::<A>(alloc, told, first, row)? && all;
+        all = is_row_so::<A>(alloc, findings, first, row)? && all;
     }
     Ok(all)
 }

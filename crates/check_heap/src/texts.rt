@@ -55,10 +55,10 @@ pub fn number_or_none(alloc: Global, number: Option<u32>) -> Result<String, Allo
     }
 }
 
-/// Puts a line of these texts at the end of what a check tells.
-pub fn tell(told: &mut String, parts: &[&str]) -> Result<(), AllocError> {
+/// Tells a line of these texts: puts it at the end of the findings of a check, which the program prints.
+pub fn tell(findings: &mut String, parts: &[&str]) -> Result<(), AllocError> {
     for part in parts {
-        told.push_str(part)?;
+        findings.push_str(part)?;
     }
-    told.push_str("\n")
+    findings.push_str("\n")
 }

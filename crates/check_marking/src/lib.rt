@@ -1,8 +1,8 @@
 //! Marking of heaps of words by `tide_solver::solve` with the four constraints of a collector, single constraints and whole
 //! cycles, compared with what is expected.
 //!
-//! It knows no program: `checks` calls it for the lines of its input that begin with `marking`. Where
-//! ROWS stand in them is the text of a file, whose rows are done one by one:
+//! It knows no program: `checks` calls it for the lines of its input that begin with `marking`. ROWS
+//! are the text of a file, and are done one by one:
 //!
 //! - `heaps ROWS`: heaps that are marked, wholly or within a budget (`heaps.rt` tells what a line of a row says).
 //! - `constraints ROWS`: one run of a constraint, and what is marked then (`bench.rt`).
@@ -35,11 +35,15 @@ use std::alloc::{AllocError, Global};
 
 /// Makes the check that words say, but for `runs`, which `time_runs` makes, tells what was otherwise than expected, and answers
 /// whether all was as expected.
-pub fn check_marking(alloc: Global, told: &mut String, words: &[&str]) -> Result<bool, AllocError> {
+pub fn check_marking(
+    alloc: Global,
+    findings: &mut String,
+    words: &[&str],
+) -> Result<bool, AllocError> {
     match words {
-        ["heaps", rows] => check_rows::<Marked>(alloc, told, rows),
-        ["constraints", rows] => check_rows::<Bench>(alloc, told, rows),
-        ["cycles", rows] => check_rows::<Cycles>(alloc, told, rows),
+        ["heaps", rows] => check_rows::<Marked>(alloc, findings, rows),
+        ["constraints", rows] => check_rows::<Bench>(alloc, findings, rows),
+        ["cycles", rows] => check_rows::<Cycles>(alloc, findings, rows),
         ["chain", kind, blocks] => check_chain(alloc, kind, blocks),
         _ => Ok(false),
     }

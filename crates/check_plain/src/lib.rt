@@ -1,7 +1,7 @@
 //! Calls on plain stores, collections of them and shapes, whose answers are compared with what is expected.
 //!
-//! It knows no program: `checks` calls it for the lines of its input that begin with `plain`. Where ROWS
-//! stand in them is the text of a file, whose rows are done one by one:
+//! It knows no program: `checks` calls it for the lines of its input that begin with `plain`. ROWS are
+//! the text of a file, and are done one by one:
 //!
 //! - `stores ROWS`: plain stores (`trial.rt` tells what a line of a row says).
 //! - `shapes ROWS`: the shapes of declared paths (`shapes.rt`).
@@ -18,10 +18,14 @@ use std::alloc::{AllocError, Global};
 use trial::Trial;
 
 /// Makes the check that words say, tells what was otherwise than expected, and answers whether all was as expected.
-pub fn check_plain(alloc: Global, told: &mut String, words: &[&str]) -> Result<bool, AllocError> {
+pub fn check_plain(
+    alloc: Global,
+    findings: &mut String,
+    words: &[&str],
+) -> Result<bool, AllocError> {
     match words {
-        ["stores", rows] => check_rows::<Trial>(alloc, told, rows),
-        ["shapes", rows] => check_rows::<Declared>(alloc, told, rows),
+        ["stores", rows] => check_rows::<Trial>(alloc, findings, rows),
+        ["shapes", rows] => check_rows::<Declared>(alloc, findings, rows),
         _ => Ok(false),
     }
 }

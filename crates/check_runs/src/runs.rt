@@ -13,7 +13,7 @@ use std::thread::Threads;
 fn is_line_so<R: Threads + Sync>(
     rt: &R,
     alloc: Global,
-    told: &mut String,
+    findings: &mut String,
     trial: &mut Trial,
     row: &str,
     line: &str,
@@ -21,20 +21,20 @@ fn is_line_so<R: Threads + Sync>(
     let (said, _) = parts_of(line);
     let words = words_of(alloc, said)?;
     let answer = trial.answer(rt, alloc, words.as_slice())?;
-    tell_answer(told, row, line, answer.as_deref())
+    tell_answer(findings, row, line, answer.as_deref())
 }
 
 /// Does the lines of a row, up to the first that is answered otherwise than expected.
 fn are_lines_so<R: Threads + Sync>(
     rt: &R,
     alloc: Global,
-    told: &mut String,
+    findings: &mut String,
     trial: &mut Trial,
     row: &str,
     lines: &str,
 ) -> Result<bool, AllocError> {
     for line in lines.lines() {
-        if !line.is_empty() && !is_line_so(rt, alloc, told, trial, row, line)? {
+        if !line.is_empty() && !is_line_so(rt, alloc, findings, trial, row, line)? {
             return Ok(false);
         }
     }
@@ -45,20 +45,20 @@ fn are_lines_so<R: Threads + Sync>(
 fn is_row_so<R: Threads + Sync>(
     rt: &R,
     alloc: Global,
-    told: &mut String,
+    findings: &mut String,
     shelf: &Shelf,
     row: &str,
 ) -> Result<bool, AllocError> {
     let (name, lines) = row.split_once("\n").unwrap_or((row, ""));
     let mut trial = Trial::begin(alloc, shelf)?;
-    are_lines_so(rt, alloc, told, &mut trial, name, lines)
+    are_lines_so(rt, alloc, findings, &mut trial, name, lines)
 }
 
 /// Does each row of a text over these workloads, as `check_rows` does those of other kinds.
 pub fn check_runs<R: Threads + Sync>(
     rt: &R,
     alloc: Global,
-    told: &mut String,
+    findings: &mut String,
     shelf: &Shelf,
     text: &str,
 ) -> Result<bool, AllocError> {
@@ -67,7 +67,7 @@ pub fn check_runs<R: Threads + Sync>(
     };
     let mut all = true;
     for row in rows.split("=== ") {
-        all = is_row_so(rt, alloc, told, shelf, row)? && all;
+        all = is_row_so(rt, alloc, findings, shelf, row)? && all;
     }
     Ok(all)
 }

@@ -1,4 +1,4 @@
-//! The workloads that are at hand.
+//! The workloads that are at hand, by their names. The summary of a generated workload is one too, without a document.
 
 use std::alloc::{AllocError, Global};
 

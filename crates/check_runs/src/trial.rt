@@ -2,7 +2,7 @@
 //! where they are told to.
 //!
 //! The lines of a row: `workload NAME` or `document LINE` is what there is to read, `text NAME` what is to be printed where
-//! that isn't the workload's text, `words WORDS` are those of the command line, which is `riptide` alone where none are given
+//! that isn't the workload's text (a NAME is one of the shelf, `shelf.rt`), `words WORDS` are those of the command line, which is `riptide` alone where none are given
 //! (`''` is the empty word); `reads fail CALLS`, `prints fail CALLS` and `tells fail CALLS` say which calls fail, from 0, and
 //! `room BYTES` how much may be printed. `hold POINT until POINT` holds a mutator at a point until another has come to one; a
 //! point is the mutator's number, `call` with the number of its call from 0, or `linked` with a cell (`holds.rt`). Then
@@ -133,7 +133,7 @@ impl<'a> Trial<'a> {
         Ok(true)
     }
 
-    /// Takes the text of a workload.
+    /// Takes the text of a workload in place of that of what is read.
     fn take_text(&mut self, alloc: Global, name: &str) -> Result<bool, AllocError> {
         let Some(stored) = self.shelf.find(name) else {
             return Ok(false);

@@ -56,7 +56,7 @@ fn is_so<R: Threads + Sync>(rt: &R, alloc: Global, document: &[u8]) -> Result<bo
 pub fn check_ways<R: Threads + Sync>(
     rt: &R,
     alloc: Global,
-    told: &mut String,
+    findings: &mut String,
     shelf: &Shelf,
     names: &str,
 ) -> Result<bool, AllocError> {
@@ -67,7 +67,7 @@ pub fn check_ways<R: Threads + Sync>(
             None => false,
         };
         if !is_one {
-            tell(told, &[name, ": not the same each way"])?;
+            tell(findings, &[name, ": not the same each way"])?;
             all = false;
         }
     }

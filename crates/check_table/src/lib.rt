@@ -30,12 +30,12 @@ use std::alloc::{AllocError, Global};
 use telling::{tell_calls, tell_chain, tell_freezes, tell_part, tell_parts};
 
 /// Makes the check of one word.
-fn check_alone(alloc: Global, told: &mut String, what: &str) -> Result<bool, AllocError> {
+fn check_alone(alloc: Global, findings: &mut String, what: &str) -> Result<bool, AllocError> {
     match what {
-        "part" => tell_part(alloc, told),
-        "parts" => tell_parts(alloc, told),
-        "calls" => tell_calls(alloc, told),
-        "freezes" => tell_freezes(alloc, told),
+        "part" => tell_part(alloc, findings),
+        "parts" => tell_parts(alloc, findings),
+        "calls" => tell_calls(alloc, findings),
+        "freezes" => tell_freezes(alloc, findings),
         _ => Ok(false),
     }
 }
@@ -43,22 +43,26 @@ fn check_alone(alloc: Global, told: &mut String, what: &str) -> Result<bool, All
 /// Makes the check of a chain.
 fn check_chain(
     alloc: Global,
-    told: &mut String,
+    findings: &mut String,
     facts: &str,
     budgets: [&str; 2],
 ) -> Result<bool, AllocError> {
     let [small, large] = budgets;
     match (number(small), number(large)) {
-        (Some(small), Some(large)) => tell_chain(alloc, told, facts, [small, large]),
+        (Some(small), Some(large)) => tell_chain(alloc, findings, facts, [small, large]),
         _ => Ok(false),
     }
 }
 
 /// Makes the check that words say, and answers whether it could be made.
-pub fn check_table(alloc: Global, told: &mut String, words: &[&str]) -> Result<bool, AllocError> {
+pub fn check_table(
+    alloc: Global,
+    findings: &mut String,
+    words: &[&str],
+) -> Result<bool, AllocError> {
     match words {
-        [what] => check_alone(alloc, told, what),
-        ["chain", facts, small, large] => check_chain(alloc, told, facts, [small, large]),
+        [what] => check_alone(alloc, findings, what),
+        ["chain", facts, small, large] => check_chain(alloc, findings, facts, [small, large]),
         _ => Ok(false),
     }
 }

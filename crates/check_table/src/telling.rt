@@ -47,11 +47,11 @@ fn line_of(alloc: Global, pieces: &[(&str, Piece)]) -> Result<String, AllocError
 /// Tells a line of pieces, each behind its text.
 fn tell_pieces(
     alloc: Global,
-    told: &mut String,
+    findings: &mut String,
     pieces: &[(&str, Piece)],
 ) -> Result<(), AllocError> {
     let line = line_of(alloc, pieces)?;
-    tell(told, &[line.as_str()])
+    tell(findings, &[line.as_str()])
 }
 
 /// A number of 32 bits.
@@ -88,11 +88,11 @@ fn found_pieces(found: Found) -> [(&'static str, Piece); 5] {
 }
 
 /// Tells the cycles that ended.
-fn tell_cycles(alloc: Global, told: &mut String, report: &Report) -> Result<(), AllocError> {
+fn tell_cycles(alloc: Global, findings: &mut String, report: &Report) -> Result<(), AllocError> {
     for line in report.cycles() {
         tell_pieces(
             alloc,
-            told,
+            findings,
             &[
                 ("cycle ", Piece::Number(line.number)),
                 (": kept ", number(line.kept)),
@@ -104,53 +104,53 @@ fn tell_cycles(alloc: Global, told: &mut String, report: &Report) -> Result<(), 
 }
 
 /// Tells what both mutators told of a part: their notes, and the words that they found.
-fn tell_both(alloc: Global, told: &mut String, both: &[Told; 2]) -> Result<(), AllocError> {
+fn tell_both(alloc: Global, findings: &mut String, both: &[Told; 2]) -> Result<(), AllocError> {
     for one in both {
         tell_pieces(
             alloc,
-            told,
+            findings,
             &note_pieces(one.period, one.note, one.found.calls),
         )?;
-        tell_pieces(alloc, told, &found_pieces(one.found))?;
+        tell_pieces(alloc, findings, &found_pieces(one.found))?;
     }
     Ok(())
 }
 
 /// Tells what a row ran: what was told of its parts, and between them the cycles that ended.
-fn tell_parts_of(alloc: Global, told: &mut String, ran: &Ran) -> Result<bool, AllocError> {
+fn tell_parts_of(alloc: Global, findings: &mut String, ran: &Ran) -> Result<bool, AllocError> {
     if let Some(first) = &ran.first {
-        tell_both(alloc, told, first)?;
+        tell_both(alloc, findings, first)?;
     }
-    tell_cycles(alloc, told, &ran.report)?;
-    tell_both(alloc, told, &ran.last)?;
+    tell_cycles(alloc, findings, &ran.report)?;
+    tell_both(alloc, findings, &ran.last)?;
     Ok(true)
 }
 
 /// Tells what a row ran, if it did.
 fn tell_ran(
     alloc: Global,
-    told: &mut String,
+    findings: &mut String,
     ran: Result<Option<Ran>, Memory>,
 ) -> Result<bool, AllocError> {
     match &ran {
-        Ok(Some(ran)) => tell_parts_of(alloc, told, ran),
+        Ok(Some(ran)) => tell_parts_of(alloc, findings, ran),
         _ => Ok(false),
     }
 }
 
 /// Runs one part of two mutators, and tells what they told.
-pub fn tell_part(alloc: Global, told: &mut String) -> Result<bool, AllocError> {
-    tell_ran(alloc, told, one_part(alloc))
+pub fn tell_part(alloc: Global, findings: &mut String) -> Result<bool, AllocError> {
+    tell_ran(alloc, findings, one_part(alloc))
 }
 
 /// Runs two parts of two mutators with a whole cycle between them, and tells the cycle and what the mutators told.
-pub fn tell_parts(alloc: Global, told: &mut String) -> Result<bool, AllocError> {
-    tell_ran(alloc, told, two_parts(alloc))
+pub fn tell_parts(alloc: Global, findings: &mut String) -> Result<bool, AllocError> {
+    tell_ran(alloc, findings, two_parts(alloc))
 }
 
 /// The same with calls in both parts.
-pub fn tell_calls(alloc: Global, told: &mut String) -> Result<bool, AllocError> {
-    tell_ran(alloc, told, called_parts(alloc))
+pub fn tell_calls(alloc: Global, findings: &mut String) -> Result<bool, AllocError> {
+    tell_ran(alloc, findings, called_parts(alloc))
 }
 
 /// How a pause ended.
@@ -172,11 +172,11 @@ fn marked_chain(alloc: Global, facts: &str, budgets: [u32; 2]) -> Result<Option<
 }
 
 /// Tells how the pauses of a chain ended.
-fn tell_marked(alloc: Global, told: &mut String, marked: Marked) -> Result<bool, AllocError> {
+fn tell_marked(alloc: Global, findings: &mut String, marked: Marked) -> Result<bool, AllocError> {
     let begun = ("begun ", Piece::Truth(marked.begun));
     tell_pieces(
         alloc,
-        told,
+        findings,
         &[begun, pause_piece(marked.first), pause_piece(marked.second)],
     )?;
     Ok(true)
@@ -185,12 +185,12 @@ fn tell_marked(alloc: Global, told: &mut String, marked: Marked) -> Result<bool,
 /// Marks the chain that facts say over a frozen heap, and tells how its pauses ended.
 pub fn tell_chain(
     alloc: Global,
-    told: &mut String,
+    findings: &mut String,
     facts: &str,
     budgets: [u32; 2],
 ) -> Result<bool, AllocError> {
     match marked_chain(alloc, facts, budgets) {
-        Ok(Some(marked)) => tell_marked(alloc, told, marked),
+        Ok(Some(marked)) => tell_marked(alloc, findings, marked),
         _ => Ok(false),
     }
 }
@@ -198,26 +198,26 @@ pub fn tell_chain(
 /// Tells how many calls come next after each of two freezes, and the cycles that ended.
 fn tell_runs(
     alloc: Global,
-    told: &mut String,
+    findings: &mut String,
     runs: Runs,
     report: &Report,
 ) -> Result<bool, AllocError> {
     tell_pieces(
         alloc,
-        told,
+        findings,
         &[
             ("next runs ", number(runs.nothing_due)),
             (" ", number(runs.must)),
         ],
     )?;
-    tell_cycles(alloc, told, report)?;
+    tell_cycles(alloc, findings, report)?;
     Ok(true)
 }
 
 /// Freezes twice, and tells how many calls come next after each, and the cycles that ended.
-pub fn tell_freezes(alloc: Global, told: &mut String) -> Result<bool, AllocError> {
+pub fn tell_freezes(alloc: Global, findings: &mut String) -> Result<bool, AllocError> {
     match freeze_single(alloc) {
-        Ok(Some((runs, report))) => tell_runs(alloc, told, runs, &report),
+        Ok(Some((runs, report))) => tell_runs(alloc, findings, runs, &report),
         _ => Ok(false),
     }
 }

@@ -15,13 +15,13 @@
 //! - `ends ROWS`: rows of sources and sinks alone (`check_ends`).
 //! - `embed`: two mutators on a heap of their own, each of which finds what it stored (`embed_heap`).
 //!
-//! It prints what ended otherwise than expected, and then a line for each check. Where one was not as expected, the
-//! status is 1. The workloads and the refused documents of its folder `data` are run by `.ci/workloads`.
+//! Of each check it prints what ended otherwise than expected, once the check is over, and then a line. Where one was not
+//! as expected, the status is 1. The workloads and the refused documents of its folder `data` are run by `.ci/workloads`.
 #![tactic(auto)]
 
 use check_ends::Ends;
 use check_facts::check_facts;
-use check_heap::{check_rows, joined, tell, text, words_of};
+use check_heap::{check_rows, joined, text, words_of};
 use check_marking::{check_marking, time_runs};
 use check_plain::check_plain;
 use check_runs::{Shelf, check_runs, check_ways};
@@ -46,10 +46,10 @@ fn shelf_of<R: Runtime + AllocGlobal>(rt: &R, list: &str) -> io::Result<Shelf> {
     Ok(shelf)
 }
 
-/// Does rows of runs, of the workloads of a list, and of the generated one with this summary.
+/// Does rows of runs, of the workloads of a list, and of the generated one with this summary, which they call `make_7.txt`.
 fn check_rows_of_runs<R: Runtime + AllocGlobal + Threads + Sync>(
     rt: &R,
-    told: &mut String,
+    findings: &mut String,
     rows: &str,
     list: &str,
     made: &str,
@@ -61,16 +61,20 @@ fn check_rows_of_runs<R: Runtime + AllocGlobal + Threads + Sync>(
         text(alloc, "")?,
         text(alloc, made)?,
     )?;
-    Ok(check_runs(rt, alloc, told, &shelf, rows)?)
+    Ok(check_runs(rt, alloc, findings, &shelf, rows)?)
 }
 
 /// Makes a check that needs no thread, nor anything else of the system.
-fn check_alone(alloc: Global, told: &mut String, words: &[&str]) -> Result<bool, AllocError> {
+fn check_without_system(
+    alloc: Global,
+    findings: &mut String,
+    words: &[&str],
+) -> Result<bool, AllocError> {
     match words {
-        ["plain", check @ ..] => check_plain(alloc, told, check),
-        ["marking", check @ ..] => check_marking(alloc, told, check),
-        ["table", check @ ..] => check_table(alloc, told, check),
-        ["ends", rows] => check_rows::<Ends>(alloc, told, rows),
+        ["plain", check @ ..] => check_plain(alloc, findings, check),
+        ["marking", check @ ..] => check_marking(alloc, findings, check),
+        ["table", check @ ..] => check_table(alloc, findings, check),
+        ["ends", rows] => check_rows::<Ends>(alloc, findings, rows),
         _ => Ok(false),
     }
 }
@@ -78,24 +82,32 @@ fn check_alone(alloc: Global, told: &mut String, words: &[&str]) -> Result<bool,
 /// Makes the check that words say, in which the text of a file stands in place of its name.
 fn check_words<R: Runtime + AllocGlobal + Threads + Sync>(
     rt: &R,
-    told: &mut String,
+    findings: &mut String,
     words: &[&str],
 ) -> io::Result<bool> {
     let alloc = rt.alloc();
     match words {
+        // the clock, which `check_marking` isn't handed
         ["marking", "runs", kind, marked, times] => time_runs(rt, alloc, kind, marked, times),
         [what @ ("facts" | "counts"), settings, meetings, seed, count] => {
             let tells = *what == "counts";
-            let all = check_facts(rt, alloc, told, [settings, meetings], [seed, count], tells)?;
+            let all = check_facts(
+                rt,
+                alloc,
+                findings,
+                [settings, meetings],
+                [seed, count],
+                tells,
+            )?;
             Ok(all)
         }
-        ["runs", rows, list, made] => check_rows_of_runs(rt, told, rows, list, made),
+        ["runs", rows, list, made] => check_rows_of_runs(rt, findings, rows, list, made),
         ["ways", list] => {
             let shelf = shelf_of(rt, list)?;
-            Ok(check_ways(rt, alloc, told, &shelf, list)?)
+            Ok(check_ways(rt, alloc, findings, &shelf, list)?)
         }
         ["embed"] => Ok(both_find_seven(rt, alloc)),
-        _ => Ok(check_alone(alloc, told, words)?),
+        _ => Ok(check_without_system(alloc, findings, words)?),
     }
 }
 
@@ -130,24 +142,24 @@ fn borrowed<'a>(alloc: Global, texts: &'a [String]) -> Result<Vec<&'a str>, Allo
 /// Makes the check of a line.
 fn check<R: Runtime + AllocGlobal + Threads + Sync>(
     rt: &R,
-    told: &mut String,
+    findings: &mut String,
     line: &str,
 ) -> io::Result<bool> {
     let alloc = rt.alloc();
     let meant = all_meant_by(rt, words_of(alloc, line)?.as_slice())?;
-    check_words(rt, told, borrowed(alloc, meant.as_slice())?.as_slice())
+    check_words(rt, findings, borrowed(alloc, meant.as_slice())?.as_slice())
 }
 
-/// Makes the check of a line, prints what it told and how it ended, and answers whether that was as expected.
+/// Makes the check of a line, prints what it found and how it ended, and answers whether that was as expected.
 fn check_line<R: Runtime + AllocGlobal + Threads + Sync>(rt: &R, line: &str) -> io::Result<bool> {
-    let mut told = String::new(rt.alloc());
-    let (is_so, end) = match check(rt, &mut told, line) {
+    let mut findings = String::new(rt.alloc());
+    let (is_so, end) = match check(rt, &mut findings, line) {
         Ok(true) => (true, "as expected"),
         Ok(false) => (false, "not as expected"),
         Err(_) => (false, "a file or memory is wanting"),
     };
-    tell(&mut told, &[line, ": ", end])?;
-    print!(rt; "{told}")?;
+    print!(rt; "{findings}")?;
+    println!(rt; "{line}: {end}")?;
     Ok(is_so)
 }
 

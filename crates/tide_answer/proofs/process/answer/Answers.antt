@@ -1,6 +1,5 @@
--- What the program answers where there are words: each clause is that of `riptide`, since what is answered is its status.
--- `cc` finds that the status is the one that the clause speaks of, and proves all of a status that isn't answered. So an
--- edit that answers another status is refused at the clauses that it breaks, and at no other.
+-- What the program answers where there are words: each clause is that of `riptide`, since what is answered is its status,
+-- of which `cc` finds that it is the one that the clause speaks of.
 use Rattle.std.proofs.Common.{inr, rules}
 use Rattle.tide_answer.proofs.Printed.{HasPrintedPart-ran}
 use Rattle.tide_answer.proofs.process.answer.Goals as goal
