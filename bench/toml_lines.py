@@ -167,6 +167,8 @@ class Reader:
             self.fail(f"the quote `{first}` is no quote of TOML", 'write a straight one: "')
         if first in ("", "\n", "\r", "#"):
             self.fail("a value is missing here", "write one behind the equals sign")
+        if first == "=":
+            self.fail("two equals signs stand here", "write one")
         if first == ",":
             self.fail("a comma stands where a value is wanted", "take out one of the two commas")
         self.fail(f"`{self.rest_of_line()}` is no value", "a value is a number, a text in quotes, or a list in brackets")
@@ -189,9 +191,12 @@ class Reader:
             if (date := DATE.fullmatch(word)) and is_date(date.groups()):
                 return "date", word
             self.fail(f"`{word}` is no date", "write 2026-01-31, or a text in quotes", start)
+        if " " in word:
+            self.fail(f"no comma stands between `{word.replace(' ', '` and `')}`", "part two values by a comma", start)
         self.fail(f"`{word}` is no value", "write a text in quotes, or a number without them", start)
 
     def after_item(self, closing, start, what):
+        behind = self.at
         self.skip_blank()
         if self.next() == ",":
             self.at += 1
@@ -199,8 +204,9 @@ class Reader:
             found = self.rest_of_line()
             if not found and self.at >= len(self.text):
                 self.fail(f"the {what} that begins here has no closing {closing}", f"close it with {closing}", start)
-            self.fail(f"in the {what} that begins on line {self.line(start)}, a comma or {closing} is wanted before `{found}`",
-                      f"part two values by a comma, or close the {what} before")
+            whose = f"of the {what} that begins on line {self.line(start)}"
+            self.fail(f"behind a value {whose} stands `{found}`, and no comma or {closing}",
+                      f"write a comma behind the value, or {closing} where the {what} ends", behind)
 
     def items(self, start, depth):
         self.at += 1

@@ -8,6 +8,12 @@ import re
 from model import FORMS
 
 MOST_REGISTERS, MOST_HANDLES, MOST_KEYS = 16, 256, 64
+# what the letters of a form may look like, and an example of each
+LOOKS = {"r": "r[0-9]+", "C": "[0-9]+", "K": "[0-9]+", "N": "[0-9]+", "KEY": "(?!r[0-9]+$)[a-z][a-z0-9_]*"}
+SHOWN = {"rD": "r0", "rS": "r1", "rT": "r1", "rK": "r2", "rV": "r3", "C": "0", "K": "0", "N": "1", "KEY": "name"}
+# names that other stores have for an operation
+MEANT = {"new": "alloc", "malloc": "alloc", "read": "get", "load": "get", "write": "put", "store": "put", "copy": "move",
+         "clear": "drop", "free": "drop", "delete": "drop", "lock": "claim", "unlock": "release", "gc": "collect"}
 
 
 def near(name, names):
@@ -153,14 +159,18 @@ class Limits:
     def operands(self, name, words):
         """Of as many words as the operation has operands."""
         forms = FORMS[name].split()
+        if not look_right(forms, words):
+            for order in orders(words):
+                if look_right(forms, order):
+                    return (f"its operands stand in another order than {name} {FORMS[name]}",
+                            f"write {name} {' '.join(order)}, if that is meant")
         faults = [self.operand(name, form, word) for form, word in zip(forms, words)]
-        if not any(faults):
-            return None
-        for order in orders(words):
-            if not any(self.operand(name, form, word) for form, word in zip(forms, order)):
-                return (f"its operands stand in another order than {name} {FORMS[name]}",
-                        f"write {name} {' '.join(order)}, if that is meant")
-        return next(filter(None, faults))
+        return next(filter(None, faults), None)
+
+
+def look_right(forms, words):
+    """Whether each word looks like what stands in its place."""
+    return all(re.fullmatch(LOOKS[form[0] if form[0] == "r" else form], word) for form, word in zip(forms, words))
 
 
 def orders(words):
@@ -168,6 +178,11 @@ def orders(words):
     if len(words) < 2:
         return [words]
     return [[one, *rest] for at, one in enumerate(words) for rest in orders(words[:at] + words[at + 1:])]
+
+
+def example(name):
+    """An operation of this name."""
+    return " ".join([name, *(SHOWN[form] for form in FORMS[name].split())])
 
 
 # texts
@@ -200,9 +215,9 @@ def name_fault(name, words):
         return "no operation is named `retire`: a mutator retires by itself, after its last one", "take it out"
     if (run := re.fullmatch("([a-z]+?)(r?[0-9].*)", name)) and run[1] in FORMS:
         return f"no space stands behind `{run[1]}`", f"write {' '.join([run[1], run[2], *words])}"
-    meant = near(re.sub("[^A-Za-z].*", "", name), list(FORMS))
+    meant = MEANT.get(name.lower()) or near(re.sub("[^A-Za-z].*", "", name), list(FORMS))
     if meant:
-        return f"no operation is named `{name}`", f"write {meant}, if that is meant: {meant} {FORMS[meant]}".rstrip()
+        return f"no operation is named `{name}`", f"write {meant}, if that is meant, as {example(meant)}"
     return f"no operation is named `{name}`", f"write one of {', '.join(FORMS)}"
 
 
@@ -213,9 +228,12 @@ def op_fault(text, limits):
     name, *words = [word for word in text.split(" ") if word]
     if fault := name_fault(name, words):
         return fault
-    count = len(FORMS[name].split())
+    count, second = len(FORMS[name].split()), next((at for at, word in enumerate(words) if word in FORMS), None)
     if len(words) == count:
         return limits.operands(name, words)
+    if second is not None and len(words) > count:
+        parts = [" ".join([name, *words[:second]]), " ".join(words[second:])]
+        return "two operations stand in one text", f"write them as two texts: {', '.join(map(quoted, parts))}"
     has = f"{count} operand{'s'[:count != 1]}, {FORMS[name]}" if count else "no operand"
     stand = f"{len(words)} stand{'s'[:len(words) == 1]} here" if words else "none stands here"
-    return f"`{name}` has {has}, and {stand}", f"write {name} {FORMS[name]}".rstrip()
+    return f"`{name}` has {has}, and {stand}", f"write {name} {FORMS[name]}, as {example(name)}" if count else f"write {name} alone"

@@ -9,16 +9,24 @@
   names, in order.
 - A printed call, as `drop r2 = ok`, and a printed count, as `live 1`, is a line of some workload's text.
 - The blocks of docs/READING-A-RUN.md are the text of one workload, in order.
+- In docs/WHY.md a block of text says what bench/why.py prints of that page's workload with the lines that it begins with,
+  or of what the command behind its `$` prints; and each line that WORKLOAD.md tells of a refused file is in one of them.
+- The fields and operations of docs/WORKLOAD.md, with their limits and operands, are those that bench/why.py has.
 - A block that begins with `mutators` is a summary that a run is compared with.
 - A line on the error output, as `riptide: not TOML`, is one that a refused input or a run that fails is compared with.
 
 It also tells which links of the pages lead nowhere, and which files that they name below crates/ aren't there.
 """
 import re
+import subprocess
 import sys
 from pathlib import Path
 
 TOP = Path(__file__).resolve().parent.parent
+sys.path.insert(0, str(TOP / "bench"))
+import model
+import why
+
 DATA = TOP / "crates" / "checks" / "data"
 WITH_OPERANDS = """
     alloc table get put move set drop claim release add getp setp strong sget weak wget pair pget pdel group
@@ -98,6 +106,46 @@ def spans_differ(name, page):
             yield f"{name}: nothing that the gate runs is told {span}"
 
 
+def mistake(workload, text):
+    """The document of an example of docs/WHY.md, and what the example says of it."""
+    if text.startswith("$ "):
+        command, _, said = text[2:].partition("\n")
+        return subprocess.run(["bash", "-c", command], capture_output=True).stdout, said
+    lines = workload.split("\n")
+    while found := re.match(r"(\d+):(?: (.*))?\n", text):
+        lines[int(found[1]) - 1 : int(found[1])] = [found[2] or ""]
+        text = text[found.end() :]
+    return "\n".join(lines).encode(), text
+
+
+def mistakes_differ(name):
+    (_, workload), *examples = blocks((TOP / name).read_text())
+    if not why.explained(workload.encode())[1]:
+        yield f"{name}: its first workload is refused"
+    for _, text in examples:
+        document, said = mistake(workload, text)
+        if "\n".join(why.explained(document)[0]) + "\n" != said:
+            yield f"{name}: bench/why.py says something else of this one:\n{text}"
+    page = (TOP / "docs" / "WORKLOAD.md").read_text()
+    section = page.split("### Why a file is refused", 1)[1].split("\n## ", 1)[0]
+    shown = "".join(text for _, text in examples)
+    for line in set(TOLD.findall(section)) - FORMS:
+        if line.split(" of mutator")[0].rstrip("0123456789") not in shown:
+            yield f"{name}: no example of {line}"
+
+
+def forms_differ(name):
+    """The limits of fields and the operands of operations in a page, against those of bench/."""
+    page = (TOP / name).read_text()
+    for field, (least, most) in why.NUMBERS.items():
+        limits = f"each {least} to {most}" if field in why.FIVES else f"{least:,} to {most:,}"
+        if not re.search(rf"^\| `{field}` \| [^|]* \| {limits} \|", page, re.M):
+            yield f"{name}: the field {field} isn't told with its limits, {limits}, as bench/why.py has them"
+    for operation, form in model.FORMS.items():
+        if f"| `{f'{operation} {form}'.rstrip()}` |" not in page:
+            yield f"{name}: the operation {operation} {form} isn't told as bench/model.py has it"
+
+
 def paths_differ():
     """The links of all pages, and the files that they name by a crate's folder."""
     folders = [TOP / "crates", *(TOP / "crates").iterdir()]
@@ -114,7 +162,8 @@ def paths_differ():
 
 def main():
     differ = 0
-    for message in (*paths_differ(), *walk_differs("docs/READING-A-RUN.md", "page_with_listeners")):
+    walk = walk_differs("docs/READING-A-RUN.md", "page_with_listeners")
+    for message in (*paths_differ(), *walk, *mistakes_differ("docs/WHY.md"), *forms_differ("docs/WORKLOAD.md")):
         differ = 1
         print(message)
     for name in ("README.md", "docs/WORKLOAD.md"):
