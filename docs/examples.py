@@ -11,6 +11,8 @@
 - The blocks of docs/READING-A-RUN.md are the text of one workload, in order.
 - In docs/WHY.md a block of text says what bench/why.py prints of that page's workload with the lines that it begins with,
   or of what the command behind its `$` prints; and each line that WORKLOAD.md tells of a refused file is in one of them.
+- In the pages of CODE a function or a definition that is named behind a file, as `tide_paying/src/barrier.rt`: `shade`, is
+  there, and so is a clause behind a function and its crate, as `pause` of `tide_cycle`: `reached`.
 - The fields and operations of docs/WORKLOAD.md, with their limits and operands, are those that bench/why.py has.
 - A block that begins with `mutators` is a summary that a run is compared with.
 - A line on the error output, as `riptide: not TOML`, is one that a refused input or a run that fails is compared with.
@@ -32,6 +34,8 @@ WITH_OPERANDS = """
     alloc table get put move set drop claim release add getp setp strong sget weak wget pair pget pdel group
 """.split()
 PRINTED = re.compile(rf"`((?:(?:{'|'.join(WITH_OPERANDS)}) [^`=]+|unclaim|collect|retire) = [^`]*|live \d+)`")
+CODE = ["README.md", *(f"docs/{page}.md" for page in ("CHANGING", "EMBED", "LIFE-OF-A-CELL", "MACHINE", "MAP", "PROVED"))]
+WITH_CLAUSES = ("README.md", "docs/PROVED.md")
 TABLE = re.compile(r"^(.*)\n\n\| Operation \| Printed \| Why \|\n\|[-|]*\|\n((?:\|.*\n)+)", re.M)
 TOLD = re.compile(r"`(riptide: [^`]*)`")
 # The forms that a table gives in place of numbers and names, and the one line that nothing brings about for sure.
@@ -146,6 +150,34 @@ def forms_differ(name):
             yield f"{name}: the operation {operation} {form} isn't told as bench/model.py has it"
 
 
+PLACE = re.compile(r"`([\w/]+\.(?:rt|antt))`(?:: | \()((?:`\w+`(?:, )?)+)")
+CLAUSE = re.compile(r"`(\w+)` of `(\w+)(?:::\w+)*`(?:: ((?:`\w+`(?:, )?)+))?")
+
+
+def code_differs(name):
+    """The functions and definitions that a page names behind a file of a crate, and the clauses behind a function's crate."""
+    page, crates = (TOP / name).read_text(), TOP / "crates"
+    for path, names in PLACE.findall(page):
+        if (crates / path).is_file():
+            text = (crates / path).read_text()
+            for item in re.findall(r"\w+", names):
+                head = rf"\b(?:fn|struct|enum|trait) {item}\b" if path.endswith(".rt") else rf"^(?:\w+ )*{item}\b"
+                if not re.search(head, text, re.M):
+                    yield f"{name}: no {item} in crates/{path}"
+        elif (crates / path.split("/")[0]).is_dir():
+            yield f"{name}: no file crates/{path}"
+    for function, crate, clauses in CLAUSE.findall(page) if name in WITH_CLAUSES else []:
+        if (crates / crate).is_dir():
+            files = [*(crates / crate / "src").rglob("*.rt"), *(crates / crate / "specs").rglob("*.antt")]
+            text = "\n".join(path.read_text() for path in sorted(files))
+            if not re.search(rf"\b{function}\b", text):
+                yield f"{name}: no {function} in {crate}"
+            heads = "".join(re.findall(rf"\bfn {function}\b(.*?)(?:^ *\{{$|;$|\Z)", text, re.M | re.S))
+            for clause in re.findall(r"\w+", clauses):
+                if not re.search(rf"\b(?:ensures|requires) {clause} ", heads):
+                    yield f"{name}: {function} of {crate} has no clause {clause}"
+
+
 def paths_differ():
     """The links of all pages, and the files that they name by a crate's folder."""
     folders = [TOP / "crates", *(TOP / "crates").iterdir()]
@@ -164,6 +196,9 @@ def main():
     differ = 0
     walk = walk_differs("docs/READING-A-RUN.md", "page_with_listeners")
     for message in (*paths_differ(), *walk, *mistakes_differ("docs/WHY.md"), *forms_differ("docs/WORKLOAD.md")):
+        differ = 1
+        print(message)
+    for message in (message for name in CODE if (TOP / name).exists() for message in code_differs(name)):
         differ = 1
         print(message)
     for name in ("README.md", "docs/WORKLOAD.md"):
