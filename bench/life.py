@@ -7,12 +7,14 @@ The numbers at the arrows are those of the table in docs/LIFE-OF-A-CELL.md, whic
 """
 WIDTH, HEIGHT = 1000, 830
 CALL, FREEZE = "#1f5fa8", "#b8520a"
+HEADS = (("call", CALL), ("freeze", FREEZE))
 FREE, LIVE, SPENT, DEAD = "#eef2f6", "#e4f3e6", "#fdf3d3", "#f9e3e0"
 MARKS = {"white": ("#ffffff", "#222"), "grey": ("#a9adb2", "#222"), "black": ("#333333", "#fff")}
 
 
 def text(x, y, words, size=13, anchor="middle", fill="#222", weight="normal"):
-    return f'<text x="{x}" y="{y}" text-anchor="{anchor}" font-size="{size}" fill="{fill}" font-weight="{weight}">{words}</text>'
+    style = f'text-anchor="{anchor}" font-size="{size}" fill="{fill}" font-weight="{weight}"'
+    return f'<text x="{x}" y="{y}" {style}>{words}</text>'
 
 
 def box(x, y, width, height, fill, name, *says):
@@ -37,8 +39,9 @@ def number(x, y, at, colour):
 
 
 def heads():
-    head = '<marker id="{}" viewBox="0 0 10 10" refX="9" refY="5" markerWidth="7" markerHeight="7" orient="auto"><path d="M0 0L10 5L0 10z" fill="{}"/></marker>'
-    return ["<defs>", head.format("call", CALL), head.format("freeze", FREEZE), "</defs>"]
+    form = 'viewBox="0 0 10 10" refX="9" refY="5" markerWidth="7" markerHeight="7" orient="auto"'
+    tips = [f'<marker id="{name}" {form}><path d="M0 0L10 5L0 10z" fill="{colour}"/></marker>' for name, colour in HEADS]
+    return ["<defs>", *tips, "</defs>"]
 
 
 def cell():
@@ -54,8 +57,10 @@ def cell():
     # 2 to 4: marking, and the barrier
     shapes += [arrow("M425 232H473", FREEZE), *number(449, 192, 2, FREEZE), text(449, 218, "marked", 12, fill=FREEZE)]
     shapes += [arrow("M535 232H583", FREEZE), *number(559, 192, 3, FREEZE), text(559, 218, "visited", 12, fill=FREEZE)]
-    shapes += [arrow("M598 264C575 300 545 300 524 268", CALL), *number(561, 312, 4, CALL), text(578, 317, "barrier", 12, "start", CALL)]
-    shapes += [text(505, 346, "born white, or black while a cycle marks;", 12), text(505, 363, "at the next begin all are white again", 12)]
+    shapes += [arrow("M598 264C575 300 545 300 524 268", CALL), *number(561, 312, 4, CALL)]
+    shapes += [text(578, 317, "barrier", 12, "start", CALL)]
+    shapes += [text(505, 346, "born white, or black while a cycle marks;", 12)]
+    shapes += [text(505, 363, "at the next begin all are white again", 12)]
     # 5: the end of a cycle
     shapes += [arrow("M680 230H798", FREEZE), *number(740, 188, 5, FREEZE), text(740, 218, "condemned", 13, fill=FREEZE)]
     shapes += [text(740, 256, "end: not", 13, fill=FREEZE), text(740, 273, "marked", 13, fill=FREEZE)]
@@ -85,8 +90,8 @@ def legend():
     shapes += [arrow("M330 26H375", CALL), text(385, 31, "in a running part, by a mutator's call", 13, "start", CALL)]
     shapes += [arrow("M640 26H685", FREEZE), text(695, 31, "in a freeze, by the collector", 13, "start", FREEZE)]
     shapes += ['<path d="M40 50H960M40 468H960M40 775H960" stroke="#ccc"/>']
-    shapes += [text(40, 800, "So whoever runs in a part sees no cell become dead or free: what was live when the part was opened is live until it ends.", 13, "start")]
-    return shapes
+    says = "In a part no cell becomes dead or free: what is live when the part is opened is live until it ends."
+    return shapes + [text(40, 800, says, 13, "start")]
 
 
 def main():

@@ -53,7 +53,8 @@ def main():
         sys.exit(f"no lines of {TEXT.name}: {lost}")
     head = f'<svg xmlns="http://www.w3.org/2000/svg" width="{WIDTH}" height="{HEIGHT}" font-family="sans-serif">'
     tip = '<defs><marker id="head" viewBox="0 0 10 10" refX="9" refY="5" markerWidth="7" markerHeight="7" orient="auto">'
-    shapes = [head, f'{tip}<path d="M0 0L10 5L0 10z" fill="{LINK}"/></marker></defs>', '<rect width="100%" height="100%" fill="#fff"/>']
+    shapes = [head, f'{tip}<path d="M0 0L10 5L0 10z" fill="{LINK}"/></marker></defs>']
+    shapes.append('<rect width="100%" height="100%" fill="#fff"/>')
     for place, (line, says, held, live) in enumerate(MOMENTS):
         shapes += moment(PANEL * place, line, says, held, live)
     shapes += ['<path d="M300 15V215M600 15V215" stroke="#ddd"/>', "</svg>"]

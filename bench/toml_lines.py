@@ -339,5 +339,6 @@ def read(data):
         text = data.decode()
     except UnicodeDecodeError as error:
         line = data[:error.start].count(b"\n") + 1
-        raise NotToml(line, f"byte {error.start} of the file, {data[error.start]:#04x}, isn't UTF-8", "save the file in UTF-8") from None
+        why = f"byte {error.start} of the file, {data[error.start]:#04x}, isn't UTF-8"
+        raise NotToml(line, why, "save the file in UTF-8") from None
     return Reader(text).document()

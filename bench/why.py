@@ -202,7 +202,8 @@ def check(data):
     if len(data) > MAX_BYTES:
         line = data[:MAX_BYTES].count(b"\n") + 1
         why = f"it has {len(data):,} bytes, and may have {MAX_BYTES:,}"
-        raise Fault("too long", f"line {line}, at byte {MAX_BYTES:,}", why, "shorten it: a mutator's 65,536 operations fit easily")
+        change = "shorten it: a mutator's 65,536 operations fit easily"
+        raise Fault("too long", f"line {line}, at byte {MAX_BYTES:,}", why, change)
     try:
         document = toml_lines.read(data)
     except toml_lines.NotToml as error:

@@ -132,7 +132,8 @@ class Limits:
         give = f"{field} = {number + 1}" if number < MOST_HANDLES else None
         if not count:
             where = "isn't given" if line is None else f"is 0 on line {line}"
-            return f"there is no {field} handle: `{field}` {where}", f"write {give or f'{field} = 1'} above the first [[mutator]]"
+            change = f"write {give or f'{field} = 1'} above the first [[mutator]]"
+            return f"there is no {field} handle: `{field}` {where}", change
         return (f"{field} handle {number} isn't there: `{field} = {count}` on line {line} gives {span('', count)}",
                 f"write a handle, {span('', count)}" + (f", or {give} on line {line}" if give else ""))
 
@@ -236,4 +237,5 @@ def op_fault(text, limits):
         return "two operations stand in one text", f"write them as two texts: {', '.join(map(quoted, parts))}"
     has = f"{count} operand{'s'[:count != 1]}, {FORMS[name]}" if count else "no operand"
     stand = f"{len(words)} stand{'s'[:len(words) == 1]} here" if words else "none stands here"
-    return f"`{name}` has {has}, and {stand}", f"write {name} {FORMS[name]}, as {example(name)}" if count else f"write {name} alone"
+    change = f"write {name} {FORMS[name]}, as {example(name)}" if count else f"write {name} alone"
+    return f"`{name}` has {has}, and {stand}", change

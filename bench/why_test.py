@@ -5,8 +5,8 @@
 
 Without a program: each document of inputs.txt, each beginning of the stored workload (cuts.txt), and each workload there.
 With a built `riptide` also COUNT (200) documents for the seeds from FIRST (0) on: a document of these with some of its
-characters changed, taken out or doubled. A line is printed where a first line differs, where a fault has no cause or no change,
-and at the end how many there were.
+characters changed, taken out or doubled. A line is printed where a first line differs, or a fault has no cause or no
+change, and at the end how many there were.
 """
 import random
 import re
@@ -17,7 +17,7 @@ from pathlib import Path
 import why
 
 DATA = Path(__file__).resolve().parent.parent / "crates" / "checks" / "data"
-PIECES = [" ", "\n", '"', "'", "[", "]", "{", "}", ",", "=", "#", ".", "0", "9", "-", "_", "r", "\t", "\\", "é", "[[mutator]]", "r16", "1.5"]
+PIECES = [*" \n\t\"'[]{},=#.09-_r\\é", "[[mutator]]", "r16", "1.5"]
 
 
 def documents():
@@ -63,10 +63,7 @@ def main():
         for seed in range(first, first + more):
             draw = random.Random(f"why {seed}")
             data = changed(draw.choice(texts), draw).encode()
-            wrong = differs(f"seed {seed}", data, said(program, data))
-            if wrong and "--show" in sys.argv:
-                print(data.decode())
-            failed += wrong
+            failed += differs(f"seed {seed}", data, said(program, data))
         count += more
     print(f"{count} documents, {failed} of them explained otherwise than the program says")
     return 1 if failed else 0

@@ -203,9 +203,10 @@ def main():
         print(message)
     for name in ("README.md", "docs/WORKLOAD.md"):
         page = (TOP / name).read_text()
-        for message in (*blocks_differ(name, page), *tables_differ(name, page), *spans_differ(name, page), *summaries_differ(name, page)):
-            differ = 1
-            print(message)
+        for differs in (blocks_differ, tables_differ, spans_differ, summaries_differ):
+            for message in differs(name, page):
+                differ = 1
+                print(message)
     return differ
 
 
