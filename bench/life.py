@@ -90,7 +90,7 @@ def legend():
     shapes += [arrow("M330 26H375", CALL), text(385, 31, "in a running part, by a mutator's call", 13, "start", CALL)]
     shapes += [arrow("M640 26H685", FREEZE), text(695, 31, "in a freeze, by the collector", 13, "start", FREEZE)]
     shapes += ['<path d="M40 50H960M40 468H960M40 775H960" stroke="#ccc"/>']
-    says = "In a part no cell becomes dead or free: what is live when the part is opened is live until it ends."
+    says = "In a part no cell becomes dead or free: a cell that is live when it is opened is live until it ends."
     return shapes + [text(40, 800, says, 13, "start")]
 
 
