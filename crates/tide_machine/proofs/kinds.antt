@@ -39,3 +39,4 @@ pub mod FirstGroup
 pub mod SecondGroup
 pub mod EachKind
 pub mod Changing
+pub mod StayingGrey

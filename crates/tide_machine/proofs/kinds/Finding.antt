@@ -1,6 +1,5 @@
 -- The wave says nothing of the word that a participant found last.
 use Rattle.std.proofs.Common.{ℕ, ◌≡◌, ◌<◌, refl, ◌∙◌, ap, subst, arith, true, List, inl, inr}
-use Rattle.tide_layout.specs.declared.region.Region.TheVariants as region
 use Rattle.tide_machine.proofs.kinds.Resting.{put_twice}
 use Rattle.tide_machine.proofs.steps.Frames.{calls_view, put_here, stops_view}
 use Rattle.tide_machine.proofs.steps.Quiet.{quiet_step}

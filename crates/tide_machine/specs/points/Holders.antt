@@ -2,11 +2,11 @@
 use Rattle.std.specs.Prelude.{ℕ, ◌≡◌, ◌+◌, ◌<◌, true, false, [], None, if◌then◌else◌}
 use Rattle.tide_layout.specs.Region.{cell_block_count}
 use Rattle.tide_machine.specs.Duties.{IsCalm}
-use Rattle.tide_machine.specs.World.{total, holds}
+use Rattle.tide_machine.specs.World.{World, total, holds}
 use Rattle.tide_machine.specs.declared.view.View.{View}
 use Rattle.tide_model.specs.Layout.{Layout, cell_count}
 use Rattle.tide_words.specs.heap.Heap.{Heap}
-use Rattle.tide_words.specs.marking.Colours.{is_marking, is_grey}
+use Rattle.tide_words.specs.marking.Colours.{is_marking, is_grey, IsGrey}
 use Rattle.tide_words.specs.marking.Marking.{bits_of, HasNoGreys}
 
 -- while a cycle marks, a cell is grey exactly where it has a holder, and then it has one: a bit of a grey word, or
@@ -21,3 +21,9 @@ pub record RestsWhereIdle (layout : Layout) (heap : Heap) (part : ℕ → View) 
   pub held : is_marking heap ≡ false → (p : ℕ) → (part p).held ≡ []
   pub scans : is_marking heap ≡ false → (p : ℕ) → (part p).scan ≡ None
   pub duties : is_marking heap ≡ false → (p : ℕ) → IsCalm (part p).duty
+
+-- a cycle marks, and the cell is grey and has one holder: a bit of a grey word, or a view
+pub record IsHeldGrey (w : World) (cell : ℕ) : Type 0 where
+  pub marks : is_marking w.heap ≡ true
+  pub grey : IsGrey w.heap cell
+  pub held : bits_of w.heap cell + total (holds cell) w.part ≡ 1
