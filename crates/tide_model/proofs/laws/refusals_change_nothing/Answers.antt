@@ -9,7 +9,7 @@ use Rattle.tide_model.proofs.laws.refusals_change_nothing.Goals as goal
 pub returns : goal.returns
 returns c = record {
   unchanged = λ layout shapes who op refusal old_seen new_seen old_mine new_mine made.
-    ap (state_after layout) made.ends
-    ∙ state_after-push layout made.between (record { entry = Call who op (Refused refusal); took = made.took })
-    ∙ after_call-refused (state_after layout made.between) who op refusal made.took;
+      ap (state_after layout) made.ends
+      ∙ state_after-push layout made.between (record { entry = Call who op (Refused refusal); took = made.took })
+      ∙ after_call-refused (state_after layout made.between) who op refusal made.took;
 }
