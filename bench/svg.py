@@ -25,7 +25,8 @@ def arrow(path, colour, width, tip):
 def tips(colours):
     """The tips of arrows, by their names."""
     shape = attributes(viewBox="0 0 10 10", refX=9, refY=5, markerWidth=7, markerHeight=7, orient="auto")
-    drawn = [f'<marker id="{name}"{shape}><path d="M0 0L10 5L0 10z" fill="{colour}"/></marker>' for name, colour in colours.items()]
+    path = '<path d="M0 0L10 5L0 10z" fill="{}"/>'
+    drawn = [f'<marker id="{name}"{shape}>{path.format(colour)}</marker>' for name, colour in colours.items()]
     return ["<defs>", *drawn, "</defs>"]
 
 
