@@ -29,6 +29,8 @@ FIVES = {
 FIELDS = [*NUMBERS, "shapes", "mutator"]
 # of a long file so many unknown names are compared with the fields
 MOST_COMPARED = 100
+# in tables nested deeper than so many a field isn't looked for
+MOST_NAMES = 4
 # what has to be there, and what may stand there
 REQUIRED = {
     "registers": "registers = 4", "blocks": "blocks = [1, 0, 0, 0, 1]", "period": "period = 16", "headroom": "headroom = 32",
@@ -69,12 +71,14 @@ def others(table, names):
 
 
 def tables_in(table, path=()):
-    """The tables within a table, those within these too, and those of a list of tables; each with its names from the top."""
+    """The tables within a table, those of a list of tables too, and those within these to a few names' depth; each with its
+    names from the top."""
     for name, value in table.data.items():
         for inner in value.data if value.kind == "array" else [value]:
             if inner.kind == "table":
                 yield [*path, name], inner
-                yield from tables_in(inner, [*path, name])
+                if len(path) < MOST_NAMES:
+                    yield from tables_in(inner, [*path, name])
 
 
 def above(document):
@@ -102,8 +106,10 @@ def in_another_table(field, document):
             return Fault(told, where, why, f"take `{name}.` off")
         if table.origin is None:
             return Fault(told, where, why, f"write {field} and its value on a line of its own {above(document)}")
-        listed = document.data[path[0]].kind == "array"
-        return Fault(told, where, why, f"take the line {'[[' if listed else '['}{name}{']]' if listed else ']'} out")
+        header = f"the line [{name}]" if len(path) == 1 else f"the header of `{name}`"
+        if len(path) == 1 and document.data[path[0]].kind == "array":
+            header = f"the line [[{name}]]"
+        return Fault(told, where, why, f"take {header} out")
     return None
 
 
