@@ -234,16 +234,16 @@ class Reader:
         if second and re.fullmatch(r"[0-9.]+", first):
             why = f"no comma stands between `{seen(first)}` and `{seen(second)}`"
             numbers = re.match(r"[0-9. ]+", self.text[start:])[0].split()
-            if 0 < len(first) < 4 and all(len(each) == 3 for each in numbers[1:]):
+            if not listed and re.fullmatch(r"[0-9]{1,3}(?: [0-9]{3})+", " ".join(numbers)):
                 self.fail(why, f"a number has no space within: write {seen(''.join(numbers))}", start)
             brackets = f"write the values in brackets, with commas: [{seen(', '.join(numbers))}]"
             self.fail(why, "part the values by commas" if listed else brackets, start)
         if second and first in ("-", "+", ":"):
-            self.fail(why, f"write {second if first != '-' else '-' + second}", start)
+            self.fail(why, f"write {'-' * (first == '-')}{seen(second)}", start)
         if word.startswith("--"):
             self.fail(why, "a comment begins with #: write # in place of --", start)
         if re.fullmatch(r"[0-9]+\.", word):
-            self.fail(why, f"write {word[:-1]}", start)
+            self.fail(why, f"write {seen(word[:-1])}", start)
         if word.lower() in ("true", "false"):
             self.fail(why, f"write {word.lower()}", start)
         if word[0] in "0123456789+-.":
@@ -261,6 +261,7 @@ class Reader:
         if self.next() == closing:
             return
         self.unclosed(start)
+        self.no_return()
         found = self.rest_of_line()
         if not found and self.place >= len(self.text):
             self.fail(f"the {what} that begins here has no closing {closing}", f"close it with {closing}", start)
@@ -290,12 +291,12 @@ class Reader:
 
     def unclosed(self, start):
         """The fault of a header, or of a name and an equals sign, that begins a line within a list."""
-        line_start = self.text.rfind("\n", 0, self.place) + 1
-        if line_start <= start or self.text[line_start:self.place].strip(" \t"):
+        in_list = self.text[start] == "["
+        field = in_list and FIELD.match(self.text, self.place)
+        if not field and not LIST_HEADER.match(self.text, self.place):
             return
-        in_list, rest = self.text[start] == "[", self.rest_of_line()
-        field = in_list and FIELD.match(rest) and not rest.endswith(",")
-        if field or LIST_HEADER.match(self.text, self.place):
+        before = self.text[start:self.place].rstrip(" \t")
+        if before.endswith("\n") and not (field and self.rest_of_line().endswith(",")):
             what, closing = ("list", "]") if in_list else ("table", "}")
             self.fail(f"the {what} that begins on line {self.line(start)} has no closing {closing}",
                       f"write {closing} above this line")
