@@ -5,23 +5,25 @@
 
 The numbers at the arrows are those of the table in docs/LIFE-OF-A-CELL.md, which names the function of each.
 """
+import sys
+
+import svg
+
 WIDTH, HEIGHT = 1000, 830
 CALL, FREEZE = "#1f5fa8", "#b8520a"
-HEADS = (("call", CALL), ("freeze", FREEZE))
+TIPS = {"call": CALL, "freeze": FREEZE}
 FREE, LIVE, SPENT, DEAD = "#eef2f6", "#e4f3e6", "#fdf3d3", "#f9e3e0"
 MARKS = {"white": ("#ffffff", "#222"), "grey": ("#a9adb2", "#222"), "black": ("#333333", "#fff")}
 
 
 def text(x, y, words, size=13, anchor="middle", fill="#222", weight="normal"):
-    style = f'text-anchor="{anchor}" font-size="{size}" fill="{fill}" font-weight="{weight}"'
-    return f'<text x="{x}" y="{y}" {style}>{words}</text>'
+    return svg.text(x, y, words, anchor, size, fill=fill, font_weight=weight)
 
 
-def box(x, y, width, height, fill, name, *says):
+def state(x, y, width, height, fill, name, *lines):
     """A state, with what the words of its block say."""
-    shapes = [f'<rect x="{x}" y="{y}" width="{width}" height="{height}" rx="10" fill="{fill}" stroke="#555"/>']
-    shapes.append(text(x + width / 2, y + 26, name, 17, weight="bold"))
-    return shapes + [text(x + width / 2, y + 46 + 17 * at, line, 12) for at, line in enumerate(says)]
+    shapes = [svg.box(x, y, width, height, fill, 10), text(x + width / 2, y + 26, name, 17, weight="bold")]
+    return shapes + [text(x + width / 2, y + 46 + 17 * place, line, 12) for place, line in enumerate(lines)]
 
 
 def mark(x, y, name):
@@ -30,25 +32,18 @@ def mark(x, y, name):
 
 
 def arrow(path, colour):
-    name = "call" if colour == CALL else "freeze"
-    return f'<path d="{path}" fill="none" stroke="{colour}" stroke-width="2.4" marker-end="url(#{name})"/>'
+    return svg.arrow(path, colour, 2.4, "call" if colour == CALL else "freeze")
 
 
-def number(x, y, at, colour):
-    return [f'<circle cx="{x}" cy="{y}" r="11" fill="{colour}"/>', text(x, y + 5, at, 13, fill="#fff", weight="bold")]
-
-
-def heads():
-    form = 'viewBox="0 0 10 10" refX="9" refY="5" markerWidth="7" markerHeight="7" orient="auto"'
-    tips = [f'<marker id="{name}" {form}><path d="M0 0L10 5L0 10z" fill="{colour}"/></marker>' for name, colour in HEADS]
-    return ["<defs>", *tips, "</defs>"]
+def number(x, y, shown, colour):
+    return [f'<circle cx="{x}" cy="{y}" r="11" fill="{colour}"/>', text(x, y + 5, shown, 13, fill="#fff", weight="bold")]
 
 
 def cell():
     shapes = [text(40, 88, "A cell", 18, "start", weight="bold")]
-    shapes += box(40, 180, 170, 100, FREE, "free", "its Free bit is set,", "its words 0, but its colour")
-    shapes += box(330, 105, 350, 275, LIVE, "live", "neither bit is set")
-    shapes += box(800, 180, 160, 100, DEAD, "dead", "its Dead bit is set,", "nothing leads to it")
+    shapes += state(40, 180, 170, 100, FREE, "free", "its Free bit is set,", "its words 0, but its colour")
+    shapes += state(330, 105, 350, 275, LIVE, "live", "neither bit is set")
+    shapes += state(800, 180, 160, 100, DEAD, "dead", "its Dead bit is set,", "nothing leads to it")
     for place, name in enumerate(MARKS):
         shapes += mark(395 + 110 * place, 240, name)
     # 1: a call takes it
@@ -71,10 +66,10 @@ def cell():
 
 def array():
     shapes = [text(40, 500, "An array of properties", 18, "start", weight="bold")]
-    shapes += box(40, 580, 150, 80, FREE, "free", "its Free bit is set")
-    shapes += box(310, 580, 150, 80, LIVE, "live", "one live cell's")
-    shapes += box(570, 570, 160, 100, SPENT, "spent", "replaced: no cell's,", "its words as they were")
-    shapes += box(830, 580, 130, 80, DEAD, "dead", "its Dead bit is set")
+    shapes += state(40, 580, 150, 80, FREE, "free", "its Free bit is set")
+    shapes += state(310, 580, 150, 80, LIVE, "live", "one live cell's")
+    shapes += state(570, 570, 160, 100, SPENT, "spent", "replaced: no cell's,", "its words as they were")
+    shapes += state(830, 580, 130, 80, DEAD, "dead", "its Dead bit is set")
     shapes += [arrow("M190 620H308", CALL), *number(250, 597, 7, CALL), text(250, 644, "add", 13, fill=CALL)]
     shapes += [arrow("M460 620H568", CALL), *number(514, 597, 8, CALL), text(514, 644, "add: a", 13, fill=CALL)]
     shapes += [text(514, 660, "larger one", 13, fill=CALL)]
@@ -90,13 +85,13 @@ def legend():
     shapes += [arrow("M330 26H375", CALL), text(385, 31, "in a running part, by a mutator's call", 13, "start", CALL)]
     shapes += [arrow("M640 26H685", FREEZE), text(695, 31, "in a freeze, by the collector", 13, "start", FREEZE)]
     shapes += ['<path d="M40 50H960M40 468H960M40 775H960" stroke="#ccc"/>']
-    says = "In a part no cell becomes dead or free: a cell that is live when it is opened is live until it ends."
+    says = "In a part no cell becomes dead or free: a cell that is live when a part opens is live when it ends."
     return shapes + [text(40, 800, says, 13, "start")]
 
 
 def main():
-    head = f'<svg xmlns="http://www.w3.org/2000/svg" width="{WIDTH}" height="{HEIGHT}" font-family="sans-serif">'
-    print("\n".join([head, *heads(), '<rect width="100%" height="100%" fill="#fff"/>', *legend(), *cell(), *array(), "</svg>"]))
+    sys.stdout.write(svg.page(WIDTH, HEIGHT, [*svg.tips(TIPS), *legend(), *cell(), *array()]))
 
 
-main()
+if __name__ == "__main__":
+    main()

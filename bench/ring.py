@@ -8,6 +8,8 @@ Three moments, from left to right. It is drawn by hand, but that the calls and t
 import sys
 from pathlib import Path
 
+import svg
+
 TEXT = Path(__file__).resolve().parent.parent / "crates" / "checks" / "data" / "workloads" / "ring_is_freed.txt"
 WIDTH, HEIGHT, PANEL = 900, 230, 300
 INK, LINK = "#222", "#1f5fa8"
@@ -19,12 +21,12 @@ MOMENTS = [
 ]
 
 
-def text(x, y, words, size=13, fill=INK, style=""):
-    return f'<text x="{x}" y="{y}" text-anchor="middle" font-size="{size}" fill="{fill}" {style}>{words}</text>'
+def text(x, y, words, size=13, fill=INK, **style):
+    return svg.text(x, y, words, size=size, fill=fill, **style)
 
 
 def arrow(path):
-    return f'<path d="{path}" fill="none" stroke="{LINK}" stroke-width="2" marker-end="url(#head)"/>'
+    return svg.arrow(path, LINK, 2, "tip")
 
 
 def moment(left, line, says, held, live):
@@ -38,12 +40,11 @@ def moment(left, line, says, held, live):
         shapes += [arrow(f"M{one + 22} 106C{one + 45} 90 {other - 45} 90 {other - 24} 105")]
         shapes += [arrow(f"M{other - 22} 134C{other - 45} 150 {one + 45} 150 {one + 24} 135")]
     for x, name in ((one, "r0"), (other, "r1")):
-        shapes.append(f'<rect x="{x - 20}" y="22" width="40" height="26" rx="4" fill="#eef2f6" stroke="#555"/>')
+        shapes.append(svg.box(x - 20, 22, 40, 26, "#eef2f6", 4))
         shapes.append(text(x, 40, name, 13))
         if held:
             shapes.append(arrow(f"M{x} 48V91"))
-    mono = 'font-family="monospace"'
-    return shapes + [text(left + 150, 186, line, 13, INK, mono), text(left + 150, 210, says, 13)]
+    return shapes + [text(left + 150, 186, line, font_family="monospace"), text(left + 150, 210, says)]
 
 
 def main():
@@ -51,14 +52,11 @@ def main():
     lost = [line for line, *_ in MOMENTS if line not in lines]
     if lost:
         sys.exit(f"no lines of {TEXT.name}: {lost}")
-    head = f'<svg xmlns="http://www.w3.org/2000/svg" width="{WIDTH}" height="{HEIGHT}" font-family="sans-serif">'
-    tip = '<defs><marker id="head" viewBox="0 0 10 10" refX="9" refY="5" markerWidth="7" markerHeight="7" orient="auto">'
-    shapes = [head, f'{tip}<path d="M0 0L10 5L0 10z" fill="{LINK}"/></marker></defs>']
-    shapes.append('<rect width="100%" height="100%" fill="#fff"/>')
+    shapes = svg.tips({"tip": LINK})
     for place, (line, says, held, live) in enumerate(MOMENTS):
         shapes += moment(PANEL * place, line, says, held, live)
-    shapes += ['<path d="M300 15V215M600 15V215" stroke="#ddd"/>', "</svg>"]
-    print("\n".join(shapes))
+    sys.stdout.write(svg.page(WIDTH, HEIGHT, [*shapes, '<path d="M300 15V215M600 15V215" stroke="#ddd"/>']))
 
 
-main()
+if __name__ == "__main__":
+    main()

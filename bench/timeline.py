@@ -10,6 +10,8 @@ tell between which calls a cycle came, nor which calls of two mutators came firs
 import re
 import sys
 
+import svg
+
 # the kinds of replies: a name, a colour, and how high the mark is among twelve
 KINDS = {
     "born": ("a cell is born", "#2e8b57", 12),
@@ -52,7 +54,7 @@ def read(lines):
 
 
 def text(x, y, words, anchor="start", size=11):
-    return f'<text x="{x}" y="{y}" text-anchor="{anchor}" font-size="{size}">{words}</text>'
+    return svg.text(x, y, words, anchor, size)
 
 
 def bar(x, y, width, height, colour):
@@ -104,8 +106,7 @@ def picture(name, lines):
     calls, y = draw_calls(mutators)
     ends, y = draw_cycles(cycles, live, y)
     shapes = [text(LEFT, 20, name, size=13)] + calls + ends + draw_legend(y)
-    head = f'<svg xmlns="http://www.w3.org/2000/svg" width="{LEFT + WIDTH + 20}" height="{y + 16}" font-family="sans-serif" fill="#222">'
-    return "\n".join([head, '<rect width="100%" height="100%" fill="#fff"/>'] + shapes + ["</svg>", ""])
+    return svg.page(LEFT + WIDTH + 20, y + 16, shapes, fill="#222")
 
 
 def main():

@@ -1,13 +1,17 @@
 #!/usr/bin/env python3
-"""Compares the first line that bench/why.py says with what the program prints, and with what crates/checks/data tells.
+"""Tests bench/why.py: its first line against what the program prints, and whether a file that is mended is accepted.
 
     python3 bench/why_test.py [PROGRAM [FIRST [COUNT]]]
 
-Without a program: each document of inputs.txt, each beginning of the stored workload (cuts.txt), and each workload there.
-With a built `riptide` also COUNT (200) documents for the seeds from FIRST (0) on: a document of these with some of its
-characters changed, taken out or doubled. A line is printed where a first line differs, or a fault has no cause or no
-change, and at the end how many there were.
+- The first line: of each document of crates/checks/data/inputs.txt, each beginning of the stored workload (cuts.txt), and
+  each workload there. With PROGRAM, a built `riptide`, also of COUNT (200) documents for the seeds from FIRST (0) on: a
+  document of these with some of its characters changed, taken out or doubled.
+- The mended file: each example of docs/WHY.md and of bench/why_cases.txt ends with lines with which the workload is taken,
+  by bench/why.py and by PROGRAM; and what is said to be changed is what the example has.
+
+A line is printed where a test fails, or a fault has no cause or no change, and at the end how many there were.
 """
+import argparse
 import random
 import re
 import subprocess
@@ -16,8 +20,11 @@ from pathlib import Path
 
 import why
 
-DATA = Path(__file__).resolve().parent.parent / "crates" / "checks" / "data"
+TOP = Path(__file__).resolve().parent.parent
+DATA = TOP / "crates" / "checks" / "data"
+PAGE, CASES = TOP / "docs" / "WHY.md", TOP / "bench" / "why_cases.txt"
 PIECES = [*" \n\t\"'[]{},=#.09-_r\\é", "[[mutator]]", "r16", "1.5"]
+LINE = re.compile(r"(\d+):(?: (.*))?")
 
 
 def documents():
@@ -32,11 +39,36 @@ def documents():
         yield path.stem, path.read_bytes(), ""
 
 
+def examples_of(page):
+    """The workload of docs/WHY.md, and its examples."""
+    (_, workload), *examples = re.findall(r"^```(\w*)\n(.*?)^```$", page, re.S | re.M)
+    return workload, [text for _, text in examples]
+
+
+def parts_of(example):
+    """The numbered lines with which an example begins, what is said of them, and the numbered lines with which it ends."""
+    lines = example.splitlines()
+    numbered = [found and (int(found[1]), found[2] or "") for found in map(LINE.fullmatch, lines)]
+    said = [place for place, line in enumerate(numbered) if not line]
+    first, last = said[0], said[-1] + 1
+    return numbered[:first], lines[first:last], numbered[last:]
+
+
+def replaced(workload, *groups):
+    """A workload with lines of it replaced. What stands of one number takes the place of that line."""
+    lines = {number: [line] for number, line in enumerate(workload.split("\n"), 1)}
+    for group in groups:
+        lines.update({number: [] for number, _ in group})
+        for number, line in group:
+            lines[number].append(re.sub(r"<U\+([0-9A-F]+)>", lambda found: chr(int(found[1], 16)), line))
+    return "\n".join(line for number in sorted(lines) for line in lines[number]).encode()
+
+
 def changed(text, draw):
     for _ in range(draw.choice([1, 1, 2, 3])):
-        at = draw.randrange(len(text) + 1)
-        to = at + draw.choice([0, 1, 1, draw.randrange(20)])
-        text = text[:at] + draw.choice(["", "", draw.choice(PIECES), text[at:to] * 2]) + text[to:]
+        begin = draw.randrange(len(text) + 1)
+        end = begin + draw.choice([0, 1, 1, draw.randrange(20)])
+        text = text[:begin] + draw.choice(["", "", draw.choice(PIECES), text[begin:end] * 2]) + text[end:]
     return text
 
 
@@ -45,28 +77,62 @@ def said(program, data):
     return ended.stderr.decode().rstrip("\n")
 
 
+def in_full(lines):
+    """Whether four lines have words behind their heads, of which `change: ` is the longest, and are printable ASCII."""
+    return len(lines) == 4 and all(len(line) > len("change: ") and re.fullmatch("[ -~]+", line) for line in lines)
+
+
 def differs(name, data, line):
     lines, taken = why.explained(data)
-    if taken == (line == "") and (taken or lines[0] == line and all(len(each) > 12 for each in lines)):
+    if taken == (line == "") and (taken or lines[0] == line and in_full(lines)):
         return 0
     print(f"{name}: the program says {line!r}, and why.py {lines}")
     return 1
 
 
+def case_fails(workload, example, program):
+    """Whether another change is said than a case has, or its mended file isn't taken."""
+    mistake, told, mended = parts_of(example)
+    lines, _ = why.explained(replaced(workload, mistake))
+    if told[-1] != lines[-1] or not in_full(lines):
+        print(f"{mistake}: why.py says {lines}, and the example {told[-1]!r}")
+        return 1
+    document = replaced(workload, mistake, mended)
+    lines, taken = why.explained(document)
+    line = said(program, document) if program else ""
+    if mended and (not taken or line):
+        print(f"{mistake}: mended by {mended} why.py says {lines}, and the program {line!r}")
+        return 1
+    return 0
+
+
+def cases():
+    """The examples of why_cases.txt, and those of docs/WHY.md that begin with lines of the workload."""
+    workload, examples = examples_of(PAGE.read_text())
+    own = re.sub("^#.*\n", "", CASES.read_text(), flags=re.M).strip("\n").split("\n\n")
+    return workload, own + [text for text in examples if not text.startswith("$ ")]
+
+
 def main():
-    told = list(documents())
+    parser = argparse.ArgumentParser(description=__doc__, formatter_class=argparse.RawDescriptionHelpFormatter)
+    parser.add_argument("program", nargs="?")
+    parser.add_argument("first", nargs="?", type=int, default=0)
+    parser.add_argument("count", nargs="?", type=int, default=200)
+    given = parser.parse_args()
+    told, (workload, examples) = list(documents()), cases()
     failed = sum(differs(*each) for each in told)
     count = len(told)
-    if sys.argv[1:]:
-        program, first, more = sys.argv[1], *[int(word) for word in (sys.argv[2:] + ["0", "200"][len(sys.argv) - 2:])[:2]]
+    if given.program:
         texts = [data.decode() for _, data, line in told if len(data) < 4000]
-        for seed in range(first, first + more):
+        for seed in range(given.first, given.first + given.count):
             draw = random.Random(f"why {seed}")
             data = changed(draw.choice(texts), draw).encode()
-            failed += differs(f"seed {seed}", data, said(program, data))
-        count += more
+            failed += differs(f"seed {seed}", data, said(given.program, data))
+        count += given.count
     print(f"{count} documents, {failed} of them explained otherwise than the program says")
-    return 1 if failed else 0
+    unmended = sum(case_fails(workload, example, given.program) for example in examples)
+    print(f"{len(examples)} mistakes, {unmended} of them explained otherwise than told, or refused when mended")
+    return 1 if failed or unmended else 0
 
 
 if __name__ == "__main__":

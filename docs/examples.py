@@ -11,6 +11,7 @@
 - The blocks of docs/READING-A-RUN.md are the text of one workload, in order.
 - In docs/WHY.md a block of text says what bench/why.py prints of that page's workload with the lines that it begins with,
   or of what the command behind its `$` prints; and each line that WORKLOAD.md tells of a refused file is in one of them.
+  That the lines with which it ends mend it, bench/why_test.py tests.
 - In the pages of CODE a function or a definition that is named behind a file, as `tide_paying/src/barrier.rt`: `shade`, is
   there, and so is a clause behind a function and its crate, as `pause` of `tide_cycle`: `reached`.
 - The fields and operations of docs/WORKLOAD.md, with their limits and operands, are those that bench/why.py has.
@@ -28,6 +29,7 @@ TOP = Path(__file__).resolve().parent.parent
 sys.path.insert(0, str(TOP / "bench"))
 import model
 import why
+import why_test
 
 DATA = TOP / "crates" / "checks" / "data"
 WITH_OPERANDS = """
@@ -114,25 +116,22 @@ def mistake(workload, text):
     """The document of an example of docs/WHY.md, and what the example says of it."""
     if text.startswith("$ "):
         command, _, said = text[2:].partition("\n")
-        return subprocess.run(["bash", "-c", command], capture_output=True).stdout, said
-    lines = workload.split("\n")
-    while found := re.match(r"(\d+):(?: (.*))?\n", text):
-        lines[int(found[1]) - 1 : int(found[1])] = [found[2] or ""]
-        text = text[found.end() :]
-    return "\n".join(lines).encode(), text
+        return subprocess.run(["bash", "-c", command], capture_output=True).stdout, said.splitlines()
+    lines, said, _ = why_test.parts_of(text)
+    return why_test.replaced(workload, lines), said
 
 
 def mistakes_differ(name):
-    (_, workload), *examples = blocks((TOP / name).read_text())
+    workload, examples = why_test.examples_of((TOP / name).read_text())
     if not why.explained(workload.encode())[1]:
         yield f"{name}: its first workload is refused"
-    for _, text in examples:
+    for text in examples:
         document, said = mistake(workload, text)
-        if "\n".join(why.explained(document)[0]) + "\n" != said:
+        if why.explained(document)[0] != said:
             yield f"{name}: bench/why.py says something else of this one:\n{text}"
     page = (TOP / "docs" / "WORKLOAD.md").read_text()
     section = page.split("### Why a file is refused", 1)[1].split("\n## ", 1)[0]
-    shown = "".join(text for _, text in examples)
+    shown = "".join(examples)
     for line in set(TOLD.findall(section)) - FORMS:
         if line.split(" of mutator")[0].rstrip("0123456789") not in shown:
             yield f"{name}: no example of {line}"
