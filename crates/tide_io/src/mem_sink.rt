@@ -39,15 +39,13 @@ impl MemSink {
         ensures { IfOk result (λ sink.
             sink ≡ record { held = []; cap = cap; step = step; calls = no_calls fails.items }) }
     {
-        match Vec::with_capacity(alloc, cap) {
-            Ok(held) => Ok(MemSink {
-                held,
-                cap,
-                step,
-                calls: Calls::new(fails),
-            }),
-            Err(_) => Err(Memory),
-        }
+        let held = Vec::with_capacity(alloc, cap)?;
+        Ok(MemSink {
+            held,
+            cap,
+            step,
+            calls: Calls::new(fails),
+        })
     }
 
     /// The bytes that it took, in order.

@@ -15,10 +15,8 @@ use tide_workload::{Settings, Workload};
 fn append<T: Drop>(list: &mut Vec<T>, item: T) -> Result<(), Memory>
     ensures { OnOk result (list.new.items ≡ list.old.items ++ item ∷ []) }
 {
-    match list.push(item) {
-        Ok(()) => Ok(()),
-        Err(_) => Err(Memory),
-    }
+    list.push(item)?;
+    Ok(())
 }
 
 /// The layout of a store with these settings, for so many mutators and no visitor.
@@ -63,10 +61,7 @@ pub fn shapes_from(alloc: Global, paths: &Paths) -> Result<Shapes, Memory>
 fn copied(alloc: Global, bytes: &[u8]) -> Result<Vec<u8>, Memory>
     ensures { IfOk result (λ copy. copy.items ≡ bytes.now) }
 {
-    match bytes.to_vec(alloc) {
-        Ok(copy) => Ok(copy),
-        Err(_) => Err(Memory),
-    }
+    Ok(bytes.to_vec(alloc)?)
 }
 
 /// The names of a workload's property keys, by number.
@@ -85,10 +80,7 @@ pub fn names_of(alloc: Global, load: &Workload) -> Result<Vec<Vec<u8>>, Memory>
 fn copied_ops(alloc: Global, ops: &[Op]) -> Result<Vec<Op>, Memory>
     ensures { IfOk result (λ copy. copy.items ≡ ops.now) }
 {
-    match ops.to_vec(alloc) {
-        Ok(copy) => Ok(copy),
-        Err(_) => Err(Memory),
-    }
+    Ok(ops.to_vec(alloc)?)
 }
 
 /// A copy of each mutator's operations.

@@ -77,12 +77,8 @@ impl Taken {
     pub fn new(alloc: Global, count: usize) -> Result<Taken, Memory>
         ensures { IfOk result (λ new. new ≡ replicate count false) }
     {
-        let Ok(flags) = vec![in alloc; false; count] else {
-            return Err(Memory);
-        };
-        let Ok(runs) = vec![in alloc; 0usize; count / SPAN + 1] else {
-            return Err(Memory);
-        };
+        let flags = vec![in alloc; false; count]?;
+        let runs = vec![in alloc; 0usize; count / SPAN + 1]?;
         Ok(Taken { flags, runs })
     }
 

@@ -55,20 +55,15 @@ fn capped(count: usize) -> u32 {
 fn with_room<T>(alloc: Global, room: usize) -> Result<Vec<T>, Memory>
     ensures { IfOk result (λ list. list.items ≡ []) }
 {
-    match Vec::with_capacity(alloc, room) {
-        Ok(list) => Ok(list),
-        Err(_) => Err(Memory),
-    }
+    Ok(Vec::with_capacity(alloc, room)?)
 }
 
 /// One more at the end of a list.
 fn append<T: Drop>(list: &mut Vec<T>, item: T) -> Result<(), Memory>
     ensures { OnOk result (list.new.items ≡ list.old.items ++ item ∷ []) }
 {
-    match list.push(item) {
-        Ok(()) => Ok(()),
-        Err(_) => Err(Memory),
-    }
+    list.push(item)?;
+    Ok(())
 }
 
 /// A participant for each pass, with its caller.
