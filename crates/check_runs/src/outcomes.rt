@@ -1,11 +1,11 @@
-//! The outcomes of runs, by `plain`, `words` and `run`.
+//! The outcomes of runs, by `plain` and `run`.
 
 use check_heap::{number_between, numbers_text, reply_text};
 use std::alloc::{AllocError, Global};
 use std::marker::Sync;
 use std::thread::Threads;
 use tide_model::{Memory, Turnstile};
-use tide_run::{Answered, Outcome, Report, plain, run, words};
+use tide_run::{Answered, Outcome, Report, plain, run};
 use tide_workload::Workload;
 
 /// Puts a number with a text before it and one behind it at the end of a text.
@@ -69,11 +69,6 @@ fn text_of(alloc: Global, ran: Result<Outcome, Memory>) -> Result<String, AllocE
 /// The outcome of a workload's run by `plain`.
 pub fn in_turn(alloc: Global, load: &Workload) -> Result<String, AllocError> {
     text_of(alloc, plain(alloc, load))
-}
-
-/// The outcome of a workload's run by `words`.
-pub fn on_words(alloc: Global, load: &Workload) -> Result<String, AllocError> {
-    text_of(alloc, words(alloc, load))
 }
 
 /// The outcome of a workload's run by `run`, with this turnstile.

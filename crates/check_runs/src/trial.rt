@@ -12,12 +12,12 @@
 //! - `printed` is answered with how much of the workload's text was: `all`, `nothing` or so many first bytes, `told` with the
 //!   line on the error output, and `, cut off` where it has no end; `left` with how many bytes weren't read, or `all`;
 //! - `held` is answered with the numbers of the holds that were kept, from 0;
-//! - `plain`, `on words` and `in threads` run the workload by `plain`, `words` and `run`, and are answered with its calls and
-//!   what lives then.
+//! - `plain` and `in threads` run the workload by `plain` and `run`, and are answered with its calls, its cycles and what
+//!   lives then.
 
 use crate::ending::Ending;
 use crate::holds::Holds;
-use crate::outcomes::{in_threads, in_turn, on_words};
+use crate::outcomes::{in_threads, in_turn};
 use crate::shelf::Shelf;
 use check_heap::{large_number, large_numbers, number_between, number_text, text};
 use std::alloc::{AllocError, Global};
@@ -255,7 +255,6 @@ impl<'a> Trial<'a> {
     ) -> Result<Option<String>, AllocError> {
         let answer = match words {
             ["plain"] => in_turn(alloc, load)?,
-            ["on", "words"] => on_words(alloc, load)?,
             ["in", "threads"] => in_threads(rt, alloc, load, &self.holds)?,
             _ => return Ok(None),
         };

@@ -1,3 +1,2 @@
-pub mod marking_laws
 pub mod plan_laws
 pub mod reading_laws

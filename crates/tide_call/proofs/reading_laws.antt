@@ -6,7 +6,6 @@ pub mod CallReading
 pub mod ClaimReading
 pub mod FreeBits
 pub mod GrowthReading
-pub mod GrowthSteps
 pub mod PairReading
 pub mod PropertyReading
 pub mod RootReading

@@ -1,9 +1,9 @@
-pub mod Acting
 pub mod Callers
 pub mod CallWords
+pub mod Claims
 pub mod Grown
 pub mod Laws
-pub mod Links
+pub mod Needed
 pub mod Pairs
 pub mod Plans
 pub mod PlanWords

@@ -2,8 +2,7 @@
 //!
 //! A law speaks of the heap before a call, the heap after it, and the state before it. It knows no list of words and no
 //! order in which they were stored.
-ghost use Rattle.tide_call.specs.Laws.{BarriersMayFollow, BirthsKeepMarking, CallsKeepMarking, CallsReadBack};
-ghost use Rattle.tide_call.specs.Laws.{ClaimsAreTold, GrowthsInOrder, HistoriesReadBack, MutatorsMayCall, PlansAreCalls};
+ghost use Rattle.tide_call.specs.Laws.{CallsReadBack, ClaimsAreTold, HistoriesReadBack, MutatorsMayCall, PlansAreCalls};
 
 /// An active mutator may call wherever references are live: it meets what `Caller::plan_of` asks of the state.
 pub fn mutators_may_call()
@@ -20,17 +19,4 @@ pub fn plans_are_calls()
 pub fn calls_read_back()
     ensures reading { CallsReadBack }
     ensures history { HistoriesReadBack }
-{}
-
-/// The words of a growth may be stored in the order that mutators on threads need.
-pub fn growths_are_in_order()
-    ensures growths { GrowthsInOrder }
-{}
-
-/// A call keeps marking where the cell in which it stores another isn't black, or where the barrier makes it grey
-/// afterwards. A new cell may be coloured black or white.
-pub fn calls_keep_marking()
-    ensures marking { CallsKeepMarking }
-    ensures barrier { BarriersMayFollow }
-    ensures births { BirthsKeepMarking }
 {}

@@ -1,10 +1,9 @@
 //! What a call is to do, and what the words say of it once the operation's words are written.
 //!
-//! `Caller::plan_of` decides by the words that its mutator alone changes whether a call is refused, and else what is to
-//! be done: a `Plan`. Words that stand still and words that others change beside the mutator are `OwnWords` alike. The
-//! functions of `laws` promise what the words read as once the plan's are written, and that marking is kept. A store
-//! and a mutator on a thread cite these alike. The crate stands on `tide_words`, `tide_shape` and `tide_claims`, whose
-//! `Claims` it hands on.
+//! `Caller::plan_of` decides by the words that its mutator alone changes, its `OwnWords`, whether a call is refused, and
+//! else what is to be done: a `Plan`. Others may change their words beside it. The functions of `laws` promise what the
+//! words read as once the plan's are written. A mutator on a thread cites them. The crate stands on `tide_words`,
+//! `tide_shape` and `tide_claims`, whose `Claims` it hands on.
 #![tactic(auto)]
 
 mod additions;

@@ -1,16 +1,16 @@
 //! `OwnRegisters` and `OwnWords`: the words that a mutator alone changes, wherever they are. They know no operation.
-ghost use Rattle.std.specs.Prelude.{◌≡◌, ◌<◌, ℕ, List, Some, true};
+ghost use Rattle.std.specs.Prelude.{◌≡◌, ◌<◌, ℕ, Some, true};
 ghost use Rattle.tide_layout.specs.Region.{index_of_register};
 ghost use Rattle.tide_layout.specs.Slots.{HasSlot};
 ghost use Rattle.tide_layout.specs.declared.region.Region.TheVariants.{Array, Claim, Registers, Structure};
 ghost use Rattle.tide_model.specs.Layout.{Layout as PlainLayout, cell_count};
 ghost use Rattle.tide_model.specs.Refused.{is_table};
 ghost use Rattle.tide_words.specs.forms.Reference.{claim_word};
-ghost use Rattle.tide_words.specs.heap.Heap.{Heap, Reads};
+ghost use Rattle.tide_words.specs.heap.Heap.{Heap};
 ghost use Rattle.tide_words.specs.heap.Reading.{slot_word};
 ghost use Rattle.tide_call.specs.Callers.{LeavesOwn};
 
-use tide_words::{Layout, Region, Words};
+use tide_words::Layout;
 
 /// The words of registers, which each mutator alone changes. While it runs it may read them at any moments. What
 /// reading tells holds of the heaps that have the words as they are known after it.
@@ -74,33 +74,4 @@ pub trait OwnWords<C>: OwnRegisters<C> {
             result ≡ slot_word layout.now heap table place }
         ensures owns { LeavesOwn (Self.owns self.old) (Self.owns self.new) context.now layout.now who
             (Self.rest self.old) (Self.rest self.new) };
-}
-
-/// Words that stand still.
-impl<W: Words> OwnRegisters<()> for W {
-    ghost owns = { λ words context layout who heap. Reads layout (W.words words) heap };
-
-    ghost Rest = { List ℕ × W.Rest };
-
-    ghost rest = { λ words. (W.words words, W.rest words) };
-
-    fn register(&mut self, _context: &(), layout: &Layout, who: u32, register: u8) -> u64 {
-        let index = who * u32::from(layout.registers()) + u32::from(register);
-        self.load(layout.place(Region::Registers, index))
-    }
-}
-
-/// Words that stand still.
-impl<W: Words> OwnWords<()> for W {
-    fn structure(&mut self, _context: &(), layout: &Layout, _who: u32, cell: u32) -> u64 {
-        self.load(layout.place(Region::Structure, cell))
-    }
-
-    fn array(&mut self, _context: &(), layout: &Layout, _who: u32, cell: u32) -> u64 {
-        self.load(layout.place(Region::Array, cell))
-    }
-
-    fn pair(&mut self, _context: &(), layout: &Layout, _who: u32, table: u32, place: u8) -> u64 {
-        self.load(layout.slot(table, place))
-    }
 }

@@ -1,4 +1,3 @@
-pub mod Called
 pub mod Entered
 pub mod FrozenWave
 pub mod Laws

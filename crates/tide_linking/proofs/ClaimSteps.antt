@@ -41,8 +41,8 @@ use Rattle.tide_linking.specs.Claiming.{held_or, unheld_reply}
 use Rattle.tide_paying.specs.Made.{HasMade}
 use Rattle.tide_paying.specs.Standing.{IsPlanned, caller_of, claims_of}
 use Rattle.tide_steps.specs.Follows.{Follows, FollowsSome, MayStep}
-use Rattle.tide_word_store.proofs.ClaimWords.{some_claim}
-use Rattle.tide_word_store.specs.Needed.{IsSomeClaim}
+use Rattle.tide_call.proofs.plan_laws.ClaimWords.{some_claim}
+use Rattle.tide_call.specs.Needed.{IsSomeClaim}
 use Rattle.tide_words.proofs.heap_laws.ReadingLaws.{live_within}
 use Rattle.tide_words.specs.forms.Reference.{claim_word}
 use Rattle.tide_words.specs.heap.Heap.{Heap, write}

@@ -7,7 +7,7 @@ ghost use Rattle.tide_paying.specs.Calling.{IsCalling};
 ghost use Rattle.tide_linking.specs.Claiming.{held_or};
 ghost use Rattle.tide_paying.specs.Made.{HasDone};
 ghost use Rattle.tide_paying.specs.Standing.{IsPlanned};
-ghost use Rattle.tide_word_store.specs.Needed.{IsSomeClaim};
+ghost use Rattle.tide_call.specs.Needed.{IsSomeClaim};
 
 use tide_model::{Op, Refusal, Reply};
 use tide_steps::{Heap, HeapShapes, Pass};

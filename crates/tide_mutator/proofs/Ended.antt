@@ -27,8 +27,8 @@ use Rattle.tide_paying.specs.Calling.{IsCalling, Kept}
 use Rattle.tide_mutator.specs.Called.{HasCalled, is_of_claims}
 use Rattle.tide_paying.specs.Made.{HasDone}
 use Rattle.tide_paying.specs.Standing.{IsPlanned, caller_of, claims_after_calls, claims_of}
-use Rattle.tide_word_store.proofs.CallLaws.{claim_has_room, claims_kept}
-use Rattle.tide_word_store.specs.Acting.{claims_after}
+use Rattle.tide_call.proofs.plan_laws.ClaimsKept.{claim_has_room, claims_kept}
+use Rattle.tide_call.specs.Claims.{claims_by_plan}
 use Rattle.tide_words.specs.heap.Heap.{Heap}
 
 -- a retirement has one plan, and one reply
@@ -44,7 +44,7 @@ retire_reply layout heap new who reply took words = absurd words
 
 -- a call that isn't of claims leaves them
 claims_stay : (reply : Reply) (op : Op) (does : Plan) (claims : List ℕ) → is_of_claims op ≡ false →
-    claims_after reply op does claims ≡ claims
+    claims_by_plan reply op does claims ≡ claims
 claims_stay reply (Claim src) does claims other = absurd (cc)
 claims_stay reply (Release src) does claims other = absurd (cc)
 claims_stay reply Unclaim does claims other = absurd (cc)
@@ -76,7 +76,7 @@ module _ (layout : Layout) (shapes : ShapeLists) (op : Op) (does : Plan) (reply 
       (subst (λ (o : Op). IsPlan (caller_of layout shapes v) done.made.heap state o does) is plan_is)
 
   -- the claims that it has then
-  pub claims_then : claims_of u ≡ claims_after reply op does (claims_of v)
+  pub claims_then : claims_of u ≡ claims_by_plan reply op does (claims_of v)
   claims_then =
       ap (λ (n : ℕ). claims_after_calls n u.mine) (ap (λ (k : Kept). k.who) done.made.kept)
       ∙ ap (λ (o : Own). o.claims) (sym (own_at layout v.who (done.made.log ++ event ∷ []) u.mine
@@ -84,7 +84,7 @@ module _ (layout : Layout) (shapes : ShapeLists) (op : Op) (does : Plan) (reply 
       ∙ ap (λ (s : State). s.claims v.who) (state_after-push layout done.made.log event)
       ∙ claims_kept (caller_of layout shapes v) done.made.heap done.made.new state op does reply done.made.took plan_is
       done.made.words
-      ∙ ap (claims_after reply op does) done.made.stands.claims
+      ∙ ap (claims_by_plan reply op does) done.made.stands.claims
 
   pub called_by : HasCalled layout shapes op reply v u
   called_by = record {

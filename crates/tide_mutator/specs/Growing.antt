@@ -22,7 +22,7 @@ use Rattle.tide_model.specs.declared.op.Reply.TheVariants.{Done}
 use Rattle.tide_model.specs.declared.val.Val.{Val}
 use Rattle.tide_words.specs.forms.Reference.{array_word}
 use Rattle.tide_words.specs.forms.ValueWord.{val_word}
-use Rattle.tide_word_store.specs.Needed.{MayGrow}
+use Rattle.tide_call.specs.Needed.{MayGrow}
 
 -- the plan of the growth
 abbrev pub plan_of : Growth → Plan

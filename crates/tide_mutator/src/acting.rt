@@ -6,7 +6,7 @@ ghost use Rattle.tide_paying.specs.Calling.{IsCalling};
 ghost use Rattle.tide_paying.specs.Made.{HasDone};
 ghost use Rattle.tide_mutator.specs.Plans.{is_acted, is_plain, is_rest};
 ghost use Rattle.tide_paying.specs.Standing.{IsPlanned};
-ghost use Rattle.tide_word_store.specs.Needed.{FitsPlan};
+ghost use Rattle.tide_call.specs.Needed.{FitsPlan};
 ghost use Rattle.tide_words.specs.heap.Heap.{Heap as TheWords};
 
 use crate::groups::join;

@@ -10,7 +10,7 @@ ghost use Rattle.tide_model.specs.Lawful.{FitsLayout};
 ghost use Rattle.tide_mutator.specs.Plans.{is_plain};
 ghost use Rattle.tide_paying.specs.Standing.{IsPlanned, claims_of};
 ghost use Rattle.tide_mutator.specs.Owning.{unread};
-ghost use Rattle.tide_word_store.specs.Needed.{FitsPlan};
+ghost use Rattle.tide_call.specs.Needed.{FitsPlan};
 ghost use Rattle.tide_words.specs.heap.Heap.{Heap as TheWords};
 
 use crate::own::OwnPass;

@@ -6,7 +6,7 @@ ghost use Rattle.tide_paying.specs.Standing.{IsPlanned};
 ghost use Rattle.tide_call.specs.declared.plan.Plan.TheVariants.{Append, LoadElement, StoreElement};
 ghost use Rattle.tide_layout.specs.Slots.{HasElement};
 ghost use Rattle.tide_model.specs.Layout.{cell_count};
-ghost use Rattle.tide_word_store.specs.Needed.{HasRoomFor};
+ghost use Rattle.tide_call.specs.Needed.{HasRoomFor};
 
 use tide_call::Addition;
 use tide_model::{Op, Reply, Turnstile, Val};

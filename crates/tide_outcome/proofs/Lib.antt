@@ -2,4 +2,3 @@
 pub mod Copies
 pub mod Outsiders
 pub mod RunLaws
-pub mod recording_laws

@@ -1,4 +1,3 @@
 -- The definitions of this crate.
-pub mod Kept
 pub mod Outcome
 pub mod Runs

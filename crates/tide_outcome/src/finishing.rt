@@ -34,7 +34,7 @@ pub(crate) fn kept_itself(ran: Finished<Vec<Event>>) -> Finished<Kept>
 }
 
 /// What a run left whose history a heap kept.
-pub fn kept_by_heap(ran: Finished<Closed>) -> Finished<Kept>
+pub(crate) fn kept_by_heap(ran: Finished<Closed>) -> Finished<Kept>
     ensures { result ≡ record {
       kept = Kept.Heap ran.kept;
       report = ran.report;
@@ -57,7 +57,7 @@ pub fn kept_by_heap(ran: Finished<Closed>) -> Finished<Kept>
 }
 
 /// The outcome of a run of a workload that left this, with the names of the workload's keys.
-pub fn outcome_of(load: &Workload, names: Vec<Vec<u8>>, ran: Finished<Kept>) -> Outcome
+pub(crate) fn outcome_of(load: &Workload, names: Vec<Vec<u8>>, ran: Finished<Kept>) -> Outcome
     requires names { map (λ name. name.items) names.items ≡ load.now.keys }
     requires left { (trigger : ℕ) × HasLeft load.now trigger ran }
     ensures run { (trigger : ℕ) → HasLeft load.now trigger ran → IsRunOf load.now trigger result }

@@ -1,21 +1,18 @@
-//! The outcome of running a workload, and running one on a store of one thread.
+//! Running a workload, and the outcome of that.
 //!
-//! `plain` runs a workload on the plain store, and `words` on the store of words of `recording`, which keep a history,
-//! for tests. `run` of `tide_running`, on which `riptide` stands, runs one on a heap that its mutators share: what it
-//! takes of the workload, and what it makes of what is left, are calls of this crate too. It knows no sink and no word
-//! of a command line.
+//! `run`, on which `riptide` stands, runs one on a heap that its mutators share, each on a thread of its own. `plain`
+//! runs one on the plain store, one mutator after another, and keeps the history itself. Both take of the workload what
+//! `starting` does, and make an `Outcome` of what is left. It knows no sink and no word of a command line.
 #![tactic(auto)]
 
 mod finishing;
+mod on_heap;
+mod on_plain;
 mod outcome;
-mod recording;
-mod runs;
 mod starting;
-mod stores;
 
-pub use finishing::{kept_by_heap, outcome_of};
+pub use on_heap::run;
+pub use on_plain::plain;
 pub use outcome::{Kept, Outcome, Told};
-pub use runs::{pacing_with, plain, words};
-pub use starting::{copied_scripts, layout_of, names_of, shapes_from};
 pub use tide_periods::Answered;
 pub use tide_report::{CycleLine, Report};

@@ -8,6 +8,7 @@ ghost use Rattle.tide_outcome.specs.Runs.{layout_of_work, layout_with, AreScript
 use std::alloc::Global;
 use tide_layout::Layout;
 use tide_model::{Memory, Op};
+use tide_periods::Pacing;
 use tide_shape::{Paths, Shapes, ShapesRefused};
 use tide_workload::{Settings, Workload};
 
@@ -37,14 +38,14 @@ fn layout_with(settings: Settings, mutators: u32) -> Layout
 }
 
 /// The layout of the store that a workload asks for.
-pub fn layout_of(load: &Workload) -> Layout
+pub(crate) fn layout_of(load: &Workload) -> Layout
     ensures { result ≡ layout_of_work load.now }
 {
     layout_with(load.settings(), load.mutators())
 }
 
 /// The shapes of declared paths, none of which names a key twice.
-pub fn shapes_from(alloc: Global, paths: &Paths) -> Result<Shapes, Memory>
+pub(crate) fn shapes_from(alloc: Global, paths: &Paths) -> Result<Shapes, Memory>
     requires few { length paths.now ≤ 64 }
     requires sized { All IsPath paths.now }
     requires distinct { first_double paths.now ≡ None }
@@ -65,7 +66,7 @@ fn copied(alloc: Global, bytes: &[u8]) -> Result<Vec<u8>, Memory>
 }
 
 /// The names of a workload's property keys, by number.
-pub fn names_of(alloc: Global, load: &Workload) -> Result<Vec<Vec<u8>>, Memory>
+pub(crate) fn names_of(alloc: Global, load: &Workload) -> Result<Vec<Vec<u8>>, Memory>
     ensures { IfOk result (λ names. map (λ name. name.items) names.items ≡ load.now.keys) }
 {
     let mut names = Vec::new(alloc);
@@ -84,7 +85,7 @@ fn copied_ops(alloc: Global, ops: &[Op]) -> Result<Vec<Op>, Memory>
 }
 
 /// A copy of each mutator's operations.
-pub fn copied_scripts(alloc: Global, load: &Workload) -> Result<Vec<Vec<Op>>, Memory>
+pub(crate) fn copied_scripts(alloc: Global, load: &Workload) -> Result<Vec<Vec<Op>>, Memory>
     ensures { IfOk result (λ scripts. AreScripts load.now (map (λ ops. ops.items) scripts.items)) }
 {
     let mut scripts = Vec::new(alloc);
@@ -93,4 +94,17 @@ pub fn copied_scripts(alloc: Global, load: &Workload) -> Result<Vec<Vec<Op>>, Me
         append(&mut scripts, ops)?;
     }
     Ok(scripts)
+}
+
+/// The numbers of a workload's periods, with this trigger.
+pub(crate) fn pacing_with(settings: Settings, trigger: u32) -> Pacing
+    ensures period { result.period ≡ settings.period }
+    ensures headroom { result.headroom ≡ settings.headroom }
+    ensures trigger { result.trigger ≡ trigger }
+{
+    Pacing {
+        period: settings.period,
+        headroom: settings.headroom,
+        trigger,
+    }
 }

@@ -30,7 +30,7 @@ use Rattle.tide_paying.specs.Calling.{IsCalling}
 use Rattle.tide_paying.specs.Made.{HasDone}
 use Rattle.tide_paying.specs.Standing.{IsPlanned, caller_of}
 use Rattle.tide_steps.specs.Follows.{FollowsSome, MayStep}
-use Rattle.tide_word_store.proofs.CallLaws.{no_plan_for_room}
+use Rattle.tide_call.proofs.plan_laws.NeverForRoom.{no_plan_for_room}
 use Rattle.tide_words.specs.heap.Heap.{Heap}
 
 -- a refused operation is answered with its refusal at the store of the call word

@@ -17,8 +17,7 @@ use tide_io::{ReadError, Source, read_up_to};
 use tide_make::make;
 use tide_model::{Memory, Turnstile};
 use tide_options::{Options, Refused, options_of};
-use tide_outcome::{Outcome, plain};
-use tide_running::run;
+use tide_outcome::{Outcome, plain, run};
 use tide_workload::{Counts, Fault, MAX_BYTES, Workload, read};
 
 /// A run, and what is to be printed of it: the counts of its calls, or the text of them where there are no counts.

@@ -12,8 +12,8 @@ use Rattle.tide_model.specs.Layout.{Layout}
 use Rattle.tide_model.specs.Refused.{ShapeLists}
 use Rattle.tide_model.specs.declared.entry.Event.{Event}
 use Rattle.tide_model.specs.declared.op.Op.{Op}
-use Rattle.tide_word_store.proofs.PlansFit.{plans_fit}
-use Rattle.tide_word_store.specs.Needed.{FitsPlan}
+use Rattle.tide_call.proofs.plan_laws.PlansFit.{plans_fit}
+use Rattle.tide_call.specs.Needed.{FitsPlan}
 use Rattle.tide_words.specs.heap.Heap.{Heap}
 
 -- what acting needs it has where its mutator stands

@@ -52,8 +52,8 @@ use Rattle.tide_model.specs.declared.op.Reply.{Reply}
 use Rattle.tide_model.specs.declared.op.Reply.TheVariants.{Done, Refused}
 use Rattle.tide_model.specs.declared.val.Val.{Val}
 use Rattle.tide_steps.specs.Follows.{Follows, FollowsSome, MayStep}
-use Rattle.tide_word_store.proofs.TakenLaws.{class_block-within, taken-array, wide-array}
-use Rattle.tide_word_store.specs.Taken.{IsTakenOf}
+use Rattle.tide_call.proofs.plan_laws.TakenLaws.{class_block-within, taken-array, wide-array}
+use Rattle.tide_call.specs.Taken.{IsTakenOf}
 use Rattle.tide_words.proofs.heap_laws.HeapLaws.{write-other_index, write-other_region, write-same}
 use Rattle.tide_words.specs.forms.ValueWord.{val_word}
 use Rattle.tide_words.specs.heap.Heap.{Heap, write}

@@ -2,7 +2,7 @@
 use Rattle.std.proofs.Common.{subst}
 use Rattle.tide_call.specs.declared.plan.Plan.{Plan}
 use Rattle.tide_mutator.proofs.acting_laws.Acted.{acted_else}
-use Rattle.tide_word_store.specs.Needed.{FitsPlan}
+use Rattle.tide_call.specs.Needed.{FitsPlan}
 use Rattle.tide_mutator.proofs.acting.act.Goals as goal
 
 pub grow-requires-clause-may : goal.grow-requires-clause-may

@@ -5,7 +5,7 @@ use Rattle.tide_mutator.proofs.acting_laws.Asking.{rests_else}
 use Rattle.tide_paying.specs.Made.{HasDone}
 use Rattle.tide_mutator.specs.Plans.{is_plain}
 use Rattle.tide_paying.specs.Standing.{IsPlanned}
-use Rattle.tide_word_store.specs.Needed.{FitsPlan}
+use Rattle.tide_call.specs.Needed.{FitsPlan}
 use Rattle.tide_mutator.proofs.acting.act_without_growth.Goals as goal
 
 pub act_on_rest-requires-clause-rest : goal.act_on_rest-requires-clause-rest

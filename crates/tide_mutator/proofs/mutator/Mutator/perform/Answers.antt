@@ -7,7 +7,7 @@ use Rattle.tide_model.specs.Refused.{claims_most}
 use Rattle.tide_mutator.proofs.Ended.{called_by, claims_then, has_room, rests_after}
 use Rattle.tide_mutator.proofs.Unread.{called_unread, calling_unread, claims_unread, counts_unread, rests_unread}
 use Rattle.tide_paying.specs.Calling.{IsCalling}
-use Rattle.tide_word_store.specs.Acting.{claims_after}
+use Rattle.tide_call.specs.Claims.{claims_by_plan}
 use Rattle.tide_mutator.proofs.mutator.Mutator.perform.Goals as goal
 
 pub act-reply-requires-clause-calling : goal.act-reply-requires-clause-calling
@@ -106,7 +106,7 @@ invariant_of-self-clause-claimed g c =
     let calling_now = calling_unread v w d.same.2 layout c.args.op calling in
     let u = c.act-reply.new.pass.seat.me.0 in
     c.keep_claims.ensures
-    ∙ ap (claims_after c.act-reply.result c.args.op c.decide-plan.result)
+    ∙ ap (claims_by_plan c.act-reply.result c.args.op c.decide-plan.result)
     (c.args.self.now.claimed ∙ sym (claims_unread v w d.same.2))
     ∙ sym (claims_then layout shapes c.args.op c.decide-plan.result c.act-reply.result w u calling_now d.planned
     c.act-reply.ensures.done)

@@ -1,0 +1,56 @@
+//! A workload's heap that its mutators share, and running the workload on it, each mutator on a thread of its own.
+ghost use Rattle.std.specs.Prelude.{◌≡◌, ◌≤◌, [], true, IfOk};
+ghost use Rattle.tide_outcome.specs.Runs.{AreScripts, IsRunOf, setting_of_work};
+ghost use Rattle.tide_periods.specs.Asking.{scripts_of};
+ghost use Rattle.tide_periods.specs.Part.{AreCallers};
+ghost use Rattle.tide_threads.specs.OnThreads.{callers_on, recorded_in, setting_in, Stands};
+
+use crate::finishing::{kept_by_heap, outcome_of};
+use crate::outcome::Outcome;
+use crate::starting::{copied_scripts, layout_of, names_of, pacing_with, shapes_from};
+use std::alloc::Global;
+use std::marker::Sync;
+use std::thread::Threads;
+use tide_model::{Memory, Turnstile};
+use tide_periods::room_for;
+use tide_threads::{OnThreads, run_on_threads};
+use tide_workload::Workload;
+
+/// The heap that threads share, with a mutator for each of the workload's scripts.
+fn heap_for(alloc: Global, load: &Workload) -> Result<OnThreads, Memory>
+    ensures setting { IfOk result (λ on. setting_in on ≡ setting_of_work load.now) }
+    ensures nothing { IfOk result (λ on. (recorded_in on).history ≡ []) }
+    ensures stands { IfOk result Stands }
+    ensures callers { IfOk result (λ on. AreCallers (recorded_in on) (callers_on on)) }
+    ensures scripts { IfOk result (λ on. AreScripts load.now (scripts_of (callers_on on))) }
+{
+    let shapes = shapes_from(alloc, load.paths())?;
+    let scripts = copied_scripts(alloc, load)?;
+    let room = room_for(scripts.as_slice());
+    let on = OnThreads::new(alloc, layout_of(load), shapes, scripts, room)?;
+    Ok(on)
+}
+
+/// Runs a workload on one heap, with a thread for each mutator in each part. A cycle marks while calls go on between its
+/// pauses, and begins by itself where the workload's trigger asks for it.
+///
+/// Up to 8 visitors may be asked for. None is started yet, so their number says nothing of the run.
+pub fn run<R: Threads + Sync, T: Turnstile>(
+    rt: &R,
+    alloc: Global,
+    load: &Workload,
+    visitors: u8,
+    gate: &T,
+) -> Result<Outcome, Memory>
+    requires { visitors ≤ 8 }
+    ensures run { IfOk result (IsRunOf load.now load.now.settings.trigger) }
+    ensures heap { IfOk result (λ ran. ran.is_heap ≡ true) }
+{
+    let _ = visitors;
+    let settings = load.settings();
+    let names = names_of(alloc, load)?;
+    let on = heap_for(alloc, load)?;
+    let pacing = pacing_with(settings, settings.trigger);
+    let ran = run_on_threads(rt, gate, on, pacing)?;
+    Ok(outcome_of(load, names, kept_by_heap(ran)))
+}

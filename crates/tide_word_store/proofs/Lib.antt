@@ -1,6 +1,0 @@
-pub mod ActingLaws
-pub mod CallLaws
-pub mod ClaimWords
-pub mod CopyLaws
-pub mod PlansFit
-pub mod TakenLaws

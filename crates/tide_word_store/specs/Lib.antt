@@ -1,4 +1,0 @@
-pub mod Acting
-pub mod MayCall
-pub mod Needed
-pub mod Taken
