@@ -61,7 +61,7 @@ def bar(x, y, width, height, colour):
 
 def draw_calls(mutators):
     """A row a mutator, and the legend; with where the picture goes on."""
-    step = min(8, WIDTH / max(1, max(map(len, mutators), default=0)))
+    step = min(13, WIDTH / max(1, max(map(len, mutators), default=0)))
     shapes, y = [], 34
     for number, replies in enumerate(mutators):
         shapes.append(text(LEFT - 8, y + 12, f"mutator {number}", "end"))

@@ -9,21 +9,33 @@
   names, in order.
 - A printed call, as `drop r2 = ok`, and a printed count, as `live 1`, is a line of some workload's text.
 - The blocks of docs/READING-A-RUN.md are the text of one workload, in order.
+- In docs/WHY.md a block of text says what bench/why.py prints of that page's workload with the lines that it begins with,
+  or of what the command behind its `$` prints; and each line that WORKLOAD.md tells of a refused file is in one of them.
+- In the pages of CODE a function or a definition that is named behind a file, as `tide_paying/src/barrier.rt`: `shade`, is
+  there, and so is a clause behind a function and its crate, as `pause` of `tide_cycle`: `reached`.
+- The fields and operations of docs/WORKLOAD.md, with their limits and operands, are those that bench/why.py has.
 - A block that begins with `mutators` is a summary that a run is compared with.
 - A line on the error output, as `riptide: not TOML`, is one that a refused input or a run that fails is compared with.
 
 It also tells which links of the pages lead nowhere, and which files that they name below crates/ aren't there.
 """
 import re
+import subprocess
 import sys
 from pathlib import Path
 
 TOP = Path(__file__).resolve().parent.parent
+sys.path.insert(0, str(TOP / "bench"))
+import model
+import why
+
 DATA = TOP / "crates" / "checks" / "data"
 WITH_OPERANDS = """
     alloc table get put move set drop claim release add getp setp strong sget weak wget pair pget pdel group
 """.split()
 PRINTED = re.compile(rf"`((?:(?:{'|'.join(WITH_OPERANDS)}) [^`=]+|unclaim|collect|retire) = [^`]*|live \d+)`")
+CODE = ["README.md", *(f"docs/{page}.md" for page in ("CHANGING", "EMBED", "LIFE-OF-A-CELL", "MACHINE", "MAP", "PROVED"))]
+WITH_CLAUSES = ("README.md", "docs/PROVED.md")
 TABLE = re.compile(r"^(.*)\n\n\| Operation \| Printed \| Why \|\n\|[-|]*\|\n((?:\|.*\n)+)", re.M)
 TOLD = re.compile(r"`(riptide: [^`]*)`")
 # The forms that a table gives in place of numbers and names, and the one line that nothing brings about for sure.
@@ -98,6 +110,74 @@ def spans_differ(name, page):
             yield f"{name}: nothing that the gate runs is told {span}"
 
 
+def mistake(workload, text):
+    """The document of an example of docs/WHY.md, and what the example says of it."""
+    if text.startswith("$ "):
+        command, _, said = text[2:].partition("\n")
+        return subprocess.run(["bash", "-c", command], capture_output=True).stdout, said
+    lines = workload.split("\n")
+    while found := re.match(r"(\d+):(?: (.*))?\n", text):
+        lines[int(found[1]) - 1 : int(found[1])] = [found[2] or ""]
+        text = text[found.end() :]
+    return "\n".join(lines).encode(), text
+
+
+def mistakes_differ(name):
+    (_, workload), *examples = blocks((TOP / name).read_text())
+    if not why.explained(workload.encode())[1]:
+        yield f"{name}: its first workload is refused"
+    for _, text in examples:
+        document, said = mistake(workload, text)
+        if "\n".join(why.explained(document)[0]) + "\n" != said:
+            yield f"{name}: bench/why.py says something else of this one:\n{text}"
+    page = (TOP / "docs" / "WORKLOAD.md").read_text()
+    section = page.split("### Why a file is refused", 1)[1].split("\n## ", 1)[0]
+    shown = "".join(text for _, text in examples)
+    for line in set(TOLD.findall(section)) - FORMS:
+        if line.split(" of mutator")[0].rstrip("0123456789") not in shown:
+            yield f"{name}: no example of {line}"
+
+
+def forms_differ(name):
+    """The limits of fields and the operands of operations in a page, against those of bench/."""
+    page = (TOP / name).read_text()
+    for field, (least, most) in why.NUMBERS.items():
+        limits = f"each {least} to {most}" if field in why.FIVES else f"{least:,} to {most:,}"
+        if not re.search(rf"^\| `{field}` \| [^|]* \| {limits} \|", page, re.M):
+            yield f"{name}: the field {field} isn't told with its limits, {limits}, as bench/why.py has them"
+    for operation, form in model.FORMS.items():
+        if f"| `{f'{operation} {form}'.rstrip()}` |" not in page:
+            yield f"{name}: the operation {operation} {form} isn't told as bench/model.py has it"
+
+
+PLACE = re.compile(r"`([\w/]+\.(?:rt|antt))`(?:: | \()((?:`\w+`(?:, )?)+)")
+CLAUSE = re.compile(r"`(\w+)` of `(\w+)(?:::\w+)*`(?:: ((?:`\w+`(?:, )?)+))?")
+
+
+def code_differs(name):
+    """The functions and definitions that a page names behind a file of a crate, and the clauses behind a function's crate."""
+    page, crates = (TOP / name).read_text(), TOP / "crates"
+    for path, names in PLACE.findall(page):
+        if (crates / path).is_file():
+            text = (crates / path).read_text()
+            for item in re.findall(r"\w+", names):
+                head = rf"\b(?:fn|struct|enum|trait) {item}\b" if path.endswith(".rt") else rf"^(?:\w+ )*{item}\b"
+                if not re.search(head, text, re.M):
+                    yield f"{name}: no {item} in crates/{path}"
+        elif (crates / path.split("/")[0]).is_dir():
+            yield f"{name}: no file crates/{path}"
+    for function, crate, clauses in CLAUSE.findall(page) if name in WITH_CLAUSES else []:
+        if (crates / crate).is_dir():
+            files = [*(crates / crate / "src").rglob("*.rt"), *(crates / crate / "specs").rglob("*.antt")]
+            text = "\n".join(path.read_text() for path in sorted(files))
+            if not re.search(rf"\b{function}\b", text):
+                yield f"{name}: no {function} in {crate}"
+            heads = "".join(re.findall(rf"\bfn {function}\b(.*?)(?:^ *\{{$|;$|\Z)", text, re.M | re.S))
+            for clause in re.findall(r"\w+", clauses):
+                if not re.search(rf"\b(?:ensures|requires) {clause} ", heads):
+                    yield f"{name}: {function} of {crate} has no clause {clause}"
+
+
 def paths_differ():
     """The links of all pages, and the files that they name by a crate's folder."""
     folders = [TOP / "crates", *(TOP / "crates").iterdir()]
@@ -114,14 +194,19 @@ def paths_differ():
 
 def main():
     differ = 0
-    for message in (*paths_differ(), *walk_differs("docs/READING-A-RUN.md", "page_with_listeners")):
+    walk = walk_differs("docs/READING-A-RUN.md", "page_with_listeners")
+    for message in (*paths_differ(), *walk, *mistakes_differ("docs/WHY.md"), *forms_differ("docs/WORKLOAD.md")):
+        differ = 1
+        print(message)
+    for message in (message for name in CODE if (TOP / name).exists() for message in code_differs(name)):
         differ = 1
         print(message)
     for name in ("README.md", "docs/WORKLOAD.md"):
         page = (TOP / name).read_text()
-        for message in (*blocks_differ(name, page), *tables_differ(name, page), *spans_differ(name, page), *summaries_differ(name, page)):
-            differ = 1
-            print(message)
+        for differs in (blocks_differ, tables_differ, spans_differ, summaries_differ):
+            for message in differs(name, page):
+                differ = 1
+                print(message)
     return differ
 
 

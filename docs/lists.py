@@ -6,7 +6,7 @@
 
 - docs/DEFINITIONS.md: docs/reading-order.md, then each definition of specs/ that has a comment above it: those that the
   clauses of the top call `riptide` rest on, and then the others, crate by crate.
-- README.md, between `<!-- map -->` and `<!-- end of map -->`: the crates by layers, from crates.txt and the first
+- docs/MAP.md, between `<!-- map -->` and `<!-- end of map -->`: the crates by layers, from crates.txt and the first
   sentence of each crate's root file.
 - docs/GATE.md, between `<!-- sizes -->` and `<!-- end of sizes -->`: the size of each crate. The columns of seconds are
   those of docs/seconds.txt, which docs/seconds.py measures.
@@ -269,7 +269,7 @@ def definitions_page():
     return "\n".join(lines) + "\n"
 
 
-# The map in README.md and the sizes in docs/GATE.md
+# The map in docs/MAP.md and the sizes in docs/GATE.md
 
 
 def first_sentence(crate):
@@ -290,7 +290,7 @@ def map_of_crates(_):
     for says, here in layers():
         lines += [f"**{says[0].upper()}{says[1:]}**", "", "| Crate | What it is | Stands on |", "|---|---|---|"]
         for name, below in here:
-            lines.append(f"| [`{name}`](crates/{name}) | {first_sentence(name)} | {', '.join(below)} |")
+            lines.append(f"| [`{name}`](../crates/{name}) | {first_sentence(name)} | {', '.join(below)} |")
         lines.append("")
     return "\n".join(lines).rstrip()
 
@@ -330,10 +330,10 @@ def between(path, name, write):
 
 
 def pages():
-    readme, gate = TOP / "README.md", TOP / "docs" / "GATE.md"
+    plan, gate = TOP / "docs" / "MAP.md", TOP / "docs" / "GATE.md"
     return {
         TOP / "docs" / "DEFINITIONS.md": definitions_page(),
-        readme: between(readme, "map", map_of_crates),
+        plan: between(plan, "map", map_of_crates),
         gate: between(gate, "sizes", sizes),
     }
 

@@ -12,13 +12,15 @@ use std::alloc::Global;
 use std::marker::Sync;
 use std::thread::Threads;
 use tide_model::{Reply, Val};
+use working::Found;
 
-/// A mutator read the number that it had stored.
-fn is_seven(found: Reply) -> bool {
-    matches!(found, Reply::Seen(Val::Int(7)))
+/// A mutator read the number that it had stored, and an operation that doesn't fit its heap was not made.
+fn is_seven(found: Found) -> bool {
+    matches!(found.seen, Some(Reply::Seen(Val::Int(7)))) && found.foreign.is_none()
 }
 
-/// Runs two mutators on a heap of their own, and answers whether each found the number that it had stored.
+/// Runs two mutators on a heap of their own, and answers whether each found the number that it had stored, and made no
+/// call of an operation on a register that it doesn't have.
 pub fn both_find_seven<R: Threads + Sync>(rt: &R, alloc: Global) -> bool {
     match run(rt, alloc) {
         Some((first, second)) => is_seven(first) && is_seven(second),

@@ -8,10 +8,9 @@ ghost use Rattle.tide_mutator.specs.Viewed.{table_of, view_of};
 ghost use Rattle.tide_shape.specs.Lists.{lists_of};
 ghost use Rattle.tide_table.specs.Started.{IsStarted};
 
-use crate::working::{Worked, work};
+use crate::working::{Found, Worked, work};
 use std::marker::Sync;
 use std::thread::{Threads, join};
-use tide_model::Reply;
 use tide_mutator::Mutator;
 use tide_shape::Shapes;
 use tide_table::{Closed, Collector, Heap, Pass, PeriodsSpent, Ticket};
@@ -19,7 +18,7 @@ use tide_table::{Closed, Collector, Heap, Pass, PeriodsSpent, Ticket};
 /// What both mutators found, and the history that the heap left.
 #[derive(Drop)]
 pub struct Ran {
-    pub found: (Reply, Reply),
+    pub found: (Found, Found),
     pub closed: Closed,
 }
 

@@ -8,16 +8,25 @@ use tide_mutator::Mutator;
 use tide_shape::ShapeTable;
 use tide_steps::{Heap, Note, Ticket};
 
+/// What a mutator was answered.
+#[derive(Clone, Copy)]
+pub struct Found {
+    /// What it read from the cell that it had allocated.
+    pub seen: Option<Reply>,
+    /// To an operation on a register that no mutator has.
+    pub foreign: Option<Reply>,
+}
+
 /// What a mutator found, and its note of the part.
 #[derive(Drop)]
 pub struct Worked {
-    /// What it read from the cell that it had allocated.
-    pub found: Reply,
+    pub found: Found,
     pub note: Note,
 }
 
 /// Begins a part, sets a register to 7, takes a cell, stores the number in its first slot and reads it again; lets go of
-/// the cell, retires, and stops.
+/// the cell, retires, and stops. Two of its operations are tried, as one would be that came from outside: one that
+/// fits the layout, and one that doesn't.
 pub fn work<S: ShapeTable>(heap: &Heap<S>, mut mutator: Mutator, ticket: Ticket) -> Worked
     requires own { table_of mutator ≡ heap.now.table.shared.table_id }
     requires of_heap { ticket.seat.table_id ≡ heap.now.table.shared.table_id }
@@ -38,7 +47,8 @@ pub fn work<S: ShapeTable>(heap: &Heap<S>, mut mutator: Mutator, ticket: Ticket)
         },
         gate,
     );
-    let found = mutator.call(
+    let foreign = mutator.try_call(heap, Op::Set { dst: 16, n: 9 }, gate);
+    let seen = mutator.try_call(
         heap,
         Op::Get {
             dst: 0,
@@ -50,7 +60,7 @@ pub fn work<S: ShapeTable>(heap: &Heap<S>, mut mutator: Mutator, ticket: Ticket)
     mutator.call(heap, Op::Drop { dst: 1 }, gate);
     mutator.retire(heap, gate);
     Worked {
-        found,
+        found: Found { seen, foreign },
         note: mutator.stop(heap),
     }
 }

@@ -1,7 +1,7 @@
 //! The program `riptide`: reads a workload from standard input, runs it and prints its calls and cycles.
 //!
 //! `main` makes what is outside, the words of the command line, standard input, output and error, and hands it to
-//! `answer` of `tide_answer`, whose exit status it ends with. Nothing is decided here.
+//! `answer` of `tide_answer`, with whose exit status it ends. Nothing is decided here.
 #![tactic(auto)]
 
 mod words;
@@ -18,5 +18,6 @@ fn main(rt: HostRuntime) -> ExitCode {
     let mut source = RealSource::new(rt.stdin());
     let mut out = Gathered::new(RealSink::new(rt.stdout()));
     let mut err = RealSink::new(rt.stderr());
-    ExitCode::from(answer(&rt, alloc, words, &mut source, &mut out, &mut err))
+    let ended = answer(&rt, alloc, words, &mut source, &mut out, &mut err);
+    ExitCode::from(ended.status)
 }

@@ -1,6 +1,6 @@
 //! The words of the command line.
-ghost use Rattle.std.specs.Prelude.{◌≡◌, None, length, IfOk, IsErr};
-ghost use Rattle.std.specs.Vec.Iter.{into_iter_len};
+ghost use Rattle.std.specs.Prelude.{◌≡◌, None, IfOk, IsErr};
+ghost use Rattle.std.specs.Vec.Iter.{into_iter_items};
 ghost use Rattle.tide_options.specs.Options.{asked_by};
 
 use std::alloc::{AllocError, Global};
@@ -10,7 +10,7 @@ use std::io;
 /// The words of the command line, of which the first is the program's name. Where they aren't all text they are words that
 /// are refused.
 pub fn words_of(alloc: Global, args: io::Result<Args>) -> Result<Vec<String>, AllocError>
-    ensures count { IfOk args (λ given. IfOk result (λ words. length words.items ≡ into_iter_len given)) }
+    ensures given { IfOk args (λ given. IfOk result (λ words. words.items ≡ into_iter_items given)) }
     ensures refused { IsErr args → IfOk result (λ words. asked_by words.items ≡ None) }
 {
     match args {

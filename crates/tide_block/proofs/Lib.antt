@@ -2,5 +2,6 @@ pub mod ArrayLaws
 pub mod BitLaws
 mod BitRows
 pub mod BlockLaws
+pub mod NumberLists
 pub mod PlaceLaws
 pub mod RisingLaws

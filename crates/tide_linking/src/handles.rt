@@ -107,6 +107,9 @@ pub fn get_weak<S: HeapShapes>(
     ensures done { HasDone heap.now.key.layout (S.lists heap.now.key.shapes) op (LoadWeak dst at) result
         pass.old.seat.me.0 pass.new.seat.me.0 }
 {
+    // The cell may be unmarked while a cycle marks, and no barrier is owed: it is live (`RefsAreLive`,
+    // tide_model/specs/References.antt), and no running part frees a cell. Its register is stored before the next
+    // freeze, where registers are marked from before anything is freed.
     let word = pass.load_weak(heap, u32::from(at), Some(op));
     show(pass, heap, calls, dst, word)
 }

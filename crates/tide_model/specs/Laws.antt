@@ -2,6 +2,10 @@
 use Rattle.std.specs.Prelude.{ℕ, ◌≡◌, ◌↔◌, true, List}
 use Rattle.tide_model.specs.declared.entry.Entry.TheVariants.{End}
 use Rattle.tide_model.specs.declared.entry.Event.{Event}
+use Rattle.tide_model.specs.declared.op.Op.{Op}
+use Rattle.tide_model.specs.declared.op.Refusal.{Refusal}
+use Rattle.tide_model.specs.declared.op.Reply.TheVariants.{Refused}
+use Rattle.tide_model.specs.Caller.{MakesCall}
 use Rattle.tide_model.specs.Each.{Each}
 use Rattle.tide_model.specs.Graph.{IsRetained, graph_of, no_cell}
 use Rattle.tide_model.specs.Layout.{Layout}
@@ -31,6 +35,14 @@ abbrev pub BeginningsAreLawful : Type 0
 BeginningsAreLawful =
     (layout : Layout) (shapes : ShapeLists) (before history : List Event) → IsPrefix before history →
     IsLawful layout shapes history → IsLawful layout shapes before
+
+-- a call that is refused leaves the state that was right before it
+abbrev pub RefusalsChangeNothing : Type 0
+RefusalsChangeNothing =
+    (layout : Layout) (shapes : ShapeLists) (who : ℕ) (op : Op) (refusal : Refusal)
+    (old_seen new_seen old_mine new_mine : List Event) →
+    (made : MakesCall layout shapes who op (Refused refusal) old_seen new_seen old_mine new_mine) →
+    state_after layout new_seen ≡ state_after layout made.between
 
 -- where the event ends a cycle, it frees just the live cells that nothing retains right before it
 abbrev pub FreesTheUnretained : Layout → List Event → Event → Type 0

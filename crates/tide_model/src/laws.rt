@@ -6,6 +6,7 @@ ghost use Rattle.tide_model.specs.Laws.{
   CyclesAreExact,
   NoCellIsClaimedTwice,
   NoReferenceDangles,
+  RefusalsChangeNothing,
 };
 
 /// No register of an active mutator, no handle, and no slot, property or pair of a live cell names a cell that isn't live.
@@ -22,6 +23,11 @@ pub fn no_cell_is_claimed_twice()
 /// Each beginning of a lawful history is lawful.
 pub fn beginnings_are_lawful()
     ensures beginnings { BeginningsAreLawful }
+{}
+
+/// A refused call changes nothing: the state right after it is the one right before it, whoever made it.
+pub fn refusals_change_nothing()
+    ensures unchanged { RefusalsChangeNothing }
 {}
 
 /// With a trigger of 0, each cycle of a legal history frees just the live cells that nothing retains at its end: it

@@ -8,15 +8,13 @@
 
 mod entry;
 pub mod laws;
+mod memory;
 mod op;
 mod turnstile;
 mod val;
 
 pub use entry::{Entry, Event, Ids};
+pub use memory::Memory;
 pub use op::{Op, Refusal, Reply};
 pub use turnstile::{FreePass, Place, Turnstile};
 pub use val::Val;
-
-/// Want of memory, the one answer that needs no other cause.
-#[derive(Clone, Copy, Debug, PartialEq, Eq)]
-pub struct Memory;

@@ -4,7 +4,6 @@ pub mod OwnWords
 pub mod Planning
 pub mod Resting
 pub mod Taken
-pub mod Unchanged
 pub mod Unread
 pub mod acting_laws
 pub mod growth_laws

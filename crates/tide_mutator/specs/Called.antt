@@ -5,7 +5,6 @@ use Rattle.tide_paying.specs.Standing.{claims_of}
 use Rattle.tide_machine.specs.May.{IsBetweenCalls}
 use Rattle.tide_machine.specs.declared.view.View.{View}
 use Rattle.tide_model.specs.Caller.{MakesCall}
-use Rattle.tide_model.specs.History.{state_after}
 use Rattle.tide_model.specs.Layout.{Layout}
 use Rattle.tide_model.specs.Refused.{ShapeLists}
 use Rattle.tide_model.specs.Script.{is_retire}
@@ -31,9 +30,3 @@ pub record HasCalled (layout : Layout) (shapes : ShapeLists) (op : Op) (reply : 
   pub gone : op ≡ Retire → (u.left ≡ true) × (reply ≡ Done)
   pub born : u.born ≤ v.born + 1
   pub claims : is_of_claims op ≡ false → claims_of u ≡ claims_of v
-
--- wherever the call of a mutator stands, the state right after it is the one right before it
-abbrev pub ChangesNothing : Layout → ShapeLists → Op → Reply → View → View → Type 0
-ChangesNothing layout shapes op reply v u =
-    (made : MakesCall layout shapes v.who op reply v.seen u.seen v.mine u.mine) →
-    state_after layout u.seen ≡ state_after layout made.between

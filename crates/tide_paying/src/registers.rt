@@ -19,6 +19,9 @@ pub fn pay<S: HeapShapes>(pass: &mut Pass, heap: &Heap<S>, calls: u64, dst: u8, 
     ensures paid { HasPaid pass.old.seat.me.0 pass.new.seat.me.0 }
 {
     pass.store_register(heap, dst, val_word(value), None);
+    // The call word comes last: its mutator makes no other call and doesn't stop before it (`IsBetweenCalls`,
+    // tide_machine/specs/May.antt). So where nobody runs no word is owed, and each call word tells all calls
+    // (`ParkedIsEmpty`, `CallsAreTold`, points/Seen.antt).
     pass.store_call(heap, calls, None);
 }
 

@@ -37,10 +37,8 @@ impl Paths {
         ensures ok { OnOk result (self.new ≡ self.old ++ path.items ∷ []) }
         ensures err { OnErr result (self.new ≡ self.old) }
     {
-        match self.paths.push(path) {
-            Ok(()) => Ok(()),
-            Err(_) => Err(Memory),
-        }
+        self.paths.push(path)?;
+        Ok(())
     }
 
     /// How many paths there are.

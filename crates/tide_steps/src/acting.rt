@@ -32,6 +32,8 @@ pub(crate) fn act_as<S: HeapShapes, J: Intent>(
     ensures same { (seat.new.table_id ≡ seat.old.table_id) × (seat.new.id ≡ seat.old.id) }
     ensures step { Tells act J.layout J.shapes J.kind seat.old.me.0 result seat.new.me.0 }
 {
+    // Each is one sequentially consistent operation on one word, so all steps of all participants have one order. The
+    // history's entries have that order (`stepped`, tide_machine/specs/Machine.antt).
     let table = &heap.table.shared;
     match act {
         Act::Load => table.load::<Finds<J>>(seat, at),

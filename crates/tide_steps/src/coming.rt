@@ -47,6 +47,9 @@ impl Pass {
         ensures earlier { IsPrefix self.old.seat.me.0.earlier self.new.seat.me.0.seen }
         ensures told { IsPrefix self.old.seat.me.0.told self.new.seat.me.0.seen }
     {
+        // The word has the number that its ticket tells: the next part is opened after a freeze, which waits for this
+        // participant's note. Phase and cycle are those of the ticket till then (`NumbersRead`: `told`,
+        // tide_machine/specs/points/Seen.antt).
         let period = heap.table.shared.load::<Begins>(&mut self.seat, 0);
         if self.numbers.begun != self.numbers.part {
             self.numbers.begun = self.numbers.part;
@@ -85,6 +88,9 @@ impl Pass {
         let index = heap.stopped_index(self.numbers.who);
         let at = heap.layout().place(Region::Stopped, index);
         let part = u64::from(self.numbers.part);
+        // All that its calls owed is stored before: who doesn't run owes and holds nothing (`ParkedIsEmpty`,
+        // tide_machine/specs/points/Seen.antt). The word tells in which part that was so last (`StopsAreTold`,
+        // points/Stops.antt).
         heap.table.shared.store::<Stops>(&mut self.seat, at, part);
     }
 

@@ -12,3 +12,4 @@ mod NamedRows
 pub mod ReadingRows
 pub mod RowLaws
 pub mod RuleLaws
+pub mod TimesLaws

@@ -1,5 +1,5 @@
 -- Names that are seen as their bytes, where one is among them, and that one more is another key.
-use Rattle.std.proofs.Common.{◌≡◌, ◌≢◌, ℕ, zero, suc, ◌+◌, ◌<◌, Bool, true, false, cond, not, ◌||◌, ◌&&◌, nat_lt, nat_le, List, [], ◌∷◌, ◌++◌, length, get_or, map, refl, ap, arith, subst, sym, Vec, Global}
+use Rattle.std.proofs.Common.{◌≡◌, ◌≢◌, ◌∙◌, ℕ, zero, suc, ◌+◌, ◌<◌, Bool, true, false, cond, if◌then◌else◌, not, ◌||◌, ◌&&◌, nat_lt, nat_le, List, [], ◌∷◌, ◌++◌, length, get_or, map, refl, ap, arith, subst, sym, Vec, Global}
 use Rattle.std.proofs.Common.{unwrap_or}
 use Rattle.std.proofs.lemmas.List.{length-map, map-append}
 use Rattle.std.proofs.lemmas.Bool.Decides.{nat_tests}
@@ -12,7 +12,9 @@ use Rattle.std.proofs.lemmas.List.Elements.{All-nil, All-push}
 use Rattle.std.proofs.lemmas.List.Quantifiers.{all_pairs_push}
 use Rattle.std.proofs.lemmas.Slice.Eq.{bytes_eq-Decides}
 use Rattle.std.specs.List.{list_all, list_any, position, position_or_len}
+use Rattle.std.specs.Cmp.Lexicographic.{nat_list_eq_equiv}
 use Rattle.std.specs.Str.{bytes_eq}
+use Rattle.indexmap.specs.IndexSet.{insert_key}
 use Rattle.tide_work.specs.declared.keys.TheConstants.{MAX_KEYS, MAX_KEY_BYTES}
 use Rattle.tide_work.proofs.SpacedLemmas.{IsWord, list_all-weaker}
 use Rattle.tide_work.specs.Words.{is_word_byte}
@@ -30,6 +32,24 @@ position_or_len-map p show (y ∷ ys) = ap (λ rest. cond (not (p (show y))) (1 
 
 pub position-map : {X Y : Type 0} (p : X → Bool) (show : Y → X) (ys : List Y) → position p (map show ys) ≡ position (λ y. p (show y)) ys
 position-map p show ys = rw (position_or_len-map p show ys, length-map ys show)
+
+-- a word is compared with a name as the name is with the word
+turned : (word : List ℕ) → ◌≡◌ {A = List ℕ → Bool} (λ name. bytes_eq word name) (λ name. bytes_eq name word)
+turned word = λ i name. nat_list_eq_equiv.symm word name i
+
+-- what a look-up of a word among names, each seen as its bytes, answers of their bytes
+pub named_by_bytes : (names : List (Vec ℕ Global)) (word : List ℕ)
+    → list_any (λ known. bytes_eq word known.items) names ≡ is_named (map (λ (v : Vec ℕ Global). v.items) names) word
+named_by_bytes names word =
+    ap (λ (test : List ℕ → Bool). list_any (λ (v : Vec ℕ Global). test v.items) names) (turned word)
+    ∙ sym (list_any-map (λ known. bytes_eq known word) (λ (v : Vec ℕ Global). v.items) names)
+
+-- and its place
+pub placed_by_bytes : (names : List (Vec ℕ Global)) (word : List ℕ)
+    → position (λ known. bytes_eq word known.items) names ≡ position (λ known. bytes_eq known word) (map (λ (v : Vec ℕ Global). v.items) names)
+placed_by_bytes names word =
+    ap (λ (test : List ℕ → Bool). position (λ (v : Vec ℕ Global). test v.items) names) (turned word)
+    ∙ sym (position-map (λ known. bytes_eq known word) (λ (v : Vec ℕ Global). v.items) names)
 
 -- the place of the first that passes, or else how many there are
 pub position_or_length : {X : Type 0} (p : X → Bool) (xs : List X) → unwrap_or (position p xs) (length xs) ≡ position_or_len p xs
@@ -56,13 +76,18 @@ one_more_key names word keys room key new = record {
   distinct = all_pairs_push (λ earlier later. earlier ≢ later) names word keys.distinct (unnamed names word new);
 }
 
--- the same of names that are seen as their bytes, and a copy of the new one
-pub pushed_key : (names now : List (Vec ℕ Global)) (copy : Vec ℕ Global) (view : List (List ℕ)) (word : List ℕ) → now ≡ names ++ copy ∷ []
-    → copy.items ≡ word → map (λ (v : Vec ℕ Global). v.items) names ≡ view → AreKeys (map (λ (v : Vec ℕ Global). v.items) names)
-    → length view < MAX_KEYS → is_key word ≡ true → is_named view word ≡ false → AreKeys (map (λ (v : Vec ℕ Global). v.items) now)
-pushed_key names now copy view word pushed same seen keys room key new =
+-- the same of a set of names that are seen as their bytes, and a copy of the new one
+pub inserted_key : (names now : List (Vec ℕ Global)) (copy : Vec ℕ Global) (view : List (List ℕ)) (word : List ℕ)
+    → now ≡ insert_key (λ (x y : Vec ℕ Global). bytes_eq x.items y.items) names copy → copy.items ≡ word
+    → map (λ (v : Vec ℕ Global). v.items) names ≡ view → AreKeys (map (λ (v : Vec ℕ Global). v.items) names)
+    → length view < MAX_KEYS → is_key word ≡ true → is_named view word ≡ false
+    → (map (λ (v : Vec ℕ Global). v.items) now ≡ view ++ word ∷ []) × AreKeys (map (λ (v : Vec ℕ Global). v.items) now)
+inserted_key names now copy view word inserted same seen keys room key new =
+    let apart : list_any (λ (v : Vec ℕ Global). bytes_eq copy.items v.items) names ≡ false =
+    named_by_bytes names copy.items ∙ ap (λ word. is_named (map (λ (v : Vec ℕ Global). v.items) names) word) same ∙ ap (λ view. is_named view word) seen ∙ new in
+    let pushed : now ≡ names ++ copy ∷ [] = inserted ∙ ap (λ there. if there then names else names ++ copy ∷ []) apart in
     let behind : map (λ (v : Vec ℕ Global). v.items) now ≡ view ++ word ∷ [] = rw (pushed, map-append, seen, same) refl in
-    subst AreKeys (sym behind) (one_more_key view word (subst AreKeys seen keys) room key new)
+    (behind, subst AreKeys (sym behind) (one_more_key view word (subst AreKeys seen keys) room key new))
 
 -- a key has 1 to 16 bytes
 pub key_sized : (word : List ℕ) → is_key word ≡ true → IsBetween 1 MAX_KEY_BYTES (length word)

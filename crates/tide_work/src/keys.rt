@@ -1,9 +1,10 @@
 //! The names of property keys. What a path of them is stands elsewhere.
-ghost use Rattle.std.specs.Prelude.{◌≡◌, ◌<◌, length, position, IfSome};
-ghost use Rattle.std.specs.List.{list_all, list_any};
+ghost use Rattle.std.specs.Prelude.{◌≡◌, ◌<◌, length, position};
+ghost use Rattle.std.specs.List.{list_all};
 ghost use Rattle.std.specs.Str.{bytes_eq};
 ghost use Rattle.tide_work.specs.Keys.{is_key, is_key_byte};
 
+use indexmap::IndexSet;
 use std::alloc::{AllocError, Global};
 use std::marker::Model;
 
@@ -40,7 +41,7 @@ pub fn is_key(word: &[u8]) -> bool
 /// The names of property keys by number. Contracts see the bytes of each.
 #[derive(Drop)]
 pub struct Keys {
-    names: Vec<Vec<u8>>,
+    names: IndexSet<Vec<u8>>,
 }
 
 impl Model for Keys {
@@ -49,24 +50,9 @@ impl Model for Keys {
 
     ghost Value = { List (List ℕ) };
 
-    ghost view = { λ keys. map (λ name. name.items) keys.names.items };
+    ghost view = { λ keys. map (λ name. name.items) keys.names.keys };
 
-    ghost invariant = { λ keys. AreKeys (map (λ name. name.items) keys.names.items) };
-}
-
-/// Whether a name is one of some.
-fn has_name(names: &[Vec<u8>], name: &[u8]) -> bool
-    ensures { result ≡ list_any (λ known. bytes_eq known.items name.now) names.now }
-{
-    names.iter().any(|known| known.as_slice() == name)
-}
-
-/// The place of a name among some.
-fn place_among(names: &[Vec<u8>], name: &[u8]) -> Option<usize>
-    ensures place { result ≡ position (λ known. bytes_eq known.items name.now) names.now }
-    ensures within { IfSome result (λ place. place < length names.now) }
-{
-    names.iter().position(|known| known.as_slice() == name)
+    ghost invariant = { λ keys. AreKeys (map (λ name. name.items) keys.names.keys) };
 }
 
 impl Keys {
@@ -79,7 +65,7 @@ impl Keys {
         ensures { result ≡ [] }
     {
         Keys {
-            names: Vec::new(alloc),
+            names: IndexSet::new(alloc),
         }
     }
 
@@ -95,14 +81,14 @@ impl Keys {
     fn has(&self, name: &[u8]) -> bool
         ensures { result ≡ is_named self.now name.now }
     {
-        has_name(self.names.as_slice(), name)
+        self.names.contains(name)
     }
 
     /// The number of the key with this name.
     pub fn number(&self, name: &[u8]) -> Option<u32>
         ensures { result ≡ position (λ known. bytes_eq known name.now) self.now }
     {
-        let key = place_among(self.names.as_slice(), name)?;
+        let key = self.names.get_index_of(name)?;
         Some(key as u32)
     }
 
@@ -130,7 +116,7 @@ impl Keys {
         ensures { OnOk result (self.new ≡ add_name self.old name.now) }
     {
         if !self.has(name) {
-            self.names.push(name.to_vec(alloc)?)?;
+            self.names.insert(name.to_vec(alloc)?)?;
         }
         Ok(())
     }

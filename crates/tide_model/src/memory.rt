@@ -1,0 +1,18 @@
+//! Want of memory. It knows no store.
+use std::alloc::{AllocError, AllocFailed};
+
+/// Want of memory, the one answer that needs no other cause.
+#[derive(Clone, Copy, Debug, PartialEq, Eq)]
+pub struct Memory;
+
+impl From<AllocError> for Memory {
+    fn from(_: AllocError) -> Memory {
+        Memory
+    }
+}
+
+impl<T: Drop> From<AllocFailed<T>> for Memory {
+    fn from(_: AllocFailed<T>) -> Memory {
+        Memory
+    }
+}
