@@ -5,3 +5,6 @@ pub mod TakingSteps
 pub mod ReadingSteps
 pub mod MarkingSteps
 pub mod VisitingSteps
+pub mod Freezes
+pub mod Resting
+pub mod Noting

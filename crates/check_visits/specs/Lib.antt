@@ -1,3 +1,4 @@
 -- The definitions of this crate.
 pub mod Visiting
 pub mod Scans
+pub mod Parts

@@ -1,0 +1,48 @@
+-- What the collector has of a visitor's note once it took it in.
+use Rattle.std.proofs.Common.{ℕ, ◌≡◌, ◌+◌, ◌<◌, refl, sym, ◌∙◌, ap, subst, arith, Bool, true, List, ◌∷◌, inl, inr}
+use Rattle.std.proofs.lemmas.Bool.{eq-eqb}
+use Rattle.std.specs.Prelude.{◌==◌, if◌then◌else◌, Contains}
+use Rattle.check_visits.specs.Parts.{IsNoteOf}
+use Rattle.tide_heap.specs.Parties.{In}
+use Rattle.tide_heap.specs.Turns.{noted, visited_of}
+use Rattle.tide_machine.specs.declared.view.View.{View}
+use Rattle.tide_machine.specs.declared.view.Visited.{Visited}
+
+-- below, a is the collector's view before the part, v before the note, and w after it
+module _ (a v u w : View) (same : v ≡ a) (took : w ≡ noted v u) (note : IsNoteOf 16 a.period u) where
+  pub who_in : In 16 w.notes
+  who_in = subst (λ (x : View). In 16 x.notes) (sym took) (inl (sym note.who))
+
+  pub others_in : (i : ℕ) → In i a.notes → In i w.notes
+  others_in i at = subst (λ (x : View). In i x.notes) (sym took) (inr (subst (λ (x : View). In i x.notes) (sym same) at))
+
+  counts : (if u.begun == v.period then u.visits else 0) ≡ u.visits
+  counts = ap {B = ℕ} (λ (b : Bool). if b then u.visits else 0)
+      (eq-eqb u.begun v.period (note.begun ∙ sym (ap (λ (x : View). x.period) same)))
+
+  pub visits_by : (visits : ℕ) → a.ledger ≡ 0 → visits ≡ u.visits → w.ledger ≡ visits
+  visits_by visits none is =
+      let ledger = ap (λ (x : View). x.ledger) took in
+      let before = ap (λ (x : View). x.ledger) same in
+      let counted = counts in
+      omega (arith, ledger, before, counted, none, is)
+
+  told_is : (visits : ℕ) (done : Bool) → visits ≡ u.visits → done ≡ u.done → done ≡ true →
+      visited_of v.period u ≡ record { who = 16; visits = visits; done = true }
+  told_is visits done is same_done yes_done = λ i. record {
+    who = note.who i;
+    visits = (counts ∙ sym is) i;
+    done = (sym same_done ∙ yes_done) i;
+  }
+
+  pub told_by : (visits : ℕ) (done : Bool) → visits ≡ u.visits → done ≡ u.done → done ≡ true →
+      Contains w.visited (record { who = 16; visits = visits; done = true })
+  told_by visits done is same_done yes_done =
+      subst (λ (x : View). Contains x.visited (record { who = 16; visits = visits; done = true })) (sym took)
+      (0, omega arith, told_is visits done is same_done yes_done)
+
+  pub period_same : w.period ≡ a.period
+  period_same = ap (λ (x : View). x.period) took ∙ ap (λ (x : View). x.period) same
+
+  pub frozen_same : w.frozen ≡ a.frozen
+  frozen_same = ap (λ (x : View). x.frozen) took ∙ ap (λ (x : View). x.frozen) same

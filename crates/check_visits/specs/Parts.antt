@@ -1,0 +1,34 @@
+-- What is known between parts, of a note, and at a freeze in which a visitor's visits are entered.
+use Rattle.std.specs.Prelude.{ℕ, ◌≡◌, true, false, length}
+use Rattle.tide_layout.specs.Region.{word_count}
+use Rattle.tide_layout.specs.declared.region.Region.TheVariants.{Stopped}
+use Rattle.tide_machine.specs.Frozen.{FrozenWith}
+use Rattle.tide_machine.specs.May.{Rests}
+use Rattle.tide_machine.specs.declared.view.View.{View}
+use Rattle.tide_model.specs.Layout.{Layout}
+use Rattle.tide_model.specs.Refused.{ShapeLists}
+use Rattle.tide_table.specs.Shown.{was_black_in}
+use Rattle.tide_words.specs.heap.Heap.{SameIn, heap_of}
+use Rattle.tide_words.specs.marking.Colours.{is_black}
+
+-- the participant stands between two parts: it has handed out the note of the one in which it began last, and hasn't left
+pub record IsParked (v : View) : Type 0 where
+  pub runs : v.runs ≡ false
+  pub stays : v.left ≡ false
+  pub rests : Rests v
+  pub noted : v.begun ≡ v.period
+
+-- the note is this participant's, of the part with this number, in which it began
+pub record IsNoteOf (visitor part : ℕ) (note : View) : Type 0 where
+  pub who : note.who ≡ visitor
+  pub period : note.period ≡ part
+  pub begun : note.begun ≡ part
+
+-- The collector's view at a freeze, whose words are those of its history: no cell is
+-- black that wasn't at the last entry, no visit is left to enter, and who stopped when stands as it did when all had stopped.
+pub record IsAtFreeze (layout : Layout) (shapes : ShapeLists) (v : View) : Type 0 where
+  pub frozen : v.frozen ≡ true
+  pub blacks : was_black_in layout v (is_black (heap_of layout v.words))
+  pub long : length v.words ≡ word_count layout
+  pub wave : FrozenWith layout shapes (heap_of layout v.words) v.seen 0
+  pub stopped : SameIn layout Stopped (heap_of layout v.stood) (heap_of layout v.words)
