@@ -1,4 +1,3 @@
 pub mod Looks
-pub mod Books
 pub mod Nexts
 pub mod Pairing

@@ -3,12 +3,14 @@ use Rattle.std.proofs.Common.{ℕ, zero, suc, ◌≡◌, ◌+◌, ◌<◌, ◌�
 use Rattle.std.proofs.lemmas.Bool.{eqb-true}
 use Rattle.std.specs.Prelude.{◌==◌, if◌then◌else◌}
 use Rattle.check_callers.specs.Working.{IsReady, Stays}
-use Rattle.check_table.specs.Between.{HasOpenedNext, RunsPart}
+use Rattle.check_table.specs.Unvisited.{RunsPart}
+use Rattle.tide_table.specs.Standing.{HasOpenedNext}
+use Rattle.tide_table.specs.VisitsTold.{unentered}
 use Rattle.check_table.specs.Pairs.{HasOpened, HaveBegun, HaveCalled, HaveStopped, SameCalls, gone_if}
 use Rattle.check_table.specs.Resting.{IsAtRest, TakesPart}
 use Rattle.check_table.specs.Working.{HasLooked, IsSmall}
 use Rattle.check_table.specs.declared.pair.Pair.{Pair}
-use Rattle.tide_freeze.specs.declared.births.Births.{Births}
+use Rattle.tide_freeze.specs.declared.books.Books.{Books}
 use Rattle.tide_heap.specs.Parties.{In, IsParty}
 use Rattle.tide_heap.specs.Turns.{heard_view, note_of, noted, ticket_of}
 use Rattle.tide_heap.specs.declared.heap.Heap.{Heap}
@@ -20,7 +22,6 @@ use Rattle.tide_machine.specs.kinds.Split.{split_view}
 use Rattle.tide_machine.specs.kinds.StoreStopped.{stopped_view}
 use Rattle.tide_model.specs.Layout.{Layout}
 use Rattle.tide_model.specs.declared.entry.Event.{Event}
-use Rattle.tide_report.specs.Reports.{Reported}
 use Rattle.tide_shape.specs.declared.shapes.Shapes.{Shapes}
 
 -- a mutator that knows nothing is at rest before any part but one with the number 0
@@ -141,28 +142,29 @@ stopped_rests who part v takes = record {
   };
 }
 
-nothing_more : (b : Bool) (visits ledger : ℕ) → visits ≡ 0 → ledger ≡ 0 → ledger + (if b then visits else 0) ≡ 0
-nothing_more true visits ledger none is = omega (arith, none, is)
-nothing_more false visits ledger none is = omega (arith, is)
+nothing_more : (b : Bool) (visits unentered : ℕ) → visits ≡ 0 → unentered ≡ 0 → (if b then visits else 0) + unentered ≡ 0
+nothing_more true visits unentered none is = omega (arith, none, is)
+nothing_more false visits unentered none is = omega (arith, is)
 
 -- the collector takes its note in, which tells no visit
-pub noted_runs : (layout : Layout) (births : Births) (report : Reported) (c v : View) → v.visits ≡ 0 →
-    RunsPart layout births report c → RunsPart layout births report (noted c (note_of true (stopped_view v)))
-noted_runs layout births report c v none runs = record {
-  running = runs.running;
-  unvisited = nothing_more (v.begun == c.period) v.visits c.ledger none runs.unvisited;
-  numbered = runs.numbered;
-  few = runs.few;
-  books = runs.books;
+pub noted_runs : (layout : Layout) (books : Books) (c v : View) → v.visits ≡ 0 → RunsPart layout books c →
+    RunsPart layout books (noted c (note_of true (stopped_view v)))
+noted_runs layout books c v none runs = record {
+  part = record {
+    runs = record { running = runs.part.runs.running; period = runs.part.runs.period; run = runs.part.runs.run; ends = runs.part.runs.ends };
+    few = runs.part.few;
+    numbered = runs.part.numbered;
+    are = runs.part.are;
+  };
+  unvisited = nothing_more (v.begun == c.period) v.visits (unentered c.visited) none runs.unvisited;
 }
 
 -- the same books over the same heap
-runs_same : (p q : Pair) (v : View) → q.heap ≡ p.heap → q.births ≡ p.births → q.report ≡ p.report →
-    RunsPart p.heap.key.layout p.births p.report v → RunsPart q.heap.key.layout q.births q.report v
-runs_same p q v heap births report runs =
-    subst (λ (h : Heap Shapes). RunsPart h.key.layout q.births q.report v) (sym heap)
-    (subst (λ (b : Births). RunsPart p.heap.key.layout b q.report v) (sym births)
-    (subst (λ (r : Reported). RunsPart p.heap.key.layout p.births r v) (sym report) runs))
+runs_same : (p q : Pair) (v : View) → q.heap ≡ p.heap → q.books ≡ p.books →
+    RunsPart p.heap.key.layout p.books v → RunsPart q.heap.key.layout q.books v
+runs_same p q v heap books runs =
+    subst (λ (h : Heap Shapes). RunsPart h.key.layout q.books v) (sym heap)
+    (subst (λ (b : Books). RunsPart p.heap.key.layout b v) (sym books) runs)
 
 -- a beginning is no call
 pub begun_keeps : (v c u : View) → u ≡ begun_view (heard_view v (ticket_of c)) →
@@ -187,15 +189,15 @@ is_ready layout who part calls left v small below takes made is_left = record {
 }
 
 -- both begin
-pub begin_both : (p q : Pair) (c : View) → q.heap ≡ p.heap → q.births ≡ p.births → q.report ≡ p.report →
+pub begin_both : (p q : Pair) (c : View) → q.heap ≡ p.heap → q.books ≡ p.books →
     c ≡ p.collector.seat.me.0 → q.collector.seat.me.0 ≡ c →
     q.one.seat.me.0 ≡ begun_view (heard_view p.one.seat.me.0 (ticket_of p.collector.seat.me.0)) →
     q.other.seat.me.0 ≡ begun_view (heard_view p.other.seat.me.0 (ticket_of c)) → HasOpened p → HaveBegun q
-begin_both p q c heap births report first second one other opened =
+begin_both p q c heap books first second one other opened =
     let same = second ∙ first in
     record {
-      part = subst (RunsPart q.heap.key.layout q.births q.report) (sym same)
-          (runs_same p q p.collector.seat.me.0 heap births report opened.part);
+      part = subst (RunsPart q.heap.key.layout q.books) (sym same)
+          (runs_same p q p.collector.seat.me.0 heap books opened.part);
       notes = ap (λ (x : View). x.notes) same ∙ opened.notes;
       gone = ap (λ (x : View). x.gone) same ∙ opened.gone;
       one = subst (λ (x : View). TakesPart 0 q.collector.seat.me.0.period x) (sym one)
@@ -220,21 +222,21 @@ two_gone false true a b g same is_a is_b none = absurd (cc)
 two_gone false false a b g same is_a is_b none = none
 
 -- both stop
-pub stop_both : (p q : Pair) (c : View) → q.heap ≡ p.heap → q.births ≡ p.births → q.report ≡ p.report →
+pub stop_both : (p q : Pair) (c : View) → q.heap ≡ p.heap → q.books ≡ p.books →
     c ≡ noted p.collector.seat.me.0 (note_of true (stopped_view p.one.seat.me.0)) →
     q.collector.seat.me.0 ≡ noted c (note_of true (stopped_view p.other.seat.me.0)) →
     q.one.seat.me.0 ≡ split_view (stopped_view p.one.seat.me.0) →
     q.other.seat.me.0 ≡ split_view (stopped_view p.other.seat.me.0) → HaveBegun p → HaveStopped q
-stop_both p q c heap births report first second one other begun =
+stop_both p q c heap books first second one other begun =
     let period : q.collector.seat.me.0.period ≡ p.collector.seat.me.0.period =
     ap (λ (x : View). x.period) second ∙ ap (λ (x : View). x.period) first in
     let left : q.one.seat.me.0.left ≡ p.one.seat.me.0.left = ap (λ (x : View). x.left) one in
     record {
-      part = subst (RunsPart q.heap.key.layout q.births q.report) (sym second)
-          (noted_runs q.heap.key.layout q.births q.report c p.other.seat.me.0 begun.other.visits
-          (subst (RunsPart q.heap.key.layout q.births q.report) (sym first)
-          (noted_runs q.heap.key.layout q.births q.report p.collector.seat.me.0 p.one.seat.me.0 begun.one.visits
-          (runs_same p q p.collector.seat.me.0 heap births report begun.part))));
+      part = subst (RunsPart q.heap.key.layout q.books) (sym second)
+          (noted_runs q.heap.key.layout q.books c p.other.seat.me.0 begun.other.visits
+          (subst (RunsPart q.heap.key.layout q.books) (sym first)
+          (noted_runs q.heap.key.layout q.books p.collector.seat.me.0 p.one.seat.me.0 begun.one.visits
+          (runs_same p q p.collector.seat.me.0 heap books begun.part))));
       notes = ap (λ (x : View). x.notes) second
           ∙ ap (λ (l : List ℕ). p.other.seat.me.0.who ∷ l) (ap (λ (x : View). x.notes) first)
           ∙ two_notes p.one.seat.me.0.who p.other.seat.me.0.who p.collector.seat.me.0.notes begun.one.is begun.other.is
@@ -274,9 +276,9 @@ all_in layout notes gone small is i party = subst (λ (l : List ℕ). In i l ⊎
 -- the next part is opened
 pub opened_both : (q : Pair) (c : View) → IsAtRest 0 (c.period + 1) q.one.seat.me.0 →
     IsAtRest 1 (c.period + 1) q.other.seat.me.0 → q.one.seat.me.0.left ≡ false → q.other.seat.me.0.left ≡ false →
-    c.gone ≡ [] → HasOpenedNext q.heap.key.layout q.births q.report c q.collector.seat.me.0 → HasOpened q
+    c.gone ≡ [] → HasOpenedNext q.heap.key.layout q.books c q.collector.seat.me.0 → HasOpened q
 opened_both q c one other one_stays other_stays gone next = record {
-  part = next.part;
+  part = record { part = next.runs; unvisited = ap unentered next.visited };
   notes = next.notes;
   gone = next.gone ∙ gone;
   one = subst (λ (n : ℕ). IsAtRest 0 n q.one.seat.me.0) (sym next.period) one;

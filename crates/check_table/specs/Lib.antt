@@ -1,5 +1,5 @@
 pub mod Working
-pub mod Between
 pub mod Resting
 pub mod Pairs
 pub mod Standing
+pub mod Unvisited

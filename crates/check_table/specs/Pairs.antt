@@ -1,16 +1,15 @@
 -- Two mutators and their collector, as they stand between two calls of these parts.
 use Rattle.std.specs.Prelude.{ℕ, ◌≡◌, ◌+◌, ◌<◌, Bool, false, List, [], ◌∷◌, if◌then◌else◌}
-use Rattle.check_table.specs.Between.{RunsPart}
+use Rattle.check_table.specs.Unvisited.{RunsPart}
 use Rattle.check_table.specs.Resting.{IsAtRest, TakesPart}
 use Rattle.check_table.specs.declared.pair.Pair.{Pair}
-use Rattle.tide_freeze.specs.Births.{AreBornIn}
+use Rattle.tide_freeze.specs.Books.{AreBooks}
 use Rattle.tide_heap.specs.declared.heap.Heap.{Heap}
 use Rattle.tide_machine.specs.Frozen.{newcomer}
 use Rattle.tide_model.specs.History.{state_after}
 use Rattle.tide_model.specs.Lawful.{IsLawful}
 use Rattle.tide_model.specs.Layout.{Layout}
 use Rattle.tide_model.specs.declared.entry.Event.{Event}
-use Rattle.tide_report.specs.Ends.{TellsEnds}
 use Rattle.tide_shape.specs.Lists.{lists_of}
 use Rattle.tide_shape.specs.declared.shapes.Shapes.{Shapes}
 use Rattle.tide_table.specs.Started.{IsStarted}
@@ -34,7 +33,7 @@ pub record SameCalls (p q : Pair) : Type 0 where
 
 -- a part was just opened: no note is in, nobody has left, and neither mutator has begun
 pub record HasOpened (p : Pair) : Type 0 where
-  pub part : RunsPart p.heap.key.layout p.births p.report p.collector.seat.me.0
+  pub part : RunsPart p.heap.key.layout p.books p.collector.seat.me.0
   pub notes : p.collector.seat.me.0.notes ≡ []
   pub gone : p.collector.seat.me.0.gone ≡ []
   pub one : IsAtRest 0 p.collector.seat.me.0.period p.one.seat.me.0
@@ -44,7 +43,7 @@ pub record HasOpened (p : Pair) : Type 0 where
 
 -- both run in the open part, no note is in, and both have left for good or neither has
 pub record HaveBegun (p : Pair) : Type 0 where
-  pub part : RunsPart p.heap.key.layout p.births p.report p.collector.seat.me.0
+  pub part : RunsPart p.heap.key.layout p.books p.collector.seat.me.0
   pub notes : p.collector.seat.me.0.notes ≡ []
   pub gone : p.collector.seat.me.0.gone ≡ []
   pub one : TakesPart 0 p.collector.seat.me.0.period p.one.seat.me.0
@@ -57,7 +56,7 @@ gone_if left = if left then 1 ∷ 0 ∷ [] else []
 
 -- both have stopped in the open part, and their notes are in
 pub record HaveStopped (p : Pair) : Type 0 where
-  pub part : RunsPart p.heap.key.layout p.births p.report p.collector.seat.me.0
+  pub part : RunsPart p.heap.key.layout p.books p.collector.seat.me.0
   pub notes : p.collector.seat.me.0.notes ≡ 1 ∷ 0 ∷ []
   pub gone : p.collector.seat.me.0.gone ≡ gone_if p.one.seat.me.0.left
   pub one : IsAtRest 0 (p.collector.seat.me.0.period + 1) p.one.seat.me.0
@@ -69,8 +68,7 @@ pub record HasStarted (p : Pair) : Type 0 where
   pub started : IsStarted p.heap.key.layout (lists_of p.heap.key.shapes) p.collector.seat.me.0
   pub one : p.one.seat.me.0 ≡ newcomer 0
   pub other : p.other.seat.me.0 ≡ newcomer 1
-  pub births : AreBornIn [] p.births
-  pub told : TellsEnds p.heap.key.layout [] p.report
+  pub books : AreBooks p.heap.key.layout [] p.books
 
 -- what the heap of two mutators leaves: a lawful history, in which both have retired
 pub record IsClosedOf (heap : Heap Shapes) (closed : Closed) : Type 0 where

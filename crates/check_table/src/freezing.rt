@@ -1,20 +1,17 @@
 //! The freeze code that runs over words with a history, here over a heap of shared words that stands still.
-ghost use Rattle.std.specs.Prelude.{◌≡◌, [], IfOk};
+ghost use Rattle.std.specs.Prelude.{◌≡◌, IfOk};
 ghost use Rattle.check_table.specs.Standing.{opened_once, StandsStill};
-ghost use Rattle.tide_report.specs.Ends.{TellsEnds};
+ghost use Rattle.tide_freeze.specs.Books.{AreBooks};
 ghost use Rattle.tide_machine.specs.Frozen.{newcomer};
 ghost use Rattle.tide_shape.specs.Lists.{lists_of};
 ghost use Rattle.tide_table.specs.Started.{IsStarted};
 
-use crate::between::PACING;
 use check_callers::{begin_part, open_first, stop_and_freeze};
-use tide_cycle::Report;
-use tide_freeze::{Births, freeze};
+use tide_freeze::{Books, freeze};
 use tide_layout::Layout;
 use tide_model::Memory;
 use tide_shape::Shapes;
 use tide_table::{Collector, Frozen, Heap, Pass, PeriodsSpent};
-use tide_words::{GreyList, MAX_CELLS};
 
 /// Opens the first part, in which the one mutator begins and stops without a call, and freezes.
 pub fn stand_still<'a>(
@@ -47,23 +44,16 @@ pub struct Runs {
 pub fn freeze_twice(
     frozen: &mut Frozen<'_, Shapes>,
     layout: &Layout,
-    list: &mut GreyList,
-    report: &mut Report,
+    books: &mut Books,
 ) -> Result<Runs, Memory>
     requires stands { StandsStill layout.now (lists_of frozen.old.heap.now.key.shapes) 5
         frozen.old.collector.now.seat.me.0 }
     requires layout { frozen.old.heap.now.key.layout ≡ layout.now }
-    requires empty { list.old.cells ≡ [] }
-    requires room { list.old.cap ≡ 20480 }
-    requires told { TellsEnds layout.now (opened_once 5) report.old }
-    requires no_visitors { layout.now.visitors ≡ 0 }
+    requires books { AreBooks layout.now (opened_once 5) books.old }
 {
-    let mut births = Births::none();
-    let cells = layout.cells();
-    prove!(cells <= MAX_CELLS);
-    report.make_room(2, 2 * cells)?;
-    let nothing_due = freeze(frozen, layout, PACING, false, &mut births, list, report)?;
-    report.make_room(2, 2 * cells)?;
-    let must = freeze(frozen, layout, PACING, true, &mut births, list, report)?;
+    books.make_room(layout)?;
+    let nothing_due = freeze(frozen, layout, books, false);
+    books.make_room(layout)?;
+    let must = freeze(frozen, layout, books, true);
     Ok(Runs { nothing_due, must })
 }

@@ -14,9 +14,9 @@
 //! - `freezes`: the freeze code runs twice over a frozen heap, with nothing due and as a must.
 #![tactic(auto)]
 
-mod between;
 mod chains;
 mod freezing;
+mod pacing;
 mod pair;
 mod pairs;
 mod rows;

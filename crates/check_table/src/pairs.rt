@@ -4,12 +4,12 @@ ghost use Rattle.check_callers.specs.Working.{all_calls, put_calls};
 ghost use Rattle.check_table.specs.Pairs.{no_calls, HasOpened, HasStarted, HaveBegun, HaveCalled, HaveStopped};
 ghost use Rattle.check_table.specs.Pairs.{IsClosedOf, SameCalls};
 
-use crate::between::{Stopped, next_part};
 use crate::pair::Pair;
 use crate::working::{Found, look, put};
 use check_callers::{begin_part, leave, open_first, stop_part};
 use tide_cycle::Report;
-use tide_table::{Closed, Numbers, PeriodsSpent};
+use tide_freeze::Books;
+use tide_table::{Closed, NotOpened, Numbers, PeriodsSpent};
 
 impl Pair {
     /// Opens the first part.
@@ -87,21 +87,14 @@ impl Pair {
     }
 
     /// Freezes the part, runs a whole cycle, and opens the next one.
-    pub fn next(&mut self) -> Result<(), Stopped>
+    pub fn next(&mut self) -> Result<(), NotOpened>
         requires stopped { HaveStopped self.old }
         requires stay { self.old.one.seat.me.0.left ≡ false }
         ensures heap { self.new.heap ≡ self.old.heap }
         ensures opened { OnOk result (HasOpened self.new) }
         ensures calls { SameCalls self.old self.new }
     {
-        next_part(
-            &self.heap,
-            &mut self.collector,
-            true,
-            &mut self.births,
-            &mut self.list,
-            &mut self.report,
-        )?;
+        self.collector.next_part(&self.heap, &mut self.books, true)?;
         Ok(())
     }
 
@@ -114,9 +107,10 @@ impl Pair {
         let Pair {
             heap,
             mut collector,
-            report,
+            books,
             ..
         } = self;
+        let Books { report, .. } = books;
         collector.freeze(&heap);
         (collector.close(heap), report)
     }

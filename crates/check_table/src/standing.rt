@@ -1,16 +1,18 @@
 //! What is done to heaps that stand still: a chain is marked, and the freeze code runs twice. It prints nothing.
 ghost use Rattle.std.specs.Prelude.{◌≡◌, ◌≤◌, []};
 ghost use Rattle.check_table.specs.Standing.{opened_once};
-ghost use Rattle.tide_report.specs.Ends.{TellsEnds};
+ghost use Rattle.tide_freeze.specs.Books.{AreBooks};
 ghost use Rattle.tide_shape.specs.Lists.{lists_of};
 ghost use Rattle.tide_table.specs.Started.{IsStarted};
 
 use crate::chains::{Marked, mark_in_two, store_all};
 use crate::freezing::{Runs, freeze_twice, stand_still};
+use crate::pacing::PACING;
 use crate::starting::{Single, start_single};
 use check_heap::{Heap, layout_of, words_of};
 use std::alloc::{AllocError, Global};
 use tide_cycle::Report;
+use tide_freeze::Books;
 use tide_layout::Layout;
 use tide_model::Memory;
 use tide_words::{GreyList, MAX_CELLS};
@@ -95,18 +97,11 @@ pub fn mark_chain(
 }
 
 /// Runs the freeze code twice over a heap that stands still. The report tells the cycles that ended.
-fn freeze_over(
-    single: Single,
-    layout: &Layout,
-    list: &mut GreyList,
-    report: &mut Report,
-) -> Result<Option<Runs>, Memory>
+fn freeze_over(single: Single, layout: &Layout, books: &mut Books) -> Result<Option<Runs>, Memory>
     requires layout { single.heap.key.layout ≡ layout.now }
     requires started { IsStarted layout.now (lists_of single.heap.key.shapes) single.collector.seat.me.0 }
     requires one { (layout.now.mutators ≡ 1) × (layout.now.visitors ≡ 0) }
-    requires empty { list.old.cells ≡ [] }
-    requires room { list.old.cap ≡ 20480 }
-    requires told { TellsEnds layout.now (opened_once 5) report.old }
+    requires books { AreBooks layout.now (opened_once 5) books.old }
 {
     let Single {
         heap,
@@ -114,7 +109,7 @@ fn freeze_over(
         mut pass,
     } = single;
     match stand_still(&heap, &mut collector, &mut pass) {
-        Ok(mut frozen) => Ok(Some(freeze_twice(&mut frozen, layout, list, report)?)),
+        Ok(mut frozen) => Ok(Some(freeze_twice(&mut frozen, layout, books)?)),
         Err(_) => Ok(None),
     }
 }
@@ -123,13 +118,13 @@ fn freeze_over(
 /// cycles that ended.
 pub fn freeze_single(alloc: Global) -> Result<Option<(Runs, Report)>, Memory> {
     let layout = Layout::new([1, 0, 0, 0, 1], [1, 0, 0, 0, 0], 4, 2, 2, 1, 0);
-    let mut list = GreyList::new(alloc, MAX_CELLS)?;
-    let mut report = Report::new(alloc, 4, 256)?;
+    let mut books = Books::new(alloc, &layout, PACING, 4, 256)?;
     let Some(single) = start_single(alloc, layout)? else {
         return Ok(None);
     };
-    match freeze_over(single, &layout, &mut list, &mut report)? {
-        Some(runs) => Ok(Some((runs, report))),
-        None => Ok(None),
-    }
+    let Some(runs) = freeze_over(single, &layout, &mut books)? else {
+        return Ok(None);
+    };
+    let Books { report, .. } = books;
+    Ok(Some((runs, report)))
 }

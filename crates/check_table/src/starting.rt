@@ -3,19 +3,18 @@ ghost use Rattle.std.specs.Prelude.{◌≡◌, [], IfOk, IfSome, vec_len};
 ghost use Rattle.check_table.specs.Pairs.{HasStarted};
 ghost use Rattle.check_table.specs.Working.{IsSmall};
 ghost use Rattle.tide_machine.specs.Frozen.{newcomer};
-ghost use Rattle.tide_report.specs.Ends.{TellsEnds};
+ghost use Rattle.tide_freeze.specs.Books.{AreBooks};
 ghost use Rattle.tide_shape.specs.Lists.{lists_of};
 ghost use Rattle.tide_table.specs.Started.{ArePasses, IsStarted};
 
+use crate::pacing::PACING;
 use crate::pair::Pair;
 use std::alloc::Global;
-use tide_cycle::Report;
-use tide_freeze::Births;
+use tide_freeze::Books;
 use tide_layout::Layout;
 use tide_model::Memory;
 use tide_shape::{Paths, Shapes};
 use tide_table::{Collector, Heap, Pass, Start};
-use tide_words::{GreyList, MAX_CELLS};
 
 /// A heap of a layout, without declared paths.
 pub fn start(alloc: Global, layout: Layout) -> Result<Start<Shapes>, Memory>
@@ -65,16 +64,14 @@ pub fn start_single(alloc: Global, layout: Layout) -> Result<Option<Single>, Mem
     }))
 }
 
-/// A pair of what was started for two mutators, without births.
-fn pair_of(start: Start<Shapes>, list: GreyList, report: Report) -> Option<Pair>
+/// A pair of what was started for two mutators, with the books of nothing.
+fn pair_of(start: Start<Shapes>, books: Books) -> Option<Pair>
     requires small { IsSmall start.heap.key.layout }
     requires own { start.collector.seat.table_id ≡ start.heap.table.shared.table_id }
     requires started { IsStarted start.heap.key.layout (lists_of start.heap.key.shapes) start.collector.seat.me.0 }
     requires two { vec_len start.mutators ≡ 2 }
     requires passes { ArePasses start.heap.table.shared.table_id 0 start.mutators.items }
-    requires empty { list.cells ≡ [] }
-    requires room { list.cap ≡ 20480 }
-    requires told { TellsEnds start.heap.key.layout [] report }
+    requires books { AreBooks start.heap.key.layout [] books }
     ensures started { IfSome result HasStarted }
 {
     let Start {
@@ -91,9 +88,7 @@ fn pair_of(start: Start<Shapes>, list: GreyList, report: Report) -> Option<Pair>
         collector,
         one,
         other,
-        births: Births::none(),
-        list,
-        report,
+        books,
     })
 }
 
@@ -102,8 +97,7 @@ pub fn start_pair(alloc: Global) -> Result<Option<Pair>, Memory>
     ensures started { IfOk result (λ o. IfSome o HasStarted) }
 {
     let layout = Layout::new([1, 0, 0, 0, 1], [1, 0, 0, 0, 0], 4, 2, 2, 2, 0);
-    let list = GreyList::new(alloc, MAX_CELLS)?;
-    let report = Report::new(alloc, 4, 256)?;
+    let books = Books::new(alloc, &layout, PACING, 4, 256)?;
     let start = start(alloc, layout)?;
-    Ok(pair_of(start, list, report))
+    Ok(pair_of(start, books))
 }

@@ -19,14 +19,20 @@ use Rattle.tide_model.specs.Layout.{Layout, cell_count}
 use Rattle.tide_model.specs.Refused.{ShapeLists}
 use Rattle.tide_model.specs.declared.entry.Entry.TheVariants.{Begin, Pause, Visits}
 use Rattle.tide_model.specs.declared.entry.Event.{Event}
+use Rattle.std.specs.Prelude.{Contains}
+use Rattle.tide_machine.specs.World.{first_visitor}
+use Rattle.tide_table.proofs.Visits.{unentered-entered}
 use Rattle.tide_table.specs.Shown.{bare, was_black_in}
+use Rattle.tide_table.specs.VisitsTold.{unentered}
 use Rattle.tide_words.specs.heap.Heap.{SameIn, heap_of}
 use Rattle.tide_words.specs.marking.Colours.{is_black, is_marking}
 
 -- the visits that the notes told are entered
 pub visits_told : (layout : Layout) (shapes : ShapeLists) (v w u : View) (visitor count : ℕ) → Freezes layout shapes v w →
-    v.ledger ≡ count → u ≡ visits_entered visitor count w → IsAtFreeze layout shapes u
-visits_told layout shapes v w u visitor count freezes told entered =
+    unentered v.visited ≡ v.ledger → v.ledger ≡ count →
+    Contains v.visited (record { who = first_visitor + visitor; visits = count; done = true }) →
+    u ≡ visits_entered visitor count w → IsAtFreeze layout shapes u
+visits_told layout shapes v w u visitor count freezes counted told note entered =
     subst (IsAtFreeze layout shapes) (sym (entered ∙ ap (visits_entered visitor count) freezes.view)) record {
       frozen = refl;
       blacks = refl;
@@ -35,18 +41,22 @@ visits_told layout shapes v w u visitor count freezes told entered =
           (v.seen ++ plain (Visits visitor count) ∷ []) (count + 0) 0
           (subst (FrozenWith layout shapes (heap_of layout freezes.words) v.seen)
           (told ∙ (let e : count ≡ count + 0 = omega arith in e)) freezes.wave) (visits visitor count 0);
+      entered = (let left = unentered-entered (first_visitor + visitor) v.visited
+          (record { who = first_visitor + visitor; visits = count; done = true }) note refl in
+          omega (arith, left, counted, told));
       stopped = λ index below. refl;
     }
 
 -- with none that is left to enter
-pub nothing_told : (layout : Layout) (shapes : ShapeLists) (v w : View) → Freezes layout shapes v w → v.ledger ≡ 0 →
-    IsAtFreeze layout shapes w
-nothing_told layout shapes v w freezes none =
+pub nothing_told : (layout : Layout) (shapes : ShapeLists) (v w : View) → Freezes layout shapes v w →
+    unentered v.visited ≡ v.ledger → v.ledger ≡ 0 → IsAtFreeze layout shapes w
+nothing_told layout shapes v w freezes counted none =
     subst (IsAtFreeze layout shapes) (sym freezes.view) record {
       frozen = refl;
       blacks = refl;
       long = freezes.long;
       wave = subst (FrozenWith layout shapes (heap_of layout freezes.words) v.seen) none freezes.wave;
+      entered = counted ∙ none;
       stopped = λ index below. refl;
     }
 
@@ -62,17 +72,14 @@ module _ (layout : Layout) (shapes : ShapeLists) (v : View) (freeze : IsAtFreeze
       (FrozenWave-of layout shapes (heap_of layout words) (v.seen ++ plain (Pause count) ∷ []) then)
 
   pub tells : TellsVisits layout (was_black_in layout v) (heap_of layout words) count
-  tells = (
-    is_black (heap_of layout v.words),
-    freeze.blacks,
-    (let counted = newly_counted (is_black (heap_of layout v.words)) (is_black (heap_of layout words)) (cell_count layout)
-        paused.stays_black in
-        let blackened = paused.blackened in
-        omega (arith, counted, blackened)),
-  )
+  tells = subst (λ (were : ℕ → Bool). TellsVisits layout were (heap_of layout words) count) (sym freeze.blacks)
+      (let counted = newly_counted (is_black (heap_of layout v.words)) (is_black (heap_of layout words)) (cell_count layout)
+      paused.stays_black in
+      let blackened = paused.blackened in
+      omega (arith, counted, blackened))
 
   pub paused_there : (x : View) → length words ≡ word_count layout → bare x ≡ bare v → x.words ≡ words →
-      x.seen ≡ with_entry v.seen (Pause count) → was_black_in layout x (is_black (heap_of layout x.words)) →
+      x.seen ≡ with_entry v.seen (Pause count) → was_black_in layout x ≡ is_black (heap_of layout x.words) →
       SameIn layout Stopped (heap_of layout v.words) (heap_of layout words) → IsAtFreeze layout shapes x
   paused_there x long same words_are seen blacks left = record {
     frozen = ap (λ (y : View). y.frozen) same ∙ freeze.frozen;
@@ -80,6 +87,7 @@ module _ (layout : Layout) (shapes : ShapeLists) (v : View) (freeze : IsAtFreeze
     long = ap {A = List ℕ} length words_are ∙ long;
     wave = subst (λ (ws : List ℕ). FrozenWith layout shapes (heap_of layout ws) x.seen 0) (sym words_are)
         (subst (λ (h : List Event). FrozenWith layout shapes (heap_of layout words) h 0) (sym seen) then);
+    entered = ap (λ (y : View). unentered y.visited) same ∙ freeze.entered;
     stopped = subst (λ (ws : List ℕ). SameIn layout Stopped (heap_of layout x.stood) (heap_of layout ws)) (sym words_are)
         (subst (λ (st : List ℕ). SameIn layout Stopped (heap_of layout st) (heap_of layout words))
         (sym (ap (λ (y : View). y.stood) same))
@@ -103,7 +111,7 @@ module _ (layout : Layout) (shapes : ShapeLists) (v : View) (freeze : IsAtFreeze
       (FrozenWave-of layout shapes (heap_of layout words) (with_begin v.seen) after)
 
   pub begun_there : (x : View) → length words ≡ word_count layout → bare x ≡ bare v → x.words ≡ words →
-      x.seen ≡ with_begin v.seen → was_black_in layout x (is_black (heap_of layout x.words)) →
+      x.seen ≡ with_begin v.seen → was_black_in layout x ≡ is_black (heap_of layout x.words) →
       SameIn layout Stopped (heap_of layout v.words) (heap_of layout words) → IsAtFreeze layout shapes x
   begun_there x long same words_are seen blacks left = record {
     frozen = ap (λ (y : View). y.frozen) same ∙ freeze.frozen;
@@ -111,6 +119,7 @@ module _ (layout : Layout) (shapes : ShapeLists) (v : View) (freeze : IsAtFreeze
     long = ap {A = List ℕ} length words_are ∙ long;
     wave = subst (λ (ws : List ℕ). FrozenWith layout shapes (heap_of layout ws) x.seen 0) (sym words_are)
         (subst (λ (h : List Event). FrozenWith layout shapes (heap_of layout words) h 0) (sym seen) after);
+    entered = ap (λ (y : View). unentered y.visited) same ∙ freeze.entered;
     stopped = subst (λ (ws : List ℕ). SameIn layout Stopped (heap_of layout x.stood) (heap_of layout ws)) (sym words_are)
         (subst (λ (st : List ℕ). SameIn layout Stopped (heap_of layout st) (heap_of layout words))
         (sym (ap (λ (y : View). y.stood) same))

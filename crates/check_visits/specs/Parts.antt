@@ -8,6 +8,7 @@ use Rattle.tide_machine.specs.declared.view.View.{View}
 use Rattle.tide_model.specs.Layout.{Layout}
 use Rattle.tide_model.specs.Refused.{ShapeLists}
 use Rattle.tide_table.specs.Shown.{was_black_in}
+use Rattle.tide_table.specs.VisitsTold.{unentered}
 use Rattle.tide_words.specs.heap.Heap.{SameIn, heap_of}
 use Rattle.tide_words.specs.marking.Colours.{is_black}
 
@@ -28,7 +29,8 @@ pub record IsNoteOf (visitor part : ℕ) (note : View) : Type 0 where
 -- black that wasn't at the last entry, no visit is left to enter, and who stopped when stands as it did when all had stopped.
 pub record IsAtFreeze (layout : Layout) (shapes : ShapeLists) (v : View) : Type 0 where
   pub frozen : v.frozen ≡ true
-  pub blacks : was_black_in layout v (is_black (heap_of layout v.words))
+  pub blacks : was_black_in layout v ≡ is_black (heap_of layout v.words)
   pub long : length v.words ≡ word_count layout
   pub wave : FrozenWith layout shapes (heap_of layout v.words) v.seen 0
+  pub entered : unentered v.visited ≡ 0
   pub stopped : SameIn layout Stopped (heap_of layout v.stood) (heap_of layout v.words)

@@ -14,9 +14,9 @@ use Rattle.tide_model.specs.Refused.{ShapeLists}
 use Rattle.tide_model.specs.Whole.{IsWhole}
 use Rattle.tide_periods.specs.declared.answered.Answered.{Answered}
 use Rattle.tide_periods.specs.Asking.{IsAskable, IsAskedBy, of_script, asks_unclaim, asks_retire}
-use Rattle.tide_periods.specs.Periods.{pace_of}
+use Rattle.tide_sched.specs.Paces.{pace_of}
 use Rattle.tide_periods.specs.Run.{HasRun}
-use Rattle.tide_periods.specs.declared.pacing.Pacing.{Pacing}
+use Rattle.tide_sched.specs.declared.pacing.Pacing.{Pacing}
 use Rattle.tide_periods.specs.declared.run.Finished.{Finished}
 use Rattle.tide_periods.specs.Store.{Setting}
 use Rattle.tide_report.specs.Reports.{Reported}

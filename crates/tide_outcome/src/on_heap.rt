@@ -12,22 +12,23 @@ use std::alloc::Global;
 use std::marker::Sync;
 use std::thread::Threads;
 use tide_model::{Memory, Turnstile};
-use tide_periods::room_for;
+use tide_periods::{Pacing, room_for};
 use tide_threads::{OnThreads, run_on_threads};
 use tide_workload::Workload;
 
-/// The heap that threads share, with a mutator for each of the workload's scripts.
-fn heap_for(alloc: Global, load: &Workload) -> Result<OnThreads, Memory>
+/// The heap that threads share, with a mutator for each of the workload's scripts, and its cycles paced so.
+fn heap_for(alloc: Global, load: &Workload, pacing: Pacing) -> Result<OnThreads, Memory>
     ensures setting { IfOk result (λ on. setting_in on ≡ setting_of_work load.now) }
     ensures nothing { IfOk result (λ on. (recorded_in on).history ≡ []) }
     ensures stands { IfOk result Stands }
     ensures callers { IfOk result (λ on. AreCallers (recorded_in on) (callers_on on)) }
     ensures scripts { IfOk result (λ on. AreScripts load.now (scripts_of (callers_on on))) }
+    ensures pacing { IfOk result (λ on. on.books.pacing ≡ pacing) }
 {
     let shapes = shapes_from(alloc, load.paths())?;
     let scripts = copied_scripts(alloc, load)?;
     let room = room_for(scripts.as_slice());
-    let on = OnThreads::new(alloc, layout_of(load), shapes, scripts, room)?;
+    let on = OnThreads::new(alloc, layout_of(load), shapes, scripts, room, pacing)?;
     Ok(on)
 }
 
@@ -49,8 +50,8 @@ pub fn run<R: Threads + Sync, T: Turnstile>(
     let _ = visitors;
     let settings = load.settings();
     let names = names_of(alloc, load)?;
-    let on = heap_for(alloc, load)?;
     let pacing = pacing_with(settings, settings.trigger);
-    let ran = run_on_threads(rt, gate, on, pacing)?;
+    let on = heap_for(alloc, load, pacing)?;
+    let ran = run_on_threads(rt, gate, on)?;
     Ok(outcome_of(load, names, kept_by_heap(ran)))
 }

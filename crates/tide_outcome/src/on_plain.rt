@@ -1,5 +1,5 @@
 //! A workload's plain store, and running the workload on it. It knows no thread.
-ghost use Rattle.std.specs.Prelude.{◌≡◌, ◌<◌, false, map, IfOk};
+ghost use Rattle.std.specs.Prelude.{◌≡◌, false, map, IfOk};
 ghost use Rattle.tide_outcome.specs.Runs.{AreScripts, IsNew, IsRunOf};
 
 use crate::finishing::{kept_itself, outcome_of};
@@ -37,7 +37,6 @@ fn run_with<T: Recorder + Drop>(
     requires scripts { AreScripts load.now (map (λ ops. ops.items) scripts.items) }
     requires period { pacing.period ≡ load.now.settings.period }
     requires headroom { pacing.headroom ≡ load.now.settings.headroom }
-    requires some { 0 < pacing.period }
     requires paces { T.paces pacing }
     ensures run { IfOk result (IsRunOf load.now pacing.trigger) }
     ensures own { IfOk result (λ ran. ran.is_heap ≡ false) }

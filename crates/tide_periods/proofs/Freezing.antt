@@ -1,24 +1,24 @@
 -- A freeze in which no cycle goes on, and how a period joins its part and its freeze.
 use Rattle.std.proofs.Common.{ℕ, zero, suc, ◌≡◌, ◌+◌, ◌<◌, refl, sym, ◌∙◌, ap, subst, arith, Bool, true, false, List, [], ◌∷◌, ◌++◌, append-nil, inl, inr}
-use Rattle.std.proofs.lemmas.Bool.{eqb-true, eqb-false}
+use Rattle.std.proofs.lemmas.Bool.{and_parts, eqb-true, eqb-false}
 use Rattle.std.proofs.lemmas.List.Elements.{All-get_or}
-use Rattle.std.proofs.lemmas.List.Sums.{AllPass-from_list_all}
+use Rattle.std.proofs.lemmas.List.Sums.{AllPass-from_list_all, list_all-from_AllPass}
 use Rattle.std.proofs.lemmas.Option.{slice_get_cases, slice_get_within}
 use Rattle.std.specs.Prelude.{None, Some, map, slice_get, not, ◌||◌, ◌&&◌, nat_lt, nat_le, ◌==◌, if◌then◌else◌}
 use Rattle.std.specs.List.{list_all}
 use Rattle.tide_model.specs.declared.entry.Entry.{Entry}
-use Rattle.tide_model.specs.declared.entry.Entry.TheVariants.{Begin, Pause, End, Sweep, Open}
+use Rattle.tide_model.specs.declared.entry.Entry.TheVariants.{Begin, Call, Pause, End, Sweep, Open, Visits}
 use Rattle.tide_model.specs.declared.entry.Event.{Event}
 use Rattle.tide_model.specs.Cycle.{begin_count}
 use Rattle.tide_model.specs.Freeze.{IsFreeze, is_due, is_marking_phase, marks_after, marks_of}
-use Rattle.tide_model.specs.History.{is_begin, plain, state_after}
+use Rattle.tide_model.specs.History.{is_begin, is_open, plain, state_after}
 use Rattle.tide_model.specs.Layout.{Layout}
 use Rattle.tide_model.specs.Pace.{Pace, running_share}
 use Rattle.tide_model.specs.Numbers.{any_below}
 use Rattle.tide_model.specs.Periods.{is_must, is_over, IsSwept, next_run, open_count, opened, after_part, Period}
 use Rattle.tide_model.specs.Script.{calls_of, retry_after_all, retry_of}
 use Rattle.tide_model.specs.Share.{IsShare, has_ended}
-use Rattle.tide_model.specs.Since.{born_since, is_end}
+use Rattle.tide_model.specs.Since.{born_since, is_call, is_end}
 use Rattle.tide_model.specs.State.{State, idle}
 use Rattle.tide_model.proofs.Histories.{calls_of-append}
 use Rattle.tide_model.proofs.PeriodLaws.{marks_of-append}
@@ -26,6 +26,8 @@ use Rattle.tide_periods.specs.declared.caller.Caller.{Caller}
 use Rattle.tide_periods.specs.Part.{AreCallers, RanPart}
 use Rattle.tide_periods.specs.Periods.{RanFreeze, RanPeriod}
 use Rattle.tide_periods.specs.Store.{Setting}
+use Rattle.tide_sched.specs.Paces.{last_run}
+use Rattle.tide_sched.proofs.RunLaws.{last_run-opened, last_run-same}
 use Rattle.tide_periods.specs.Recorded.{IsSettled, OpenedPart, RanCycle, Recorded}
 use Rattle.tide_periods.proofs.Parting.{IsShare-by}
 
@@ -70,7 +72,7 @@ RanFreeze-cycle old new pace recorded rests some ran = record {
   quiet = λ who. calls_of-append who marks sweeps ∙ calls_of-sweeps who ran.blocks;
   active = ran.active;
   claims = ran.claims;
-  is_freeze = λ run. record {
+  is_freeze = record {
     old = [];
     new = entries;
     are = marks_of-append marks sweeps ∙ ap (λ (more : List Entry). entries ++ more) (marks_of-sweeps ran.blocks) ∙ append-nil entries;
@@ -112,7 +114,7 @@ RanFreeze-rest old pace settled rests some none = record {
   quiet = λ who. refl;
   active = refl;
   claims = refl;
-  is_freeze = λ run. record {
+  is_freeze = record {
     old = [];
     new = [];
     are = refl;
@@ -148,6 +150,23 @@ any_below-some test (suc n) k below passes = step (k == n) refl (λ less. any_be
     step true same earlier = ap (λ (b : Bool). any_below test n || b) (ap test (sym (eqb-true k n same)) ∙ passes) ∙ or_true (any_below test n)
     step false same earlier = let apart = eqb-false k n same in ap (λ (b : Bool). b || test n) (earlier (omega (arith, apart, below)))
 
+-- calls open no part
+none_open : (part : List Event) → list_all (λ event. is_call event.entry) part ≡ true →
+    list_all (λ event. not (is_open event.entry)) part ≡ true
+none_open [] all = refl
+none_open (event ∷ part) all =
+    let (here, later) = and_parts (is_call event.entry) (list_all (λ (e : Event). is_call e.entry) part) all in
+    ap (λ (b : Bool). b && list_all (λ (e : Event). not (is_open e.entry)) part) (step event.entry here) ∙ none_open part later
+  where
+    step : (entry : Entry) → is_call entry ≡ true → not (is_open entry) ≡ true
+    step (Call who op reply) is = refl
+    step (Begin cycle) is = refl
+    step (Pause visits) is = refl
+    step (Visits who visits) is = refl
+    step (End cycle freed) is = refl
+    step (Sweep block) is = refl
+    step (Open number run) is = absurd (cc)
+
 -- a part was opened and run, and frozen after
 pub RanPeriod-by : (old begun ran new : Recorded) (pace : Pace) (run next : ℕ) (stopped must : Bool) → is_over old.setting.layout old.history ≡ false →
     run ≡ next_run pace old.setting.layout old.history → OpenedPart old begun run → RanPart begun ran run stopped → RanFreeze ran new pace must next →
@@ -170,7 +189,7 @@ RanPeriod-by old begun ran new pace run next stopped must goes_on is_run opens p
     freeze = subst (λ (m : Bool). IsFreeze pace layout (after_part pace layout old.history period) (next_run pace layout old.history) m (marks_of froze.freeze)) is_must_now
         (subst (λ (h : List Event). IsFreeze pace layout h (next_run pace layout old.history) must (marks_of froze.freeze)) ran_history
         (subst (λ (s : Setting). IsFreeze pace s.layout ran.history (next_run pace layout old.history) must (marks_of froze.freeze)) settings
-        (froze.is_freeze (next_run pace layout old.history))));
+        (subst (λ (n : ℕ). IsFreeze pace ran.setting.layout ran.history n must (marks_of froze.freeze)) last froze.is_freeze)));
     swept = subst (IsSwept layout) (froze.history ∙ ap (λ (h : List Event). h ++ froze.freeze) ran_history)
         (subst (λ (s : Setting). IsSwept s.layout new.history) (froze.same ∙ settings) froze.settled.swept);
   };
@@ -195,6 +214,11 @@ RanPeriod-by old begun ran new pace run next stopped must goes_on is_run opens p
 
     ran_history : ran.history ≡ after_part pace layout old.history period
     ran_history = part.history ∙ ap (λ (h : List Event). h ++ part.part) is_opened
+
+    last : last_run ran.history ≡ next_run pace layout old.history
+    last = ap last_run ran_history
+        ∙ last_run-same (opened pace layout old.history) part.part (none_open part.part (list_all-from_AllPass (λ (event : Event). is_call event.entry) part.part part.calls))
+        ∙ last_run-opened old.history (open_count old.history + 1) (next_run pace layout old.history)
 
     still : (who : ℕ) → retry_of who begun.history ≡ retry_of who old.history
     still who = ap (retry_of who) opens.history ∙ ap (retry_after_all None) (calls_of-opened who old.history (open_count old.history + 1) run)

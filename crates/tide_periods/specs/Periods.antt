@@ -6,17 +6,13 @@ use Rattle.tide_model.specs.Pace.{Pace}
 use Rattle.tide_model.specs.Periods.{IsScheduled, Period, StandsPeriod, after_period, next_run}
 use Rattle.tide_model.specs.Script.{calls_of}
 use Rattle.tide_model.specs.Whole.{IsWhole}
+use Rattle.tide_sched.specs.Paces.{last_run}
 use Rattle.tide_periods.specs.declared.caller.Caller.{Caller}
-use Rattle.tide_periods.specs.declared.pacing.Pacing.{Pacing}
 use Rattle.tide_periods.specs.Part.{AreCallers}
 use Rattle.tide_periods.specs.Recorded.{IsSettled, Recorded}
 
--- the numbers of a run
-abbrev pub pace_of : Pacing → Pace
-pace_of pacing = record { period = pacing.period; headroom = pacing.headroom; trigger = pacing.trigger }
-
--- A freeze did what the schedule asks for after any running part. Each mutator has so many calls in the next part, and
--- at least one.
+-- A freeze did what the schedule asks for after the running part that ended. Each mutator has so many calls in the next
+-- part, and at least one.
 pub record RanFreeze (old new : Recorded) (pace : Pace) (is_must : Bool) (run : ℕ) : Type 0 where
   pub settled : IsSettled new
   pub same : new.setting ≡ old.setting
@@ -27,7 +23,7 @@ pub record RanFreeze (old new : Recorded) (pace : Pace) (is_must : Bool) (run : 
   pub quiet : (who : ℕ) → calls_of who freeze ≡ []
   pub active : new.state.active ≡ old.state.active
   pub claims : new.state.claims ≡ old.state.claims
-  pub is_freeze : (last : ℕ) → IsFreeze pace old.setting.layout old.history last is_must (marks_of freeze)
+  pub is_freeze : IsFreeze pace old.setting.layout old.history (last_run old.history) is_must (marks_of freeze)
   pub next : run ≡ next_run pace new.setting.layout new.history
   pub some : 0 < run
 

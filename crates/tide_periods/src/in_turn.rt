@@ -6,13 +6,13 @@ ghost use Rattle.tide_periods.specs.Recorded.{IsSettled};
 
 use crate::answered::Answered;
 use crate::caller::{Caller, callers_of};
-use crate::pacing::Pacing;
 use crate::part::make_shares;
 use crate::parts::Parts;
 use crate::recorder::{Recorder, append, with_room};
 use std::alloc::Global;
 use tide_model::{Event, Memory, Op};
 use tide_report::Report;
+use tide_sched::Pacing;
 
 /// A recorder with its mutators.
 #[derive(Drop)]

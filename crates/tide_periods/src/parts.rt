@@ -4,17 +4,18 @@ ghost use Rattle.std.specs.List.{list_all};
 ghost use Rattle.tide_model.specs.Cycle.{live_count};
 ghost use Rattle.tide_model.specs.declared.entry.Event.{Event};
 ghost use Rattle.tide_periods.specs.declared.caller.Caller.{Caller};
-ghost use Rattle.tide_periods.specs.declared.pacing.Pacing.{Pacing};
+ghost use Rattle.tide_sched.specs.Paces.{pace_of};
+ghost use Rattle.tide_sched.specs.declared.pacing.Pacing.{Pacing};
 ghost use Rattle.tide_periods.specs.Part.{AreCallers, RanPartBy};
-ghost use Rattle.tide_periods.specs.Periods.{pace_of, RanFreeze};
+ghost use Rattle.tide_periods.specs.Periods.{RanFreeze};
 ghost use Rattle.tide_periods.specs.Recorded.{IsSettled, Recorded};
 ghost use Rattle.tide_report.specs.Ends.{TellsEnds};
 
 use crate::answered::Answered;
-use crate::pacing::Pacing;
 use std::alloc::Global;
 use tide_model::Memory;
 use tide_report::Report;
+use tide_sched::Pacing;
 
 /// A store with its mutators, each of which has its script, and the history of what was run on it.
 pub trait Parts {
@@ -57,7 +58,6 @@ pub trait Parts {
         requires settled { IsSettled (recorded self.old) }
         requires stands { stands self.old }
         requires room { (recorded self.old).cycles < 2 ^ 60 }
-        requires some { 0 < pacing.period }
         requires paces { paces pacing }
         ensures ran { IfOk result (λ run.
             RanFreeze (recorded self.old) (recorded self.new) (pace_of pacing) is_must run) }

@@ -4,13 +4,14 @@ ghost use Rattle.tide_model.specs.Periods.{is_over, next_run};
 ghost use Rattle.tide_periods.specs.Asking.{scripts_of};
 ghost use Rattle.tide_periods.specs.Left.{total_left};
 ghost use Rattle.tide_periods.specs.Part.{AreCallers};
-ghost use Rattle.tide_periods.specs.Periods.{pace_of, RanAll, RanPeriod};
+ghost use Rattle.tide_periods.specs.Periods.{RanAll, RanPeriod};
+ghost use Rattle.tide_sched.specs.Paces.{pace_of};
 ghost use Rattle.tide_periods.specs.Recorded.{IsSettled};
 
-use crate::pacing::Pacing;
 use crate::parts::Parts;
 use std::alloc::Global;
 use tide_model::Memory;
+use tide_sched::Pacing;
 
 /// Opens a part in which each mutator has so many calls, runs it, and freezes. Answers how many it has in the next one.
 pub(crate) fn run_period<T: Parts>(
@@ -28,7 +29,6 @@ pub(crate) fn run_period<T: Parts>(
     requires run { run ≡ next_run (pace_of pacing) (T.recorded parts.old).setting.layout
         (T.recorded parts.old).history }
     requires calls { 0 < run }
-    requires period { 0 < pacing.period }
     requires paces { T.paces pacing }
     ensures ran { IfOk result (λ next.
         RanPeriod (T.recorded parts.old) (T.recorded parts.new) (pace_of pacing) next) }
@@ -54,7 +54,6 @@ pub(crate) fn run_periods<T: Parts>(
     requires stands { T.stands parts.old }
     requires callers { AreCallers (T.recorded parts.old) (T.callers parts.old) }
     requires nothing { (T.recorded parts.old).history ≡ [] }
-    requires period { 0 < pacing.period }
     requires paces { T.paces pacing }
     requires cycles { (T.recorded parts.old).cycles ≡ 0 }
     requires parts { (T.recorded parts.old).parts ≡ 0 }

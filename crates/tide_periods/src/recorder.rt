@@ -1,15 +1,16 @@
 //! A store with the history of what was run on it, as a part and a freeze use it.
 ghost use Rattle.std.specs.Prelude.{◌≡◌, ◌-◌, ◌^◌, ◌<◌, ◌++◌, ◌∷◌, [], length, IfOk, OnOk};
 ghost use Rattle.tide_model.specs.Cycle.{live_count};
-ghost use Rattle.tide_periods.specs.declared.pacing.Pacing.{Pacing};
-ghost use Rattle.tide_periods.specs.Periods.{pace_of, RanFreeze};
+ghost use Rattle.tide_sched.specs.Paces.{pace_of};
+ghost use Rattle.tide_sched.specs.declared.pacing.Pacing.{Pacing};
+ghost use Rattle.tide_periods.specs.Periods.{RanFreeze};
 ghost use Rattle.tide_periods.specs.Recorded.{IsSettled, MadeCall, MayAsk, OpenedPart, Recorded};
 ghost use Rattle.tide_report.specs.Ends.{TellsEnds};
 
-use crate::pacing::Pacing;
 use std::alloc::Global;
 use tide_model::{Event, Memory, Op, Reply};
 use tide_report::Report;
+use tide_sched::Pacing;
 
 /// An empty list with room for so many.
 pub(crate) fn with_room<T>(alloc: Global, room: usize) -> Result<Vec<T>, Memory>
@@ -65,7 +66,6 @@ pub trait Recorder {
         requires settled { IsSettled (recorded self.old) }
         requires stands { stands self.old }
         requires room { (recorded self.old).cycles < 2 ^ 60 }
-        requires some { 0 < pacing.period }
         requires paces { paces pacing }
         ensures ran { IfOk result (λ run. RanFreeze (recorded self.old) (recorded self.new) (pace_of pacing) is_must run) }
         ensures stands { IfOk result (λ run. stands self.new) };

@@ -8,12 +8,12 @@ ghost use Rattle.tide_model.specs.State.{empty_state};
 ghost use Rattle.tide_periods.specs.Recorded.{IsSettled, RanCycle, StandsIdle};
 ghost use Rattle.tide_periods.specs.Store.{blocks_in};
 
-use crate::pacing::Pacing;
 use crate::recorder::{Recorder, append, with_room};
 use crate::store::Store;
 use std::alloc::Global;
 use tide_model::{Entry, Event, Ids, Memory, Op, Reply};
 use tide_report::Report;
+use tide_sched::Pacing;
 
 /// A store, and what was run on it.
 #[derive(Drop)]

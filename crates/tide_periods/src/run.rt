@@ -2,17 +2,17 @@
 ghost use Rattle.std.specs.Prelude.{◌≡◌, ◌≤◌, ◌<◌, [], All, length, map, IfOk};
 ghost use Rattle.tide_periods.specs.Asking.{scripts_of};
 ghost use Rattle.tide_periods.specs.Part.{AreCallers};
-ghost use Rattle.tide_periods.specs.Periods.{pace_of};
+ghost use Rattle.tide_sched.specs.Paces.{pace_of};
 ghost use Rattle.tide_periods.specs.Recorded.{IsSettled};
 ghost use Rattle.tide_periods.specs.Run.{HasRun};
 
 use crate::answered::Answered;
-use crate::pacing::Pacing;
 use crate::parts::Parts;
 use crate::periods::run_periods;
 use std::alloc::Global;
 use tide_model::Memory;
 use tide_report::Report;
+use tide_sched::Pacing;
 
 /// What a run leaves.
 #[derive(Drop)]
@@ -43,7 +43,6 @@ pub fn run_on<T: Parts + Drop>(
     requires some { 0 < length (T.callers parts) }
     requires few { length (T.callers parts) ≤ 16 }
     requires short { All (λ ops. length ops ≤ 65536) (scripts_of (T.callers parts)) }
-    requires period { 0 < pacing.period }
     requires paces { T.paces pacing }
     ensures { IfOk result (λ finished. HasRun (T.recorded parts).setting (pace_of pacing) (scripts_of (T.callers parts))
         (T.history_of finished.kept) finished.report (map (λ own. own.items) finished.calls.items) finished.live) }

@@ -6,4 +6,7 @@ pub mod Collectors
 pub mod Seating
 pub mod Tabled
 pub mod Starting
+pub mod Nexts
 pub mod Openings
+pub mod Standing
+pub mod Visits

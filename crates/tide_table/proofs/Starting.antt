@@ -69,6 +69,7 @@ started layout shapes one two v active free next =
       seen = refl;
       gone = refl;
       births = refl;
+      visited = refl;
       long = reads.all_words;
       wave = FrozenWave-of layout shapes (heap_of layout free.words) [] at_first;
       swept = at_first.swept;

@@ -1,5 +1,7 @@
+pub mod Openings
 pub mod Plays
 pub mod Shown
+pub mod Standing
 pub mod Started
-pub mod Openings
 pub mod VisitsEntered
+pub mod VisitsTold

@@ -48,5 +48,5 @@ besides collector layout shapes = record {
 }
 
 -- the cells that were black at the last entry, or where the freeze began
-abbrev pub was_black_in : Layout → View → (ℕ → Bool) → Type 0
-was_black_in layout v blacks = blacks ≡ is_black (heap_of layout v.base)
+abbrev pub was_black_in : Layout → View → ℕ → Bool
+was_black_in layout v = is_black (heap_of layout v.base)

@@ -38,6 +38,7 @@ pub record IsStarted (layout : Layout) (shapes : ShapeLists) (v : View) : Type 0
   pub seen : v.seen ≡ []
   pub gone : v.gone ≡ []
   pub births : v.births ≡ 0
+  pub visited : v.visited ≡ []
   pub long : length v.words ≡ word_count layout
   pub wave : FrozenWave layout shapes (heap_of layout v.words) []
   pub swept : SweptAreBelow layout (heap_of layout v.words)

@@ -6,6 +6,7 @@
 #![tactic(auto)]
 
 mod closed;
+mod collecting;
 mod collector;
 mod counting;
 mod frozen;
@@ -17,6 +18,7 @@ mod visiting;
 mod zeros;
 
 pub use closed::Closed;
+pub use collecting::NotOpened;
 pub use collector::{Collector, PeriodsSpent};
 pub use frozen::Frozen;
 pub use start::Start;

@@ -54,6 +54,7 @@ impl<S: ShapeTable + Drop> Start<S> {
             marking: false,
             cycle: 0,
             born: 0,
+            visits: [0; 8],
         };
         collector.fill(&heap, Region::Active, mutators, 1);
         let blocks = heap.layout().block_count();

@@ -6,15 +6,10 @@ use Rattle.atomic_table.specs.Seated.{TableId}
 use Rattle.crossbeam_utils.specs.Padded.{padded_value}
 use Rattle.crossbeam_utils.specs.declared.cache_padded.CachePadded.{CachePadded}
 use Rattle.tide_layout.specs.Limits.{IsWithinLimits}
-use Rattle.tide_machine.proofs.freezes.Entering.{FrozenWith-of}
-use Rattle.tide_machine.specs.Frozen.{FrozenWith, newcomer}
+use Rattle.tide_machine.specs.Frozen.{newcomer}
 use Rattle.tide_machine.specs.declared.view.View.{View}
-use Rattle.tide_model.proofs.Histories.{IsLawful-nil}
-use Rattle.tide_model.proofs.PeriodLaws.{Each-nil}
 use Rattle.tide_model.specs.Caller.{IsOwn}
-use Rattle.tide_model.specs.Each.{Each}
 use Rattle.tide_model.specs.Layout.{Layout}
-use Rattle.tide_model.specs.Periods.{EndsInTime, open_count}
 use Rattle.tide_model.specs.Refused.{ShapeLists}
 use Rattle.tide_model.specs.declared.entry.Event.{Event}
 use Rattle.tide_model.specs.declared.op.Op.{Op}
@@ -25,33 +20,22 @@ use Rattle.tide_periods.specs.Asking.{AreNew, Standing}
 use Rattle.tide_periods.specs.Recorded.{IsSettled, recorded_at}
 use Rattle.tide_periods.specs.Store.{Setting, blocks_in}
 use Rattle.tide_periods.specs.declared.caller.Caller.{Caller}
-use Rattle.tide_table.proofs.Spans.{marks_read, span_none}
+use Rattle.tide_table.proofs.Standing.{StandsStill-started}
+use Rattle.tide_table.specs.VisitsTold.{unentered}
 use Rattle.tide_table.specs.Started.{IsStarted}
-use Rattle.tide_words.specs.heap.Heap.{heap_of}
 use Rattle.tide_threads.proofs.Shares.{callers_at}
 use Rattle.tide_threads.specs.OnThreads.{callers_in, IsFresh}
 use Rattle.tide_threads.specs.Parked.{IsParked}
 use Rattle.tide_threads.specs.Playing.{AllStandBy, StandsBy}
-use Rattle.tide_threads.specs.Standing.{StandsStill}
+use Rattle.tide_threads.specs.Standing.{StandsUnvisited}
 use Rattle.tide_threads.specs.declared.participant.Participant.{Participant}
 
-pub StandsStill-started : (layout : Layout) (shapes : ShapeLists) (v : View) → IsStarted layout shapes v →
-    IsWithinLimits layout → layout.visitors ≡ 0 → StandsStill layout shapes v
-StandsStill-started layout shapes v started limits no_visitors = record {
-  limits = limits;
+pub StandsUnvisited-started : (layout : Layout) (shapes : ShapeLists) (v : View) → IsStarted layout shapes v →
+    IsWithinLimits layout → layout.visitors ≡ 0 → StandsUnvisited layout shapes v
+StandsUnvisited-started layout shapes v started limits no_visitors = record {
+  still = StandsStill-started layout shapes v started limits;
   no_visitors = no_visitors;
-  frozen = started.frozen;
-  few = (let none = started.births in omega (arith, none));
-  period = started.period ∙ sym (ap open_count started.seen);
-  long = started.long;
-  wave = subst (λ (h : List Event). FrozenWith layout shapes (heap_of layout v.words) h 0) (sym started.seen)
-      (FrozenWith-of layout shapes (heap_of layout v.words) [] (IsLawful-nil layout shapes)
-      (span_none layout [] refl (heap_of layout v.words)
-      (λ marks. marks_read layout shapes (heap_of layout v.words) [] started.wave.marking.reads ∙ marks))
-      started.swept started.clean started.wave);
-  ends = subst (Each (EndsInTime layout)) (sym started.seen) (Each-nil (EndsInTime layout));
-  stopped = started.stopped;
-  blacks = λ later. absurd (let none = started.period in omega (arith, later, none));
+  entered = ap unentered started.visited;
 }
 
 -- a mutator that knows nothing yet is parked

@@ -17,6 +17,7 @@ pub TookNotes-refl : (v : View) → TookNotes v v
 TookNotes-refl v = record {
   frozen = refl;
   period = refl;
+  run = refl;
   start = refl;
   ledger = refl;
   notes = λ i a. a;
@@ -29,6 +30,7 @@ pub TookNotes-trans : (u v w : View) → TookNotes u v → TookNotes v w → Too
 TookNotes-trans u v w one other = record {
   frozen = other.frozen ∙ one.frozen;
   period = other.period ∙ one.period;
+  run = other.run ∙ one.run;
   start = other.start ∙ one.start;
   ledger = other.ledger ∙ one.ledger;
   notes = λ i a. other.notes i (one.notes i a);
@@ -46,6 +48,7 @@ pub TookNotes-noted : (v w u : View) → TookNotes v w → u.visits ≡ 0 → To
 TookNotes-noted v w u taken still = record {
   frozen = taken.frozen;
   period = taken.period;
+  run = taken.run;
   start = taken.start;
   ledger = none (u.begun == w.period) ∙ taken.ledger;
   notes = λ i a. inr (taken.notes i a);

@@ -30,11 +30,11 @@ use Rattle.tide_periods.specs.Recorded.{IsSettled, recorded_at}
 use Rattle.tide_periods.specs.Store.{Setting}
 use Rattle.tide_periods.specs.declared.caller.Caller.{Caller}
 use Rattle.tide_steps.specs.declared.notes.Note.{Note}
-use Rattle.tide_threads.proofs.Standing.{StandsStill-part, seen_part}
+use Rattle.tide_threads.proofs.Standing.{seen_part}
 use Rattle.tide_threads.proofs.Turns.{Both-left, Both-right, StandsBy-frozen, TookTurn-did, all_in}
 use Rattle.tide_threads.specs.OnThreads.{callers_in}
 use Rattle.tide_threads.specs.Playing.{AllServed, AllStandBy, Both, DidPart, GaveNote, MayHear, StandsBy, TookTurn, WasHanded, ended_by, stopped_in}
-use Rattle.tide_threads.specs.Standing.{StandsStill}
+use Rattle.tide_threads.specs.Standing.{StandsUnvisited}
 use Rattle.tide_threads.specs.Taken.{TookNotes, IsNoted}
 use Rattle.tide_threads.specs.declared.participant.Participant.{Participant}
 
@@ -93,7 +93,7 @@ callers_many (x ∷ xs) = ap suc (callers_many xs)
 
 -- each party's note is in, or it has left
 pub AllIn-turns : (id : TableId) (layout : Layout) (shapes : ShapeLists) (v0 v1 v2 : View) (run : ℕ) →
-    StandsStill layout shapes v0 → v1 ≡ opened layout run v0 → TookNotes v1 v2 →
+    StandsUnvisited layout shapes v0 → v1 ≡ opened layout run v0 → TookNotes v1 v2 →
     (xs ys : List (CachePadded Participant)) → AllStandBy id layout v0 xs → Both (TookTurn id layout shapes v1) xs ys →
     ((who : ℕ) (y : CachePadded Participant) (note : Note) → slice_get ys who ≡ Some y →
     (padded_value y).note ≡ Some note →
@@ -112,7 +112,7 @@ AllIn-turns id layout shapes v0 v1 v2 run still is_opened taken xs ys by turns n
 ]
 
 module _ (id : TableId) (layout : Layout) (shapes : ShapeLists) (v0 v1 v2 v3 : View) (run : ℕ)
-    (still : StandsStill layout shapes v0) (is_opened : v1 ≡ opened layout run v0) (taken : TookNotes v1 v2)
+    (still : StandsUnvisited layout shapes v0) (is_opened : v1 ≡ opened layout run v0) (taken : TookNotes v1 v2)
     (freezes : Freezes layout shapes v2 v3) (xs ys zs : List (CachePadded Participant)) (by : AllStandBy id layout v0 xs)
     (turns : Both (TookTurn id layout shapes v1) xs ys) (gave : Both GaveNote ys zs)
     (noted : (who : ℕ) (y : CachePadded Participant) (note : Note) → slice_get ys who ≡ Some y →
@@ -159,14 +159,14 @@ module _ (id : TableId) (layout : Layout) (shapes : ShapeLists) (v0 v1 v2 v3 : V
       (callers_in xs) (callers_in zs)) (sym is_ended)
       (law setting run v0.seen freezes.part (callers_in xs) (callers_in zs) (stopped_in ys) settled are
       (subst (IsLawful layout shapes) whole
-      (StandsStill-part layout shapes v0 v1 v2 v3 run still is_opened taken freezes).wave.lawful)
+      (subst (IsLawful layout shapes) (sym (ap (λ (x : View). x.seen) freezes.view)) freezes.wave.lawful))
       (AllPass-from_list_all (λ (e : Event). is_call e.entry) freezes.part freezes.calls)
       (subst (λ (h : List Event). AllTookPart setting run v0.seen h (callers_in xs) (callers_in zs) (stopped_in ys)) whole
       (took_part ended served))))
     where
       whole : v3.seen ≡ with_open v0.seen run ++ freezes.part
       whole = seen_part layout shapes v0 v1 v2 v3 run still is_opened taken freezes
-          ∙ ap (λ (n : ℕ). (v0.seen ++ plain (Open (n + 1) run) ∷ []) ++ freezes.part) still.period
+          ∙ ap (λ (n : ℕ). (v0.seen ++ plain (Open (n + 1) run) ∷ []) ++ freezes.part) still.still.period
 
       is_ended : ended ≡ any_below (stopped_in ys) layout.mutators
       is_ended = served.stopped ∙ ap (any_below (stopped_in ys)) (turns.as_many ∙ by.one_each)

@@ -27,7 +27,7 @@ use Rattle.tide_steps.specs.declared.notes.Ticket.{Ticket}
 use Rattle.tide_threads.proofs.Parking.{IsParked-left, IsParked-played}
 use Rattle.tide_threads.specs.Parked.{HasLeft, HasPlayed, IsParked}
 use Rattle.tide_threads.specs.Playing.{Both, DidPart, GaveNote, HasMadeShare, MayBeginPart, IsTicketOf, MayHear, MayPlay, MayTake, StandsBy, TookTurn, WasHanded}
-use Rattle.tide_threads.specs.Standing.{StandsStill}
+use Rattle.tide_threads.specs.Standing.{StandsUnvisited}
 use Rattle.tide_threads.specs.Taken.{TookNotes, IsNoted}
 use Rattle.tide_threads.specs.declared.participant.Participant.{Participant}
 
@@ -107,7 +107,7 @@ note_clash note o some none = (let e : Some note ≡ None = sym some ∙ none in
 
 module _ (id : TableId) (layout : Layout) (shapes : ShapeLists) where
   -- with a ticket of the part that was opened a participant may begin it
-  pub MayHear-opened : (v0 v1 : View) (run who : ℕ) (x : Participant) → StandsStill layout shapes v0 →
+  pub MayHear-opened : (v0 v1 : View) (run who : ℕ) (x : Participant) → StandsUnvisited layout shapes v0 →
       v1 ≡ opened layout run v0 → who < layout.mutators → StandsBy id v0 who x →
       IsCallerAt (record { layout = layout; shapes = shapes }) v0.seen x.caller → MayHear id layout shapes v1 x
   MayHear-opened v0 v1 run who x still is_opened party by at = record {
@@ -130,7 +130,7 @@ module _ (id : TableId) (layout : Layout) (shapes : ShapeLists) where
           knows = record {
             known = v0.seen;
             earlier = subst (λ (h : List Event). IsPrefix v0.seen h) (sym seen) (prefix_push v0.seen (open_entry run v0));
-            lawful = still.wave.lawful;
+            lawful = still.still.wave.lawful;
             own = subst (λ (n : ℕ). IsOwn n v0.seen (view_of x.mutator).mine) (sym by.number) by.parked.own;
             at = at;
           };
@@ -212,7 +212,7 @@ module _ (id : TableId) (layout : Layout) (shapes : ShapeLists) where
         })
   ]
 
-  module _ (v0 v1 v2 v3 : View) (run : ℕ) (still : StandsStill layout shapes v0) (is_opened : v1 ≡ opened layout run v0)
+  module _ (v0 v1 v2 v3 : View) (run : ℕ) (still : StandsUnvisited layout shapes v0) (is_opened : v1 ≡ opened layout run v0)
       (taken : TookNotes v1 v2) where
     -- who had left is known so when all notes are in
     left_still : (who : ℕ) (v : View) → v.left ≡ true → HasLeft v0 who v → In who v2.gone × Contains v2.noted_calls (calls_of v)

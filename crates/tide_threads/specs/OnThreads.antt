@@ -1,17 +1,20 @@
 -- What holds of a run on threads between two parts, and what a run sees of it.
-use Rattle.std.specs.Prelude.{ℕ, ◌≡◌, ◌≤◌, List, [], map, None}
+use Rattle.std.specs.Prelude.{ℕ, ◌≡◌, List, [], map, None}
 use Rattle.atomic_table.specs.Seated.{TableId}
 use Rattle.crossbeam_utils.specs.Padded.{padded_value}
 use Rattle.crossbeam_utils.specs.declared.cache_padded.CachePadded.{CachePadded}
+use Rattle.tide_freeze.specs.Books.{AreBooks}
 use Rattle.tide_machine.specs.Frozen.{newcomer}
+use Rattle.tide_model.specs.Pace.{Pace}
 use Rattle.tide_mutator.specs.Viewed.{table_of, view_of}
 use Rattle.tide_periods.specs.Recorded.{Recorded, recorded_at}
 use Rattle.tide_periods.specs.Store.{Setting}
 use Rattle.tide_periods.specs.declared.caller.Caller.{Caller}
-use Rattle.tide_periods.specs.declared.pacing.Pacing.{Pacing}
+use Rattle.tide_report.specs.Ends.{TellsEnds}
+use Rattle.tide_sched.specs.Paces.{pace_of}
 use Rattle.tide_shape.specs.Lists.{lists_of}
 use Rattle.tide_threads.specs.Playing.{AllStandBy}
-use Rattle.tide_threads.specs.Standing.{KeepsBooks, StandsStill}
+use Rattle.tide_threads.specs.Standing.{StandsUnvisited}
 use Rattle.tide_threads.specs.declared.on_threads.OnThreads.{OnThreads}
 use Rattle.tide_threads.specs.declared.participant.Participant.{Participant}
 
@@ -31,12 +34,17 @@ recorded_in o = recorded_at (setting_in o) o.collector.seat.me.0.seen
 abbrev pub callers_on : OnThreads → List Caller
 callers_on o = callers_in o.participants.items
 
--- Between two parts the collector is of the heap, which stands still. What is kept beside it is right, each participant
--- stands by, and no calls were handed over yet.
+-- how its cycles are paced
+abbrev pub pace_on : OnThreads → Pace
+pace_on o = pace_of o.books.pacing
+
+-- Between two parts the collector is of the heap, which stands still. The books go with its history, and the report tells
+-- its ends. Each participant stands by, and no calls were handed over yet.
 pub record Stands (o : OnThreads) : Type 0 where
   pub of_heap : o.collector.seat.table_id ≡ o.heap.table.shared.table_id
-  pub still : StandsStill o.heap.key.layout (lists_of o.heap.key.shapes) o.collector.seat.me.0
-  pub books : KeepsBooks o.heap.key.layout o.collector.seat.me.0 o.births o.report o.greys
+  pub still : StandsUnvisited o.heap.key.layout (lists_of o.heap.key.shapes) o.collector.seat.me.0
+  pub books : AreBooks o.heap.key.layout o.collector.seat.me.0.seen o.books
+  pub told : TellsEnds o.heap.key.layout o.collector.seat.me.0.seen o.books.report
   pub all : AllStandBy o.heap.table.shared.table_id o.heap.key.layout o.collector.seat.me.0 o.participants.items
   pub no_calls : o.calls.items ≡ []
 
@@ -47,10 +55,3 @@ pub record IsFresh (id : TableId) (who : ℕ) (x : Participant) : Type 0 where
   pub view : view_of x.mutator ≡ newcomer who
   pub no_ticket : x.ticket ≡ None
   pub no_note : x.note ≡ None
-
--- the numbers with which a heap can be run whose cycles mark across parts
-pub record IsPace (pacing : Pacing) : Type 0 where
-  pub period_least : 4 ≤ pacing.period
-  pub period_most : pacing.period ≤ 65536
-  pub headroom_least : 1 ≤ pacing.headroom
-  pub headroom_most : pacing.headroom ≤ 1000000

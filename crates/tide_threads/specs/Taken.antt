@@ -10,6 +10,7 @@ use Rattle.tide_machine.specs.declared.view.View.{View}
 pub record TookNotes (v w : View) : Type 0 where
   pub frozen : w.frozen ≡ v.frozen
   pub period : w.period ≡ v.period
+  pub run : w.run ≡ v.run
   pub start : w.start ≡ v.start
   pub ledger : w.ledger ≡ v.ledger
   pub notes : (i : ℕ) → In i v.notes → In i w.notes

@@ -7,7 +7,7 @@
 #![tactic(auto)]
 
 mod collecting;
-mod freezing;
+mod living;
 mod on_threads;
 mod part;
 mod participant;

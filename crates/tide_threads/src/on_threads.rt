@@ -7,41 +7,39 @@ ghost use Rattle.crossbeam_utils.specs.declared.cache_padded.CachePadded.{CacheP
 ghost use Rattle.tide_model.specs.Cycle.{live_count};
 ghost use Rattle.tide_periods.specs.Asking.{scripts_of, IsAskable};
 ghost use Rattle.tide_periods.specs.Part.{AreCallers, RanPartBy};
-ghost use Rattle.tide_periods.specs.Periods.{pace_of, RanFreeze};
+ghost use Rattle.tide_periods.specs.Periods.{RanFreeze};
 ghost use Rattle.tide_periods.specs.Recorded.{IsSettled};
 ghost use Rattle.tide_report.specs.Ends.{TellsEnds};
 ghost use Rattle.tide_shape.specs.Lists.{lists_of};
 ghost use Rattle.tide_table.specs.Started.{ArePasses};
 ghost use Rattle.tide_threads.specs.declared.participant.Participant.{Participant};
-ghost use Rattle.tide_threads.specs.OnThreads.{callers_in, callers_on, recorded_in, setting_in, IsFresh, IsPace, Stands};
+ghost use Rattle.tide_threads.specs.OnThreads.{callers_in, callers_on, pace_on, recorded_in, setting_in, IsFresh, Stands};
 ghost use Rattle.tide_periods.specs.declared.caller.Caller.{Caller};
 
-use crate::freezing::{count_live, freeze_heap};
+use crate::living::count_live;
 use crate::part::run_whole_part;
 use crate::participant::Participant;
 use crossbeam_utils::CachePadded;
 use std::alloc::Global;
 use std::marker::Sync;
 use std::thread::Threads;
-use tide_freeze::Births;
+use tide_freeze::Books;
 use tide_layout::Layout;
 use tide_model::{Memory, Op, Turnstile};
-use tide_periods::{Answered, Caller, Pacing, Room, callers_of};
+use tide_periods::{Answered, Caller, Room, callers_of};
 use tide_report::Report;
+use tide_sched::Pacing;
 use tide_shape::Shapes;
 use tide_table::{Closed, Collector, Heap, Pass, Start};
-use tide_words::GreyList;
 
-/// A heap on which mutators make their calls on threads: the collector, a participant for each mutator, the births that
-/// were counted, the room for marking, and the report of the cycles that ended.
+/// A heap on which mutators make their calls on threads: the collector, a participant for each mutator, and the books of
+/// its freezes.
 #[derive(Drop)]
 pub struct OnThreads {
     heap: Heap<Shapes>,
     collector: Collector,
     participants: Vec<CachePadded<Participant>>,
-    births: Births,
-    greys: GreyList,
-    report: Report,
+    pub(crate) books: Books,
     /// Room for each mutator's calls, of which none is in it yet.
     calls: Vec<Vec<Answered>>,
 }
@@ -124,13 +122,15 @@ fn have_retired(participants: &[CachePadded<Participant>]) -> bool
 }
 
 impl OnThreads {
-    /// An empty heap on which nothing was run yet, with a mutator for each script, and this room for what a run leaves.
+    /// An empty heap on which nothing was run yet, with a mutator for each script, and this room for what a run leaves. Its
+    /// cycles are paced so.
     pub fn new(
         alloc: Global,
         layout: Layout,
         shapes: Shapes,
         scripts: Vec<Vec<Op>>,
         room: Room,
+        pacing: Pacing,
     ) -> Result<OnThreads, Memory>
         requires no_visitors { layout.visitors ≡ 0 }
         requires mutators { length scripts.items ≡ layout.mutators }
@@ -140,13 +140,13 @@ impl OnThreads {
         ensures stands { IfOk result Stands }
         ensures callers { IfOk result (λ new. AreCallers (recorded_in new) (callers_on new)) }
         ensures scripts { IfOk result (λ new. scripts_of (callers_on new) ≡ map (λ ops. ops.items) scripts.items) }
+        ensures pacing { IfOk result (λ new. new.books.pacing ≡ pacing) }
     {
         prove!(layout.mutators() <= 16);
         let calls = with_room(alloc, scripts.len())?;
         let callers = callers_of(alloc, scripts)?;
-        let greys = GreyList::new(alloc, layout.cells())?;
         let freed = capped(room.births).saturating_add(2 * layout.cells());
-        let report = Report::new(alloc, capped(room.ends), freed)?;
+        let books = Books::new(alloc, &layout, pacing, capped(room.ends), freed)?;
         let Start {
             heap,
             collector,
@@ -158,9 +158,7 @@ impl OnThreads {
             heap,
             collector,
             participants,
-            births: Births::none(),
-            greys,
-            report,
+            books,
             calls,
         })
     }
@@ -180,6 +178,7 @@ impl OnThreads {
         ensures ran { IfOk result (RanPartBy (recorded_in self.old) (recorded_in self.new) run
             (callers_on self.old) (callers_on self.new)) }
         ensures stands { OnOk result (Stands self.new) }
+        ensures pacing { OnOk result (self.new.books.pacing ≡ self.old.books.pacing) }
     {
         let ended = run_whole_part(
             rt,
@@ -187,7 +186,7 @@ impl OnThreads {
             gate,
             &mut self.collector,
             self.participants.as_mut_slice(),
-            &mut self.births,
+            &mut self.books,
             run,
         )?;
         Ok(ended)
@@ -201,25 +200,19 @@ impl OnThreads {
     }
 
     /// Freezes after a part, and does what the schedule asks for. Answers how many calls each mutator has in the next part.
-    pub(crate) fn freeze(&mut self, is_must: bool, pacing: Pacing) -> Result<u32, Memory>
+    pub(crate) fn freeze(&mut self, is_must: bool) -> Result<u32, Memory>
         requires settled { IsSettled (recorded_in self.old) }
         requires stands { Stands self.old }
         requires opened { 0 < (recorded_in self.old).parts }
         requires room { (recorded_in self.old).cycles < 2 ^ 60 }
-        requires paces { IsPace pacing }
-        ensures ran { IfOk result (RanFreeze (recorded_in self.old) (recorded_in self.new) (pace_of pacing) is_must) }
+        ensures ran { IfOk result (RanFreeze (recorded_in self.old) (recorded_in self.new) (pace_on self.old) is_must) }
         ensures stands { OnOk result (Stands self.new) }
+        ensures pacing { OnOk result (self.new.books.pacing ≡ self.old.books.pacing) }
         ensures callers { OnOk result (callers_on self.new ≡ callers_on self.old) }
     {
-        let next = freeze_heap(
-            &self.heap,
-            &mut self.collector,
-            &mut self.births,
-            &mut self.greys,
-            &mut self.report,
-            is_must,
-            pacing,
-        )?;
+        let next = self
+            .collector
+            .collect(&self.heap, &mut self.books, is_must)?;
         Ok(next)
     }
 
@@ -248,11 +241,10 @@ impl OnThreads {
             heap,
             collector,
             participants,
-            births: _,
-            greys: _,
-            report,
+            books,
             calls,
         } = self;
+        let Books { report, .. } = books;
         let calls = calls_of_each(calls, participants)?;
         Ok((collector.close(heap), report, calls))
     }

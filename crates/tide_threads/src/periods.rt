@@ -5,16 +5,16 @@ ghost use Rattle.tide_model.specs.Periods.{is_over, next_run};
 ghost use Rattle.tide_periods.specs.Asking.{scripts_of};
 ghost use Rattle.tide_periods.specs.Left.{total_left};
 ghost use Rattle.tide_periods.specs.Part.{AreCallers};
-ghost use Rattle.tide_periods.specs.Periods.{pace_of, RanAll, RanPeriod};
+ghost use Rattle.tide_periods.specs.Periods.{RanAll, RanPeriod};
 ghost use Rattle.tide_periods.specs.Recorded.{IsSettled};
 ghost use Rattle.tide_periods.specs.Run.{HasRun};
-ghost use Rattle.tide_threads.specs.OnThreads.{callers_on, recorded_in, setting_in, IsPace, Stands};
+ghost use Rattle.tide_threads.specs.OnThreads.{callers_on, pace_on, recorded_in, setting_in, Stands};
 
 use crate::on_threads::OnThreads;
 use std::marker::Sync;
 use std::thread::Threads;
 use tide_model::{Memory, Turnstile};
-use tide_periods::{Finished, Pacing};
+use tide_periods::Finished;
 use tide_table::Closed;
 
 /// Opens a part in which each mutator has so many calls, runs it, and freezes. Answers how many it has in the next one.
@@ -23,7 +23,6 @@ fn run_period<R: Threads + Sync, T: Turnstile>(
     gate: &T,
     on: &mut OnThreads,
     run: u32,
-    pacing: Pacing,
 ) -> Result<u32, Memory>
     requires settled { IsSettled (recorded_in on.old) }
     requires stands { Stands on.old }
@@ -31,10 +30,10 @@ fn run_period<R: Threads + Sync, T: Turnstile>(
     requires goes_on { is_over (setting_in on.old).layout (recorded_in on.old).history ≡ false }
     requires room { (recorded_in on.old).cycles < 2 ^ 60 }
     requires few { (recorded_in on.old).parts < 2 ^ 32 - 1 }
-    requires run { run ≡ next_run (pace_of pacing) (setting_in on.old).layout (recorded_in on.old).history }
+    requires run { run ≡ next_run (pace_on on.old) (setting_in on.old).layout (recorded_in on.old).history }
     requires calls { 0 < run }
-    requires paces { IsPace pacing }
-    ensures ran { IfOk result (RanPeriod (recorded_in on.old) (recorded_in on.new) (pace_of pacing)) }
+    ensures ran { IfOk result (RanPeriod (recorded_in on.old) (recorded_in on.new) (pace_on on.old)) }
+    ensures pacing { OnOk result (on.new.books.pacing ≡ on.old.books.pacing) }
     ensures stands { OnOk result (Stands on.new) }
     ensures left { OnOk result (total_left (recorded_in on.new) (callers_on on.new)
         < total_left (recorded_in on.old) (callers_on on.old)) }
@@ -43,7 +42,7 @@ fn run_period<R: Threads + Sync, T: Turnstile>(
 {
     let stopped = on.run_part(rt, gate, run)?;
     let is_over = on.are_all_retired();
-    let next = on.freeze(stopped || is_over, pacing)?;
+    let next = on.freeze(stopped || is_over)?;
     Ok(next)
 }
 
@@ -52,25 +51,23 @@ fn run_periods<R: Threads + Sync, T: Turnstile>(
     rt: &R,
     gate: &T,
     on: &mut OnThreads,
-    pacing: Pacing,
 ) -> Result<(), Memory>
     requires settled { IsSettled (recorded_in on.old) }
     requires stands { Stands on.old }
     requires callers { AreCallers (recorded_in on.old) (callers_on on.old) }
     requires nothing { (recorded_in on.old).history ≡ [] }
-    requires paces { IsPace pacing }
     requires cycles { (recorded_in on.old).cycles ≡ 0 }
     requires parts { (recorded_in on.old).parts ≡ 0 }
     requires room { total_left (recorded_in on.old) (callers_on on.old) < 2 ^ 32 - 1 }
-    ensures ran { OnOk result (RanAll (recorded_in on.new) (pace_of pacing) (callers_on on.new)) }
+    ensures ran { OnOk result (RanAll (recorded_in on.new) (pace_on on.old) (callers_on on.new)) }
     ensures retired { OnOk result (list_all (λ caller. caller.retired) (callers_on on.new) ≡ true) }
     ensures stands { OnOk result (Stands on.new) }
     ensures same { OnOk result (setting_in on.new ≡ setting_in on.old) }
     ensures scripts { OnOk result (scripts_of (callers_on on.new) ≡ scripts_of (callers_on on.old)) }
 {
-    let mut run = pacing.period;
+    let mut run = on.books.pacing.period;
     while !on.are_all_retired() {
-        run = run_period(rt, gate, on, run, pacing)?;
+        run = run_period(rt, gate, on, run)?;
     }
     Ok(())
 }
@@ -84,19 +81,17 @@ pub fn run_on_threads<R: Threads + Sync, T: Turnstile>(
     rt: &R,
     gate: &T,
     on: OnThreads,
-    pacing: Pacing,
 ) -> Result<Finished<Closed>, Memory>
     requires stands { Stands on }
     requires nothing { (recorded_in on).history ≡ [] }
     requires callers { AreCallers (recorded_in on) (callers_on on) }
     requires few { length (callers_on on) ≤ 16 }
     requires short { All (λ ops. length ops ≤ 65536) (scripts_of (callers_on on)) }
-    requires paces { IsPace pacing }
-    ensures { IfOk result (λ finished. HasRun (setting_in on) (pace_of pacing) (scripts_of (callers_on on))
+    ensures { IfOk result (λ finished. HasRun (setting_in on) (pace_on on) (scripts_of (callers_on on))
         finished.kept.seat.me.0.seen finished.report (map (λ own. own.items) finished.calls.items) finished.live) }
 {
     let mut on = on;
-    run_periods(rt, gate, &mut on, pacing)?;
+    run_periods(rt, gate, &mut on)?;
     let live = on.live();
     let (kept, report, calls) = on.finish()?;
     Ok(Finished {

@@ -1,10 +1,11 @@
 -- A heap that has started may be opened.
-use Rattle.std.proofs.Common.{◌≡◌, sym, ◌∙◌, subst, true, false, List, []}
+use Rattle.std.proofs.Common.{◌≡◌, sym, ◌∙◌, ap, subst, true, false, List, []}
 use Rattle.tide_core.specs.FrozenWave.{FrozenWave}
 use Rattle.tide_freeze.proofs.FrozenLaws.{marks-same}
 use Rattle.tide_machine.specs.points.Sweeps.{TakenAreClean}
 use Rattle.tide_model.specs.History.{state_after}
 use Rattle.tide_model.specs.declared.entry.Event.{Event}
+use Rattle.tide_table.specs.VisitsTold.{unentered}
 use Rattle.tide_words.specs.heap.Heap.{heap_of}
 use Rattle.check_callers.proofs.opening.open_first.Goals as goal
 
@@ -21,5 +22,6 @@ open-requires g c =
       swept = s.swept;
       clean = subst (λ (h : List Event). TakenAreClean layout heap (state_after layout h)) (sym s.seen) s.clean;
       stopped = s.stopped;
+      entered = ap unentered s.visited;
       may = λ marks visitors. absurd (let clash : false ≡ true = marks-same layout shapes heap [] s.wave ∙ marks in cc);
     }

@@ -31,7 +31,7 @@ begin-requires-clause-few g c =
 
 pub enter_begin-requires-clause-laid_out : goal.enter_begin-requires-clause-laid_out
 enter_begin-requires-clause-laid_out g c =
-    sym (ap (λ (r : Besides). r.whose.layout) c.begin.ensures.same_rest ∙ c.phase_of-cycle.ensures.layout)
+    ap (λ (r : Besides). r.whose.layout) c.begin.ensures.same_rest ∙ c.phase_of-cycle.ensures.layout
 
 pub enter_begin-requires-clause-may : goal.enter_begin-requires-clause-may
 enter_begin-requires-clause-may g c =
@@ -61,8 +61,8 @@ enter_begin-requires-clause-may g c =
     (sym (ap (λ (r : Besides). r.whose.shapes) rest ∙ k.ensures.shapes))
     (may_begin layout shapes v freeze u.words idle begun)))
 
-pub returns-in-Ok-clause-freeze : goal.returns-in-Ok-clause-freeze
-returns-in-Ok-clause-freeze g c =
+pub returns-clause-freeze : goal.returns-clause-freeze
+returns-clause-freeze g c =
     let layout = c.args.layout.now in
     let shapes = g.S.HeapShapes.lists c.args.frozen.now.heap.now.key.shapes in
     let k = c.phase_of-cycle in
@@ -87,13 +87,13 @@ returns-in-Ok-clause-freeze g c =
     λ is. begun_there layout shapes v freeze u.words idle begun x c.begin.ensures.all_words
     (ap (λ (w : Whose). w.view) c.enter_begin.ensures.kept ∙ ap (λ (r : Besides). r.whose.view) rest)
     c.enter_begin.ensures.same
-    (c.in-Ok.ensures.entered ∙ ap (λ (h : List Event). with_entry h (Begin (k.result.0 + 1))) (ap (λ (r : Besides). r.seen) rest)
+    (c.enter_begin.ensures.entered ∙ ap (λ (h : List Event). with_entry h (Begin (k.result.0 + 1))) (ap (λ (r : Besides). r.seen) rest)
     ∙ ap (λ (n : ℕ). with_entry v.seen (Begin n)) (sym number))
-    (c.in-Ok.ensures.blacks ∙ ap (λ (l : Layout). is_black (heap_of l x.base)) there)
+    (sym (ap (λ (l : Layout). is_black (heap_of l x.base)) there) ∙ c.enter_begin.ensures.blacks)
     (LeavesParticipants-begun layout (heap_of layout v.words) (heap_of layout u.words) begun.others).stopped
 
-pub returns-in-Ok-clause-marks : goal.returns-in-Ok-clause-marks
-returns-in-Ok-clause-marks g c =
+pub returns-clause-marks : goal.returns-clause-marks
+returns-clause-marks g c =
     let layout = c.args.layout.now in
     let shapes = g.S.HeapShapes.lists c.args.frozen.now.heap.now.key.shapes in
     let k = c.phase_of-cycle in
@@ -114,52 +114,27 @@ returns-in-Ok-clause-marks g c =
     (sym freeze.wave.cycle ∙ ap (λ (x : View). running_cycle (heap_of layout x.words)) k.ensures.view ∙ sym k.ensures.cycle) in
     λ is. ap (λ (ws : List ℕ). is_marking (heap_of layout ws)) c.enter_begin.ensures.same ∙ c.begin.ensures.marks
 
-pub returns-in-Ok-clause-whose : goal.returns-in-Ok-clause-whose
-returns-in-Ok-clause-whose g c =
+pub returns-clause-whose : goal.returns-clause-whose
+returns-clause-whose g c =
     ap (λ (w : Whose). w.borrow) c.enter_begin.ensures.kept
     ∙ ap (λ (r : Besides). r.whose.borrow) c.begin.ensures.same_rest ∙ c.phase_of-cycle.ensures.whose
 
-pub returns-in-Ok-clause-same : goal.returns-in-Ok-clause-same
-returns-in-Ok-clause-same g c =
+pub returns-clause-same : goal.returns-clause-same
+returns-clause-same g c =
     ap (λ (w : Whose). w.table_id) c.enter_begin.ensures.kept
     ∙ ap (λ (r : Besides). r.whose.table_id) c.begin.ensures.same_rest ∙ c.phase_of-cycle.ensures.same
 
-pub returns-in-Ok-clause-shapes : goal.returns-in-Ok-clause-shapes
-returns-in-Ok-clause-shapes g c =
+pub returns-clause-shapes : goal.returns-clause-shapes
+returns-clause-shapes g c =
     ap (λ (w : Whose). w.shapes) c.enter_begin.ensures.kept
     ∙ ap (λ (r : Besides). r.whose.shapes) c.begin.ensures.same_rest ∙ c.phase_of-cycle.ensures.shapes
 
-pub returns-in-Ok-clause-layout : goal.returns-in-Ok-clause-layout
-returns-in-Ok-clause-layout g c =
+pub returns-clause-layout : goal.returns-clause-layout
+returns-clause-layout g c =
     ap (λ (w : Whose). w.layout) c.enter_begin.ensures.kept
     ∙ ap (λ (r : Besides). r.whose.layout) c.begin.ensures.same_rest ∙ c.phase_of-cycle.ensures.layout
 
-pub returns-in-Ok-clause-view : goal.returns-in-Ok-clause-view
-returns-in-Ok-clause-view g c =
-    ap (λ (w : Whose). w.view) c.enter_begin.ensures.kept
-    ∙ ap (λ (r : Besides). r.whose.view) c.begin.ensures.same_rest ∙ ap bare c.phase_of-cycle.ensures.view
-
-pub returns-in-Err-clause-whose : goal.returns-in-Err-clause-whose
-returns-in-Err-clause-whose g c =
-    ap (λ (w : Whose). w.borrow) c.enter_begin.ensures.kept
-    ∙ ap (λ (r : Besides). r.whose.borrow) c.begin.ensures.same_rest ∙ c.phase_of-cycle.ensures.whose
-
-pub returns-in-Err-clause-same : goal.returns-in-Err-clause-same
-returns-in-Err-clause-same g c =
-    ap (λ (w : Whose). w.table_id) c.enter_begin.ensures.kept
-    ∙ ap (λ (r : Besides). r.whose.table_id) c.begin.ensures.same_rest ∙ c.phase_of-cycle.ensures.same
-
-pub returns-in-Err-clause-shapes : goal.returns-in-Err-clause-shapes
-returns-in-Err-clause-shapes g c =
-    ap (λ (w : Whose). w.shapes) c.enter_begin.ensures.kept
-    ∙ ap (λ (r : Besides). r.whose.shapes) c.begin.ensures.same_rest ∙ c.phase_of-cycle.ensures.shapes
-
-pub returns-in-Err-clause-layout : goal.returns-in-Err-clause-layout
-returns-in-Err-clause-layout g c =
-    ap (λ (w : Whose). w.layout) c.enter_begin.ensures.kept
-    ∙ ap (λ (r : Besides). r.whose.layout) c.begin.ensures.same_rest ∙ c.phase_of-cycle.ensures.layout
-
-pub returns-in-Err-clause-view : goal.returns-in-Err-clause-view
-returns-in-Err-clause-view g c =
+pub returns-clause-view : goal.returns-clause-view
+returns-clause-view g c =
     ap (λ (w : Whose). w.view) c.enter_begin.ensures.kept
     ∙ ap (λ (r : Besides). r.whose.view) c.begin.ensures.same_rest ∙ ap bare c.phase_of-cycle.ensures.view

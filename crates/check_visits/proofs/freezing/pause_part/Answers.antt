@@ -35,8 +35,8 @@ enter_visits-requires-clause-reads g c =
     (subst (λ (x : View). ReadsAs h.key.layout shapes (heap_of h.key.layout x.words) (state_after h.key.layout x.seen))
     (sym k.ensures.frozen.view) k.ensures.frozen.wave.marking.reads))
 
-pub pause_within-requires-clause-freeze : goal.pause_within-requires-clause-freeze
-pause_within-requires-clause-freeze g c =
+pub pause_within-solved-requires-clause-freeze : goal.pause_within-solved-requires-clause-freeze
+pause_within-solved-requires-clause-freeze g c =
     let h = c.args.heap.now in
     let k = c.freeze-frozen in
     let w = k.result.collector.now.seat.me.0 in
@@ -48,7 +48,8 @@ pause_within-requires-clause-freeze g c =
     let p = c.phase_of-marks in
     let x = p.new.frozen.collector.now.seat.me.0 in
     let entered = visits_told h.key.layout shapes c.args.collector.now.seat.me.0 w c.enter_visits.new.self.collector.now.seat.me.0
-    0 c.args.visits k.ensures.frozen c.requires.visits e.entered in
+    0 c.args.visits k.ensures.frozen (sym (c.args.collector.now.told c.requires.running)) c.requires.visits c.requires.told
+    e.entered in
     let now : g.S.HeapShapes.lists p.new.frozen.heap.now.key.shapes ≡ shapes =
     p.ensures.shapes ∙ ap (λ y. g.S.HeapShapes.lists y.key.shapes) e.same.1 ∙ listed in
     subst (λ (l : Layout). IsAtFreeze l (g.S.HeapShapes.lists p.new.frozen.heap.now.key.shapes) x) (sym c.layout-2.ensures)

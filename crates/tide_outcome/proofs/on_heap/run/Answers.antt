@@ -9,6 +9,9 @@ use Rattle.tide_workload.specs.Words.{Settings}
 use Rattle.tide_outcome.specs.Outcome.{HasLeft, is_heap}
 use Rattle.tide_outcome.specs.declared.outcome.Kept.{Kept}
 use Rattle.tide_outcome.specs.declared.outcome.Kept.TheVariants.{Heap}
+use Rattle.tide_periods.specs.Run.{HasRun}
+use Rattle.tide_sched.specs.Paces.{pace_of}
+use Rattle.tide_sched.specs.declared.pacing.Pacing.{Pacing}
 use Rattle.tide_outcome.proofs.RunLaws.{HasLeft-ran}
 use Rattle.tide_outcome.proofs.on_heap.run.Goals as goal
 
@@ -33,7 +36,10 @@ outcome_of-requires-clause-left g c =
       pacing.result.trigger,
       subst (HasLeft work pacing.result.trigger) (sym c.kept_by_heap.ensures)
           (HasLeft-ran work pacing.result (record { kept = Heap ran.kept; report = ran.report; calls = ran.calls; live = ran.live })
-          (setting_in on.on) (scripts_of (callers_on on.on)) c.in_ok-ran.ensures on.ensures.setting on.ensures.scripts
+          (setting_in on.on) (scripts_of (callers_on on.on))
+          (subst (λ (p : Pacing). HasRun (setting_in on.on) (pace_of p) (scripts_of (callers_on on.on)) ran.kept.seat.me.0.seen
+          ran.report (map (λ own. own.items) ran.calls.items) ran.live) on.ensures.pacing c.in_ok-ran.ensures)
+          on.ensures.setting on.ensures.scripts
           (pacing.ensures.period ∙ ap (λ (s : Settings). s.period) value) (pacing.ensures.headroom ∙ ap (λ (s : Settings). s.headroom) value)),
     )
 

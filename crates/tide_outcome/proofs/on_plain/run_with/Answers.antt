@@ -3,7 +3,7 @@ use Rattle.std.proofs.Common.{ℕ, ◌≡◌, ◌≤◌, ◌∙◌, sym, ap, ari
 use Rattle.std.proofs.lemmas.List.{length-map}
 use Rattle.tide_model.specs.declared.op.Op.{Op}
 use Rattle.tide_periods.specs.Asking.{IsAskable, scripts_of}
-use Rattle.tide_periods.specs.Periods.{pace_of}
+use Rattle.tide_sched.specs.Paces.{pace_of}
 use Rattle.tide_periods.specs.Recorded.{IsSettled, Recorded}
 use Rattle.tide_periods.specs.Run.{HasRun}
 use Rattle.tide_periods.specs.Store.{Setting}

@@ -5,7 +5,8 @@ use Rattle.tide_model.specs.Periods.{is_over}
 use Rattle.tide_periods.specs.Asking.{scripts_of}
 use Rattle.tide_periods.specs.Left.{total_by, total_left}
 use Rattle.tide_periods.specs.Part.{AreCallers}
-use Rattle.tide_periods.specs.Periods.{RanFreeze, pace_of}
+use Rattle.tide_periods.specs.Periods.{RanFreeze}
+use Rattle.tide_sched.specs.Paces.{pace_of}
 use Rattle.tide_periods.proofs.Freezing.{RanPeriod-by, is_over-callers}
 use Rattle.tide_periods.proofs.Parting.{AreCallers-same}
 use Rattle.tide_periods.proofs.periods.run_period.Goals as goal

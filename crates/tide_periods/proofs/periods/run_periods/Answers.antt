@@ -1,7 +1,7 @@
 -- Answers to the goals of periods::run_periods.
 use Rattle.std.proofs.Common.{◌∙◌, refl, sym, arith, subst}
 use Rattle.tide_model.specs.Periods.{ArePeriods, no_period}
-use Rattle.tide_periods.specs.Periods.{pace_of}
+use Rattle.tide_sched.specs.Paces.{pace_of}
 use Rattle.tide_periods.proofs.Freezing.{is_over-callers}
 use Rattle.tide_periods.proofs.Running.{ArePeriods-ran, RanAll-over, run_of_nothing}
 use Rattle.tide_periods.proofs.periods.run_periods.Goals as goal
@@ -17,7 +17,7 @@ loop-pacing-init g c = record {
   cycles = omega arith;
   left = omega arith;
   run = run_of_nothing (pace_of c.args.pacing) (g.T.Parts.recorded c.args.parts.now) c.requires.nothing;
-  some = c.requires.period;
+  some = (let least = c.args.pacing.period_least in omega (arith, least));
 }
 
 pub run_period-requires-clause-goes_on : goal.run_period-requires-clause-goes_on

@@ -4,7 +4,7 @@ use Rattle.tide_model.specs.Periods.{ArePeriods, next_run}
 use Rattle.tide_periods.specs.Asking.{scripts_of}
 use Rattle.tide_periods.specs.Left.{total_left}
 use Rattle.tide_periods.specs.Part.{AreCallers}
-use Rattle.tide_periods.specs.Periods.{pace_of}
+use Rattle.tide_sched.specs.Paces.{pace_of}
 use Rattle.tide_periods.specs.Recorded.{IsSettled}
 use Rattle.tide_periods.proofs.periods.run_periods.Given as goal
 

@@ -6,7 +6,7 @@ use Rattle.tide_model.specs.Periods.{open_count}
 use Rattle.tide_report.specs.Ends.{TellsEnds}
 use Rattle.tide_periods.specs.declared.caller.Caller.{Caller}
 use Rattle.tide_periods.specs.Asking.{scripts_of}
-use Rattle.tide_periods.specs.Periods.{pace_of}
+use Rattle.tide_sched.specs.Paces.{pace_of}
 use Rattle.tide_periods.specs.Recorded.{Recorded}
 use Rattle.tide_periods.proofs.Running.{HasRun-over}
 use Rattle.tide_periods.proofs.Starting.{total-few}

@@ -6,11 +6,10 @@ use Rattle.tide_model.specs.declared.entry.Event.{Event}
 use Rattle.tide_periods.proofs.Running.{HasRun-over}
 use Rattle.tide_periods.proofs.Starting.{total-few}
 use Rattle.tide_periods.specs.Asking.{scripts_of}
-use Rattle.tide_periods.specs.Periods.{pace_of}
 use Rattle.tide_periods.specs.Recorded.{Recorded}
 use Rattle.tide_periods.specs.declared.caller.Caller.{Caller}
 use Rattle.tide_report.specs.Ends.{TellsEnds}
-use Rattle.tide_threads.specs.OnThreads.{callers_on, recorded_in, setting_in}
+use Rattle.tide_threads.specs.OnThreads.{callers_on, pace_on, recorded_in, setting_in}
 use Rattle.tide_threads.proofs.Fresh.{IsSettled-fresh}
 use Rattle.tide_threads.proofs.periods.run_on_threads.Goals as goal
 
@@ -42,7 +41,7 @@ returns g c =
     let left = c.in_ok-kept in
     let history : left.kept.seat.me.0.seen ≡ recorded.history = left.ensures.history
     ∙ ap (λ (r : Recorded). r.history) c.live-live.ensures.same in
-    HasRun-over (setting_in c.args.on) (pace_of c.args.pacing) (scripts_of (callers_on c.args.on)) recorded
+    HasRun-over (setting_in c.args.on) (pace_on c.args.on) (scripts_of (callers_on c.args.on)) recorded
     (callers_on c.run_periods.new.on) left.kept.seat.me.0.seen left.report (map (λ own. own.items) left.calls.items)
     c.live-live.result ran.ran ran.same ran.scripts history
     (subst (λ (h : List Event). TellsEnds recorded.setting.layout h left.report) (sym history)

@@ -8,8 +8,10 @@ use Rattle.tide_periods.proofs.Parting.{AreCallers-same}
 use Rattle.tide_periods.specs.Asking.{scripts_of}
 use Rattle.tide_periods.specs.Left.{total_by, total_left}
 use Rattle.tide_periods.specs.Part.{AreCallers}
-use Rattle.tide_periods.specs.Periods.{RanFreeze, pace_of}
-use Rattle.tide_threads.specs.OnThreads.{callers_on, recorded_in}
+use Rattle.tide_periods.specs.Periods.{RanFreeze}
+use Rattle.tide_sched.specs.Paces.{pace_of}
+use Rattle.tide_sched.specs.declared.pacing.Pacing.{Pacing}
+use Rattle.tide_threads.specs.OnThreads.{callers_on, pace_on, recorded_in}
 use Rattle.tide_threads.proofs.periods.run_period.Goals as goal
 use Rattle.tide_threads.proofs.periods.run_period.Goals.{then-stopped, else-stopped}
 
@@ -37,18 +39,17 @@ freeze-requires g c =
       stands = c.in_ok-stopped.ensures.stands;
       opened = omega (arith, opened, parts);
       room = omega (arith, room, began, cycles);
-      paces = c.requires.paces;
     }
 
 pub returns-in_err-stopped : goal.returns-in_err-stopped
 returns-in_err-stopped g c =
     let failed = err_from_is_err_and c.from_residual.result c.from_residual.ensures.1 in
-    rw failed.1 (record { ran = tt; stands = tt; left = tt; callers = tt; scripts = tt })
+    rw failed.1 (record { ran = tt; pacing = tt; stands = tt; left = tt; callers = tt; scripts = tt })
 
 pub returns-in_err-next : goal.returns-in_err-next
 returns-in_err-next g c =
     let failed = err_from_is_err_and c.from_residual-in_err-next.result c.from_residual-in_err-next.ensures.1 in
-    rw failed.1 (record { ran = tt; stands = tt; left = tt; callers = tt; scripts = tt })
+    rw failed.1 (record { ran = tt; pacing = tt; stands = tt; left = tt; callers = tt; scripts = tt })
 
 pub returns : goal.returns
 returns g c =
@@ -59,7 +60,8 @@ returns g c =
     let stopped = c.in_ok-stopped.stopped in
     let callers = callers_on c.args.on.now in
     let callers_ran = callers_on c.run_part.new.self in
-    let froze : RanFreeze ran new (pace_of c.args.pacing) c.if-stopped.freeze c.in_ok-next.next = c.in_ok-next.ensures.ran in
+    let froze : RanFreeze ran new (pace_on c.args.on.now) c.if-stopped.freeze c.in_ok-next.next =
+    subst (λ (p : Pacing). RanFreeze ran new (pace_of p) c.if-stopped.freeze c.in_ok-next.next) c.in_ok-stopped.ensures.pacing c.in_ok-next.ensures.ran in
     let over = c.are_all_retired-is_over.ensures ∙ is_over-callers ran callers_ran part.callers in
     let must : c.if-stopped.freeze ≡ (stopped || is_over ran.setting.layout ran.history) = elim c.if-stopped.branch [
       | then-stopped w ↦ w.freeze-is ∙ w.if-stopped.true
@@ -70,8 +72,9 @@ returns g c =
     let at_last : total_left new (callers_on c.freeze.new.self) ≡ total_left ran callers_ran =
     ap (total_left new) c.in_ok-next.ensures.callers ∙ ap (λ (claims : ℕ → List ℕ). total_by claims callers_ran) froze.claims in
     let fewer = part.fewer c.requires.calls (is_over-callers old callers c.requires.callers ∙ c.requires.goes_on) in record {
-      ran = RanPeriod-by old part.ran.begun ran new (pace_of c.args.pacing) c.args.run c.in_ok-next.next stopped
+      ran = RanPeriod-by old part.ran.begun ran new (pace_on c.args.on.now) c.args.run c.in_ok-next.next stopped
           c.if-stopped.freeze c.requires.goes_on c.requires.run part.ran.opened part.ran.ran froze must;
+      pacing = c.in_ok-next.ensures.pacing ∙ c.in_ok-stopped.ensures.pacing;
       stands = c.in_ok-next.ensures.stands;
       left = omega (arith, at_last, fewer);
       callers = subst (AreCallers new) (sym c.in_ok-next.ensures.callers)

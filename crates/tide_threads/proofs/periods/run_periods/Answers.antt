@@ -3,57 +3,62 @@ use Rattle.std.proofs.Common.{◌∙◌, refl, sym, arith, subst}
 use Rattle.tide_model.specs.Periods.{ArePeriods, no_period}
 use Rattle.tide_periods.proofs.Freezing.{is_over-callers}
 use Rattle.tide_periods.proofs.Running.{ArePeriods-ran, RanAll-over, run_of_nothing}
-use Rattle.tide_periods.specs.Periods.{pace_of}
-use Rattle.tide_threads.specs.OnThreads.{callers_on, recorded_in, setting_in}
+use Rattle.tide_periods.specs.Periods.{RanPeriod}
+use Rattle.tide_sched.specs.Paces.{pace_of}
+use Rattle.tide_sched.specs.declared.pacing.Pacing.{Pacing}
+use Rattle.tide_threads.specs.OnThreads.{callers_on, pace_on, recorded_in, setting_in}
 use Rattle.tide_threads.proofs.periods.run_periods.Goals as goal
 
-pub loop-pacing-init : goal.loop-pacing-init
-loop-pacing-init g c = record {
+pub loop-on-init : goal.loop-on-init
+loop-on-init g c = record {
   settled = c.requires.settled;
   stands = c.requires.stands;
   same = refl;
+  pacing = refl;
   scripts = refl;
   callers = c.requires.callers;
-  periods = subst (ArePeriods (pace_of c.args.pacing) (setting_in c.args.on.now).layout) (sym c.requires.nothing) no_period;
+  periods = subst (ArePeriods (pace_on c.args.on.now) (setting_in c.args.on.now).layout) (sym c.requires.nothing) no_period;
   cycles = (let none = c.requires.cycles in omega (arith, none));
   left = (let none = c.requires.parts in omega (arith, none));
-  run = run_of_nothing (pace_of c.args.pacing) (recorded_in c.args.on.now) c.requires.nothing;
-  some = (let least = c.requires.paces.period_least in omega (arith, least));
+  run = run_of_nothing (pace_on c.args.on.now) (recorded_in c.args.on.now) c.requires.nothing;
+  some = (let least = c.args.on.now.books.pacing.period_least in omega (arith, least));
 }
 
 pub run_period-requires-clause-goes_on : goal.run_period-requires-clause-goes_on
 run_period-requires-clause-goes_on g c κs within =
-    sym (is_over-callers (recorded_in c.loop-pacing.on) (callers_on c.loop-pacing.on) c.loop-pacing.invariant.callers)
-    ∙ sym c.are_all_retired.ensures ∙ c.loop-pacing-test.true
+    sym (is_over-callers (recorded_in c.loop-on.on) (callers_on c.loop-on.on) c.loop-on.invariant.callers)
+    ∙ sym c.are_all_retired.ensures ∙ c.loop-on-test.true
 
 pub run_period-requires-clause-room : goal.run_period-requires-clause-room
 run_period-requires-clause-room g c κs within =
-    let had = c.loop-pacing.invariant.cycles in
-    let left = c.loop-pacing.invariant.left in
+    let had = c.loop-on.invariant.cycles in
+    let left = c.loop-on.invariant.left in
     let few = c.requires.room in
     omega (arith, had, left, few)
 
 pub run_period-requires-clause-few : goal.run_period-requires-clause-few
 run_period-requires-clause-few g c κs within =
-    (let left = c.loop-pacing.invariant.left in let few = c.requires.room in omega (arith, left, few))
+    (let left = c.loop-on.invariant.left in let few = c.requires.room in omega (arith, left, few))
 
-pub loop-pacing-preserved : goal.loop-pacing-preserved
-loop-pacing-preserved g c =
-    let old = recorded_in c.loop-pacing.on in
+pub loop-on-preserved : goal.loop-on-preserved
+loop-on-preserved g c =
+    let old = recorded_in c.loop-on.on in
     let new = recorded_in c.run_period.new.on in
-    let ran = c.in_ok-run.ensures.ran in
+    let ran : RanPeriod old new (pace_on c.args.on.now) c.in_ok-run.run' =
+    subst (λ (p : Pacing). RanPeriod old new (pace_of p) c.in_ok-run.run') c.loop-on.invariant.pacing c.in_ok-run.ensures.ran in
     let fewer = c.in_ok-run.ensures.left in
     let cycles = ran.cycles in
     let parts = ran.parts in
-    let had = c.loop-pacing.invariant.cycles in
-    let left = c.loop-pacing.invariant.left in
+    let had = c.loop-on.invariant.cycles in
+    let left = c.loop-on.invariant.left in
     record {
       settled = ran.settled;
       stands = c.in_ok-run.ensures.stands;
-      same = ran.same ∙ c.loop-pacing.invariant.same;
-      scripts = c.in_ok-run.ensures.scripts ∙ c.loop-pacing.invariant.scripts;
+      same = ran.same ∙ c.loop-on.invariant.same;
+      pacing = c.in_ok-run.ensures.pacing ∙ c.loop-on.invariant.pacing;
+      scripts = c.in_ok-run.ensures.scripts ∙ c.loop-on.invariant.scripts;
       callers = c.in_ok-run.ensures.callers;
-      periods = ArePeriods-ran old new (pace_of c.args.pacing) c.in_ok-run.run' ran c.loop-pacing.invariant.periods;
+      periods = ArePeriods-ran old new (pace_on c.args.on.now) c.in_ok-run.run' ran c.loop-on.invariant.periods;
       cycles = omega (arith, cycles, parts, had);
       left = omega (arith, parts, left, fewer);
       run = ran.next;
@@ -62,11 +67,11 @@ loop-pacing-preserved g c =
 
 pub returns : goal.returns
 returns g c = record {
-  stands = c.loop-pacing.invariant.stands;
-  same = c.loop-pacing.invariant.same;
-  scripts = c.loop-pacing.invariant.scripts;
-  retired = sym c.are_all_retired.ensures ∙ c.loop-pacing-test.false;
-  ran = RanAll-over (recorded_in c.loop-pacing.on) (pace_of c.args.pacing) (callers_on c.loop-pacing.on)
-      c.loop-pacing.invariant.settled c.loop-pacing.invariant.callers c.loop-pacing.invariant.periods
-      (sym c.are_all_retired.ensures ∙ c.loop-pacing-test.false);
+  stands = c.loop-on.invariant.stands;
+  same = c.loop-on.invariant.same;
+  scripts = c.loop-on.invariant.scripts;
+  retired = sym c.are_all_retired.ensures ∙ c.loop-on-test.false;
+  ran = RanAll-over (recorded_in c.loop-on.on) (pace_on c.args.on.now) (callers_on c.loop-on.on)
+      c.loop-on.invariant.settled c.loop-on.invariant.callers c.loop-on.invariant.periods
+      (sym c.are_all_retired.ensures ∙ c.loop-on-test.false);
 }

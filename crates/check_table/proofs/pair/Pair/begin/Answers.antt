@@ -8,7 +8,7 @@ pub begin_part-requires : goal.begin_part-requires
 begin_part-requires c = (let p = c.args.self.now in let o = c.requires.opened in record {
   own = p.own;
   of_heap = p.one_of_heap;
-  running = o.part.running;
+  running = o.part.part.runs.running;
   parked = o.one.stopped;
   stays = o.one_stays;
   later = o.one.period;
@@ -22,7 +22,7 @@ begin_part-requires-2 c =
     record {
       own = same.0 ∙ p.own;
       of_heap = p.other_of_heap;
-      running = ap (λ (x : View). x.frozen) same.1 ∙ o.part.running;
+      running = ap (λ (x : View). x.frozen) same.1 ∙ o.part.part.runs.running;
       parked = o.other.stopped;
       stays = o.other_stays;
       later = subst (λ (n : ℕ). p.other.seat.me.0.period < n) (sym (ap (λ (x : View). x.period) same.1)) o.other.period;

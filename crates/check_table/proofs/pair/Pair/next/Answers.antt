@@ -1,5 +1,6 @@
 -- Both notes are those of all, and nobody has left.
 use Rattle.std.proofs.Common.{refl, ◌∙◌, ap}
+use Rattle.check_table.proofs.Nexts.{may_enter_none}
 use Rattle.check_table.proofs.Pairing.{all_in, opened_both}
 use Rattle.check_table.specs.Pairs.{gone_if}
 use Rattle.check_table.proofs.pair.Pair.next.Goals as goal
@@ -7,11 +8,9 @@ use Rattle.check_table.proofs.pair.Pair.next.Goals as goal
 pub next_part-requires : goal.next_part-requires
 next_part-requires c = (let p = c.args.self.now in let s = c.requires.stopped in record {
   own = p.own;
-  part = s.part;
+  part = s.part.part;
   all = all_in p.heap.key.layout p.collector.seat.me.0.notes p.collector.seat.me.0.gone p.small s.notes;
-  no_visitors = p.small.no_visitors;
-  empty = p.empty;
-  room = p.room;
+  visits = may_enter_none p.heap.key.layout p.books p.collector.seat.me.0 p.small.no_visitors s.part;
 })
 
 pub returns-clause-opened : goal.returns-clause-opened

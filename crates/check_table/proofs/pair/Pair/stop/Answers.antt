@@ -8,7 +8,7 @@ pub stop_part-requires : goal.stop_part-requires
 stop_part-requires c = (let p = c.args.self.now in let b = c.requires.begun in record {
   own = p.own;
   of_heap = p.one_of_heap;
-  running = b.part.running;
+  running = b.part.part.runs.running;
   mutator = (is_ready p.heap.key.layout 0 p.collector.seat.me.0.period p.one.seat.me.0.mine p.one.seat.me.0.left
       p.one.seat.me.0 p.small (omega arith) b.one refl refl).is_mutator;
   runs = b.one.runs;
@@ -26,7 +26,7 @@ stop_part-requires-2 c =
     record {
       own = c.stop_part.ensures.same ∙ p.own;
       of_heap = p.other_of_heap;
-      running = ap (λ (x : View). x.frozen) noted ∙ b.part.running;
+      running = ap (λ (x : View). x.frozen) noted ∙ b.part.part.runs.running;
       mutator = (is_ready p.heap.key.layout 1 p.collector.seat.me.0.period p.other.seat.me.0.mine
           p.other.seat.me.0.left p.other.seat.me.0 p.small (omega arith) b.other refl refl).is_mutator;
       runs = b.other.runs;
@@ -38,7 +38,7 @@ stop_part-requires-2 c =
 
 pub returns-clause-stopped : goal.returns-clause-stopped
 returns-clause-stopped c =
-    stop_both c.args.self.now _ c.stop_part.new.collector.seat.me.0 refl refl refl c.stop_part.ensures.noted
+    stop_both c.args.self.now _ c.stop_part.new.collector.seat.me.0 refl refl c.stop_part.ensures.noted
     c.stop_part-2.ensures.noted c.stop_part.ensures.stopped.1 c.stop_part-2.ensures.stopped.1 c.requires.begun
 
 pub returns-clause-calls : goal.returns-clause-calls

@@ -1,5 +1,5 @@
 -- Why the entry keeps the rule.
-use Rattle.std.proofs.Common.{subst, ap, ◌∙◌, sym}
+use Rattle.std.proofs.Common.{◌≡◌, subst, ap, ◌∙◌, sym, true, false}
 use Rattle.std.specs.Prelude.{◌%◌, ◌^◌}
 use Rattle.tide_model.specs.Lawful.{Stands}
 use Rattle.tide_model.specs.Layout.{Layout}
@@ -7,6 +7,9 @@ use Rattle.tide_model.specs.Refused.{ShapeLists}
 use Rattle.tide_steps.proofs.Comings.{zero_below}
 use Rattle.tide_table.proofs.Tabled.{enters_as}
 use Rattle.tide_heap.specs.Turns.{visits_over}
+use Rattle.tide_machine.specs.declared.view.View.{View}
+use Rattle.tide_table.proofs.Visits.{AreNumbersTold-over}
+use Rattle.tide_table.specs.VisitsTold.{AreNumbersTold}
 use Rattle.tide_table.proofs.collector.Collector.enter_visits_as.Goals as goal
 
 pub load-requires : goal.load-requires
@@ -36,6 +39,9 @@ invariant_of-self g c =
       cycle_is = s.cycle_is ∙ (λ i. (sym e i).cycle);
       few_cycles = s.few_cycles;
       born_is = s.born_is ∙ (λ i. (sym e i).births % 2 ^ 32);
+      told = λ running. (let clash : true ≡ false = sym ((λ i. (e i).frozen) ∙ c.requires.frozen) ∙ running in absurd (cc));
+      visits_are = subst (λ (v : View). AreNumbersTold s.visits v.visited) (sym e)
+          (AreNumbersTold-over g.J.Choice.number s.visits s.seat.me.0.visited s.visits_are);
     }
 
 pub returns : goal.returns

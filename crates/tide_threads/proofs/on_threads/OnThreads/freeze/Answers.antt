@@ -1,46 +1,59 @@
--- Why the heap may be frozen, and stands after.
+-- Why the heap may be collected, and stands after.
 use Rattle.std.proofs.Common.{◌∙◌, refl, arith}
 use Rattle.std.proofs.lemmas.Result.{err_from_is_err_and}
+use Rattle.tide_freeze.proofs.BookLaws.{longer_report_tells}
+use Rattle.tide_shape.specs.Lists.{lists_of}
+use Rattle.tide_threads.proofs.Freezes.{IsParked-collected, MayEnterVisits-none, RanFreeze-collected, StandsUnvisited-collected}
+use Rattle.tide_threads.specs.OnThreads.{pace_on}
 use Rattle.tide_threads.proofs.on_threads.OnThreads.freeze.Goals as goal
 
-pub freeze_heap-requires : goal.freeze_heap-requires
-freeze_heap-requires c =
+pub collect-requires : goal.collect-requires
+collect-requires c =
+    let self = c.args.self.now in
     let stands = c.requires.stands in record {
       own = stands.of_heap;
-      still = stands.still;
+      still = stands.still.still;
+      opened = (let opened = c.requires.opened in let period = stands.still.still.period in omega (arith, opened, period));
+      visits = MayEnterVisits-none self.heap.key.layout (lists_of self.heap.key.shapes) self.collector.seat.me.0 stands.still;
       books = stands.books;
-      settled = c.requires.settled;
-      opened = (let opened = c.requires.opened in let period = stands.still.period in omega (arith, opened, period));
       few = c.requires.room;
-      paces = c.requires.paces;
     }
 
 pub returns-in_err-next : goal.returns-in_err-next
 returns-in_err-next c =
     let failed = err_from_is_err_and c.from_residual.result c.from_residual.ensures.1 in
-    rw failed.1 (record { ran = tt; stands = tt; callers = tt })
+    rw failed.1 (record { ran = tt; stands = tt; pacing = tt; callers = tt })
 
 pub returns : goal.returns
 returns c =
+    let self = c.args.self.now in
     let stands = c.requires.stands in
     let e = c.in_ok-next.ensures in
+    let layout = self.heap.key.layout in
+    let shapes = lists_of self.heap.key.shapes in
+    let v = self.collector.seat.me.0 in
+    let w = c.collect.new.self.seat.me.0 in
+    let pace = pace_on self in
+    let run = c.in_ok-next.next in
     record {
-      ran = e.ran;
+      ran = RanFreeze-collected layout shapes pace c.args.is_must v w run e.collected c.requires.settled e.books.are.swept;
       stands = record {
         of_heap = e.own ∙ stands.of_heap;
-        still = e.still;
-        books = e.books;
+        still = StandsUnvisited-collected layout shapes pace c.args.is_must v w run e.collected stands.still;
+        books = e.books.are;
+        told = longer_report_tells layout v.seen w.seen self.books.report c.collect.new.books.report stands.told e.books.told;
         all = record {
           one_each = stands.all.one_each;
           each = λ who x found. let by = stands.all.each who x found in record {
             table = by.table;
             number = by.number;
-            parked = e.parked.keeps who _ _ by.parked;
+            parked = IsParked-collected layout shapes pace c.args.is_must v w run e.collected who _ _ by.parked;
             no_ticket = by.no_ticket;
             no_note = by.no_note;
           };
         };
         no_calls = stands.no_calls;
       };
+      pacing = e.books.pacing;
       callers = refl;
     }

@@ -1,22 +1,20 @@
 -- Why a heap with its mutators stands at the start.
-use Rattle.std.proofs.Common.{◌∙◌, sym, ap, subst, arith, List, All, length, map}
+use Rattle.std.proofs.Common.{◌∙◌, sym, ap, subst, List, All, length, map}
 use Rattle.std.proofs.lemmas.List.{length-map}
 use Rattle.std.proofs.lemmas.Result.{err_from_is_err_and}
-use Rattle.tide_freeze.specs.Births.{AreBornIn}
-use Rattle.tide_model.specs.Layout.{Layout, cell_count}
+use Rattle.tide_freeze.specs.Books.{AreBooks}
+use Rattle.tide_model.specs.Layout.{Layout}
 use Rattle.tide_model.specs.declared.entry.Event.{Event}
 use Rattle.tide_periods.proofs.Starting.{AreCallers-nothing}
 use Rattle.tide_periods.specs.Asking.{AreNew, IsAskable, scripts_of}
 use Rattle.tide_periods.specs.Recorded.{recorded_at}
 use Rattle.tide_periods.specs.declared.caller.Caller.{Caller}
-use Rattle.tide_report.proofs.EndLaws.{TellsEnds-nothing}
-use Rattle.tide_report.specs.Reports.{Reported}
+use Rattle.tide_report.specs.Ends.{TellsEnds}
 use Rattle.tide_shape.specs.Lists.{lists_of}
 use Rattle.tide_shape.specs.declared.shapes.Shapes.{Shapes}
-use Rattle.tide_threads.proofs.Fresh.{AllStandBy-fresh, StandsStill-started}
+use Rattle.tide_threads.proofs.Fresh.{AllStandBy-fresh, StandsUnvisited-started}
 use Rattle.tide_threads.specs.OnThreads.{callers_in}
-use Rattle.tide_threads.specs.Standing.{StandsStill}
-use Rattle.tide_words.specs.marking.Greys.{Greys}
+use Rattle.tide_threads.specs.Standing.{StandsUnvisited}
 use Rattle.tide_threads.proofs.on_threads.OnThreads.new.Goals as goal
 
 pub participants_of-requires : goal.participants_of-requires
@@ -31,32 +29,27 @@ participants_of-requires c = record {
 pub returns-in_err-calls : goal.returns-in_err-calls
 returns-in_err-calls c =
     let failed = err_from_is_err_and c.from_residual.result c.from_residual.ensures.1 in
-    rw failed.1 (record { setting = tt; nothing = tt; stands = tt; callers = tt; scripts = tt })
+    rw failed.1 (record { setting = tt; nothing = tt; stands = tt; callers = tt; scripts = tt; pacing = tt })
 
 pub returns-in_err-callers : goal.returns-in_err-callers
 returns-in_err-callers c =
     let failed = err_from_is_err_and c.from_residual-in_err-callers.result c.from_residual-in_err-callers.ensures.1 in
-    rw failed.1 (record { setting = tt; nothing = tt; stands = tt; callers = tt; scripts = tt })
+    rw failed.1 (record { setting = tt; nothing = tt; stands = tt; callers = tt; scripts = tt; pacing = tt })
 
-pub returns-in_err-greys : goal.returns-in_err-greys
-returns-in_err-greys c =
-    let failed = err_from_is_err_and c.from_residual-in_err-greys.result c.from_residual-in_err-greys.ensures.1 in
-    rw failed.1 (record { setting = tt; nothing = tt; stands = tt; callers = tt; scripts = tt })
-
-pub returns-in_err-report : goal.returns-in_err-report
-returns-in_err-report c =
-    let failed = err_from_is_err_and c.from_residual-in_err-report.result c.from_residual-in_err-report.ensures.1 in
-    rw failed.1 (record { setting = tt; nothing = tt; stands = tt; callers = tt; scripts = tt })
+pub returns-in_err-books : goal.returns-in_err-books
+returns-in_err-books c =
+    let failed = err_from_is_err_and c.from_residual-in_err-books.result c.from_residual-in_err-books.ensures.1 in
+    rw failed.1 (record { setting = tt; nothing = tt; stands = tt; callers = tt; scripts = tt; pacing = tt })
 
 pub returns-in_err-heap : goal.returns-in_err-heap
 returns-in_err-heap c =
     let failed = err_from_is_err_and c.from_residual-in_err-heap.result c.from_residual-in_err-heap.ensures.1 in
-    rw failed.1 (record { setting = tt; nothing = tt; stands = tt; callers = tt; scripts = tt })
+    rw failed.1 (record { setting = tt; nothing = tt; stands = tt; callers = tt; scripts = tt; pacing = tt })
 
 pub returns-in_err-participants : goal.returns-in_err-participants
 returns-in_err-participants c =
     let failed = err_from_is_err_and c.from_residual-in_err-participants.result c.from_residual-in_err-participants.ensures.1 in
-    rw failed.1 (record { setting = tt; nothing = tt; stands = tt; callers = tt; scripts = tt })
+    rw failed.1 (record { setting = tt; nothing = tt; stands = tt; callers = tt; scripts = tt; pacing = tt })
 
 pub returns : goal.returns
 returns c = record {
@@ -71,20 +64,13 @@ returns c = record {
       let scripts = map (λ ops. ops.items) c.args.scripts.items in
       record {
         of_heap = c.in_ok-heap.ensures.collector;
-        still = subst (λ (l : Layout). StandsStill l (lists_of start.heap.key.shapes) v) (sym made.0)
-            (subst (λ (s : Shapes). StandsStill layout (lists_of s) v) (sym made.1)
-            (StandsStill-started layout (lists_of c.args.shapes) v started c.mutators.ensures.limits c.requires.no_visitors));
-        books = record {
-          counted = subst (λ (h : List Event). AreBornIn h c.none.result) (sym started.seen) c.none.ensures;
-          told = TellsEnds-nothing start.heap.key.layout v.seen c.in_ok-report.report started.seen
-              (ap (λ (r : Reported). r.cycles) c.in_ok-report.ensures) (ap (λ (r : Reported). r.ids) c.in_ok-report.ensures);
-          empty = ap (λ (greys : Greys). greys.cells) c.in_ok-greys.ensures;
-          room =
-              let count = c.cells.ensures.count in
-              let same = ap cell_count made.0 in
-              let cap = ap (λ (greys : Greys). greys.cap) c.in_ok-greys.ensures in
-              omega (arith, count, same, cap);
-        };
+        still = subst (λ (l : Layout). StandsUnvisited l (lists_of start.heap.key.shapes) v) (sym made.0)
+            (subst (λ (s : Shapes). StandsUnvisited layout (lists_of s) v) (sym made.1)
+            (StandsUnvisited-started layout (lists_of c.args.shapes) v started c.mutators.ensures.limits c.requires.no_visitors));
+        books = subst (λ (x : Layout × List Event). AreBooks x.0 x.1 c.in_ok-books.books) (λ i. (sym made.0 i, sym started.seen i))
+            c.in_ok-books.ensures.are;
+        told = subst (λ (x : Layout × List Event). TellsEnds x.0 x.1 c.in_ok-books.books.report) (λ i. (sym made.0 i, sym started.seen i))
+            c.in_ok-books.ensures.told;
         all = AllStandBy-fresh start.heap.table.shared.table_id start.heap.key.layout v xs scripts started.seen
             (length-map c.args.scripts.items (λ ops. ops.items) ∙ c.requires.mutators
             ∙ ap (λ (l : Layout). l.mutators) (sym made.0))
@@ -105,4 +91,5 @@ returns c = record {
       ∙ length-map c.args.scripts.items (λ ops. ops.items) ∙ c.requires.mutators ∙ ap (λ (l : Layout). l.mutators) (sym made.0))
       (subst (λ (l : Layout). All (All (IsAskable l)) scripts) (sym made.0) c.requires.askable));
   scripts = ap scripts_of c.in_ok-participants.ensures.callers ∙ c.in_ok-callers.ensures.scripts_are;
+  pacing = c.in_ok-books.ensures.pacing;
 }

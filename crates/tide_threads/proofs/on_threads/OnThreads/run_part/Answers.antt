@@ -21,8 +21,11 @@ run_whole_part-requires-clause-all g c κs within =
     subst (AllStandBy c.args.self.now.heap.table.shared.table_id c.args.self.now.heap.key.layout c.args.self.now.collector.seat.me.0)
     (sym c.as_mut_slice.ensures.value) c.requires.stands.all
 
-pub run_whole_part-requires-clause-counted : goal.run_whole_part-requires-clause-counted
-run_whole_part-requires-clause-counted g c κs within = c.requires.stands.books.counted
+pub run_whole_part-requires-clause-books : goal.run_whole_part-requires-clause-books
+run_whole_part-requires-clause-books g c κs within = c.requires.stands.books
+
+pub run_whole_part-requires-clause-told : goal.run_whole_part-requires-clause-told
+run_whole_part-requires-clause-told g c κs within = c.requires.stands.told
 
 pub run_whole_part-requires-clause-settled : goal.run_whole_part-requires-clause-settled
 run_whole_part-requires-clause-settled g c κs within = c.requires.settled
@@ -34,12 +37,12 @@ run_whole_part-requires-clause-callers g c κs within =
 
 pub run_whole_part-requires-clause-few : goal.run_whole_part-requires-clause-few
 run_whole_part-requires-clause-few g c κs within =
-    (let few = c.requires.few in let period = c.requires.stands.still.period in omega (arith, few, period))
+    (let few = c.requires.few in let period = c.requires.stands.still.still.period in omega (arith, few, period))
 
 pub returns-in_err-ended : goal.returns-in_err-ended
 returns-in_err-ended g c =
     let failed = err_from_is_err_and c.from_residual.result c.from_residual.ensures.1 in
-    rw failed.1 (record { ran = tt; stands = tt })
+    rw failed.1 (record { ran = tt; stands = tt; pacing = tt })
 
 pub returns : goal.returns
 returns g c =
@@ -61,13 +64,10 @@ returns g c =
       stands = record {
         of_heap = e.own ∙ stands.of_heap;
         still = e.still;
-        books = record {
-          counted = e.counted;
-          told = e.told self.report stands.books.told;
-          empty = stands.books.empty;
-          room = stands.books.room;
-        };
+        books = e.books;
+        told = e.told;
         all = subst (AllStandBy self.heap.table.shared.table_id self.heap.key.layout w) (sym whole) e.all;
         no_calls = stands.no_calls;
       };
+      pacing = e.pacing;
     }

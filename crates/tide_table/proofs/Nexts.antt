@@ -1,0 +1,91 @@
+-- From a freeze to the next part, whose numbers these are.
+use Rattle.std.proofs.Common.{ℕ, ◌≡◌, ◌+◌, ◌<◌, ◌≤◌, ◌^◌, refl, sym, ◌∙◌, ap, subst, arith, true, false, List, [], ◌∷◌, ◌++◌}
+use Rattle.std.specs.Prelude.{if◌then◌else◌, Bool}
+use Rattle.tide_freeze.proofs.BookLaws.{AddsEnds-same, AddsEnds-then}
+use Rattle.tide_freeze.proofs.RunningLaws.{open_keeps_books}
+use Rattle.tide_freeze.specs.Books.{AddsEnds, AreBooks, WereKept}
+use Rattle.tide_freeze.specs.Entering.{with_entry}
+use Rattle.tide_freeze.specs.declared.books.Books.{Books}
+use Rattle.tide_heap.specs.Turns.{Freezes, opened}
+use Rattle.tide_machine.specs.declared.view.View.{View}
+use Rattle.tide_model.proofs.Histories.{push_cases}
+use Rattle.tide_model.proofs.PeriodLaws.{Each-nil, EndsInTime-other}
+use Rattle.tide_model.proofs.SinceLaws.{count-push}
+use Rattle.tide_model.specs.Cycle.{begin_count}
+use Rattle.tide_model.specs.Each.{Each}
+use Rattle.tide_model.specs.History.{is_begin, is_open, plain}
+use Rattle.tide_model.specs.Layout.{Layout}
+use Rattle.tide_model.specs.Pace.{Pace}
+use Rattle.tide_model.specs.Periods.{EndsInTime, open_count}
+use Rattle.tide_model.specs.Refused.{ShapeLists}
+use Rattle.tide_model.specs.declared.entry.Entry.TheVariants.{Open}
+use Rattle.tide_model.specs.declared.entry.Event.{Event}
+use Rattle.tide_freeze.proofs.BookLaws.{ends_in-part}
+use Rattle.tide_report.specs.Ends.{ends_in}
+use Rattle.tide_report.specs.Reports.{Reported}
+use Rattle.tide_sched.proofs.RunLaws.{last_run-opened}
+use Rattle.tide_table.proofs.Standing.{begin_count-part, no_ends}
+use Rattle.tide_table.specs.Standing.{HasCollected, HasOpenedNext, RunsPart, RunsWith, StandsStill}
+
+-- the part that was opened has its number and its run
+pub RunsPart-opened : (layout : Layout) (run : ℕ) (v w : View) → w ≡ opened layout run v → v.period ≡ open_count v.seen →
+    Each (EndsInTime layout) v.seen → RunsPart layout w
+RunsPart-opened layout run v w is numbered ends = subst (RunsPart layout) (sym is) (record {
+  running = refl;
+  period =
+      let counted = count-push (λ e. is_open e.entry) v.seen (plain (Open (v.period + 1) run)) in
+      omega (arith, numbered, counted);
+  run = sym (last_run-opened v.seen (v.period + 1) run);
+  ends = push_cases (EndsInTime layout) v.seen (plain (Open (v.period + 1) run)) ends
+      (EndsInTime-other layout v.seen (plain (Open (v.period + 1) run)) refl);
+})
+
+-- no cycle began where it was opened
+pub begin_count-opened : (layout : Layout) (run : ℕ) (v w : View) → w ≡ opened layout run v →
+    begin_count w.start ≡ begin_count v.seen
+begin_count-opened layout run v w is =
+    ap (λ (x : View). begin_count x.start) is
+    ∙ (let counted = count-push (λ e. is_begin e.entry) v.seen (plain (Open (v.period + 1) run)) in omega (arith, counted))
+
+-- Below, v is the view while a part runs, u once it is frozen, w once the freeze code ran, and x once the next part is opened.
+pub HasOpenedNext-by : (layout : Layout) (shapes : ShapeLists) (pace : Pace) (is_must : Bool) (run : ℕ)
+    (old counted books : Books) (v u w x : View) → RunsWith layout old v → Freezes layout shapes v u →
+    HasCollected layout shapes pace is_must u w run → WereKept layout u.seen w.seen counted books →
+    x ≡ opened layout run w → w.period + 1 < 2 ^ 32 → HasOpenedNext layout books v x
+HasOpenedNext-by layout shapes pace is_must run old counted books v u w x runs froze did kept is numbered = record {
+  runs = record {
+    runs = RunsPart-opened layout run w x is did.still.period did.still.ends;
+    few =
+        let same = begin_count-opened layout run w x is in
+        let more = did.freezes.cycles in
+        let before = ap (λ (y : View). begin_count y.seen) froze.view ∙ ap begin_count froze.since
+        ∙ begin_count-part v.start froze.part froze.calls in
+        let few = runs.few in
+        omega (arith, same, more, before, few, later);
+    numbered = subst (λ (y : View). y.period < 2 ^ 32) (sym is) numbered;
+    are = subst (λ (y : View). AreBooks layout y.start books) (sym is)
+        (open_keeps_books layout w.seen (w.period + 1) run books kept.are);
+  };
+  period = later;
+  notes = ap (λ (y : View). y.notes) is;
+  visited = ap (λ (y : View). y.visited) is;
+  gone = ap (λ (y : View). y.gone) is ∙ ap (λ (y : View). y.gone) did.rest ∙ ap (λ (y : View). y.gone) froze.view;
+}
+  where
+    later : x.period ≡ v.period + 1
+    later = ap (λ (y : View). y.period) is ∙ ap (λ (y : View). y.period + 1) did.rest ∙ ap (λ (y : View). y.period + 1) froze.view
+
+-- and the report has just the ends that came
+pub AddsEnds-next : (layout : Layout) (shapes : ShapeLists) (run : ℕ) (report longer : Reported) (v u w x : View) →
+    Freezes layout shapes v u → AddsEnds layout u.seen w.seen report longer → x ≡ opened layout run w →
+    AddsEnds layout v.start x.start report longer
+AddsEnds-next layout shapes run report longer v u w x froze told is =
+    AddsEnds-then layout v.start u.seen x.start report report longer
+    (AddsEnds-same layout v.start u.seen report report
+    (ap (λ (y : View). ends_in layout y.seen) froze.view
+    ∙ ap (ends_in layout) froze.since
+    ∙ ends_in-part layout v.start froze.part (no_ends froze.part froze.calls)) refl refl)
+    (AddsEnds-then layout u.seen w.seen x.start report longer longer told
+    (AddsEnds-same layout w.seen x.start longer longer
+    (ap (λ (y : View). ends_in layout y.start) is
+    ∙ ends_in-part layout w.seen (plain (Open (w.period + 1) run) ∷ []) refl) refl refl))
