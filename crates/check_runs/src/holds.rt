@@ -1,6 +1,6 @@
-//! A turnstile that holds mutators, so that a row fixes an interleaving. It changes nothing of a store.
+//! A turnstile that holds mutators and visitors, so that a row fixes an interleaving. It changes nothing of a store.
 //!
-//! A hold keeps one mutator at a point until another has come to another point. It lasts at most `TURNS` turns, then it is
+//! A hold keeps one participant at a point until another has come to another point. It lasts at most `TURNS` turns, then it is
 //! given up, and the run goes on. A hold until its own point ends at once, and tells that the point was met.
 
 use check_heap::{number, numbers_text};
@@ -44,11 +44,13 @@ fn place_of(word: &str) -> Option<Place> {
         "linked" => Some(Place::Linked),
         "nuked" => Some(Place::Nuked),
         "stored" => Some(Place::Stored),
+        "blackened" => Some(Place::Blackened),
+        "scanned" => Some(Place::Scanned),
         _ => None,
     }
 }
 
-/// The point that three words name: the number of a mutator, the place, and the number of its call or the cell there.
+/// The point that three words name: the number of a participant, the place, and the number of its call or the cell there.
 fn point_of(words: [&str; 3]) -> Option<Point> {
     let [who, place, what] = words;
     Some(Point {

@@ -1,4 +1,5 @@
 //! The outcomes of runs, by `plain` and `run`.
+ghost use Rattle.std.specs.Prelude.{◌≤◌};
 
 use check_heap::{number_between, numbers_text, reply_text};
 use std::alloc::{AllocError, Global};
@@ -71,12 +72,15 @@ pub fn in_turn(alloc: Global, load: &Workload) -> Result<String, AllocError> {
     text_of(alloc, plain(alloc, load))
 }
 
-/// The outcome of a workload's run by `run`, with this turnstile.
+/// The outcome of a workload's run by `run`, with so many visitors and this turnstile.
 pub fn in_threads<R: Threads + Sync, T: Turnstile>(
     rt: &R,
     alloc: Global,
     load: &Workload,
+    visitors: u8,
     gate: &T,
-) -> Result<String, AllocError> {
-    text_of(alloc, run(rt, alloc, load, 0, gate))
+) -> Result<String, AllocError>
+    requires { visitors ≤ 8 }
+{
+    text_of(alloc, run(rt, alloc, load, visitors, gate))
 }

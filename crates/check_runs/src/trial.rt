@@ -1,25 +1,26 @@
-//! A run whose source and sinks give and take ten bytes a call, and fail where they are told to, and whose mutators are held
+//! A run whose source and sinks give and take ten bytes a call, and fail where they are told to, and whose participants are held
 //! where they are told to.
 //!
 //! The lines of a row: `workload NAME` or `document LINE` is what there is to read, `text NAME` what is to be printed where
 //! that isn't the workload's text (a NAME is one of the shelf, `shelf.rt`), `words WORDS` are those of the command line, which is `riptide` alone where none are given
 //! (`''` is the empty word); `reads fail CALLS`, `prints fail CALLS` and `tells fail CALLS` say which calls fail, from 0, and
-//! `room BYTES` how much may be printed. `hold POINT until POINT` holds a mutator at a point until another has come to one; a
-//! point is the mutator's number, `call` with the number of its call from 0, or `linked` with a cell (`holds.rt`). Then
+//! `room BYTES` how much may be printed. `hold POINT until POINT` holds a participant at a point until another has come to one;
+//! a point is the participant's number, a visitor's being 16 plus its own, `call` with the number of its call from 0, or another
+//! place with a cell, as `linked` or `scanned` (`holds.rt`). Then
 //!
 //! - `run` is answered with the status, and with an outcome where there is one; `run short of room` with `write faults` where
 //!   each room less than the text needs ends with one, and with as many first bytes of the text;
 //! - `printed` is answered with how much of the workload's text was: `all`, `nothing` or so many first bytes, `told` with the
 //!   line on the error output, and `, cut off` where it has no end; `left` with how many bytes weren't read, or `all`;
 //! - `held` is answered with the numbers of the holds that were kept, from 0;
-//! - `plain` and `in threads` run the workload by `plain` and `run`, and are answered with its calls, its cycles and what
-//!   lives then.
+//! - `plain` and `in threads` run the workload by `plain` and `run`, the second also `with N visitors`, and are answered with
+//!   its calls, its cycles, what lives then and how many races were met.
 
 use crate::ending::Ending;
 use crate::holds::Holds;
 use crate::outcomes::{in_threads, in_turn};
 use crate::shelf::Shelf;
-use check_heap::{large_number, large_numbers, number_between, number_text, text};
+use check_heap::{large_number, large_numbers, number, number_between, number_text, text};
 use std::alloc::{AllocError, Global};
 use std::marker::Sync;
 use std::thread::Threads;
@@ -245,6 +246,23 @@ impl<'a> Trial<'a> {
         text(alloc, "write faults")
     }
 
+    /// Runs a workload by `run` with as many visitors as a word says, and answers with its outcome.
+    fn run_beside<R: Threads + Sync>(
+        &self,
+        rt: &R,
+        alloc: Global,
+        load: &Workload,
+        visitors: &str,
+    ) -> Result<Option<String>, AllocError> {
+        match number(visitors) {
+            Some(count) if count <= 8 => {
+                let answer = in_threads(rt, alloc, load, count as u8, &self.holds)?;
+                Ok(Some(answer))
+            }
+            _ => Ok(None),
+        }
+    }
+
     /// Runs a workload by itself, as words say, and answers with its outcome.
     fn run_alone<R: Threads + Sync>(
         &self,
@@ -255,7 +273,10 @@ impl<'a> Trial<'a> {
     ) -> Result<Option<String>, AllocError> {
         let answer = match words {
             ["plain"] => in_turn(alloc, load)?,
-            ["in", "threads"] => in_threads(rt, alloc, load, &self.holds)?,
+            ["in", "threads"] => in_threads(rt, alloc, load, 0, &self.holds)?,
+            ["in", "threads", "with", visitors, "visitors"] => {
+                return self.run_beside(rt, alloc, load, visitors);
+            }
             _ => return Ok(None),
         };
         Ok(Some(answer))

@@ -26,7 +26,7 @@ fn comes_to_one<R: Threads + Sync>(
         return Ok(true);
     }
     let on_plain = in_turn(alloc, load)?;
-    let on_heap = in_threads(rt, alloc, load, &FreePass)?;
+    let on_heap = in_threads(rt, alloc, load, 0, &FreePass)?;
     Ok(on_plain.as_str() == on_heap.as_str())
 }
 

@@ -40,8 +40,8 @@ unfolding reads_options
 taken words rows none are =
     ap options_in are ∙ sym (ap (λ (taken : Bool). if taken then options_in (matches_of command words) else None) (ap is_empty none))
 
-no_more : (v : ℕ) → nat_lt 0 v ≡ false → v ≤ 8
-no_more v more = let none = ltb-false 0 v more in omega (arith, none)
+no_more : (v : ℕ) → nat_lt 8 v ≡ false → v ≤ 8
+no_more v more = let none = ltb-false 8 v more in omega (arith, none)
 
 second_false : (a b : Bool) → (a || b) ≡ false → b ≡ false
 second_false true b neither = absurd (cc)

@@ -8,6 +8,10 @@ use Rattle.tide_options.specs.Options.{reads_options}
 abbrev pub after_name : List Text → Option Options
 after_name words = reads_options (codes "riptide" ∷ words)
 
+-- so many visitors, and nothing else
+abbrev pub beside : ℕ → Option Options
+beside visitors = Some (record { visitors = visitors; plain = false; make = None })
+
 -- no visitors, and so
 abbrev pub alone : Bool → Option ℕ → Option Options
 alone plain make = Some (record { visitors = 0; plain = plain; make = make })
@@ -17,6 +21,8 @@ pub record Asked : Type 0 where
   pub no_word : reads_options [] ≡ alone false None
   pub name : after_name [] ≡ alone false None
   pub no_visitors : after_name (codes "--visitors" ∷ codes "0" ∷ []) ≡ alone false None
+  pub a_visitor : after_name (codes "--visitors" ∷ codes "1" ∷ []) ≡ beside 1
+  pub most_visitors : after_name (codes "--visitors" ∷ codes "8" ∷ []) ≡ beside 8
   pub with_equals : after_name (codes "--visitors=0" ∷ []) ≡ alone false None
   pub plain : after_name (codes "--plain" ∷ []) ≡ alone true None
   pub made : after_name (codes "--make" ∷ codes "7" ∷ []) ≡ alone false (Some 7)
@@ -43,5 +49,5 @@ pub record Mistaken : Type 0 where
   pub flag_with_value : after_name (codes "--plain=1" ∷ []) ≡ None
   pub flag_twice : after_name (codes "--plain" ∷ codes "--plain" ∷ []) ≡ None
   pub number_twice : after_name (codes "--make" ∷ codes "1" ∷ codes "--make" ∷ codes "1" ∷ []) ≡ None
-  pub a_visitor : after_name (codes "--visitors" ∷ codes "1" ∷ []) ≡ None
+  pub nine_visitors : after_name (codes "--visitors" ∷ codes "9" ∷ []) ≡ None
   pub plain_with_visitors : after_name (codes "--plain" ∷ codes "--visitors" ∷ codes "0" ∷ []) ≡ None

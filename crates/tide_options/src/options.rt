@@ -9,8 +9,8 @@ use clap::error::ErrorKind;
 use clap::{ArgMatches, Error};
 use std::alloc::{AllocError, Global};
 
-/// How many visitors there may be: none yet.
-pub const MAX_VISITORS: u8 = 0;
+/// How many visitors there may be.
+pub const MAX_VISITORS: u8 = 8;
 
 /// What the words of a command line ask for.
 #[derive(Clone, Copy, Debug, PartialEq, Eq)]

@@ -29,30 +29,31 @@ use Rattle.tide_outcome.proofs.Outsiders.{none_above}
 use Rattle.tide_outcome.specs.Runs.{AreScripts, IsRunOf, Ran, layout_of_work, layout_with, pace_of_work, setting_of_work}
 
 -- a workload's operation may be asked for
-IsAskable-operation : (settings : Settings) (keys : List (List ℕ)) (mutators : ℕ) (op : Op) → IsOperation (limits_with settings keys) op → IsAskable (layout_with settings mutators) op
-IsAskable-operation settings keys mutators (Alloc dst class) is = record { fits = is; goes_on = refl }
-IsAskable-operation settings keys mutators (Table dst) is = record { fits = is; goes_on = refl }
-IsAskable-operation settings keys mutators (Get dst src slot) is = record { fits = (is.0, is.1); goes_on = refl }
-IsAskable-operation settings keys mutators (Put src slot val) is = record { fits = (is.0, is.2); goes_on = refl }
-IsAskable-operation settings keys mutators (Move dst src) is = record { fits = is; goes_on = refl }
-IsAskable-operation settings keys mutators (Set dst n) is = record { fits = is; goes_on = refl }
-IsAskable-operation settings keys mutators (Drop dst) is = record { fits = is; goes_on = refl }
-IsAskable-operation settings keys mutators (Claim src) is = record { fits = is; goes_on = refl }
-IsAskable-operation settings keys mutators (Release src) is = record { fits = is; goes_on = refl }
-IsAskable-operation settings keys mutators Unclaim is = record { fits = tt; goes_on = refl }
-IsAskable-operation settings keys mutators (Add src key val) is = record { fits = (is.0, is.2); goes_on = refl }
-IsAskable-operation settings keys mutators (GetProp dst src key) is = record { fits = (is.0, is.1); goes_on = refl }
-IsAskable-operation settings keys mutators (SetProp src key val) is = record { fits = (is.0, is.2); goes_on = refl }
-IsAskable-operation settings keys mutators (StrongSet at val) is = record { fits = is; goes_on = refl }
-IsAskable-operation settings keys mutators (StrongGet dst at) is = record { fits = is; goes_on = refl }
-IsAskable-operation settings keys mutators (WeakSet at val) is = record { fits = is; goes_on = refl }
-IsAskable-operation settings keys mutators (WeakGet dst at) is = record { fits = is; goes_on = refl }
-IsAskable-operation settings keys mutators (PairSet src key val) is = record { fits = is; goes_on = refl }
-IsAskable-operation settings keys mutators (PairGet dst src key) is = record { fits = is; goes_on = refl }
-IsAskable-operation settings keys mutators (PairDel src key) is = record { fits = is; goes_on = refl }
-IsAskable-operation settings keys mutators (Group src n) is = record { fits = is; goes_on = refl }
-IsAskable-operation settings keys mutators Collect is = record { fits = tt; goes_on = refl }
-IsAskable-operation settings keys mutators Retire is = absurd is
+IsAskable-operation : (settings : Settings) (keys : List (List ℕ)) (mutators visitors : ℕ) (op : Op) → IsOperation (limits_with settings keys) op →
+    IsAskable (layout_with settings mutators visitors) op
+IsAskable-operation settings keys mutators visitors (Alloc dst class) is = record { fits = is; goes_on = refl }
+IsAskable-operation settings keys mutators visitors (Table dst) is = record { fits = is; goes_on = refl }
+IsAskable-operation settings keys mutators visitors (Get dst src slot) is = record { fits = (is.0, is.1); goes_on = refl }
+IsAskable-operation settings keys mutators visitors (Put src slot val) is = record { fits = (is.0, is.2); goes_on = refl }
+IsAskable-operation settings keys mutators visitors (Move dst src) is = record { fits = is; goes_on = refl }
+IsAskable-operation settings keys mutators visitors (Set dst n) is = record { fits = is; goes_on = refl }
+IsAskable-operation settings keys mutators visitors (Drop dst) is = record { fits = is; goes_on = refl }
+IsAskable-operation settings keys mutators visitors (Claim src) is = record { fits = is; goes_on = refl }
+IsAskable-operation settings keys mutators visitors (Release src) is = record { fits = is; goes_on = refl }
+IsAskable-operation settings keys mutators visitors Unclaim is = record { fits = tt; goes_on = refl }
+IsAskable-operation settings keys mutators visitors (Add src key val) is = record { fits = (is.0, is.2); goes_on = refl }
+IsAskable-operation settings keys mutators visitors (GetProp dst src key) is = record { fits = (is.0, is.1); goes_on = refl }
+IsAskable-operation settings keys mutators visitors (SetProp src key val) is = record { fits = (is.0, is.2); goes_on = refl }
+IsAskable-operation settings keys mutators visitors (StrongSet at val) is = record { fits = is; goes_on = refl }
+IsAskable-operation settings keys mutators visitors (StrongGet dst at) is = record { fits = is; goes_on = refl }
+IsAskable-operation settings keys mutators visitors (WeakSet at val) is = record { fits = is; goes_on = refl }
+IsAskable-operation settings keys mutators visitors (WeakGet dst at) is = record { fits = is; goes_on = refl }
+IsAskable-operation settings keys mutators visitors (PairSet src key val) is = record { fits = is; goes_on = refl }
+IsAskable-operation settings keys mutators visitors (PairGet dst src key) is = record { fits = is; goes_on = refl }
+IsAskable-operation settings keys mutators visitors (PairDel src key) is = record { fits = is; goes_on = refl }
+IsAskable-operation settings keys mutators visitors (Group src n) is = record { fits = is; goes_on = refl }
+IsAskable-operation settings keys mutators visitors Collect is = record { fits = tt; goes_on = refl }
+IsAskable-operation settings keys mutators visitors Retire is = absurd is
 
 -- a workload's operation has a text
 HasText-operation : (settings : Settings) (keys : List (List ℕ)) (op : Op) → IsOperation (limits_with settings keys) op → HasText keys op
@@ -81,11 +82,11 @@ HasText-operation settings keys Collect is = tt
 HasText-operation settings keys Retire is = absurd is
 
 -- the operations of all scripts may be asked for
-pub AreAskable : (work : Work) (mutators : ℕ) (scripts : List (List Op)) → All (All (IsOperation (limits_of work))) scripts →
-    All (All (IsAskable (layout_with work.settings mutators))) scripts
-AreAskable work mutators scripts within =
-    All-weaker (All (IsOperation (limits_of work))) (All (IsAskable (layout_with work.settings mutators)))
-    (λ ops. All-weaker (IsOperation (limits_of work)) (IsAskable (layout_with work.settings mutators)) (IsAskable-operation work.settings work.keys mutators) ops) scripts within
+pub AreAskable : (work : Work) (mutators visitors : ℕ) (scripts : List (List Op)) → All (All (IsOperation (limits_of work))) scripts →
+    All (All (IsAskable (layout_with work.settings mutators visitors))) scripts
+AreAskable work mutators visitors scripts within =
+    All-weaker (All (IsOperation (limits_of work))) (All (IsAskable (layout_with work.settings mutators visitors)))
+    (λ ops. All-weaker (IsOperation (limits_of work)) (IsAskable (layout_with work.settings mutators visitors)) (IsAskable-operation work.settings work.keys mutators visitors) ops) scripts within
 
 -- what a mutator asks for has a text
 HasText-asked : (keys : List (List ℕ)) (ops : List Op) (op : Op) → All (HasText keys) ops → IsAskedBy ops op → HasText keys op
@@ -104,11 +105,11 @@ All-before f P (x ∷ xs) all = All-cons (λ y. P (f y)) x xs (All-head P (f x) 
 
 -- what a run left is an outcome
 pub IsOutcome-ran : (work : Work) (layout : Layout) (keys : List (List ℕ)) (setting : Setting) (pace : Pace) (scripts : List (List Op)) (kept : Kept) (report : Reported)
-    (calls : List (List Answered)) (live : ℕ) → HasRun setting pace scripts (history_of kept) report calls live → setting.layout ≡ layout → keys ≡ work.keys →
+    (calls : List (List Answered)) (live deferred : ℕ) → HasRun setting pace scripts (history_of kept) report calls live → setting.layout ≡ layout → keys ≡ work.keys →
     length scripts ≡ layout.mutators → All (All (IsOperation (limits_of work))) scripts →
-    IsOutcome layout keys kept calls live report
-IsOutcome-ran work layout keys setting pace scripts kept report calls live ran same names one_each within =
-    subst (λ (l : Layout). IsOutcome l keys kept calls live report) same (record {
+    (layout.visitors ≡ 0 → deferred ≡ 0) → IsOutcome layout keys kept calls live report deferred
+IsOutcome-ran work layout keys setting pace scripts kept report calls live deferred ran same names one_each within none_met =
+    subst (λ (l : Layout). IsOutcome l keys kept calls live report deferred) same (record {
       one_each = ran.one_each;
       calls_are = ran.calls_are;
       no_others = none_above setting.layout setting.shapes (history_of kept) ran.legal.lawful;
@@ -126,21 +127,22 @@ IsOutcome-ran work layout keys setting pace scripts kept report calls live ran s
           (All-before pair_of (λ call. IsAskedBy ops call.0) own asked);
       living = ran.living;
       told = ran.told;
+      none_met = λ none. none_met (ap (λ (l : Layout). l.visitors) (sym same) ∙ none);
     })
 
 -- what a run left is a run of the workload
-pub IsRunOf-ran : (work : Work) (trigger : ℕ) (result : Ran) (setting : Setting) (pace : Pace) (scripts : List (List Op)) (events : List Event) (report : Reported) (calls : List (List Answered)) (live : ℕ) →
-    HasRun setting pace scripts events report calls live → pace ≡ pace_of_work work trigger → setting.layout ≡ layout_of_work work → setting.shapes ≡ shapes_of_paths work.paths →
-    scripts ≡ work.scripts → result.layout ≡ layout_of_work work → result.keys ≡ work.keys → result.history ≡ events → IsRunOf work trigger result
-IsRunOf-ran work trigger result setting pace scripts events report calls live ran paced same shaped own layout keys history = record {
+pub IsRunOf-ran : (work : Work) (trigger visitors : ℕ) (result : Ran) (setting : Setting) (pace : Pace) (scripts : List (List Op)) (events : List Event) (report : Reported) (calls : List (List Answered)) (live : ℕ) →
+    HasRun setting pace scripts events report calls live → pace ≡ pace_of_work work trigger → setting.layout ≡ layout_of_work work visitors → setting.shapes ≡ shapes_of_paths work.paths →
+    scripts ≡ work.scripts → result.layout ≡ layout_of_work work visitors → result.keys ≡ work.keys → result.history ≡ events → IsRunOf work trigger visitors result
+IsRunOf-ran work trigger visitors result setting pace scripts events report calls live ran paced same shaped own layout keys history = record {
   layout = layout;
   keys = keys;
-  legal = subst (IsLegal (pace_of_work work trigger) (layout_of_work work) (shapes_of_paths work.paths)) (sym history)
-      (subst (λ (p : Pace). IsLegal p (layout_of_work work) (shapes_of_paths work.paths) events) paced
+  legal = subst (IsLegal (pace_of_work work trigger) (layout_of_work work visitors) (shapes_of_paths work.paths)) (sym history)
+      (subst (λ (p : Pace). IsLegal p (layout_of_work work visitors) (shapes_of_paths work.paths) events) paced
       (subst (λ (l : Layout). IsLegal pace l (shapes_of_paths work.paths) events) same
       (subst (λ (s : ShapeLists). IsLegal pace setting.layout s events) shaped ran.legal)));
   whole = λ mutator ops found.
-      subst (λ (h : List Event). IsWhole (layout_of_work work) h mutator ops) (sym history)
+      subst (λ (h : List Event). IsWhole (layout_of_work work visitors) h mutator ops) (sym history)
       (subst (λ (l : Layout). IsWhole l events mutator ops) same
       (ran.whole mutator ops (ap (λ (lists : List (List Op)). slice_get lists mutator) own ∙ found)));
 }
@@ -159,11 +161,11 @@ pace_of-work work pacing period headroom =
     ∙ ap (λ (n : ℕ). record { period = work.settings.period; headroom = n; trigger = pacing.trigger }) headroom
 
 -- a run with a workload's numbers of a store of its layout and shapes is one of the workload
-pub HasLeft-ran : (work : Work) (pacing : Pacing) (ran : Finished Kept) (setting : Setting) (scripts : List (List Op)) →
+pub HasLeft-ran : (work : Work) (pacing : Pacing) (visitors : ℕ) (ran : Finished Kept) (setting : Setting) (scripts : List (List Op)) →
     HasRun setting (pace_of pacing) scripts (history_of ran.kept) ran.report (map (λ own. own.items) ran.calls.items) ran.live →
-    setting ≡ setting_of_work work → AreScripts work scripts → pacing.period ≡ work.settings.period → pacing.headroom ≡ work.settings.headroom →
-    HasLeft work pacing.trigger ran
-HasLeft-ran work pacing ran setting scripts has_run same are period headroom =
+    setting ≡ setting_of_work work visitors → AreScripts work scripts → pacing.period ≡ work.settings.period → pacing.headroom ≡ work.settings.headroom →
+    HasLeft work pacing.trigger visitors ran
+HasLeft-ran work pacing visitors ran setting scripts has_run same are period headroom =
     let Has : Setting → Pace → List (List Op) → Type 0 =
     λ (s : Setting) (p : Pace) (l : List (List Op)). HasRun s p l (history_of ran.kept) ran.report (map (λ own. own.items) ran.calls.items) ran.live in
     record {

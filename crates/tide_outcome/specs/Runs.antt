@@ -18,31 +18,31 @@ pub record Ran : Type 0 where
   pub history : List Event
   pub is_heap : Bool
 
--- the plain numbers of a store with these settings and so many mutators
-abbrev pub layout_with : Settings → ℕ → Layout
-layout_with settings mutators = record {
+-- the plain numbers of a store with these settings and so many mutators and visitors
+abbrev pub layout_with : Settings → (mutators visitors : ℕ) → Layout
+layout_with settings mutators visitors = record {
   cell_blocks = settings.blocks;
   array_blocks = settings.arrays;
   registers = settings.registers;
   strong = settings.strong;
   weak = settings.weak;
   mutators = mutators;
-  visitors = 0;
+  visitors = visitors;
 }
 
--- the layout of the store that a workload asks for
-abbrev pub layout_of_work : Work → Layout
-layout_of_work work = layout_with work.settings (length work.scripts)
+-- the layout of the store that a workload asks for, with so many visitors
+abbrev pub layout_of_work : Work → ℕ → Layout
+layout_of_work work visitors = layout_with work.settings (length work.scripts) visitors
 
--- the layout and the shapes of the store that a workload asks for
-abbrev pub setting_of_work : Work → Setting
-setting_of_work work = record { layout = layout_of_work work; shapes = shapes_of_paths work.paths }
+-- the layout and the shapes of the store that a workload asks for, with so many visitors
+abbrev pub setting_of_work : Work → ℕ → Setting
+setting_of_work work visitors = record { layout = layout_of_work work visitors; shapes = shapes_of_paths work.paths }
 
--- on a store of a workload's layout and shapes nothing was run yet
+-- on a store of a workload's layout and shapes, without visitors, nothing was run yet
 pub record IsNew (work : Work) (recorded : Recorded) : Type 0 where
   pub settled : IsSettled recorded
   pub nothing : recorded.history ≡ []
-  pub setting : recorded.setting ≡ setting_of_work work
+  pub setting : recorded.setting ≡ setting_of_work work 0
 
 -- the scripts of a workload, which are so many and so long, and of operations that may be asked for
 pub record AreScripts (work : Work) (scripts : List (List Op)) : Type 0 where
@@ -56,12 +56,13 @@ pub record AreScripts (work : Work) (scripts : List (List Op)) : Type 0 where
 abbrev pub pace_of_work : Work → ℕ → Pace
 pace_of_work work trigger = record { period = work.settings.period; headroom = work.settings.headroom; trigger = trigger }
 
--- A run of a workload with this trigger: its history is legal in the layout and with the shapes that the workload asks
--- for, its keys have the workload's names, and each mutator asked for all that it was to ask for. The plain store can't
--- mark across parts, so that its trigger is 0: no cycle begins by itself there. Words have the workload's.
-pub record IsRunOf (work : Work) (trigger : ℕ) (ran : Ran) : Type 0 where
-  pub layout : ran.layout ≡ layout_of_work work
+-- A run of a workload with this trigger and so many visitors: its history is legal in the layout and with the shapes that
+-- the workload asks for, its keys have the workload's names, and each mutator asked for all that it was to ask for. The
+-- plain store can't mark across parts, so that its trigger is 0 and it has no visitors: no cycle begins by itself there.
+-- Words have the workload's.
+pub record IsRunOf (work : Work) (trigger visitors : ℕ) (ran : Ran) : Type 0 where
+  pub layout : ran.layout ≡ layout_of_work work visitors
   pub keys : ran.keys ≡ work.keys
-  pub legal : IsLegal (pace_of_work work trigger) (layout_of_work work) (shapes_of_paths work.paths) ran.history
+  pub legal : IsLegal (pace_of_work work trigger) (layout_of_work work visitors) (shapes_of_paths work.paths) ran.history
   pub whole : (mutator : ℕ) (ops : List Op) → slice_get work.scripts mutator ≡ Some ops →
-      IsWhole (layout_of_work work) ran.history mutator ops
+      IsWhole (layout_of_work work visitors) ran.history mutator ops

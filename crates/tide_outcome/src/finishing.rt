@@ -1,5 +1,5 @@
 //! What a run left, as the outcome of its workload.
-ghost use Rattle.std.specs.Prelude.{ℕ, ◌≡◌, map};
+ghost use Rattle.std.specs.Prelude.{ℕ, ◌≡◌, ◌≤◌, map};
 ghost use Rattle.tide_outcome.specs.Outcome.{is_heap, HasLeft};
 ghost use Rattle.tide_outcome.specs.Runs.{IsRunOf};
 
@@ -56,12 +56,20 @@ pub(crate) fn kept_by_heap(ran: Finished<Closed>) -> Finished<Kept>
     }
 }
 
-/// The outcome of a run of a workload that left this, with the names of the workload's keys.
-pub(crate) fn outcome_of(load: &Workload, names: Vec<Vec<u8>>, ran: Finished<Kept>) -> Outcome
+/// The outcome of a run of a workload with so many visitors that left this, with the names of the workload's keys.
+pub(crate) fn outcome_of(
+    load: &Workload,
+    visitors: u8,
+    names: Vec<Vec<u8>>,
+    ran: Finished<Kept>,
+    deferred: u64,
+) -> Outcome
     requires names { map (λ name. name.items) names.items ≡ load.now.keys }
-    requires left { (trigger : ℕ) × HasLeft load.now trigger ran }
-    ensures run { (trigger : ℕ) → HasLeft load.now trigger ran → IsRunOf load.now trigger result }
+    requires few { visitors ≤ 8 }
+    requires left { (trigger : ℕ) × HasLeft load.now trigger visitors ran }
+    requires none_met { visitors ≡ 0 → deferred ≡ 0 }
+    ensures run { (trigger : ℕ) → HasLeft load.now trigger visitors ran → IsRunOf load.now trigger visitors result }
     ensures heap { result.is_heap ≡ is_heap ran.kept }
 {
-    Outcome::new(layout_of(load), names, ran)
+    Outcome::new(layout_of(load, visitors), names, ran, deferred)
 }

@@ -17,7 +17,7 @@ fn plain_for(alloc: Global, load: &Workload, room: usize) -> Result<Recording<Pl
     ensures new { IfOk result (λ new. IsNew load.now (⟦<Recording<PlainStore> as Recorder>⟧.recorded new)) }
     ensures stands { IfOk result (λ new. ⟦<Recording<PlainStore> as Recorder>⟧.stands new) }
 {
-    let layout = layout_of(load);
+    let layout = layout_of(load, 0);
     let shapes = shapes_from(alloc, load.paths())?;
     let store = PlainStore::new(alloc, layout, shapes)?;
     let recorder = Recording::new(alloc, store, layout.block_count(), room)?;
@@ -38,19 +38,19 @@ fn run_with<T: Recorder + Drop>(
     requires period { pacing.period ≡ load.now.settings.period }
     requires headroom { pacing.headroom ≡ load.now.settings.headroom }
     requires paces { T.paces pacing }
-    ensures run { IfOk result (IsRunOf load.now pacing.trigger) }
+    ensures run { IfOk result (IsRunOf load.now pacing.trigger 0) }
     ensures own { IfOk result (λ ran. ran.is_heap ≡ false) }
 {
     let names = names_of(alloc, load)?;
     let parts = InTurn::new(alloc, recorder, scripts)?;
     let ran = run_on(alloc, parts, pacing)?;
-    Ok(outcome_of(load, names, kept_itself(ran)))
+    Ok(outcome_of(load, 0, names, kept_itself(ran), 0))
 }
 
 /// Runs a workload on the plain store, in periods: in each running part the mutators make their calls one after
 /// another, in the order of their numbers. No cycle begins by itself.
 pub fn plain(alloc: Global, load: &Workload) -> Result<Outcome, Memory>
-    ensures run { IfOk result (IsRunOf load.now 0) }
+    ensures run { IfOk result (IsRunOf load.now 0 0) }
     ensures own { IfOk result (λ ran. ran.is_heap ≡ false) }
 {
     let scripts = copied_scripts(alloc, load)?;

@@ -34,6 +34,8 @@ pub struct Outcome {
     calls: Vec<Vec<Answered>>,
     live: u32,
     report: Report,
+    /// How many races visitors met, as far as 64 bits count them.
+    deferred: u64,
 }
 
 impl Model for Outcome {
@@ -47,7 +49,7 @@ impl Model for Outcome {
     ghost view = { λ o. ran_of o.layout (map (λ name. name.items) o.names.items) o.kept };
 
     ghost invariant = { λ o. IsOutcome o.layout (map (λ name. name.items) o.names.items) o.kept
-        (map (λ own. own.items) o.calls.items) o.live o.report };
+        (map (λ own. own.items) o.calls.items) o.live o.report o.deferred };
 }
 
 impl Outcome {
@@ -61,9 +63,14 @@ impl Outcome {
     ghost use Rattle.tide_outcome.specs.Outcome.{ran_of, IsOutcome};
 
     /// The outcome of a run that left this.
-    pub(crate) fn new(layout: Layout, names: Vec<Vec<u8>>, ran: Finished<Kept>) -> Outcome
+    pub(crate) fn new(
+        layout: Layout,
+        names: Vec<Vec<u8>>,
+        ran: Finished<Kept>,
+        deferred: u64,
+    ) -> Outcome
         requires { IsOutcome layout (map (λ name. name.items) names.items) ran.kept
-            (map (λ own. own.items) ran.calls.items) ran.live ran.report }
+            (map (λ own. own.items) ran.calls.items) ran.live ran.report deferred }
         ensures { result ≡ ran_of layout (map (λ name. name.items) names.items) ran.kept }
     {
         let Finished {
@@ -79,6 +86,7 @@ impl Outcome {
             calls,
             live,
             report,
+            deferred,
         }
     }
 
@@ -114,10 +122,10 @@ impl Outcome {
         &self.report
     }
 
-    /// How many races visitors met: none, since there are no visitors yet.
+    /// How many races visitors met in all parts, as far as 64 bits count them, and so none without visitors.
     pub fn deferred(&self) -> u64
-        ensures { result ≡ 0 }
+        ensures { self.now.layout.visitors ≡ 0 → result ≡ 0 }
     {
-        0
+        self.deferred
     }
 }

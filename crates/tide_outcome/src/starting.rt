@@ -20,11 +20,12 @@ fn append<T: Drop>(list: &mut Vec<T>, item: T) -> Result<(), Memory>
     Ok(())
 }
 
-/// The layout of a store with these settings, for so many mutators and no visitor.
-fn layout_with(settings: Settings, mutators: u32) -> Layout
+/// The layout of a store with these settings, for so many mutators and visitors.
+fn layout_with(settings: Settings, mutators: u32, visitors: u8) -> Layout
     requires settings { AreSettings settings }
     requires mutators { mutators ≤ 16 }
-    ensures { result ≡ layout_with settings mutators }
+    requires visitors { visitors ≤ 8 }
+    ensures { result ≡ layout_with settings mutators visitors }
 {
     Layout::new(
         settings.blocks,
@@ -33,15 +34,16 @@ fn layout_with(settings: Settings, mutators: u32) -> Layout
         settings.strong,
         settings.weak,
         mutators as u8,
-        0,
+        visitors,
     )
 }
 
-/// The layout of the store that a workload asks for.
-pub(crate) fn layout_of(load: &Workload) -> Layout
-    ensures { result ≡ layout_of_work load.now }
+/// The layout of the store that a workload asks for, with so many visitors.
+pub(crate) fn layout_of(load: &Workload, visitors: u8) -> Layout
+    requires { visitors ≤ 8 }
+    ensures { result ≡ layout_of_work load.now visitors }
 {
-    layout_with(load.settings(), load.mutators())
+    layout_with(load.settings(), load.mutators(), visitors)
 }
 
 /// The shapes of declared paths, none of which names a key twice.

@@ -27,14 +27,18 @@ IsAskedFor None old new work = ReadWork old new work
 abbrev pub trigger_for : Options → Work → ℕ
 trigger_for options work = if options.plain then 0 else work.settings.trigger
 
--- The run is one of the workload that the options ask for. A heap that threads shared kept its history just where the
+-- the visitors of a run that options ask for: as many as they say, and none of a plain run
+abbrev pub visitors_for : Options → ℕ
+visitors_for options = if options.plain then 0 else options.visitors
+
+-- The run is one of the workload that the options ask for, with as many visitors. A heap that threads shared kept its history just where the
 -- options don't ask for the plain store.
 pub record RanAsked (asked : Option Options) (old new : Option (List ℕ)) (ran : Ran) : Type 0 where
   pub options : Options
   pub are_asked : asked ≡ Some options
   pub work : Work
   pub is_asked_for : IsAskedFor options.make old new work
-  pub is_run : IsRunOf work (trigger_for options work) ran
+  pub is_run : IsRunOf work (trigger_for options work) (visitors_for options) ran
   pub on_heap : ran.is_heap ≡ not options.plain
 
 -- what is printed of a run: its summary where the workload was generated, and else its text

@@ -4,7 +4,7 @@ ghost use Rattle.std.specs.Io.KnownBytes.{Keeps};
 ghost use Rattle.tide_io.specs.Faults.{Rose};
 ghost use Rattle.tide_options.specs.Options.{asked_by};
 ghost use Rattle.tide_workload.specs.Words.{Fault as FaultValue};
-ghost use Rattle.tide_run.specs.Asked.{AsksToRead, IsAskedFor, RanAsked, asks_for_made, printed_as, printed_of, printed_with, trigger_for};
+ghost use Rattle.tide_run.specs.Asked.{AsksToRead, IsAskedFor, RanAsked, asks_for_made, printed_as, printed_of, printed_with, trigger_for, visitors_for};
 ghost use Rattle.tide_run.specs.Program.{ReadWork, RefusedInput};
 ghost use Rattle.tide_run.specs.Runs.{IsRunOf};
 
@@ -93,7 +93,7 @@ fn run_asked<R: Threads + Sync, T: Turnstile>(
     gate: &T,
 ) -> Result<Outcome, Memory>
     requires { options.visitors ≤ 8 }
-    ensures run { IfOk result (IsRunOf load.now (trigger_for options load.now)) }
+    ensures run { IfOk result (IsRunOf load.now (trigger_for options load.now) (visitors_for options)) }
     ensures heap { IfOk result (λ ran. ran.is_heap ≡ not options.plain) }
 {
     if options.plain {

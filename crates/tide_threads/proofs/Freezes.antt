@@ -1,12 +1,14 @@
 -- Why a heap that stands still may be collected, and what that leaves of its participants and of a run.
-use Rattle.std.proofs.Common.{ℕ, ◌≡◌, ◌<◌, ◌≤◌, ◌∙◌, refl, sym, ap, subst, arith, Bool, true, false, List, [], ◌∷◌, ◌++◌, append-nil, length}
+use Rattle.std.proofs.Common.{ℕ, ◌≡◌, ◌<◌, ◌≤◌, ◌∙◌, refl, sym, ap, subst, Bool, true, false, List, [], ◌∷◌, ◌++◌, append-nil, length}
 use Rattle.std.proofs.lemmas.Bool.{and_parts}
 use Rattle.std.proofs.lemmas.List.Elements.{filter-append}
 use Rattle.std.specs.List.{list_all}
-use Rattle.std.specs.Prelude.{All, Contains, ◌&&◌, filter, if◌then◌else◌}
+use Rattle.std.specs.Prelude.{Contains, ◌+◌, filter, if◌then◌else◌}
+use Rattle.atomic_table.specs.Seated.{TableId}
 use Rattle.tide_freeze.proofs.QuietLaws.{HasFrozenWhole-quiet, calls_of-quiet, is_quiet, kept_by_quiet, open_count-quiet}
 use Rattle.tide_heap.specs.Parties.{In}
 use Rattle.tide_heap.specs.Turns.{calls_of as noted_calls_of}
+use Rattle.tide_machine.specs.World.{first_visitor}
 use Rattle.tide_machine.specs.declared.view.NotedCalls.{NotedCalls}
 use Rattle.tide_machine.specs.declared.view.View.{View}
 use Rattle.tide_model.proofs.Histories.{state_from-append}
@@ -20,30 +22,18 @@ use Rattle.tide_model.specs.State.{State, empty_state}
 use Rattle.tide_model.specs.declared.entry.Entry.{Entry}
 use Rattle.tide_model.specs.declared.entry.Entry.TheVariants.{Begin, Call, End, Open, Pause, Sweep, Visits}
 use Rattle.tide_model.specs.declared.entry.Event.{Event}
+use Rattle.tide_mutator.specs.Viewed.{view_of}
 use Rattle.tide_periods.specs.Periods.{RanFreeze}
 use Rattle.tide_periods.specs.Recorded.{IsSettled, recorded_at}
 use Rattle.tide_sched.specs.Paces.{last_run}
-use Rattle.tide_table.specs.Standing.{HasCollected, MayEnterVisits}
-use Rattle.tide_table.specs.VisitsTold.{unentered, visits_left, visits_told}
-use Rattle.tide_threads.specs.Parked.{IsParked}
-use Rattle.tide_threads.specs.Standing.{StandsUnvisited}
-
--- without visitors there is nothing to enter
-pub MayEnterVisits-none : (layout : Layout) (shapes : ShapeLists) (v : View) → StandsUnvisited layout shapes v →
-    MayEnterVisits layout v
-MayEnterVisits-none layout shapes v still = record {
-  marked = λ marks. record {
-    each = λ visitor below. absurd (let none = still.no_visitors in omega (arith, below, none));
-    all = still.entered ∙ sym (ap (λ (n : ℕ). visits_left v.visited 0 n) still.no_visitors);
-    are = record {
-      one_each = ap (λ (n : ℕ). length (visits_told v.visited 0 n)) still.no_visitors ∙ sym still.no_visitors;
-      at_most = subst (λ (n : ℕ). All (λ k. k ≤ v.run) (visits_told v.visited 0 n)) (sym still.no_visitors)
-          (λ k d below. absurd (omega (arith, below)));
-      some = λ some. absurd (some still.no_visitors);
-    };
-  };
-  rests = λ none. still.entered;
-}
+use Rattle.tide_table.specs.Standing.{HasCollected}
+use Rattle.tide_threads.specs.Parked.{IsAtRest, IsParked}
+use Rattle.tide_threads.specs.Playing.{StandsBy, WorkerStandsBy}
+use Rattle.tide_threads.specs.Standing.{MayOpenPart}
+use Rattle.tide_threads.specs.declared.participant.Participant.{Participant}
+use Rattle.tide_threads.specs.declared.worker.Worker.{Worker}
+use Rattle.tide_threads.specs.declared.worker.Worker.TheVariants.{Mutator, Visitor}
+use Rattle.tide_visitor.specs.Viewed as visiting
 
 -- an entry of a freeze is nobody's call
 own_quiet : (who : ℕ) (entry : Entry) → is_quiet entry ≡ true → is_call_of who entry ≡ false
@@ -72,14 +62,15 @@ own-quiet who history events all =
         else filter (λ (e : Event). is_call_of who e.entry) some) (own_quiet who event.entry here)
         ∙ none some later
 
--- what a collection leaves of a heap without visitors
+-- what a collection leaves
 module _ (layout : Layout) (shapes : ShapeLists) (pace : Pace) (is_must : Bool) (v w : View) (run : ℕ)
     (did : HasCollected layout shapes pace is_must v w run) where
   quiet : list_all (λ (e : Event). is_quiet e.entry) did.freezes.events ≡ true
   quiet = HasFrozenWhole-quiet pace layout (last_run v.seen) v.seen w.seen is_must did.freezes
 
-  pub StandsUnvisited-collected : StandsUnvisited layout shapes v → StandsUnvisited layout shapes w
-  StandsUnvisited-collected still = record { still = did.still; no_visitors = still.no_visitors; entered = did.entered }
+  -- the next part may be opened
+  pub MayOpenPart-collected : MayOpenPart layout w run
+  MayOpenPart-collected = record { entered = did.entered; may = did.may }
 
   -- who was parked is
   pub IsParked-collected : (who : ℕ) (retired : Bool) (p : View) → IsParked v who retired p → IsParked w who retired p
@@ -98,6 +89,38 @@ module _ (layout : Layout) (shapes : ShapeLists) (pace : Pace) (is_must : Bool) 
       noted = subst (λ (l : List NotedCalls). Contains l (noted_calls_of p)) (sym (ap (λ (x : View). x.noted_calls) did.rest)) a.noted;
     };
   }
+
+  -- a visitor that stood still does
+  pub IsAtRest-collected : (who : ℕ) (p : View) → IsAtRest v who p → IsAtRest w who p
+  IsAtRest-collected who p rests = record {
+    is = rests.is;
+    rests = rests.rests;
+    period = subst (λ (n : ℕ). p.period ≤ n) (sym (ap (λ (x : View). x.period) did.rest)) rests.period;
+  }
+
+  -- whoever stood by does
+  pub StandsBy-collected : (id : TableId) (at : ℕ) (x : Participant) → StandsBy id layout v at x → StandsBy id layout w at x
+  StandsBy-collected id at x by = record {
+    worker = worker x.worker by.worker;
+    no_ticket = by.no_ticket;
+    no_note = by.no_note;
+  }
+    where
+      worker : (k : Worker) → WorkerStandsBy id layout v at k → WorkerStandsBy id layout w at k
+      worker (Mutator o) by = record {
+        table = by.table;
+        is_mutator = by.is_mutator;
+        number = by.number;
+        parked = IsParked-collected at o.caller.retired (view_of o.mutator) by.parked;
+      }
+      worker (Visitor o) by = record {
+        table = by.table;
+        visitor = by.visitor;
+        is_visitor = by.is_visitor;
+        place = by.place;
+        rests = IsAtRest-collected (first_visitor + by.visitor) (visiting.view_of o.visitor) by.rests;
+        room = by.room;
+      }
 
   -- it did what a run's freeze does
   pub RanFreeze-collected : IsSettled (recorded_at (record { layout = layout; shapes = shapes }) v.seen) → IsSwept layout w.seen →

@@ -1,41 +1,46 @@
 -- A heap on which nothing was run yet stands still, and its participants stand by.
-use Rattle.std.proofs.Common.{ℕ, ◌≡◌, ◌∙◌, refl, sym, ap, subst, arith, Bool, false, List, [], length}
-use Rattle.std.proofs.lemmas.List.{length-map}
-use Rattle.std.specs.Prelude.{Some, slice_get}
+use Rattle.std.proofs.Common.{ℕ, ◌≡◌, ◌<◌, ◌+◌, ◌∙◌, refl, sym, ap, subst, arith, Bool, false, true, List, [], length}
+use Rattle.std.proofs.lemmas.Option.{slice_get_within}
+use Rattle.std.specs.Prelude.{Some}
 use Rattle.atomic_table.specs.Seated.{TableId}
 use Rattle.crossbeam_utils.specs.Padded.{padded_value}
 use Rattle.crossbeam_utils.specs.declared.cache_padded.CachePadded.{CachePadded}
-use Rattle.tide_layout.specs.Limits.{IsWithinLimits}
 use Rattle.tide_machine.specs.Frozen.{newcomer}
 use Rattle.tide_machine.specs.declared.view.View.{View}
 use Rattle.tide_model.specs.Caller.{IsOwn}
-use Rattle.tide_model.specs.Layout.{Layout}
+use Rattle.tide_model.specs.Freeze.{marks_after}
+use Rattle.tide_model.specs.History.{state_after}
+use Rattle.tide_model.specs.Layout.{Layout, cell_count}
 use Rattle.tide_model.specs.Refused.{ShapeLists}
 use Rattle.tide_model.specs.declared.entry.Event.{Event}
 use Rattle.tide_model.specs.declared.op.Op.{Op}
-use Rattle.tide_model.specs.History.{state_after}
 use Rattle.tide_mutator.specs.Viewed.{view_of}
 use Rattle.tide_periods.proofs.Starting.{IsSettled-nothing}
 use Rattle.tide_periods.specs.Asking.{AreNew, Standing}
 use Rattle.tide_periods.specs.Recorded.{IsSettled, recorded_at}
 use Rattle.tide_periods.specs.Store.{Setting, blocks_in}
 use Rattle.tide_periods.specs.declared.caller.Caller.{Caller}
-use Rattle.tide_table.proofs.Standing.{StandsStill-started}
-use Rattle.tide_table.specs.VisitsTold.{unentered}
+use Rattle.tide_table.proofs.Standing.{marks_still}
+use Rattle.tide_table.specs.Standing.{StandsStill}
 use Rattle.tide_table.specs.Started.{IsStarted}
-use Rattle.tide_threads.proofs.Shares.{callers_at}
-use Rattle.tide_threads.specs.OnThreads.{callers_in, IsFresh}
+use Rattle.tide_table.specs.VisitsTold.{unentered}
+use Rattle.tide_threads.proofs.Acting.{AreParted, IsParted, callers_at}
+use Rattle.tide_threads.specs.Acting.{caller_of, callers_in}
+use Rattle.tide_threads.specs.Fresh.{AreFresh, IsFreshWorker}
 use Rattle.tide_threads.specs.Parked.{IsParked}
-use Rattle.tide_threads.specs.Playing.{AllStandBy, StandsBy}
-use Rattle.tide_threads.specs.Standing.{StandsUnvisited}
+use Rattle.tide_threads.specs.Playing.{AllStandBy, WorkerStandsBy}
+use Rattle.tide_threads.specs.Standing.{MayOpenPart}
 use Rattle.tide_threads.specs.declared.participant.Participant.{Participant}
+use Rattle.tide_threads.specs.declared.worker.Worker.{Worker}
+use Rattle.tide_threads.specs.declared.worker.Worker.TheVariants.{Mutator, Visitor}
 
-pub StandsUnvisited-started : (layout : Layout) (shapes : ShapeLists) (v : View) → IsStarted layout shapes v →
-    IsWithinLimits layout → layout.visitors ≡ 0 → StandsUnvisited layout shapes v
-StandsUnvisited-started layout shapes v started limits no_visitors = record {
-  still = StandsStill-started layout shapes v started limits;
-  no_visitors = no_visitors;
+-- no cycle marks at the start, so that any part may be opened
+pub MayOpenPart-started : (layout : Layout) (shapes : ShapeLists) (v : View) (run : ℕ) → IsStarted layout shapes v →
+    StandsStill layout shapes v → MayOpenPart layout v run
+MayOpenPart-started layout shapes v run started still = record {
   entered = ap unentered started.visited;
+  may = λ marks visitors. absurd (let clash : false ≡ true =
+      ap (marks_after layout) (sym started.seen) ∙ marks_still layout shapes v still ∙ marks in cc);
 }
 
 -- a mutator that knows nothing yet is parked
@@ -52,35 +57,57 @@ IsParked-newcomer v p who none is = subst (IsParked v who false) (sym is) (recor
   gone = λ e. absurd (cc);
 })
 
--- so a participant that knows nothing stands by
-pub StandsBy-fresh : (id : TableId) (v : View) (who : ℕ) (x : Participant) → v.seen ≡ [] → x.caller.retired ≡ false →
-    IsFresh id who x → StandsBy id v who x
-StandsBy-fresh id v who x none active fresh = record {
-  table = fresh.table;
-  number = fresh.number;
-  parked = subst (λ (b : Bool). IsParked v who b (view_of x.mutator)) (sym active)
-      (IsParked-newcomer v (view_of x.mutator) who none fresh.view);
-  no_ticket = fresh.no_ticket;
-  no_note = fresh.no_note;
-}
+-- mutators come first among fresh participants
+IsParted-fresh : (id : TableId) (mutators cells at : ℕ) (w : Worker) → IsFreshWorker id mutators cells at w → IsParted mutators at w
+IsParted-fresh id mutators cells at (Mutator x) fresh = fresh.is_mutator
+IsParted-fresh id mutators cells at (Visitor x) fresh = (let place = fresh.place in omega (arith, place))
 
--- all of them do at the start, each with a caller that has made no call
-pub AllStandBy-fresh : (id : TableId) (layout : Layout) (v : View) (xs : List (CachePadded Participant))
-    (scripts : List (List Op)) → v.seen ≡ [] → length scripts ≡ layout.mutators → AreNew (callers_in xs) scripts →
-    ((who : ℕ) (x : CachePadded Participant) → slice_get xs who ≡ Some x → IsFresh id who (padded_value x)) →
-    AllStandBy id layout v xs
-AllStandBy-fresh id layout v xs scripts none many are fresh = record {
-  one_each = sym (length-map xs (λ (x : CachePadded Participant). (padded_value x).caller))
-      ∙ sym (length-map (callers_in xs) script) ∙ ap length are.scripts_are ∙ many;
-  each = λ who x found.
-      let caller = (padded_value x).caller in
-      let caller_found = callers_at xs who x found in
-      let standing = (are.each who caller caller_found).standing in
-      StandsBy-fresh id v who (padded_value x) none (ap (λ (s : Standing). s.retired) standing) (fresh who x found);
-}
-  where
-    script : Caller → List Op
-    script c = c.ops.items
+pub AreParted-fresh : (id : TableId) (mutators cells : ℕ) (xs : List (CachePadded Participant)) →
+    AreFresh id mutators cells xs → AreParted mutators xs
+AreParted-fresh id mutators cells xs fresh at x found =
+    IsParted-fresh id mutators cells at (padded_value x).worker (fresh at x found).worker
+
+module _ (id : TableId) (layout : Layout) (v : View) (none : v.seen ≡ []) where
+  -- so a participant that knows nothing stands by
+  worker_stands : (at : ℕ) (w : Worker) → at < layout.mutators + layout.visitors →
+      ((c : Caller) → caller_of w ≡ Some c → c.retired ≡ false) →
+      IsFreshWorker id layout.mutators (cell_count layout) at w → WorkerStandsBy id layout v at w
+  worker_stands at (Mutator x) within active fresh = record {
+    table = fresh.table;
+    is_mutator = fresh.is_mutator;
+    number = fresh.number;
+    parked = subst (λ (b : Bool). IsParked v at b (view_of x.mutator)) (sym (active x.caller refl))
+        (IsParked-newcomer v (view_of x.mutator) at none fresh.view);
+  }
+  worker_stands at (Visitor x) within active fresh = record {
+    table = fresh.table;
+    visitor = fresh.visitor;
+    is_visitor = (let place = fresh.place in omega (arith, place, within));
+    place = fresh.place;
+    rests = record {
+      is = ap (λ (u : View). u.who) fresh.view;
+      rests = ap (λ (u : View). u.runs) fresh.view;
+      period = (let period = ap (λ (u : View). u.period) fresh.view in omega (arith, period));
+    };
+    room = (let room = fresh.room in omega (arith, room));
+  }
+
+  -- all of them do at the start, each mutator with a caller that has made no call
+  pub AllStandBy-fresh : (xs : List (CachePadded Participant)) (scripts : List (List Op)) →
+      length xs ≡ layout.mutators + layout.visitors → AreNew (callers_in xs) scripts →
+      AreFresh id layout.mutators (cell_count layout) xs → AllStandBy id layout v xs
+  AllStandBy-fresh xs scripts many are fresh = record {
+    one_each = many;
+    each = λ at x found. record {
+      worker = worker_stands at (padded_value x).worker
+          (let within = slice_get_within xs at x found in omega (arith, within, many))
+          (λ c is. ap (λ (s : Standing). s.retired) (are.each at c
+          (callers_at layout.mutators xs (AreParted-fresh id layout.mutators (cell_count layout) xs fresh) at x c found is)).standing)
+          (fresh at x found).worker;
+      no_ticket = (fresh at x found).no_ticket;
+      no_note = (fresh at x found).no_note;
+    };
+  }
 
 -- a heap on which nothing was run is settled
 pub IsSettled-fresh : (setting : Setting) (history : List Event) → history ≡ [] → IsSettled (recorded_at setting history)

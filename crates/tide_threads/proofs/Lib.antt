@@ -1,4 +1,5 @@
 -- Lemmas of this crate.
+pub mod Acting
 pub mod Counting
 pub mod Ending
 pub mod Freezes
@@ -9,4 +10,7 @@ pub mod Parking
 pub mod Seating
 pub mod Shares
 pub mod Standing
+pub mod Taking
 pub mod Turns
+pub mod Visiting
+pub mod Visits

@@ -1,10 +1,15 @@
 -- Loops over participants that change one after another.
-use Rattle.std.proofs.Common.{ℕ, zero, suc, ◌≡◌, ◌<◌, ◌≤◌, ◌+◌, ◌∙◌, refl, sym, ap, subst, arith, List, [], ◌∷◌, length, get_or, set, inl, inr}
+use Rattle.std.proofs.Common.{ℕ, zero, suc, ◌≡◌, ◌<◌, ◌≤◌, ◌+◌, ◌∙◌, refl, sym, ap, subst, arith, List, [], ◌∷◌, length, ◌++◌, get_or, set, take, inl, inr}
 use Rattle.std.proofs.lemmas.Bool.{cases_eq}
-use Rattle.std.proofs.lemmas.Option.{slice_get-get_or}
+use Rattle.std.proofs.lemmas.List.{take_more}
+use Rattle.std.proofs.lemmas.Option.{get_or_from_slice_get, slice_get-get_or, slice_get_within}
 use Rattle.std.specs.Prelude.{Option, Some, slice_get}
 use Rattle.crossbeam_utils.specs.Padded.{padded_value}
 use Rattle.crossbeam_utils.specs.declared.cache_padded.CachePadded.{CachePadded}
+use Rattle.tide_machine.specs.declared.view.View.{View}
+use Rattle.tide_threads.proofs.Acting.{notes_in-append}
+use Rattle.tide_threads.proofs.Taking.{noted_all-append}
+use Rattle.tide_threads.specs.Acting.{before_all, noted_all, notes_in, told_in}
 use Rattle.tide_threads.specs.declared.participant.Participant.{Participant}
 
 pub slice_get-set_other : {X : Type 0} (xs : List X) (at k : ℕ) (x : X) → (k ≡ at → ⊥) → slice_get (set xs at x) k ≡ slice_get xs k
@@ -48,3 +53,25 @@ module _ (olds ps : List (CachePadded Participant)) (at : ℕ) (z d : CachePadde
         (subst (λ (p : CachePadded Participant). holds (padded_value (get_or ps at d)) (padded_value p)) new here)
     | inr apart ↦ before who x y (omega (arith, within, apart)) found (sym (slice_get-set_other ps at who z apart) ∙ found')
   ]
+
+  -- what the notes of those before told, and then that of the one at this place, is what those of one more told
+  pub taken_step : (v w : View) → w ≡ noted_all (notes_in (take at olds)) v →
+      noted_all (before_all (told_in (padded_value (get_or ps at d)).note) []) w
+      ≡ noted_all (notes_in (take (at + 1) olds)) v
+  taken_step v w taken =
+      ap (noted_all (before_all (told_in (padded_value (get_or ps at d)).note) [])) taken
+      ∙ sym (noted_all-append (notes_in (take at olds)) (before_all (told_in (padded_value (get_or ps at d)).note) []) v)
+      ∙ ap (λ (l : List View). noted_all l v) (sym whole)
+    where
+      found : slice_get olds at ≡ Some (get_or ps at d)
+      found = sym (later at (omega arith)) ∙ slice_get-get_or ps at d below
+
+      here : get_or olds at d ≡ get_or ps at d
+      here = get_or_from_slice_get olds at (get_or ps at d) d found
+
+      whole : notes_in (take (at + 1) olds)
+          ≡ notes_in (take at olds) ++ before_all (told_in (padded_value (get_or ps at d)).note) []
+      whole =
+          ap notes_in (take_more olds at d (slice_get_within olds at (get_or ps at d) found))
+          ∙ notes_in-append (take at olds) (get_or olds at d ∷ [])
+          ∙ ap (λ (p : CachePadded Participant). notes_in (take at olds) ++ before_all (told_in (padded_value p).note) []) here

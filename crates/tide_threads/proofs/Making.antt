@@ -61,4 +61,5 @@ HasPlayed-stopped t v u0 u1 w n who retired began same is left at out =
       of_part = ap (λ (k : Kept). k.ticket) same ∙ began.ticket;
       told = refl;
       still = ap (λ (k : Kept). k.visits) same ∙ began.visits;
+      done = refl;
     }))

@@ -1,12 +1,7 @@
--- Participants are made one after another, each of its pass and its caller.
+-- Participants are made one after another.
 use Rattle.std.proofs.Common.{ℕ, zero, suc, ◌≡◌, ◌∙◌, refl, sym, ap, List, [], ◌∷◌, ◌++◌, length, inl, inr, ◌⊎◌}
-use Rattle.std.proofs.lemmas.List.{map-append}
 use Rattle.std.specs.Prelude.{Some, slice_get}
-use Rattle.crossbeam_utils.specs.Padded.{padded_value}
-use Rattle.crossbeam_utils.specs.declared.cache_padded.CachePadded.{CachePadded}
 use Rattle.tide_periods.specs.declared.caller.Caller.{Caller}
-use Rattle.tide_threads.specs.OnThreads.{callers_in}
-use Rattle.tide_threads.specs.declared.participant.Participant.{Participant}
 
 pub length_push : {X : Type 0} (xs : List X) (x : X) → length (xs ++ x ∷ []) ≡ suc (length xs)
 length_push [] x = refl
@@ -27,10 +22,6 @@ found_pushed (first ∷ xs) x (suc k) y is = elim (found_pushed xs x k y is) [
   | inl old ↦ inl old
   | inr new ↦ inr (ap suc new.0, new.1)
 ]
-
-pub callers_push : (xs : List (CachePadded Participant)) (x : CachePadded Participant) →
-    callers_in (xs ++ x ∷ []) ≡ callers_in xs ++ (padded_value x).caller ∷ []
-callers_push xs x = map-append (λ (p : CachePadded Participant). (padded_value p).caller) xs (x ∷ [])
 
 -- each caller has the number of its place
 pub number_at : (callers yielded left : List Caller) (caller : Caller) →

@@ -1,28 +1,20 @@
 -- What holds of a run on threads between two parts, and what a run sees of it.
-use Rattle.std.specs.Prelude.{ℕ, ◌≡◌, List, [], map, None}
-use Rattle.atomic_table.specs.Seated.{TableId}
-use Rattle.crossbeam_utils.specs.Padded.{padded_value}
-use Rattle.crossbeam_utils.specs.declared.cache_padded.CachePadded.{CachePadded}
+use Rattle.std.specs.Prelude.{ℕ, ◌≡◌, List, []}
 use Rattle.tide_freeze.specs.Books.{AreBooks}
-use Rattle.tide_machine.specs.Frozen.{newcomer}
 use Rattle.tide_model.specs.Pace.{Pace}
-use Rattle.tide_mutator.specs.Viewed.{table_of, view_of}
 use Rattle.tide_periods.specs.Recorded.{Recorded, recorded_at}
 use Rattle.tide_periods.specs.Store.{Setting}
 use Rattle.tide_periods.specs.declared.caller.Caller.{Caller}
 use Rattle.tide_report.specs.Ends.{TellsEnds}
 use Rattle.tide_sched.specs.Paces.{pace_of}
 use Rattle.tide_shape.specs.Lists.{lists_of}
+use Rattle.tide_table.specs.Standing.{MayEnterVisits, StandsStill}
+use Rattle.tide_threads.specs.Acting.{callers_in}
 use Rattle.tide_threads.specs.Playing.{AllStandBy}
-use Rattle.tide_threads.specs.Standing.{StandsUnvisited}
+use Rattle.tide_threads.specs.Standing.{MayOpenPart}
 use Rattle.tide_threads.specs.declared.on_threads.OnThreads.{OnThreads}
-use Rattle.tide_threads.specs.declared.participant.Participant.{Participant}
 
--- the callers of some participants
-abbrev pub callers_in : List (CachePadded Participant) → List Caller
-callers_in participants = map (λ (padded : CachePadded Participant). (padded_value padded).caller) participants
-
--- what never changes of a heap on which mutators run on threads
+-- what never changes of a heap on which participants run on threads
 abbrev pub setting_in : OnThreads → Setting
 setting_in o = record { layout = o.heap.key.layout; shapes = lists_of o.heap.key.shapes }
 
@@ -42,16 +34,16 @@ pace_on o = pace_of o.books.pacing
 -- its ends. Each participant stands by, and no calls were handed over yet.
 pub record Stands (o : OnThreads) : Type 0 where
   pub of_heap : o.collector.seat.table_id ≡ o.heap.table.shared.table_id
-  pub still : StandsUnvisited o.heap.key.layout (lists_of o.heap.key.shapes) o.collector.seat.me.0
+  pub still : StandsStill o.heap.key.layout (lists_of o.heap.key.shapes) o.collector.seat.me.0
   pub books : AreBooks o.heap.key.layout o.collector.seat.me.0.seen o.books
   pub told : TellsEnds o.heap.key.layout o.collector.seat.me.0.seen o.books.report
   pub all : AllStandBy o.heap.table.shared.table_id o.heap.key.layout o.collector.seat.me.0 o.participants.items
   pub no_calls : o.calls.items ≡ []
 
--- a participant of this table that knows nothing yet
-pub record IsFresh (id : TableId) (who : ℕ) (x : Participant) : Type 0 where
-  pub table : table_of x.mutator ≡ id
-  pub number : x.caller.who ≡ who
-  pub view : view_of x.mutator ≡ newcomer who
-  pub no_ticket : x.ticket ≡ None
-  pub no_note : x.note ≡ None
+-- a part of so many calls may be opened on it
+abbrev pub MayOpenOn : OnThreads → ℕ → Type 0
+MayOpenOn o run = MayOpenPart o.heap.key.layout o.collector.seat.me.0 run
+
+-- what notes told of visits after a part may be entered in its freeze
+abbrev pub MayEnterOn : OnThreads → Type 0
+MayEnterOn o = MayEnterVisits o.heap.key.layout o.collector.seat.me.0

@@ -1,4 +1,4 @@
--- What a mutator's view is between two parts, with its ticket, and once its note of a part is out.
+-- What the view of a mutator or a visitor is between two parts, with its ticket, and once its note of a part is out.
 use Rattle.std.specs.Prelude.{ℕ, ◌≡◌, ◌≤◌, Bool, true, false, Contains}
 use Rattle.tide_heap.specs.Parties.{In}
 use Rattle.tide_heap.specs.Turns.{calls_of}
@@ -24,11 +24,14 @@ pub record IsParked (collector : View) (who : ℕ) (retired : Bool) (v : View) :
   pub own : IsOwn who collector.seen v.mine
   pub gone : retired ≡ true → HasLeft collector who v
 
--- whoever was parked by the first view of the collector is by the second
-pub record KeepsParked (v w : View) : Type 0 where
-  pub keeps : (who : ℕ) (retired : Bool) (p : View) → IsParked v who retired p → IsParked w who retired p
+-- Between two parts a visitor stands still. It stopped in the last part at the latest.
+pub record IsAtRest (collector : View) (who : ℕ) (v : View) : Type 0 where
+  pub is : v.who ≡ who
+  pub rests : v.runs ≡ false
+  pub period : v.period ≤ collector.period
 
--- Once it has stopped in the part of a ticket, its note is out: of that part, with what it has seen and its own calls.
+-- Once a mutator has stopped in the part of a ticket, its note is out: of that part, with what it has seen and its own
+-- calls, with no visits, and that it has done its part.
 pub record HasPlayed (ticket : View) (who : ℕ) (retired : Bool) (v note : View) : Type 0 where
   pub is : v.who ≡ who
   pub rests : v.runs ≡ false
@@ -39,6 +42,7 @@ pub record HasPlayed (ticket : View) (who : ℕ) (retired : Bool) (v note : View
   pub of_part : note.period ≡ ticket.period
   pub told : calls_of note ≡ calls_of v
   pub still : note.visits ≡ 0
+  pub done : note.done ≡ true
 
 -- a mutator began the part of a ticket, in which it hadn't begun before
 pub record HasBegun (tells v u : View) : Type 0 where

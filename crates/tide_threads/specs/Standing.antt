@@ -1,13 +1,12 @@
--- What holds of a heap without visitors between two parts, and after a freeze.
-use Rattle.std.specs.Prelude.{◌≡◌}
+-- When a part may be opened on a heap that stands still.
+use Rattle.std.specs.Prelude.{ℕ, ◌≡◌}
+use Rattle.tide_machine.specs.Frozen.{MayOpen}
 use Rattle.tide_machine.specs.declared.view.View.{View}
 use Rattle.tide_model.specs.Layout.{Layout}
-use Rattle.tide_model.specs.Refused.{ShapeLists}
-use Rattle.tide_table.specs.Standing.{StandsStill}
 use Rattle.tide_table.specs.VisitsTold.{unentered}
+use Rattle.tide_words.specs.heap.Heap.{heap_of}
 
--- the collector's view of a heap without visitors that stands still, where no visits are left to enter
-pub record StandsUnvisited (layout : Layout) (shapes : ShapeLists) (v : View) : Type 0 where
-  pub still : StandsStill layout shapes v
-  pub no_visitors : layout.visitors ≡ 0
+-- A part of so many calls may be opened: no visits are left to enter, and visitors have work where a cycle marks.
+pub record MayOpenPart (layout : Layout) (v : View) (run : ℕ) : Type 0 where
   pub entered : unentered v.visited ≡ 0
+  pub may : MayOpen layout (heap_of layout v.words) run

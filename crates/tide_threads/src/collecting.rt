@@ -1,11 +1,10 @@
 //! The collector's side of a part: tickets are handed out before it, and notes are taken in after it.
-ghost use Rattle.std.specs.Prelude.{◌≡◌, ℕ, Some, false, slice_get};
+ghost use Rattle.std.specs.Prelude.{◌≡◌, ℕ, [], Some, false, slice_get};
 ghost use Rattle.crossbeam_utils.specs.Padded.{padded_value};
 ghost use Rattle.crossbeam_utils.specs.declared.cache_padded.CachePadded.{CachePadded};
-ghost use Rattle.tide_mutator.specs.Viewed.{view_of};
 ghost use Rattle.tide_steps.specs.declared.notes.Note.{Note};
+ghost use Rattle.tide_threads.specs.Acting.{before_all, noted_all, notes_in, told_in};
 ghost use Rattle.tide_threads.specs.Playing.{Both, GaveNote, MayTake, WasHanded};
-ghost use Rattle.tide_threads.specs.Taken.{TookNotes, IsNoted};
 ghost use Rattle.tide_threads.specs.declared.participant.Participant.{Participant};
 
 use crate::participant::Participant;
@@ -13,7 +12,7 @@ use crossbeam_utils::CachePadded;
 use tide_shape::Shapes;
 use tide_table::{Collector, Heap};
 
-/// Hands a ticket to a participant, unless it has retired.
+/// Hands a ticket to a participant, unless it has left for good.
 fn hand_to(collector: &mut Collector, heap: &Heap<Shapes>, padded: &mut CachePadded<Participant>)
     requires own { collector.old.seat.table_id ≡ heap.now.table.shared.table_id }
     requires running { collector.old.seat.me.0.frozen ≡ false }
@@ -23,7 +22,7 @@ fn hand_to(collector: &mut Collector, heap: &Heap<Shapes>, padded: &mut CachePad
         (padded_value padded.old) (padded_value padded.new) }
 {
     let participant: &mut Participant = padded;
-    if !participant.caller.has_retired() {
+    if !participant.worker.has_left() {
         participant.ticket = Some(collector.ticket(heap));
     }
 }
@@ -51,11 +50,10 @@ fn take_from(collector: &mut Collector, heap: &Heap<Shapes>, padded: &mut CacheP
     requires own { collector.old.seat.table_id ≡ heap.now.table.shared.table_id }
     requires running { collector.old.seat.me.0.frozen ≡ false }
     requires may { (note : Note) → (padded_value padded.old).note ≡ Some note →
-        MayTake heap.now.table.shared.table_id collector.old.seat.me.0.period (padded_value padded.old) note }
+        MayTake heap.now.table.shared.table_id collector.old.seat.me.0.period note }
     ensures same { collector.new.seat.table_id ≡ collector.old.seat.table_id }
-    ensures taken { TookNotes collector.old.seat.me.0 collector.new.seat.me.0 }
-    ensures noted { (note : Note) → (padded_value padded.old).note ≡ Some note → IsNoted collector.new.seat.me.0
-        (view_of (padded_value padded.old).mutator).who (view_of (padded_value padded.old).mutator) }
+    ensures taken { collector.new.seat.me.0
+        ≡ noted_all (before_all (told_in (padded_value padded.old).note) []) collector.old.seat.me.0 }
     ensures gave { GaveNote (padded_value padded.old) (padded_value padded.new) }
 {
     let participant: &mut Participant = padded;
@@ -74,13 +72,9 @@ pub(crate) fn take_in(
     requires running { collector.old.seat.me.0.frozen ≡ false }
     requires may { (who : ℕ) (padded : CachePadded Participant) (note : Note) →
         slice_get participants.old who ≡ Some padded → (padded_value padded).note ≡ Some note →
-        MayTake heap.now.table.shared.table_id collector.old.seat.me.0.period (padded_value padded) note }
+        MayTake heap.now.table.shared.table_id collector.old.seat.me.0.period note }
     ensures same { collector.new.seat.table_id ≡ collector.old.seat.table_id }
-    ensures taken { TookNotes collector.old.seat.me.0 collector.new.seat.me.0 }
-    ensures noted { (who : ℕ) (padded : CachePadded Participant) (note : Note) →
-        slice_get participants.old who ≡ Some padded → (padded_value padded).note ≡ Some note →
-        IsNoted collector.new.seat.me.0 (view_of (padded_value padded).mutator).who
-        (view_of (padded_value padded).mutator) }
+    ensures taken { collector.new.seat.me.0 ≡ noted_all (notes_in participants.old) collector.old.seat.me.0 }
     ensures gave { Both GaveNote participants.old participants.new }
 {
     for padded in participants.iter_mut() {

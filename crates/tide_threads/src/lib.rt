@@ -1,19 +1,23 @@
-//! Runs on threads: each mutator makes its calls of a part on a thread of its own, on one shared heap.
+//! Runs on threads: in each part each mutator makes its calls, and each visitor marks, on a thread of its own, on one
+//! shared heap.
 //!
-//! A `Participant` is a mutator with what it asks for. In a part each begins with its ticket, makes its share of calls
-//! and stops; the collector opens the part and hands tickets out before, and takes notes in and freezes after. `OnThreads`
-//! is a heap with its participants, which `run_on_threads` runs until all have retired. What a call does and what a freeze
-//! marks is decided by the crates below.
+//! A `Participant` is a mutator with what it asks for, or a visitor. In a part each begins with its ticket, makes its share
+//! of calls or of visits, and stops; the collector opens the part and hands tickets out before, and takes notes in and
+//! freezes after. `OnThreads` is a heap with its participants, which `run_on_threads` runs until all mutators have retired.
+//! What a call does, and what a visit or a freeze marks, is decided by the crates below.
 #![tactic(auto)]
 
+mod calling;
 mod collecting;
 mod living;
+mod marking;
 mod on_threads;
 mod part;
 mod participant;
 mod periods;
 mod playing;
+mod worker;
 
 pub use on_threads::OnThreads;
 pub use participant::Participant;
-pub use periods::run_on_threads;
+pub use periods::{HeapRun, run_on_threads};

@@ -1,5 +1,5 @@
-//! `OnThreads`: what a run stands on, a heap with its mutators, each of which makes its calls on a thread of its own.
-ghost use Rattle.std.specs.Prelude.{◌≡◌, ◌-◌, ◌^◌, ◌<◌, ◌++◌, ◌∷◌, ℕ, [], All, IfOk, OnOk, Some, length, map, slice_get, true};
+//! `OnThreads`: what a run stands on, a heap with its mutators and visitors, each of which acts on a thread of its own.
+ghost use Rattle.std.specs.Prelude.{◌≡◌, ◌-◌, ◌^◌, ◌<◌, ◌+◌, ◌++◌, ◌∷◌, ◌⊎◌, ℕ, [], All, IfOk, OnOk, Some, length, map, min, slice_get, true};
 ghost use Rattle.std.specs.List.{list_all};
 ghost use Rattle.atomic_table.specs.Seated.{TableId};
 ghost use Rattle.crossbeam_utils.specs.Padded.{padded_value};
@@ -9,16 +9,20 @@ ghost use Rattle.tide_periods.specs.Asking.{scripts_of, IsAskable};
 ghost use Rattle.tide_periods.specs.Part.{AreCallers, RanPartBy};
 ghost use Rattle.tide_periods.specs.Periods.{RanFreeze};
 ghost use Rattle.tide_periods.specs.Recorded.{IsSettled};
+ghost use Rattle.tide_periods.specs.declared.caller.Caller.{Caller};
 ghost use Rattle.tide_report.specs.Ends.{TellsEnds};
 ghost use Rattle.tide_shape.specs.Lists.{lists_of};
 ghost use Rattle.tide_table.specs.Started.{ArePasses};
+ghost use Rattle.tide_threads.specs.Acting.{before_all, caller_of, callers_in, is_silent, races_in};
+ghost use Rattle.tide_threads.specs.Fresh.{AreFresh};
+ghost use Rattle.tide_threads.specs.OnThreads.{callers_on, pace_on, recorded_in, setting_in};
+ghost use Rattle.tide_threads.specs.OnThreads.{MayEnterOn, MayOpenOn, Stands};
 ghost use Rattle.tide_threads.specs.declared.participant.Participant.{Participant};
-ghost use Rattle.tide_threads.specs.OnThreads.{callers_in, callers_on, pace_on, recorded_in, setting_in, IsFresh, Stands};
-ghost use Rattle.tide_periods.specs.declared.caller.Caller.{Caller};
 
 use crate::living::count_live;
 use crate::part::run_whole_part;
 use crate::participant::Participant;
+use crate::worker::Worker;
 use crossbeam_utils::CachePadded;
 use std::alloc::Global;
 use std::marker::Sync;
@@ -31,9 +35,10 @@ use tide_report::Report;
 use tide_sched::Pacing;
 use tide_shape::Shapes;
 use tide_table::{Closed, Collector, Heap, Pass, Start};
+use tide_words::GreyList;
 
-/// A heap on which mutators make their calls on threads: the collector, a participant for each mutator, and the books of
-/// its freezes.
+/// A heap on which mutators and visitors act on threads: the collector, a participant for each of them, and the books of its
+/// freezes.
 #[derive(Drop)]
 pub struct OnThreads {
     heap: Heap<Shapes>,
@@ -64,32 +69,89 @@ fn append<T: Drop>(list: &mut Vec<T>, item: T) -> Result<(), Memory>
     Ok(())
 }
 
-/// A participant for each pass, with its caller.
-fn participants_of(
-    alloc: Global,
+/// A participant for each mutator's pass, with its caller, in a list that is empty yet.
+fn seat_mutators(
+    participants: &mut Vec<CachePadded<Participant>>,
     passes: Vec<Pass>,
     callers: Vec<Caller>,
-) -> Result<Vec<CachePadded<Participant>>, Memory>
+) -> Result<(), Memory>
+    requires none { participants.old.items ≡ [] }
     requires as_many { length callers.items ≡ length passes.items }
     requires passes { (id : TableId) × ArePasses id 0 passes.items }
     requires numbers { (who : ℕ) (caller : Caller) → slice_get callers.items who ≡ Some caller → caller.who ≡ who }
-    ensures callers { IfOk result (λ made. callers_in made.items ≡ callers.items) }
-    ensures fresh { IfOk result (λ made. (id : TableId) → ArePasses id 0 passes.items →
-        (who : ℕ) (padded : _) → slice_get made.items who ≡ Some padded → IsFresh id who (padded_value padded)) }
+    ensures callers { OnOk result (callers_in participants.new.items ≡ callers.items) }
+    ensures one_each { OnOk result (length participants.new.items ≡ length passes.items) }
+    ensures fresh { OnOk result ((id : TableId) (cells : ℕ) → ArePasses id 0 passes.items →
+        AreFresh id (length passes.items) cells participants.new.items) }
 {
-    let mut participants = with_room(alloc, callers.len())?;
     let mut rest = passes.into_iter();
     for caller in callers {
         let Some(pass) = rest.next() else {
             unreachable!()
         };
-        let participant = Participant::new(pass, caller);
-        append(&mut participants, CachePadded::new(participant))?;
+        let participant = Participant::of_mutator(pass, caller);
+        append(participants, CachePadded::new(participant))?;
     }
+    Ok(())
+}
+
+/// One more participant for each visitor's pass, with a stack for so many cells.
+fn seat_visitors(
+    alloc: Global,
+    participants: &mut Vec<CachePadded<Participant>>,
+    passes: Vec<Pass>,
+    cells: u32,
+) -> Result<(), Memory>
+    requires passes { (id : TableId) × ArePasses id 16 passes.items }
+    ensures callers { OnOk result (callers_in participants.new.items ≡ callers_in participants.old.items) }
+    ensures one_each { OnOk result (length participants.new.items ≡ length participants.old.items + length passes.items) }
+    ensures fresh { OnOk result ((id : TableId) → ArePasses id 16 passes.items →
+        AreFresh id (length participants.old.items) cells participants.old.items →
+        AreFresh id (length participants.old.items) cells participants.new.items) }
+{
+    for pass in passes {
+        let stack = GreyList::without_notes(alloc, cells)?;
+        let participant = Participant::of_visitor(pass, stack);
+        append(participants, CachePadded::new(participant))?;
+    }
+    Ok(())
+}
+
+/// A participant for each mutator, with its caller, and then one for each visitor, with a stack for so many cells.
+fn participants_of(
+    alloc: Global,
+    mutators: Vec<Pass>,
+    callers: Vec<Caller>,
+    visitors: Vec<Pass>,
+    cells: u32,
+) -> Result<Vec<CachePadded<Participant>>, Memory>
+    requires as_many { length callers.items ≡ length mutators.items }
+    requires passes { (id : TableId) × ArePasses id 0 mutators.items × ArePasses id 16 visitors.items }
+    requires numbers { (who : ℕ) (caller : Caller) → slice_get callers.items who ≡ Some caller → caller.who ≡ who }
+    requires few { length mutators.items + length visitors.items < 2 ^ 32 }
+    ensures callers { IfOk result (λ made. callers_in made.items ≡ callers.items) }
+    ensures one_each { IfOk result (λ made. length made.items ≡ length mutators.items + length visitors.items) }
+    ensures fresh { IfOk result (λ made. (id : TableId) → ArePasses id 0 mutators.items →
+        ArePasses id 16 visitors.items → AreFresh id (length mutators.items) cells made.items) }
+{
+    let mut participants = with_room(alloc, callers.len() + visitors.len())?;
+    seat_mutators(&mut participants, mutators, callers)?;
+    seat_visitors(alloc, &mut participants, visitors, cells)?;
     Ok(participants)
 }
 
-/// Each participant's calls, in a list that is empty yet.
+/// Puts the calls of who acted at the end, if it is a mutator.
+fn append_calls(calls: &mut Vec<Vec<Answered>>, worker: Worker) -> Result<(), Memory>
+    ensures { OnOk result (map (λ own. own.items) calls.new.items ≡ map (λ own. own.items) calls.old.items
+        ++ map (λ caller. caller.calls.items) (before_all (caller_of worker) [])) }
+{
+    match worker.into_caller() {
+        Some(caller) => append(calls, caller.into_calls()),
+        None => Ok(()),
+    }
+}
+
+/// Each mutator's calls, in a list that is empty yet.
 fn calls_of_each(
     list: Vec<Vec<Answered>>,
     participants: Vec<CachePadded<Participant>>,
@@ -101,29 +163,40 @@ fn calls_of_each(
     let mut calls = list;
     for padded in participants {
         let participant = padded.into_inner();
-        append(&mut calls, participant.into_caller().into_calls())?;
+        append_calls(&mut calls, participant.into_worker())?;
     }
     Ok(calls)
 }
 
-/// Whether a participant has retired.
-fn has_retired(padded: &CachePadded<Participant>) -> bool
-    ensures { result ≡ (padded_value padded.now).caller.retired }
+/// Whether a participant makes no call any more.
+fn is_silent(padded: &CachePadded<Participant>) -> bool
+    ensures { result ≡ is_silent (padded_value padded.now).worker }
 {
-    padded.caller.has_retired()
+    padded.worker.is_silent()
 }
 
-/// Whether each participant has retired.
+/// Whether each mutator among participants has retired.
 fn have_retired(participants: &[CachePadded<Participant>]) -> bool
     ensures { result ≡ list_all
-        (λ (padded : CachePadded Participant). (padded_value padded).caller.retired) participants.now }
+        (λ (padded : CachePadded Participant). is_silent (padded_value padded).worker) participants.now }
 {
-    participants.iter().all(has_retired)
+    participants.iter().all(is_silent)
+}
+
+/// How many races all participants met, as far as 64 bits count them.
+fn deferred_by(participants: &[CachePadded<Participant>]) -> u64
+    ensures { result ≡ min (races_in participants.now) (2 ^ 64 - 1) }
+{
+    let mut deferred = 0u64;
+    for padded in participants {
+        deferred = deferred.saturating_add(padded.worker.deferred());
+    }
+    deferred
 }
 
 impl OnThreads {
-    /// An empty heap on which nothing was run yet, with a mutator for each script, and this room for what a run leaves. Its
-    /// cycles are paced so.
+    /// An empty heap on which nothing was run yet, with a mutator for each script, the visitors of the layout, and this room
+    /// for what a run leaves. Its cycles are paced so.
     pub fn new(
         alloc: Global,
         layout: Layout,
@@ -132,7 +205,6 @@ impl OnThreads {
         room: Room,
         pacing: Pacing,
     ) -> Result<OnThreads, Memory>
-        requires no_visitors { layout.visitors ≡ 0 }
         requires mutators { length scripts.items ≡ layout.mutators }
         requires askable { All (All (IsAskable layout)) (map (λ ops. ops.items) scripts.items) }
         ensures setting { IfOk result (λ new. setting_in new ≡ record { layout = layout; shapes = lists_of shapes }) }
@@ -141,19 +213,21 @@ impl OnThreads {
         ensures callers { IfOk result (λ new. AreCallers (recorded_in new) (callers_on new)) }
         ensures scripts { IfOk result (λ new. scripts_of (callers_on new) ≡ map (λ ops. ops.items) scripts.items) }
         ensures pacing { IfOk result (λ new. new.books.pacing ≡ pacing) }
+        ensures opens { IfOk result (λ new. (run : ℕ) → MayOpenOn new run) }
     {
         prove!(layout.mutators() <= 16);
         let calls = with_room(alloc, scripts.len())?;
         let callers = callers_of(alloc, scripts)?;
         let freed = capped(room.births).saturating_add(2 * layout.cells());
         let books = Books::new(alloc, &layout, pacing, capped(room.ends), freed)?;
+        let cells = layout.cells();
         let Start {
             heap,
             collector,
             mutators,
-            visitors: _,
+            visitors,
         } = Start::new(alloc, layout, shapes)?;
-        let participants = participants_of(alloc, mutators, callers)?;
+        let participants = participants_of(alloc, mutators, callers, visitors, cells)?;
         Ok(OnThreads {
             heap,
             collector,
@@ -163,8 +237,8 @@ impl OnThreads {
         })
     }
 
-    /// Opens a part in which each mutator has `run` calls, and has it played. Answers whether a mutator stopped before its
-    /// share was over.
+    /// Opens a part in which each mutator has `run` calls, and each visitor as many visits if a cycle marks, and has it
+    /// played. Answers whether a mutator stopped before its share was over.
     pub(crate) fn run_part<R: Threads + Sync, T: Turnstile>(
         &mut self,
         rt: &R,
@@ -175,9 +249,11 @@ impl OnThreads {
         requires stands { Stands self.old }
         requires callers { AreCallers (recorded_in self.old) (callers_on self.old) }
         requires few { (recorded_in self.old).parts < 2 ^ 32 - 1 }
+        requires opens { MayOpenOn self.old run }
         ensures ran { IfOk result (RanPartBy (recorded_in self.old) (recorded_in self.new) run
             (callers_on self.old) (callers_on self.new)) }
         ensures stands { OnOk result (Stands self.new) }
+        ensures visits { OnOk result (MayEnterOn self.new) }
         ensures pacing { OnOk result (self.new.books.pacing ≡ self.old.books.pacing) }
     {
         let ended = run_whole_part(
@@ -205,10 +281,12 @@ impl OnThreads {
         requires stands { Stands self.old }
         requires opened { 0 < (recorded_in self.old).parts }
         requires room { (recorded_in self.old).cycles < 2 ^ 60 }
+        requires visits { MayEnterOn self.old }
         ensures ran { IfOk result (RanFreeze (recorded_in self.old) (recorded_in self.new) (pace_on self.old) is_must) }
         ensures stands { OnOk result (Stands self.new) }
         ensures pacing { OnOk result (self.new.books.pacing ≡ self.old.books.pacing) }
         ensures callers { OnOk result (callers_on self.new ≡ callers_on self.old) }
+        ensures opens { IfOk result (MayOpenOn self.new) }
     {
         let next = self
             .collector
@@ -225,6 +303,15 @@ impl OnThreads {
         ensures stands { Stands self.new }
     {
         count_live(&self.heap, &mut self.collector)
+    }
+
+    /// How many races the visitors met, as far as 64 bits count them.
+    pub(crate) fn deferred(&self) -> u64
+        requires stands { Stands self.now }
+        ensures sum { result ≡ min (races_in self.now.participants.items) (2 ^ 64 - 1) }
+        ensures none { (setting_in self.now).layout.visitors ≡ 0 → result ≡ 0 }
+    {
+        deferred_by(self.participants.as_slice())
     }
 
     /// Closes a heap whose mutators have all retired: its history, the report of the cycles that ended, and each mutator's

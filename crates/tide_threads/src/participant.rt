@@ -1,79 +1,80 @@
-//! `Participant`: a mutator with what it asks for, and its part of a running part. It knows no other.
-ghost use Rattle.std.specs.Prelude.{◌≡◌, ◌<◌, false, IfOk, None};
+//! `Participant`: who acts in a part, with its ticket before and its note after. It knows no other.
+ghost use Rattle.std.specs.Prelude.{◌≡◌, ◌<◌, ◌+◌, ℕ, [], IfOk, None, Some};
 ghost use Rattle.tide_machine.specs.Frozen.{newcomer};
-ghost use Rattle.tide_model.specs.Prefix.{IsPrefix};
-ghost use Rattle.tide_mutator.specs.Viewed.{table_of, view_of};
+ghost use Rattle.tide_machine.specs.World.{first_visitor};
 ghost use Rattle.tide_shape.specs.Lists.{lists_of};
-ghost use Rattle.tide_threads.specs.Parked.{HasBegun};
-ghost use Rattle.tide_threads.specs.Playing.{DidPart, HasMadeShare, MayBeginPart, MayPlay};
+ghost use Rattle.tide_threads.specs.Acting.{caller_of};
+ghost use Rattle.tide_threads.specs.Fresh.{IsFresh};
+ghost use Rattle.tide_threads.specs.Playing.{DidPart, HasMadePart, MayBeginPart, MayPlay};
 
+use crate::calling::CallingMutator;
+use crate::marking::CountingVisitor;
+use crate::worker::{Played, Worker};
 use tide_model::{Memory, Turnstile};
-use tide_mutator::Mutator;
 use tide_periods::Caller;
 use tide_shape::Shapes;
-use tide_share::make_share;
 use tide_table::{Heap, Note, Pass, Ticket};
+use tide_words::GreyList;
 
-/// A mutator with what it asks for. Between two parts it has neither a ticket nor a note.
+/// A mutator or a visitor. Between two parts it has neither a ticket nor a note.
 #[derive(Drop)]
 pub struct Participant {
-    pub(crate) mutator: Mutator,
-    pub(crate) caller: Caller,
+    pub(crate) worker: Worker,
     pub(crate) ticket: Option<Ticket>,
     pub(crate) note: Option<Note>,
     /// Whether it stopped before its share of the last part was over.
     pub(crate) outcome: Result<bool, Memory>,
 }
 
-/// Begins a part with its ticket.
-fn begin(mutator: &mut Mutator, heap: &Heap<Shapes>, ticket: Ticket)
-    requires own { table_of mutator.old ≡ heap.now.table.shared.table_id }
-    requires of_heap { ticket.seat.table_id ≡ heap.now.table.shared.table_id }
-    requires rests { (view_of mutator.old).runs ≡ false }
-    requires stays { (view_of mutator.old).left ≡ false }
-    requires period { (view_of mutator.old).period < ticket.seat.me.0.period }
-    requires begun { (view_of mutator.old).begun < ticket.seat.me.0.period }
-    ensures own { table_of mutator.new ≡ table_of mutator.old }
-    ensures begun { HasBegun ticket.seat.me.0 (view_of mutator.old) (view_of mutator.new) }
-    ensures told { IsPrefix ticket.seat.me.0.seen (view_of mutator.new).seen }
-    ensures mine { (view_of mutator.new).mine ≡ (view_of mutator.old).mine }
-{
-    mutator.begin(heap, ticket);
-}
-
 impl Participant {
-    /// A participant with this pass that has made no call yet, and its caller.
-    pub(crate) fn new(pass: Pass, caller: Caller) -> Participant
-        requires newcomer { pass.seat.me.0 ≡ newcomer caller.who }
-        ensures table { table_of result.mutator ≡ pass.seat.table_id }
-        ensures view { view_of result.mutator ≡ newcomer caller.who }
-        ensures caller { result.caller ≡ caller }
+    /// A participant that has taken no part yet.
+    fn new(worker: Worker) -> Participant
+        ensures worker { result.worker ≡ worker }
         ensures nothing { (result.ticket ≡ None) × (result.note ≡ None) }
     {
         Participant {
-            mutator: Mutator::new(pass),
-            caller,
+            worker,
             ticket: None,
             note: None,
             outcome: Ok(false),
         }
     }
 
-    /// Its caller, when all is run.
-    pub(crate) fn into_caller(self) -> Caller
-        ensures { result ≡ self.caller }
+    /// The mutator with this pass, which has made no call yet, and its caller.
+    pub(crate) fn of_mutator(pass: Pass, caller: Caller) -> Participant
+        requires newcomer { pass.seat.me.0 ≡ newcomer caller.who }
+        ensures fresh { (mutators cells : ℕ) → caller.who < mutators →
+            IsFresh pass.seat.table_id mutators cells caller.who result }
+        ensures caller { caller_of result.worker ≡ Some caller }
+    {
+        Participant::new(Worker::Mutator(CallingMutator::new(pass, caller)))
+    }
+
+    /// The visitor with this pass and this stack, which has visited nothing yet.
+    pub(crate) fn of_visitor(pass: Pass, stack: GreyList) -> Participant
+        requires newcomer { (who : ℕ) × (pass.seat.me.0 ≡ newcomer who) }
+        requires empty { stack.cells ≡ [] }
+        ensures fresh { (mutators visitor : ℕ) → pass.seat.me.0 ≡ newcomer (first_visitor + visitor) →
+            IsFresh pass.seat.table_id mutators stack.cap (mutators + visitor) result }
+        ensures no_caller { caller_of result.worker ≡ None }
+    {
+        Participant::new(Worker::Visitor(CountingVisitor::new(pass, stack)))
+    }
+
+    /// Who acted, when all is run.
+    pub(crate) fn into_worker(self) -> Worker
+        ensures { result ≡ self.worker }
     {
         let Participant {
-            mutator: _,
-            caller,
+            worker,
             ticket: _,
             note: _,
             outcome: _,
         } = self;
-        caller
+        worker
     }
 
-    /// Begins a part with its ticket, makes its share of calls, and stops.
+    /// Its part with this ticket.
     fn play<T: Turnstile>(
         &mut self,
         heap: &Heap<Shapes>,
@@ -81,15 +82,12 @@ impl Participant {
         ticket: Ticket,
     ) -> Result<bool, Memory>
         requires ready { MayBeginPart heap.now.table.shared.table_id heap.now.key.layout (lists_of heap.now.key.shapes)
-            ticket self.old.mutator self.old.caller }
-        ensures made { IfOk result (HasMadeShare heap.now.table.shared.table_id heap.now.key.layout
-            (lists_of heap.now.key.shapes) ticket.seat.me.0 self.old.mutator self.old.caller self.new) }
+            ticket self.old.worker }
+        ensures made { IfOk result (HasMadePart heap.now.table.shared.table_id heap.now.key.layout
+            (lists_of heap.now.key.shapes) ticket.seat.me.0 self.old.worker self.new) }
         ensures ticket { self.new.ticket ≡ self.old.ticket }
     {
-        let run = ticket.run();
-        begin(&mut self.mutator, heap, ticket);
-        let ended = make_share(&mut self.mutator, heap, gate, &mut self.caller, run)?;
-        let note = self.mutator.stop(heap);
+        let Played { ended, note } = self.worker.play(heap, gate, ticket)?;
         self.note = Some(note);
         Ok(ended)
     }

@@ -8,7 +8,7 @@ ghost use Rattle.tide_periods.specs.Part.{AreCallers};
 ghost use Rattle.tide_periods.specs.Periods.{RanAll, RanPeriod};
 ghost use Rattle.tide_periods.specs.Recorded.{IsSettled};
 ghost use Rattle.tide_periods.specs.Run.{HasRun};
-ghost use Rattle.tide_threads.specs.OnThreads.{callers_on, pace_on, recorded_in, setting_in, Stands};
+ghost use Rattle.tide_threads.specs.OnThreads.{callers_on, pace_on, recorded_in, setting_in, MayOpenOn, Stands};
 
 use crate::on_threads::OnThreads;
 use std::marker::Sync;
@@ -32,6 +32,7 @@ fn run_period<R: Threads + Sync, T: Turnstile>(
     requires few { (recorded_in on.old).parts < 2 ^ 32 - 1 }
     requires run { run ≡ next_run (pace_on on.old) (setting_in on.old).layout (recorded_in on.old).history }
     requires calls { 0 < run }
+    requires opens { MayOpenOn on.old run }
     ensures ran { IfOk result (RanPeriod (recorded_in on.old) (recorded_in on.new) (pace_on on.old)) }
     ensures pacing { OnOk result (on.new.books.pacing ≡ on.old.books.pacing) }
     ensures stands { OnOk result (Stands on.new) }
@@ -39,6 +40,7 @@ fn run_period<R: Threads + Sync, T: Turnstile>(
         < total_left (recorded_in on.old) (callers_on on.old)) }
     ensures callers { OnOk result (AreCallers (recorded_in on.new) (callers_on on.new)) }
     ensures scripts { OnOk result (scripts_of (callers_on on.new) ≡ scripts_of (callers_on on.old)) }
+    ensures opens { IfOk result (MayOpenOn on.new) }
 {
     let stopped = on.run_part(rt, gate, run)?;
     let is_over = on.are_all_retired();
@@ -59,6 +61,7 @@ fn run_periods<R: Threads + Sync, T: Turnstile>(
     requires cycles { (recorded_in on.old).cycles ≡ 0 }
     requires parts { (recorded_in on.old).parts ≡ 0 }
     requires room { total_left (recorded_in on.old) (callers_on on.old) < 2 ^ 32 - 1 }
+    requires opens { MayOpenOn on.old on.old.books.pacing.period }
     ensures ran { OnOk result (RanAll (recorded_in on.new) (pace_on on.old) (callers_on on.new)) }
     ensures retired { OnOk result (list_all (λ caller. caller.retired) (callers_on on.new) ≡ true) }
     ensures stands { OnOk result (Stands on.new) }
@@ -72,6 +75,13 @@ fn run_periods<R: Threads + Sync, T: Turnstile>(
     Ok(())
 }
 
+/// What a run on a heap leaves, and how many races its visitors met, as far as 64 bits count them.
+#[derive(Drop)]
+pub struct HeapRun {
+    pub finished: Finished<Closed>,
+    pub deferred: u64,
+}
+
 /// Runs the scripts of a heap's mutators, on which nothing was run yet: in each part each mutator makes its calls on a
 /// thread of its own.
 ///
@@ -81,23 +91,28 @@ pub fn run_on_threads<R: Threads + Sync, T: Turnstile>(
     rt: &R,
     gate: &T,
     on: OnThreads,
-) -> Result<Finished<Closed>, Memory>
+) -> Result<HeapRun, Memory>
     requires stands { Stands on }
     requires nothing { (recorded_in on).history ≡ [] }
     requires callers { AreCallers (recorded_in on) (callers_on on) }
     requires few { length (callers_on on) ≤ 16 }
     requires short { All (λ ops. length ops ≤ 65536) (scripts_of (callers_on on)) }
-    ensures { IfOk result (λ finished. HasRun (setting_in on) (pace_on on) (scripts_of (callers_on on))
-        finished.kept.seat.me.0.seen finished.report (map (λ own. own.items) finished.calls.items) finished.live) }
+    requires opens { MayOpenOn on on.books.pacing.period }
+    ensures ran { IfOk result (λ left. HasRun (setting_in on) (pace_on on) (scripts_of (callers_on on))
+        left.finished.kept.seat.me.0.seen left.finished.report (map (λ own. own.items) left.finished.calls.items)
+        left.finished.live) }
+    ensures none_met { IfOk result (λ left. (setting_in on).layout.visitors ≡ 0 → left.deferred ≡ 0) }
 {
     let mut on = on;
     run_periods(rt, gate, &mut on)?;
     let live = on.live();
+    let deferred = on.deferred();
     let (kept, report, calls) = on.finish()?;
-    Ok(Finished {
+    let finished = Finished {
         kept,
         report,
         calls,
         live,
-    })
+    };
+    Ok(HeapRun { finished, deferred })
 }

@@ -22,6 +22,6 @@ returns c = record {
   flag_with_value = refl;
   flag_twice = refl;
   number_twice = refl;
-  a_visitor = refl;
+  nine_visitors = refl;
   plain_with_visitors = refl;
 }

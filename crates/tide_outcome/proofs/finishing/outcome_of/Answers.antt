@@ -11,15 +11,16 @@ new-requires c =
     let work = c.args.load.now in
     let ran = c.args.ran in
     let left = c.requires.left in
-    IsOutcome-ran work c.layout_of.result (map (λ name. name.items) c.args.names.items) (setting_of_work work) (pace_of_work work left.0) work.scripts
-    ran.kept ran.report (map (λ own. own.items) ran.calls.items) ran.live left.1.has_run (sym c.layout_of.ensures) c.requires.names
+    IsOutcome-ran work c.layout_of.result (map (λ name. name.items) c.args.names.items) (setting_of_work work c.args.visitors) (pace_of_work work left.0) work.scripts
+    ran.kept ran.report (map (λ own. own.items) ran.calls.items) ran.live c.args.deferred left.1.has_run (sym c.layout_of.ensures) c.requires.names
     (ap (λ (l : Layout). l.mutators) (sym c.layout_of.ensures)) left.1.within
+    (λ none. c.requires.none_met (ap (λ (l : Layout). l.visitors) (sym c.layout_of.ensures) ∙ none))
 
 pub returns-clause-run : goal.returns-clause-run
 returns-clause-run c = λ trigger left.
     let work = c.args.load.now in
     let ran = c.args.ran in
-    IsRunOf-ran work trigger c.new.result (setting_of_work work) (pace_of_work work trigger) work.scripts
+    IsRunOf-ran work trigger c.args.visitors c.new.result (setting_of_work work c.args.visitors) (pace_of_work work trigger) work.scripts
     (history_of ran.kept) ran.report (map (λ own. own.items) ran.calls.items) ran.live left.has_run refl refl refl refl
     (ap (λ (r : Ran). r.layout) c.new.ensures ∙ c.layout_of.ensures) (ap (λ (r : Ran). r.keys) c.new.ensures ∙ c.requires.names)
     (ap (λ (r : Ran). r.history) c.new.ensures)

@@ -16,9 +16,6 @@ room_for-room-requires-clause-few c =
     subst (λ (own : List (Vec Op Global)). length own ≤ 16) (sym c.as_slice.ensures.value)
     (few_of c.args.load.now c.in_ok-scripts.scripts.items c.in_ok-scripts.ensures)
 
-pub new-requires-clause-no_visitors : goal.new-requires-clause-no_visitors
-new-requires-clause-no_visitors c = ap (λ (l : Layout). l.visitors) c.layout_of.ensures
-
 pub new-requires-clause-mutators : goal.new-requires-clause-mutators
 new-requires-clause-mutators c =
     sym (length-map c.in_ok-scripts.scripts.items (λ (ops : Vec Op Global). ops.items)) ∙ ap length c.in_ok-scripts.ensures.are
@@ -29,13 +26,16 @@ new-requires-clause-askable c =
     let work = c.args.load.now in
     let scripts = map (λ (ops : Vec Op Global). ops.items) c.in_ok-scripts.scripts.items in
     subst (λ (l : Layout). All (All (IsAskable l)) scripts) (sym c.layout_of.ensures)
-    (AreAskable work (length work.scripts) scripts c.in_ok-scripts.ensures.within)
+    (AreAskable work (length work.scripts) c.args.visitors scripts c.in_ok-scripts.ensures.within)
 
 pub returns-clause-setting : goal.returns-clause-setting
 returns-clause-setting c =
     let shapes = c.in_ok-shapes.ensures ∙ ap shapes_of_paths c.paths.ensures.paths in
     c.in_ok-on.ensures.setting ∙ ap (λ (l : Layout). record { layout = l; shapes = lists_of c.in_ok-shapes.shapes }) c.layout_of.ensures
-    ∙ ap (λ (s : ShapeLists). record { layout = layout_of_work c.args.load.now; shapes = s }) shapes
+    ∙ ap (λ (s : ShapeLists). record { layout = layout_of_work c.args.load.now c.args.visitors; shapes = s }) shapes
 
 pub returns-clause-scripts : goal.returns-clause-scripts
 returns-clause-scripts c = subst (AreScripts c.args.load.now) (sym c.in_ok-on.ensures.scripts) c.in_ok-scripts.ensures
+
+pub returns-clause-opens : goal.returns-clause-opens
+returns-clause-opens c = c.in_ok-on.ensures.opens c.in_ok-on.on.books.pacing.period

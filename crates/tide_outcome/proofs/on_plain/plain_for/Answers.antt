@@ -22,5 +22,5 @@ returns-clause-new c =
       settled = recorder.settled;
       nothing = recorder.nothing;
       setting = recorder.setting ∙ ap (λ (l : Layout). record { layout = l; shapes = shapes_of store.store }) layout
-          ∙ ap (λ (s : ShapeLists). record { layout = layout_of_work work; shapes = s }) shapes;
+          ∙ ap (λ (s : ShapeLists). record { layout = layout_of_work work 0; shapes = s }) shapes;
     }

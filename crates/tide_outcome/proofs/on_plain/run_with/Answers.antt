@@ -32,7 +32,7 @@ new-requires-clause-askable g c =
     let work = c.args.load.now in
     let scripts = map (λ (ops : Vec Op Global). ops.items) c.args.scripts.items in
     subst (λ (s : Setting). All (All (IsAskable s.layout)) scripts) (sym c.requires.new.setting)
-    (AreAskable work (length work.scripts) scripts c.requires.scripts.within)
+    (AreAskable work (length work.scripts) 0 scripts c.requires.scripts.within)
 
 pub run_on-requires-clause-settled : goal.run_on-requires-clause-settled
 run_on-requires-clause-settled g c = subst IsSettled (sym c.in_ok-parts.ensures.recorded) c.requires.new.settled
@@ -67,8 +67,8 @@ outcome_of-requires-clause-left g c =
     let ran = c.in_ok-ran.ran in
     let parts = c.in_ok-parts in (
       pacing.trigger,
-      subst (HasLeft load pacing.trigger) (sym c.kept_itself.ensures)
-          (HasLeft-ran load pacing (record { kept = Own (record { events = ran.kept }); report = ran.report; calls = ran.calls; live = ran.live })
+      subst (HasLeft load pacing.trigger 0) (sym c.kept_itself.ensures)
+          (HasLeft-ran load pacing 0 (record { kept = Own (record { events = ran.kept }); report = ran.report; calls = ran.calls; live = ran.live })
           (g.T.Recorder.recorded c.args.recorder).setting (scripts_of parts.parts.callers.items)
           (subst (λ (r : Recorded). HasRun r.setting (pace_of pacing) (scripts_of parts.parts.callers.items) ran.kept.items ran.report (map (λ own. own.items) ran.calls.items) ran.live)
           parts.ensures.recorded c.in_ok-ran.ensures)

@@ -4,15 +4,14 @@ use Rattle.tide_threads.specs.Playing.{WasHanded}
 use Rattle.tide_threads.specs.declared.participant.Participant.{Participant}
 use Rattle.tide_threads.proofs.collecting.hand_to.Goals as goal
 
-pub returns-then-not-has_retired-clause-handed : goal.returns-then-not-has_retired-clause-handed
-returns-then-not-has_retired-clause-handed c =
+pub returns-then-not-has_left-clause-handed : goal.returns-then-not-has_left-clause-handed
+returns-then-not-has_left-clause-handed c =
     let p = c.deref_mut-participant.result.now in
     subst (λ (x : Participant). WasHanded c.args.heap.now.table.shared.table_id c.args.collector.now.seat.me.0 x
     (record p { ticket = Some c.ticket.result })) c.deref_mut-participant.ensures.value (record {
-      mutator = refl;
-      caller = refl;
+      worker = refl;
       note = refl;
-      retired = λ e. absurd (let clash : true ≡ false = sym e ∙ sym c.has_retired.ensures ∙ c.if-not-has_retired.true in cc);
+      left = λ e. absurd (let clash : true ≡ false = sym e ∙ sym c.has_left.ensures ∙ c.if-not-has_left.true in cc);
       ticket = λ _. (
         c.ticket.result,
         refl,

@@ -1,6 +1,6 @@
 -- What the loop of on_threads::calls_of_each keeps.
 use Rattle.std.proofs.Common.{◌≡◌, map}
-use Rattle.tide_threads.specs.OnThreads.{callers_in}
+use Rattle.tide_threads.specs.Acting.{callers_in}
 use Rattle.tide_threads.proofs.on_threads.calls_of_each.Given as goal
 
 abbrev pub invariant-loop-padded : goal.invariant-loop-padded

@@ -7,6 +7,7 @@ use Rattle.tide_periods.proofs.Running.{HasRun-over}
 use Rattle.tide_periods.proofs.Starting.{total-few}
 use Rattle.tide_periods.specs.Asking.{scripts_of}
 use Rattle.tide_periods.specs.Recorded.{Recorded}
+use Rattle.tide_periods.specs.Store.{Setting}
 use Rattle.tide_periods.specs.declared.caller.Caller.{Caller}
 use Rattle.tide_report.specs.Ends.{TellsEnds}
 use Rattle.tide_threads.specs.OnThreads.{callers_on, pace_on, recorded_in, setting_in}
@@ -40,10 +41,13 @@ returns g c =
     let ran = c.in_ok-run_periods.ensures in
     let left = c.in_ok-kept in
     let history : left.kept.seat.me.0.seen ≡ recorded.history = left.ensures.history
-    ∙ ap (λ (r : Recorded). r.history) c.live-live.ensures.same in
-    HasRun-over (setting_in c.args.on) (pace_on c.args.on) (scripts_of (callers_on c.args.on)) recorded
-    (callers_on c.run_periods.new.on) left.kept.seat.me.0.seen left.report (map (λ own. own.items) left.calls.items)
-    c.live-live.result ran.ran ran.same ran.scripts history
-    (subst (λ (h : List Event). TellsEnds recorded.setting.layout h left.report) (sym history)
-    (subst (λ (r : Recorded). TellsEnds r.setting.layout r.history left.report) c.live-live.ensures.same left.ensures.report))
-    (left.ensures.calls ∙ ap (map (λ (x : Caller). x.calls.items)) c.live-live.ensures.callers) c.live-live.ensures.live
+    ∙ ap (λ (r : Recorded). r.history) c.live-live.ensures.same in record {
+      ran = HasRun-over (setting_in c.args.on) (pace_on c.args.on) (scripts_of (callers_on c.args.on)) recorded
+          (callers_on c.run_periods.new.on) left.kept.seat.me.0.seen left.report (map (λ own. own.items) left.calls.items)
+          c.live-live.result ran.ran ran.same ran.scripts history
+          (subst (λ (h : List Event). TellsEnds recorded.setting.layout h left.report) (sym history)
+          (subst (λ (r : Recorded). TellsEnds r.setting.layout r.history left.report) c.live-live.ensures.same left.ensures.report))
+          (left.ensures.calls ∙ ap (map (λ (x : Caller). x.calls.items)) c.live-live.ensures.callers) c.live-live.ensures.live;
+      none_met = λ none. c.deferred-deferred.ensures.none
+          (ap (λ (s : Setting). s.layout.visitors) (ap (λ (r : Recorded). r.setting) c.live-live.ensures.same ∙ ran.same) ∙ none);
+    }

@@ -24,6 +24,9 @@ run_part-requires-clause-stands g c κs within = c.requires.stands
 pub run_part-requires-clause-callers : goal.run_part-requires-clause-callers
 run_part-requires-clause-callers g c κs within = c.requires.callers
 
+pub run_part-requires-clause-opens : goal.run_part-requires-clause-opens
+run_part-requires-clause-opens g c κs within = c.requires.opens
+
 pub run_part-requires-clause-few : goal.run_part-requires-clause-few
 run_part-requires-clause-few g c κs within = c.requires.few
 
@@ -38,18 +41,19 @@ freeze-requires g c =
       settled = part.ran.settled;
       stands = c.in_ok-stopped.ensures.stands;
       opened = omega (arith, opened, parts);
+      visits = c.in_ok-stopped.ensures.visits;
       room = omega (arith, room, began, cycles);
     }
 
 pub returns-in_err-stopped : goal.returns-in_err-stopped
 returns-in_err-stopped g c =
     let failed = err_from_is_err_and c.from_residual.result c.from_residual.ensures.1 in
-    rw failed.1 (record { ran = tt; pacing = tt; stands = tt; left = tt; callers = tt; scripts = tt })
+    rw failed.1 (record { ran = tt; pacing = tt; stands = tt; left = tt; callers = tt; scripts = tt; opens = tt })
 
 pub returns-in_err-next : goal.returns-in_err-next
 returns-in_err-next g c =
     let failed = err_from_is_err_and c.from_residual-in_err-next.result c.from_residual-in_err-next.ensures.1 in
-    rw failed.1 (record { ran = tt; pacing = tt; stands = tt; left = tt; callers = tt; scripts = tt })
+    rw failed.1 (record { ran = tt; pacing = tt; stands = tt; left = tt; callers = tt; scripts = tt; opens = tt })
 
 pub returns : goal.returns
 returns g c =
@@ -80,4 +84,5 @@ returns g c =
       callers = subst (AreCallers new) (sym c.in_ok-next.ensures.callers)
           (AreCallers-same ran new callers_ran froze.freeze froze.same froze.history froze.quiet part.callers);
       scripts = ap scripts_of c.in_ok-next.ensures.callers ∙ part.scripts;
+      opens = c.in_ok-next.ensures.opens;
     }

@@ -22,6 +22,7 @@ loop-on-init g c = record {
   left = (let none = c.requires.parts in omega (arith, none));
   run = run_of_nothing (pace_on c.args.on.now) (recorded_in c.args.on.now) c.requires.nothing;
   some = (let least = c.args.on.now.books.pacing.period_least in omega (arith, least));
+  opens = c.requires.opens;
 }
 
 pub run_period-requires-clause-goes_on : goal.run_period-requires-clause-goes_on
@@ -63,6 +64,7 @@ loop-on-preserved g c =
       left = omega (arith, parts, left, fewer);
       run = ran.next;
       some = ran.some;
+      opens = c.in_ok-run.ensures.opens;
     }
 
 pub returns : goal.returns

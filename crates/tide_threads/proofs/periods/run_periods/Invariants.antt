@@ -5,7 +5,7 @@ use Rattle.tide_periods.specs.Asking.{scripts_of}
 use Rattle.tide_periods.specs.Left.{total_left}
 use Rattle.tide_periods.specs.Part.{AreCallers}
 use Rattle.tide_periods.specs.Recorded.{IsSettled}
-use Rattle.tide_threads.specs.OnThreads.{Stands, callers_on, pace_on, recorded_in, setting_in}
+use Rattle.tide_threads.specs.OnThreads.{MayOpenOn, Stands, callers_on, pace_on, recorded_in, setting_in}
 use Rattle.tide_threads.proofs.periods.run_periods.Given as goal
 
 abbrev pub invariant-loop-on : goal.invariant-loop-on
@@ -24,6 +24,7 @@ invariant-loop-on g l =
       left : now.parts + total_left now these ≤ total_left (recorded_in l.initial.on) (callers_on l.initial.on);
       run : l.run ≡ next_run (pace_on l.initial.on) now.setting.layout now.history;
       some : 0 < l.run;
+      opens : MayOpenOn l.on l.run;
     }
 
 abbrev pub decreases-loop-on : goal.decreases-loop-on

@@ -30,7 +30,7 @@ begin_part-requires-2 c =
 
 pub returns-clause-begun : goal.returns-clause-begun
 returns-clause-begun c =
-    begin_both c.args.self.now _ c.begin_part.new.collector.seat.me.0 refl refl refl c.begin_part.ensures.same.1
+    begin_both c.args.self.now _ c.begin_part.new.collector.seat.me.0 refl refl c.begin_part.ensures.same.1
     c.begin_part-2.ensures.same.1 c.begin_part.ensures.begun.1 c.begin_part-2.ensures.begun.1 c.requires.opened
 
 pub returns-clause-calls : goal.returns-clause-calls

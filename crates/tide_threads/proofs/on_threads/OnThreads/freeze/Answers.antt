@@ -3,18 +3,17 @@ use Rattle.std.proofs.Common.{◌∙◌, refl, arith}
 use Rattle.std.proofs.lemmas.Result.{err_from_is_err_and}
 use Rattle.tide_freeze.proofs.BookLaws.{longer_report_tells}
 use Rattle.tide_shape.specs.Lists.{lists_of}
-use Rattle.tide_threads.proofs.Freezes.{IsParked-collected, MayEnterVisits-none, RanFreeze-collected, StandsUnvisited-collected}
+use Rattle.tide_threads.proofs.Freezes.{MayOpenPart-collected, RanFreeze-collected, StandsBy-collected}
 use Rattle.tide_threads.specs.OnThreads.{pace_on}
 use Rattle.tide_threads.proofs.on_threads.OnThreads.freeze.Goals as goal
 
 pub collect-requires : goal.collect-requires
 collect-requires c =
-    let self = c.args.self.now in
     let stands = c.requires.stands in record {
       own = stands.of_heap;
-      still = stands.still.still;
-      opened = (let opened = c.requires.opened in let period = stands.still.still.period in omega (arith, opened, period));
-      visits = MayEnterVisits-none self.heap.key.layout (lists_of self.heap.key.shapes) self.collector.seat.me.0 stands.still;
+      still = stands.still;
+      opened = (let opened = c.requires.opened in let period = stands.still.period in omega (arith, opened, period));
+      visits = c.requires.visits;
       books = stands.books;
       few = c.requires.room;
     }
@@ -22,7 +21,7 @@ collect-requires c =
 pub returns-in_err-next : goal.returns-in_err-next
 returns-in_err-next c =
     let failed = err_from_is_err_and c.from_residual.result c.from_residual.ensures.1 in
-    rw failed.1 (record { ran = tt; stands = tt; pacing = tt; callers = tt })
+    rw failed.1 (record { ran = tt; stands = tt; pacing = tt; callers = tt; opens = tt })
 
 pub returns : goal.returns
 returns c =
@@ -39,21 +38,17 @@ returns c =
       ran = RanFreeze-collected layout shapes pace c.args.is_must v w run e.collected c.requires.settled e.books.are.swept;
       stands = record {
         of_heap = e.own ∙ stands.of_heap;
-        still = StandsUnvisited-collected layout shapes pace c.args.is_must v w run e.collected stands.still;
+        still = e.collected.still;
         books = e.books.are;
         told = longer_report_tells layout v.seen w.seen self.books.report c.collect.new.books.report stands.told e.books.told;
         all = record {
           one_each = stands.all.one_each;
-          each = λ who x found. let by = stands.all.each who x found in record {
-            table = by.table;
-            number = by.number;
-            parked = IsParked-collected layout shapes pace c.args.is_must v w run e.collected who _ _ by.parked;
-            no_ticket = by.no_ticket;
-            no_note = by.no_note;
-          };
+          each = λ at x found. StandsBy-collected layout shapes pace c.args.is_must v w run e.collected
+              self.heap.table.shared.table_id at _ (stands.all.each at x found);
         };
         no_calls = stands.no_calls;
       };
       pacing = e.books.pacing;
       callers = refl;
+      opens = MayOpenPart-collected layout shapes pace c.args.is_must v w run e.collected;
     }

@@ -7,11 +7,11 @@ use Rattle.tide_threads.specs.OnThreads.{setting_in}
 use Rattle.tide_threads.specs.Playing.{AllStandBy}
 use Rattle.tide_freeze.specs.Books.{AreBooks}
 use Rattle.tide_report.specs.Ends.{TellsEnds}
-use Rattle.tide_threads.specs.Standing.{StandsUnvisited}
+use Rattle.tide_table.specs.Standing.{StandsStill}
 use Rattle.tide_threads.proofs.on_threads.OnThreads.live.Goals as goal
 
 pub count_live-requires : goal.count_live-requires
-count_live-requires c = record { own = c.requires.stands.of_heap; still = c.requires.stands.still.still }
+count_live-requires c = record { own = c.requires.stands.of_heap; still = c.requires.stands.still }
 
 pub returns : goal.returns
 returns c =
@@ -25,7 +25,7 @@ returns c =
       callers = refl;
       stands = record {
         of_heap = c.count_live.ensures.own ∙ stands.of_heap;
-        still = subst (StandsUnvisited layout (lists_of self.heap.key.shapes)) same stands.still;
+        still = subst (StandsStill layout (lists_of self.heap.key.shapes)) same stands.still;
         books = subst (λ (v : View). AreBooks layout v.seen self.books) same stands.books;
         told = subst (λ (v : View). TellsEnds layout v.seen self.books.report) same stands.told;
         all = subst (λ (v : View). AllStandBy self.heap.table.shared.table_id layout v self.participants.items) same stands.all;

@@ -1,5 +1,5 @@
 -- Why a heap with its mutators stands at the start.
-use Rattle.std.proofs.Common.{◌∙◌, sym, ap, subst, List, All, length, map}
+use Rattle.std.proofs.Common.{ℕ, ◌≡◌, ◌+◌, ◌∙◌, sym, ap, subst, arith, List, All, length, map}
 use Rattle.std.proofs.lemmas.List.{length-map}
 use Rattle.std.proofs.lemmas.Result.{err_from_is_err_and}
 use Rattle.tide_freeze.specs.Books.{AreBooks}
@@ -12,9 +12,13 @@ use Rattle.tide_periods.specs.declared.caller.Caller.{Caller}
 use Rattle.tide_report.specs.Ends.{TellsEnds}
 use Rattle.tide_shape.specs.Lists.{lists_of}
 use Rattle.tide_shape.specs.declared.shapes.Shapes.{Shapes}
-use Rattle.tide_threads.proofs.Fresh.{AllStandBy-fresh, StandsUnvisited-started}
-use Rattle.tide_threads.specs.OnThreads.{callers_in}
-use Rattle.tide_threads.specs.Standing.{StandsUnvisited}
+use Rattle.tide_table.proofs.Standing.{StandsStill-started}
+use Rattle.tide_table.specs.Standing.{StandsStill}
+use Rattle.tide_threads.proofs.Fresh.{AllStandBy-fresh, MayOpenPart-started}
+use Rattle.tide_threads.specs.Acting.{callers_in}
+use Rattle.tide_threads.specs.Fresh.{AreFresh}
+use Rattle.tide_threads.specs.Playing.{AllStandBy}
+use Rattle.tide_threads.specs.Standing.{MayOpenPart}
 use Rattle.tide_threads.proofs.on_threads.OnThreads.new.Goals as goal
 
 pub participants_of-requires : goal.participants_of-requires
@@ -22,74 +26,87 @@ participants_of-requires c = record {
   as_many = (sym (length-map c.in_ok-callers.callers.items (λ (x : Caller). x.ops.items)) ∙ ap length c.in_ok-callers.ensures.scripts_are
       ∙ length-map c.args.scripts.items (λ ops. ops.items) ∙ c.requires.mutators ∙ sym c.in_ok-heap.ensures.mutators.0
       ∙ c.in_ok-heap.field-0.mutators.ok.0);
-  passes = (c.in_ok-heap.field-0.heap.table.shared.table_id, c.in_ok-heap.ensures.mutators.1);
+  passes = (c.in_ok-heap.field-0.heap.table.shared.table_id, c.in_ok-heap.ensures.mutators.1, c.in_ok-heap.ensures.visitors.1);
   numbers = λ who caller found. (c.in_ok-callers.ensures.each who caller found).number;
+  few = (let start = c.in_ok-heap.field-0 in
+      let mutators = c.in_ok-heap.ensures.mutators.0 in
+      let visitors = c.in_ok-heap.ensures.visitors.0 in
+      let some = start.mutators.ok.0 in
+      let others = start.visitors.ok.0 in
+      let limits = c.mutators.ensures.limits in
+      let few = limits.few_mutators in
+      let few' = limits.few_visitors in
+      omega (arith, mutators, visitors, some, others, few, few'));
 }
 
 pub returns-in_err-calls : goal.returns-in_err-calls
 returns-in_err-calls c =
     let failed = err_from_is_err_and c.from_residual.result c.from_residual.ensures.1 in
-    rw failed.1 (record { setting = tt; nothing = tt; stands = tt; callers = tt; scripts = tt; pacing = tt })
+    rw failed.1 (record { setting = tt; nothing = tt; stands = tt; callers = tt; scripts = tt; pacing = tt; opens = tt })
 
 pub returns-in_err-callers : goal.returns-in_err-callers
 returns-in_err-callers c =
     let failed = err_from_is_err_and c.from_residual-in_err-callers.result c.from_residual-in_err-callers.ensures.1 in
-    rw failed.1 (record { setting = tt; nothing = tt; stands = tt; callers = tt; scripts = tt; pacing = tt })
+    rw failed.1 (record { setting = tt; nothing = tt; stands = tt; callers = tt; scripts = tt; pacing = tt; opens = tt })
 
 pub returns-in_err-books : goal.returns-in_err-books
 returns-in_err-books c =
     let failed = err_from_is_err_and c.from_residual-in_err-books.result c.from_residual-in_err-books.ensures.1 in
-    rw failed.1 (record { setting = tt; nothing = tt; stands = tt; callers = tt; scripts = tt; pacing = tt })
+    rw failed.1 (record { setting = tt; nothing = tt; stands = tt; callers = tt; scripts = tt; pacing = tt; opens = tt })
 
 pub returns-in_err-heap : goal.returns-in_err-heap
 returns-in_err-heap c =
     let failed = err_from_is_err_and c.from_residual-in_err-heap.result c.from_residual-in_err-heap.ensures.1 in
-    rw failed.1 (record { setting = tt; nothing = tt; stands = tt; callers = tt; scripts = tt; pacing = tt })
+    rw failed.1 (record { setting = tt; nothing = tt; stands = tt; callers = tt; scripts = tt; pacing = tt; opens = tt })
 
 pub returns-in_err-participants : goal.returns-in_err-participants
 returns-in_err-participants c =
     let failed = err_from_is_err_and c.from_residual-in_err-participants.result c.from_residual-in_err-participants.ensures.1 in
-    rw failed.1 (record { setting = tt; nothing = tt; stands = tt; callers = tt; scripts = tt; pacing = tt })
+    rw failed.1 (record { setting = tt; nothing = tt; stands = tt; callers = tt; scripts = tt; pacing = tt; opens = tt })
 
 pub returns : goal.returns
-returns c = record {
-  setting = let made = c.in_ok-heap.ensures.made in λ i. record { layout = made.0 i; shapes = lists_of (made.1 i) };
-  nothing = c.in_ok-heap.ensures.started.seen;
-  stands = (let layout = c.args.layout in
-      let start = c.in_ok-heap.field-0 in
-      let made = c.in_ok-heap.ensures.made in
-      let started = c.in_ok-heap.ensures.started in
-      let v = start.collector.seat.me.0 in
-      let xs = c.in_ok-participants.participants.items in
-      let scripts = map (λ ops. ops.items) c.args.scripts.items in
-      record {
+returns c =
+    let layout = c.args.layout in
+    let start = c.in_ok-heap.field-0 in
+    let made = c.in_ok-heap.ensures.made in
+    let started = c.in_ok-heap.ensures.started in
+    let v = start.collector.seat.me.0 in
+    let xs = c.in_ok-participants.participants.items in
+    let scripts = map (λ ops. ops.items) c.args.scripts.items in
+    let still : StandsStill layout (lists_of c.args.shapes) v =
+    StandsStill-started layout (lists_of c.args.shapes) v started c.mutators.ensures.limits in
+    let are : AreNew (callers_in xs) scripts =
+    subst (λ (l : List Caller). AreNew l scripts) (sym c.in_ok-participants.ensures.callers) c.in_ok-callers.ensures in
+    let mutators : length start.mutators.items ≡ layout.mutators = sym start.mutators.ok.0 ∙ c.in_ok-heap.ensures.mutators.0 in
+    let visitors : length start.visitors.items ≡ layout.visitors = sym start.visitors.ok.0 ∙ c.in_ok-heap.ensures.visitors.0 in
+    let fresh = c.in_ok-participants.ensures.fresh start.heap.table.shared.table_id c.in_ok-heap.ensures.mutators.1
+    c.in_ok-heap.ensures.visitors.1 in
+    let all : AllStandBy start.heap.table.shared.table_id layout v xs =
+    AllStandBy-fresh start.heap.table.shared.table_id layout v started.seen xs scripts
+    (c.in_ok-participants.ensures.one_each ∙ (λ i. mutators i + visitors i)) are
+    (subst (λ (n : ℕ). AreFresh start.heap.table.shared.table_id layout.mutators n xs) c.cells-cells.ensures.count
+    (subst (λ (n : ℕ). AreFresh start.heap.table.shared.table_id n c.cells-cells.result xs) mutators fresh)) in
+    record {
+      setting = λ i. record { layout = made.0 i; shapes = lists_of (made.1 i) };
+      nothing = started.seen;
+      stands = record {
         of_heap = c.in_ok-heap.ensures.collector;
-        still = subst (λ (l : Layout). StandsUnvisited l (lists_of start.heap.key.shapes) v) (sym made.0)
-            (subst (λ (s : Shapes). StandsUnvisited layout (lists_of s) v) (sym made.1)
-            (StandsUnvisited-started layout (lists_of c.args.shapes) v started c.mutators.ensures.limits c.requires.no_visitors));
+        still = subst (λ (l : Layout). StandsStill l (lists_of start.heap.key.shapes) v) (sym made.0)
+            (subst (λ (s : Shapes). StandsStill layout (lists_of s) v) (sym made.1) still);
         books = subst (λ (x : Layout × List Event). AreBooks x.0 x.1 c.in_ok-books.books) (λ i. (sym made.0 i, sym started.seen i))
             c.in_ok-books.ensures.are;
         told = subst (λ (x : Layout × List Event). TellsEnds x.0 x.1 c.in_ok-books.books.report) (λ i. (sym made.0 i, sym started.seen i))
             c.in_ok-books.ensures.told;
-        all = AllStandBy-fresh start.heap.table.shared.table_id start.heap.key.layout v xs scripts started.seen
-            (length-map c.args.scripts.items (λ ops. ops.items) ∙ c.requires.mutators
-            ∙ ap (λ (l : Layout). l.mutators) (sym made.0))
-            (subst (λ (l : List Caller). AreNew l scripts) (sym c.in_ok-participants.ensures.callers) c.in_ok-callers.ensures)
-            (c.in_ok-participants.ensures.fresh start.heap.table.shared.table_id c.in_ok-heap.ensures.mutators.1);
+        all = subst (λ (l : Layout). AllStandBy start.heap.table.shared.table_id l v xs) (sym made.0) all;
         no_calls = c.in_ok-calls.ensures;
-      });
-  callers = (let start = c.in_ok-heap.field-0 in
-      let made = c.in_ok-heap.ensures.made in
-      let v = start.collector.seat.me.0 in
-      let xs = c.in_ok-participants.participants.items in
-      let scripts = map (λ ops. ops.items) c.args.scripts.items in
-      let are : AreNew (callers_in xs) scripts =
-      subst (λ (l : List Caller). AreNew l scripts) (sym c.in_ok-participants.ensures.callers) c.in_ok-callers.ensures in
-      AreCallers-nothing (recorded_at (record { layout = start.heap.key.layout; shapes = lists_of start.heap.key.shapes }) v.seen)
-      (callers_in xs) scripts c.in_ok-heap.ensures.started.seen are
-      (sym (length-map (callers_in xs) (λ (x : Caller). x.ops.items)) ∙ ap length are.scripts_are
-      ∙ length-map c.args.scripts.items (λ ops. ops.items) ∙ c.requires.mutators ∙ ap (λ (l : Layout). l.mutators) (sym made.0))
-      (subst (λ (l : Layout). All (All (IsAskable l)) scripts) (sym made.0) c.requires.askable));
-  scripts = ap scripts_of c.in_ok-participants.ensures.callers ∙ c.in_ok-callers.ensures.scripts_are;
-  pacing = c.in_ok-books.ensures.pacing;
-}
+      };
+      callers = AreCallers-nothing (recorded_at (record { layout = start.heap.key.layout; shapes = lists_of start.heap.key.shapes }) v.seen)
+          (callers_in xs) scripts started.seen are
+          (sym (length-map (callers_in xs) (λ (x : Caller). x.ops.items)) ∙ ap length are.scripts_are
+          ∙ length-map c.args.scripts.items (λ ops. ops.items) ∙ c.requires.mutators ∙ ap (λ (l : Layout). l.mutators) (sym made.0))
+          (subst (λ (l : Layout). All (All (IsAskable l)) scripts) (sym made.0) c.requires.askable);
+      scripts = ap scripts_of c.in_ok-participants.ensures.callers ∙ c.in_ok-callers.ensures.scripts_are;
+      pacing = c.in_ok-books.ensures.pacing;
+      opens = λ run. subst (λ (l : Layout). MayOpenPart l v run) (sym made.0)
+          (MayOpenPart-started layout (lists_of c.args.shapes) v run started still);
+    }

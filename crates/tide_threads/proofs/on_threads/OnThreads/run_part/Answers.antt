@@ -5,7 +5,8 @@ use Rattle.std.proofs.lemmas.Result.{err_from_is_err_and}
 use Rattle.crossbeam_utils.specs.declared.cache_padded.CachePadded.{CachePadded}
 use Rattle.tide_periods.specs.Part.{AreCallers, RanPartBy}
 use Rattle.tide_periods.specs.Recorded.{recorded_at}
-use Rattle.tide_threads.specs.OnThreads.{callers_in, callers_on, recorded_in, setting_in}
+use Rattle.tide_threads.specs.Acting.{callers_in}
+use Rattle.tide_threads.specs.OnThreads.{callers_on, recorded_in, setting_in}
 use Rattle.tide_threads.specs.Playing.{AllStandBy}
 use Rattle.tide_threads.specs.declared.participant.Participant.{Participant}
 use Rattle.tide_threads.proofs.on_threads.OnThreads.run_part.Goals as goal
@@ -15,6 +16,9 @@ run_whole_part-requires-clause-own g c κs within = c.requires.stands.of_heap
 
 pub run_whole_part-requires-clause-still : goal.run_whole_part-requires-clause-still
 run_whole_part-requires-clause-still g c κs within = c.requires.stands.still
+
+pub run_whole_part-requires-clause-opens : goal.run_whole_part-requires-clause-opens
+run_whole_part-requires-clause-opens g c κs within = c.requires.opens
 
 pub run_whole_part-requires-clause-all : goal.run_whole_part-requires-clause-all
 run_whole_part-requires-clause-all g c κs within =
@@ -37,12 +41,12 @@ run_whole_part-requires-clause-callers g c κs within =
 
 pub run_whole_part-requires-clause-few : goal.run_whole_part-requires-clause-few
 run_whole_part-requires-clause-few g c κs within =
-    (let few = c.requires.few in let period = c.requires.stands.still.still.period in omega (arith, few, period))
+    (let few = c.requires.few in let period = c.requires.stands.still.period in omega (arith, few, period))
 
 pub returns-in_err-ended : goal.returns-in_err-ended
 returns-in_err-ended g c =
     let failed = err_from_is_err_and c.from_residual.result c.from_residual.ensures.1 in
-    rw failed.1 (record { ran = tt; stands = tt; pacing = tt })
+    rw failed.1 (record { ran = tt; stands = tt; visits = tt; pacing = tt })
 
 pub returns : goal.returns
 returns g c =
@@ -69,5 +73,6 @@ returns g c =
         all = subst (AllStandBy self.heap.table.shared.table_id self.heap.key.layout w) (sym whole) e.all;
         no_calls = stands.no_calls;
       };
+      visits = e.visits;
       pacing = e.pacing;
     }

@@ -4,8 +4,8 @@ use Rattle.std.specs.Prelude.{IfOk, Result, Some}
 use Rattle.tide_model.specs.declared.Memory.{Memory}
 use Rattle.tide_shape.specs.Lists.{lists_of}
 use Rattle.tide_steps.specs.declared.notes.Ticket.{Ticket}
-use Rattle.tide_threads.proofs.Turns.{HasMadeShare-outcome, ticket_clash, ticket_same}
-use Rattle.tide_threads.specs.Playing.{HasMadeShare}
+use Rattle.tide_threads.proofs.Turns.{HasMadePart-outcome, ticket_clash, ticket_same}
+use Rattle.tide_threads.specs.Playing.{HasMadePart}
 use Rattle.tide_threads.proofs.participant.Participant.play_part.Goals as goal
 
 pub play-self-requires-clause-ready : goal.play-self-requires-clause-ready
@@ -22,11 +22,11 @@ returns g c =
       did = record {
         no_ticket = c.play-self.ensures.ticket ∙ c.take.ensures.after;
         rested = λ none. absurd (ticket_clash c.in-Some.ticket x.ticket had none);
-        made = λ ticket has ended served. HasMadeShare-outcome id key.layout (lists_of key.shapes) ticket.seat.me.0 x.mutator x.caller
+        made = λ ticket has ended served. HasMadePart-outcome id key.layout (lists_of key.shapes) ticket.seat.me.0 x.worker
             z c.play-self.result ended
-            (subst (λ (t : Ticket). HasMadeShare id key.layout (lists_of key.shapes) t.seat.me.0 x.mutator x.caller z ended)
+            (subst (λ (t : Ticket). HasMadePart id key.layout (lists_of key.shapes) t.seat.me.0 x.worker z ended)
             (ticket_same c.in-Some.ticket ticket x.ticket had has)
-            (subst (λ (r : Result Bool Memory). IfOk r (HasMadeShare id key.layout (lists_of key.shapes) c.in-Some.ticket.seat.me.0
-            x.mutator x.caller z)) served c.play-self.ensures.made));
+            (subst (λ (r : Result Bool Memory). IfOk r (HasMadePart id key.layout (lists_of key.shapes) c.in-Some.ticket.seat.me.0
+            x.worker z)) served c.play-self.ensures.made));
       };
     }

@@ -1,7 +1,7 @@
 -- Why a mutator may begin, and has begun.
 use Rattle.tide_mutator.specs.Viewed.{view_of}
 use Rattle.tide_threads.proofs.Making.{HasBegun-by}
-use Rattle.tide_threads.proofs.participant.begin.Goals as goal
+use Rattle.tide_threads.proofs.calling.begin.Goals as goal
 
 pub begin-requires : goal.begin-requires
 begin-requires c = record {

@@ -1,14 +1,11 @@
--- What the loop of on_threads::participants_of keeps.
+-- What the loop of on_threads::seat_mutators keeps.
 use Rattle.std.proofs.Common.{ℕ, ◌≡◌, ◌++◌, length}
-use Rattle.std.specs.Prelude.{Some, slice_get}
 use Rattle.std.specs.Vec.Iter.{into_iter_items, into_iter_len}
 use Rattle.atomic_table.specs.Seated.{TableId}
-use Rattle.crossbeam_utils.specs.Padded.{padded_value}
-use Rattle.crossbeam_utils.specs.declared.cache_padded.CachePadded.{CachePadded}
 use Rattle.tide_table.specs.Started.{ArePasses}
-use Rattle.tide_threads.specs.OnThreads.{callers_in, IsFresh}
-use Rattle.tide_threads.specs.declared.participant.Participant.{Participant}
-use Rattle.tide_threads.proofs.on_threads.participants_of.Given as goal
+use Rattle.tide_threads.specs.Acting.{callers_in}
+use Rattle.tide_threads.specs.Fresh.{AreFresh}
+use Rattle.tide_threads.proofs.on_threads.seat_mutators.Given as goal
 
 abbrev pub invariant-loop-caller : goal.invariant-loop-caller
 invariant-loop-caller l = record {
@@ -16,7 +13,7 @@ invariant-loop-caller l = record {
   as_many : length (into_iter_items l.caller-iterator) ≡ length (into_iter_items l.rest);
   counted : into_iter_len l.rest ≡ length (into_iter_items l.rest);
   whole : l.yielded ++ into_iter_items l.caller-iterator ≡ l.fn.callers.items;
+  seated : length l.participants.items ≡ length l.yielded;
   left : (id : TableId) → ArePasses id 0 l.fn.passes.items → ArePasses id (length l.yielded) (into_iter_items l.rest);
-  fresh : (id : TableId) → ArePasses id 0 l.fn.passes.items → (who : ℕ) (padded : CachePadded Participant) →
-      slice_get l.participants.items who ≡ Some padded → IsFresh id who (padded_value padded);
+  fresh : (id : TableId) (cells : ℕ) → ArePasses id 0 l.fn.passes.items → AreFresh id (length l.fn.passes.items) cells l.participants.items;
 }

@@ -1,0 +1,16 @@
+-- Why a visitor may be made of a newcomer's pass.
+use Rattle.std.proofs.Common.{◌∙◌, sym, ap, subst}
+use Rattle.tide_machine.specs.May.{Rests}
+use Rattle.tide_machine.specs.declared.view.View.{View}
+use Rattle.tide_threads.proofs.Visiting.{Rests-newcomer}
+use Rattle.tide_threads.proofs.marking.CountingVisitor.new.Goals as goal
+
+pub new-requires : goal.new-requires
+new-requires c =
+    let (who, is) = c.requires.newcomer in record {
+      rests = subst Rests (sym is) (Rests-newcomer who);
+      parked = ap (λ (v : View). v.runs) is;
+      stays = ap (λ (v : View). v.left) is;
+      noted = ap (λ (v : View). v.begun) is ∙ sym (ap (λ (v : View). v.period) is);
+      empty = c.requires.empty;
+    }

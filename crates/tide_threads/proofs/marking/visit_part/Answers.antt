@@ -1,0 +1,42 @@
+-- Why a visitor may visit, and what it has done then.
+use Rattle.std.proofs.Common.{ℕ, ◌≤◌, ◌∙◌, refl, sym, subst, arith, inl, inr}
+use Rattle.tide_machine.specs.Visiting.{FitsIn}
+use Rattle.tide_threads.proofs.Visiting.{FitsIn-none, most_marking}
+use Rattle.tide_visitor.specs.Viewed.{view_of}
+use Rattle.tide_threads.proofs.marking.visit_part.Goals as goal
+
+pub drain-requires-clause-marks : goal.drain-requires-clause-marks
+drain-requires-clause-marks g c κs within = sym c.requires.marks ∙ c.if-marks.true
+
+pub drain-requires-clause-few : goal.drain-requires-clause-few
+drain-requires-clause-few g c κs within = (let none = c.requires.none_yet in omega (arith, none))
+
+pub drain-requires-clause-fits : goal.drain-requires-clause-fits
+drain-requires-clause-fits g c κs within =
+    subst (FitsIn c.args.heap.now.key.layout) (sym c.requires.bare) (FitsIn-none c.args.heap.now.key.layout)
+
+pub returns-then-marks : goal.returns-then-marks
+returns-then-marks g c =
+    let v = view_of c.args.visitor.now in
+    let drained = c.drain.ensures in
+    let none = c.requires.none_yet in
+    let run = c.requires.run in
+    let most = drained.most in record {
+      same = drained.same.0;
+      kept = drained.kept;
+      most = subst (λ (n : ℕ). (view_of c.drain.new.self).visits ≤ n) (most_marking v (sym c.requires.marks ∙ c.if-marks.true))
+          (omega (arith, most, none, run));
+      done = drained.done (omega (arith, none, run));
+      fits = drained.fits;
+      room = drained.room;
+    }
+
+pub returns-else-marks : goal.returns-else-marks
+returns-else-marks g c = record {
+  same = refl;
+  kept = refl;
+  most = (let none = c.requires.none_yet in omega (arith, none));
+  done = inr (inl (sym c.requires.marks ∙ c.if-marks.false));
+  fits = subst (FitsIn c.args.heap.now.key.layout) (sym c.requires.bare) (FitsIn-none c.args.heap.now.key.layout);
+  room = refl;
+}

@@ -1,0 +1,1 @@
+-- What is put at the end of the calls.

@@ -1,0 +1,1 @@
+-- What whoever acts makes of its part.

@@ -1,0 +1,61 @@
+-- Who acts in a part, and what participants have: the mutators among them their callers, and each a note that is out.
+use Rattle.std.specs.Prelude.{ℕ, ◌+◌, Bool, true, false, List, [], ◌∷◌, Option, None, Some}
+use Rattle.crossbeam_utils.specs.Padded.{padded_value}
+use Rattle.crossbeam_utils.specs.declared.cache_padded.CachePadded.{CachePadded}
+use Rattle.tide_heap.specs.Turns.{noted}
+use Rattle.tide_machine.specs.declared.view.View.{View}
+use Rattle.tide_periods.specs.declared.caller.Caller.{Caller}
+use Rattle.tide_steps.specs.declared.notes.Note.{Note}
+use Rattle.tide_threads.specs.declared.participant.Participant.{Participant}
+use Rattle.tide_threads.specs.declared.worker.Worker.{Worker}
+use Rattle.tide_threads.specs.declared.worker.Worker.TheVariants.{Mutator, Visitor}
+
+-- who has left for good: a mutator that has retired
+abbrev pub has_left : Worker → Bool
+has_left (Mutator calling) = calling.caller.retired
+has_left (Visitor counting) = false
+
+-- who makes no call any more: a mutator that has retired, and a visitor, which makes none
+abbrev pub is_silent : Worker → Bool
+is_silent (Mutator calling) = calling.caller.retired
+is_silent (Visitor counting) = true
+
+-- a mutator's caller
+abbrev pub caller_of : Worker → Option Caller
+caller_of (Mutator calling) = Some calling.caller
+caller_of (Visitor counting) = None
+
+-- how many races a visitor met in all parts
+abbrev pub races_of : Worker → ℕ
+races_of (Mutator calling) = 0
+races_of (Visitor counting) = counting.deferred
+
+-- something before others, if there is something
+abbrev pub before_all : {X : Type 0} → Option X → List X → List X
+before_all None others = others
+before_all (Some one) others = one ∷ others
+
+-- the callers of some participants: those of the mutators among them, in their order
+abbrev pub callers_in : List (CachePadded Participant) → List Caller
+callers_in [] = []
+callers_in (padded ∷ others) = before_all (caller_of (padded_value padded).worker) (callers_in others)
+
+-- the races that all of them met
+abbrev pub races_in : List (CachePadded Participant) → ℕ
+races_in [] = 0
+races_in (padded ∷ others) = races_of (padded_value padded).worker + races_in others
+
+-- what a note tells
+abbrev pub told_in : Option Note → Option View
+told_in None = None
+told_in (Some note) = Some note.seat.me.0
+
+-- what the notes of participants tell that are out, in the order of the participants
+abbrev pub notes_in : List (CachePadded Participant) → List View
+notes_in [] = []
+notes_in (padded ∷ others) = before_all (told_in (padded_value padded).note) (notes_in others)
+
+-- the collector took in notes that tell this, one after another
+abbrev pub noted_all : List View → View → View
+noted_all [] v = v
+noted_all (note ∷ notes) v = noted_all notes (noted v note)

@@ -1,0 +1,91 @@
+//! `Worker`: who acts in a part, a mutator with what it asks for, or a visitor. It knows no other.
+ghost use Rattle.std.specs.Prelude.{◌≡◌, IfOk};
+ghost use Rattle.tide_shape.specs.Lists.{lists_of};
+ghost use Rattle.tide_threads.specs.Acting.{caller_of, has_left, is_silent, races_of};
+ghost use Rattle.tide_threads.specs.Playing.{HasDoneShare, MayBeginPart};
+
+use crate::calling::CallingMutator;
+use crate::marking::CountingVisitor;
+use tide_model::{Memory, Turnstile};
+use tide_periods::Caller;
+use tide_shape::Shapes;
+use tide_table::{Heap, Note, Ticket};
+
+/// Who acts in a part.
+#[derive(Drop)]
+pub enum Worker {
+    /// It makes calls.
+    Mutator(CallingMutator),
+    /// It marks beside the mutators.
+    Visitor(CountingVisitor),
+}
+
+/// A part that was played: whether it was ended before its share was over, and the note of it.
+#[derive(Drop)]
+pub(crate) struct Played {
+    pub(crate) ended: bool,
+    pub(crate) note: Note,
+}
+
+impl Worker {
+    /// Whether it has left for good, as a mutator that has retired.
+    pub(crate) fn has_left(&self) -> bool
+        ensures { result ≡ has_left self.now }
+    {
+        match self {
+            Worker::Mutator(calling) => calling.caller.has_retired(),
+            Worker::Visitor(_) => false,
+        }
+    }
+
+    /// Whether it makes no call any more, as a mutator that has retired, and as a visitor, which makes none.
+    pub(crate) fn is_silent(&self) -> bool
+        ensures { result ≡ is_silent self.now }
+    {
+        match self {
+            Worker::Mutator(calling) => calling.caller.has_retired(),
+            Worker::Visitor(_) => true,
+        }
+    }
+
+    /// How many races it met in all parts.
+    pub(crate) fn deferred(&self) -> u64
+        ensures { result ≡ races_of self.now }
+    {
+        match self {
+            Worker::Mutator(_) => 0,
+            Worker::Visitor(counting) => counting.deferred,
+        }
+    }
+
+    /// A mutator's caller, when all is run.
+    pub(crate) fn into_caller(self) -> Option<Caller>
+        ensures { result ≡ caller_of self }
+    {
+        match self {
+            Worker::Mutator(calling) => Some(calling.into_caller()),
+            Worker::Visitor(_) => None,
+        }
+    }
+
+    /// Its part, from its ticket to its note.
+    pub(crate) fn play<T: Turnstile>(
+        &mut self,
+        heap: &Heap<Shapes>,
+        gate: &T,
+        ticket: Ticket,
+    ) -> Result<Played, Memory>
+        requires ready { MayBeginPart heap.now.table.shared.table_id heap.now.key.layout (lists_of heap.now.key.shapes)
+            ticket self.old }
+        ensures did { IfOk result (λ played. HasDoneShare heap.now.table.shared.table_id heap.now.key.layout
+            (lists_of heap.now.key.shapes) ticket.seat.me.0 self.old self.new played.note played.ended) }
+    {
+        match self {
+            Worker::Mutator(calling) => calling.play(heap, gate, ticket),
+            Worker::Visitor(counting) => {
+                let note = counting.play(heap, gate, ticket);
+                Ok(Played { ended: false, note })
+            }
+        }
+    }
+}
