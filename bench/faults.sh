@@ -1,7 +1,9 @@
 #!/usr/bin/env bash
-# Makes one call after another of the built program fail, on a workload with every operation, and tells how the runs ended.
+# Makes one call after another of the built program fail, on a workload with every operation and on some with visitors, and
+# tells how the runs ended.
 #
-# - Allocations: with 6, its line and nothing printed, or as if nothing had failed.
+# - Allocations, with and without visitors: with 6, its line and nothing printed, or as if nothing had failed.
+# - Starts of threads, with visitors, the first one, each third and all: in the same two ways.
 # - Reads, in pieces of 1, 2, 3, 7 and 4,096 bytes: with 4, its line and nothing printed.
 # - Writes, in such pieces: with 5, its line and the bytes of the writes before.
 # - Reads and writes that are interrupted, 99 times each: as if nothing had been.
@@ -24,6 +26,7 @@ cat > "$folder/fails.c" <<'END'
 #define _GNU_SOURCE
 #include <dlfcn.h>
 #include <errno.h>
+#include <pthread.h>
 #include <stdlib.h>
 #include <unistd.h>
 
@@ -35,9 +38,8 @@ static long told(const char *name) {
 
 // Counts the calls that ask for memory, and refuses the one whose number stands in ALLOCATION.
 static int is_refused(void) {
-    static long count, fails;
-    if (!fails) fails = told("ALLOCATION");
-    if (++count != fails) return 0;
+    static long count;
+    if (__atomic_add_fetch(&count, 1, __ATOMIC_SEQ_CST) != told("ALLOCATION")) return 0;
     errno = ENOMEM;
     return 1;
 }
@@ -83,6 +85,14 @@ void *aligned_alloc(size_t align, size_t size) {
     return is_refused() ? 0 : real(align, size);
 }
 
+// Fails at the start whose number stands in START, and at each one whose number is a multiple of what stands in STARTS.
+int pthread_create(pthread_t *thread, const pthread_attr_t *how, void *(*what)(void *), void *with) {
+    NEXT(pthread_create);
+    static long count;
+    long number = __atomic_add_fetch(&count, 1, __ATOMIC_SEQ_CST);
+    return number == told("START") || number % told("STARTS") == 0 ? EAGAIN : real(thread, how, what, with);
+}
+
 ssize_t read(int from, void *to, size_t size) {
     NEXT(read);
     static long count;
@@ -99,14 +109,15 @@ ssize_t write(int to, const void *from, size_t size) {
 END
 gcc -shared -fPIC -O1 -o "$folder/fails.so" "$folder/fails.c" -ldl || exit 2
 
-run() {
-    LD_PRELOAD=$folder/fails.so "$program" < "$data/each_operation.toml" > "$folder/out" 2> "$folder/err"
+# The program on a workload, with these words.
+run() { # NAME WORD..
+    LD_PRELOAD=$folder/fails.so "$program" "${@:2}" < "$data/$1.toml" > "$folder/out" 2> "$folder/err"
 }
 
-# The run ended with the status and the line, and printed so many first bytes of the text.
-ended() { # STATUS LINE BYTES
-    [ "$status" = "$1" ] && [ "$(cat "$folder/err")" = "$2" ] && [ "$(wc -c < "$folder/out")" = "$3" ] &&
-        cmp -s -n "$3" "$folder/out" "$data/each_operation.txt"
+# The run of a workload ended with the status and the line, and printed so many first bytes of its text.
+ended() { # NAME STATUS LINE BYTES
+    [ "$status" = "$2" ] && [ "$(cat "$folder/err")" = "$3" ] && [ "$(wc -c < "$folder/out")" = "$4" ] &&
+        cmp -s -n "$4" "$folder/out" "$data/$1.txt"
 }
 
 wrong=0
@@ -115,54 +126,84 @@ otherwise() { # WHAT
     wrong=$((wrong + 1))
 }
 
-text=$(wc -c < "$data/each_operation.txt")
-input=$(wc -c < "$data/each_operation.toml")
+size() { # NAME
+    wc -c < "$data/$1.txt"
+}
 
-# Once 200 numbers in a row make no difference, the run has no so many allocations.
-refused=0
-survived=0
-since=0
-for ((number = 1; since < 200 && number <= most; number++)); do
-    ALLOCATION=$number run
-    status=$?
-    since=$((since + 1))
-    if ended 6 'riptide: no memory' 0; then
-        refused=$((refused + 1))
-        survived=$((survived + since - 1))
-        since=0
-    elif ! ended 0 '' "$text"; then
-        otherwise "allocation $number"
-    fi
-done
-echo "allocations: $refused failed with status 6, $survived with no difference"
+# Refuses one allocation after another of such a run. Once 200 numbers in a row make no difference, it has no so many.
+allocations() { # NAME WORD..
+    local refused=0 survived=0 since=0 number
+    for ((number = 1; since < 200 && number <= most; number++)); do
+        ALLOCATION=$number run "$@"
+        status=$?
+        since=$((since + 1))
+        if ended "$1" 6 'riptide: no memory' 0; then
+            refused=$((refused + 1))
+            survived=$((survived + since - 1))
+            since=0
+        elif ! ended "$1" 0 '' "$(size "$1")"; then
+            otherwise "$*, allocation $number"
+        fi
+    done
+    echo "$*: $refused allocations failed with status 6, $survived with no difference"
+}
+
+# Refuses starts of threads of such a run: the first, each third, and all.
+starts() { # NAME WORD..
+    local refused=0 served=0 which
+    for which in START=1 STARTS=3 STARTS=1; do
+        (export "${which?}"; run "$@")
+        status=$?
+        if ended "$1" 6 'riptide: no memory' 0; then
+            refused=$((refused + 1))
+        elif ended "$1" 0 '' "$(size "$1")"; then
+            served=$((served + 1))
+        else
+            otherwise "$*, $which"
+        fi
+    done
+    echo "$*, without the first start of a thread, each third, and all: $refused failed with status 6, $served with no difference"
+}
+
+allocations each_operation
+allocations stored --visitors 8
+allocations raced_transition_is_deferred --visitors 1
+allocations raced_transition_is_deferred --visitors 8
+starts stored --visitors 8
+starts lost_object_is_kept --visitors 3
+starts raced_transition_is_deferred --visitors 1
+starts raced_transition_is_deferred --visitors 8
+
+text=$(size each_operation)
+input=$(wc -c < "$data/each_operation.toml")
 
 for piece in 1 2 3 7 4096; do
     reads=$(((input + piece - 1) / piece))
     [ "$reads" -gt "$most" ] && reads=$most
     for ((number = 1; number <= reads; number++)); do
-        PIECE=$piece READ=$number run
+        PIECE=$piece READ=$number run each_operation
         status=$?
-        ended 4 'riptide: read fault' 0 || otherwise "read $number of $piece"
+        ended each_operation 4 'riptide: read fault' 0 || otherwise "read $number of $piece"
     done
     writes=$(((text + piece - 1) / piece))
     [ "$writes" -gt "$most" ] && writes=$most
     for ((number = 1; number <= writes; number++)); do
-        PIECE=$piece WRITE=$number run
+        PIECE=$piece WRITE=$number run each_operation
         status=$?
-        ended 5 'riptide: write fault' $((piece * (number - 1))) || otherwise "write $number of $piece"
+        ended each_operation 5 'riptide: write fault' $((piece * (number - 1))) || otherwise "write $number of $piece"
     done
-    PIECE=$piece run
+    PIECE=$piece run each_operation
     status=$?
-    ended 0 '' "$text" || otherwise "pieces of $piece"
+    ended each_operation 0 '' "$text" || otherwise "pieces of $piece"
     echo "pieces of $piece: $reads reads and $writes writes that fail"
 done
 
-INTERRUPTED=99 run
+INTERRUPTED=99 run each_operation
 status=$?
-ended 0 '' "$text" || otherwise 'interrupted 99 times'
-INTERRUPTED=100 run
+ended each_operation 0 '' "$text" || otherwise 'interrupted 99 times'
+INTERRUPTED=100 run each_operation
 status=$?
-ended 4 'riptide: read fault' 0 || otherwise 'interrupted 100 times'
+ended each_operation 4 'riptide: read fault' 0 || otherwise 'interrupted 100 times'
 
 echo "$wrong runs ended otherwise than expected"
 exit "$((wrong > 0))"

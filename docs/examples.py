@@ -8,7 +8,7 @@
 - A table with the columns Operation, Printed and Why has one row for each call of the workload that the link before it
   names, in order.
 - A printed call, as `drop r2 = ok`, and a printed count, as `live 1`, is a line of some workload's text.
-- The blocks of docs/READING-A-RUN.md are the text of one workload, in order.
+- The blocks of docs/READING-A-RUN.md are the texts of two workloads, in order.
 - In docs/WHY.md a block of text says what bench/why.py prints of that page's workload with the lines that it begins with,
   or of what the command behind its `$` prints; and each line that WORKLOAD.md tells of a refused file is in one of them.
   That the lines with which it ends mend it, bench/why_test.py tests.
@@ -75,11 +75,11 @@ def blocks_differ(name, page):
             path = None
 
 
-def walk_differs(name, stem):
-    """The blocks of a page that leads through a run are its text."""
+def walk_differs(name, *stems):
+    """The blocks of a page that leads through runs are their texts, one after another."""
     shown = "".join(text for language, text in blocks((TOP / name).read_text()) if language == "")
-    if shown != (DATA / "workloads" / f"{stem}.txt").read_text():
-        yield f"{name}: its blocks aren't the text of {stem}"
+    if shown != "".join((DATA / "workloads" / f"{stem}.txt").read_text() for stem in stems):
+        yield f"{name}: its blocks aren't the texts of {' and '.join(stems)}"
 
 
 def summaries_differ(name, page):
@@ -193,7 +193,7 @@ def paths_differ():
 
 def main():
     differ = 0
-    walk = walk_differs("docs/READING-A-RUN.md", "page_with_listeners")
+    walk = walk_differs("docs/READING-A-RUN.md", "page_with_listeners", "raced_transition_is_deferred")
     for message in (*paths_differ(), *walk, *mistakes_differ("docs/WHY.md"), *forms_differ("docs/WORKLOAD.md")):
         differ = 1
         print(message)

@@ -8,14 +8,16 @@ The two are run TIMES times (21) on each workload, in turn, and medians count: o
 the processor, user and system, and of the ratios of two runs that stood side by side. A ratio holds within one run of
 this script alone; where other work runs beside, the clock tells of that work too.
 
-- `--make 7` is the generated workload: four mutators, 80,004 calls, 16,000 cells.
+- `--make 7` is the generated workload: four mutators, 80,004 calls, 16,000 cells. With visitors it is run beside the twin
+  with as many.
 - `four` is the same as a file, whose text is printed, and `one` is the first of its mutators alone.
 - What a file takes but for its reading is what it takes longer than reading it alone: PROGRAM reads all of a file whose last
   operation is none, and refuses it, and the twin ends there with `--read`.
 - `properties` and `ephemerons` are of four mutators, 65,536 calls in all: each gives cells of its own two properties, writes
   one and reads one, or makes tables, gives each a pair whose key its register keeps, and reads it.
 - N mutators make 65,536 calls without any cell, in parts of 4 for each. What a part costs is what such a run takes longer
-  than one of the same calls in a single part, by the number of parts more.
+  than one of the same calls in a single part, by the number of parts more. Visitors that are started for a part in which
+  nothing is marked cost what their threads do: four mutators beside 0, 1, 3 and 8 of them.
 
 It ends with 1 where a summary or, of one mutator, a text differs from the twin's.
 """
@@ -124,17 +126,17 @@ def but_for_reading(name, program, twin, words, path, refused, times):
     print(f"| {name}, but for its reading | {'turns' if words else 'threads'} | " + " | ".join(cells) + " |", flush=True)
 
 
-def hand_over(program, twin, room, count, times):
-    """Prints what a part of so many mutators costs."""
-    cells, parts = [], 16384 // count
+def hand_over(program, twin, room, count, visitors, times):
+    """Prints what a part of so many mutators and visitors costs."""
+    cells, parts, beside_them = [], 16384 // count, ["--visitors", str(visitors)]
     paths = [os.path.join(room, f"{period}.toml") for period in (4, 65536)]
     for path, period in zip(paths, (4, 65536)):
         write(path, period, 0, [["move r0 r1"] * (65536 // count)] * count)
-    many, few = [beside([[program], [twin]], path, times) for path in paths]
+    many, few = [beside([[program, *beside_them], [twin, *beside_them]], path, times) for path in paths]
     for at in (0, 1):
         for one, other in zip(many, few):
             cells.append("%.1f" % (1e6 * (median(run[at] for run in one) - median(run[at] for run in other)) / parts))
-    print(f"| {count} | " + " | ".join(cells) + " |", flush=True)
+    print(f"| {count} | {visitors} | " + " | ".join(cells) + " |", flush=True)
 
 
 def main():
@@ -150,6 +152,11 @@ def main():
             commands = [[program, "--make", "7"], [twin, *words, "--make", "7"]]
             row("`--make 7` | " + ("turns" if words else "threads"), *beside(commands, os.devnull, times))
             differing |= said(commands[0], os.devnull) != said(commands[1], os.devnull)
+        for visitors in ("1", "3", "8"):
+            words = ["--visitors", visitors, "--make", "7"]
+            commands = [[program, *words], [twin, *words]]
+            row(f"`--make 7`, {visitors} visitors | threads", *beside(commands, os.devnull, times))
+            differing |= said(commands[0], os.devnull) != said(commands[1], os.devnull)
         for name, count, words in (("four", 4, []), ("one", 1, []), ("one", 1, ["--turns"])):
             write(path, 64, 1000, [rounds(7, mutator) for mutator in range(count)])
             row(f"{name} | " + ("turns" if words else "threads"), *beside([[program], [twin, *words]], path, times))
@@ -164,10 +171,10 @@ def main():
             write(refused, 64, 1000, [*scripts[:3], scripts[3] + ["none"]], 64, 64)
             but_for_reading(name, program, twin, [], path, refused, times)
         print()
-        print("| Mutators | A part by the clock, microseconds | Twin | Of the processor | Twin |")
-        print("|---|---|---|---|---|")
-        for count in (1, 4, 16):
-            hand_over(program, twin, room, count, max(3, times // 3))
+        print("| Mutators | Visitors | A part by the clock, microseconds | Twin | Of the processor | Twin |")
+        print("|---|---|---|---|---|---|")
+        for count, visitors in ((1, 0), (4, 0), (4, 1), (4, 3), (4, 8), (16, 0), (16, 8)):
+            hand_over(program, twin, room, count, visitors, max(3, times // 3))
     return int(differing)
 
 

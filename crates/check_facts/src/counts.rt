@@ -22,6 +22,8 @@ pub struct Counts {
     full: [u64; 2],
     cycles: u64,
     freed: u64,
+    /// Races that visitors met: cells that mutators changed while a visitor scanned them.
+    races: u64,
     /// How many texts each way changed.
     changed: [u64; 6],
 }
@@ -37,6 +39,7 @@ impl Counts {
             full: [0; 2],
             cycles: 0,
             freed: 0,
+            races: 0,
             changed: [0; 6],
         }
     }
@@ -85,6 +88,11 @@ impl Counts {
         self.freed = self.freed.saturating_add(told.freed.len() as u64);
     }
 
+    /// Counts the races that the visitors of a run met.
+    pub fn take_races(&mut self, races: u64) {
+        self.races = self.races.saturating_add(races);
+    }
+
     /// Counts a text that was changed in this way.
     pub fn take_changed(&mut self, way: Way) {
         let place = way as usize;
@@ -97,7 +105,7 @@ impl Counts {
     }
 
     /// The numbers, each with what stands behind it in a line.
-    fn numbers(&self) -> [(u64, &'static str); 9] {
+    fn numbers(&self) -> [(u64, &'static str); 10] {
         let [cells, arrays] = self.full;
         [
             (self.calls, " calls, "),
@@ -108,7 +116,8 @@ impl Counts {
             (cells, " calls refused for cells, "),
             (arrays, " for arrays, "),
             (self.cycles, " cycles, "),
-            (self.freed, " cells freed"),
+            (self.freed, " cells freed, "),
+            (self.races, " races of visitors"),
         ]
     }
 

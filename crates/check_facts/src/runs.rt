@@ -1,4 +1,5 @@
-//! Runs of drawn workloads on threads, whose texts are judged.
+//! Runs of drawn workloads on threads, beside visitors, whose texts are judged.
+ghost use Rattle.std.specs.Prelude.{◌≤◌};
 
 use crate::counts::Counts;
 use crate::doctored::{WAYS, Way};
@@ -38,6 +39,7 @@ fn is_held(
 ) -> Result<bool, AllocError> {
     let told = Facts::of(alloc, outcome)?;
     counts.take(&told);
+    counts.take_races(outcome.deferred());
     told.hold(alloc, load)
 }
 
@@ -65,14 +67,24 @@ fn load_of(alloc: Global, files: [&str; 2], seed: u64) -> Result<Option<Workload
     }
 }
 
-/// Runs a workload, and answers whether its text is judged as expected.
+/// How many visitors the run of a seed has: 0 to 8, one more from each seed to the next.
+fn visitors_of(seed: u64) -> u8
+    ensures { result ≤ 8 }
+{
+    (seed % 9) as u8
+}
+
+/// Runs a workload beside so many visitors, and answers whether its text is judged as expected.
 fn is_run_so<R: Threads + Sync>(
     rt: &R,
     alloc: Global,
     load: &Workload,
+    visitors: u8,
     counts: &mut Counts,
-) -> Result<bool, AllocError> {
-    match run(rt, alloc, load, 0, &FreePass) {
+) -> Result<bool, AllocError>
+    requires { visitors ≤ 8 }
+{
+    match run(rt, alloc, load, visitors, &FreePass) {
         Ok(outcome) => is_judged_so(alloc, load, &outcome, counts),
         Err(_) => Err(AllocError),
     }
@@ -87,7 +99,7 @@ fn is_seed_so<R: Threads + Sync>(
     counts: &mut Counts,
 ) -> Result<bool, AllocError> {
     match load_of(alloc, files, seed)? {
-        Some(load) => is_run_so(rt, alloc, &load, counts),
+        Some(load) => is_run_so(rt, alloc, &load, visitors_of(seed), counts),
         None => Ok(false),
     }
 }

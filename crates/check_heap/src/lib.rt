@@ -1,5 +1,5 @@
-//! What the libraries of checks share: the rows of a text, the text of layouts, numbers and replies, and heaps in words that
-//! are written a fact at a time.
+//! What the libraries of checks share: the rows of a text, the text of layouts, numbers and replies, heaps in words that are
+//! written a fact at a time, and a turnstile that holds.
 //!
 //! A row is a name and lines, each of which is something to do, with the answer that is expected of it. What does them is an
 //! `Answers`; it never sees what is expected. What a check has to tell it puts at the end of a text, its `findings`. The library
@@ -9,8 +9,10 @@
 mod draw;
 mod fact;
 mod heap;
+mod holds;
 mod labelled;
 mod places;
+mod point;
 mod reading;
 mod reply;
 mod rows;
@@ -19,8 +21,10 @@ mod texts;
 pub use draw::Draw;
 pub use fact::{pair_text, region_of, value_of, word_of, word_text};
 pub use heap::Heap;
+pub use holds::Holds;
 pub use labelled::label_text;
 pub use places::{place_of_element, place_of_slot, place_of_word};
+pub use point::Point;
 pub use reading::{
     behind, large_number, large_numbers, layout_of, number, numbers, pair_of_numbers, small_number,
     words_of,

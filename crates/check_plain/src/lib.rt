@@ -13,7 +13,9 @@ mod shapes;
 mod trial;
 
 use check_heap::check_rows;
+pub use op::{numbered_keys, op_in};
 use shapes::Declared;
+pub use shapes::shapes_from;
 use std::alloc::{AllocError, Global};
 use trial::Trial;
 

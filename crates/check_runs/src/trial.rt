@@ -1,26 +1,27 @@
 //! A run whose source and sinks give and take ten bytes a call, and fail where they are told to, and whose participants are held
 //! where they are told to.
 //!
-//! The lines of a row: `workload NAME` or `document LINE` is what there is to read, `text NAME` what is to be printed where
-//! that isn't the workload's text (a NAME is one of the shelf, `shelf.rt`), `words WORDS` are those of the command line, which is `riptide` alone where none are given
-//! (`''` is the empty word); `reads fail CALLS`, `prints fail CALLS` and `tells fail CALLS` say which calls fail, from 0, and
-//! `room BYTES` how much may be printed. `hold POINT until POINT` holds a participant at a point until another has come to one;
-//! a point is the participant's number, a visitor's being 16 plus its own, `call` with the number of its call from 0, or another
-//! place with a cell, as `linked` or `scanned` (`holds.rt`). Then
+//! The lines of a row: `workload NAME` or lines `document LINE` are what there is to read, `text NAME` what is to be printed
+//! where that isn't the workload's text (a NAME is one of the shelf, `shelf.rt`), `words WORDS` are those of the command line,
+//! which is `riptide` alone where none are given (`''` is the empty word); `pieces BYTES` says how many bytes are given and
+//! taken a call, `reads fail CALLS`, `prints fail CALLS` and `tells fail CALLS` which calls fail, from 0, and `room BYTES` how
+//! much may be printed. `hold POINT until POINT` holds a participant at a point until another has come to one, in each of the
+//! runs below it: what a point is stands in the README of `check_heap`. Then
 //!
 //! - `run` is answered with the status, and with an outcome where there is one; `run short of room` with `write faults` where
 //!   each room less than the text needs ends with one, and with as many first bytes of the text;
 //! - `printed` is answered with how much of the workload's text was: `all`, `nothing` or so many first bytes, `told` with the
 //!   line on the error output, and `, cut off` where it has no end; `left` with how many bytes weren't read, or `all`;
-//! - `held` is answered with the numbers of the holds that were kept, from 0;
+//! - `held` is answered with the numbers of the holds that were kept in the last run, from 0;
 //! - `plain` and `in threads` run the workload by `plain` and `run`, the second also `with N visitors`, and are answered with
 //!   its calls, its cycles, what lives then and how many races were met.
+//!
+//! A run in which a hold was given up is answered with that besides, so that no row that says nothing of it passes.
 
 use crate::ending::Ending;
-use crate::holds::Holds;
 use crate::outcomes::{in_threads, in_turn};
 use crate::shelf::Shelf;
-use check_heap::{large_number, large_numbers, number, number_between, number_text, text};
+use check_heap::{Holds, large_number, large_numbers, number, number_between, number_text, text};
 use std::alloc::{AllocError, Global};
 use std::marker::Sync;
 use std::thread::Threads;
@@ -47,6 +48,8 @@ pub struct Trial<'a> {
     printed: Vec<u8>,
     words: Vec<String>,
     faults: Faults,
+    /// How many bytes the source gives and each sink takes a call, at least one.
+    piece: usize,
     room: usize,
     holds: Holds,
     ended: Option<Ending>,
@@ -64,10 +67,10 @@ fn command_line(alloc: Global, words: &[&str]) -> Result<Vec<String>, AllocError
     Ok(all)
 }
 
-/// An empty sink with so much room, which takes ten bytes a call, and whose calls with these numbers fail.
-fn sink(alloc: Global, room: usize, fails: &[u64]) -> Result<MemSink, AllocError> {
+/// An empty sink with so much room, which takes a piece a call, and whose calls with these numbers fail.
+fn sink(alloc: Global, room: usize, piece: usize, fails: &[u64]) -> Result<MemSink, AllocError> {
     let fails = fails.to_vec(alloc)?;
-    match MemSink::new(alloc, room, 10, fails) {
+    match MemSink::new(alloc, room, piece.max(1), fails) {
         Ok(sink) => Ok(sink),
         Err(_) => Err(AllocError),
     }
@@ -117,6 +120,7 @@ impl<'a> Trial<'a> {
             printed: Vec::new(alloc),
             words,
             faults: Faults::none(alloc),
+            piece: 10,
             room: 10_000,
             holds: Holds::none(alloc),
             ended: None,
@@ -143,12 +147,15 @@ impl<'a> Trial<'a> {
         Ok(true)
     }
 
-    /// Takes a line of a document.
+    /// Takes a line of a document, of words with a space between.
     fn take_line(&mut self, line: &[&str]) -> Result<bool, AllocError> {
+        let mut space = "";
         for word in line {
+            self.document.extend_from_slice(space.as_bytes())?;
             self.document.extend_from_slice(word.as_bytes())?;
-            self.document.push(b' ')?;
+            space = " ";
         }
+        self.document.push(b'\n')?;
         Ok(true)
     }
 
@@ -168,6 +175,12 @@ impl<'a> Trial<'a> {
         Some(())
     }
 
+    /// Takes how many bytes are given and taken a call.
+    fn set_piece(&mut self, piece: &str) -> Option<()> {
+        self.piece = large_number(piece)? as usize;
+        Some(())
+    }
+
     /// Takes the words of the command line.
     fn set_words(&mut self, alloc: Global, words: &[&str]) -> Result<Option<()>, AllocError> {
         self.words = command_line(alloc, words)?;
@@ -179,6 +192,7 @@ impl<'a> Trial<'a> {
         match words {
             [who, "fail", calls @ ..] => self.faults.set(alloc, who, calls),
             ["room", room] => Ok(self.set_room(room)),
+            ["pieces", piece] => Ok(self.set_piece(piece)),
             ["words", words @ ..] => self.set_words(alloc, words),
             ["hold", words @ ..] => self.holds.add(words),
             _ => Ok(None),
@@ -192,7 +206,7 @@ impl<'a> Trial<'a> {
     fn source(&self, alloc: Global) -> Result<MemSource, AllocError> {
         let document = self.document.as_slice().to_vec(alloc)?;
         let reads = self.faults.reads.as_slice().to_vec(alloc)?;
-        Ok(MemSource::new(document, 10, reads))
+        Ok(MemSource::new(document, self.piece.max(1), reads))
     }
 
     /// Runs the program on what a source gives, with so much room to print.
@@ -203,9 +217,10 @@ impl<'a> Trial<'a> {
         source: &mut MemSource,
         room: usize,
     ) -> Result<Ending, AllocError> {
-        let out = sink(alloc, room, self.faults.prints.as_slice())?;
-        let err = sink(alloc, TOLD, self.faults.tells.as_slice())?;
+        let out = sink(alloc, room, self.piece, self.faults.prints.as_slice())?;
+        let err = sink(alloc, TOLD, self.piece, self.faults.tells.as_slice())?;
         let words = self.words.as_slice();
+        self.holds.begin();
         Ok(Ending::over(rt, alloc, words, source, out, err, &self.holds))
     }
 
@@ -214,9 +229,9 @@ impl<'a> Trial<'a> {
         let mut source = self.source(alloc)?;
         let ended = self.run(rt, alloc, &mut source, self.room)?;
         self.left = left_of(alloc, &mut source);
-        let answer = ended.status_text(alloc);
+        let status = ended.status_text(alloc)?;
         self.ended = Some(ended);
-        answer
+        self.holds.answered(alloc, status)
     }
 
     /// Whether the program ends with a write fault where there is just room for this first part of its text.
@@ -256,8 +271,9 @@ impl<'a> Trial<'a> {
     ) -> Result<Option<String>, AllocError> {
         match number(visitors) {
             Some(count) if count <= 8 => {
-                let answer = in_threads(rt, alloc, load, count as u8, &self.holds)?;
-                Ok(Some(answer))
+                self.holds.begin();
+                let outcome = in_threads(rt, alloc, load, count as u8, &self.holds)?;
+                Ok(Some(self.holds.answered(alloc, outcome)?))
             }
             _ => Ok(None),
         }
@@ -271,15 +287,14 @@ impl<'a> Trial<'a> {
         load: &Workload,
         words: &[&str],
     ) -> Result<Option<String>, AllocError> {
-        let answer = match words {
-            ["plain"] => in_turn(alloc, load)?,
-            ["in", "threads"] => in_threads(rt, alloc, load, 0, &self.holds)?,
+        match words {
+            ["plain"] => Ok(Some(in_turn(alloc, load)?)),
+            ["in", "threads"] => self.run_beside(rt, alloc, load, "0"),
             ["in", "threads", "with", visitors, "visitors"] => {
-                return self.run_beside(rt, alloc, load, visitors);
+                self.run_beside(rt, alloc, load, visitors)
             }
-            _ => return Ok(None),
-        };
-        Ok(Some(answer))
+            _ => Ok(None),
+        }
     }
 
     /// Runs what is to be read by itself, if it is a workload.

@@ -4,6 +4,7 @@ use Rattle.std.proofs.lemmas.Bool.{eqb-true}
 use Rattle.std.specs.Prelude.{◌==◌, if◌then◌else◌}
 use Rattle.check_callers.specs.Working.{IsReady, Stays}
 use Rattle.check_table.specs.Unvisited.{RunsPart}
+use Rattle.tide_table.proofs.Nexts.{RunsWith-noted}
 use Rattle.tide_table.specs.Standing.{HasOpenedNext}
 use Rattle.tide_table.specs.VisitsTold.{unentered}
 use Rattle.check_table.specs.Pairs.{HasOpened, HaveBegun, HaveCalled, HaveStopped, SameCalls, gone_if}
@@ -150,12 +151,7 @@ nothing_more false visits unentered none is = omega (arith, is)
 pub noted_runs : (layout : Layout) (books : Books) (c v : View) → v.visits ≡ 0 → RunsPart layout books c →
     RunsPart layout books (noted c (note_of true (stopped_view v)))
 noted_runs layout books c v none runs = record {
-  part = record {
-    runs = record { running = runs.part.runs.running; period = runs.part.runs.period; run = runs.part.runs.run; ends = runs.part.runs.ends };
-    few = runs.part.few;
-    numbered = runs.part.numbered;
-    are = runs.part.are;
-  };
+  part = RunsWith-noted layout books c (note_of true (stopped_view v)) runs.part;
   unvisited = nothing_more (v.begun == c.period) v.visits (unentered c.visited) none runs.unvisited;
 }
 

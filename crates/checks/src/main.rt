@@ -9,16 +9,19 @@
 //! - `facts SETTINGS MEETINGS SEED COUNT`: the texts of so many workloads, from this seed on, which are drawn from these files,
 //!   and judged (`check_facts`).
 //! - `counts SETTINGS MEETINGS SEED COUNT`: the same, and tells how much the texts had.
-//! - `runs ROWS WORKLOADS MADE`: rows of runs whose source and sinks fail where they are told to, and whose mutators are held
-//!   where they are told to, of the workloads of a list, and of the generated one whose summary is MADE (`check_runs`).
+//! - `runs ROWS WORKLOADS MADE`: rows of runs whose source and sinks fail where they are told to, and whose participants are
+//!   held where they are told to, of the workloads of a list, and of the generated one whose summary is MADE (`check_runs`).
+//! - `drains ROWS`: rows of cycles that a visitor marks beside a mutator (`check_drains`).
 //! - `ways WORKLOADS`: a list of workloads, each of which comes to the same each way that it is run (`check_runs`).
 //! - `ends ROWS`: rows of sources and sinks alone (`check_ends`).
 //! - `embed`: two mutators on a heap of their own, each of which finds what it stored (`embed_heap`).
+//! - `embed visitor`: a cycle that a visitor marks beside a mutator, and what it keeps (`embed_visitor`).
 //!
 //! Of each check it prints what ended otherwise than expected, once the check is over, and then a line. Where one was not
 //! as expected, the status is 1. The workloads and the refused documents of its folder `data` are run by `.ci/workloads`.
 #![tactic(auto)]
 
+use check_drains::check_drains;
 use check_ends::Ends;
 use check_facts::check_facts;
 use check_heap::{check_rows, joined, text, words_of};
@@ -27,6 +30,7 @@ use check_plain::check_plain;
 use check_runs::{Shelf, check_runs, check_ways};
 use check_table::check_table;
 use embed_heap::both_find_seven;
+use embed_visitor::four_are_kept;
 use std::alloc::{AllocError, Global};
 use std::marker::Sync;
 use std::process::ExitCode;
@@ -102,11 +106,13 @@ fn check_words<R: Runtime + AllocGlobal + Threads + Sync>(
             Ok(all)
         }
         ["runs", rows, list, made] => check_rows_of_runs(rt, findings, rows, list, made),
+        ["drains", rows] => Ok(check_drains(rt, alloc, findings, rows)?),
         ["ways", list] => {
             let shelf = shelf_of(rt, list)?;
             Ok(check_ways(rt, alloc, findings, &shelf, list)?)
         }
         ["embed"] => Ok(both_find_seven(rt, alloc)),
+        ["embed", "visitor"] => Ok(four_are_kept(rt, alloc)),
         _ => Ok(check_without_system(alloc, findings, words)?),
     }
 }

@@ -157,6 +157,8 @@ pub record Freezes (layout : Layout) (shapes : ShapeLists) (v w : View) : Type 0
   -- the Stopped word of each whose note is in is the number of the part
   pub stops : (i : ℕ) → IsParty layout i → In i v.notes →
       heap_of layout words region.Stopped (kind.index_of_stopped layout i) ≡ v.period
+  -- a cycle marks if one did when the part was opened: nobody's step begins or ends one
+  pub marks : v.marks ≡ is_marking (heap_of layout words)
   -- where a cycle marks, there are visitors and each note says that its participant has done its part, one made a cell
   -- black
   pub progress : v.marks ≡ true → 0 < layout.visitors → v.done ≡ true → 0 < v.ledger

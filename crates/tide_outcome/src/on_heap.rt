@@ -1,4 +1,5 @@
-//! A workload's heap that its mutators share, and running the workload on it, each mutator on a thread of its own.
+//! A workload's heap that its mutators and visitors share, and running the workload on it, each of them on a thread of
+//! its own.
 ghost use Rattle.std.specs.Prelude.{◌≡◌, ◌≤◌, [], true, IfOk};
 ghost use Rattle.tide_outcome.specs.Runs.{AreScripts, IsRunOf, setting_of_work};
 ghost use Rattle.tide_periods.specs.Asking.{scripts_of};

@@ -31,8 +31,8 @@ trigger_for options work = if options.plain then 0 else work.settings.trigger
 abbrev pub visitors_for : Options → ℕ
 visitors_for options = if options.plain then 0 else options.visitors
 
--- The run is one of the workload that the options ask for, with as many visitors. A heap that threads shared kept its history just where the
--- options don't ask for the plain store.
+-- The run is one of the workload that the options ask for, with as many visitors. A heap that threads shared kept its
+-- history just where the options don't ask for the plain store.
 pub record RanAsked (asked : Option Options) (old new : Option (List ℕ)) (ran : Ran) : Type 0 where
   pub options : Options
   pub are_asked : asked ≡ Some options

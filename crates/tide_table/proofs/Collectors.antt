@@ -50,7 +50,9 @@ use Rattle.tide_heap.specs.Parties.{In, IsParty, longer, tally}
 use Rattle.tide_heap.specs.Rule.{AgreesOnPart, MemberOk, NoteOk, IsFrozen, IsRunning, Tabled}
 use Rattle.tide_heap.specs.Turns.{calls_of, ticket_of, noted, frozen_with, restored, entered_with, open_entry, opened}
 use Rattle.tide_words.proofs.heap_laws.HeapLaws.{reads_write, Reads-heap_of}
+use Rattle.tide_words.specs.forms.ColourWord.{marks_by}
 use Rattle.tide_words.specs.heap.Heap.{Heap, SameIn, write, Reads, heap_of}
+use Rattle.tide_words.specs.marking.Colours.{is_marking}
 use lib.ListN.{get_elem?}
 use mathlib.Core.Option.{some}
 
@@ -239,6 +241,7 @@ module _ (layout : Layout) (shapes : ShapeLists) (words : List ℕ) (views : Lis
       × (v.marks ≡ true → 0 < layout.visitors → v.done ≡ true → 0 < v.ledger)
       × ((i : ℕ) → IsParty layout i → In i v.notes →
       heap_of layout words region.Stopped (index_of_stopped layout i) ≡ v.period)
+      × (v.marks ≡ is_marking (heap_of layout words))
   freeze_all thawed all_in =
       let run = running_mode thawed in
       let seen = all_seen all_in in
@@ -305,6 +308,7 @@ module _ (layout : Layout) (shapes : ShapeLists) (words : List ℕ) (views : Lis
         progress_told all_in run,
         λ i party a. run.reads.each region.Stopped (index_of_stopped layout i) (stop_within layout i party)
             ∙ run.wave.stops i party ∙ (ok_of layout shapes words views log me v k there is i party).halted a,
+        run.marks ∙ sym (ap marks_by (run.reads.each region.Phase 0 (omega arith))),
       )
 
   -- a store of the collector while frozen

@@ -9,4 +9,5 @@ pub mod Starting
 pub mod Nexts
 pub mod Openings
 pub mod Standing
+pub mod Telling
 pub mod Visits

@@ -1,12 +1,12 @@
 -- From a freeze to the next part, whose numbers these are.
-use Rattle.std.proofs.Common.{ℕ, ◌≡◌, ◌+◌, ◌<◌, ◌≤◌, ◌^◌, refl, sym, ◌∙◌, ap, subst, arith, true, false, List, [], ◌∷◌, ◌++◌}
-use Rattle.std.specs.Prelude.{if◌then◌else◌, Bool}
+use Rattle.std.proofs.Common.{ℕ, ◌≡◌, ◌+◌, ◌<◌, ◌^◌, refl, sym, ◌∙◌, ap, subst, arith, List, [], ◌∷◌, ◌++◌}
+use Rattle.std.specs.Prelude.{Bool}
 use Rattle.tide_freeze.proofs.BookLaws.{AddsEnds-same, AddsEnds-then}
 use Rattle.tide_freeze.proofs.RunningLaws.{open_keeps_books}
 use Rattle.tide_freeze.specs.Books.{AddsEnds, AreBooks, WereKept}
-use Rattle.tide_freeze.specs.Entering.{with_entry}
+use Rattle.tide_freeze.specs.Freezing.{HasFrozenWhole}
 use Rattle.tide_freeze.specs.declared.books.Books.{Books}
-use Rattle.tide_heap.specs.Turns.{Freezes, opened}
+use Rattle.tide_heap.specs.Turns.{Freezes, noted, opened}
 use Rattle.tide_machine.specs.declared.view.View.{View}
 use Rattle.tide_model.proofs.Histories.{push_cases}
 use Rattle.tide_model.proofs.PeriodLaws.{Each-nil, EndsInTime-other}
@@ -24,8 +24,10 @@ use Rattle.tide_freeze.proofs.BookLaws.{ends_in-part}
 use Rattle.tide_report.specs.Ends.{ends_in}
 use Rattle.tide_report.specs.Reports.{Reported}
 use Rattle.tide_sched.proofs.RunLaws.{last_run-opened}
+use Rattle.tide_sched.specs.Paces.{last_run}
 use Rattle.tide_table.proofs.Standing.{begin_count-part, no_ends}
-use Rattle.tide_table.specs.Standing.{HasCollected, HasOpenedNext, RunsPart, RunsWith, StandsStill}
+use Rattle.tide_table.specs.Standing.{HasCollected, HasFrozenNext, HasOpenedNext, RunsPart, RunsWith}
+use Rattle.tide_table.specs.Started.{IsStarted}
 
 -- the part that was opened has its number and its run
 pub RunsPart-opened : (layout : Layout) (run : ℕ) (v w : View) → w ≡ opened layout run v → v.period ≡ open_count v.seen →
@@ -46,6 +48,40 @@ pub begin_count-opened : (layout : Layout) (run : ℕ) (v w : View) → w ≡ op
 begin_count-opened layout run v w is =
     ap (λ (x : View). begin_count x.start) is
     ∙ (let counted = count-push (λ e. is_begin e.entry) v.seen (plain (Open (v.period + 1) run)) in omega (arith, counted))
+
+-- the first part of a heap runs with its books, where v is the collector's view at the start of the heap
+pub HasOpenedNext-first : (layout : Layout) (shapes : ShapeLists) (run : ℕ) (books : Books) (v w : View) →
+    IsStarted layout shapes v → w ≡ opened layout run v → AreBooks layout [] books → HasOpenedNext layout books v w
+HasOpenedNext-first layout shapes run books v w started is are = record {
+  runs = record {
+    runs = RunsPart-opened layout run v w is (started.period ∙ sym (ap open_count started.seen))
+        (subst (Each (EndsInTime layout)) (sym started.seen) (Each-nil (EndsInTime layout)));
+    few =
+        let same = begin_count-opened layout run v w is in
+        let none = ap begin_count started.seen in
+        let first = ap (λ (x : View). x.period) is in
+        omega (arith, same, none, first);
+    numbered = (let first = ap (λ (x : View). x.period) is in let none = started.period in omega (arith, first, none));
+    are = subst (λ (x : View). AreBooks layout x.start books) (sym is)
+        (open_keeps_books layout v.seen (v.period + 1) run books
+        (subst (λ (h : List Event). AreBooks layout h books) (sym started.seen) are));
+  };
+  period = ap (λ (x : View). x.period) is;
+  notes = ap (λ (x : View). x.notes) is;
+  visited = ap (λ (x : View). x.visited) is;
+  done = ap (λ (x : View). x.done) is;
+  gone = ap (λ (x : View). x.gone) is;
+}
+
+-- it runs on while notes are taken in
+pub RunsWith-noted : (layout : Layout) (books : Books) (v note : View) → RunsWith layout books v →
+    RunsWith layout books (noted v note)
+RunsWith-noted layout books v note runs = record {
+  runs = record { running = runs.runs.running; period = runs.runs.period; run = runs.runs.run; ends = runs.runs.ends };
+  few = runs.few;
+  numbered = runs.numbered;
+  are = runs.are;
+}
 
 -- Below, v is the view while a part runs, u once it is frozen, w once the freeze code ran, and x once the next part is opened.
 pub HasOpenedNext-by : (layout : Layout) (shapes : ShapeLists) (pace : Pace) (is_must : Bool) (run : ℕ)
@@ -69,11 +105,24 @@ HasOpenedNext-by layout shapes pace is_must run old counted books v u w x runs f
   period = later;
   notes = ap (λ (y : View). y.notes) is;
   visited = ap (λ (y : View). y.visited) is;
+  done = ap (λ (y : View). y.done) is;
   gone = ap (λ (y : View). y.gone) is ∙ ap (λ (y : View). y.gone) did.rest ∙ ap (λ (y : View). y.gone) froze.view;
 }
   where
     later : x.period ≡ v.period + 1
     later = ap (λ (y : View). y.period) is ∙ ap (λ (y : View). y.period + 1) did.rest ∙ ap (λ (y : View). y.period + 1) froze.view
+
+-- the freeze did what the schedule asks for, and so many calls has the next part
+pub HasFrozenNext-by : (layout : Layout) (shapes : ShapeLists) (pace : Pace) (is_must : Bool) (run : ℕ) (v u w x : View) →
+    Freezes layout shapes v u → HasCollected layout shapes pace is_must u w run → x ≡ opened layout run w →
+    HasFrozenNext pace layout is_must v x
+HasFrozenNext-by layout shapes pace is_must run v u w x froze did is = record {
+  frozen = w.seen;
+  freezes = subst (λ (h : List Event). HasFrozenWhole pace layout (last_run h) h w.seen is_must)
+      (ap (λ (y : View). y.seen) froze.view) did.freezes;
+  opened = ap (λ (y : View). y.start) is
+      ∙ (λ i. w.seen ++ plain (Open (sym (ap (λ (y : View). y.period) is) i) (did.next i)) ∷ []);
+}
 
 -- and the report has just the ends that came
 pub AddsEnds-next : (layout : Layout) (shapes : ShapeLists) (run : ℕ) (report longer : Reported) (v u w x : View) →

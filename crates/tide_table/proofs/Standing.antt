@@ -1,13 +1,11 @@
 -- From a running part to a freeze, over what it does, and to the next part.
-use Rattle.std.proofs.Common.{ℕ, zero, suc, ◌≡◌, ◌+◌, ◌<◌, ◌≤◌, refl, sym, ◌∙◌, ap, subst, arith, Bool, true, false, List, [], ◌∷◌, ◌++◌, append_assoc, append-nil, length}
+use Rattle.std.proofs.Common.{ℕ, ◌≡◌, ◌+◌, ◌<◌, ◌≤◌, refl, sym, ◌∙◌, ap, subst, arith, Bool, true, false, List, [], ◌∷◌, ◌++◌, append_assoc, append-nil, length}
 use Rattle.std.proofs.lemmas.Bool.{and_parts}
 use Rattle.std.specs.List.{list_all}
 use Rattle.std.specs.Prelude.{◌&&◌, count_by, if◌then◌else◌, map, not}
-use Rattle.tide_core.specs.FrozenWave.{FrozenWave}
-use Rattle.tide_freeze.proofs.FrozenLaws.{marks-same}
 use Rattle.tide_freeze.proofs.RunningLaws.{part_keeps_books}
 use Rattle.tide_freeze.proofs.QuietLaws.{HasFrozen-quiet, is_quiet, open_count-quiet, visits-quiet}
-use Rattle.tide_freeze.proofs.VisitLaws.{HasVisited-none, IsSwept-visits, born_begin-visits, born_end-visits, marks_after-visits, visits_make_freeze}
+use Rattle.tide_freeze.proofs.VisitLaws.{HasVisited-none, IsSwept-visits, born_begin-visits, born_end-visits, visits_make_freeze}
 use Rattle.tide_freeze.specs.Births.{AreBornIn}
 use Rattle.tide_freeze.specs.Books.{AreBooks, WereKept}
 use Rattle.tide_freeze.proofs.BookLaws.{ends_in-part}
@@ -17,7 +15,7 @@ use Rattle.tide_freeze.specs.Frozen.{IsFrozen}
 use Rattle.tide_freeze.specs.declared.books.Books.{Books}
 use Rattle.tide_freeze.specs.Participants.{LeavesParticipants}
 use Rattle.tide_heap.specs.Rule.{SpanStays}
-use Rattle.tide_heap.specs.Turns.{Freezes, frozen_with}
+use Rattle.tide_heap.specs.Turns.{Freezes}
 use Rattle.tide_layout.specs.Region.{word_count}
 use Rattle.tide_layout.specs.declared.region.Region.TheVariants.{Stopped, Phase as PhaseRegion}
 use Rattle.tide_machine.proofs.freezes.Entering.{FrozenWave-of, FrozenWith-of}
@@ -33,7 +31,7 @@ use Rattle.tide_model.specs.Each.{Each}
 use Rattle.tide_model.specs.Freeze.{is_marking_phase, marks_after, visits_entries}
 use Rattle.tide_model.specs.State.{idle, marking}
 use Rattle.tide_words.specs.forms.ColourWord.{cycle_of}
-use Rattle.tide_model.specs.History.{is_begin, is_call_of, is_open, plain, state_after}
+use Rattle.tide_model.specs.History.{is_begin, is_call_of, is_open, plain}
 use Rattle.tide_model.specs.Lawful.{IsLawful}
 use Rattle.tide_model.specs.Layout.{Layout}
 use Rattle.tide_model.specs.Pace.{Pace}
@@ -43,7 +41,7 @@ use Rattle.tide_model.specs.Since.{is_call, is_end}
 use Rattle.tide_model.specs.declared.entry.Entry.{Entry}
 use Rattle.tide_model.specs.declared.entry.Entry.TheVariants.{Begin, Call, End, Open, Pause, Sweep, Visits}
 use Rattle.tide_model.specs.declared.entry.Event.{Event}
-use Rattle.tide_sched.proofs.RunLaws.{last_run-opened, last_run-same}
+use Rattle.tide_sched.proofs.RunLaws.{last_run-same}
 use Rattle.tide_sched.specs.Paces.{last_run}
 use Rattle.tide_table.proofs.Openings.{leads_to_opening}
 use Rattle.tide_table.proofs.Spans.{marks_read, span_entered, span_none, span_of}
@@ -52,7 +50,7 @@ use Rattle.tide_table.specs.Shown.{bare, was_black_in}
 use Rattle.tide_table.proofs.Visits.{HasEntered, all_entered-blacks, all_entered-has}
 use Rattle.tide_table.specs.Standing.{HasCollected, HasEnteredVisits, LeavesRest, MayEnterVisits, RunsPart, StandsStill}
 use Rattle.tide_table.specs.VisitsTold.{AreTold, all_entered, unentered, visits_told}
-use Rattle.tide_words.specs.heap.Heap.{SameIn, heap_of}
+use Rattle.tide_words.specs.heap.Heap.{heap_of}
 use Rattle.tide_words.specs.marking.Colours.{is_black, is_marking}
 
 -- what calls of a part are not

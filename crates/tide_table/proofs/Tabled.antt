@@ -106,6 +106,7 @@ module _ (layout : Layout) (shapes : ShapeLists) where
           own = h.9;
           progress = h.10;
           stops = h.11;
+          marks = h.12;
         },
       )
 

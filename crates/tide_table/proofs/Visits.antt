@@ -1,8 +1,8 @@
 -- What notes told of visits, as one after another is entered.
-use Rattle.std.proofs.Common.{ℕ, zero, suc, ◌≡◌, ◌+◌, ◌-◌, ◌<◌, ◌≤◌, ◌==◌, refl, sym, ◌∙◌, ap, subst, arith, inl, inr, Bool, true, false, List, [], ◌∷◌, ◌++◌, append_assoc, append-nil, eq-eqb}
+use Rattle.std.proofs.Common.{ℕ, zero, suc, ◌≡◌, ◌+◌, ◌<◌, ◌≤◌, ◌==◌, refl, sym, ◌∙◌, ap, subst, arith, Bool, true, false, List, [], ◌∷◌, ◌++◌, append_assoc, append-nil, eq-eqb}
 use Rattle.std.proofs.lemmas.Bool.{eqb-false, eqb-true, ne_eqb}
 use Rattle.std.specs.Prelude.{Contains, None, Option, Some, filter, if◌then◌else◌, map, not, slice_index}
-use Rattle.tide_heap.specs.Turns.{visits_entered, visits_over}
+use Rattle.tide_heap.specs.Turns.{visits_entered}
 use Rattle.tide_machine.proofs.freezes.Entering.{FrozenWith-entered}
 use Rattle.tide_machine.specs.Frozen.{FrozenWith}
 use Rattle.tide_machine.specs.Schedule.{visits}
@@ -10,7 +10,6 @@ use Rattle.tide_machine.specs.World.{first_visitor}
 use Rattle.tide_machine.specs.declared.view.View.{View}
 use Rattle.tide_machine.specs.declared.view.Visited.{Visited}
 use Rattle.tide_model.specs.declared.entry.Entry.TheVariants.{Visits}
-use Rattle.tide_model.specs.declared.entry.Event.{Event}
 use Rattle.tide_model.specs.Freeze.{visits_entries}
 use Rattle.tide_model.specs.History.{plain}
 use Rattle.tide_model.specs.Layout.{Layout}

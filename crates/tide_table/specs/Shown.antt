@@ -1,5 +1,5 @@
 -- What a frozen heap shows besides its words.
-use Rattle.std.specs.Prelude.{ℕ, ◌≡◌, Bool, List, []}
+use Rattle.std.specs.Prelude.{ℕ, Bool, List, []}
 use Rattle.std.specs.Borrow.{MutBor, GName}
 use Rattle.atomic_table.specs.Seated.{TableId}
 use Rattle.tide_machine.specs.declared.view.View.{View}

@@ -1,5 +1,5 @@
 -- What the collector's view of a heap has from one freeze to the next.
-use Rattle.std.specs.Prelude.{ℕ, ◌≡◌, ◌+◌, ◌<◌, ◌≤◌, ◌^◌, Bool, true, false, length, []}
+use Rattle.std.specs.Prelude.{ℕ, ◌≡◌, ◌+◌, ◌<◌, ◌≤◌, ◌^◌, Bool, true, false, length, List, [], ◌∷◌, ◌++◌}
 use Rattle.tide_freeze.specs.Books.{AreBooks}
 use Rattle.tide_freeze.specs.Freezing.{HasFrozenWhole, HasVisited}
 use Rattle.tide_freeze.specs.declared.books.Books.{Books}
@@ -11,10 +11,13 @@ use Rattle.tide_machine.specs.declared.view.View.{View}
 use Rattle.tide_model.specs.Cycle.{begin_count}
 use Rattle.tide_model.specs.Each.{Each}
 use Rattle.tide_model.specs.Freeze.{marks_after}
+use Rattle.tide_model.specs.History.{plain}
 use Rattle.tide_model.specs.Layout.{Layout}
 use Rattle.tide_model.specs.Pace.{Pace}
 use Rattle.tide_model.specs.Periods.{EndsInTime, next_run, open_count}
 use Rattle.tide_model.specs.Refused.{ShapeLists}
+use Rattle.tide_model.specs.declared.entry.Entry.TheVariants.{Open}
+use Rattle.tide_model.specs.declared.entry.Event.{Event}
 use Rattle.tide_sched.specs.Paces.{last_run}
 use Rattle.tide_words.specs.heap.Heap.{SameIn, heap_of}
 use Rattle.tide_words.specs.marking.Colours.{is_black}
@@ -52,20 +55,30 @@ pub record MayEnterVisits (layout : Layout) (v : View) : Type 0 where
 abbrev pub LeavesRest : View → View → Type 0
 LeavesRest v w = record w { seen = []; words = []; base = []; visited = [] } ≡ record v { seen = []; words = []; base = []; visited = [] }
 
--- a part runs, its number is one of 32 bits, fewer cycles began than parts were opened, and the books go with the history up to its opening
+-- a part runs, its number is one of 32 bits, fewer cycles began than parts were opened, and the books go with the history
+-- up to its opening
 pub record RunsWith (layout : Layout) (books : Books) (v : View) : Type 0 where
   pub runs : RunsPart layout v
   pub few : begin_count v.start < v.period
   pub numbered : v.period < 2 ^ 32
   pub are : AreBooks layout v.start books
 
--- the view before the next part was opened, and right after it: no note is in, and who had left for good is gone
+-- The view before the next part was opened, and right after it: no note is in that would say that a part isn't done, and
+-- who had left for good is gone.
 pub record HasOpenedNext (layout : Layout) (books : Books) (v w : View) : Type 0 where
   pub runs : RunsWith layout books w
   pub period : w.period ≡ v.period + 1
   pub notes : w.notes ≡ []
   pub visited : w.visited ≡ []
+  pub done : w.done ≡ true
   pub gone : w.gone ≡ v.gone
+
+-- A freeze after the part of `v` did what the schedule asks for, and the next part was opened with as many calls as that
+-- leaves for it.
+pub record HasFrozenNext (pace : Pace) (layout : Layout) (is_must : Bool) (v w : View) : Type 0 where
+  pub frozen : List Event
+  pub freezes : HasFrozenWhole pace layout (last_run v.seen) v.seen frozen is_must
+  pub opened : w.start ≡ frozen ++ plain (Open w.period (next_run pace layout frozen)) ∷ []
 
 -- What notes told of visits was entered, if a cycle marks, and nothing else happened: none is left to enter, and the words
 -- meet the wave of the longer history.

@@ -30,7 +30,7 @@ use Rattle.tide_threads.proofs.Parking.{IsParked-left, IsParked-played}
 use Rattle.tide_threads.proofs.Taking.{IsNoted-told, IsTold, TookNotes}
 use Rattle.tide_threads.proofs.Visits.{TellsAt}
 use Rattle.tide_threads.specs.Acting.{caller_of, has_left, told_in}
-use Rattle.tide_threads.specs.Marking.{most_visits}
+use Rattle.tide_table.specs.VisitsTold.{most_visits}
 use Rattle.tide_threads.specs.Parked.{HasLeft, HasPlayed, IsParked}
 use Rattle.tide_threads.specs.Playing.{AllStandBy, Both, DidPart, GaveNote, HasDoneShare, HasMadePart, MayBeginPart, IsTicketOf, MayHear}
 use Rattle.tide_threads.specs.Playing.{MayPlay, MayTake, StandsBy, TookTurn, WasHanded, WorkerStandsBy}

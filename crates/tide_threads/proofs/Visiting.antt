@@ -11,7 +11,8 @@ use Rattle.tide_machine.specs.declared.view.View.{View}
 use Rattle.tide_machine.specs.kinds.Activate.{begun_view}
 use Rattle.tide_model.specs.Layout.{Layout}
 use Rattle.tide_steps.specs.declared.notes.Note.{Note}
-use Rattle.tide_threads.specs.Marking.{HasMadeVisits, most_visits}
+use Rattle.tide_table.specs.VisitsTold.{most_visits}
+use Rattle.tide_threads.specs.Marking.{HasMadeVisits}
 use Rattle.tide_threads.specs.declared.marking.CountingVisitor.{CountingVisitor}
 use Rattle.tide_visitor.specs.Draining.{HasStopped}
 use Rattle.tide_visitor.specs.Viewed.{stack_room_of, table_of, view_of}

@@ -1,7 +1,6 @@
 -- What the notes of a part tell of visits, once they are taken in, participant by participant.
 use Rattle.std.proofs.Common.{ℕ, zero, suc, ◌≡◌, ◌<◌, ◌≤◌, ◌+◌, ◌-◌, ◌∙◌, refl, sym, ap, subst, arith, Bool, true, false, List, [], ◌∷◌, length, get_or, inl, inr}
 use Rattle.std.proofs.lemmas.Bool.{cases_eq, eq-eqb, ne_eqb}
-use Rattle.std.proofs.lemmas.List.Sums.{sum_by-cons}
 use Rattle.std.specs.Prelude.{◌⊎◌, ◌==◌, ◌&&◌, All, Option, None, Some, if◌then◌else◌, slice_get, sum}
 use Rattle.crossbeam_utils.specs.Padded.{padded_value}
 use Rattle.crossbeam_utils.specs.declared.cache_padded.CachePadded.{CachePadded}
@@ -10,17 +9,14 @@ use Rattle.tide_machine.specs.World.{first_visitor}
 use Rattle.tide_machine.specs.declared.view.View.{View}
 use Rattle.tide_machine.specs.declared.view.Visited.{Visited}
 use Rattle.tide_model.specs.Layout.{Layout}
-use Rattle.tide_table.specs.VisitsTold.{AreTold, told_by, unentered, visits_in, visits_left, visits_told}
+use Rattle.tide_table.specs.VisitsTold.{HaveTold, told_by, visits_in, visits_left}
 use Rattle.tide_threads.specs.Acting.{before_all, noted_all, notes_in, told_in}
 use Rattle.tide_threads.specs.declared.participant.Participant.{Participant}
 
--- So many visitors, the first ones, told of visits, each of no more than this and that it has done its part; the others
--- told nothing yet, and nobody else told a visit.
+-- so many visitors told, the first ones, and the others nothing yet
 pub record HasTold (most count : ℕ) (visited : List Visited) : Type 0 where
-  pub each : (visitor : ℕ) → visitor < count → (k : ℕ) × (k ≤ most)
-      × (told_by (first_visitor + visitor) visited ≡ Some (record { who = first_visitor + visitor; visits = k; done = true }))
+  pub told : HaveTold most count visited
   pub later : (visitor : ℕ) → count ≤ visitor → told_by (first_visitor + visitor) visited ≡ None
-  pub all : unentered visited ≡ visits_left visited 0 count
 
 told_by-other : (told : Visited) (visited : List Visited) (who : ℕ) → (told.who ≡ who → ⊥) →
     told_by who (told ∷ visited) ≡ told_by who visited
@@ -55,22 +51,23 @@ visits_left-more visited from (suc count) =
 -- nobody told anything yet
 HasTold-nothing : (most : ℕ) → HasTold most 0 []
 HasTold-nothing most = record {
-  each = λ visitor below. absurd (omega (arith, below));
+  told = record { each = λ visitor below. absurd (omega (arith, below)); all = refl };
   later = λ visitor from. refl;
-  all = refl;
 }
 
 -- a mutator's note tells no visits
 HasTold-mutator : (most count : ℕ) (told : Visited) (visited : List Visited) → told.who < first_visitor → told.visits ≡ 0 →
     HasTold most count visited → HasTold most count (told ∷ visited)
 HasTold-mutator most count told visited is none has = record {
-  each = λ visitor below. let e = has.each visitor below in
-      (e.0, e.1, told_by-other told visited (first_visitor + visitor) (λ same. omega (arith, is, same)) ∙ e.2);
+  told = record {
+    each = λ visitor below. let e = has.told.each visitor below in
+        (e.0, e.1, told_by-other told visited (first_visitor + visitor) (λ same. omega (arith, is, same)) ∙ e.2);
+    all = (let all = has.told.all in
+        let rest = visits_left-other told visited 0 count (λ visitor below same. omega (arith, is, same)) in
+        omega (arith, none, all, rest));
+  };
   later = λ visitor from. told_by-other told visited (first_visitor + visitor) (λ same. omega (arith, is, same))
       ∙ has.later visitor from;
-  all = (let all = has.all in
-      let rest = visits_left-other told visited 0 count (λ visitor below same. omega (arith, is, same)) in
-      omega (arith, none, all, rest));
 }
 
 -- the next visitor's note tells its visits
@@ -78,31 +75,34 @@ HasTold-visitor : (most count k : ℕ) (told : Visited) (visited : List Visited)
     told ≡ record { who = first_visitor + count; visits = k; done = true } → k ≤ most →
     HasTold most count visited → HasTold most (suc count) (told ∷ visited)
 HasTold-visitor most count k told visited is few has = record {
-  each = λ visitor below. elim (cases_eq visitor count) [
-    | inl same ↦ (
-      k,
-      few,
-      told_by-same told visited (first_visitor + visitor) (let who = ap (λ (t : Visited). t.who) is in omega (arith, same, who))
-          ∙ ap (λ (t : Visited). Some t) is
-          ∙ ap (λ (n : ℕ). Some (record { who = first_visitor + n; visits = k; done = true })) (sym same),
-    )
-    | inr apart ↦ let e = has.each visitor (omega (arith, below, apart)) in (
-      e.0,
-      e.1,
-      told_by-other told visited (first_visitor + visitor)
-          (λ same. apart (let who = ap (λ (t : Visited). t.who) is in omega (arith, same, who))) ∙ e.2,
-    )
-  ];
+  told = record {
+    each = λ visitor below. elim (cases_eq visitor count) [
+      | inl same ↦ (
+        k,
+        few,
+        told_by-same told visited (first_visitor + visitor)
+            (let who = ap (λ (t : Visited). t.who) is in omega (arith, same, who))
+            ∙ ap (λ (t : Visited). Some t) is
+            ∙ ap (λ (n : ℕ). Some (record { who = first_visitor + n; visits = k; done = true })) (sym same),
+      )
+      | inr apart ↦ let e = has.told.each visitor (omega (arith, below, apart)) in (
+        e.0,
+        e.1,
+        told_by-other told visited (first_visitor + visitor)
+            (λ same. apart (let who = ap (λ (t : Visited). t.who) is in omega (arith, same, who))) ∙ e.2,
+      )
+    ];
+    all =
+        let all = has.told.all in
+        let more = visits_left-more (told ∷ visited) 0 count in
+        let rest = visits_left-other told visited 0 count
+        (λ visitor below same. let who = ap (λ (t : Visited). t.who) is in omega (arith, below, same, who)) in
+        let here = ap visits_in (told_by-same told visited (first_visitor + (0 + count)) (ap (λ (t : Visited). t.who) is ∙ plain)) in
+        omega (arith, all, more, rest, here);
+  };
   later = λ visitor from. told_by-other told visited (first_visitor + visitor)
       (λ same. let who = ap (λ (t : Visited). t.who) is in omega (arith, from, same, who))
       ∙ has.later visitor (omega (arith, from));
-  all =
-      let all = has.all in
-      let more = visits_left-more (told ∷ visited) 0 count in
-      let rest = visits_left-other told visited 0 count
-      (λ visitor below same. let who = ap (λ (t : Visited). t.who) is in omega (arith, below, same, who)) in
-      let here = ap visits_in (told_by-same told visited (first_visitor + (0 + count)) (ap (λ (t : Visited). t.who) is ∙ plain)) in
-      omega (arith, all, more, rest, here);
 }
   where
     plain : first_visitor + count ≡ first_visitor + (0 + count)
@@ -199,12 +199,12 @@ module _ (mutators most : ℕ) where
       split (Some u) so = so
 
 -- once all notes are in, all visitors have told
-pub HasTold-all : (mutators visitors most : ℕ) (ys : List (CachePadded Participant)) (v : View) → v.visited ≡ [] →
+pub HaveTold-all : (mutators visitors most : ℕ) (ys : List (CachePadded Participant)) (v : View) → v.visited ≡ [] →
     v.done ≡ true → length ys ≡ mutators + visitors →
     ((k : ℕ) (y : CachePadded Participant) → slice_get ys k ≡ Some y →
     TellsAt mutators most v.period k (told_in (padded_value y).note)) →
-    HasTold most visitors (noted_all (notes_in ys) v).visited × ((noted_all (notes_in ys) v).done ≡ true)
-HasTold-all mutators visitors most ys v none done many tells =
+    HaveTold most visitors (noted_all (notes_in ys) v).visited × ((noted_all (notes_in ys) v).done ≡ true)
+HaveTold-all mutators visitors most ys v none done many tells =
     let so = ToldUpTo-all mutators most ys 0 v
     (λ k y found. subst (λ (n : ℕ). TellsAt mutators most v.period n (told_in (padded_value y).note))
     (let same : k ≡ 0 + k = omega arith in same) (tells k y found)) (record {
@@ -212,75 +212,7 @@ HasTold-all mutators visitors most ys v none done many tells =
           (subst (λ (n : ℕ). HasTold most n []) (let same : 0 ≡ 0 - mutators = omega arith in same) (HasTold-nothing most));
       done = done;
     }) in (
-      subst (λ (n : ℕ). HasTold most n (noted_all (notes_in ys) v).visited)
-          (let same : 0 + length ys - mutators ≡ visitors = omega (arith, many) in same) so.told,
+      subst (λ (n : ℕ). HaveTold most n (noted_all (notes_in ys) v).visited)
+          (let same : 0 + length ys - mutators ≡ visitors = omega (arith, many) in same) so.told.told,
       so.done,
     )
-
--- what the numbers told come to
-length-visits_told : (visited : List Visited) (from count : ℕ) → length (visits_told visited from count) ≡ count
-length-visits_told visited from zero = refl
-length-visits_told visited from (suc count) = ap suc (length-visits_told visited (from + 1) count)
-
-sum-visits_told : (visited : List Visited) (from count : ℕ) → sum (visits_told visited from count) ≡ visits_left visited from count
-sum-visits_told visited from zero = refl
-sum-visits_told visited from (suc count) =
-    sum_by-cons (λ (k : ℕ). k) (visits_in (told_by (first_visitor + from) visited)) (visits_told visited (from + 1) count)
-    ∙ ap (λ (n : ℕ). visits_in (told_by (first_visitor + from) visited) + n) (sum-visits_told visited (from + 1) count)
-
-most-visits_told : (visited : List Visited) (most from count : ℕ) →
-    ((i : ℕ) → i < count → visits_in (told_by (first_visitor + (from + i)) visited) ≤ most) →
-    All (λ k. k ≤ most) (visits_told visited from count)
-most-visits_told visited most from zero each = λ k d below. absurd (omega (arith, below))
-most-visits_told visited most from (suc count) each = λ k d below. by
-    (most-visits_told visited most (from + 1) count
-    (λ i within. subst (λ (n : ℕ). visits_in (told_by (first_visitor + n) visited) ≤ most)
-    (let same : from + suc i ≡ from + 1 + i = omega arith in same) (each (suc i) (omega (arith, within))))) k below d
-  where
-    by : All (λ k. k ≤ most) (visits_told visited (from + 1) count) → (k : ℕ) →
-        k < suc (length (visits_told visited (from + 1) count)) → (d : ℕ) →
-        get_or (visits_in (told_by (first_visitor + from) visited) ∷ visits_told visited (from + 1) count) k d ≤ most
-    by rest zero below d = subst (λ (n : ℕ). visits_in (told_by (first_visitor + n) visited) ≤ most)
-        (let same : from + 0 ≡ from = omega arith in same) (each 0 (omega arith))
-    by rest (suc k) below d = rest k d (omega (arith, below))
-
-none-visits_left : (visited : List Visited) (from count : ℕ) →
-    ((i : ℕ) → i < count → visits_in (told_by (first_visitor + (from + i)) visited) ≤ 0) → visits_left visited from count ≡ 0
-none-visits_left visited from zero each = refl
-none-visits_left visited from (suc count) each =
-    let rest = none-visits_left visited (from + 1) count
-    (λ i below. subst (λ (n : ℕ). visits_in (told_by (first_visitor + n) visited) ≤ 0)
-    (let same : from + suc i ≡ from + 1 + i = omega arith in same) (each (suc i) (omega (arith, below)))) in
-    let here = subst (λ (n : ℕ). visits_in (told_by (first_visitor + n) visited) ≤ 0)
-    (let same : from + 0 ≡ from = omega arith in same) (each 0 (omega arith)) in
-    omega (arith, rest, here)
-
--- each visitor told no more than this
-told_most : (most count : ℕ) (visited : List Visited) → HasTold most count visited → (i : ℕ) → i < count →
-    visits_in (told_by (first_visitor + (0 + i)) visited) ≤ most
-told_most most count visited has i below =
-    let e = has.each i below in
-    let same : i ≡ 0 + i = omega arith in
-    subst (λ (n : ℕ). visits_in (told_by (first_visitor + n) visited) ≤ most) same
-    (subst (λ (o : Option Visited). visits_in o ≤ most) (sym e.2) e.1)
-
--- so what was told may be entered, if some cell was made black where there are visitors
-pub AreTold-all : (layout : Layout) (run : ℕ) (visited : List Visited) → HasTold run layout.visitors visited →
-    (0 < layout.visitors → 0 < unentered visited) → AreTold layout run visited
-AreTold-all layout run visited has some = record {
-  each = λ visitor below. let e = has.each visitor below in (e.0, e.2);
-  all = has.all;
-  are = record {
-    one_each = length-visits_told visited 0 layout.visitors;
-    at_most = most-visits_told visited run 0 layout.visitors (told_most run layout.visitors visited has);
-    some = λ apart.
-        let least = some (omega (arith, apart)) in
-        let all = has.all in
-        let sum_is = sum-visits_told visited 0 layout.visitors in
-        omega (arith, least, all, sum_is);
-  };
-}
-
--- and nothing is left to enter where none was to make any black
-pub unentered-none : (count : ℕ) (visited : List Visited) → HasTold 0 count visited → unentered visited ≡ 0
-unentered-none count visited has = has.all ∙ none-visits_left visited 0 count (told_most 0 count visited has)

@@ -5,14 +5,10 @@ use Rattle.tide_machine.specs.declared.view.View.{View}
 use Rattle.tide_model.specs.Layout.{Layout, cell_count}
 use Rattle.tide_steps.specs.declared.notes.Note.{Note}
 use Rattle.tide_steps.specs.declared.notes.Ticket.{Ticket}
+use Rattle.tide_table.specs.VisitsTold.{most_visits}
 use Rattle.tide_threads.specs.declared.marking.CountingVisitor.{CountingVisitor}
 use Rattle.tide_visitor.specs.Viewed.{stack_room_of, table_of, view_of}
 use Rattle.tide_visitor.specs.Visits.{IsVisitorOf}
-
--- How many cells a visitor makes black at most in the part of a ticket: as many as each mutator has calls where a cycle
--- marks, and else none.
-abbrev pub most_visits : View → ℕ
-most_visits ticket = if ticket.marks then ticket.run else 0
 
 -- a visitor may begin its part with this ticket, which is of a later part than its last one, and its stack has room for
 -- each cell

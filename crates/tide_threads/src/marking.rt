@@ -4,7 +4,8 @@ ghost use Rattle.tide_heap.specs.Done.{HasDonePart};
 ghost use Rattle.tide_machine.specs.Frozen.{newcomer};
 ghost use Rattle.tide_machine.specs.Visiting.{FitsIn};
 ghost use Rattle.tide_model.specs.Layout.{cell_count};
-ghost use Rattle.tide_threads.specs.Marking.{HasMadeVisits, MayBeginVisits, most_visits};
+ghost use Rattle.tide_table.specs.VisitsTold.{most_visits};
+ghost use Rattle.tide_threads.specs.Marking.{HasMadeVisits, MayBeginVisits};
 ghost use Rattle.tide_visitor.specs.Viewed.{stack_room_of, table_of, view_of};
 ghost use Rattle.tide_visitor.specs.Visits.{visit_frame, IsVisitorOf};
 

@@ -22,9 +22,9 @@ use Rattle.tide_threads.proofs.Shares.{AllIn-turns, AllStandBy-frozen, RanPartBy
 use Rattle.tide_threads.proofs.Standing.{MayEnterVisits-part, RunsPart-taken, seen_part}
 use Rattle.tide_threads.proofs.Taking.{IsTold, IsTold-all, TookNotes, TookNotes-all}
 use Rattle.tide_threads.proofs.Turns.{AreParted-standing, Both-left, MayHear-opened, MayTake-turn, TellsAt-turn}
-use Rattle.tide_threads.proofs.Visits.{HasTold, HasTold-all}
+use Rattle.tide_threads.proofs.Visits.{HaveTold-all}
 use Rattle.tide_threads.specs.Acting.{noted_all, notes_in}
-use Rattle.tide_threads.specs.Marking.{most_visits}
+use Rattle.tide_table.specs.VisitsTold.{HaveTold, most_visits}
 use Rattle.tide_threads.specs.Playing.{MayTake, TookTurn}
 use Rattle.tide_threads.specs.declared.participant.Participant.{Participant}
 use Rattle.tide_words.specs.heap.Heap.{heap_of}
@@ -148,15 +148,15 @@ returns g c =
     let freezes = c.freeze_part.ensures.frozen in
     let seen = seen_part layout shapes v0 v1 v2 v3 c.args.run c.requires.still is_opened taken freezes in
     let begun : List Event = v0.seen ++ open_entry c.args.run v0 ∷ [] in
-    let visits = HasTold-all layout.mutators layout.visitors (most_visits v1) ys v1 (ap (λ (v : View). v.visited) is_opened)
+    let visits = HaveTold-all layout.mutators layout.visitors (most_visits v1) ys v1 (ap (λ (v : View). v.visited) is_opened)
     (ap (λ (v : View). v.done) is_opened) (turns.as_many ∙ c.requires.all.one_each)
     (λ at y found. let x = Both-left (TookTurn id layout shapes v1) xs ys turns at y found in
     TellsAt-turn id layout shapes v0 v1 at (padded_value x.0) (padded_value y) c.requires.still.limits
     (c.requires.all.each at x.0 x.1) x.2) in record {
       own = c.freeze_part.ensures.own ∙ c.take_in.ensures.same ∙ c.play_part.ensures.same.0 ∙ c.open.ensures.same.0;
       still = c.freeze_part.ensures.still;
-      visits = MayEnterVisits-part layout shapes v0 v1 v2 v3 c.args.run c.requires.still is_opened taken freezes (most_visits v1) refl
-          (subst (λ (v : View). HasTold (most_visits v1) layout.visitors v.visited) (sym all) visits.0)
+      visits = MayEnterVisits-part layout shapes v0 v1 v2 v3 c.args.run c.requires.still is_opened taken freezes
+          c.freeze_part.ensures.still (subst (λ (v : View). HaveTold (most_visits v1) layout.visitors v.visited) (sym all) visits.0)
           (ap (λ (v : View). v.done) all ∙ visits.1) c.take_in.new.collector.told;
       all = AllStandBy-frozen id layout shapes v0 v1 v2 v3 c.args.run c.requires.still is_opened taken freezes xs ys zs
           c.requires.all turns c.take_in.ensures.gave told;

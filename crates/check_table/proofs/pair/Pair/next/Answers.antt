@@ -1,6 +1,6 @@
 -- Both notes are those of all, and nobody has left.
 use Rattle.std.proofs.Common.{refl, ◌∙◌, ap}
-use Rattle.check_table.proofs.Nexts.{may_enter_none}
+use Rattle.tide_table.proofs.Telling.{VisitsAreIn-none}
 use Rattle.check_table.proofs.Pairing.{all_in, opened_both}
 use Rattle.check_table.specs.Pairs.{gone_if}
 use Rattle.check_table.proofs.pair.Pair.next.Goals as goal
@@ -10,7 +10,7 @@ next_part-requires c = (let p = c.args.self.now in let s = c.requires.stopped in
   own = p.own;
   part = s.part.part;
   all = all_in p.heap.key.layout p.collector.seat.me.0.notes p.collector.seat.me.0.gone p.small s.notes;
-  visits = may_enter_none p.heap.key.layout p.books p.collector.seat.me.0 p.small.no_visitors s.part;
+  visits = VisitsAreIn-none p.heap.key.layout p.collector.seat.me.0 p.small.no_visitors s.part.unvisited;
 })
 
 pub returns-clause-opened : goal.returns-clause-opened

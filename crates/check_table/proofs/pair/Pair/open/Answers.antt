@@ -1,6 +1,6 @@
 -- The first part is opened after nothing.
 use Rattle.std.proofs.Common.{◌+◌, ap, arith}
-use Rattle.check_table.proofs.Nexts.{first_next}
+use Rattle.tide_table.proofs.Nexts.{HasOpenedNext-first}
 use Rattle.check_table.proofs.Pairing.{new_rests, opened_both}
 use Rattle.tide_machine.specs.declared.view.View.{View}
 use Rattle.tide_shape.specs.Lists.{lists_of}
@@ -13,7 +13,7 @@ returns-clause-opened c =
     let v = p.collector.seat.me.0 in
     opened_both _ v (new_rests 0 (v.period + 1) p.one.seat.me.0 s.one (omega arith))
     (new_rests 1 (v.period + 1) p.other.seat.me.0 s.other (omega arith)) (ap (λ (x : View). x.left) s.one)
-    (ap (λ (x : View). x.left) s.other) s.started.gone (first_next p.heap.key.layout
+    (ap (λ (x : View). x.left) s.other) s.started.gone (HasOpenedNext-first p.heap.key.layout
     (lists_of p.heap.key.shapes) c.args.run p.books v _ s.started c.in_ok-open_first.ensures.opened s.books)
 
 pub returns-clause-calls : goal.returns-clause-calls

@@ -1,0 +1,76 @@
+/* What lies on a program's first thread between the end of one part and the start of the next: from where it joined the
+ * last thread of a part to where it starts the first thread of the next, or writes. That is the part's freeze, with what
+ * little stands around it. Loaded before the C library, it prints at the end how many there were, their sum, and the
+ * longest, in microseconds. */
+#define _GNU_SOURCE
+#include <dlfcn.h>
+#include <pthread.h>
+#include <stdio.h>
+#include <sys/syscall.h>
+#include <time.h>
+#include <unistd.h>
+
+static pthread_t first;
+static double joined, longest, sum;
+static int count;
+
+static double now(void)
+{
+    struct timespec time;
+    clock_gettime(CLOCK_MONOTONIC, &time);
+    return 1e6 * time.tv_sec + time.tv_nsec / 1e3;
+}
+
+static void over(void)
+{
+    if (!pthread_equal(pthread_self(), first) || joined == 0)
+        return;
+    double took = now() - joined;
+    joined = 0;
+    count++;
+    sum += took;
+    if (took > longest)
+        longest = took;
+}
+
+int pthread_create(pthread_t *thread, const pthread_attr_t *attr, void *(*start)(void *), void *arg)
+{
+    static int (*real)(pthread_t *, const pthread_attr_t *, void *(*)(void *), void *);
+    if (!real)
+        real = dlsym(RTLD_NEXT, "pthread_create");
+    over();
+    return real(thread, attr, start, arg);
+}
+
+int pthread_join(pthread_t thread, void **result)
+{
+    static int (*real)(pthread_t, void **);
+    if (!real)
+        real = dlsym(RTLD_NEXT, "pthread_join");
+    int ended = real(thread, result);
+    if (pthread_equal(pthread_self(), first))
+        joined = now();
+    return ended;
+}
+
+ssize_t write(int file, const void *from, size_t length)
+{
+    static ssize_t (*real)(int, const void *, size_t);
+    if (!real)
+        real = dlsym(RTLD_NEXT, "write");
+    over();
+    return real(file, from, length);
+}
+
+__attribute__((constructor)) static void begin(void)
+{
+    first = pthread_self();
+}
+
+/* The program ends so, and no destructor runs. */
+void _exit(int status)
+{
+    fprintf(stderr, "%d freezes, %.0f microseconds in all, the longest %.0f\n", count, sum, longest);
+    syscall(SYS_exit_group, status);
+    __builtin_unreachable();
+}

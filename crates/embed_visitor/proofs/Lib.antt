@@ -1,0 +1,3 @@
+-- The proofs that several functions share.
+pub mod Parts
+pub mod Taking
