@@ -14,7 +14,9 @@
 //! - `drains ROWS`: rows of cycles that a visitor marks beside a mutator (`check_drains`).
 //! - `ways WORKLOADS`: a list of workloads, each of which comes to the same each way that it is run (`check_runs`).
 //! - `ends ROWS`: rows of sources and sinks alone (`check_ends`).
+//! - `shapes CHECK`: on tables of shapes that threads grow (`check_shapes`).
 //! - `embed`: two mutators on a heap of their own, each of which finds what it stored (`embed_heap`).
+//! - `embed shapes`: a heap over a table that two threads grew, whose mutator adds properties (`embed_shapes`).
 //! - `embed visitor`: a cycle that a visitor marks beside a mutator, and what it keeps (`embed_visitor`).
 //!
 //! Of each check it prints what ended otherwise than expected, once the check is over, and then a line. Where one was not
@@ -28,13 +30,16 @@ use check_heap::{check_rows, joined, text, words_of};
 use check_marking::{check_marking, time_runs};
 use check_plain::check_plain;
 use check_runs::{Shelf, check_runs, check_ways};
+use check_shapes::check_shapes;
 use check_table::check_table;
 use embed_heap::both_find_seven;
+use embed_shapes::adds_in_order;
 use embed_visitor::four_are_kept;
 use std::alloc::{AllocError, Global};
 use std::marker::Sync;
 use std::process::ExitCode;
 use std::rt::Runtime;
+use std::sync::Wait;
 use std::thread::Threads;
 use std::{fs, io};
 
@@ -84,7 +89,7 @@ fn check_without_system(
 }
 
 /// Makes the check that words say, in which the text of a file stands in place of its name.
-fn check_words<R: Runtime + AllocGlobal + Threads + Sync>(
+fn check_words<R: Runtime + AllocGlobal + Threads + Wait + Sync>(
     rt: &R,
     findings: &mut String,
     words: &[&str],
@@ -111,8 +116,10 @@ fn check_words<R: Runtime + AllocGlobal + Threads + Sync>(
             let shelf = shelf_of(rt, list)?;
             Ok(check_ways(rt, alloc, findings, &shelf, list)?)
         }
+        ["shapes", check @ ..] => Ok(check_shapes(rt, alloc, findings, check)?),
         ["embed"] => Ok(both_find_seven(rt, alloc)),
         ["embed", "visitor"] => Ok(four_are_kept(rt, alloc)),
+        ["embed", "shapes"] => Ok(adds_in_order(rt, alloc)),
         _ => Ok(check_without_system(alloc, findings, words)?),
     }
 }
@@ -146,7 +153,7 @@ fn borrowed<'a>(alloc: Global, texts: &'a [String]) -> Result<Vec<&'a str>, Allo
 }
 
 /// Makes the check of a line.
-fn check<R: Runtime + AllocGlobal + Threads + Sync>(
+fn check<R: Runtime + AllocGlobal + Threads + Wait + Sync>(
     rt: &R,
     findings: &mut String,
     line: &str,
@@ -157,7 +164,10 @@ fn check<R: Runtime + AllocGlobal + Threads + Sync>(
 }
 
 /// Makes the check of a line, prints what it found and how it ended, and answers whether that was as expected.
-fn check_line<R: Runtime + AllocGlobal + Threads + Sync>(rt: &R, line: &str) -> io::Result<bool> {
+fn check_line<R: Runtime + AllocGlobal + Threads + Wait + Sync>(
+    rt: &R,
+    line: &str,
+) -> io::Result<bool> {
     let mut findings = String::new(rt.alloc());
     let (is_so, end) = match check(rt, &mut findings, line) {
         Ok(true) => (true, "as expected"),
@@ -170,7 +180,7 @@ fn check_line<R: Runtime + AllocGlobal + Threads + Sync>(rt: &R, line: &str) -> 
 }
 
 /// Makes the check of each line.
-fn check_each<R: Runtime + AllocGlobal + Threads + Sync>(rt: &R) -> io::Result<bool> {
+fn check_each<R: Runtime + AllocGlobal + Threads + Wait + Sync>(rt: &R) -> io::Result<bool> {
     let mut all = true;
     for line in rt.lines(rt.alloc()) {
         all = check_line(rt, line?.as_str())? && all;

@@ -1,0 +1,15 @@
+-- What a grower has, and what it knows by that.
+use Rattle.std.specs.Prelude.{IfSome}
+use Rattle.tide_sights.specs.Cells.{Shown}
+use Rattle.tide_grow_shape.specs.Grown.{Knowledge}
+use Rattle.tide_grow_shape.specs.Stands.{Stands, index_of}
+use Rattle.tide_grow_shape.specs.declared.grower.Grower.TheInside.{Inside}
+
+-- what a contract sees of a grower
+abbrev pub knowledge_of : Inside → Knowledge
+knowledge_of g = record { table = g.table.numbers; known = g.maker.known; beyond = index_of g.maker.beyond }
+
+-- what every grower is
+pub record IsGrower (g : Inside) : Type 0 where
+  pub stands : Stands g.table.numbers g.maker.sights g.maker.known
+  pub beyond : IfSome g.maker.beyond (Shown g.table.numbers)

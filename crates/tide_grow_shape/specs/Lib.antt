@@ -1,0 +1,6 @@
+pub mod Growing
+pub mod Grown
+pub mod Known
+pub mod Lists
+pub mod Numbered
+pub mod Stands

@@ -1,0 +1,31 @@
+-- Which table an item and a cell are of.
+use Rattle.std.specs.Prelude.{ℕ, ◌≡◌, ◌+◌, Bool, false, List, ◌∷◌, map, if◌then◌else◌, Option, None, Some, MatchOption}
+use Rattle.std.specs.List.{slice_index_or}
+use Rattle.boxcar.specs.Table.{Where}
+use Rattle.tide_sights.specs.declared.cells.Cells.{Cells}
+use Rattle.tide_sights.specs.declared.cells.Item.{Item}
+
+-- what tells a table from others: its cell for the first child of the empty shape, and the cells that its items lie in
+abbrev pub name_of : Cells → List ℕ
+name_of cells = cells.first_child.id ∷ map (λ bucket. bucket.id) cells.items.buckets
+
+-- an item is shown to be in the table of this name
+abbrev pub Shown : List ℕ → Where Item → Type 0
+Shown name item = item.row ≡ slice_index_or name (item.bucket + 1) 0
+
+-- the item of the shape with this number
+abbrev pub IsShape : List ℕ → ℕ → Where Item → Type 0
+IsShape name shape item = Shown name item × (item.index + 1 ≡ shape)
+
+-- what shows where a shape's cells are: nothing for the first child of the empty shape, and else the shape's item
+abbrev pub IsSource : List ℕ → Bool → ℕ → Option (Where Item) → Type 0
+IsSource name next shape source = MatchOption source ((next ≡ false) × (shape ≡ 0)) (IsShape name shape)
+
+-- the cell of a shape: that of its next sibling, or that of its first child
+abbrev pub cell_id : List ℕ → Bool → Option (Where Item) → ℕ
+cell_id name next None = slice_index_or name 0 0
+cell_id name next (Some item) = if next then item.value.next_sibling.id else item.value.first_child.id
+
+-- the highest number that a shape of the table may have
+abbrev pub last_of : Cells → ℕ
+last_of cells = cells.last

@@ -1,0 +1,5 @@
+pub mod Cells
+pub mod Indexed
+pub mod Places
+pub mod Sights
+pub mod Walks
