@@ -15,7 +15,8 @@
 - In the pages of CODE a function or a definition that is named behind a file, as `tide_paying/src/barrier.rt`: `shade`, is
   there, and so is a clause behind a function and its crate, as `pause` of `tide_cycle`: `reached`.
 - The fields and operations of docs/WORKLOAD.md, with their limits and operands, are those that bench/why.py has.
-- A block that begins with `mutators` is a summary that a run is compared with.
+- A block that begins with `mutators` is a summary that a run is compared with, and one that begins with `cell #` is the
+  lines of a run with a snapshot.
 - A line on the error output, as `riptide: not TOML`, is one that a refused input or a run that fails is compared with.
 
 It also tells which links of the pages lead nowhere, and which files that they name below crates/ aren't there.
@@ -87,6 +88,14 @@ def summaries_differ(name, page):
     for _, text in blocks(page):
         if text.startswith("mutators ") and text not in made:
             yield f"{name}: no run is compared with this summary:\n{text}"
+
+
+def lines_differ(name, page):
+    """The blocks of lines of cells are those of a run with a snapshot."""
+    shown = [path.read_text().partition("\nlive ")[2].partition("\n")[2] for path in DATA.rglob("*.snapshot.txt")]
+    for _, text in blocks(page):
+        if text.startswith("cell #") and text not in shown:
+            yield f"{name}: no run with a snapshot has these lines:\n{text}"
 
 
 def tables_differ(name, page):
@@ -202,7 +211,7 @@ def main():
         print(message)
     for name in ("README.md", "docs/WORKLOAD.md"):
         page = (TOP / name).read_text()
-        for differs in (blocks_differ, tables_differ, spans_differ, summaries_differ):
+        for differs in (blocks_differ, tables_differ, spans_differ, summaries_differ, lines_differ):
             for message in differs(name, page):
                 differ = 1
                 print(message)

@@ -2,11 +2,12 @@
 //! where they are told to.
 //!
 //! The lines of a row: `workload NAME` or lines `document LINE` are what there is to read, `text NAME` what is to be printed
-//! where that isn't the workload's text (a NAME is one of the shelf, `shelf.rt`), `words WORDS` are those of the command line,
-//! which is `riptide` alone where none are given (`''` is the empty word); `pieces BYTES` says how many bytes are given and
-//! taken a call, `reads fail CALLS`, `prints fail CALLS` and `tells fail CALLS` which calls fail, from 0, and `room BYTES` how
-//! much may be printed. `hold POINT until POINT` holds a participant at a point until another has come to one, in each of the
-//! runs below it: what a point is stands in the README of `check_heap`. Then
+//! where that isn't the workload's text (a NAME is one of the shelf, `shelf.rt`), `behind LINE` is one more line of that,
+//! `words WORDS` are those of the command line, which is `riptide` alone where none are given (`''` is the empty word);
+//! `pieces BYTES` says how many bytes are given and taken a call, `reads fail CALLS`, `prints fail CALLS` and
+//! `tells fail CALLS` which calls fail, from 0, and `room BYTES` how much may be printed. `hold POINT until POINT` holds a
+//! participant at a point until another has come to one, in each of the runs below it: what a point is stands in the README
+//! of `check_heap`. Then
 //!
 //! - `run` is answered with the status, and with an outcome where there is one; `run short of room` with `write faults` where
 //!   each room less than the text needs ends with one, and with as many first bytes of the text;
@@ -159,12 +160,27 @@ impl<'a> Trial<'a> {
         Ok(true)
     }
 
-    /// Takes what is to be read.
+    /// Takes one more line behind the text.
+    fn take_behind(&mut self, line: &[&str]) -> Result<bool, AllocError> {
+        let mut is_first = true;
+        for word in line {
+            if !is_first {
+                self.printed.push(b' ')?;
+            }
+            self.printed.extend_from_slice(word.as_bytes())?;
+            is_first = false;
+        }
+        self.printed.push(b'\n')?;
+        Ok(true)
+    }
+
+    /// Takes what is to be read, and what is to be printed of it.
     fn take(&mut self, alloc: Global, words: &[&str]) -> Result<bool, AllocError> {
         match words {
             ["workload", name] => self.take_workload(alloc, name),
             ["text", name] => self.take_text(alloc, name),
             ["document", line @ ..] => self.take_line(line),
+            ["behind", line @ ..] => self.take_behind(line),
             _ => Ok(false),
         }
     }

@@ -6,6 +6,7 @@
 //! - `plain CHECK`: on plain stores and shapes (`check_plain`).
 //! - `marking CHECK`: on heaps of words that are marked and collected (`check_marking`).
 //! - `table CHECK`: on the table of words that threads share (`check_table`).
+//! - `snapshot CHECK`: on snapshots of heaps of words (`check_snapshot`).
 //! - `facts SETTINGS MEETINGS SEED COUNT`: the texts of so many workloads, from this seed on, which are drawn from these files,
 //!   and judged (`check_facts`).
 //! - `counts SETTINGS MEETINGS SEED COUNT`: the same, and tells how much the texts had.
@@ -31,6 +32,7 @@ use check_marking::{check_marking, time_runs};
 use check_plain::check_plain;
 use check_runs::{Shelf, check_runs, check_ways};
 use check_shapes::check_shapes;
+use check_snapshot::{check_snapshot, time_large};
 use check_table::check_table;
 use embed_heap::both_find_seven;
 use embed_shapes::adds_in_order;
@@ -83,6 +85,7 @@ fn check_without_system(
         ["plain", check @ ..] => check_plain(alloc, findings, check),
         ["marking", check @ ..] => check_marking(alloc, findings, check),
         ["table", check @ ..] => check_table(alloc, findings, check),
+        ["snapshot", check @ ..] => check_snapshot(alloc, findings, check),
         ["ends", rows] => check_rows::<Ends>(alloc, findings, rows),
         _ => Ok(false),
     }
@@ -96,8 +99,9 @@ fn check_words<R: Runtime + AllocGlobal + Threads + Wait + Sync>(
 ) -> io::Result<bool> {
     let alloc = rt.alloc();
     match words {
-        // the clock, which `check_marking` isn't handed
+        // the clock, which `check_marking` and `check_snapshot` aren't handed
         ["marking", "runs", kind, marked, times] => time_runs(rt, alloc, kind, marked, times),
+        ["snapshot", "time", kind, blocks, times] => time_large(rt, alloc, kind, blocks, times),
         [what @ ("facts" | "counts"), settings, meetings, seed, count] => {
             let tells = *what == "counts";
             let all = check_facts(

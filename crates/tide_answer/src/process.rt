@@ -1,11 +1,11 @@
 //! The one call of a process: from the words of its command line, or that there was no memory for them, to how it
 //! ended, with the outcome of its run.
 ghost use Rattle.std.specs.Prelude.{◌≡◌, ◌≢◌, ◌≤◌, ◌⊎◌, None, true, IfOk, IfSome, IsErr, IsOk, IsSomeAnd};
-ghost use Rattle.std.specs.Io.KnownBytes.{Appends, Keeps};
-ghost use Rattle.tide_io.specs.Faults.{AppendsPart, Rose};
+ghost use Rattle.std.specs.Io.KnownBytes.{Keeps};
+ghost use Rattle.tide_io.specs.Faults.{Rose};
 ghost use Rattle.tide_options.specs.Options.{asked_by};
 ghost use Rattle.tide_workload.specs.Words.{reads_workload};
-ghost use Rattle.tide_run.specs.Asked.{AsksToRead, RanAsked, asks_for_made, printed_of};
+ghost use Rattle.tide_run.specs.Asked.{AsksToRead, Prints, PrintsPart, RanAsked, asks_for_made};
 ghost use Rattle.tide_run.specs.Program.{input_of, status_line, IsStatus, TellsLine, ToldFault};
 
 use std::alloc::{AllocError, Global};
@@ -42,12 +42,13 @@ pub fn answer<R: Threads + Sync, S: Source, K: Sink, E: Sink>(
         IsSomeAnd result.outcome (RanAsked (asked_by words.items) (S.left source.old) (S.left source.new))) }
     ensures no_outcome { result.status ≢ 0 → result.status ≢ 5 → result.outcome ≡ None }
 
-    // At 0 its text is printed whole, or its summary, at 5 a first part of it; else nothing is.
-    ensures printed { result.status ≡ 0 → IfOk words (λ words. IsSomeAnd result.outcome (λ ran.
-        Appends (K.held out.old) (K.held out.new) (printed_of (asked_by words.items) ran))) }
+    // At 0 its text is printed whole, or its summary, with the lines of a snapshot behind it, and at 5 a first part of that;
+    // else nothing is.
+    ensures printed { result.status ≡ 0 → IfOk words (λ words.
+        IsSomeAnd result.outcome (Prints (asked_by words.items) (K.held out.old) (K.held out.new))) }
     ensures handed_on { result.status ≡ 0 → K.waiting out.new ≡ 0 }
-    ensures printed_part { result.status ≡ 5 → IfOk words (λ words. IsSomeAnd result.outcome (λ ran.
-        AppendsPart (K.held out.old) (K.held out.new) (printed_of (asked_by words.items) ran))) }
+    ensures printed_part { result.status ≡ 5 → IfOk words (λ words.
+        IsSomeAnd result.outcome (PrintsPart (asked_by words.items) (K.held out.old) (K.held out.new))) }
     ensures nothing_printed { result.status ≢ 0 → result.status ≢ 5 → Keeps (K.held out.old) (K.held out.new) }
 
     // Words that ask for nothing are refused with nothing read, unless memory ran out.

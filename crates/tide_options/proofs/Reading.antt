@@ -1,7 +1,7 @@
 -- What a parse says of the words.
-use Rattle.std.proofs.Common.{ℕ, ◌≡◌, ◌≢◌, ◌<◌, ◌≤◌, ◌∙◌, ◌&&◌, ◌||◌, nat_lt, is_some, codes, unwrap_or, refl, sym, ap, subst, inl, inr, arith, Bool, true, false, List, [], ◌∷◌, Option, Some, None, Result, Ok, Err}
+use Rattle.std.proofs.Common.{ℕ, ◌≡◌, ◌≢◌, ◌≤◌, ◌∙◌, ◌&&◌, ◌||◌, nat_lt, is_some, codes, unwrap_or, refl, sym, ap, subst, inl, inr, arith, Bool, true, false, List, [], ◌∷◌, Option, Some, None, Result, Ok, Err}
 use Rattle.std.proofs.lemmas.Bool.{ltb-false, ne_eqb}
-use Rattle.std.specs.Prelude.{◌⊎◌, IfOk, IfErr, if◌then◌else◌}
+use Rattle.std.specs.Prelude.{IfOk, IfErr, if◌then◌else◌}
 use Rattle.std.specs.Result.{result_ok}
 use Rattle.clap.specs.Words.{HasKind, IsAmong, Kinds, Row, Text, fault_of, is_simple, is_simple_and_free, kind_of, matches_of}
 use Rattle.clap.proofs.OnLiterals.{clap_on_literals}
@@ -47,24 +47,56 @@ second_false : (a b : Bool) → (a || b) ≡ false → b ≡ false
 second_false true b neither = absurd (cc)
 second_false false b neither = neither
 
+first_false : (a b : Bool) → (a || b) ≡ false → a ≡ false
+first_false true b neither = absurd (cc)
+first_false false b neither = refl
+
+-- what rows give, if it can be had
+abbrev given_by : List Row → Options
+given_by rows = record {
+  visitors = unwrap_or (number_at (codes "visitors") rows) 0;
+  plain = is_set (codes "plain") rows;
+  make = number_at (codes "make") rows;
+  snapshot = is_set (codes "snapshot") rows;
+}
+
+-- the options that rows give can be had
+given : (rows : List Row) (options : Options) → options_in rows ≡ Some options → (is_too_much rows ≡ false) × (given_by rows ≡ options)
+given rows options is = go (is_too_much rows) refl
+  where
+    go : (b : Bool) → is_too_much rows ≡ b → (is_too_much rows ≡ false) × (given_by rows ≡ options)
+    go true much = let none : None ≡ Some options = sym (ap (λ (b : Bool). if b then None else Some (given_by rows)) much) ∙ is in absurd (cc)
+    go false much =
+        let some : Some (given_by rows) ≡ Some options = sym (ap (λ (b : Bool). if b then None else Some (given_by rows)) much) ∙ is in
+        (much, (let same : given_by rows ≡ options = cc in same))
+
+-- visitors beside a plain run
+abbrev has_both : List Row → Bool
+has_both rows = is_set (codes "plain") rows && is_some (number_at (codes "visitors") rows)
+
+-- a snapshot that can't be had
+abbrev shows_too_much : List Row → Bool
+shows_too_much rows = is_set (codes "snapshot") rows && (is_set (codes "plain") rows || is_some (number_at (codes "make") rows))
+
 -- there are few visitors
 few_visitors : (rows : List Row) (options : Options) → options_in rows ≡ Some options → options.visitors ≤ 8
-few_visitors rows options is = go (is_too_much rows) refl
-  where
-    found : Options
-    found = record {
-      visitors = unwrap_or (number_at (codes "visitors") rows) 0;
-      plain = is_set (codes "plain") rows;
-      make = number_at (codes "make") rows;
-    }
+few_visitors rows options is =
+    let (much, same) = given rows options is in
+    subst (λ (o : Options). o.visitors ≤ 8) same
+    (no_more (unwrap_or (number_at (codes "visitors") rows) 0) (second_false (shows_too_much rows) _ (second_false (has_both rows) _ much)))
 
-    go : (b : Bool) → is_too_much rows ≡ b → options.visitors ≤ 8
-    go true much = let none : None ≡ Some options = sym (ap (λ (b : Bool). if b then None else Some found) much) ∙ is in absurd (cc)
-    go false much =
-        let some : Some found ≡ Some options = sym (ap (λ (b : Bool). if b then None else Some found) much) ∙ is in
-        let same : found ≡ options = cc in
-        subst (λ (o : Options). o.visitors ≤ 8) same
-        (no_more found.visitors (second_false (is_set (codes "plain") rows && is_some (number_at (codes "visitors") rows)) _ much))
+plain_shows_nothing : (plain snapshot made : Bool) → (snapshot && (plain || made)) ≡ false → plain ≡ true → snapshot ≡ false
+plain_shows_nothing true true made none is = absurd (cc)
+plain_shows_nothing true false made none is = refl
+plain_shows_nothing false snapshot made none is = absurd (cc)
+
+-- and no snapshot of a plain run
+none_of_plain : (rows : List Row) (options : Options) → options_in rows ≡ Some options → options.plain ≡ true → options.snapshot ≡ false
+none_of_plain rows options is =
+    let (much, same) = given rows options is in
+    subst (λ (o : Options). o.plain ≡ true → o.snapshot ≡ false) same
+    (plain_shows_nothing (is_set (codes "plain") rows) (is_set (codes "snapshot") rows) (is_some (number_at (codes "make") rows))
+    (first_false (shows_too_much rows) _ (second_false (has_both rows) _ much)))
 
 -- the options that are handed on are those that were asked for
 pub asked_for : (given asked : Option Options) (r : Result Options Refused) → given ≡ result_ok r → given ≡ asked → IfOk r (λ options. asked ≡ Some options)
@@ -80,6 +112,12 @@ refused given asked (Err why) part same = λ other. sym same ∙ part
 pub few_asked : (rows : List Row) (given : Option Options) (r : Result Options Refused) → given ≡ result_ok r → given ≡ options_in rows → IfOk r (λ options. options.visitors ≤ 8)
 few_asked rows given (Ok options) part same = few_visitors rows options (sym same ∙ part)
 few_asked rows given (Err why) part same = tt
+
+-- nor have they a snapshot of a plain run
+pub shared_asked : (rows : List Row) (given : Option Options) (r : Result Options Refused) → given ≡ result_ok r → given ≡ options_in rows →
+    IfOk r (λ options. options.plain ≡ true → options.snapshot ≡ false)
+shared_asked rows given (Ok options) part same = none_of_plain rows options (sym same ∙ part)
+shared_asked rows given (Err why) part same = tt
 
 -- a word that names no option is refused, as is one that is no text, in whose place it stands
 pub stray_word : reads_options (codes "riptide" ∷ codes "?" ∷ []) ≡ None

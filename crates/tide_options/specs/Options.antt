@@ -1,5 +1,5 @@
 -- The options that words ask for.
-use Rattle.std.specs.Prelude.{ℕ, Bool, true, false, ◌&&◌, ◌||◌, nat_lt, if◌then◌else◌, List, map, String, string_bytes, Option, Some, None, is_some, unwrap_or, option_and_then, codes}
+use Rattle.std.specs.Prelude.{ℕ, Bool, false, ◌&&◌, ◌||◌, nat_lt, if◌then◌else◌, List, map, String, string_bytes, Option, Some, None, is_some, unwrap_or, option_and_then, codes}
 use Rattle.std.specs.Option.{option_map_or}
 use Rattle.std.specs.Str.{bytes_eq}
 use Rattle.std.specs.Str.Parse.{digits_value, without_leading_plus}
@@ -24,10 +24,12 @@ number_at name rows = option_and_then number_in (one_of name rows)
 abbrev pub is_set : Text → List Row → Bool
 is_set name rows = option_map_or (λ text. bytes_eq text (codes "true")) (one_of name rows) false
 
--- what was given can't be had: a number of visitors beside a plain run, or more visitors than there may be
+-- what was given can't be had: a number of visitors beside a plain run, a snapshot of a plain run or of a generated
+-- workload, or more visitors than there may be
 abbrev pub is_too_much : List Row → Bool
 is_too_much rows = (is_set (codes "plain") rows && is_some (number_at (codes "visitors") rows))
-    || nat_lt MAX_VISITORS (unwrap_or (number_at (codes "visitors") rows) 0)
+    || ((is_set (codes "snapshot") rows && (is_set (codes "plain") rows || is_some (number_at (codes "make") rows)))
+    || nat_lt MAX_VISITORS (unwrap_or (number_at (codes "visitors") rows) 0))
 
 -- the options that matches give
 abbrev pub options_in : List Row → Option Options
@@ -35,6 +37,7 @@ options_in rows = if is_too_much rows then None else Some (record {
   visitors = unwrap_or (number_at (codes "visitors") rows) 0;
   plain = is_set (codes "plain") rows;
   make = number_at (codes "make") rows;
+  snapshot = is_set (codes "snapshot") rows;
 })
 
 -- the options that the words of a command line ask for, or none where they are refused: the command takes them with no

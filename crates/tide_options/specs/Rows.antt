@@ -10,11 +10,15 @@ after_name words = reads_options (codes "riptide" ∷ words)
 
 -- so many visitors, and nothing else
 abbrev pub beside : ℕ → Option Options
-beside visitors = Some (record { visitors = visitors; plain = false; make = None })
+beside visitors = Some (record { visitors = visitors; plain = false; make = None; snapshot = false })
 
 -- no visitors, and so
 abbrev pub alone : Bool → Option ℕ → Option Options
-alone plain make = Some (record { visitors = 0; plain = plain; make = make })
+alone plain make = Some (record { visitors = 0; plain = plain; make = make; snapshot = false })
+
+-- so many visitors, and a snapshot
+abbrev pub shown : ℕ → Option Options
+shown visitors = Some (record { visitors = visitors; plain = false; make = None; snapshot = true })
 
 -- what some command lines ask for
 pub record Asked : Type 0 where
@@ -31,6 +35,8 @@ pub record Asked : Type 0 where
   pub largest : after_name (codes "--make" ∷ codes "18446744073709551615" ∷ []) ≡ alone false (Some 18446744073709551615)
   pub zeros_and_plus : after_name (codes "--make=+007" ∷ []) ≡ alone false (Some 7)
   pub end_of_options : after_name (codes "--plain" ∷ codes "--" ∷ []) ≡ alone true None
+  pub snapshot : after_name (codes "--snapshot" ∷ []) ≡ shown 0
+  pub snapshot_beside_visitors : after_name (codes "--snapshot" ∷ codes "--visitors" ∷ codes "2" ∷ []) ≡ shown 2
 
 -- each kind of mistake
 pub record Mistaken : Type 0 where
@@ -51,3 +57,7 @@ pub record Mistaken : Type 0 where
   pub number_twice : after_name (codes "--make" ∷ codes "1" ∷ codes "--make" ∷ codes "1" ∷ []) ≡ None
   pub nine_visitors : after_name (codes "--visitors" ∷ codes "9" ∷ []) ≡ None
   pub plain_with_visitors : after_name (codes "--plain" ∷ codes "--visitors" ∷ codes "0" ∷ []) ≡ None
+  pub snapshot_of_plain : after_name (codes "--plain" ∷ codes "--snapshot" ∷ []) ≡ None
+  pub snapshot_of_made : after_name (codes "--snapshot" ∷ codes "--make" ∷ codes "7" ∷ []) ≡ None
+  pub snapshot_twice : after_name (codes "--snapshot" ∷ codes "--snapshot" ∷ []) ≡ None
+  pub snapshot_with_value : after_name (codes "--snapshot=1" ∷ []) ≡ None

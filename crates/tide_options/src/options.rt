@@ -1,5 +1,5 @@
 //! The options that the words of a command line ask for.
-ghost use Rattle.std.specs.Prelude.{◌≡◌, ◌≢◌, ◌≤◌, Some, None, IfOk, IfErr};
+ghost use Rattle.std.specs.Prelude.{◌≡◌, ◌≢◌, ◌≤◌, Some, None, true, false, IfOk, IfErr};
 ghost use Rattle.clap.specs.Words.{found_of, kind_of, rows_of};
 ghost use Rattle.clap.specs.declared.error.kind.ErrorKind.TheVariants.{OutOfMemory};
 ghost use Rattle.tide_options.specs.Options.{asked_by, is_set, number_at, options_in};
@@ -21,6 +21,8 @@ pub struct Options {
     pub plain: bool,
     /// The number of the generated workload, where none is read.
     pub make: Option<u64>,
+    /// Whether a line of each cell that lives at the end is printed behind the text.
+    pub snapshot: bool,
 }
 
 /// Why words give no options.
@@ -56,14 +58,19 @@ fn is_set(matches: &ArgMatches, name: &str) -> bool
     matches.get_one::<bool>(name).unwrap_or(false)
 }
 
-/// The options that matches give. A plain run has no visitors, so it isn't asked for their number.
+/// The options that matches give. A plain run has no visitors, so it isn't asked for their number. A snapshot is of a heap
+/// that threads shared, and behind a text, so it isn't asked of a plain run nor of a generated workload.
 fn options_in(matches: &ArgMatches) -> Option<Options>
     ensures { result ≡ options_in (rows_of (found_of matches.now)) }
 {
     let visitors = number_at(matches, "visitors");
     let plain = is_set(matches, "plain");
     let make = number_at(matches, "make");
+    let snapshot = is_set(matches, "snapshot");
     if plain && visitors.is_some() {
+        return None;
+    }
+    if snapshot && (plain || make.is_some()) {
         return None;
     }
     let visitors = visitors.unwrap_or(0);
@@ -74,6 +81,7 @@ fn options_in(matches: &ArgMatches) -> Option<Options>
         visitors: visitors as u8,
         plain,
         make,
+        snapshot,
     })
 }
 
@@ -93,6 +101,7 @@ pub fn options_of(alloc: Global, words: &[String]) -> Result<Options, Refused>
     ensures asked { IfOk result (λ options. asked_by words.now ≡ Some options) }
     ensures refused { IfErr result (λ why. why ≢ Refused.Memory → asked_by words.now ≡ None) }
     ensures few { IfOk result (λ options. options.visitors ≤ 8) }
+    ensures shared { IfOk result (λ options. options.plain ≡ true → options.snapshot ≡ false) }
 {
     let matches = match command(alloc)?.try_get_matches_from(words) {
         Ok(matches) => matches,

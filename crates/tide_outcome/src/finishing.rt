@@ -1,6 +1,6 @@
 //! What a run left, as the outcome of its workload.
 ghost use Rattle.std.specs.Prelude.{ℕ, ◌≡◌, ◌≤◌, map};
-ghost use Rattle.tide_outcome.specs.Outcome.{is_heap, HasLeft};
+ghost use Rattle.tide_outcome.specs.Outcome.{history_of, is_heap, HasLeft};
 ghost use Rattle.tide_outcome.specs.Runs.{IsRunOf};
 
 use crate::outcome::{Kept, Outcome, Told};
@@ -70,6 +70,7 @@ pub(crate) fn outcome_of(
     requires none_met { visitors ≡ 0 → deferred ≡ 0 }
     ensures run { (trigger : ℕ) → HasLeft load.now trigger visitors ran → IsRunOf load.now trigger visitors result }
     ensures heap { result.is_heap ≡ is_heap ran.kept }
+    ensures history { result.history ≡ history_of ran.kept }
 {
     Outcome::new(layout_of(load, visitors), names, ran, deferred)
 }

@@ -19,7 +19,7 @@ use tide_workload::Workload;
 
 /// The heap that threads share, with a mutator for each of the workload's scripts and so many visitors, and its cycles paced
 /// so.
-fn heap_for(
+pub(crate) fn heap_for(
     alloc: Global,
     load: &Workload,
     visitors: u8,

@@ -2,3 +2,4 @@
 pub mod Causes
 pub mod Counted
 pub mod Printed
+pub mod Shown

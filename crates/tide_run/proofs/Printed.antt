@@ -3,7 +3,7 @@ use Rattle.std.proofs.Common.{◌≡◌, ℕ, zero, suc, ◌+◌, ◌<◌, ◌�
 use Rattle.std.proofs.lemmas.Bool.{eqb-true, eqb-false}
 use Rattle.std.proofs.lemmas.List.{take_more}
 use Rattle.std.proofs.lemmas.List.Concat.{flat_map-append}
-use Rattle.std.specs.Prelude.{◌==◌, Option}
+use Rattle.std.specs.Prelude.{◌==◌, Option, Result, Ok, Err, OnOk}
 use Rattle.std.specs.Io.KnownBytes.{Appends, Keeps}
 use Rattle.std.proofs.KnownBytes.{Appends-kept}
 use Rattle.tide_io.specs.Faults.{AppendsPart}
@@ -28,6 +28,11 @@ use Rattle.tide_run.specs.Printing.{answered_line, reported_line}
 -- all bytes are a part of themselves, and stay so where what is held stays
 pub kept_is_part : (a b c : Option (List ℕ)) (bytes : List ℕ) → Appends a b bytes → Keeps b c → AppendsPart a c bytes
 kept_is_part a b c bytes appended kept = (length bytes, subst (Appends a c) (sym (take-all bytes)) (Appends-kept a b c bytes appended kept))
+
+-- what holds anyway holds at an `Ok`
+pub OnOk-from : {T E P : Type 0} (result : Result T E) → P → OnOk result P
+OnOk-from (Ok value) holds = holds
+OnOk-from (Err error) holds = tt
 
 -- one line more
 pub one_line_more : {X : Type 0} (line : X → List ℕ) (xs : List X) (i : ℕ) (d : X) → i < length xs →

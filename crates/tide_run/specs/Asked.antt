@@ -1,9 +1,16 @@
 -- What the words of a command line ask for, and what that comes to.
-use Rattle.std.specs.Prelude.{ℕ, ◌≡◌, Bool, false, not, List, Option, Some, None, is_some, if◌then◌else◌}
+use Rattle.std.specs.Prelude.{ℕ, ◌≡◌, Bool, true, false, not, List, [], ◌++◌, Option, Some, None, is_some, if◌then◌else◌}
 use Rattle.std.specs.Option.{option_map_or}
-use Rattle.std.specs.Io.KnownBytes.{Keeps}
+use Rattle.std.specs.Io.KnownBytes.{Appends, Keeps}
+use Rattle.tide_io.specs.Faults.{AppendsPart}
 use Rattle.tide_make.specs.Made.{made}
+use Rattle.tide_model.specs.History.{state_after}
+use Rattle.tide_model.specs.Refused.{ShapeLists}
 use Rattle.tide_options.specs.declared.options.Options.{Options}
+use Rattle.tide_retained.specs.declared.contents.Contents.{Contents}
+use Rattle.tide_retained.specs.Contents.{HasKeysOf}
+use Rattle.tide_retained.specs.Holding.{IsSnapshotOf}
+use Rattle.tide_snapshot.specs.Line.{AreLines}
 use Rattle.tide_workload.specs.Words.{Counts, Work, summary_of, summary_text, text_of}
 use Rattle.tide_run.specs.Program.{ReadWork}
 use Rattle.tide_run.specs.Runs.{IsRunOf, Ran}
@@ -46,9 +53,41 @@ abbrev pub printed_as : Bool → Ran → List ℕ
 printed_as is_made ran =
     if is_made then summary_of ran.layout ran.history else text_of ran.keys ran.layout ran.history
 
--- what is printed of a run that options asked for
+-- what is printed of a run that options asked for, before the lines of a snapshot
 abbrev pub printed_of : Option Options → Ran → List ℕ
 printed_of asked ran = printed_as (asks_for_made asked) ran
+
+-- the options ask for a snapshot
+abbrev pub asks_for_snapshot : Option Options → Bool
+asks_for_snapshot asked = option_map_or (λ options. options.snapshot) asked false
+
+-- the lines of a run's last state where a snapshot is asked for, and else none
+abbrev pub AreLinesOf : Bool → Ran → List ℕ → Type 0
+AreLinesOf true ran lines = AreLines ran.layout ran.keys (state_after ran.layout ran.history) lines
+AreLinesOf false ran lines = lines ≡ []
+
+-- The text is what is printed of a run that options asked for: its summary or its text, and then the line of each cell that
+-- lives at its end, where a snapshot is asked for. Of the paths of the fewest steps to a cell any will do.
+pub record IsPrintedOf (asked : Option Options) (ran : Ran) (text : List ℕ) : Type 0 where
+  pub lines : List ℕ
+  pub are : AreLinesOf (asks_for_snapshot asked) ran lines
+  pub is : text ≡ printed_of asked ran ++ lines
+
+-- it was printed whole
+abbrev pub Prints : Option Options → Option (List ℕ) → Option (List ℕ) → Ran → Type 0
+Prints asked old new ran = (text : List ℕ) × IsPrintedOf asked ran text × Appends old new text
+
+-- a first part of it was printed
+abbrev pub PrintsPart : Option Options → Option (List ℕ) → Option (List ℕ) → Ran → Type 0
+PrintsPart asked old new ran = (text : List ℕ) × IsPrintedOf asked ran text × AppendsPart old new text
+
+-- what is shown of the last state of a run: a snapshot of it where one is asked for, whose properties have keys of these
+-- shapes, and else nothing
+abbrev pub IsShownOf : Bool → ShapeLists → Ran → Option Contents → Type 0
+IsShownOf true shapes ran None = ⊥
+IsShownOf true shapes ran (Some snapshot) =
+    IsSnapshotOf ran.layout (state_after ran.layout ran.history) snapshot × HasKeysOf shapes snapshot
+IsShownOf false shapes ran shown = shown ≡ None
 
 -- what is printed of a run with these counts of it: the lines of them, and its text where there are none
 abbrev pub printed_with : Option Counts → Ran → List ℕ

@@ -1,10 +1,11 @@
 //! From the words of a command line to a run: the workload that they ask for, and the store that runs it.
-ghost use Rattle.std.specs.Prelude.{◌≡◌, ◌≢◌, ◌≤◌, ◌⊎◌, Some, None, IfOk, IfErr, is_some, not, true};
+ghost use Rattle.std.specs.Prelude.{◌≡◌, ◌≢◌, ◌≤◌, ◌⊎◌, Some, None, IfOk, IfErr, is_some, not, true, false};
 ghost use Rattle.std.specs.Io.KnownBytes.{Keeps};
 ghost use Rattle.tide_io.specs.Faults.{Rose};
 ghost use Rattle.tide_options.specs.Options.{asked_by};
+ghost use Rattle.tide_shape.specs.Shapes.{shapes_of_paths};
 ghost use Rattle.tide_workload.specs.Words.{Fault as FaultValue};
-ghost use Rattle.tide_run.specs.Asked.{AsksToRead, IsAskedFor, RanAsked, asks_for_made, printed_as, printed_of, printed_with, trigger_for, visitors_for};
+ghost use Rattle.tide_run.specs.Asked.{AsksToRead, IsAskedFor, IsShownOf, RanAsked, asks_for_made, asks_for_snapshot, printed_as, printed_of, printed_with, trigger_for, visitors_for};
 ghost use Rattle.tide_run.specs.Program.{ReadWork, RefusedInput};
 ghost use Rattle.tide_run.specs.Runs.{IsRunOf};
 
@@ -17,15 +18,18 @@ use tide_io::{ReadError, Source, read_up_to};
 use tide_make::make;
 use tide_model::{Memory, Turnstile};
 use tide_options::{Options, Refused, options_of};
-use tide_outcome::{Outcome, plain, run};
+use tide_outcome::{Outcome, plain, run, run_with_snapshot};
+use tide_snapshot::Snapshot;
 use tide_workload::{Counts, Fault, MAX_BYTES, Workload, read};
 
-/// A run, and what is to be printed of it: the counts of its calls, or the text of them where there are no counts.
+/// A run, and what is to be printed of it: the counts of its calls, or the text of them where there are no counts, and the
+/// lines of a snapshot where there is one.
 #[derive(Drop)]
 pub struct Printable {
     pub load: Workload,
     pub outcome: Outcome,
     pub counts: Option<Counts>,
+    pub snapshot: Option<Snapshot>,
 }
 
 /// The options that words ask for.
@@ -34,6 +38,7 @@ fn asked_options(alloc: Global, words: &[String]) -> Result<Options, Stop>
     ensures usage { result ≡ Err Stop.Usage → asked_by words.now ≡ None }
     ensures others { IfErr result (λ stop. (stop ≡ Stop.Usage) ⊎ (stop ≡ Stop.Memory)) }
     ensures few { IfOk result (λ options. options.visitors ≤ 8) }
+    ensures shared { IfOk result (λ options. options.plain ≡ true → options.snapshot ≡ false) }
 {
     match options_of(alloc, words) {
         Ok(options) => Ok(options),
@@ -84,6 +89,28 @@ fn asked_workload<S: Source>(
     }
 }
 
+/// Runs a workload on the heap that its mutators share, and takes a snapshot at the end if one is asked for.
+fn run_shared<R: Threads + Sync, T: Turnstile>(
+    rt: &R,
+    alloc: Global,
+    load: &Workload,
+    options: Options,
+    gate: &T,
+) -> Result<(Outcome, Option<Snapshot>), Memory>
+    requires { options.visitors ≤ 8 }
+    ensures run { IfOk result (λ ran. IsRunOf load.now load.now.settings.trigger options.visitors ran.0) }
+    ensures heap { IfOk result (λ ran. ran.0.is_heap ≡ true) }
+    ensures shown { IfOk result (λ ran. IsShownOf options.snapshot (shapes_of_paths load.now.paths) ran.0 ran.1) }
+{
+    if options.snapshot {
+        let (outcome, snapshot) = run_with_snapshot(rt, alloc, load, options.visitors, gate)?;
+        Ok((outcome, Some(snapshot)))
+    } else {
+        let outcome = run(rt, alloc, load, options.visitors, gate)?;
+        Ok((outcome, None))
+    }
+}
+
 /// Runs a workload on the store that is asked for.
 fn run_asked<R: Threads + Sync, T: Turnstile>(
     rt: &R,
@@ -91,15 +118,19 @@ fn run_asked<R: Threads + Sync, T: Turnstile>(
     load: &Workload,
     options: Options,
     gate: &T,
-) -> Result<Outcome, Memory>
-    requires { options.visitors ≤ 8 }
-    ensures run { IfOk result (IsRunOf load.now (trigger_for options load.now) (visitors_for options)) }
-    ensures heap { IfOk result (λ ran. ran.is_heap ≡ not options.plain) }
+) -> Result<(Outcome, Option<Snapshot>), Memory>
+    requires few { options.visitors ≤ 8 }
+    requires shared { options.plain ≡ true → options.snapshot ≡ false }
+    ensures run { IfOk result (λ ran. IsRunOf load.now (trigger_for options load.now) (visitors_for options) ran.0) }
+    ensures heap { IfOk result (λ ran. ran.0.is_heap ≡ not options.plain) }
+    ensures shown { IfOk result (λ ran. IsShownOf options.snapshot (shapes_of_paths load.now.paths) ran.0 ran.1) }
 {
     if options.plain {
-        plain(alloc, load)
+        let outcome = plain(alloc, load)?;
+        Ok((outcome, None))
     } else {
-        run(rt, alloc, load, options.visitors, gate)
+        let ran = run_shared(rt, alloc, load, options, gate)?;
+        Ok(ran)
     }
 }
 
@@ -122,11 +153,14 @@ fn attempt_with<R: Threads + Sync, S: Source, T: Turnstile>(
     source: &mut S,
     gate: &T,
 ) -> Result<Printable, Stop>
-    requires { options.visitors ≤ 8 }
+    requires few { options.visitors ≤ 8 }
+    requires shared { options.plain ≡ true → options.snapshot ≡ false }
     ensures ran { IfOk result (λ done. RanAsked (Some options) (S.left source.old) (S.left source.new) done.outcome) }
     ensures keys { IfOk result (λ done. done.outcome.keys ≡ done.load.keys) }
     ensures prints { IfOk result (λ done.
         printed_with done.counts done.outcome ≡ printed_of (Some options) done.outcome) }
+    ensures shown { IfOk result (λ done.
+        IsShownOf options.snapshot (shapes_of_paths done.load.paths) done.outcome done.snapshot) }
     ensures usage { result ≢ Err Stop.Usage }
     ensures unread { is_some options.make ≡ true → Keeps (S.left source.old) (S.left source.new) }
     ensures read_fault { result ≡ Err Stop.ReadFault →
@@ -136,8 +170,8 @@ fn attempt_with<R: Threads + Sync, S: Source, T: Turnstile>(
     ensures later { S.faults source.old ≤ S.faults source.new }
 {
     let load = asked_workload(alloc, options.make, source)?;
-    let outcome = match run_asked(rt, alloc, &load, options, gate) {
-        Ok(outcome) => outcome,
+    let (outcome, snapshot) = match run_asked(rt, alloc, &load, options, gate) {
+        Ok(ran) => ran,
         Err(Memory) => return Err(Stop::Memory),
     };
     match asked_counts(options.make.is_some(), &outcome) {
@@ -145,6 +179,7 @@ fn attempt_with<R: Threads + Sync, S: Source, T: Turnstile>(
             load,
             outcome,
             counts,
+            snapshot,
         }),
         Err(Memory) => Err(Stop::Memory),
     }
@@ -163,6 +198,8 @@ pub fn attempt<R: Threads + Sync, S: Source, T: Turnstile>(
     ensures keys { IfOk result (λ done. done.outcome.keys ≡ done.load.keys) }
     ensures prints { IfOk result (λ done.
         printed_with done.counts done.outcome ≡ printed_of (asked_by words.now) done.outcome) }
+    ensures shown { IfOk result (λ done. IsShownOf (asks_for_snapshot (asked_by words.now))
+        (shapes_of_paths done.load.paths) done.outcome done.snapshot) }
     ensures usage { result ≡ Err Stop.Usage → asked_by words.now ≡ None }
     ensures words { IfErr result (λ stop. asked_by words.now ≡ None → (stop ≡ Stop.Usage) ⊎ (stop ≡ Stop.Memory)) }
     ensures unread { result ≡ Err Stop.Usage → Keeps (S.left source.old) (S.left source.new) }

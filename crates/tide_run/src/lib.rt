@@ -2,7 +2,7 @@
 //!
 //! `riptide` carries the history theorem: what it printed is the text of a legal history of the workload that it
 //! read, or the summary of one of the workload that it made. What it runs, and on which store, stands in `tide_outcome`.
-//! Its calls are handed on here: `run` and `plain`.
+//! Its calls are handed on here: `run`, `run_with_snapshot` and `plain`.
 #![tactic(auto)]
 
 mod asking;
@@ -11,4 +11,6 @@ mod printing;
 mod program;
 
 pub use program::{Ended, riptide};
-pub use tide_outcome::{Answered, CycleLine, Kept, Outcome, Report, Told, plain, run};
+pub use tide_outcome::{
+    Answered, CycleLine, Kept, Outcome, Report, Told, plain, run, run_with_snapshot,
+};

@@ -1,19 +1,21 @@
 //! Printing a run.
-ghost use Rattle.std.specs.Prelude.{◌≡◌, ◌<◌, ◌+◌, ◌≤◌, length, All, OnOk, OnErr};
+ghost use Rattle.std.specs.Prelude.{◌≡◌, ◌<◌, ◌+◌, ◌≤◌, ℕ, List, length, All, IfSome, OnOk, OnErr};
 ghost use Rattle.std.specs.List.{flat_map};
 ghost use Rattle.std.specs.Io.KnownBytes.{Appends};
 ghost use Rattle.tide_io.specs.Faults.{AppendsPart, HasCause};
-ghost use Rattle.tide_workload.specs.Words.{HasText, cycles_from, mutator_text, mutators_text, summary_text, text_of};
+ghost use Rattle.tide_retained.specs.Contents.{HasKeysOf};
+ghost use Rattle.tide_shape.specs.Shapes.{shapes_of_paths};
+ghost use Rattle.tide_workload.specs.Words.{HasText, cycles_from, mutator_text, mutators_text, text_of};
 ghost use Rattle.tide_model.specs.State.{empty_state};
-ghost use Rattle.tide_run.specs.Printing.{answered_line, reported_line};
+ghost use Rattle.tide_run.specs.Asked.{printed_with};
+ghost use Rattle.tide_run.specs.Printing.{answered_line, reported_line, AreShownLines, IsPrintedWith};
 
+use crate::asking::Printable;
 use tide_io::{Failed, Sink};
 use tide_outcome::Outcome;
 use tide_periods::Answered;
 use tide_report::{CycleLine, Report};
-use tide_workload::{
-    Counts, Workload, write_call, write_cycle, write_live, write_mutator, write_summary,
-};
+use tide_workload::{Workload, write_call, write_cycle, write_live, write_mutator, write_summary};
 
 /// Writes the line of each call.
 fn write_calls<K: Sink>(out: &mut K, load: &Workload, calls: &[Answered]) -> Result<(), Failed>
@@ -115,27 +117,60 @@ fn write_text<K: Sink>(out: &mut K, load: &Workload, outcome: &Outcome) -> Resul
     write_live(out, outcome.live())
 }
 
-/// Writes the text of a run, and has the sink hand on all of it.
-pub fn print_text<K: Sink>(out: &mut K, load: &Workload, outcome: &Outcome) -> Result<(), Failed>
-    requires keys { outcome.now.keys ≡ load.now.keys }
+/// Writes the summary of a run where there are counts, and else its text.
+fn write_run<K: Sink>(out: &mut K, done: &Printable) -> Result<(), Failed>
+    requires keys { done.now.outcome.keys ≡ done.now.load.keys }
     ensures whole { OnOk result (Appends (K.held out.old) (K.held out.new)
-        (text_of outcome.now.keys outcome.now.layout outcome.now.history)) }
+        (printed_with done.now.counts done.now.outcome)) }
     ensures part { OnErr result (AppendsPart (K.held out.old) (K.held out.new)
-        (text_of outcome.now.keys outcome.now.layout outcome.now.history)) }
-    ensures handed_on { OnOk result (K.waiting out.new ≡ 0) }
+        (printed_with done.now.counts done.now.outcome)) }
     ensures cause { HasCause (K.faults out.old) (K.faults out.new) result }
 {
-    write_text(out, load, outcome)?;
-    out.flush()
+    match done.counts {
+        Some(counts) => write_summary(out, counts),
+        None => write_text(out, &done.load, &done.outcome),
+    }
 }
 
-/// Writes the summary of a run, and has the sink hand on all of it.
-pub fn print_summary<K: Sink>(out: &mut K, counts: Counts) -> Result<(), Failed>
-    ensures whole { OnOk result (Appends (K.held out.old) (K.held out.new) (summary_text counts)) }
-    ensures part { OnErr result (AppendsPart (K.held out.old) (K.held out.new) (summary_text counts)) }
+/// Writes the lines of a snapshot, where there is one.
+fn write_snapshot<K: Sink>(out: &mut K, done: &Printable) -> Result<(), Failed>
+    requires shapes { IfSome done.now.snapshot (HasKeysOf (shapes_of_paths done.now.load.paths)) }
+    ensures whole { OnOk result ((lines : List ℕ) × AreShownLines done.now.load.keys done.now.snapshot lines
+        × Appends (K.held out.old) (K.held out.new) lines) }
+    ensures part { OnErr result ((lines : List ℕ) × AreShownLines done.now.load.keys done.now.snapshot lines
+        × AppendsPart (K.held out.old) (K.held out.new) lines) }
+    ensures cause { HasCause (K.faults out.old) (K.faults out.new) result }
+{
+    match &done.snapshot {
+        Some(snapshot) => snapshot.write_lines(out, &done.load),
+        None => Ok(()),
+    }
+}
+
+/// There are lines of a snapshot, where there is one: a law, which has no code.
+fn has_lines(done: &Printable)
+    ensures { (lines : List ℕ) × AreShownLines done.now.load.keys done.now.snapshot lines }
+{
+    match &done.snapshot {
+        Some(snapshot) => snapshot.has_lines(),
+        None => {}
+    }
+}
+
+/// Writes what is to be printed of a run, and has the sink hand on all of it.
+pub fn print_run<K: Sink>(out: &mut K, done: &Printable) -> Result<(), Failed>
+    requires keys { done.now.outcome.keys ≡ done.now.load.keys }
+    requires shapes { IfSome done.now.snapshot (HasKeysOf (shapes_of_paths done.now.load.paths)) }
+    ensures whole { OnOk result ((text : List ℕ) × IsPrintedWith done.now text
+        × Appends (K.held out.old) (K.held out.new) text) }
+    ensures part { OnErr result ((text : List ℕ) × IsPrintedWith done.now text
+        × AppendsPart (K.held out.old) (K.held out.new) text) }
     ensures handed_on { OnOk result (K.waiting out.new ≡ 0) }
     ensures cause { HasCause (K.faults out.old) (K.faults out.new) result }
 {
-    write_summary(out, counts)?;
+    // where the text fails, it is a part of it with its lines
+    has_lines(done);
+    write_run(out, done)?;
+    write_snapshot(out, done)?;
     out.flush()
 }

@@ -1,18 +1,21 @@
 //! The whole program, over any source and sinks.
-ghost use Rattle.std.specs.Prelude.{◌≡◌, ◌≢◌, ◌≤◌, ◌⊎◌, Some, None, true, OnOk, OnErr, IsOk, IsErr, IfSome, IsSomeAnd};
+ghost use Rattle.std.specs.Prelude.{◌≡◌, ◌≢◌, ◌≤◌, ◌⊎◌, ℕ, List, Some, None, true, IsOk, IsErr, IfSome, IsSomeAnd};
 ghost use Rattle.std.specs.Io.KnownBytes.{Appends, Keeps};
-ghost use Rattle.tide_io.specs.Faults.{AppendsPart, HasCause, Rose};
+ghost use Rattle.tide_io.specs.Faults.{AppendsPart, Rose};
 ghost use Rattle.tide_options.specs.Options.{asked_by};
+ghost use Rattle.tide_retained.specs.Contents.{HasKeysOf};
+ghost use Rattle.tide_shape.specs.Shapes.{shapes_of_paths};
 ghost use Rattle.tide_workload.specs.Words.{reads_workload};
-ghost use Rattle.tide_run.specs.Asked.{AsksToRead, RanAsked, asks_for_made, printed_of, printed_with};
+ghost use Rattle.tide_run.specs.Asked.{AsksToRead, Prints, PrintsPart, RanAsked, asks_for_made};
+ghost use Rattle.tide_run.specs.Printing.{IsPrintedWith};
 ghost use Rattle.tide_run.specs.Program.{input_of, status_line, IsStatus, TellsLine, ToldFault};
 
 use crate::asking::{Printable, attempt};
-use crate::printing::{print_summary, print_text};
+use crate::printing::print_run;
 use std::alloc::Global;
 use std::marker::Sync;
 use std::thread::Threads;
-use tide_io::{Failed, Sink, Source, write_all};
+use tide_io::{Sink, Source, write_all};
 use tide_model::Turnstile;
 use tide_outcome::Outcome;
 use tide_workload::{Fault, write_fault_line};
@@ -56,7 +59,7 @@ impl Stop {
         match self {
             Stop::Usage => tell(
                 err,
-                "riptide: usage: riptide [--visitors N] [--plain] [--make N]\n",
+                "riptide: usage: riptide [--visitors N] [--plain] [--make N] [--snapshot]\n",
             ),
             Stop::ReadFault => tell(err, "riptide: read fault\n"),
             Stop::BadInput { fault } => {
@@ -74,31 +77,16 @@ fn tell<E: Sink>(err: &mut E, line: &str)
     let _ = write_all(err, line.as_bytes());
 }
 
-/// Prints what is to be printed of a run.
-fn print_run<K: Sink>(out: &mut K, done: &Printable) -> Result<(), Failed>
-    requires keys { done.now.outcome.keys ≡ done.now.load.keys }
-    ensures whole { OnOk result (Appends (K.held out.old) (K.held out.new)
-        (printed_with done.now.counts done.now.outcome)) }
-    ensures part { OnErr result (AppendsPart (K.held out.old) (K.held out.new)
-        (printed_with done.now.counts done.now.outcome)) }
-    ensures handed_on { OnOk result (K.waiting out.new ≡ 0) }
-    ensures cause { HasCause (K.faults out.old) (K.faults out.new) result }
-{
-    match done.counts {
-        Some(counts) => print_summary(out, counts),
-        None => print_text(out, &done.load, &done.outcome),
-    }
-}
-
 /// Prints a run, and tells where that fails.
 fn print<K: Sink, E: Sink>(out: &mut K, err: &mut E, done: Printable) -> Ended
     requires keys { done.outcome.keys ≡ done.load.keys }
+    requires shapes { IfSome done.snapshot (HasKeysOf (shapes_of_paths done.load.paths)) }
     ensures status { (result.status ≡ 0) ⊎ (result.status ≡ 5) }
     ensures outcome { result.outcome ≡ Some done.outcome }
-    ensures printed { result.status ≡ 0 →
-        Appends (K.held out.old) (K.held out.new) (printed_with done.counts done.outcome) }
-    ensures part { result.status ≡ 5 →
-        AppendsPart (K.held out.old) (K.held out.new) (printed_with done.counts done.outcome) }
+    ensures printed { result.status ≡ 0 → (text : List ℕ) × IsPrintedWith done text
+        × Appends (K.held out.old) (K.held out.new) text }
+    ensures part { result.status ≡ 5 → (text : List ℕ) × IsPrintedWith done text
+        × AppendsPart (K.held out.old) (K.held out.new) text }
     ensures handed_on { result.status ≡ 0 → K.waiting out.new ≡ 0 }
     ensures write_fault { result.status ≡ 5 → Rose (K.faults out.old) (K.faults out.new) }
     ensures quiet { result.status ≡ 0 → Keeps (E.held err.old) (E.held err.new) }
@@ -126,8 +114,8 @@ fn print<K: Sink, E: Sink>(out: &mut K, err: &mut E, done: Printable) -> Ended
 ///
 /// `words` are those of the command line, of which the first is the program's name. A workload is read from `source`, run
 /// on the store that the words ask for, and the text of the run is printed to `out`. Where the words ask for the
-/// generated workload of a number, nothing is read, and a summary is printed in place of the text. Where one of these
-/// fails, a line on `err` says why.
+/// generated workload of a number, nothing is read, and a summary is printed in place of the text; where they ask for a
+/// snapshot, a line of each cell that lives at the end follows the text. Where one of these fails, a line on `err` says why.
 pub fn riptide<R: Threads + Sync, S: Source, K: Sink, E: Sink, T: Turnstile>(
     rt: &R,
     alloc: Global,
@@ -142,10 +130,10 @@ pub fn riptide<R: Threads + Sync, S: Source, K: Sink, E: Sink, T: Turnstile>(
     // What was run is a legal history of the workload that was asked for, each operation once and in its order.
     ensures ran { (result.status ≡ 0) ⊎ (result.status ≡ 5) →
         IsSomeAnd result.outcome (RanAsked (asked_by words.now) (S.left source.old) (S.left source.new)) }
-    ensures printed { result.status ≡ 0 → IsSomeAnd result.outcome (λ ran.
-        Appends (K.held out.old) (K.held out.new) (printed_of (asked_by words.now) ran)) }
-    ensures printed_part { result.status ≡ 5 → IsSomeAnd result.outcome (λ ran.
-        AppendsPart (K.held out.old) (K.held out.new) (printed_of (asked_by words.now) ran)) }
+    ensures printed { result.status ≡ 0 →
+        IsSomeAnd result.outcome (Prints (asked_by words.now) (K.held out.old) (K.held out.new)) }
+    ensures printed_part { result.status ≡ 5 →
+        IsSomeAnd result.outcome (PrintsPart (asked_by words.now) (K.held out.old) (K.held out.new)) }
 
     // What was printed waits in no buffer.
     ensures handed_on { result.status ≡ 0 → K.waiting out.new ≡ 0 }

@@ -3,7 +3,8 @@
 //!
 //! A `Participant` is a mutator with what it asks for, or a visitor. In a part each begins with its ticket, makes its share
 //! of calls or of visits, and stops; the collector opens the part and hands tickets out before, and takes notes in and
-//! freezes after. `OnThreads` is a heap with its participants, which `run_on_threads` runs until all mutators have retired.
+//! freezes after. `OnThreads` is a heap with its participants, which `run_on_threads` runs until all mutators have retired;
+//! `run_with_snapshot` takes a snapshot of it then.
 //! What a call does, and what a visit or a freeze marks, is decided by the crates below.
 #![tactic(auto)]
 
@@ -16,8 +17,10 @@ mod part;
 mod participant;
 mod periods;
 mod playing;
+mod showing;
 mod worker;
 
 pub use on_threads::OnThreads;
 pub use participant::Participant;
 pub use periods::{HeapRun, run_on_threads};
+pub use showing::run_with_snapshot;

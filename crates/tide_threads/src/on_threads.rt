@@ -11,6 +11,8 @@ ghost use Rattle.tide_periods.specs.Periods.{RanFreeze};
 ghost use Rattle.tide_periods.specs.Recorded.{IsSettled};
 ghost use Rattle.tide_periods.specs.declared.caller.Caller.{Caller};
 ghost use Rattle.tide_report.specs.Ends.{TellsEnds};
+ghost use Rattle.tide_retained.specs.Contents.{HasKeysOf};
+ghost use Rattle.tide_retained.specs.Holding.{IsSnapshotOf};
 ghost use Rattle.tide_shape.specs.Lists.{lists_of};
 ghost use Rattle.tide_table.specs.Started.{ArePasses};
 ghost use Rattle.tide_threads.specs.Acting.{before_all, caller_of, callers_in, is_silent, races_in};
@@ -22,6 +24,7 @@ ghost use Rattle.tide_threads.specs.declared.participant.Participant.{Participan
 use crate::living::count_live;
 use crate::part::run_whole_part;
 use crate::participant::Participant;
+use crate::showing::snapshot_of;
 use crate::worker::Worker;
 use crossbeam_utils::CachePadded;
 use std::alloc::Global;
@@ -34,6 +37,7 @@ use tide_periods::{Answered, Caller, Room, callers_of};
 use tide_report::Report;
 use tide_sched::Pacing;
 use tide_shape::Shapes;
+use tide_snapshot::Snapshot;
 use tide_table::{Closed, Collector, Heap, Pass, Start};
 use tide_words::GreyList;
 
@@ -303,6 +307,18 @@ impl OnThreads {
         ensures stands { Stands self.new }
     {
         count_live(&self.heap, &mut self.collector)
+    }
+
+    /// A snapshot of what the heap holds.
+    pub(crate) fn snapshot(&mut self, alloc: Global) -> Result<Snapshot, Memory>
+        requires stands { Stands self.old }
+        ensures snapshot { IfOk result (IsSnapshotOf (setting_in self.old).layout (recorded_in self.old).state) }
+        ensures keys { IfOk result (HasKeysOf (setting_in self.old).shapes) }
+        ensures same { recorded_in self.new ≡ recorded_in self.old }
+        ensures callers { callers_on self.new ≡ callers_on self.old }
+        ensures stands { Stands self.new }
+    {
+        snapshot_of(alloc, &self.heap, &mut self.collector)
     }
 
     /// How many races the visitors met, as far as 64 bits count them.

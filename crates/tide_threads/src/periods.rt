@@ -1,6 +1,7 @@
 //! A run on threads, in periods: a part is opened and run, a freeze follows, until each mutator has retired.
 ghost use Rattle.std.specs.Prelude.{◌≡◌, ◌≤◌, ◌-◌, ◌<◌, ◌^◌, true, false, [], All, length, map, IfOk, OnOk};
 ghost use Rattle.std.specs.List.{list_all};
+ghost use Rattle.tide_model.specs.Cycle.{live_count};
 ghost use Rattle.tide_model.specs.Periods.{is_over, next_run};
 ghost use Rattle.tide_periods.specs.Asking.{scripts_of};
 ghost use Rattle.tide_periods.specs.Left.{total_left};
@@ -8,6 +9,7 @@ ghost use Rattle.tide_periods.specs.Part.{AreCallers};
 ghost use Rattle.tide_periods.specs.Periods.{RanAll, RanPeriod};
 ghost use Rattle.tide_periods.specs.Recorded.{IsSettled};
 ghost use Rattle.tide_periods.specs.Run.{HasRun};
+ghost use Rattle.tide_report.specs.Ends.{TellsEnds};
 ghost use Rattle.tide_threads.specs.OnThreads.{callers_on, pace_on, recorded_in, setting_in, MayOpenOn, Stands};
 
 use crate::on_threads::OnThreads;
@@ -49,7 +51,7 @@ fn run_period<R: Threads + Sync, T: Turnstile>(
 }
 
 /// Runs periods until each mutator has retired.
-fn run_periods<R: Threads + Sync, T: Turnstile>(
+pub(crate) fn run_periods<R: Threads + Sync, T: Turnstile>(
     rt: &R,
     gate: &T,
     on: &mut OnThreads,
@@ -82,6 +84,32 @@ pub struct HeapRun {
     pub deferred: u64,
 }
 
+/// Closes a heap on which each mutator has retired: what the run leaves.
+pub(crate) fn close_run(on: OnThreads) -> Result<HeapRun, Memory>
+    requires stands { Stands on }
+    requires retired { list_all (λ caller. caller.retired) (callers_on on) ≡ true }
+    ensures history { IfOk result (λ left. left.finished.kept.seat.me.0.seen ≡ (recorded_in on).history) }
+    ensures report { IfOk result (λ left.
+        TellsEnds (setting_in on).layout (recorded_in on).history left.finished.report) }
+    ensures calls { IfOk result (λ left. map (λ own. own.items) left.finished.calls.items
+        ≡ map (λ caller. caller.calls.items) (callers_on on)) }
+    ensures live { IfOk result (λ left.
+        left.finished.live ≡ live_count (setting_in on).layout (recorded_in on).state) }
+    ensures none_met { IfOk result (λ left. (setting_in on).layout.visitors ≡ 0 → left.deferred ≡ 0) }
+{
+    let mut on = on;
+    let live = on.live();
+    let deferred = on.deferred();
+    let (kept, report, calls) = on.finish()?;
+    let finished = Finished {
+        kept,
+        report,
+        calls,
+        live,
+    };
+    Ok(HeapRun { finished, deferred })
+}
+
 /// Runs the scripts of a heap's mutators, on which nothing was run yet: in each part each mutator makes its calls, and each
 /// visitor its visits, on a thread of its own.
 ///
@@ -105,14 +133,6 @@ pub fn run_on_threads<R: Threads + Sync, T: Turnstile>(
 {
     let mut on = on;
     run_periods(rt, gate, &mut on)?;
-    let live = on.live();
-    let deferred = on.deferred();
-    let (kept, report, calls) = on.finish()?;
-    let finished = Finished {
-        kept,
-        report,
-        calls,
-        live,
-    };
-    Ok(HeapRun { finished, deferred })
+    let left = close_run(on)?;
+    Ok(left)
 }

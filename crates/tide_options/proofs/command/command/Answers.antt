@@ -1,4 +1,4 @@
--- The command has the three arguments.
+-- The command has the four arguments.
 use Rattle.std.proofs.Common.{◌≡◌, ◌∙◌, ap, ap₂, true}
 use Rattle.std.proofs.lemmas.Result.{IfOk-weaker}
 use Rattle.clap.specs.Words.{Rule, app_of, with_rule}
@@ -16,5 +16,7 @@ returns c =
     let make_is = c.number_option-2.ensures in
     let with_visitors = c.in_ok-arg.ensures.shape (not_global c.number_option.result (ap (λ (rule : Rule). rule.is_simple) visitors_is)) ∙ ap₂ with_rule named_is visitors_is in
     let with_plain = c.in_ok-arg-2.ensures.shape (not_global c.flag.result (ap (λ (rule : Rule). rule.is_simple) plain_is)) ∙ ap₂ with_rule with_visitors plain_is in
-    IfOk-weaker c.arg-3.result _ _
-    (λ made added. added.shape (not_global c.number_option-2.result (ap (λ (rule : Rule). rule.is_simple) make_is)) ∙ ap₂ with_rule with_plain make_is) c.arg-3.ensures
+    let snapshot_is = c.flag-2.ensures in
+    let with_make = c.in_ok-arg-3.ensures.shape (not_global c.number_option-2.result (ap (λ (rule : Rule). rule.is_simple) make_is)) ∙ ap₂ with_rule with_plain make_is in
+    IfOk-weaker c.arg-4.result _ _
+    (λ made added. added.shape (not_global c.flag-2.result (ap (λ (rule : Rule). rule.is_simple) snapshot_is)) ∙ ap₂ with_rule with_make snapshot_is) c.arg-4.ensures

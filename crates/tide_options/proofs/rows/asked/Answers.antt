@@ -20,4 +20,6 @@ returns c = record {
   largest = refl;
   zeros_and_plus = refl;
   end_of_options = refl;
+  snapshot = refl;
+  snapshot_beside_visitors = refl;
 }

@@ -24,4 +24,8 @@ returns c = record {
   number_twice = refl;
   nine_visitors = refl;
   plain_with_visitors = refl;
+  snapshot_of_plain = refl;
+  snapshot_of_made = refl;
+  snapshot_twice = refl;
+  snapshot_with_value = refl;
 }

@@ -27,3 +27,6 @@ returns-clause-run c = λ trigger left.
 
 pub returns-clause-heap : goal.returns-clause-heap
 returns-clause-heap c = ap (λ (r : Ran). r.is_heap) c.new.ensures
+
+pub returns-clause-history : goal.returns-clause-history
+returns-clause-history c = ap (λ (r : Ran). r.history) c.new.ensures

@@ -1,23 +1,29 @@
 -- Which store runs, and with which trigger, the options tell.
-use Rattle.std.proofs.Common.{◌≡◌, Bool, subst, sym}
-use Rattle.std.specs.Prelude.{IfOk, not, if◌then◌else◌}
+use Rattle.std.proofs.Common.{◌≡◌, Bool, None, refl, subst, sym}
+use Rattle.std.specs.Prelude.{not, if◌then◌else◌}
+use Rattle.tide_shape.specs.Shapes.{shapes_of_paths}
+use Rattle.tide_run.specs.Asked.{IsShownOf}
 use Rattle.tide_run.specs.Runs.{IsRunOf}
 use Rattle.tide_run.proofs.asking.run_asked.Goals as goal
 
-pub returns-then-options-clause-run : goal.returns-then-options-clause-run
-returns-then-options-clause-run g c =
+pub returns-in_ok-outcome-clause-run : goal.returns-in_ok-outcome-clause-run
+returns-in_ok-outcome-clause-run g c =
     let work = c.args.load.now in
-    subst (λ (plain : Bool). IfOk c.plain.result (IsRunOf work (if plain then 0 else work.settings.trigger) (if plain then 0 else c.args.options.visitors))) (sym c.if-options.true) c.plain.ensures.run
+    subst (λ (plain : Bool). IsRunOf work (if plain then 0 else work.settings.trigger) (if plain then 0 else c.args.options.visitors) c.in_ok-outcome.outcome) (sym c.if-options.true) c.in_ok-outcome.ensures.run
 
-pub returns-then-options-clause-heap : goal.returns-then-options-clause-heap
-returns-then-options-clause-heap g c =
-    subst (λ (plain : Bool). IfOk c.plain.result (λ ran. ran.is_heap ≡ not plain)) (sym c.if-options.true) c.plain.ensures.own
+pub returns-in_ok-outcome-clause-heap : goal.returns-in_ok-outcome-clause-heap
+returns-in_ok-outcome-clause-heap g c =
+    subst (λ (plain : Bool). c.in_ok-outcome.outcome.is_heap ≡ not plain) (sym c.if-options.true) c.in_ok-outcome.ensures.own
 
-pub returns-else-options-clause-run : goal.returns-else-options-clause-run
-returns-else-options-clause-run g c =
+pub returns-in_ok-outcome-clause-shown : goal.returns-in_ok-outcome-clause-shown
+returns-in_ok-outcome-clause-shown g c =
+    subst (λ (asked : Bool). IsShownOf asked (shapes_of_paths c.args.load.now.paths) c.in_ok-outcome.outcome None) (sym (c.requires.shared c.if-options.true)) refl
+
+pub returns-in_ok-ran-clause-run : goal.returns-in_ok-ran-clause-run
+returns-in_ok-ran-clause-run g c =
     let work = c.args.load.now in
-    subst (λ (plain : Bool). IfOk c.run.result (IsRunOf work (if plain then 0 else work.settings.trigger) (if plain then 0 else c.args.options.visitors))) (sym c.if-options.false) c.run.ensures.run
+    subst (λ (plain : Bool). IsRunOf work (if plain then 0 else work.settings.trigger) (if plain then 0 else c.args.options.visitors) c.in_ok-ran.ran.0) (sym c.if-options.false) c.in_ok-ran.ensures.run
 
-pub returns-else-options-clause-heap : goal.returns-else-options-clause-heap
-returns-else-options-clause-heap g c =
-    subst (λ (plain : Bool). IfOk c.run.result (λ ran. ran.is_heap ≡ not plain)) (sym c.if-options.false) c.run.ensures.heap
+pub returns-in_ok-ran-clause-heap : goal.returns-in_ok-ran-clause-heap
+returns-in_ok-ran-clause-heap g c =
+    subst (λ (plain : Bool). c.in_ok-ran.ran.0.is_heap ≡ not plain) (sym c.if-options.false) c.in_ok-ran.ensures.heap

@@ -1,15 +1,20 @@
 -- What was run was asked for and printed; what wasn't run has its cause, which its status tells.
 use Rattle.std.proofs.Common.{ℕ, ◌≡◌, ◌∙◌, ap, arith, inl, inr, refl, sym, subst, Err, Option}
 use Rattle.std.proofs.KnownBytes.{Keeps-refl}
-use Rattle.std.specs.Io.KnownBytes.{Appends}
 use Rattle.std.specs.Prelude.{◌⊎◌, IsSomeAnd}
-use Rattle.tide_io.specs.Faults.{AppendsPart, Rose}
+use Rattle.tide_io.specs.Faults.{Rose}
 use Rattle.tide_options.specs.Options.{asked_by}
-use Rattle.tide_run.specs.Asked.{RanAsked, printed_of}
+use Rattle.tide_shape.specs.Shapes.{shapes_of_paths}
+use Rattle.tide_run.specs.Asked.{Prints, PrintsPart, RanAsked, asks_for_snapshot}
 use Rattle.tide_run.specs.Program.{stop_line, stop_status, IsStatus, TellsLine}
 use Rattle.tide_run.specs.Runs.{Ran}
 use Rattle.tide_run.proofs.Causes.{IsStop, accepts-ran, accepts-stop, bad-stop, made-stop, ran_is_no_stop, ran_neither, ran_status, ran_unless, ran_was_asked, read-stop, refused-stop, refuses-ran, refuses-stop, stop_did_not_run, stop_is_status, told-stop, usage-stop}
+use Rattle.tide_run.proofs.Shown.{keys_shown, printed_is_asked}
 use Rattle.tide_run.proofs.program.riptide.Goals as goal
+
+pub print-requires-clause-shapes : goal.print-requires-clause-shapes
+print-requires-clause-shapes g c =
+    keys_shown (asks_for_snapshot (asked_by c.args.words.now)) (shapes_of_paths c.in-Ok.done.load.paths) c.in-Ok.done.outcome c.in-Ok.done.snapshot c.in-Ok.ensures.shown
 
 pub returns-in-Ok : goal.returns-in-Ok
 returns-in-Ok g c =
@@ -25,10 +30,14 @@ returns-in-Ok g c =
     record {
       status = ran_status status ended.status;
       ran = λ _. subst (λ (o : Option Ran). IsSomeAnd o (RanAsked asked left new)) (sym ended.outcome) was.ran;
-      printed = λ is. subst (λ (o : Option Ran). IsSomeAnd o (λ ran. Appends held printed (printed_of asked ran))) (sym ended.outcome)
-          (subst (Appends held printed) was.prints (ended.printed is));
-      printed_part = λ is. subst (λ (o : Option Ran). IsSomeAnd o (λ ran. AppendsPart held printed (printed_of asked ran))) (sym ended.outcome)
-          (subst (AppendsPart held printed) was.prints (ended.part is));
+      printed = λ is.
+          let (text, whole, appends) = ended.printed is in
+          subst (λ (o : Option Ran). IsSomeAnd o (Prints asked held printed)) (sym ended.outcome)
+          (text, printed_is_asked asked (shapes_of_paths c.in-Ok.done.load.paths) c.in-Ok.done text was.keys was.prints was.shown whole, appends);
+      printed_part = λ is.
+          let (text, whole, appends) = ended.part is in
+          subst (λ (o : Option Ran). IsSomeAnd o (PrintsPart asked held printed)) (sym ended.outcome)
+          (text, printed_is_asked asked (shapes_of_paths c.in-Ok.done.load.paths) c.in-Ok.done text was.keys was.prints was.shown whole, appends);
       handed_on = ended.handed_on;
       no_outcome = λ not_whole not_part. absurd (ran_neither status ended.status not_whole not_part);
       nothing_printed = λ not_whole not_part. absurd (ran_neither status ended.status not_whole not_part);

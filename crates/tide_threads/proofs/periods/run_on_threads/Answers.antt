@@ -1,5 +1,5 @@
 -- Why a run on threads is one of the scripts.
-use Rattle.std.proofs.Common.{◌≡◌, ◌∙◌, sym, ap, arith, subst, map, List}
+use Rattle.std.proofs.Common.{◌∙◌, sym, ap, arith, subst, map, List}
 use Rattle.tide_model.specs.Cycle.{begin_count}
 use Rattle.tide_model.specs.Periods.{open_count}
 use Rattle.tide_model.specs.declared.entry.Event.{Event}
@@ -8,7 +8,6 @@ use Rattle.tide_periods.proofs.Starting.{total-few}
 use Rattle.tide_periods.specs.Asking.{scripts_of}
 use Rattle.tide_periods.specs.Recorded.{Recorded}
 use Rattle.tide_periods.specs.Store.{Setting}
-use Rattle.tide_periods.specs.declared.caller.Caller.{Caller}
 use Rattle.tide_report.specs.Ends.{TellsEnds}
 use Rattle.tide_threads.specs.OnThreads.{callers_on, pace_on, recorded_in, setting_in}
 use Rattle.tide_threads.proofs.Fresh.{IsSettled-fresh}
@@ -30,24 +29,17 @@ run_periods-requires-clause-room g c κs within =
     let few = c.requires.few in
     omega (arith, total, few)
 
-pub finish-requires-clause-retired : goal.finish-requires-clause-retired
-finish-requires-clause-retired g c =
-    ap (Rattle.std.specs.List.list_all (λ (x : Caller). x.retired)) c.live-live.ensures.callers
-    ∙ c.in_ok-run_periods.ensures.retired
-
 pub returns : goal.returns
 returns g c =
     let recorded : Recorded = recorded_in c.run_periods.new.on in
     let ran = c.in_ok-run_periods.ensures in
-    let left = c.in_ok-kept in
-    let history : left.kept.seat.me.0.seen ≡ recorded.history = left.ensures.history
-    ∙ ap (λ (r : Recorded). r.history) c.live-live.ensures.same in record {
+    let made = c.in_ok-left in
+    let left = made.left.finished in
+    record {
       ran = HasRun-over (setting_in c.args.on) (pace_on c.args.on) (scripts_of (callers_on c.args.on)) recorded
           (callers_on c.run_periods.new.on) left.kept.seat.me.0.seen left.report (map (λ own. own.items) left.calls.items)
-          c.live-live.result ran.ran ran.same ran.scripts history
-          (subst (λ (h : List Event). TellsEnds recorded.setting.layout h left.report) (sym history)
-          (subst (λ (r : Recorded). TellsEnds r.setting.layout r.history left.report) c.live-live.ensures.same left.ensures.report))
-          (left.ensures.calls ∙ ap (map (λ (x : Caller). x.calls.items)) c.live-live.ensures.callers) c.live-live.ensures.live;
-      none_met = λ none. c.deferred-deferred.ensures.none
-          (ap (λ (s : Setting). s.layout.visitors) (ap (λ (r : Recorded). r.setting) c.live-live.ensures.same ∙ ran.same) ∙ none);
+          left.live ran.ran ran.same ran.scripts made.ensures.history
+          (subst (λ (h : List Event). TellsEnds recorded.setting.layout h left.report) (sym made.ensures.history) made.ensures.report)
+          made.ensures.calls made.ensures.live;
+      none_met = λ none. made.ensures.none_met (ap (λ (s : Setting). s.layout.visitors) ran.same ∙ none);
     }

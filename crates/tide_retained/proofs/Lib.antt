@@ -1,0 +1,15 @@
+pub mod EnterLaws
+pub mod GraphLaws
+pub mod IndexLaws
+pub mod LevelLaws
+pub mod ListLaws
+pub mod OkLaws
+pub mod PairLaws
+pub mod PathLaws
+pub mod ReadLaws
+pub mod RetainLaws
+pub mod RetentionLaws
+pub mod RootLaws
+pub mod TrailLaws
+pub mod VisitLaws
+pub mod WayLaws

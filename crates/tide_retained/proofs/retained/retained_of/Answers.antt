@@ -1,0 +1,16 @@
+-- What was found is what there is to be kept.
+use Rattle.std.proofs.Common.{List, Option, subst}
+use Rattle.tide_retained.specs.declared.search.Found.{Found}
+use Rattle.tide_retained.specs.Trail.{AreSkips}
+use Rattle.tide_retained.proofs.RetentionLaws.{paths_are_shortest}
+use Rattle.tide_retained.proofs.retained.retained_of.Goals as goal
+
+pub invariant_of-result : goal.invariant_of-result
+invariant_of-result c = record {
+  finds = c.in_ok-found.ensures.found;
+  sized = c.in_ok-found.ensures.sized;
+  skips_lead = subst (λ (found : List (Option Found)). AreSkips found c.in_ok-skips.skips.items) c.as_slice.ensures.value c.in_ok-skips.ensures;
+}
+
+pub returns-clause-paths : goal.returns-clause-paths
+returns-clause-paths c = paths_are_shortest c.args.contents c.in_ok-found.found.items c.in_ok-found.ensures.found
