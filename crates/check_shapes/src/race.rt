@@ -37,10 +37,10 @@ fn grow_path<R: Wait>(
     grower: &mut Grower,
     keys: (u32, u32, u32),
 ) -> bool
-    requires own { grower.old.table ≡ table.now.name }
+    requires own { grower.old.table ≡ table.now }
     requires keys { table.now.keys ≡ 30 }
     requires few { (keys.0 < 30) × (keys.1 < 30) × (keys.2 < 30) }
-    ensures { grower.new.table ≡ table.now.name }
+    ensures { grower.new.table ≡ table.now }
 {
     grower.holds_together();
     let Ok(first) = grower.grow_at(rt, meeting, alloc, table, 0, keys.0) else {
@@ -63,10 +63,10 @@ fn grow_all<R: Wait>(
     thread: usize,
     grower: &mut Grower,
 )
-    requires own { grower.old.table ≡ table.now.name }
+    requires own { grower.old.table ≡ table.now }
     requires keys { table.now.keys ≡ 30 }
     requires thread { thread < 16 }
-    ensures { grower.new.table ≡ table.now.name }
+    ensures { grower.new.table ≡ table.now }
 {
     let step = u64::from(STEPS[thread]);
     let mut number = 61 * thread as u64;
@@ -86,10 +86,10 @@ fn race<R: Threads + Wait + Sync>(
     table: &GrowShapes,
     growers: &mut [Grower],
 )
-    requires own { All (λ grower. grower.table ≡ table.now.name) growers.old }
+    requires own { All (λ grower. grower.table ≡ table.now) growers.old }
     requires keys { table.now.keys ≡ 30 }
     requires few { length growers.old ≤ 16 }
-    ensures { All (λ grower. grower.table ≡ table.now.name) growers.new }
+    ensures { All (λ grower. grower.table ≡ table.now) growers.new }
 {
     let count = growers.len();
     if count > 0 {
@@ -98,8 +98,8 @@ fn race<R: Threads + Wait + Sync>(
             growers,
             count,
             &|place, grower|
-                requires { (grower.old.table ≡ table.now.name) × (table.now.keys ≡ 30) × (place < 16) }
-                ensures { grower.new.table ≡ table.entry.now.name }
+                requires { (grower.old.table ≡ table.now) × (table.now.keys ≡ 30) × (place < 16) }
+                ensures { grower.new.table ≡ table.entry.now }
             { grow_all(rt, alloc, meeting, table, place, grower) },
         );
     }
@@ -117,7 +117,7 @@ fn put(growers: &mut Vec<Grower>, grower: Grower) -> Result<(), Memory>
 
 /// So many growers of a table.
 fn growers_of(alloc: Global, table: &GrowShapes, count: u32) -> Result<Vec<Grower>, Memory>
-    ensures own { IfOk result (λ growers. All (λ grower. grower.table ≡ table.now.name) growers.items) }
+    ensures own { IfOk result (λ growers. All (λ grower. grower.table ≡ table.now) growers.items) }
     ensures count { IfOk result (λ growers. length growers.items ≡ count) }
 {
     let mut growers = Vec::new(alloc);

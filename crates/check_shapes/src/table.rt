@@ -23,8 +23,8 @@ pub struct Growing {
     table: GrowShapes,
     first: Grower,
     second: Grower,
-    ghost first_own: { first.table ≡ table.name },
-    ghost second_own: { second.table ≡ table.name },
+    ghost first_own: { first.table ≡ table },
+    ghost second_own: { second.table ≡ table },
 }
 
 /// What a call of a grower came to.
@@ -45,15 +45,15 @@ fn on_thread<R: Threads + Wait + Sync>(
     shape: u32,
     key: u32,
 ) -> Result<u32, GrowRefused>
-    requires own { grower.old.table ≡ table.now.name }
+    requires own { grower.old.table ≡ table.now }
     requires known { known_keys grower.old.known shape ≢ None }
     requires key { key < table.now.keys }
-    ensures { grower.new.table ≡ table.now.name }
+    ensures { grower.new.table ≡ table.now }
 {
     let (grown, _) = join_mut(
         rt,
         &mut || -> Result<u32, GrowRefused>
-            requires { (grower.now.table ≡ table.now.name) × (known_keys grower.now.known shape ≢ None)
+            requires { (grower.now.table ≡ table.now) × (known_keys grower.now.known shape ≢ None)
                 × (key < table.now.keys) }
             ensures { grower.exit.now.table ≡ grower.entry.now.table }
         { grower.grow(rt, alloc, table, shape, key) },
@@ -71,8 +71,8 @@ fn grown<R: Threads + Wait + Sync>(
     shape: u32,
     key: u32,
 ) -> Came
-    requires { grower.old.table ≡ table.now.name }
-    ensures { grower.new.table ≡ table.now.name }
+    requires { grower.old.table ≡ table.now }
+    ensures { grower.new.table ≡ table.now }
 {
     if grower.keys(shape).is_none() || key >= table.keys() {
         return Came::Unasked;
@@ -84,9 +84,9 @@ fn grown<R: Threads + Wait + Sync>(
 }
 
 impl Growing {
-    /// A table of so many keys, 1 to 4,096, whose shapes have numbers to `last`, with two growers.
+    /// A table of so many keys, whose shapes have numbers to `last`, with two growers.
     pub fn new(alloc: Global, keys: u32, last: u32) -> Result<Growing, Memory> {
-        let table = GrowShapes::with_last(alloc, keys.clamp(1, 4096), last)?;
+        let table = GrowShapes::with_last(alloc, keys, last)?;
         let first = table.grower(alloc)?;
         let second = table.grower(alloc)?;
         Ok(Growing {

@@ -8,18 +8,19 @@ use Rattle.std.proofs.lemmas.List.Elements.{All-contains, All-nil, All-push, All
 use Rattle.std.specs.Prelude.{IfOk, Contains, OnErr, OnOk, is_some}
 use Rattle.tide_shape.specs.ShapeTable.{HasNoKeyTwice}
 use Rattle.tide_grow_shape.specs.Grown.{Fact, Knowledge, IsKnowledge, Table, known_keys, learned}
-use Rattle.tide_sights.specs.Cells.{last_of, name_of}
+use Rattle.tide_sights.specs.Cells.{keys_in, last_in, name_of}
 use Rattle.tide_sights.specs.declared.cells.Cells.{Cells}
 use Rattle.tide_grow_shape.specs.Growing.{IsGrower, knowledge_of}
-use Rattle.tide_grow_shape.specs.Stands.{Stands}
+use Rattle.tide_grow_shape.specs.Stands.{AreOfTable, Stands}
+use Rattle.tide_grow_shape.specs.Tables.{table_of}
 use Rattle.tide_sights.specs.Sights.{AreSights, edges_of}
 use Rattle.tide_sights.specs.Walks.{Finds, first_of, Includes, Lists, empty, longer}
 use Rattle.tide_sights.specs.declared.sight.Sight.{Sight}
 use Rattle.tide_grow_shape.specs.declared.grower.Grower.TheInside.{Inside}
-use Rattle.tide_sights.proofs.GrownLaws.{Lists-more, keys_same, shape_same}
+use Rattle.tide_sights.proofs.GrownLaws.{Finds-end, Lists-more, keys_same, shape_same}
 use Rattle.tide_grow_shape.proofs.KnownLaws.{known_is_fact, known_others, known_push, none_some}
 use Rattle.tide_grow_shape.proofs.ListedLaws.{lists_fact, known_by, fact_known}
-use Rattle.tide_sights.proofs.SightLaws.{AreSights-nothing}
+use Rattle.tide_sights.proofs.SightLaws.{AreSights-nothing, named_within}
 
 -- the empty shape alone
 pub Stands-empty : (name : List ℕ) → Stands name [] (record { shape = 0; keys = [] } ∷ [])
@@ -29,6 +30,7 @@ Stands-empty name = record {
   known = All-push (λ (f : Fact). Lists [] f.shape f.keys) [] (record { shape = 0; keys = [] }) (All-nil (λ (f : Fact). Lists [] f.shape f.keys)) (empty refl refl);
   short = All-push (λ (f : Fact). length f.keys ≤ 64) [] (record { shape = 0; keys = [] }) (All-nil (λ (f : Fact). length f.keys ≤ 64)) (omega arith);
   distinct = All-push (λ (f : Fact). HasNoKeyTwice f.keys) [] (record { shape = 0; keys = [] }) (All-nil (λ (f : Fact). HasNoKeyTwice f.keys)) (λ i j d below within. grind (arith, within));
+  of_table = All-push (λ (f : Fact). AreOfTable name f.keys) [] (record { shape = 0; keys = [] }) (All-nil (λ (f : Fact). AreOfTable name f.keys)) (All-nil (λ (k : ℕ). k < keys_in name));
 }
 
 -- more that was read leaves what is known
@@ -39,7 +41,13 @@ Stands-more name sights more facts all are includes = record {
   known = All-weaker (λ (f : Fact). Lists (edges_of sights) f.shape f.keys) (λ (f : Fact). Lists (edges_of more) f.shape f.keys) (λ f. Lists-more includes) facts all.known;
   short = all.short;
   distinct = all.distinct;
+  of_table = all.of_table;
 }
+
+-- a shape that has keys by what was read of a table has none of its numbers above the highest
+lists_within : (name : List ℕ) (sights : List Sight) → AreSights name sights → {shape : ℕ} {keys : List ℕ} → Lists (edges_of sights) shape keys → shape ≤ last_in name
+lists_within name sights are (empty first none) = omega (arith, first)
+lists_within name sights are (longer p front k lists finds is) = let end = Finds-end finds in subst (λ (n : ℕ). n ≤ last_in name) end.names (named_within name sights are end.edge end.seen)
 
 module _ (name : List ℕ) (sights : List Sight) (facts : List Fact) (all : Stands name sights facts) where
   -- a known shape has its keys by what was read
@@ -51,6 +59,12 @@ module _ (name : List ℕ) (sights : List Sight) (facts : List Fact) (all : Stan
 
   pub distinct_known : (shape : ℕ) (keys : List ℕ) → known_keys facts shape ≡ Some keys → HasNoKeyTwice keys
   distinct_known shape keys is = All-contains (λ (f : Fact). HasNoKeyTwice f.keys) facts record { shape = shape; keys = keys } all.distinct (known_is_fact facts shape keys is)
+
+  pub of_table_known : (shape : ℕ) (keys : List ℕ) → known_keys facts shape ≡ Some keys → AreOfTable name keys
+  of_table_known shape keys is = All-contains (λ (f : Fact). AreOfTable name f.keys) facts record { shape = shape; keys = keys } all.of_table (known_is_fact facts shape keys is)
+
+  pub within_known : (shape : ℕ) (keys : List ℕ) → known_keys facts shape ≡ Some keys → shape ≤ last_in name
+  within_known shape keys is = lists_within name sights all.seen (lists_known shape keys is)
 
   -- a known shape that has some keys by what was read is known with these
   pub known_as : (shape : ℕ) (keys : List ℕ) → is_some (known_keys facts shape) ≡ true → Lists (edges_of sights) shape keys → known_keys facts shape ≡ Some keys
@@ -73,8 +87,8 @@ module _ (name : List ℕ) (sights : List Sight) (facts : List Fact) (all : Stan
         by_cases None e = ap (λ (o : Option (List ℕ)). known_keys (cond (is_some o) facts (facts ++ record { shape = shape; keys = keys } ∷ [])) shape) e ∙ known_push facts shape keys e
         by_cases (Some others) e = ap (λ (o : Option (List ℕ)). known_keys (cond (is_some o) facts (facts ++ record { shape = shape; keys = keys } ∷ [])) shape) e ∙ known_as shape keys (ap is_some e) lists
 
-    pub Stands-learned : length keys ≤ 64 → HasNoKeyTwice keys → Stands name sights (learned facts shape keys)
-    Stands-learned short distinct = by_cases (known_keys facts shape) refl
+    pub Stands-learned : length keys ≤ 64 → HasNoKeyTwice keys → AreOfTable name keys → Stands name sights (learned facts shape keys)
+    Stands-learned short distinct own = by_cases (known_keys facts shape) refl
       where
         by_cases : (o : Option (List ℕ)) → known_keys facts shape ≡ o → Stands name sights (learned facts shape keys)
         by_cases (Some others) e = subst (λ (o : Option (List ℕ)). Stands name sights (cond (is_some o) facts (facts ++ record { shape = shape; keys = keys } ∷ []))) (sym e) all
@@ -84,6 +98,7 @@ module _ (name : List ℕ) (sights : List Sight) (facts : List Fact) (all : Stan
           known = All-push (λ (f : Fact). Lists (edges_of sights) f.shape f.keys) facts (record { shape = shape; keys = keys }) all.known lists;
           short = All-push (λ (f : Fact). length f.keys ≤ 64) facts (record { shape = shape; keys = keys }) all.short short;
           distinct = All-push (λ (f : Fact). HasNoKeyTwice f.keys) facts (record { shape = shape; keys = keys }) all.distinct distinct;
+          of_table = All-push (λ (f : Fact). AreOfTable name f.keys) facts (record { shape = shape; keys = keys }) all.of_table own;
         }
 
 -- learning a shape changes no other
@@ -105,6 +120,9 @@ kept_learned facts shape keys other others is = elim (cases_eq other shape) [
 pub grown_short : (keys more : List ℕ) (key : ℕ) → more ≡ keys ++ key ∷ [] → length keys < 64 → length more ≤ 64
 grown_short keys more key is below = let long = ap (λ (xs : List ℕ). length xs) is in let parts = length-append keys (key ∷ []) in omega (arith, below, long, parts)
 
+pub grown_of_table : (name keys more : List ℕ) (key : ℕ) → more ≡ keys ++ key ∷ [] → AreOfTable name keys → key < keys_in name → AreOfTable name more
+grown_of_table name keys more key is own small = subst (AreOfTable name) (sym is) (All-push (λ (k : ℕ). k < keys_in name) keys key own small)
+
 pub grown_distinct : (keys more : List ℕ) (key : ℕ) → more ≡ keys ++ key ∷ [] → HasNoKeyTwice keys → (¬ (Contains keys key)) → HasNoKeyTwice more
 grown_distinct keys more key is distinct lacks = subst HasNoKeyTwice (sym is)
     (all_pairs_push (λ (a b : ℕ). a ≢ b) keys key distinct (λ k d within same. lacks (k, within, get_or_default keys k key d within ∙ same)))
@@ -117,13 +135,15 @@ IsKnowledge_grower g is = record {
   short = short_known g.table.numbers g.maker.sights g.maker.known is.stands;
   distinct = distinct_known g.table.numbers g.maker.sights g.maker.known is.stands;
   number = λ shape other keys one two. shape_same (edges_of g.maker.sights) is.stands.seen.one refl (lists_known g.table.numbers g.maker.sights g.maker.known is.stands shape keys one) (lists_known g.table.numbers g.maker.sights g.maker.known is.stands other keys two);
+  last = within_known g.table.numbers g.maker.sights g.maker.known is.stands;
+  of_table = of_table_known g.table.numbers g.maker.sights g.maker.known is.stands;
 }
 
 pub Stands_new : (name : List ℕ) (sights : List Sight) (facts : List Fact) → sights ≡ [] → facts ≡ record { shape = 0; keys = [] } ∷ [] → Stands name sights facts
 Stands_new name sights facts none alone = subst (λ (ss : List Sight). Stands name ss facts) (sym none) (subst (λ (fs : List Fact). Stands name [] fs) (sym alone) (Stands-empty name))
 
 -- with a shape learned, or not
-module _ {A E : Type 0} (r : Result A E) (name : List ℕ) (sights : List Sight) (facts new : List Fact) (shape : ℕ) (keys : List ℕ) (ok : OnOk r (new ≡ learned facts shape keys)) (err : OnErr r (new ≡ facts)) where
+module _ {A E : Type 0} (r : Result A E) (facts new : List Fact) (shape : ℕ) (keys : List ℕ) (ok : OnOk r (new ≡ learned facts shape keys)) (err : OnErr r (new ≡ facts)) where
   new_is : (P : List Fact → Type 0) → P (learned facts shape keys) → P facts → P new
   new_is P more same = by_cases r ok err
     where
@@ -131,8 +151,8 @@ module _ {A E : Type 0} (r : Result A E) (name : List ℕ) (sights : List Sight)
       by_cases (Ok x) is other = subst P (sym is) more
       by_cases (Err x) other is = subst P (sym is) same
 
-  pub Stands_learned_either : Stands name sights facts → Lists (edges_of sights) shape keys → length keys ≤ 64 → HasNoKeyTwice keys → Stands name sights new
-  Stands_learned_either all lists short distinct = new_is (λ fs. Stands name sights fs) (Stands-learned name sights facts all shape keys lists short distinct) all
+  pub Stands_learned_either : (name : List ℕ) (sights : List Sight) → Stands name sights facts → Lists (edges_of sights) shape keys → length keys ≤ 64 → HasNoKeyTwice keys → AreOfTable name keys → Stands name sights new
+  Stands_learned_either name sights all lists short distinct own = new_is (λ fs. Stands name sights fs) (Stands-learned name sights facts all shape keys lists short distinct own) all
 
   pub kept_learned_either : (other : ℕ) (others : List ℕ) → known_keys facts other ≡ Some others → known_keys new other ≡ Some others
   kept_learned_either other others is = new_is (λ fs. known_keys fs other ≡ Some others) (kept_learned facts shape keys other others is) is
@@ -140,8 +160,8 @@ module _ {A E : Type 0} (r : Result A E) (name : List ℕ) (sights : List Sight)
   pub others_learned_either : (other : ℕ) → other ≢ shape → known_keys new other ≡ known_keys facts other
   others_learned_either other apart = new_is (λ fs. known_keys fs other ≡ known_keys facts other) (others_learned facts shape keys other apart) refl
 
-  pub knows_learned_either : Stands name sights facts → Lists (edges_of sights) shape keys → OnOk r (known_keys new shape ≡ Some keys)
-  knows_learned_either all lists = by_cases r ok
+  pub knows_learned_either : (name : List ℕ) (sights : List Sight) → Stands name sights facts → Lists (edges_of sights) shape keys → OnOk r (known_keys new shape ≡ Some keys)
+  knows_learned_either name sights all lists = by_cases r ok
     where
       by_cases : (q : Result A E) → OnOk q (new ≡ learned facts shape keys) → OnOk q (known_keys new shape ≡ Some keys)
       by_cases (Ok x) is = ap (λ (fs : List Fact). known_keys fs shape) is ∙ knows_learned name sights facts all shape keys lists
@@ -161,6 +181,9 @@ module _ (name : List ℕ) (sights : List Sight) (facts : List Fact) (all : Stan
   grown_lists child now includes same finds = with_keys (Lists (edges_of now) child more)
       (λ keys is. longer shape keys key (Lists-more includes (lists_known name sights facts all shape keys is)) finds (same keys is))
 
+  pub grown_of_table_of : key < keys_in name → ((keys : List ℕ) → known_keys facts shape ≡ Some keys → (more ≡ keys ++ key ∷ []) × (length keys < 64) × (¬ (Contains keys key))) → AreOfTable name more
+  grown_of_table_of small same = with_keys (AreOfTable name more) (λ keys is. grown_of_table name keys more key (same keys is).0 (of_table_known name sights facts all shape keys is) small)
+
   pub grown_distinct_of : ((keys : List ℕ) → known_keys facts shape ≡ Some keys → (more ≡ keys ++ key ∷ []) × (length keys < 64) × (¬ (Contains keys key))) → HasNoKeyTwice more
   grown_distinct_of same = with_keys (HasNoKeyTwice more) (λ keys is. let it = same keys is in grown_distinct keys more key it.0 (distinct_known name sights facts all shape keys is) it.2)
 
@@ -173,8 +196,8 @@ grown_short_of facts shape key more known same = by_cases (known_keys facts shap
     by_cases (Some keys) e = let it = same keys e in grown_short keys more key it.0 it.1
 
 -- a grower's table is the one of its name
-pub own_name : (g : Inside) (k : Knowledge) (cells : Cells) (keys : ℕ) (t : Table) → knowledge_of g ≡ k → record { name = name_of cells; keys = keys; last = last_of cells } ≡ t → k.table ≡ t.name → g.table.numbers ≡ name_of cells
-own_name g k cells keys t is of own = ap (λ (x : Knowledge). x.table) is ∙ own ∙ sym (ap (λ (x : Table). x.name) of)
+pub own_name : (g : Inside) (k : Knowledge) (cells : Cells) (t : Table) → knowledge_of g ≡ k → table_of (name_of cells) ≡ t → k.table ≡ t → g.table.numbers ≡ name_of cells
+own_name g k cells t is of own = ap (λ (x : Knowledge). x.table.name) is ∙ ap (λ (x : Table). x.name) (own ∙ sym of)
 
 -- a child that has its parent's keys and one more is known
 pub known_child : {E : Type 0} (facts new : List Fact) (shape key : ℕ) (r : Result ℕ E) → known_keys facts shape ≢ None

@@ -7,13 +7,14 @@ use Rattle.std.proofs.lemmas.List.Elements.{All-contains, Contains-append_cases,
 use Rattle.std.specs.Prelude.{All, Contains, OnOk, is_some}
 use Rattle.tide_shape.specs.ShapeTable.{HasNoKeyTwice}
 use Rattle.tide_grow_shape.specs.Grown.{Fact, Grown, IsAbove, IsKnowledge, IsKnown, Knowledge, Knows, Table, known_keys}
-use Rattle.tide_grow_shape.specs.Stands.{Stands}
+use Rattle.tide_grow_shape.specs.Stands.{AreOfTable, Stands}
+use Rattle.tide_grow_shape.specs.Tables.{table_of}
 use Rattle.tide_sights.specs.Sights.{AreSights, edges_of}
 use Rattle.tide_sights.specs.Walks.{AreOfOne, Includes, Lists}
 use Rattle.tide_sights.specs.declared.sight.Sight.{Sight}
 use Rattle.tide_sights.proofs.GrownLaws.{Lists-more, keys_same, shape_same}
 use Rattle.tide_grow_shape.proofs.GrowingLaws.{knows_fact, lists_known, own_name}
-use Rattle.tide_sights.specs.Cells.{last_of, name_of}
+use Rattle.tide_sights.specs.Cells.{name_of}
 use Rattle.tide_grow_shape.specs.Growing.{knowledge_of}
 use Rattle.tide_grow_shape.specs.declared.grower.Grower.TheInside.{Inside}
 use Rattle.tide_sights.specs.declared.cells.Cells.{Cells}
@@ -104,6 +105,7 @@ module _ (name : List ℕ) (old now others : List Sight) (facts new their : List
     known = lists_new;
     short = each (λ (f : Fact). length f.keys ≤ 64) was.short theirs.short;
     distinct = each (λ (f : Fact). HasNoKeyTwice f.keys) was.distinct theirs.distinct;
+    of_table = each (λ (f : Fact). AreOfTable name f.keys) was.of_table theirs.of_table;
   }
 
   pub all_merged : ((f : Fact) → Contains their f → is_some (known_keys new f.shape) ≡ true) → (shape : ℕ) (keys : List ℕ) → known_keys their shape ≡ Some keys → known_keys new shape ≡ Some keys
@@ -121,8 +123,8 @@ abbrev alone : ℕ → List ℕ → List Fact
 alone shape keys = record { shape = shape; keys = keys } ∷ []
 
 -- so many growers were merged by one
-pub record MergesGrowers (name : List ℕ) (all : Knowledge) (growers : List Knowledge) (merged : ℕ) : Type 0 where
-  pub table : all.table ≡ name
+pub record MergesGrowers (of : Table) (all : Knowledge) (growers : List Knowledge) (merged : ℕ) : Type 0 where
+  pub table : all.table ≡ of
   pub known : (k : ℕ) (d : Knowledge) (shape : ℕ) (keys : List ℕ) → k < merged → k < length growers → Knows (get_or growers k d) shape keys → Knows all shape keys
   pub only : (shape : ℕ) (keys : List ℕ) → Knows all shape keys → keys ≢ [] → IsKnown growers shape keys
 
@@ -133,20 +135,20 @@ alone_at shape keys (suc k) within is = absurd (omega (arith, within))
 alone_keys : (shape : ℕ) (keys : List ℕ) → Contains (alone 0 []) record { shape = shape; keys = keys } → keys ≡ []
 alone_keys shape keys there = alone_at shape keys there.0 there.1 there.2
 
-pub merges_nobody : (name : List ℕ) (all : Knowledge) (growers : List Knowledge) → all.table ≡ name → all.known ≡ record { shape = 0; keys = [] } ∷ [] → MergesGrowers name all growers 0
-merges_nobody name all growers table known = record {
+pub merges_nobody : (of : Table) (all : Knowledge) (growers : List Knowledge) → all.table ≡ of → all.known ≡ record { shape = 0; keys = [] } ∷ [] → MergesGrowers of all growers 0
+merges_nobody of all growers table known = record {
   table = table;
   known = λ k d shape keys below within knows. absurd (omega (arith, below));
   only = λ shape keys knows some. absurd (some (alone_keys shape keys (subst (λ (fs : List Fact). Contains fs record { shape = shape; keys = keys }) known (known_is_fact all.known shape keys knows))));
 }
 
-pub merges_one : (name : List ℕ) (all new : Knowledge) (growers : List Knowledge) (at : ℕ) (g : Knowledge) → MergesGrowers name all growers at → new.table ≡ all.table
+pub merges_one : (of : Table) (all new : Knowledge) (growers : List Knowledge) (at : ℕ) (g : Knowledge) → MergesGrowers of all growers at → new.table ≡ all.table
     → at < length growers → g ≡ get_or growers at g
     → ((shape : ℕ) (keys : List ℕ) → Knows all shape keys → Knows new shape keys)
     → ((shape : ℕ) (keys : List ℕ) → Knows g shape keys → Knows new shape keys)
     → ((shape : ℕ) (keys : List ℕ) → Knows new shape keys → Knows all shape keys ⊎ Knows g shape keys)
-    → MergesGrowers name new growers (at + 1)
-merges_one name all new growers at g h table within read kept merged only = record {
+    → MergesGrowers of new growers (at + 1)
+merges_one of all new growers at g h table within read kept merged only = record {
   table = table ∙ h.table;
   known = λ k d shape keys below inside knows. elim (cases_eq k at) [
     | inl same ↦ merged shape keys (subst (λ (t : Knowledge). Knows t shape keys) (sym (read ∙ sym (ap (λ (i : ℕ). get_or growers i g) same) ∙ get_or_default growers k g d inside)) knows)
@@ -159,9 +161,9 @@ merges_one name all new growers at g h table within read kept merged only = reco
 }
 
 -- at the end each was
-pub merges_each : (name : List ℕ) (all : Knowledge) (growers : List Knowledge) (merged : ℕ) → MergesGrowers name all growers merged → length growers ≤ merged
+pub merges_each : (of : Table) (all : Knowledge) (growers : List Knowledge) (merged : ℕ) → MergesGrowers of all growers merged → length growers ≤ merged
     → (g : Knowledge) (shape : ℕ) (keys : List ℕ) → Contains growers g → Knows g shape keys → Knows all shape keys
-merges_each name all growers merged h enough g shape keys there knows =
+merges_each of all growers merged h enough g shape keys there knows =
     h.known there.0 g shape keys (let within = there.1 in omega (arith, within, enough)) there.1 (subst (λ (t : Knowledge). Knows t shape keys) (sym there.2) knows)
 
 -- growers of which one knows what all know fit together
@@ -190,6 +192,6 @@ Grown_of name g h k l is_k is_l mine theirs one = subst (λ (x : Knowledge). Gro
     (Grown_two name g.maker.sights h.maker.sights (knowledge_of g) (knowledge_of h) mine theirs one))
 
 -- a grower of a table stands by the table's name
-pub stands_by : (g : Inside) (k : Knowledge) (cells : Cells) (keys : ℕ) (t : Table) → knowledge_of g ≡ k → record { name = name_of cells; keys = keys; last = last_of cells } ≡ t → k.table ≡ t.name
+pub stands_by : (g : Inside) (k : Knowledge) (cells : Cells) (t : Table) → knowledge_of g ≡ k → table_of (name_of cells) ≡ t → k.table ≡ t
     → Stands g.table.numbers g.maker.sights g.maker.known → Stands (name_of cells) g.maker.sights g.maker.known
-stands_by g k cells keys t is of own stands = subst (λ (name : List ℕ). Stands name g.maker.sights g.maker.known) (own_name g k cells keys t is of own) stands
+stands_by g k cells t is of own stands = subst (λ (name : List ℕ). Stands name g.maker.sights g.maker.known) (own_name g k cells t is of own) stands

@@ -2,12 +2,13 @@
 use Rattle.std.specs.Prelude.{IfSome}
 use Rattle.tide_sights.specs.Cells.{Shown}
 use Rattle.tide_grow_shape.specs.Grown.{Knowledge}
+use Rattle.tide_grow_shape.specs.Tables.{table_of}
 use Rattle.tide_grow_shape.specs.Stands.{Stands, index_of}
 use Rattle.tide_grow_shape.specs.declared.grower.Grower.TheInside.{Inside}
 
 -- what a contract sees of a grower
 abbrev pub knowledge_of : Inside → Knowledge
-knowledge_of g = record { table = g.table.numbers; known = g.maker.known; beyond = index_of g.maker.beyond }
+knowledge_of g = record { table = table_of g.table.numbers; known = g.maker.known; beyond = index_of g.maker.beyond }
 
 -- what every grower is
 pub record IsGrower (g : Inside) : Type 0 where

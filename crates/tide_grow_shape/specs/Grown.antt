@@ -1,5 +1,5 @@
 -- What growers of one table know, and how that fits together.
-use Rattle.std.specs.Prelude.{ℕ, ◌≡◌, ◌==◌, ◌<◌, ◌≤◌, List, [], ◌∷◌, ◌++◌, Contains, if◌then◌else◌, is_some, length, Option, None, Some}
+use Rattle.std.specs.Prelude.{ℕ, ◌≡◌, ◌==◌, ◌<◌, ◌≤◌, List, [], ◌∷◌, ◌++◌, All, Contains, if◌then◌else◌, is_some, length, Option, None, Some}
 use Rattle.tide_shape.specs.ShapeTable.{HasNoKeyTwice}
 
 -- what a contract sees of a table: what tells it from others, how many keys there are, and the highest number of a shape
@@ -13,10 +13,10 @@ pub record Fact : Type 0 where
   pub shape : ℕ
   pub keys : List ℕ
 
--- what a contract sees of a grower: the name of its table, the shapes that it knows, and the index of the item, if any,
--- that it put into the table and for which no number was left
+-- what a contract sees of a grower: its table, the shapes that it knows, and the index of the item, if any, for which no
+-- number was left when it was last refused for that
 pub record Knowledge : Type 0 where
-  pub table : List ℕ
+  pub table : Table
   pub known : List Fact
   pub beyond : Option ℕ
 
@@ -48,11 +48,13 @@ pub record Grown (growers : List Knowledge) : Type 0 where
 abbrev pub IsKnown : List Knowledge → ℕ → List ℕ → Type 0
 IsKnown growers shape keys = (grower : Knowledge) × Contains growers grower × Knows grower shape keys
 
--- what a grower knows by itself: the empty shape has no key, a shape has at most 64 keys and none twice, and a list of keys
--- has one number
+-- what a grower knows by itself: the empty shape has no key, a shape has at most 64 keys and none twice, a list of keys has
+-- one number, no number is above the highest of its table, and each key is one of its table
 pub record IsKnowledge (grower : Knowledge) : Type 0 where
   pub empty : Knows grower 0 []
   pub none : (keys : List ℕ) → Knows grower 0 keys → keys ≡ []
   pub short : (shape : ℕ) (keys : List ℕ) → Knows grower shape keys → length keys ≤ 64
   pub distinct : (shape : ℕ) (keys : List ℕ) → Knows grower shape keys → HasNoKeyTwice keys
   pub number : (shape other : ℕ) (keys : List ℕ) → Knows grower shape keys → Knows grower other keys → shape ≡ other
+  pub last : (shape : ℕ) (keys : List ℕ) → Knows grower shape keys → shape ≤ grower.table.last
+  pub of_table : (shape : ℕ) (keys : List ℕ) → Knows grower shape keys → All (λ key. key < grower.table.keys) keys

@@ -4,3 +4,4 @@ pub mod Known
 pub mod Lists
 pub mod Numbered
 pub mod Stands
+pub mod Tables

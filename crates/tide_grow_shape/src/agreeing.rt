@@ -38,8 +38,8 @@ impl Grower {
         table: &GrowShapes,
         other: &Grower,
     ) -> Result<(), Memory>
-        requires own { self.old.table ≡ table.now.name }
-        requires theirs { other.now.table ≡ table.now.name }
+        requires own { self.old.table ≡ table.now }
+        requires theirs { other.now.table ≡ table.now }
         ensures own { self.new.table ≡ self.old.table }
         ensures kept { (shape : ℕ) (keys : _) → Knows self.old shape keys → Knows self.new shape keys }
         ensures merged { OnOk result
@@ -54,8 +54,8 @@ impl Grower {
 /// Two growers of one table that know the same number have the same keys for it, and two that know the same keys have
 /// the same number, in whatever order all growers of the table made their steps. It changes nothing.
 pub fn growers_agree(table: &GrowShapes, one: &Grower, other: &Grower)
-    requires one { one.now.table ≡ table.now.name }
-    requires other { other.now.table ≡ table.now.name }
+    requires one { one.now.table ≡ table.now }
+    requires other { other.now.table ≡ table.now }
     ensures { Grown (one.now ∷ other.now ∷ []) }
 {
     one.maker

@@ -2,6 +2,7 @@
 ghost use Rattle.std.specs.Prelude.{◌≡◌, ◌≢◌, ◌↔◌, ◌<◌, ◌≤◌, ℕ, [], ◌∷◌, ◌++◌, Contains, Err, IfOk, None, OnErr, Some, length, option_map, slice_get};
 ghost use Rattle.tide_grow_shape.specs.Grown.{IsKnowledge, Knows, known_keys};
 ghost use Rattle.tide_grow_shape.specs.Stands.{Stands};
+ghost use Rattle.tide_grow_shape.specs.Tables.{table_of};
 
 use crate::known::KnownShapes;
 use crate::maker::Maker;
@@ -38,7 +39,7 @@ impl GrowShapes {
     #[tactic(auto, using(crate::proofs::GrowingLaws::Stands_new))]
     /// A grower of this table, which knows the empty shape alone.
     pub fn grower(&self, alloc: Global) -> Result<Grower, Memory>
-        ensures table { IfOk result (λ grower. grower.table ≡ self.now.name) }
+        ensures table { IfOk result (λ grower. grower.table ≡ self.now) }
         ensures known { IfOk result (λ grower. grower.known ≡ record { shape = 0; keys = [] } ∷ []) }
         ensures beyond { IfOk result (λ grower. grower.beyond ≡ None) }
     {
@@ -58,13 +59,13 @@ impl Grower {
     fn of(table: Tag, maker: Maker) -> Grower
         requires stands { Stands table.numbers maker.sights maker.known }
         requires beyond { maker.beyond ≡ None }
-        ensures { result ≡ record { table = table.numbers; known = maker.known; beyond = None } }
+        ensures { result ≡ record { table = table_of table.numbers; known = maker.known; beyond = None } }
     {
         Grower { table, maker }
     }
 
     /// What a grower knows holds together, whatever it has made: the empty shape has no key, a shape has at most 64
-    /// keys and none twice, and a list of keys has one number.
+    /// keys and none twice, a list of keys has one number, and numbers and keys are those of its table.
     pub fn holds_together(&self)
         ensures { IsKnowledge self.now }
     {
@@ -111,13 +112,14 @@ impl Grower {
         shape: u32,
         key: u32,
     ) -> Result<u32, GrowRefused>
-        requires own { self.old.table ≡ table.now.name }
+        requires own { self.old.table ≡ table.now }
         requires known { known_keys self.old.known shape ≢ None }
         requires of_table { key < table.now.keys }
         ensures own { self.new.table ≡ self.old.table }
         ensures found { IfOk result (λ child.
             (keys : _) → Knows self.old shape keys → Knows self.new child (keys ++ key ∷ [])) }
         ensures child { IfOk result (λ child. known_keys self.new.known child ≢ None) }
+        ensures last { IfOk result (λ child. child ≤ table.now.last) }
         ensures kept { (other : ℕ) (keys : _) → Knows self.old other keys → Knows self.new other keys }
         ensures others { IfOk result (λ child. (other : ℕ) → other ≢ child →
             known_keys self.new.known other ≡ known_keys self.old.known other) }
@@ -128,6 +130,7 @@ impl Grower {
             (result ≡ Err GrowRefused.Deep) ↔ ((length keys ≡ 64) × (¬ (Contains keys key))) }
         ensures many { (index : ℕ) → result ≡ Err (GrowRefused.Many index) →
             (table.now.last ≤ index) × (self.new.beyond ≡ Some index) }
+        ensures beyond { ((index : ℕ) → result ≢ Err (GrowRefused.Many index)) → self.new.beyond ≡ self.old.beyond }
     {
         self.grow_at(rt, &FreePass, alloc, table, shape, key)
     }
@@ -142,13 +145,14 @@ impl Grower {
         shape: u32,
         key: u32,
     ) -> Result<u32, GrowRefused>
-        requires own { self.old.table ≡ table.now.name }
+        requires own { self.old.table ≡ table.now }
         requires known { known_keys self.old.known shape ≢ None }
         requires of_table { key < table.now.keys }
         ensures own { self.new.table ≡ self.old.table }
         ensures found { IfOk result (λ child.
             (keys : _) → Knows self.old shape keys → Knows self.new child (keys ++ key ∷ [])) }
         ensures child { IfOk result (λ child. known_keys self.new.known child ≢ None) }
+        ensures last { IfOk result (λ child. child ≤ table.now.last) }
         ensures kept { (other : ℕ) (keys : _) → Knows self.old other keys → Knows self.new other keys }
         ensures others { IfOk result (λ child. (other : ℕ) → other ≢ child →
             known_keys self.new.known other ≡ known_keys self.old.known other) }
@@ -159,6 +163,7 @@ impl Grower {
             (result ≡ Err GrowRefused.Deep) ↔ ((length keys ≡ 64) × (¬ (Contains keys key))) }
         ensures many { (index : ℕ) → result ≡ Err (GrowRefused.Many index) →
             (table.now.last ≤ index) × (self.new.beyond ≡ Some index) }
+        ensures beyond { ((index : ℕ) → result ≢ Err (GrowRefused.Many index)) → self.new.beyond ≡ self.old.beyond }
     {
         self.maker.grow(rt, gate, alloc, &table.cells, shape, key)
     }

@@ -1,5 +1,5 @@
 //! The shapes that a grower knows, each with its number and its keys. It knows no cell.
-ghost use Rattle.std.specs.Prelude.{◌≡◌, ◌<◌, ◌≤◌, ◌^◌, ℕ, [], ◌∷◌, ◌++◌, Contains, IfOk, OnErr, OnOk, is_some, length, map, option_map, true};
+ghost use Rattle.std.specs.Prelude.{◌≡◌, ◌<◌, ◌≤◌, ◌^◌, ℕ, [], ◌∷◌, ◌++◌, Contains, IfOk, OnErr, OnOk, is_some, map, option_map, true};
 ghost use Rattle.tide_grow_shape.specs.Grown.{known_keys, learned};
 ghost use Rattle.tide_grow_shape.specs.Known.{fact_of};
 

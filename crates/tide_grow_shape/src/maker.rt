@@ -1,27 +1,26 @@
 //! How a grower makes a shape: it walks to the child, which is made where there is none, and knows it from then on.
-ghost use Rattle.std.specs.Prelude.{◌≡◌, ◌≢◌, ◌↔◌, ◌<◌, ◌≤◌, ℕ, [], ◌∷◌, ◌++◌, Contains, Err, IfOk, IfSome, None, OnErr, OnOk, Some, length, option_map};
-ghost use Rattle.tide_sights.specs.Cells.{Shown, last_of, name_of};
+ghost use Rattle.std.specs.Prelude.{◌≡◌, ◌≢◌, ◌↔◌, ◌<◌, ◌≤◌, ℕ, [], ◌∷◌, ◌++◌, Contains, Err, IfOk, IfSome, None, OnErr, OnOk, Some, length};
+ghost use Rattle.tide_sights.specs.Cells.{Shown, keys_in, last_in, name_of};
 ghost use Rattle.tide_grow_shape.specs.Grown.{known_keys};
 ghost use Rattle.tide_sights.specs.Sights.{IsUnmade, edges_of};
-ghost use Rattle.tide_grow_shape.specs.Stands.{Stands, index_of};
+ghost use Rattle.tide_grow_shape.specs.Stands.{AreOfTable, Stands, index_of};
 ghost use Rattle.tide_sights.specs.Walks.{Lists};
 ghost use Rattle.tide_shape.specs.ShapeTable.{HasNoKeyTwice};
 
 use crate::known::KnownShapes;
 use crate::refused::GrowRefused;
-use boxcar::Pushed;
 use std::alloc::Global;
 use std::sync::Wait;
 use tide_model::Memory;
-use tide_sights::{Cells, GrowGate, Item, Sights, Sought, Unmade};
+use tide_sights::{Cells, GrowGate, ShownItem, Sights, Sought, Unmade};
 
 /// What was read of a table's cells, and the shapes that are known by that.
 #[derive(Drop)]
 pub(crate) struct Maker {
     pub sights: Sights,
     pub known: KnownShapes,
-    /// The item, if any, that it put into the table and for which no number was left.
-    pub beyond: Option<Pushed<Item>>,
+    /// The item, if any, for which no number was left when a shape was last refused for that.
+    pub beyond: Option<ShownItem>,
 }
 
 /// The keys with one more at their end.
@@ -73,7 +72,8 @@ impl Maker {
         ensures beyond { IfSome self.new.beyond (Shown (name_of cells.now)) }
         ensures same { (self.new.sights ≡ self.old.sights) × (self.new.known ≡ self.old.known) }
         ensures many { (index : ℕ) → result ≡ GrowRefused.Many index →
-            (last_of cells.now ≤ index) × (index_of self.new.beyond ≡ Some index) }
+            (last_in (name_of cells.now) ≤ index) × (index_of self.new.beyond ≡ Some index) }
+        ensures alone { ((index : ℕ) → result ≢ GrowRefused.Many index) → self.new.beyond ≡ self.old.beyond }
         ensures other { (result ≢ GrowRefused.Present) × (result ≢ GrowRefused.Deep) }
     {
         match unmade {
@@ -88,21 +88,21 @@ impl Maker {
 
     /// A shape more is known, which has these keys by what was read.
     #[tactic(auto, using(crate::proofs::GrowingLaws::Stands_learned_either, crate::proofs::GrowingLaws::knows_learned_either, crate::proofs::GrowingLaws::kept_learned_either, crate::proofs::GrowingLaws::others_learned_either))]
-    fn learn(&mut self, cells: &Cells, child: u32, keys: Vec<u32>) -> Result<(), Memory>
-        requires stands { Stands (name_of cells.now) self.old.sights self.old.known }
+    fn learn(&mut self, child: u32, keys: Vec<u32>) -> Result<(), Memory>
         requires lists { Lists (edges_of self.old.sights) child keys.items }
         requires short { length keys.items ≤ 64 }
         requires distinct { HasNoKeyTwice keys.items }
-        ensures stands { Stands (name_of cells.now) self.new.sights self.new.known }
+        ensures stands { (name : _) → Stands name self.old.sights self.old.known → AreOfTable name keys.items →
+            Stands name self.new.sights self.new.known }
         ensures beyond { self.new.beyond ≡ self.old.beyond }
-        ensures known { OnOk result (known_keys self.new.known child ≡ Some keys.items) }
+        ensures known { (name : _) → Stands name self.old.sights self.old.known →
+            OnOk result (known_keys self.new.known child ≡ Some keys.items) }
         ensures kept { (other : ℕ) (others : _) → known_keys self.old.known other ≡ Some others →
             known_keys self.new.known other ≡ Some others }
         ensures others { (other : ℕ) → other ≢ child →
             known_keys self.new.known other ≡ known_keys self.old.known other }
         ensures same { OnErr result (self.new.known ≡ self.old.known) }
     {
-        let _ = cells;
         self.known.learn(child, keys)
     }
 
@@ -119,8 +119,10 @@ impl Maker {
         requires stands { Stands (name_of cells.now) self.old.sights self.old.known }
         requires beyond { IfSome self.old.beyond (Shown (name_of cells.now)) }
         requires known { known_keys self.old.known shape ≢ None }
+        requires of_table { key < keys_in (name_of cells.now) }
         ensures stands { Stands (name_of cells.now) self.new.sights self.new.known }
         ensures beyond { IfSome self.new.beyond (Shown (name_of cells.now)) }
+        ensures last { IfOk result (λ child. child ≤ last_in (name_of cells.now)) }
         ensures found { IfOk result (λ child. (keys : _) → known_keys self.old.known shape ≡ Some keys →
             known_keys self.new.known child ≡ Some (keys ++ key ∷ [])) }
         ensures kept { (other : ℕ) (keys : _) → known_keys self.old.known other ≡ Some keys →
@@ -133,12 +135,13 @@ impl Maker {
         ensures deep { (keys : _) → known_keys self.old.known shape ≡ Some keys →
             (result ≡ Err GrowRefused.Deep) ↔ ((length keys ≡ 64) × (¬ (Contains keys key))) }
         ensures many { (index : ℕ) → result ≡ Err (GrowRefused.Many index) →
-            (last_of cells.now ≤ index) × (index_of self.new.beyond ≡ Some index) }
+            (last_in (name_of cells.now) ≤ index) × (index_of self.new.beyond ≡ Some index) }
+        ensures alone { ((index : ℕ) → result ≢ Err (GrowRefused.Many index)) → self.new.beyond ≡ self.old.beyond }
     {
         let longer = longer(alloc, &self.known, shape, key)?;
         let sought = Sought { shape, key };
         match self.sights.walk(rt, gate, cells, sought) {
-            Ok(child) => match self.learn(cells, child, longer) {
+            Ok(child) => match self.learn(child, longer) {
                 Ok(()) => Ok(child),
                 Err(Memory) => Err(GrowRefused::Memory),
             },

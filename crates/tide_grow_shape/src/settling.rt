@@ -13,7 +13,7 @@ use tide_model::Memory;
 #[tactic(auto, using(crate::proofs::TogetherLaws::merges_nobody, crate::proofs::TogetherLaws::merges_one, crate::proofs::TogetherLaws::merges_each))]
 /// One grower that knows what all of them know.
 fn together(alloc: Global, table: &GrowShapes, growers: &[Grower]) -> Result<Grower, Memory>
-    requires { All (λ grower. grower.table ≡ table.now.name) growers.now }
+    requires { All (λ grower. grower.table ≡ table.now) growers.now }
     ensures known { IfOk result (λ all. (grower : _) (shape : ℕ) (keys : _) → Contains growers.now grower →
         Knows grower shape keys → Knows all shape keys) }
     ensures only { IfOk result (λ all. (shape : ℕ) (keys : _) → Knows all shape keys → keys ≢ [] →
@@ -30,7 +30,7 @@ fn together(alloc: Global, table: &GrowShapes, growers: &[Grower]) -> Result<Gro
 /// The table of the shapes that some growers know. It gives each number the keys that each of them knows for it,
 /// whatever steps their threads made in whatever order, and no keys to others; it has no number above theirs.
 pub fn settle(alloc: Global, table: &GrowShapes, growers: &[Grower]) -> Result<Settled, Memory>
-    requires own { All (λ grower. grower.table ≡ table.now.name) growers.now }
+    requires own { All (λ grower. grower.table ≡ table.now) growers.now }
     ensures grown { OnOk result (Grown growers.now) }
     ensures known { IfOk result (λ settled. (grower : _) (shape : ℕ) (keys : _) → Contains growers.now grower →
         Knows grower shape keys → slice_get (settled_lists settled) shape ≡ Some keys) }

@@ -1,5 +1,5 @@
 //! The table that threads grow. It knows no grower.
-ghost use Rattle.std.specs.Prelude.{◌≡◌, ◌≤◌, IfOk};
+ghost use Rattle.std.specs.Prelude.{◌≡◌, IfOk};
 
 use std::alloc::Global;
 use std::marker::Model;
@@ -11,7 +11,6 @@ use tide_sights::Cells;
 #[derive(Drop)]
 pub struct GrowShapes {
     pub(crate) cells: Cells,
-    keys: u32,
 }
 
 impl Model for GrowShapes {
@@ -19,33 +18,29 @@ impl Model for GrowShapes {
 
     ghost Value = { Table };
 
-    ghost use Rattle.tide_sights.specs.Cells.{last_of, name_of};
+    ghost use Rattle.tide_sights.specs.Cells.{name_of};
+    ghost use Rattle.tide_grow_shape.specs.Tables.{table_of};
 
-    ghost view = { λ t. record { name = name_of t.cells; keys = t.keys; last = last_of t.cells } };
+    ghost view = { λ t. table_of (name_of t.cells) };
 }
 
 impl GrowShapes {
-    /// A table of the empty shape alone, for 1 to 4,096 keys. Its shapes have numbers to 4,294,967,295.
+    /// A table of the empty shape alone, for the keys below `keys`. Its shapes have numbers to 4,294,967,295.
     pub fn new(alloc: Global, keys: u32) -> Result<GrowShapes, Memory>
-        requires some { 1 ≤ keys }
-        requires few { keys ≤ 4096 }
         ensures keys { IfOk result (λ table. table.keys ≡ keys) }
         ensures last { IfOk result (λ table. table.last ≡ 4294967295) }
     {
         GrowShapes::with_last(alloc, keys, u32::MAX)
     }
 
-    /// A table of the empty shape alone, for 1 to 4,096 keys, whose shapes have numbers to `last` alone: a small one,
-    /// to see what becomes of a table that has no number left.
+    /// A table of the empty shape alone, for the keys below `keys`, whose shapes have numbers to `last` alone: a small
+    /// one, to see what becomes of a table that has no number left.
     pub fn with_last(alloc: Global, keys: u32, last: u32) -> Result<GrowShapes, Memory>
-        requires some { 1 ≤ keys }
-        requires few { keys ≤ 4096 }
         ensures keys { IfOk result (λ table. table.keys ≡ keys) }
         ensures last { IfOk result (λ table. table.last ≡ last) }
     {
         Ok(GrowShapes {
-            cells: Cells::new(alloc, last)?,
-            keys,
+            cells: Cells::new(alloc, keys, last)?,
         })
     }
 
@@ -53,6 +48,6 @@ impl GrowShapes {
     pub fn keys(&self) -> u32
         ensures { result ≡ self.now.keys }
     {
-        self.keys
+        self.cells.keys()
     }
 }

@@ -1,10 +1,11 @@
 -- What sights tell, and what follows for one more.
-use Rattle.std.proofs.Common.{ℕ, ◌≡◌, ◌≢◌, ◌<◌, Bool, refl, sym, ◌∙◌, ap, subst, List, [], ◌∷◌, ◌++◌, length, map, get_or, None, Some, Result, Ok, Err}
+use Rattle.std.proofs.Common.{ℕ, ◌≡◌, ◌≢◌, ◌<◌, ◌≤◌, Bool, refl, sym, ◌∙◌, ap, subst, List, [], ◌∷◌, ◌++◌, length, map, get_or, None, Some, Result, Ok, Err}
 use Rattle.std.proofs.lemmas.List.{map-append, length-map, get_or-map}
 use Rattle.std.proofs.lemmas.List.Elements.{All-contains, All-map, All-contains_itself, All-nil, All-push, All-weaker, Contains-append_left, Contains-push}
 use Rattle.std.specs.Prelude.{All, Contains, OnOk, OnErr}
 use Rattle.tide_sights.specs.Walks.{Spot, Edge, AreOfOne, Includes}
 use Rattle.tide_sights.specs.Sights.{AreSights, IsSight, IsOf, cell_number, edge_of, edges_of}
+use Rattle.tide_sights.specs.Cells.{last_in}
 use Rattle.tide_sights.specs.Places.{place_of}
 use Rattle.tide_sights.proofs.CellLaws.{cell_number-next, cell_number-shape}
 use Rattle.tide_sights.proofs.PlaceLaws.{place_of_is, place_of_none, place_of_within}
@@ -42,6 +43,10 @@ pub record SeenOf (sights : List Sight) (a : Edge) : Type 0 where
 pub seen_of : (sights : List Sight) (a : Edge) → Contains (edges_of sights) a → SeenOf sights a
 seen_of sights a in_a = All-contains (SeenOf sights) (edges_of sights) a
     (All-map (SeenOf sights) edge_of sights (All-weaker (Contains sights) (λ s. SeenOf sights (edge_of s)) (λ s in_s. record { sight = s; there = in_s; is = refl }) sights (All-contains_itself sights))) in_a
+
+-- no edge names a shape above the highest number of the table
+pub named_within : (name : List ℕ) (sights : List Sight) → AreSights name sights → (a : Edge) → Contains (edges_of sights) a → a.child ≤ last_in name
+named_within name sights are a in_a = let of = seen_of sights a in_a in subst (λ (e : Edge). e.child ≤ last_in name) of.is (All-contains (IsSight name) sights of.sight are.read of.there).last
 
 -- what was read of a cell, where a sight of it tells the same
 pub cell_met : (name : List ℕ) (sights : List Sight) (mine s : Sight) → AreSights name sights → Contains sights mine → edge_of mine ≡ edge_of s

@@ -1,5 +1,6 @@
 pub mod Cells
 pub mod Indexed
 pub mod Places
+pub mod Rules
 pub mod Sights
 pub mod Walks

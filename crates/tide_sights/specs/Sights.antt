@@ -1,6 +1,6 @@
 -- What a sight of a cell is, and what it tells.
 use Rattle.std.specs.Prelude.{ℕ, ◌≡◌, ◌≤◌, ◌+◌, ◌*◌, Bool, List, All, map, if◌then◌else◌}
-use Rattle.tide_sights.specs.Cells.{IsShape, IsSource, Shown, cell_id, last_of, name_of}
+use Rattle.tide_sights.specs.Cells.{IsShape, IsSource, Shown, cell_id, last_in, name_of}
 use Rattle.tide_sights.specs.Walks.{Spot, Edge, AreOfOne, Includes, Finds, first_of}
 use Rattle.tide_sights.specs.declared.cells.Cells.{Cells}
 use Rattle.tide_sights.specs.declared.sight.Sight.{Sight}
@@ -8,7 +8,7 @@ use Rattle.tide_sights.specs.declared.walking.Seen.{Seen}
 use Rattle.tide_sights.specs.declared.unmade.Unmade.{Unmade}
 use Rattle.tide_sights.specs.declared.unmade.Unmade.TheVariants.{Many, Memory}
 
--- what was read of a cell of the table of this name, with what shows it
+-- what was read of a cell of the table of this name, with what shows it; no cell names a shape above the highest number
 pub record IsSight (name : List ℕ) (s : Sight) : Type 0 where
   pub source : IsSource name s.next s.shape s.source
   pub of : s.link.of ≡ cell_id name s.next s.source
@@ -16,6 +16,7 @@ pub record IsSight (name : List ℕ) (s : Sight) : Type 0 where
   pub item : IsShape name s.child s.item
   pub parent : s.item.value.parent ≡ s.parent
   pub key : s.item.value.key ≡ s.key
+  pub last : s.child ≤ last_in name
 
 -- what a sight tells
 abbrev pub edge_of : Sight → Edge
@@ -45,7 +46,7 @@ LeadsTo edges shape key spot =
 
 -- why a walk came to no child: an item of the table stands where its number would be past the last one, or memory lacked
 abbrev pub IsUnmade : Cells → Unmade → Type 0
-IsUnmade cells (Many item) = Shown (name_of cells) item × (last_of cells ≤ item.index)
+IsUnmade cells (Many item) = Shown (name_of cells) item × (last_in (name_of cells) ≤ item.index)
 IsUnmade cells Memory = Unit {0}
 
 -- what was told of a cell

@@ -1,19 +1,20 @@
 //! The cells of a table, which are set once, and the items that hold them. It knows no thread.
-ghost use Rattle.std.specs.Prelude.{◌≡◌, ◌<◌, IfOk, IfSome};
-ghost use Rattle.tide_sights.specs.Cells.{IsShape, Shown, cell_id, last_of, name_of};
+ghost use Rattle.std.specs.Prelude.{◌≡◌, [], ◌∷◌};
 
-use boxcar::Pushed;
-use boxcar::slot::{OnceSlot, SlotRule};
+use boxcar::slot::{OnceSlot, SlotRule, Written};
 use boxcar::tag::{Names, Tag};
+use boxcar::{Keeps, Pushed};
 use std::alloc::Global;
 use std::sync::Wait;
 use tide_model::Memory;
 
-/// A cell never names the empty shape.
+/// A cell, whose tag is the highest number of its table, never names the empty shape, nor one above that.
 pub struct AnyChild;
 
 impl SlotRule<u32> for AnyChild {
-    ghost holds = { λ _ shape. 0 < shape };
+    ghost use Rattle.tide_sights.specs.Rules.{IsChild};
+
+    ghost holds = { IsChild };
 }
 
 /// A cell that is set once, to the number of a shape.
@@ -28,12 +29,25 @@ pub struct Item {
     pub next_sibling: Link,
 }
 
-/// The items, the cell for the first child of the empty shape, which is no item, and the highest number of a shape.
+/// The cells of an item have the tag of the vector that it is in.
+pub struct CellsOfTable;
+
+impl Keeps<Item> for CellsOfTable {
+    ghost holds = { λ tag _ item. (item.first_child.tag ≡ tag) × (item.next_sibling.tag ≡ tag) };
+}
+
+/// What shows an item.
+pub type ShownItem = Pushed<Item, Global, CellsOfTable>;
+
+/// The items, the cell for the first child of the empty shape, which is no item, the highest number of a shape, and how
+/// many keys there are.
 #[derive(Drop)]
 pub struct Cells {
-    items: boxcar::Vec<Item>,
+    items: boxcar::Vec<Item, Global, CellsOfTable>,
     first_child: Link,
     last: u32,
+    keys: u32,
+    ghost tags: { (items.tag ≡ last ∷ []) × (first_child.tag ≡ last ∷ []) },
 }
 
 /// What tells one table from another.
@@ -45,33 +59,59 @@ impl Names<Cells> for OfTable {
     ghost numbers = { name_of };
 }
 
+/// The highest number of a table, as a tag.
+struct LastNumber;
+
+impl Names<u32> for LastNumber {
+    ghost numbers = { λ last. last ∷ [] };
+}
+
+/// What only clauses see of the highest number.
+fn tag_of(last: u32) -> Tag
+    ensures { result.numbers ≡ last ∷ [] }
+{
+    Tag::of::<u32, LastNumber>(&last)
+}
+
 /// An empty cell.
-fn empty_cell() -> Link {
-    OnceSlot::new(&Tag::empty())
+fn empty_cell(tag: &Tag) -> Link
+    ensures { result.tag ≡ tag.now.numbers }
+{
+    OnceSlot::new(tag)
 }
 
 impl Item {
     /// A shape with no child yet, that nobody names.
-    pub(crate) fn new(parent: u32, key: u32) -> Item {
+    fn new(tag: &Tag, parent: u32, key: u32) -> Item
+        ensures child { result.first_child.tag ≡ tag.now.numbers }
+        ensures sibling { result.next_sibling.tag ≡ tag.now.numbers }
+    {
         Item {
             parent,
             key,
-            first_child: empty_cell(),
-            next_sibling: empty_cell(),
+            first_child: empty_cell(tag),
+            next_sibling: empty_cell(tag),
         }
     }
 }
 
 impl Cells {
-    /// The cells of a table of the empty shape alone. Its shapes have numbers to `last`.
-    pub fn new(alloc: Global, last: u32) -> Result<Cells, Memory>
-        ensures { IfOk result (λ cells. last_of cells ≡ last) }
+    ghost use Rattle.std.specs.Prelude.{◌<◌, IfOk, IfSome};
+    ghost use Rattle.tide_sights.specs.Cells.{IsNumber, IsShape, Shown, cell_id, keys_in, last_in, name_of};
+
+    /// The cells of a table of the empty shape alone, for so many keys. Its shapes have numbers to `last`.
+    pub fn new(alloc: Global, keys: u32, last: u32) -> Result<Cells, Memory>
+        ensures keys { IfOk result (λ cells. keys_in (name_of cells) ≡ keys) }
+        ensures last { IfOk result (λ cells. last_in (name_of cells) ≡ last) }
     {
-        match boxcar::Vec::new(alloc) {
+        let tag = tag_of(last);
+        let first_child = empty_cell(&tag);
+        match boxcar::Vec::with_rule(alloc, tag) {
             Ok(items) => Ok(Cells {
                 items,
-                first_child: empty_cell(),
+                first_child,
                 last,
+                keys,
             }),
             Err(_) => Err(Memory),
         }
@@ -79,9 +119,16 @@ impl Cells {
 
     /// The highest number that a shape may have.
     pub(crate) fn last(&self) -> u32
-        ensures { result ≡ last_of self.now }
+        ensures { result ≡ last_in (name_of self.now) }
     {
         self.last
+    }
+
+    /// How many keys there are.
+    pub fn keys(&self) -> u32
+        ensures { result ≡ keys_in (name_of self.now) }
+    {
+        self.keys
     }
 
     /// What tells this table from others, which only clauses see.
@@ -93,9 +140,10 @@ impl Cells {
 
     #[tactic(auto, using(crate::proofs::CellLaws::shown))]
     /// Puts an item into the table, which no cell names yet. It may wait.
-    pub(crate) fn push<R: Wait>(&self, rt: &R, item: Item) -> Result<Pushed<Item>, Memory>
+    pub(crate) fn push<R: Wait>(&self, rt: &R, parent: u32, key: u32) -> Result<ShownItem, Memory>
         ensures { IfOk result (Shown (name_of self.now)) }
     {
+        let item = Item::new(&tag_of(self.last), parent, key);
         match self.items.push_shown(rt, item) {
             Ok(pushed) => Ok(pushed),
             Err(_) => Err(Memory),
@@ -104,7 +152,7 @@ impl Cells {
 
     #[tactic(auto, using(crate::proofs::CellLaws::shown))]
     /// What shows the item of a shape, once it is there. It may wait.
-    pub(crate) fn shown<R: Wait>(&self, rt: &R, shape: u32) -> Pushed<Item>
+    pub(crate) fn shown<R: Wait>(&self, rt: &R, shape: u32) -> ShownItem
         requires { 0 < shape }
         ensures { IsShape (name_of self.now) shape result }
     {
@@ -119,7 +167,7 @@ impl Cells {
 
     #[tactic(auto, using(crate::proofs::CellLaws::shows))]
     /// The parent and the key of an item.
-    pub(crate) fn told(&self, item: &Pushed<Item>) -> (u32, u32)
+    pub(crate) fn told(&self, item: &ShownItem) -> (u32, u32)
         requires { Shown (name_of self.now) item.now }
         ensures { (result.0 ≡ item.now.value.parent) × (result.1 ≡ item.now.value.key) }
     {
@@ -129,7 +177,7 @@ impl Cells {
 
     #[tactic(auto, using(crate::proofs::CellLaws::shows))]
     /// One number is that of one item.
-    pub(crate) fn same(&self, one: &Pushed<Item>, other: &Pushed<Item>)
+    pub(crate) fn same(&self, one: &ShownItem, other: &ShownItem)
         requires one { Shown (name_of self.now) one.now }
         requires other { Shown (name_of self.now) other.now }
         requires index { one.now.index ≡ other.now.index }
@@ -140,14 +188,17 @@ impl Cells {
 
     #[tactic(auto, using(crate::proofs::CellLaws::shows))]
     /// The cell of a shape: that of its first child, or that of its next sibling.
-    pub(crate) fn cell<'a>(&'a self, next: bool, source: &Option<Pushed<Item>>) -> &'a Link
+    pub(crate) fn cell<'a>(&'a self, next: bool, source: &Option<ShownItem>) -> &'a Link
         requires { IfSome source.now (Shown (name_of self.now)) }
-        ensures { result.now.id ≡ cell_id (name_of self.now) next source.now }
+        ensures id { result.now.id ≡ cell_id (name_of self.now) next source.now }
+        ensures tag { result.now.tag ≡ last_in (name_of self.now) ∷ [] }
     {
         match source {
             None => &self.first_child,
             Some(source) => {
-                let item = self.items.value(source);
+                let Some(item) = self.items.get_seen(source.index(), source) else {
+                    unreachable!()
+                };
                 if next {
                     &item.next_sibling
                 } else {
@@ -155,5 +206,16 @@ impl Cells {
                 }
             }
         }
+    }
+
+    #[tactic(auto, using(crate::proofs::CellLaws::may_be_named))]
+    /// The shape that a set cell names.
+    pub(crate) fn named(&self, next: bool, source: &Option<ShownItem>, link: &Written<u32>) -> u32
+        requires source { IfSome source.now (Shown (name_of self.now)) }
+        requires link { link.now.of ≡ cell_id (name_of self.now) next source.now }
+        ensures value { result ≡ link.now.value }
+        ensures number { IsNumber (name_of self.now) result }
+    {
+        *self.cell(next, source).value(link)
     }
 }

@@ -15,7 +15,7 @@ mod sights;
 mod unmade;
 mod walking;
 
-pub use cells::{Cells, Item};
+pub use cells::{Cells, ShownItem};
 pub use gate::GrowGate;
 pub use places::Places;
 pub use sight::Sight;

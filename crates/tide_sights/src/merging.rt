@@ -1,5 +1,5 @@
 //! What two growers of one table read agrees, and one takes over what another read.
-ghost use Rattle.std.specs.Prelude.{◌≡◌, ◌<◌, ◌++◌, Contains, OnOk};
+ghost use Rattle.std.specs.Prelude.{◌<◌, ◌++◌, Contains, OnOk};
 ghost use Rattle.tide_sights.specs.Cells.{name_of};
 ghost use Rattle.tide_sights.specs.Sights.{AreSights, IsSight, edge_of, edges_of};
 ghost use Rattle.tide_sights.specs.Walks.{AreOfOne, Includes};

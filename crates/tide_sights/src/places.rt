@@ -1,5 +1,5 @@
 //! Where numbers stand in a list, found by a hash. It knows no shape and no thread.
-ghost use Rattle.std.specs.Prelude.{◌≡◌, ℕ, [], ◌∷◌, ◌++◌, length, OnOk};
+ghost use Rattle.std.specs.Prelude.{◌≡◌, [], ◌∷◌, ◌++◌, length, OnOk};
 ghost use Rattle.tide_sights.specs.Places.{HasRoom, Indexes, place_of};
 
 use std::alloc::Global;

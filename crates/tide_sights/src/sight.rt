@@ -1,10 +1,9 @@
 //! What was read of one cell, with what shows that it was. It knows no list of sights.
-ghost use Rattle.std.specs.Prelude.{◌≡◌, ◌<◌, ℕ};
+ghost use Rattle.std.specs.Prelude.{◌≡◌, ◌<◌};
 ghost use Rattle.tide_sights.specs.Cells.{IsSource, cell_id, name_of};
 ghost use Rattle.tide_sights.specs.Sights.{IsOf, IsSight, edge_of};
 
-use crate::cells::{Cells, Item, Link};
-use boxcar::Pushed;
+use crate::cells::{Cells, Link, ShownItem};
 use boxcar::slot::Written;
 use std::sync::Wait;
 
@@ -17,13 +16,13 @@ pub struct Sight {
     pub parent: u32,
     pub key: u32,
     /// What shows the item that the cell is in, but for the empty shape's cell.
-    source: Option<Pushed<Item>>,
+    source: Option<ShownItem>,
     link: Written<u32>,
-    item: Pushed<Item>,
+    item: ShownItem,
 }
 
 /// What shows the item, once more.
-fn source_again(source: &Option<Pushed<Item>>) -> Option<Pushed<Item>>
+fn source_again(source: &Option<ShownItem>) -> Option<ShownItem>
     ensures { result ≡ source.now }
 {
     match source {
@@ -52,7 +51,7 @@ impl Sight {
         cells: &Cells,
         next: bool,
         shape: u32,
-        source: Option<Pushed<Item>>,
+        source: Option<ShownItem>,
         link: Written<u32>,
     ) -> Sight
         requires source { IsSource (name_of cells.now) next shape source }
@@ -61,7 +60,7 @@ impl Sight {
         ensures of { IsOf next shape result }
         ensures some { 0 < result.child }
     {
-        let child = *cells.cell(next, &source).value(&link);
+        let child = cells.named(next, &source, &link);
         let item = cells.shown(rt, child);
         let (parent, key) = cells.told(&item);
         Sight {

@@ -1,8 +1,8 @@
 //! What was read of the cells of one table, each cell once. It knows no shape's keys.
-ghost use Rattle.std.specs.Prelude.{◌≡◌, ◌≢◌, ◌<◌, ℕ, [], ◌∷◌, ◌++◌, All, Contains, IfNone, IfSome, OnErr, OnOk};
+ghost use Rattle.std.specs.Prelude.{◌≡◌, ◌≢◌, ◌<◌, [], ◌∷◌, ◌++◌, All, Contains, IfNone, IfSome, OnErr, OnOk};
 ghost use Rattle.tide_sights.specs.Cells.{name_of};
 ghost use Rattle.tide_sights.specs.Sights.{AreSights, IsOf, IsSight, edge_of, edges_of};
-ghost use Rattle.tide_sights.specs.Walks.{AreOfOne, Includes};
+ghost use Rattle.tide_sights.specs.Walks.{AreOfOne};
 
 use crate::cells::Cells;
 use crate::places::Places;

@@ -1,10 +1,10 @@
 //! The walk over the children of a shape, which sets the first empty cell that it comes to.
-ghost use Rattle.std.specs.Prelude.{◌≡◌, ◌<◌, ◌≤◌, ℕ, true, Contains, IfErr, IfOk, IfSome};
-ghost use Rattle.tide_sights.specs.Cells.{name_of};
+ghost use Rattle.std.specs.Prelude.{◌≡◌, ◌<◌, ◌≤◌, true, Contains, IfErr, IfOk, IfSome};
+ghost use Rattle.tide_sights.specs.Cells.{IsNumber, last_in, name_of};
 ghost use Rattle.tide_sights.specs.Sights.{AreSights, IsUnmade, edges_of, seen_edge};
 ghost use Rattle.tide_sights.specs.Walks.{Finds, Includes, first_of};
 
-use crate::cells::{Cells, Item};
+use crate::cells::Cells;
 use crate::gate::GrowGate;
 use crate::sight::{Sight, link_of};
 use crate::sights::Sights;
@@ -30,15 +30,15 @@ pub struct Seen {
 impl Sought {
     /// The number of the caller's own item, which is put into the table where that wasn't done yet. It may wait.
     fn own<R: Wait>(self, rt: &R, cells: &Cells, mine: &mut Option<u32>) -> Result<u32, Unmade>
-        requires { IfSome mine.old (λ number. 0 < number) }
-        ensures some { IfSome mine.new (λ number. 0 < number) }
-        ensures own { IfOk result (λ number. 0 < number) }
+        requires { IfSome mine.old (IsNumber (name_of cells.now)) }
+        ensures mine { IfSome mine.new (IsNumber (name_of cells.now)) }
+        ensures own { IfOk result (IsNumber (name_of cells.now)) }
         ensures unmade { IfErr result (IsUnmade cells.now) }
     {
         if let Some(number) = *mine {
             return Ok(number);
         }
-        let Ok(item) = cells.push(rt, Item::new(self.shape, self.key)) else {
+        let Ok(item) = cells.push(rt, self.shape, self.key) else {
             return Err(Unmade::Memory);
         };
         let index = item.index();
@@ -52,6 +52,7 @@ impl Sought {
 }
 
 impl Sights {
+    #[tactic(auto, using(crate::proofs::CellLaws::may_name))]
     /// What a cell tells. One that wasn't read is read, and is first set to an item of the caller's where it is empty.
     /// It may wait.
     ///
@@ -70,10 +71,10 @@ impl Sights {
     ) -> Result<Seen, Unmade>
         requires sights { AreSights (name_of cells.now) self.old }
         requires item { next ≡ true → 0 < of }
-        requires some { IfSome mine.old (λ number. 0 < number) }
+        requires mine { IfSome mine.old (IsNumber (name_of cells.now)) }
         ensures sights { AreSights (name_of cells.now) self.new }
         ensures more { Includes (edges_of self.old) (edges_of self.new) }
-        ensures some { IfSome mine.new (λ number. 0 < number) }
+        ensures mine { IfSome mine.new (IsNumber (name_of cells.now)) }
         ensures seen { IfOk result (λ seen. Contains (edges_of self.new) (seen_edge next of seen)) }
         ensures unmade { IfErr result (IsUnmade cells.now) }
     {
@@ -127,6 +128,7 @@ impl Sights {
         ensures more { Includes (edges_of self.old) (edges_of self.new) }
         ensures found { IfOk result (λ child.
             Finds (edges_of self.new) sought.shape sought.key (first_of sought.shape) child) }
+        ensures last { IfOk result (λ child. child ≤ last_in (name_of cells.now)) }
         ensures unmade { IfErr result (IsUnmade cells.now) }
     {
         let mut mine = None;

@@ -12,7 +12,7 @@ loop-place-preserved c =
     let long = ap (λ (gs : List Knowledge). length gs) c.in_ok-put.ensures in
     let parts = length-append old (grower ∷ []) in
     let same = c.loop-place.invariant.1 in (
-      subst (λ (gs : List Knowledge). All (λ g. g.table ≡ c.args.table.now.name) gs) (sym c.in_ok-put.ensures)
-          (All-push (λ (g : Knowledge). g.table ≡ c.args.table.now.name) old grower c.loop-place.invariant.0 c.in_ok-grower.ensures.table),
+      subst (λ (gs : List Knowledge). All (λ g. g.table ≡ c.args.table.now) gs) (sym c.in_ok-put.ensures)
+          (All-push (λ (g : Knowledge). g.table ≡ c.args.table.now) old grower c.loop-place.invariant.0 c.in_ok-grower.ensures.table),
       omega (arith, long, parts, same),
     )

@@ -7,14 +7,14 @@ use Rattle.tide_grow_shape.proofs.TogetherLaws.{Grown_of, stands_by}
 use Rattle.tide_grow_shape.proofs.agreeing.growers_agree.Goals as goal
 
 pub agrees_with-requires-clause-mine : goal.agrees_with-requires-clause-mine
-agrees_with-requires-clause-mine c = (stands_by c.one.inside c.args.one.now c.table.inside.cells c.table.inside.keys c.args.table.now c.one.view_is c.table.view_is c.requires.one c.one.invariant.stands).seen
+agrees_with-requires-clause-mine c = (stands_by c.one.inside c.args.one.now c.table.inside.cells c.args.table.now c.one.view_is c.table.view_is c.requires.one c.one.invariant.stands).seen
 
 pub agrees_with-requires-clause-theirs : goal.agrees_with-requires-clause-theirs
 agrees_with-requires-clause-theirs c = subst (AreSights (name_of c.table.inside.cells)) (sym c.as_slice.ensures)
-    (stands_by c.other.inside c.args.other.now c.table.inside.cells c.table.inside.keys c.args.table.now c.other.view_is c.table.view_is c.requires.other c.other.invariant.stands).seen
+    (stands_by c.other.inside c.args.other.now c.table.inside.cells c.args.table.now c.other.view_is c.table.view_is c.requires.other c.other.invariant.stands).seen
 
 pub returns : goal.returns
 returns c = Grown_of (name_of c.table.inside.cells) c.one.inside c.other.inside c.args.one.now c.args.other.now c.one.view_is c.other.view_is
-    (stands_by c.one.inside c.args.one.now c.table.inside.cells c.table.inside.keys c.args.table.now c.one.view_is c.table.view_is c.requires.one c.one.invariant.stands)
-    (stands_by c.other.inside c.args.other.now c.table.inside.cells c.table.inside.keys c.args.table.now c.other.view_is c.table.view_is c.requires.other c.other.invariant.stands)
+    (stands_by c.one.inside c.args.one.now c.table.inside.cells c.args.table.now c.one.view_is c.table.view_is c.requires.one c.one.invariant.stands)
+    (stands_by c.other.inside c.args.other.now c.table.inside.cells c.args.table.now c.other.view_is c.table.view_is c.requires.other c.other.invariant.stands)
     (subst (λ (ss : List Sight). AreOfOne (edges_of c.one.inside.maker.sights ++ edges_of ss)) c.as_slice.ensures c.agrees_with.ensures)

@@ -1,26 +1,29 @@
-use Rattle.std.proofs.Common.{ℕ, ◌≡◌, ◌≢◌, List, [], ◌∷◌, ◌++◌, length, Some, Err, ap, subst, sym, ◌∙◌}
+use Rattle.std.proofs.Common.{ℕ, ◌≡◌, ◌≢◌, ◌<◌, ◌≤◌, List, [], ◌∷◌, ◌++◌, length, Some, Err, ap, subst, sym, ◌∙◌}
 use Rattle.std.specs.Prelude.{◌↔◌, Contains, IfOk, IfSome, OnErr}
-use Rattle.tide_grow_shape.specs.declared.refused.GrowRefused.TheVariants.{Present, Deep}
+use Rattle.tide_grow_shape.specs.declared.refused.GrowRefused.TheVariants.{Present, Deep, Many}
 use Rattle.tide_sights.specs.Cells.{Shown}
-use Rattle.tide_grow_shape.specs.Grown.{Knowledge, known_keys}
-use Rattle.tide_grow_shape.specs.Stands.{Stands}
+use Rattle.tide_grow_shape.specs.Grown.{Knowledge, Table, known_keys}
+use Rattle.tide_grow_shape.specs.Stands.{Stands, index_of}
 use Rattle.tide_grow_shape.proofs.GrowingLaws.{known_child, own_name}
 use Rattle.tide_grow_shape.proofs.grower.Grower.grow_at.Goals as goal
 
 pub grow-requires-clause-stands : goal.grow-requires-clause-stands
 grow-requires-clause-stands g c = λ κs lives. subst (λ (name : List ℕ). Stands name c.self.inside.maker.sights c.self.inside.maker.known)
-    (own_name c.self.inside c.args.self.now c.table.inside.cells c.table.inside.keys c.args.table.now c.self.view_is c.table.view_is c.requires.own) c.self.invariant.stands
+    (own_name c.self.inside c.args.self.now c.table.inside.cells c.args.table.now c.self.view_is c.table.view_is c.requires.own) c.self.invariant.stands
 
 pub grow-requires-clause-beyond : goal.grow-requires-clause-beyond
 grow-requires-clause-beyond g c = λ κs lives. subst (λ (name : List ℕ). IfSome c.self.inside.maker.beyond (Shown name))
-    (own_name c.self.inside c.args.self.now c.table.inside.cells c.table.inside.keys c.args.table.now c.self.view_is c.table.view_is c.requires.own) c.self.invariant.beyond
+    (own_name c.self.inside c.args.self.now c.table.inside.cells c.args.table.now c.self.view_is c.table.view_is c.requires.own) c.self.invariant.beyond
 
 pub grow-requires-clause-known : goal.grow-requires-clause-known
 grow-requires-clause-known g c = λ κs lives none. c.requires.known (ap (λ (k : Knowledge). known_keys k.known c.args.shape) (sym c.self.view_is) ∙ none)
 
+pub grow-requires-clause-of_table : goal.grow-requires-clause-of_table
+grow-requires-clause-of_table g c = λ κs lives. subst (λ (t : Table). c.args.key < t.keys) (sym c.table.view_is) c.requires.of_table
+
 pub invariant_of-self : goal.invariant_of-self
 invariant_of-self g c =
-    let name = own_name c.self.inside c.args.self.now c.table.inside.cells c.table.inside.keys c.args.table.now c.self.view_is c.table.view_is c.requires.own in
+    let name = own_name c.self.inside c.args.self.now c.table.inside.cells c.args.table.now c.self.view_is c.table.view_is c.requires.own in
     record {
       stands = subst (λ (name : List ℕ). Stands name c.grow.new.self.sights c.grow.new.self.known) (sym name) c.grow.ensures.stands;
       beyond = subst (λ (name : List ℕ). IfSome c.grow.new.self.beyond (Shown name)) (sym name) c.grow.ensures.beyond;
@@ -46,3 +49,12 @@ returns-clause-deep g c = subst (λ (k : Knowledge). (keys : List ℕ) → known
 
 pub returns-clause-child : goal.returns-clause-child
 returns-clause-child g c = known_child c.args.self.now.known c.grow.new.self.known c.args.shape c.args.key c.grow.result c.requires.known (returns-clause-found g c)
+
+pub returns-clause-last : goal.returns-clause-last
+returns-clause-last g c = subst (λ (t : Table). IfOk c.grow.result (λ child. child ≤ t.last)) c.table.view_is c.grow.ensures.last
+
+pub returns-clause-many : goal.returns-clause-many
+returns-clause-many g c = subst (λ (t : Table). (index : ℕ) → c.grow.result ≡ Err (Many index) → (t.last ≤ index) × (index_of c.grow.new.self.beyond ≡ Some index)) c.table.view_is c.grow.ensures.many
+
+pub returns-clause-beyond : goal.returns-clause-beyond
+returns-clause-beyond g c = subst (λ (k : Knowledge). ((index : ℕ) → c.grow.result ≢ Err (Many index)) → index_of c.grow.new.self.beyond ≡ k.beyond) c.self.view_is (λ other. ap index_of (c.grow.ensures.alone other))

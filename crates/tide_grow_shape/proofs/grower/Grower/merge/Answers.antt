@@ -8,14 +8,14 @@ use Rattle.tide_grow_shape.proofs.TogetherLaws.{stands_by}
 use Rattle.tide_grow_shape.proofs.grower.Grower.merge.Goals as goal
 
 pub merge-requires-clause-mine : goal.merge-requires-clause-mine
-merge-requires-clause-mine c = stands_by c.self.inside c.args.self.now c.table.inside.cells c.table.inside.keys c.args.table.now c.self.view_is c.table.view_is c.requires.own c.self.invariant.stands
+merge-requires-clause-mine c = stands_by c.self.inside c.args.self.now c.table.inside.cells c.args.table.now c.self.view_is c.table.view_is c.requires.own c.self.invariant.stands
 
 pub merge-requires-clause-theirs : goal.merge-requires-clause-theirs
-merge-requires-clause-theirs c = stands_by c.other.inside c.args.other.now c.table.inside.cells c.table.inside.keys c.args.table.now c.other.view_is c.table.view_is c.requires.theirs c.other.invariant.stands
+merge-requires-clause-theirs c = stands_by c.other.inside c.args.other.now c.table.inside.cells c.args.table.now c.other.view_is c.table.view_is c.requires.theirs c.other.invariant.stands
 
 pub invariant_of-self : goal.invariant_of-self
 invariant_of-self c =
-    let name = own_name c.self.inside c.args.self.now c.table.inside.cells c.table.inside.keys c.args.table.now c.self.view_is c.table.view_is c.requires.own in
+    let name = own_name c.self.inside c.args.self.now c.table.inside.cells c.args.table.now c.self.view_is c.table.view_is c.requires.own in
     record {
       stands = subst (λ (name : List ℕ). Stands name c.merge.new.self.sights c.merge.new.self.known) (sym name) c.merge.ensures.stands;
       beyond = subst (λ o. IfSome o (Shown c.self.inside.table.numbers)) (sym c.merge.ensures.beyond) c.self.invariant.beyond;

@@ -1,15 +1,12 @@
-use Rattle.std.proofs.Common.{List, subst, sym}
+use Rattle.std.proofs.Common.{ℕ, List, Some, Err, ap, subst, sym, ◌∙◌}
 use Rattle.tide_sights.specs.Cells.{name_of}
 use Rattle.tide_grow_shape.specs.Stands.{Stands}
 use Rattle.tide_sights.specs.declared.sight.Sight.{Sight}
-use Rattle.tide_grow_shape.proofs.GrowingLaws.{grown_lists, grown_short_of, grown_distinct_of, short_known, Stands-more}
+use Rattle.tide_grow_shape.proofs.GrowingLaws.{grown_lists, grown_short_of, grown_distinct_of, grown_of_table_of, short_known, Stands-more}
 use Rattle.tide_grow_shape.proofs.maker.Maker.grow.Goals as goal
 
 pub longer-requires-clause-short : goal.longer-requires-clause-short
 longer-requires-clause-short g c = short_known (name_of c.args.cells.now) c.args.self.now.sights c.args.self.now.known c.requires.stands c.args.shape
-
-pub learn-requires-clause-stands : goal.learn-requires-clause-stands
-learn-requires-clause-stands g c = Stands-more (name_of c.args.cells.now) c.args.self.now.sights c.walk.new.self c.args.self.now.known c.requires.stands c.walk.ensures.sights c.walk.ensures.more
 
 pub learn-requires-clause-lists : goal.learn-requires-clause-lists
 learn-requires-clause-lists g c = grown_lists (name_of c.args.cells.now) c.args.self.now.sights c.args.self.now.known c.requires.stands c.args.shape c.args.key c.in_ok-longer.longer.items c.requires.known
@@ -25,3 +22,22 @@ pub returns-in-Err-clause-stands : goal.returns-in-Err-clause-stands
 returns-in-Err-clause-stands g c = subst (λ (ss : List Sight). Stands (name_of c.args.cells.now) ss c.refuse.new.self.known) (sym c.refuse.ensures.same.0)
     (subst (Stands (name_of c.args.cells.now) c.walk.new.self) (sym c.refuse.ensures.same.1)
     (Stands-more (name_of c.args.cells.now) c.args.self.now.sights c.walk.new.self c.args.self.now.known c.requires.stands c.walk.ensures.sights c.walk.ensures.more))
+
+pub returns-in-Err-clause-alone : goal.returns-in-Err-clause-alone
+returns-in-Err-clause-alone g c = λ other. c.refuse.ensures.alone (λ index same. other index (ap Err same))
+
+pub returns-in-Ok-learn-clause-stands : goal.returns-in-Ok-learn-clause-stands
+returns-in-Ok-learn-clause-stands g c = c.learn.ensures.stands (name_of c.args.cells.now)
+    (Stands-more (name_of c.args.cells.now) c.args.self.now.sights c.walk.new.self c.args.self.now.known c.requires.stands c.walk.ensures.sights c.walk.ensures.more)
+    (grown_of_table_of (name_of c.args.cells.now) c.args.self.now.sights c.args.self.now.known c.requires.stands c.args.shape c.args.key c.in_ok-longer.longer.items c.requires.known c.requires.of_table c.in_ok-longer.ensures.longer)
+
+pub returns-in-Ok-learn-clause-found : goal.returns-in-Ok-learn-clause-found
+returns-in-Ok-learn-clause-found g c = λ keys is.
+    c.in-Ok-learn.ensures.known (name_of c.args.cells.now)
+    (Stands-more (name_of c.args.cells.now) c.args.self.now.sights c.walk.new.self c.args.self.now.known c.requires.stands c.walk.ensures.sights c.walk.ensures.more)
+    ∙ ap (λ (ks : List ℕ). Some ks) (c.in_ok-longer.ensures.longer keys is).0
+
+pub returns-in-Err-learn-clause-stands : goal.returns-in-Err-learn-clause-stands
+returns-in-Err-learn-clause-stands g c = c.learn.ensures.stands (name_of c.args.cells.now)
+    (Stands-more (name_of c.args.cells.now) c.args.self.now.sights c.walk.new.self c.args.self.now.known c.requires.stands c.walk.ensures.sights c.walk.ensures.more)
+    (grown_of_table_of (name_of c.args.cells.now) c.args.self.now.sights c.args.self.now.known c.requires.stands c.args.shape c.args.key c.in_ok-longer.longer.items c.requires.known c.requires.of_table c.in_ok-longer.ensures.longer)
