@@ -7,7 +7,7 @@ use Rattle.tide_machine.proofs.steps.OwnState.{own_state}
 use Rattle.tide_machine.specs.Kind.{StoreCall}
 use Rattle.tide_machine.specs.May.{RunsAsMutator, MayCall, IsBetweenCalls}
 use Rattle.tide_machine.specs.Own.{Own, own_of}
-use Rattle.tide_machine.specs.RunningWave.{RunningWave}
+use Rattle.tide_heap.specs.Clean.{RunsClean}
 use Rattle.tide_machine.specs.World.{World}
 use Rattle.tide_machine.specs.declared.view.View.{View}
 use Rattle.tide_model.specs.Answer.{IsAnswer}
@@ -25,12 +25,12 @@ use Rattle.tide_steps.specs.Follows.{FollowsSome, MayStep}
 
 -- what is its own follows from its calls
 pub own_now : (layout : Layout) (shapes : ShapeLists) (v : View) (mine : List Event) → v.mine ≡ mine → (w : World) →
-    RunningWave layout shapes w → w.part v.who ≡ v →
+    RunsClean layout shapes w → w.part v.who ≡ v →
     own_of v.who (state_after layout w.log) ≡ own_of v.who (state_after layout mine)
-own_now layout shapes v mine made w wave is =
+own_now layout shapes v mine made w running is =
     own_state layout v.who w.log
     ∙ ap (λ (l : List Event). own_of v.who (state_after layout l))
-    (wave.known.own v.who ∙ ap (λ (u : View). u.mine) is ∙ made)
+    (running.wave.known.own v.who ∙ ap (λ (u : View). u.mine) is ∙ made)
 
 pub runner : (layout : Layout) (v : View) → v.who < layout.mutators → v.runs ≡ true → (w : World) →
     w.part v.who ≡ v → RunsAsMutator layout w v.who
@@ -40,8 +40,8 @@ runner layout v mutator runs w is = record { is_mutator = mutator; runs = ap (λ
 pub may_call : (layout : Layout) (shapes : ShapeLists) (v : View) (mine : List Event) (op : Op) →
     IsReady layout v mine false → (state_after layout mine).active v.who ≡ true → FitsLayout layout op →
     ((s : State) → own_of v.who s ≡ own_of v.who (state_after layout mine) → IsAnswer layout shapes s v.who op Done None) →
-    (w : World) → RunningWave layout shapes w → w.part v.who ≡ v → MayCall layout shapes w v.who op Done None
-may_call layout shapes v mine op ready active fits granted w wave is = record {
+    (w : World) → RunsClean layout shapes w → w.part v.who ≡ v → MayCall layout shapes w v.who op Done None
+may_call layout shapes v mine op ready active fits granted w running is = record {
   runner = runner layout v ready.is_mutator ready.runs w is;
   between = subst IsBetweenCalls (sym is) ready.rests.between;
   stands = record {
@@ -54,7 +54,7 @@ may_call layout shapes v mine op ready active fits granted w wave is = record {
 }
   where
     own : own_of v.who (state_after layout w.log) ≡ own_of v.who (state_after layout mine)
-    own = own_now layout shapes v mine ready.made w wave is
+    own = own_now layout shapes v mine ready.made w running is
 
 -- the register that was set holds its number
 pub seven : (layout : Layout) (who : ℕ) → (state_after layout (set_calls who)).registers who 0 ≡ Int 7
@@ -77,11 +77,11 @@ told_ready layout shapes v u t before mine left word ready same owed made leaves
       rests = record {
         held = ap (λ (x : View). x.held) all ∙ ready.rests.held;
         scan = ap (λ (x : View). x.scan) all ∙ ready.rests.scan;
-        sweeping = ap (λ (x : View). x.sweeping) all ∙ ready.rests.sweeping;
         between = record {
           owed = ap (λ (x : View). x.owed) told ∙ owed;
           duty = ap (λ (x : View). x.duty) all ∙ ready.rests.between.duty;
           growth = ap (λ (x : View). x.growth) all ∙ ready.rests.between.growth;
+          sweeping = ap (λ (x : View). x.sweeping) all ∙ ready.rests.between.sweeping;
           calls = ap (λ (x : View). x.calls) told ∙ sym (ap (λ (x : View). length x.mine) told);
         };
       };
@@ -93,7 +93,7 @@ told_ready layout shapes v u t before mine left word ready same owed made leaves
 pub may_tell : (layout : Layout) (shapes : ShapeLists) (v u : View) (before mine : List Event) (word : ℕ) →
     IsReady layout v before false → between_calls u ≡ between_calls v → u.mine ≡ mine → word ≡ length mine % 2 ^ 64 →
     MayStep layout shapes u (StoreCall word None)
-may_tell layout shapes v u before mine word ready same made counts w wave is = (
+may_tell layout shapes v u before mine word ready same made counts w running is = (
   runner layout u (subst (λ (n : ℕ). n < layout.mutators) (sym (ap (λ (x : View). x.who) same)) ready.is_mutator)
       (ap (λ (x : View). x.runs) same ∙ ready.runs) w is,
   counts ∙ ap (λ (l : List Event). length l % 2 ^ 64) (sym (ap (λ (x : View). x.mine) is ∙ made)),

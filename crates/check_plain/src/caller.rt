@@ -55,9 +55,10 @@ impl Caller {
         Some(self.store.call(who, op))
     }
 
-    /// Frees the cells that nothing retains, and gives these in rising order.
-    pub fn collect(&mut self, alloc: Global) -> Result<Vec<u32>, AllocError> {
-        match self.store.collect(alloc) {
+    /// Frees the cells that nothing retains, and gives these in rising order. What the last collection kept retains too,
+    /// where this one isn't full.
+    pub fn collect(&mut self, alloc: Global, full: bool) -> Result<Vec<u32>, AllocError> {
+        match self.store.collect(alloc, full) {
             Ok(freed) => Ok(freed),
             Err(_) => Err(AllocError),
         }

@@ -4,7 +4,7 @@
 //! Then
 //!
 //! - `mM OPERATION` is answered with the reply to mutator M, in the texts of a workload, with `k` and its number for a key;
-//! - `collect` is answered with the cells that a collection frees;
+//! - `collect` is answered with the cells that a full collection frees, and `collect eden` with those that an Eden one frees;
 //! - `free CLASS`, `claims MUTATOR`, `live`, `taken` and `swept BLOCK` with what the store tells.
 
 use crate::caller::Caller;
@@ -86,6 +86,12 @@ fn mutator_of(word: &str) -> Option<u32> {
     number(behind("m", word)?)
 }
 
+/// Collects, and gives the freed cells.
+fn collect(alloc: Global, store: &mut Caller, full: bool) -> Result<Option<String>, AllocError> {
+    let freed = store.collect(alloc, full)?;
+    Ok(Some(numbers_text(alloc, freed.as_slice())?))
+}
+
 /// Does what the words say to a store.
 fn ask(
     alloc: Global,
@@ -94,10 +100,8 @@ fn ask(
     words: &[&str],
 ) -> Result<Option<String>, AllocError> {
     match words {
-        ["collect"] => {
-            let freed = store.collect(alloc)?;
-            Ok(Some(numbers_text(alloc, freed.as_slice())?))
-        }
+        ["collect"] => collect(alloc, store, true),
+        ["collect", "eden"] => collect(alloc, store, false),
         [mutator, op @ ..] => match mutator_of(mutator) {
             Some(who) => call(alloc, store, keys, who, op),
             None => told(alloc, store, words),

@@ -36,8 +36,7 @@ new_rests who part v is later = subst (IsAtRest who part) (sym is) (record {
   rests = record {
     held = refl;
     scan = refl;
-    sweeping = refl;
-    between = record { owed = refl; duty = refl; growth = refl; calls = refl };
+    between = record { owed = refl; duty = refl; growth = refl; sweeping = refl; calls = refl };
   };
 })
 
@@ -76,11 +75,11 @@ begun_takes who part v c is rest = by (v.begun == c.period) refl
       rests = record {
         held = rest.rests.held;
         scan = rest.rests.scan;
-        sweeping = rest.rests.sweeping;
         between = record {
           owed = rest.rests.between.owed;
           duty = rest.rests.between.duty;
           growth = rest.rests.between.growth;
+          sweeping = rest.rests.between.sweeping;
           calls = rest.rests.between.calls;
         };
       };
@@ -111,11 +110,11 @@ looked_takes who part v u looked takes = subst (TakesPart who part) (sym looked.
   rests = record {
     held = takes.rests.held;
     scan = takes.rests.scan;
-    sweeping = takes.rests.sweeping;
     between = record {
       owed = takes.rests.between.owed;
       duty = takes.rests.between.duty;
       growth = takes.rests.between.growth;
+      sweeping = takes.rests.between.sweeping;
       calls = takes.rests.between.calls;
     };
   };
@@ -133,11 +132,11 @@ stopped_rests who part v takes = record {
   rests = record {
     held = takes.rests.held;
     scan = takes.rests.scan;
-    sweeping = takes.rests.sweeping;
     between = record {
       owed = takes.rests.between.owed;
       duty = takes.rests.between.duty;
       growth = takes.rests.between.growth;
+      sweeping = takes.rests.between.sweeping;
       calls = takes.rests.between.calls;
     };
   };

@@ -13,7 +13,8 @@ use Rattle.tide_machine.proofs.freezes.Entering.{FrozenWave-of, FrozenWith-enter
 use Rattle.tide_machine.specs.Frozen.{FrozenWith}
 use Rattle.tide_machine.specs.Schedule.{begins, pauses, visits}
 use Rattle.tide_machine.specs.declared.view.View.{View}
-use Rattle.tide_model.specs.Cycle.{begin_count}
+use Rattle.tide_model.proofs.DeadLaws.{HasDead-push}
+use Rattle.tide_model.specs.Cycle.{IsSwept, begin_count}
 use Rattle.tide_model.specs.History.{plain}
 use Rattle.tide_model.specs.Layout.{Layout, cell_count}
 use Rattle.tide_model.specs.Refused.{ShapeLists}
@@ -41,6 +42,8 @@ visits_told layout shapes v w u visitor count freezes counted told note entered 
           (v.seen ++ plain (Visits visitor count) ∷ []) (count + 0) 0
           (subst (FrozenWith layout shapes (heap_of layout freezes.words) v.seen)
           (told ∙ (let e : count ≡ count + 0 = omega arith in e)) freezes.wave) (visits visitor count 0);
+      clean = λ block has. freezes.clean block
+          (HasDead-push layout v.seen (plain (Visits visitor count)) block refl has);
       entered = (let left = unentered-entered (first_visitor + visitor) v.visited
           (record { who = first_visitor + visitor; visits = count; done = true }) note refl in
           omega (arith, left, counted, told));
@@ -56,6 +59,7 @@ nothing_told layout shapes v w freezes counted none =
       blacks = refl;
       long = freezes.long;
       wave = subst (FrozenWith layout shapes (heap_of layout freezes.words) v.seen) none freezes.wave;
+      clean = freezes.clean;
       entered = counted ∙ none;
       stopped = λ index below. refl;
     }
@@ -87,6 +91,8 @@ module _ (layout : Layout) (shapes : ShapeLists) (v : View) (freeze : IsAtFreeze
     long = ap {A = List ℕ} length words_are ∙ long;
     wave = subst (λ (ws : List ℕ). FrozenWith layout shapes (heap_of layout ws) x.seen 0) (sym words_are)
         (subst (λ (h : List Event). FrozenWith layout shapes (heap_of layout words) h 0) (sym seen) then);
+    clean = subst (IsSwept layout) (sym seen)
+        (λ block has. freeze.clean block (HasDead-push layout v.seen (plain (Pause count)) block refl has));
     entered = ap (λ (y : View). unentered y.visited) same ∙ freeze.entered;
     stopped = subst (λ (ws : List ℕ). SameIn layout Stopped (heap_of layout x.stood) (heap_of layout ws)) (sym words_are)
         (subst (λ (st : List ℕ). SameIn layout Stopped (heap_of layout st) (heap_of layout words))
@@ -100,13 +106,13 @@ module _ (layout : Layout) (shapes : ShapeLists) (v : View) (freeze : IsAtFreeze
     (begun : HasBegun layout (heap_of layout v.words) (heap_of layout words)) where
   after : FrozenWith layout shapes (heap_of layout words) (with_begin v.seen) 0
   after = FrozenWith-entered layout shapes (heap_of layout v.words) (heap_of layout words) v.seen (with_begin v.seen) 0 0
-      freeze.wave (begins (heap_of layout words) idle begun)
+      freeze.wave (begins (heap_of layout words) idle freeze.clean begun)
 
-  pub may_begin : MayEnter layout shapes (heap_of layout words) v.seen (Begin (begin_count v.seen + 1))
-  may_begin = MayEnter-by layout shapes (heap_of layout words) v.seen (Begin (begin_count v.seen + 1)) (
+  pub may_begin : MayEnter layout shapes (heap_of layout words) v.seen (Begin (begin_count v.seen + 1) true)
+  may_begin = MayEnter-by layout shapes (heap_of layout words) v.seen (Begin (begin_count v.seen + 1) true) (
     refl,
     StandsBegin-next layout shapes (heap_of layout v.words) v.seen
-        (FrozenWave-of layout shapes (heap_of layout v.words) v.seen freeze.wave) idle,
+        (FrozenWave-of layout shapes (heap_of layout v.words) v.seen freeze.wave) idle freeze.clean,
   )
       (FrozenWave-of layout shapes (heap_of layout words) (with_begin v.seen) after)
 
@@ -119,6 +125,8 @@ module _ (layout : Layout) (shapes : ShapeLists) (v : View) (freeze : IsAtFreeze
     long = ap {A = List ℕ} length words_are ∙ long;
     wave = subst (λ (ws : List ℕ). FrozenWith layout shapes (heap_of layout ws) x.seen 0) (sym words_are)
         (subst (λ (h : List Event). FrozenWith layout shapes (heap_of layout words) h 0) (sym seen) after);
+    clean = subst (IsSwept layout) (sym seen) (λ block has. freeze.clean block
+        (HasDead-push layout v.seen (plain (Begin (begin_count v.seen + 1) true)) block refl has));
     entered = ap (λ (y : View). unentered y.visited) same ∙ freeze.entered;
     stopped = subst (λ (ws : List ℕ). SameIn layout Stopped (heap_of layout x.stood) (heap_of layout ws)) (sym words_are)
         (subst (λ (st : List ℕ). SameIn layout Stopped (heap_of layout st) (heap_of layout words))

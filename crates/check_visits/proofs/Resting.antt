@@ -58,11 +58,11 @@ has_begun v t u parked who later marks same =
       rests = record {
         held = parked.rests.held;
         scan = parked.rests.scan;
-        sweeping = parked.rests.sweeping;
         between = record {
           owed = parked.rests.between.owed;
           duty = parked.rests.between.duty;
           growth = parked.rests.between.growth;
+          sweeping = parked.rests.between.sweeping;
           calls = parked.rests.between.calls;
         };
       };
@@ -79,11 +79,11 @@ module _ (v t u x : View) (begun : HasBegun v t u) (waits : IsWaiting x) (rest :
   rests_then = record {
     held = waits.held;
     scan = waits.scan;
-    sweeping = ap (λ (y : View). y.sweeping) rest ∙ begun.rests.sweeping;
     between = record {
       owed = ap (λ (y : View). y.owed) rest ∙ begun.rests.between.owed;
       duty = waits.visiting.duty;
       growth = ap (λ (y : View). y.growth) rest ∙ begun.rests.between.growth;
+      sweeping = ap (λ (y : View). y.sweeping) rest ∙ begun.rests.between.sweeping;
       calls = ap (λ (y : View). y.calls) rest ∙ begun.rests.between.calls ∙ sym (ap (λ (y : View). length y.mine) rest);
     };
   }
@@ -113,11 +113,11 @@ module _ (v t u x : View) (begun : HasBegun v t u) (waits : IsWaiting x) (rest :
         rests = record {
           held = is.held;
           scan = is.scan;
-          sweeping = is.sweeping;
           between = record {
             owed = is.between.owed;
             duty = is.between.duty;
             growth = is.between.growth;
+            sweeping = is.between.sweeping;
             calls = is.between.calls;
           };
         };

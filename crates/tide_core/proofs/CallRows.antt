@@ -18,7 +18,7 @@ use Rattle.tide_core.specs.FrozenWave.{FrozenWave}
 
 -- two cells are born, the first cycle begins, its pause makes the first one black, and the second is stored in that one
 abbrev stored : List Event
-stored = plain (Call 0 (Alloc 0 0) (Born 0)) ∷ plain (Call 0 (Alloc 1 0) (Born 1)) ∷ plain (Begin 1) ∷ plain (Pause 1)
+stored = plain (Call 0 (Alloc 0 0) (Born 0)) ∷ plain (Call 0 (Alloc 1 0) (Born 1)) ∷ plain (Begin 1 true) ∷ plain (Pause 1)
     ∷ plain (Call 0 (Put 0 0 1) Done) ∷ []
 
 -- without the barrier the first cell stays black: a black cell holds an unmarked one, whatever the other words say
@@ -36,7 +36,7 @@ barrier_sets_no_bit heap marks grey none wave = (
 
 -- a cell that is born white in the cycle would be freed by its end
 born_white_in_cycle : (heap : Heap) → is_marking heap ≡ true → (IsMarked heap 1 → ⊥) → FrozenWave small no_shapes heap
-    (plain (Call 0 (Alloc 0 0) (Born 0)) ∷ plain (Begin 1) ∷ plain (Pause 1) ∷ plain (Call 0 (Alloc 1 0) (Born 1)) ∷ []) → ⊥
+    (plain (Call 0 (Alloc 0 0) (Born 0)) ∷ plain (Begin 1 true) ∷ plain (Pause 1) ∷ plain (Call 0 (Alloc 1 0) (Born 1)) ∷ []) → ⊥
 born_white_in_cycle heap marks white wave = white (wave.born marks 1 (omega arith) refl)
 
 -- a call that isn't counted is none that the words tell

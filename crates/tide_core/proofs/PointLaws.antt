@@ -106,6 +106,7 @@ FrozenWave-same layout shapes old new history same wave = record {
   cycle = running_cycle-same layout old new (same Phase) ∙ wave.cycle;
   period = same Period 0 (omega arith) ∙ wave.period;
   calls = λ who within. same CallRegion who within ∙ wave.calls who within;
+  full = λ marks. wave.full (before marks);
   retained = λ marks cell within marked. wave.retained (before marks) cell within
       (sym (is_marked-same layout old new cell (same Phase) (same Colour) within) ∙ marked);
   born = λ marks cell within born.

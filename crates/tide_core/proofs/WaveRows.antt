@@ -60,11 +60,11 @@ visited = coloured (coloured unmarked 0 Grey) 0 Black
 
 -- the cell is born, a cycle begins, and its first pause visits the cell
 abbrev born_before : List Event
-born_before = plain (Call 0 (Alloc 0 0) (Born 0)) ∷ plain (Begin 1) ∷ plain (Pause 1) ∷ []
+born_before = plain (Call 0 (Alloc 0 0) (Born 0)) ∷ plain (Begin 1 true) ∷ plain (Pause 1) ∷ []
 
 -- a cycle begins, and the cell is born in it
 abbrev born_after : List Event
-born_after = plain (Begin 1) ∷ plain (Call 0 (Alloc 0 0) (Born 0)) ∷ []
+born_after = plain (Begin 1 true) ∷ plain (Call 0 (Alloc 0 0) (Born 0)) ∷ []
 
 -- each register but the first is empty
 each_register : (P : ℕ → ℕ → Val → Type 0) → P 0 0 (Cell 0) →
@@ -203,6 +203,7 @@ visited_cell_has_wave = record {
   cycle = refl;
   period = refl;
   calls = λ who within. (let first : who ≡ 0 = omega (arith, within) in subst (λ (n : ℕ). visited CallRegion n ≡ call_count n born_before % 2 ^ 64) (sym first) refl);
+  full = λ marks. refl;
   retained = λ marks cell within marked. subst (IsRetained (cycle_span small born_before) no_cell)
       (sym (marked_is_first cell marked))
       (is_root 0 (2, omega arith, omega arith, in_register 0 0 refl refl));
@@ -217,6 +218,7 @@ born_cell_has_wave = record {
   cycle = refl;
   period = refl;
   calls = λ who within. (let first : who ≡ 0 = omega (arith, within) in subst (λ (n : ℕ). visited CallRegion n ≡ call_count n born_after % 2 ^ 64) (sym first) refl);
+  full = λ marks. refl;
   retained = λ marks cell within marked. subst (IsRetained (cycle_span small born_after) no_cell)
       (sym (marked_is_first cell marked))
       (is_root 0 (2, omega arith, omega arith, in_register 0 0 refl refl));
@@ -277,7 +279,7 @@ visited_cell_is_kept = (
 
 -- a visit that no entry tells breaks the wave
 visit_untold : FrozenWave small no_shapes visited
-    (plain (Call 0 (Alloc 0 0) (Born 0)) ∷ plain (Begin 1) ∷ plain (Pause 0) ∷ []) → ⊥
+    (plain (Call 0 (Alloc 0 0) (Born 0)) ∷ plain (Begin 1 true) ∷ plain (Pause 0) ∷ []) → ⊥
 visit_untold wave = (let few = wave.counted refl in omega (arith, few))
 
 -- so does a cell that is born white in the cycle
@@ -294,7 +296,7 @@ part_untold wave = (let one = wave.period in omega (arith, one))
 
 -- the cell is dropped before the cycle begins
 abbrev dropped : List Event
-dropped = plain (Call 0 (Alloc 0 0) (Born 0)) ∷ plain (Call 0 (Drop 0) Done) ∷ plain (Begin 1) ∷ plain (Pause 1) ∷ []
+dropped = plain (Call 0 (Alloc 0 0) (Born 0)) ∷ plain (Call 0 (Drop 0) Done) ∷ plain (Begin 1 true) ∷ plain (Pause 1) ∷ []
 
 -- then no register has it at any moment of the cycle
 none_held : (who register : ℕ) → (state_at small dropped 3).registers who register ≡ Empty

@@ -4,7 +4,6 @@ use Rattle.std.proofs.lemmas.Bool.{cases_Bool, cases_eq, eq-eqb, ne_eqb}
 use Rattle.std.proofs.lemmas.Bool.Decides.{nat_tests}
 use Rattle.std.proofs.lemmas.List.Elements.{Contains-append_left, Contains-append_right}
 use Rattle.std.proofs.lemmas.List.Sums.{sum_by-append}
-use Rattle.std.specs.List.{list_all}
 use Rattle.std.specs.Prelude.{Contains, ◌==◌, ◌&&◌, ◌||◌, count_by, if◌then◌else◌}
 use Rattle.tide_freeze.proofs.BirthLaws.{born-none, born-push}
 use Rattle.tide_freeze.proofs.FewBirths.{live_called}
@@ -16,7 +15,6 @@ use Rattle.tide_machine.proofs.steps.Frames.{put_here, put_else}
 use Rattle.tide_machine.specs.Entries.{added}
 use Rattle.tide_machine.specs.World.{parties}
 use Rattle.tide_machine.specs.declared.view.View.{View}
-use Rattle.tide_machine.specs.points.Seen.{HasCallsAlone}
 use Rattle.tide_model.proofs.Histories.{IsLawful-elim, state_after-push}
 use Rattle.tide_model.proofs.NumberLaws.{put_at_elim}
 use Rattle.tide_model.proofs.SinceLaws.{since-none, since-push}
@@ -29,9 +27,10 @@ use Rattle.tide_model.specs.Refused.{ShapeLists}
 use Rattle.tide_model.specs.Since.{born_since, is_birth, is_born_reply, is_call, since}
 use Rattle.tide_model.specs.State.{is_live}
 use Rattle.tide_model.specs.declared.entry.Entry.{Entry}
-use Rattle.tide_model.specs.declared.entry.Entry.TheVariants.{Call, Begin, Pause, Visits, End, Sweep, Open}
+use Rattle.tide_model.specs.declared.entry.Entry.TheVariants.{Call, Begin, Pause, Visits, End, Taken, Sweep, Open}
 use Rattle.tide_model.specs.declared.entry.Event.{Event}
 use Rattle.tide_heap.specs.Births.{births_in, born_to, is_birth_of, told_births}
+use Rattle.tide_heap.specs.Clean.{HasCallsAlone}
 use Rattle.tide_heap.specs.Parties.{In}
 
 -- how many cells are born at an entry, or at none
@@ -50,20 +49,22 @@ still n = omega arith
 -- a call opens no part, and is one of one mutator
 pub own_no_open : (who : ℕ) (entry : Entry) → is_call_of who entry ≡ true → is_open entry ≡ false
 own_no_open who (Call p o reply) is = refl
-own_no_open who (Begin cycle) is = absurd (cc)
+own_no_open who (Begin cycle full) is = absurd (cc)
 own_no_open who (Pause visits) is = absurd (cc)
 own_no_open who (Visits p visits) is = absurd (cc)
 own_no_open who (End cycle freed) is = absurd (cc)
+own_no_open who (Taken block) is = absurd (cc)
 own_no_open who (Sweep block) is = absurd (cc)
 own_no_open who (Open number run) is = absurd (cc)
 
 not_of_other : (who other : ℕ) (entry : Entry) → is_call_of who entry ≡ true → other ≢ who → is_call_of other entry ≡ false
 not_of_other who other (Call p o reply) is apart =
     ne_eqb p other (λ e. apart (let same : p ≡ who = grind (arith, nat_tests) in sym e ∙ same))
-not_of_other who other (Begin cycle) is apart = refl
+not_of_other who other (Begin cycle full) is apart = refl
 not_of_other who other (Pause visits) is apart = refl
 not_of_other who other (Visits p visits) is apart = refl
 not_of_other who other (End cycle freed) is apart = refl
+not_of_other who other (Taken block) is apart = refl
 not_of_other who other (Sweep block) is apart = refl
 not_of_other who other (Open number run) is apart = refl
 
@@ -267,10 +268,11 @@ each_birth (Call who o reply) few =
     (λ i other. ap {B = ℕ} (λ (b : Bool). if b && is_born_reply reply then 1 else 0)
     (ne_eqb who i (λ e. other (sym e)))) in
     let none = total_zero (λ i. 0) parties (λ i below. refl) in omega (arith, counted, none)
-each_birth (Begin cycle) few = total_zero (λ i. 0) parties (λ i below. refl)
+each_birth (Begin cycle full) few = total_zero (λ i. 0) parties (λ i below. refl)
 each_birth (Pause visits) few = total_zero (λ i. 0) parties (λ i below. refl)
 each_birth (Visits who visits) few = total_zero (λ i. 0) parties (λ i below. refl)
 each_birth (End cycle freed) few = total_zero (λ i. 0) parties (λ i below. refl)
+each_birth (Taken block) few = total_zero (λ i. 0) parties (λ i below. refl)
 each_birth (Sweep block) few = total_zero (λ i. 0) parties (λ i below. refl)
 each_birth (Open number run) few = total_zero (λ i. 0) parties (λ i below. refl)
 
@@ -280,10 +282,11 @@ stands_few : (layout : Layout) (shapes : ShapeLists) (before : List Event) (entr
 stands_few layout shapes before (Call p o reply) took limits stands who is =
     let same : p ≡ who = grind (arith, nat_tests) in let few = limits.few_mutators in let below = stands.is_mutator in
     omega (arith, same, few, below)
-stands_few layout shapes before (Begin cycle) took limits stands who is = absurd (cc)
+stands_few layout shapes before (Begin cycle full) took limits stands who is = absurd (cc)
 stands_few layout shapes before (Pause visits) took limits stands who is = absurd (cc)
 stands_few layout shapes before (Visits p visits) took limits stands who is = absurd (cc)
 stands_few layout shapes before (End cycle freed) took limits stands who is = absurd (cc)
+stands_few layout shapes before (Taken block) took limits stands who is = absurd (cc)
 stands_few layout shapes before (Sweep block) took limits stands who is = absurd (cc)
 stands_few layout shapes before (Open number run) took limits stands who is = absurd (cc)
 
@@ -305,22 +308,6 @@ born_to_all layout shapes limits =
           omega (arith, grown, was, one, more)
     ])
 
--- where each event of a list is a call, they all are
-all_calls : (events : List Event) → ((event : Event) → Contains events event → is_call event.entry ≡ true) →
-    list_all (λ event. is_call event.entry) events ≡ true
-all_calls [] each = refl
-all_calls (event ∷ events) each = both (is_call event.entry) (list_all (λ e. is_call e.entry) events)
-    (each event (0, omega arith, refl))
-    (all_calls events (λ e at. each e (Contains-append_right (event ∷ []) events e at)))
-  where
-    both : (a b : Bool) → a ≡ true → b ≡ true → (a && b) ≡ true
-    both true b first rest = rest
-    both false b first rest = first
-
-pub part_calls : (log : List Event) → HasCallsAlone log →
-    list_all (λ event. is_call event.entry) (since is_open log) ≡ true
-part_calls log alone = all_calls (since is_open log) alone
-
 -- since the part was opened no cell died, so no more were born than live
 module _ (layout : Layout) (shapes : ShapeLists) (limits : IsWithinLimits layout) where
   abbrev FewSince : List Event → Type 0
@@ -341,10 +328,11 @@ module _ (layout : Layout) (shapes : ShapeLists) (limits : IsWithinLimits layout
           let grown = live_called layout shapes before who o reply event.took limits.five_cell_classes s in
           let after = ap (live_count layout) (state_after-push layout before one) in
           omega (arith, more, grown, after, was)
-      kept (Begin cycle) call opens s = absurd (cc)
+      kept (Begin cycle full) call opens s = absurd (cc)
       kept (Pause visits) call opens s = absurd (cc)
       kept (Visits p visits) call opens s = absurd (cc)
       kept (End cycle freed) call opens s = absurd (cc)
+      kept (Taken block) call opens s = absurd (cc)
       kept (Sweep block) call opens s = absurd (cc)
       kept (Open number run) call opens s = absurd (cc)
 

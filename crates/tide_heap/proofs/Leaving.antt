@@ -13,7 +13,7 @@ use Rattle.tide_model.specs.Layout.{Layout}
 use Rattle.tide_model.specs.Script.{is_retire}
 use Rattle.tide_model.specs.State.{State}
 use Rattle.tide_model.specs.declared.entry.Entry.{Entry}
-use Rattle.tide_model.specs.declared.entry.Entry.TheVariants.{Call, Begin, Pause, Visits, End, Sweep, Open}
+use Rattle.tide_model.specs.declared.entry.Entry.TheVariants.{Call, Begin, Pause, Visits, End, Taken, Sweep, Open}
 use Rattle.tide_model.specs.declared.entry.Event.{Event}
 use Rattle.tide_model.specs.declared.op.Op.{Op}
 use Rattle.tide_model.specs.declared.op.Op.TheVariants.{Retire}
@@ -48,10 +48,11 @@ inactive_call s who op reply took i h = elim (cases_Bool (is_retire op)) [
 inactive_entry : (layout : Layout) (s : State) (entry : Entry) (took : Option ℕ) (i : ℕ) → s.active i ≡ false →
     (after_entry layout s entry took).active i ≡ false
 inactive_entry layout s (Call who op reply) took i h = inactive_call s who op reply took i h
-inactive_entry layout s (Begin cycle) took i h = h
+inactive_entry layout s (Begin cycle full) took i h = h
 inactive_entry layout s (Pause visits) took i h = h
 inactive_entry layout s (Visits who visits) took i h = h
 inactive_entry layout s (End cycle freed) took i h = h
+inactive_entry layout s (Taken block) took i h = h
 inactive_entry layout s (Sweep block) took i h = h
 inactive_entry layout s (Open number run) took i h = h
 

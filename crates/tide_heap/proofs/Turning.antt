@@ -69,6 +69,7 @@ module _ (layout : Layout) (shapes : ShapeLists) (words : List ℕ) (views : Lis
     period = run.period;
     marks = run.marks;
     cycle = run.cycle;
+    swept = run.swept;
     some_run = run.some_run;
   }
 
@@ -236,6 +237,7 @@ module _ (layout : Layout) (shapes : ShapeLists) (words : List ℕ) (views : Lis
         period = run.period;
         marks = run.marks;
         cycle = run.cycle;
+        swept = run.swept;
         some_run = run.some_run;
       }
 

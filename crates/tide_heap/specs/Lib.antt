@@ -1,5 +1,6 @@
 pub mod Parties
 pub mod Births
+pub mod Clean
 pub mod Done
 pub mod Rule
 pub mod Turns

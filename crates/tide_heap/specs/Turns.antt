@@ -12,6 +12,7 @@ use Rattle.tide_machine.specs.declared.view.Role.TheVariants.{Collector, Note, T
 use Rattle.tide_machine.specs.declared.view.View.{View}
 use Rattle.tide_machine.specs.declared.view.Visited.{Visited}
 use Rattle.tide_machine.specs.kinds.Join.{joined_view}
+use Rattle.tide_model.specs.Cycle.{IsSwept}
 use Rattle.tide_model.specs.History.{is_call_of, plain, state_after}
 use Rattle.tide_model.specs.Layout.{Layout}
 use Rattle.tide_model.specs.Prefix.{IsPrefix}
@@ -134,8 +135,8 @@ opened layout run v = record v {
 }
 
 -- What a freeze tells the collector: the words, and that they meet the wave of the history that it has seen, with the
--- visits that the notes tell and that aren't entered yet. What came since the part was opened are calls alone, and in
--- them so many cells were born as the notes tell.
+-- visits that the notes tell and that aren't entered yet. Nothing is dead. What came since the part was opened are
+-- calls alone, and in them so many cells were born as the notes tell.
 pub record Freezes (layout : Layout) (shapes : ShapeLists) (v w : View) : Type 0 where
   pub limits : IsWithinLimits layout
   pub words : List ℕ
@@ -145,6 +146,7 @@ pub record Freezes (layout : Layout) (shapes : ShapeLists) (v w : View) : Type 0
   pub part : List Event
   pub since : v.seen ≡ v.start ++ part
   pub calls : list_all (λ event. is_call event.entry) part ≡ true
+  pub clean : IsSwept layout v.seen
   pub births : v.births ≡ count_by (λ event. is_birth event.entry) part
   pub few : v.births ≤ 20480
   -- what each note tells of the history is a beginning of it, and what it tells of its participant's calls are all that

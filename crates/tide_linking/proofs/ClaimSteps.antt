@@ -23,6 +23,7 @@ use Rattle.tide_machine.specs.kinds.ReleaseCell.{MayRelease}
 use Rattle.tide_model.proofs.ClaimLaws.{ClaimsAreOwn-lawful}
 use Rattle.tide_model.specs.History.{state_after}
 use Rattle.tide_model.specs.Layout.{Layout, cell_count}
+use Rattle.tide_model.specs.References.{IsLive}
 use Rattle.tide_model.specs.Refused.{ShapeLists, claims_most, refusal_of, refuse_if}
 use Rattle.tide_model.specs.State.{State}
 use Rattle.tide_model.specs.declared.entry.Event.{Event}
@@ -78,13 +79,16 @@ module _ (layout : Layout) (shapes : ShapeLists) (v : View) (op : Op) (cell : �
     is_here = is_claim (caller_of layout shapes v) m.settled state op cell full told
         (planned m.settled log (stands_then layout shapes v log region.Claim cell read calling.stays m))
 
+    alive : IsLive state cell
+    alive = m.refs.in_registers v.who is_here.src cell
+        (stands_then layout shapes v log region.Claim cell read calling.stays m).active is_here.source
+
     found : m.settled region.Claim cell ≡ read
-    found = found_there layout shapes v log region.Claim cell read refl (refl, refl, refl, refl, refl) m
+    found = found_there layout shapes v log region.Claim cell read refl (refl, refl, refl, refl, refl)
+        (λ gone. let lives = alive in absurd (cc)) m
 
     within : cell < cell_count layout
-    within = live_within layout shapes m.settled state cell m.reads
-        (m.refs.in_registers v.who is_here.src cell
-        (stands_then layout shapes v log region.Claim cell read calling.stays m).active is_here.source)
+    within = live_within layout shapes m.settled state cell m.reads alive
 
     -- the word that was found is a claim's
     pub some_claim_read : IsSomeClaim read
@@ -157,9 +161,9 @@ module _ (layout : Layout) (shapes : ShapeLists) (v : View) (op : Op) (cell : �
       by (suc holder) is = held_reply log read m holder is
 
   pub may_take : (full ≡ false) → (holder : ℕ) → holder ≡ v.who → MayStep layout shapes v (TakeClaim cell holder (Some op))
-  may_take free holder me w wave is =
+  may_take free holder me w running is =
       let read = w.heap region.Claim cell in
-      let m = moment_in layout shapes w v region.Claim cell wave is in
+      let m = moment_in layout shapes w v region.Claim cell running is in
       let here = is_here w.log read m in
       let (new, words) = taken_words free w.log read m in
       subst (λ (o : Op). MayTakeClaim layout shapes w v.who cell holder read (Some o)) (sym here.same) (
@@ -197,9 +201,9 @@ module _ (layout : Layout) (shapes : ShapeLists) (v : View) (op : Op) (cell : �
       ∙ sym (is_here log read m).fullness ∙ is_full in grind (arith, nat_tests)
 
   pub may_look : (full ≡ true) → MayStep layout shapes v (LoadClaim cell (Some op))
-  may_look is_full w wave is =
+  may_look is_full w running is =
       let read = w.heap region.Claim cell in
-      let m = moment_in layout shapes w v region.Claim cell wave is in
+      let m = moment_in layout shapes w v region.Claim cell running is in
       let here = is_here w.log read m in
       subst (λ (o : Op). MayLoadClaim layout shapes w v.who cell (Some o)) (sym here.same) (
         here.source,
@@ -263,9 +267,9 @@ releases layout shapes w v op cell (inr is) claims may =
 module _ (layout : Layout) (shapes : ShapeLists) (v : View) (op : Op) (cell : ℕ)
     (calling : IsCalling layout v op) (planned : IsPlanned layout shapes v op (plan.Release cell)) where
   pub may_release : is_told_by_registers op ≡ true → MayStep layout shapes v (ReleaseStep cell (Some op))
-  may_release told w wave is =
+  may_release told w running is =
       let read = w.heap region.Claim cell in
-      let m = moment_in layout shapes w v region.Claim cell wave is in
+      let m = moment_in layout shapes w v region.Claim cell running is in
       let stands = stands_then layout shapes v w.log region.Claim cell read calling.stays m in
       releases layout shapes w v op cell
       (is_release (caller_of layout shapes v) m.settled (state_after layout w.log) op cell told

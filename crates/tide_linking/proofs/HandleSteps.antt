@@ -75,8 +75,8 @@ module _ (layout : Layout) (shapes : ShapeLists) (v : View) (op : Op) (at : ℕ)
     (calling : IsCalling layout v op) where
   pub may_store_strong : IsPlanned layout shapes v op (plan.StoreStrong at value) → is_told_by_registers op ≡ true →
       MayStep layout shapes v (StoreStrong at (val_word value) (Some op))
-  may_store_strong planned told w wave is =
-      let m = moment_in layout shapes w v region.Strong at wave is in
+  may_store_strong planned told w running is =
+      let m = moment_in layout shapes w v region.Strong at running is in
       let here = planned m.settled w.log (stands_then layout shapes v w.log region.Strong at _ calling.stays m) in
       let (val, same, held) = strong_set (caller_of layout shapes v) m.settled (state_after layout w.log) op at value told here in
       subst (λ (o : Op). MayStoreStrong layout shapes w v.who at (val_word value) (Some o)) (sym same) (
@@ -101,8 +101,8 @@ module _ (layout : Layout) (shapes : ShapeLists) (v : View) (op : Op) (at : ℕ)
 
   pub may_store_weak : IsPlanned layout shapes v op (plan.StoreWeak at value) → is_told_by_registers op ≡ true →
       MayStep layout shapes v (StoreWeak at (val_word value) (Some op))
-  may_store_weak planned told w wave is =
-      let m = moment_in layout shapes w v region.Weak at wave is in
+  may_store_weak planned told w running is =
+      let m = moment_in layout shapes w v region.Weak at running is in
       let here = planned m.settled w.log (stands_then layout shapes v w.log region.Weak at _ calling.stays m) in
       let (val, same, held) = weak_set (caller_of layout shapes v) m.settled (state_after layout w.log) op at value told here in
       subst (λ (o : Op). MayStoreWeak layout shapes w v.who at (val_word value) (Some o)) (sym same) (
@@ -133,14 +133,14 @@ module _ (layout : Layout) (shapes : ShapeLists) (v : View) (op : Op) (dst at : 
       (m : Moment layout shapes v log region.Strong at read) → IsValueOf (value_of read) read
   strong_value below log read m = value_read ((state_after layout log).strong at) read
       (subst (λ (word : ℕ). IsValueOf ((state_after layout log).strong at) word)
-      (found_there layout shapes v log region.Strong at read refl (refl, refl, refl, refl, refl) m)
+      (found_there layout shapes v log region.Strong at read refl (refl, refl, refl, refl, refl) (λ gone. gone) m)
       (m.reads.roots.strong at below))
 
   pub weak_value : at < layout.weak → (log : List Event) (read : ℕ) →
       (m : Moment layout shapes v log region.Weak at read) → IsValueOf (value_of read) read
   weak_value below log read m = value_read ((state_after layout log).weak at) read
       (subst (λ (word : ℕ). IsValueOf ((state_after layout log).weak at) word)
-      (found_there layout shapes v log region.Weak at read refl (refl, refl, refl, refl, refl) m)
+      (found_there layout shapes v log region.Weak at read refl (refl, refl, refl, refl, refl) (λ gone. gone) m)
       (m.reads.roots.weak at below))
 
   strong_words : at < layout.strong → (log : List Event) (read : ℕ) →
@@ -150,7 +150,8 @@ module _ (layout : Layout) (shapes : ShapeLists) (v : View) (op : Op) (dst at : 
   strong_words below log read m = (
     refl,
     subst (λ (word : ℕ). IsValueOf (value_of read) word)
-        (sym (found_there layout shapes v log region.Strong at read refl (refl, refl, refl, refl, refl) m))
+        (sym (found_there layout shapes v log region.Strong at read refl (refl, refl, refl, refl, refl) (λ gone. gone)
+        m))
         (strong_value below log read m),
     λ other index within. refl,
   )
@@ -162,16 +163,16 @@ module _ (layout : Layout) (shapes : ShapeLists) (v : View) (op : Op) (dst at : 
   weak_words below log read m = (
     refl,
     subst (λ (word : ℕ). IsValueOf (value_of read) word)
-        (sym (found_there layout shapes v log region.Weak at read refl (refl, refl, refl, refl, refl) m))
+        (sym (found_there layout shapes v log region.Weak at read refl (refl, refl, refl, refl, refl) (λ gone. gone) m))
         (weak_value below log read m),
     λ other index within. refl,
   )
 
   pub may_load_strong : at < layout.strong → IsPlanned layout shapes v op (plan.LoadStrong dst at) →
       is_told_by_registers op ≡ true → MayStep layout shapes v (LoadStrong at (Some op))
-  may_load_strong below planned told w wave is =
+  may_load_strong below planned told w running is =
       let read = w.heap region.Strong at in
-      let m = moment_in layout shapes w v region.Strong at wave is in
+      let m = moment_in layout shapes w v region.Strong at running is in
       let here = planned m.settled w.log (stands_then layout shapes v w.log region.Strong at read calling.stays m) in
       let same = strong_get (caller_of layout shapes v) m.settled (state_after layout w.log) op dst at told here in
       subst (λ (o : Op). MayLoadStrong layout shapes w v.who at read (Some o)) (sym same) (
@@ -184,9 +185,9 @@ module _ (layout : Layout) (shapes : ShapeLists) (v : View) (op : Op) (dst at : 
 
   pub may_load_weak : at < layout.weak → IsPlanned layout shapes v op (plan.LoadWeak dst at) →
       is_told_by_registers op ≡ true → MayStep layout shapes v (LoadWeak at (Some op))
-  may_load_weak below planned told w wave is =
+  may_load_weak below planned told w running is =
       let read = w.heap region.Weak at in
-      let m = moment_in layout shapes w v region.Weak at wave is in
+      let m = moment_in layout shapes w v region.Weak at running is in
       let here = planned m.settled w.log (stands_then layout shapes v w.log region.Weak at read calling.stays m) in
       let same = weak_get (caller_of layout shapes v) m.settled (state_after layout w.log) op dst at told here in
       subst (λ (o : Op). MayLoadWeak layout shapes w v.who at read (Some o)) (sym same) (

@@ -14,7 +14,7 @@ use Rattle.tide_machine.specs.Kind.{LoadPair, StorePair}
 use Rattle.tide_machine.specs.May.{MayCall, called}
 use Rattle.tide_machine.specs.Moment.{Moment}
 use Rattle.tide_machine.specs.Owed.{filled_register, own_pair, owed_register}
-use Rattle.tide_machine.specs.RunningWave.{RunningWave}
+use Rattle.tide_heap.specs.Clean.{RunsClean}
 use Rattle.tide_machine.specs.Words.{value_of_pair}
 use Rattle.tide_machine.specs.World.{World}
 use Rattle.tide_machine.specs.declared.view.Duty.TheVariants.{Nothing}
@@ -191,16 +191,16 @@ module _ (layout : Layout) (shapes : ShapeLists) (v : View) (op : Op) (table pla
   }
 
   -- and its words are settled
-  module _ (w : World) (wave : RunningWave layout shapes w) (is : w.part v.who ≡ v)
+  module _ (w : World) (running : RunsClean layout shapes w) (is : w.part v.who ≡ v)
       (own : IsOwnPair layout w v.who table place) where
     settled_there : (other : ℕ) → HasSlot layout table other →
-        slot_word layout wave.words.settled table other ≡ slot_word layout w.heap table other
+        slot_word layout running.wave.words.settled table other ≡ slot_word layout w.heap table other
     settled_there other slot = own_found layout shapes v w.log region.Slots (index_of_slot layout table other)
         (w.heap region.Slots (index_of_slot layout table other)) refl calling.between.owed
         (own_pair table other own.claimed own.is_one slot)
-        (moment_in layout shapes w v region.Slots (index_of_slot layout table other) wave is)
+        (moment_in layout shapes w v region.Slots (index_of_slot layout table other) running is)
 
-    place_there : (key : ℕ) → IsPlaceFor layout wave.words.settled (state_after layout w.log) table place key →
+    place_there : (key : ℕ) → IsPlaceFor layout running.wave.words.settled (state_after layout w.log) table place key →
         IsPlaceFor layout w.heap (state_after layout w.log) table place key
     place_there key stood = elim stood [
       | inl (none, (empty, earlier)) ↦ inl (
@@ -216,15 +216,16 @@ module _ (layout : Layout) (shapes : ShapeLists) (v : View) (op : Op) (table pla
       | inr (value, pair) ↦ inr (value, subst (IsPairOf key value) (settled_there place has) pair)
     ]
 
-    pair_there : (key : ℕ) → HasPairAt layout wave.words.settled table place key → HasPairAt layout w.heap table place key
+    pair_there : (key : ℕ) → HasPairAt layout running.wave.words.settled table place key →
+        HasPairAt layout w.heap table place key
     pair_there key (value, pair) = (value, subst (IsPairOf key value) (settled_there place has) pair)
 
   -- storing
   module _ (key : ℕ) (value : Val) (planned : IsPlanned layout shapes v op (plan.StorePair table place key value)) where
     may_set : MayStep layout shapes v (StorePair table place (pair_word key value) (Some op))
-    may_set w wave is =
+    may_set w running is =
         let read = w.heap region.Slots at in
-        let m = moment_in layout shapes w v region.Slots at wave is in
+        let m = moment_in layout shapes w v region.Slots at running is in
         let here = is_set (caller_of layout shapes v) m.settled (state_after layout w.log) op table place key value
         (planned m.settled w.log (stands_then layout shapes v w.log region.Slots at read calling.stays m)) in
         let own = own_there w here.src here.register key here.of in
@@ -235,7 +236,7 @@ module _ (layout : Layout) (shapes : ShapeLists) (v : View) (op : Op) (table pla
           cell = key;
           is_key = here.of.is_key;
           is_word = ap (pair_word key) here.is_value;
-          is_place = place_there w wave is own key here.is_place;
+          is_place = place_there w running is own key here.is_place;
           may = subst (λ (o : Op). MayCall layout shapes w v.who o Done None) here.same
               (may_call layout shapes w v op (plan.StorePair table place key value) Done None region.Slots at read is calling
               planned m (write m.settled region.Slots at (pair_word key value)) (refl, λ other index within. refl)
@@ -266,9 +267,9 @@ module _ (layout : Layout) (shapes : ShapeLists) (v : View) (op : Op) (table pla
   -- dropping
   module _ (planned : IsPlanned layout shapes v op (plan.ClearPair table place)) where
     pub may_drop_pair : MayStep layout shapes v (StorePair table place 0 (Some op))
-    may_drop_pair w wave is =
+    may_drop_pair w running is =
         let read = w.heap region.Slots at in
-        let m = moment_in layout shapes w v region.Slots at wave is in
+        let m = moment_in layout shapes w v region.Slots at running is in
         let here = is_drop (caller_of layout shapes v) m.settled (state_after layout w.log) op table place
         (planned m.settled w.log (stands_then layout shapes v w.log region.Slots at read calling.stays m)) in
         let own = own_there w here.src here.register here.key here.of in
@@ -278,7 +279,7 @@ module _ (layout : Layout) (shapes : ShapeLists) (v : View) (op : Op) (table pla
           cell = here.key;
           is_key = here.of.is_key;
           is_word = refl;
-          has_pair = pair_there w wave is own here.key here.stands;
+          has_pair = pair_there w running is own here.key here.stands;
           may = subst (λ (o : Op). MayCall layout shapes w v.who o Done None) here.same
               (may_call layout shapes w v op (plan.ClearPair table place) Done None region.Slots at read is calling
               planned m (write m.settled region.Slots at 0) (refl, λ other index within. refl)
@@ -316,9 +317,9 @@ module _ (layout : Layout) (shapes : ShapeLists) (v : View) (op : Op) (table pla
       seen_words = (refl, value_seen, λ other index within. refl)
 
     pub may_get_pair : MayStep layout shapes v (LoadPair table place (Some op))
-    may_get_pair w wave is =
+    may_get_pair w running is =
         let read = w.heap region.Slots at in
-        let m = moment_in layout shapes w v region.Slots at wave is in
+        let m = moment_in layout shapes w v region.Slots at running is in
         let here = seen_here w.log read m in
         subst (λ (o : Op). MayLoadPair layout shapes w v.who table place read (Some o)) (sym here.same) (
           own_there w here.src here.register here.key here.of,

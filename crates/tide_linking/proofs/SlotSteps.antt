@@ -112,7 +112,7 @@ module _ (layout : Layout) (shapes : ShapeLists) (v : View) (op : Op) (dst cell 
       let is = get_there m.settled log stands in
       let alive = m.refs.in_registers v.who is.src cell stands.active is.source in
       let within = live_within layout shapes m.settled state cell m.reads alive in
-      let found = slot_found layout shapes v log cell slot read within is.below m in (
+      let found = slot_found layout shapes v log cell slot read within is.below alive m in (
         value_read ((state.cells cell).slots slot) read
             (subst (λ (word : ℕ). IsValueOf ((state.cells cell).slots slot) word) found
             (((m.reads.parts.cells cell within).taken (ap is_free alive)).slots slot is.below)),
@@ -127,9 +127,9 @@ module _ (layout : Layout) (shapes : ShapeLists) (v : View) (op : Op) (dst cell 
       (refl, subst (λ (word : ℕ). IsValueOf (value_of read) word) (sym found) is, λ other index within. refl)
 
   pub may_get : MayStep layout shapes v (LoadLink cell slot (Some op))
-  may_get w wave is =
+  may_get w running is =
       let read = w.heap region.Slots at in
-      let m = moment_in layout shapes w v region.Slots at wave is in
+      let m = moment_in layout shapes w v region.Slots at running is in
       let here = get_there m.settled w.log (stands_then layout shapes v w.log region.Slots at read calling.stays m) in
       subst (λ (o : Op). MayLoadLink layout shapes w v.who cell slot read (Some o)) (sym here.same) (
         refl,
@@ -163,9 +163,9 @@ module _ (layout : Layout) (shapes : ShapeLists) (v : View) (op : Op) (cell slot
   place = index_of_slot layout cell slot
 
   pub may_put : MayStep layout shapes v (StoreLink cell slot (val_word value) (Some op))
-  may_put w wave is =
+  may_put w running is =
       let read = w.heap region.Slots place in
-      let m = moment_in layout shapes w v region.Slots place wave is in
+      let m = moment_in layout shapes w v region.Slots place running is in
       let here = is_put (caller_of layout shapes v) m.settled (state_after layout w.log) op cell slot value told
       (planned m.settled w.log (stands_then layout shapes v w.log region.Slots place read calling.stays m)) in
       subst (λ (o : Op). MayStoreLink layout shapes w v.who cell slot (val_word value) (Some o)) (sym here.same) (

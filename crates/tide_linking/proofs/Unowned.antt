@@ -1,5 +1,5 @@
 -- Words that are no mutator's own, and so say what the state holds.
-use Rattle.std.proofs.Common.{ℕ, ◌≡◌, ◌<◌, refl, sym, ◌∙◌, ap, arith, true, false, List}
+use Rattle.std.proofs.Common.{ℕ, ◌≡◌, ◌<◌, refl, subst, sym, ◌∙◌, ap, arith, true, false, List}
 use Rattle.std.proofs.lemmas.Bool.{eqb-true}
 use Rattle.std.specs.Prelude.{◌==◌}
 use Rattle.tide_layout.proofs.SlotPlaces.{index_of_slot-alone}
@@ -7,13 +7,15 @@ use Rattle.tide_layout.specs.Region.{tag}
 use Rattle.tide_layout.specs.Slots.{index_of_slot}
 use Rattle.tide_layout.specs.declared.region.Region.{Region}
 use Rattle.tide_layout.specs.declared.region.Region.TheVariants as region
+use Rattle.tide_machine.specs.DeadWords.{IsOfDead}
 use Rattle.tide_machine.specs.Moment.{Moment}
 use Rattle.tide_machine.specs.Owed.{IsOwnWord, own_register, own_structure, own_array, own_pair, own_element}
 use Rattle.tide_machine.specs.declared.view.View.{View}
 use Rattle.tide_model.specs.History.{state_after}
 use Rattle.tide_model.specs.Layout.{Layout, cell_count, class_of, slots_of}
+use Rattle.tide_model.specs.References.{IsLive}
 use Rattle.tide_model.specs.Refused.{ShapeLists}
-use Rattle.tide_model.specs.State.{State}
+use Rattle.tide_model.specs.State.{State, dead}
 use Rattle.tide_model.specs.declared.entry.Event.{Event}
 use Rattle.tide_words.proofs.heap_laws.Frames.{is_read}
 use Rattle.tide_words.proofs.heap_laws.ReadingLaws.{HasSlot-class}
@@ -33,12 +35,12 @@ not_own layout state _ shared p _ (own_array x at) = absurd (cc)
 not_own layout state _ shared p _ (own_pair t k at one has) = absurd (cc)
 not_own layout state _ shared p _ (own_element x y k at is has) = absurd (cc)
 
--- the word that was found there stands in the words that read as the state
+-- the word that was found there stands in the words that read as the state, where it is of nothing dead
 pub found_there : (layout : Layout) (shapes : ShapeLists) (v : View) (log : List Event) (at : Region)
-    (index read : ℕ) → is_read at ≡ true → IsShared at → (m : Moment layout shapes v log at index read) →
-    m.settled at index ≡ read
-found_there layout shapes v log at index read is_one shared m =
-    m.found is_one (λ p word own owes. not_own layout (state_after layout log) at shared p index own)
+    (index read : ℕ) → is_read at ≡ true → IsShared at → (IsOfDead layout (state_after layout log) at index → ⊥) →
+    (m : Moment layout shapes v log at index read) → m.settled at index ≡ read
+found_there layout shapes v log at index read is_one shared lives m =
+    m.found is_one lives (λ p word own owes. not_own layout (state_after layout log) at shared p index own)
     (λ p own. absurd (not_own layout (state_after layout log) at shared p index own))
 
 -- nor is a slot of a cell that is no table
@@ -56,13 +58,21 @@ no_pair layout state cell slot within below p _ _ (own_pair table place at one h
     let also = ap (class_of layout) both.0 in
     let few = ap slots_of (sym also ∙ class) in omega (arith, few, below)
 
+-- so does a live one's
 pub slot_found : (layout : Layout) (shapes : ShapeLists) (v : View) (log : List Event) (cell slot read : ℕ) →
-    cell < cell_count layout → slot < slots_of (class_of layout cell) →
+    cell < cell_count layout → slot < slots_of (class_of layout cell) → IsLive (state_after layout log) cell →
     (m : Moment layout shapes v log region.Slots (index_of_slot layout cell slot) read) →
     m.settled region.Slots (index_of_slot layout cell slot) ≡ read
-slot_found layout shapes v log cell slot read within below m =
-    m.found refl (λ p word own owes. none p own) (λ p own. absurd (none p own))
+slot_found layout shapes v log cell slot read within below alive m =
+    m.found refl lives (λ p word own owes. none p own) (λ p own. absurd (none p own))
   where
+    lives : IsOfDead layout (state_after layout log) region.Slots (index_of_slot layout cell slot) → ⊥
+    lives (other, at, there, same, gone) =
+        let has = HasSlot-class layout cell slot within below in
+        let both = index_of_slot-alone layout cell other slot at has.slot_within there.slot_within same in
+        let dies : ((state_after layout log).cells cell).status ≡ dead =
+        subst (λ (c : ℕ). ((state_after layout log).cells c).status ≡ dead) both.0 gone in absurd (cc)
+
     none : (p : ℕ) → IsOwnWord layout (state_after layout log) p region.Slots (index_of_slot layout cell slot) → ⊥
     none p own = no_pair layout (state_after layout log) cell slot within below p region.Slots
         (index_of_slot layout cell slot) own refl refl

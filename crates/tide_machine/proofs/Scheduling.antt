@@ -11,8 +11,9 @@ use Rattle.tide_machine.proofs.kinds.FirstGroup.{first_group}
 use Rattle.tide_machine.proofs.kinds.PairGroup.{pairs_kept}
 use Rattle.tide_machine.proofs.kinds.PropertyGroup.{properties_kept}
 use Rattle.tide_machine.proofs.kinds.SecondGroup.{second_group}
+use Rattle.tide_machine.proofs.kinds.Sweeping.{sweeps_kept_wave}
 use Rattle.tide_machine.proofs.kinds.Visits.{visits_kept}
-use Rattle.tide_machine.specs.Groups.{is_of_first_group, has_law, is_of_second_group, is_of_claims, is_of_visits, is_of_pairs, is_of_properties}
+use Rattle.tide_machine.specs.Groups.{is_of_first_group, has_law, is_of_second_group, is_of_claims, is_of_visits, is_of_pairs, is_of_properties, is_of_sweeps}
 use Rattle.tide_machine.specs.Kind.{Kind}
 use Rattle.tide_machine.specs.Machine.{IsAllowed, stepped}
 use Rattle.tide_machine.specs.RunningWave.{RunningWave}
@@ -44,20 +45,23 @@ pub step_keeps : (layout : Layout) (shapes : ShapeLists) → IsWithinLimits layo
     IsAllowed layout shapes w me kind → RunningWave layout shapes (stepped layout shapes w me kind)
 step_keeps layout shapes limits empty_shape w me inside wave kind is may =
     elim (or_cases (is_of_first_group kind) (is_of_second_group kind || (is_of_claims kind || (is_of_visits kind ||
-    (is_of_pairs kind || is_of_properties kind)))) is) [
+    (is_of_pairs kind || (is_of_properties kind || is_of_sweeps kind))))) is) [
       | inl first ↦ first_group layout shapes w me inside wave kind first may
       | inr rest ↦ elim (or_cases (is_of_second_group kind) (is_of_claims kind || (is_of_visits kind ||
-          (is_of_pairs kind || is_of_properties kind))) rest) [
+          (is_of_pairs kind || (is_of_properties kind || is_of_sweeps kind)))) rest) [
             | inl second ↦ second_group layout shapes limits empty_shape w me inside wave kind second may
             | inr more ↦ elim (or_cases (is_of_claims kind) (is_of_visits kind ||
-                (is_of_pairs kind || is_of_properties kind)) more) [
+                (is_of_pairs kind || (is_of_properties kind || is_of_sweeps kind))) more) [
                   | inl claims ↦ claims_kept layout shapes limits empty_shape w me inside wave kind claims may
-                  | inr left ↦ elim (or_cases (is_of_visits kind) (is_of_pairs kind || is_of_properties kind) left) [
+                  | inr left ↦ elim (or_cases (is_of_visits kind) (is_of_pairs kind || (is_of_properties kind || is_of_sweeps kind)) left) [
                     | inl visits ↦ visits_kept layout shapes w me inside wave kind visits may
-                    | inr last ↦ elim (or_cases (is_of_pairs kind) (is_of_properties kind) last) [
+                    | inr more ↦ elim (or_cases (is_of_pairs kind) (is_of_properties kind || is_of_sweeps kind) more) [
                       | inl pairs ↦ pairs_kept layout shapes limits empty_shape w me inside wave kind pairs may
-                      | inr properties ↦
-                          properties_kept layout shapes limits empty_shape w me inside wave kind properties may
+                      | inr last ↦ elim (or_cases (is_of_properties kind) (is_of_sweeps kind) last) [
+                        | inl properties ↦
+                            properties_kept layout shapes limits empty_shape w me inside wave kind properties may
+                        | inr sweeps ↦ sweeps_kept_wave layout shapes w me inside wave kind sweeps may
+                      ]
                     ]
                   ]
                 ]

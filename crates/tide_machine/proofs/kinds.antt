@@ -33,6 +33,9 @@ pub mod Scanning
 pub mod UnBlackening
 pub mod Publishing
 pub mod Swapping
+pub mod Sweeping
+pub mod SweepingBlocks
+pub mod SweepingWords
 pub mod Blackening
 pub mod Visits
 pub mod FirstGroup

@@ -6,3 +6,4 @@ pub mod StoreRows
 pub mod WitnessRows
 pub mod AllowedRows
 pub mod VisitRow
+pub mod SweepRow

@@ -8,6 +8,8 @@ pub mod GreyBits
 pub mod CellsOfWords
 pub mod Barriers
 pub mod GrowthsKept
+pub mod IdleEntries
+pub mod IdleSteps
 pub mod ScansKept
 pub mod BareTables
 pub mod ArraysKept
@@ -19,6 +21,8 @@ pub mod Growing
 pub mod Frames
 pub mod StopPlaces
 pub mod SweepsKept
+pub mod SettledNow
+pub mod Unsettled
 pub mod Waiting
 pub mod Steps
 pub mod Quiet
@@ -37,3 +41,5 @@ pub mod OwnState
 pub mod Moments
 pub mod Visiting
 pub mod FieldReads
+pub mod FullWindows
+pub mod MarkingParts

@@ -11,11 +11,12 @@ use Rattle.tide_machine.specs.declared.view.View.{View}
 use Rattle.tide_machine.specs.points.Marks.{SpanIsLive}
 use Rattle.tide_machine.specs.points.Seen.{IsKnown, WhoLeftIsInactive, ParkedIsEmpty}
 use Rattle.tide_machine.specs.points.Stops.{StopsAreTold}
-use Rattle.tide_machine.specs.points.Sweeps.{SweptAreBelow, TakenAreClean}
+use Rattle.tide_machine.specs.points.Sweeps.{SweptAreBelow, SweptAreTold, TakenAreClean}
 use Rattle.tide_model.specs.Cycle.{begin_count}
 use Rattle.tide_model.specs.History.{state_after, is_begin}
 use Rattle.tide_model.specs.Lawful.{IsLawful}
 use Rattle.tide_model.specs.Layout.{Layout, cell_count}
+use Rattle.tide_model.specs.Old.{is_full}
 use Rattle.tide_model.specs.Periods.{open_count}
 use Rattle.tide_model.specs.Refused.{ShapeLists}
 use Rattle.tide_model.specs.Since.{visits_since}
@@ -36,11 +37,13 @@ pub record FrozenWith (layout : Layout) (shapes : ShapeLists) (heap : Heap) (his
   pub cycle : running_cycle heap ≡ begin_count history
   pub period : heap region.Period 0 ≡ open_count history
   pub calls : (who : ℕ) → who < layout.mutators → heap region.Call who ≡ call_count who history % 2 ^ 64
+  pub full : is_marking heap ≡ true → is_full history ≡ true
   pub retained : is_marking heap ≡ true → MarkedIsRetained layout heap history
   pub born : is_marking heap ≡ true → BornIsMarked layout heap history
   pub counted : is_marking heap ≡ true → blackened_count layout heap history ≤ visits_since is_begin history + unentered
   pub swept : SweptAreBelow layout heap
   pub clean : TakenAreClean layout heap (state_after layout history)
+  pub swept_told : SweptAreTold layout heap history
 
 -- The machine is frozen: nobody runs, and the wave at a freeze holds but for visits that aren't entered yet. The words
 -- tell in which part each has stopped.
@@ -91,6 +94,8 @@ newcomer p = record {
   scan = None;
   full = [];
   sweeping = None;
+  saw = None;
+  cleared = [];
   left = false;
   done = false;
   frozen = false;

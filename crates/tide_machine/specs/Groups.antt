@@ -1,6 +1,6 @@
 -- The kinds whose law is proved.
 use Rattle.std.specs.Prelude.{Bool, true, false, ◌||◌}
-use Rattle.tide_machine.specs.Kind.{Kind, Split, Join, Activate, StoreStopped, Retire, LoadRegister, StoreRegister, LoadCall, StoreCall, LoadStrong, StoreStrong, LoadWeak, StoreWeak, LoadLink, StoreLink, LoadColour, Regrey, PushBit, StoreBorn, TakeFree, LoadFree, LoadClaim, TakeClaim, Release, SwapGrey, Blacken, LoadStructure, LoadArray, LoadElementOf, LoadSlot, LoadAgain, UnBlacken, PushRace, Publish, LoadTarget, Mark, LoadPair, StorePair, StoreGroup, LoadOwnArray, LoadOwnStructure, LoadElement, StoreElement, TakeArray, Nuke, StoreArray, StoreStructure}
+use Rattle.tide_machine.specs.Kind.{Kind, Split, Join, Activate, StoreStopped, Retire, LoadRegister, StoreRegister, LoadCall, StoreCall, LoadStrong, StoreStrong, LoadWeak, StoreWeak, LoadLink, StoreLink, LoadColour, Regrey, PushBit, StoreBorn, TakeFree, LoadFree, LoadClaim, TakeClaim, Release, SwapGrey, Blacken, LoadStructure, LoadArray, LoadElementOf, LoadSlot, LoadAgain, UnBlacken, PushRace, Publish, LoadTarget, Mark, LoadPair, StorePair, StoreGroup, LoadOwnArray, LoadOwnStructure, LoadElement, StoreElement, TakeArray, Nuke, StoreArray, StoreStructure, ClaimBlock, LoadDead, ZeroWord, GiveBits, Finish}
 
 -- a participant begins, hears and stops, a mutator retires, and works with its own words and with handles
 abbrev pub is_of_first_group : Kind → Bool
@@ -74,7 +74,16 @@ is_of_properties (StoreArray cell array) = true
 is_of_properties (StoreStructure cell word made) = true
 is_of_properties _ = false
 
+-- a mutator sweeps a block
+abbrev pub is_of_sweeps : Kind → Bool
+is_of_sweeps (ClaimBlock block old cycle) = true
+is_of_sweeps (LoadDead block) = true
+is_of_sweeps (ZeroWord at index) = true
+is_of_sweeps (GiveBits block bits) = true
+is_of_sweeps (Finish block) = true
+is_of_sweeps _ = false
+
 -- the law of the kind is proved
 abbrev pub has_law : Kind → Bool
 has_law kind = is_of_first_group kind || (is_of_second_group kind || (is_of_claims kind || (is_of_visits kind
-    || (is_of_pairs kind || is_of_properties kind))))
+    || (is_of_pairs kind || (is_of_properties kind || is_of_sweeps kind)))))

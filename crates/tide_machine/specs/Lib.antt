@@ -1,6 +1,7 @@
 pub mod World
 pub mod Owed
 pub mod Words
+pub mod DeadWords
 pub mod Duties
 pub mod Scanning
 pub mod Kind

@@ -36,6 +36,7 @@ use Rattle.tide_machine.specs.kinds.StoreRootWord.{MayLoadStrong, MayStoreStrong
 use Rattle.tide_machine.specs.kinds.StoreStopped.{MayStoreStopped}
 use Rattle.tide_machine.specs.kinds.StoreStructure.{MayStoreStructure}
 use Rattle.tide_machine.specs.kinds.SwapGrey.{MaySwapGrey}
+use Rattle.tide_machine.specs.kinds.Sweep.{MayClaimBlock, MayFinish, MayGiveBits, MayLoadDead, MayZeroWord}
 use Rattle.tide_machine.specs.kinds.TakeArray.{MayTakeArray}
 use Rattle.tide_machine.specs.kinds.TakeFree.{MayTakeFree}
 use Rattle.tide_machine.specs.kinds.UnBlacken.{MayUnBlacken}
@@ -62,8 +63,7 @@ stepped layout shapes w me kind = record {
   log = added w.log (made layout shapes w me kind);
 }
 
--- What a participant may do: what each kind asks of its view and of the entry that the step makes. Sweeping in a
--- running part is no one's yet: histories have no entry for a block that was taken to be swept.
+-- What a participant may do: what each kind asks of its view and of the entry that the step makes.
 abbrev pub IsAllowed : Layout → ShapeLists → World → ℕ → Kind → Type 0
 IsAllowed layout shapes w me Split = MaySplit w me
 IsAllowed layout shapes w me (Join ticket) = MayJoin w me ticket
@@ -123,8 +123,9 @@ IsAllowed layout shapes w me (Mark cell old cycle) = MayMark layout w me cell ol
 IsAllowed layout shapes w me (UnBlacken cell cycle) = MayUnBlacken layout w me cell cycle
 IsAllowed layout shapes w me (PushRace cell) = MayPushRace w me cell
 IsAllowed layout shapes w me (Publish block mask) = MayPublish layout w me block mask
-IsAllowed layout shapes w me (ClaimBlock block old cycle) = ⊥
-IsAllowed layout shapes w me (LoadDead block) = ⊥
-IsAllowed layout shapes w me (ZeroWord at index) = ⊥
-IsAllowed layout shapes w me (GiveBits block bits) = ⊥
-IsAllowed layout shapes w me (Finish block) = ⊥
+IsAllowed layout shapes w me (ClaimBlock block old cycle) =
+    MayClaimBlock layout shapes w me block old cycle (found layout w me (ClaimBlock block old cycle))
+IsAllowed layout shapes w me (LoadDead block) = MayLoadDead layout w me block
+IsAllowed layout shapes w me (ZeroWord at index) = MayZeroWord layout w me at index
+IsAllowed layout shapes w me (GiveBits block bits) = MayGiveBits layout shapes w me block bits
+IsAllowed layout shapes w me (Finish block) = MayFinish layout w me block

@@ -28,11 +28,12 @@ pub record RunsAsVisitor (layout : Layout) (w : World) (me : ℕ) : Type 0 where
   pub idle : (w.part me).duty ≡ duty.Nothing
 
 -- a mutator stands between two of its calls: it owes no word, no barrier, no push and no colour, its call word tells
--- all of its calls, and it grows no array
+-- all of its calls, it grows no array, and it has finished each sweep that it began
 pub record IsBetweenCalls (v : View) : Type 0 where
   pub owed : v.owed ≡ []
   pub duty : v.duty ≡ duty.Nothing
   pub growth : v.growth ≡ growth.Nothing
+  pub sweeping : v.sweeping ≡ None
   pub calls : v.calls ≡ length v.mine
 
 -- a mutator may make a call with this answer: it stands between two calls, and the history stays lawful with the call
@@ -42,11 +43,10 @@ pub record MayCall (layout : Layout) (shapes : ShapeLists) (w : World) (me : ℕ
   pub between : IsBetweenCalls (w.part me)
   pub stands : Stands layout shapes w.log (call_of me op reply took)
 
--- a participant holds, scans, sweeps and owes nothing
+-- a participant holds, scans and owes nothing, and stands between two calls
 pub record Rests (v : View) : Type 0 where
   pub held : v.held ≡ []
   pub scan : v.scan ≡ None
-  pub sweeping : v.sweeping ≡ None
   pub between : IsBetweenCalls v
 
 -- a view after a call of its own: it owes these words, and what it knew of words is of the past

@@ -1,25 +1,32 @@
 -- What a step tells of the machine at its moment.
-use Rattle.std.specs.Prelude.{ℕ, ◌≡◌, ◌+◌, ◌<◌, ◌≤◌, ◌%◌, ◌^◌, true, false, not, List, [], length, filter, Contains, ◌⊎◌, None, Some, if◌then◌else◌}
+use Rattle.std.specs.Prelude.{ℕ, ◌≡◌, ◌+◌, ◌<◌, ◌≤◌, ◌%◌, ◌^◌, true, false, not, List, [], length, take, filter, Contains, ◌⊎◌, None, Some, if◌then◌else◌}
+use Rattle.tide_layout.specs.Region.{block_count}
 use Rattle.tide_layout.specs.declared.region.Region.{Region}
 use Rattle.tide_layout.specs.declared.region.Region.TheVariants as region
+use Rattle.tide_machine.specs.DeadWords.{IsOfDead}
 use Rattle.tide_machine.specs.Kind.{index_of_stopped}
 use Rattle.tide_machine.specs.Looked.{FreeIsShown}
 use Rattle.tide_machine.specs.Owed.{Owes, Knows, IsOwnWord}
 use Rattle.tide_machine.specs.RunningWave.{RunningWave}
 use Rattle.tide_machine.specs.World.{World, IsParty, holds, parties}
 use Rattle.tide_machine.specs.declared.view.Scan.{Scan}
+use Rattle.tide_machine.specs.declared.view.Saw.{Saw}
+use Rattle.tide_machine.specs.declared.view.Sweeping.{Sweeping}
 use Rattle.tide_machine.specs.declared.view.Target.{Target}
 use Rattle.tide_machine.specs.declared.view.View.{View}
 use Rattle.tide_machine.specs.points.Arrays.{ArraysStand}
 use Rattle.tide_machine.specs.points.Scans.{IsAtHand, ScanKnows}
-use Rattle.tide_machine.specs.points.Seen.{HasCallsAlone}
-use Rattle.tide_model.specs.History.{state_after, state_at, is_call_of}
+use Rattle.tide_machine.specs.points.Seen.{HasPartAlone}
+use Rattle.tide_machine.specs.points.Sweeps.{IsTaken, SweptAreTold}
+use Rattle.tide_model.specs.Cycle.{IsSwept}
+use Rattle.tide_model.specs.History.{state_after, state_at, is_call_of, is_open}
 use Rattle.tide_model.specs.Lawful.{IsLawful}
 use Rattle.tide_model.specs.Layout.{Layout, cell_count}
 use Rattle.tide_model.specs.Prefix.{IsPrefix}
 use Rattle.tide_model.specs.References.{IsLive, RefsAreLive}
 use Rattle.tide_model.specs.Refused.{ShapeLists}
-use Rattle.tide_model.specs.Room.{window_start}
+use Rattle.tide_model.specs.Room.{DeadIsTaken, IsAlone, window_start}
+use Rattle.tide_model.specs.Since.{TakenAreSwept, since}
 use Rattle.tide_model.specs.State.{State}
 use Rattle.tide_model.specs.declared.entry.Event.{Event}
 use Rattle.tide_words.proofs.heap_laws.Frames.{is_read}
@@ -50,13 +57,13 @@ pub record WorksOn (layout : Layout) (v : View) (words : Heap) (state : State) :
 -- it; what the view knows stands there, and so does the word that was found, where no other may owe it. The view has
 -- seen a beginning of the history, with all of its own calls, and in the blocks where it looked nothing was free but
 -- what it saw. It has left where its mutator is active no more, and each colour of its cycle has a word. Since the part
--- was opened the history has calls alone. The words as they stood, the one that was found among them, say of what the
--- view holds and scans what the wave says.
+-- was opened the history has nothing but calls, and blocks that are taken and swept. The words as they stood, the one
+-- that was found among them, say of what the view holds and scans what the wave says.
 pub record Moment (layout : Layout) (shapes : ShapeLists) (v : View) (log : List Event) (at : Region) (index read : ℕ)
     : Type 0 where
   pub before : IsPrefix v.seen log
   pub lawful : IsLawful layout shapes log
-  pub calls_alone : HasCallsAlone log
+  pub part_alone : HasPartAlone log
   pub own : filter (λ event. is_call_of v.who event.entry) log ≡ v.mine
   pub left : v.left ≡ not ((state_after layout log).active v.who)
   pub few : v.runs ≡ true → v.cycle < 2 ^ 62
@@ -64,7 +71,7 @@ pub record Moment (layout : Layout) (shapes : ShapeLists) (v : View) (log : List
   pub settled : Heap
   pub reads : ReadsAs layout shapes settled (state_after layout log)
   pub known : (r : Region) (i word : ℕ) → Knows v r i word → settled r i ≡ word
-  pub found : is_read at ≡ true →
+  pub found : is_read at ≡ true → (IsOfDead layout (state_after layout log) at index → ⊥) →
       ((p word : ℕ) → IsOwnWord layout (state_after layout log) p at index → Owes v at index word → ⊥) →
       ((p : ℕ) → IsOwnWord layout (state_after layout log) p at index → p ≡ v.who) → settled at index ≡ read
   pub words : Heap
@@ -74,6 +81,17 @@ pub record Moment (layout : Layout) (shapes : ShapeLists) (v : View) (log : List
       Contains v.full (record { block = block; moment = moment; word = word }) →
       (window_start v.who log ≤ moment) × (moment ≤ length log)
       × FreeIsShown layout (state_at layout log moment) block word
+  -- of sweeps: what is dead where a cycle marks, the blocks that are cleared, the one whose dead bits it saw, its own
+  -- sweep, and those of others
+  pub clean : v.runs ≡ true → v.marks ≡ true → IsSwept layout log
+  pub cleared : (block moment : ℕ) → Contains v.cleared (record { block = block; moment = moment }) →
+      (moment ≤ length log)
+      × ((later : ℕ) → moment ≤ later → later ≤ length log → DeadIsTaken layout (take later log) block)
+  pub saw : (saw : Saw) → v.saw ≡ Some saw → (saw.block < block_count layout) ×
+      ((settled region.Dead saw.block ≡ saw.word) ⊎ IsTaken words saw.block)
+  pub told : SweptAreTold layout words log
+  pub sweeping : (s : Sweeping) → v.sweeping ≡ Some s → s.given ≡ false → settled region.Dead s.block ≡ s.dead
+  pub alone : v.sweeping ≡ None → IsAlone layout (state_after layout log) v.who → TakenAreSwept (since is_open log)
 
 -- in a running part that is so of each participant and each word
 abbrev pub StepsAreTold : Type 0

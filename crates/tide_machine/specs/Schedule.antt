@@ -9,7 +9,7 @@ use Rattle.tide_machine.specs.Machine.{IsAllowed, stepped}
 use Rattle.tide_machine.specs.RunningWave.{RunningWave}
 use Rattle.tide_machine.specs.World.{World, parties, total}
 use Rattle.tide_machine.specs.points.Marks.{counted_in}
-use Rattle.tide_model.specs.Cycle.{HasDead}
+use Rattle.tide_model.specs.Cycle.{HasDead, IsSwept}
 use Rattle.tide_model.specs.History.{plain, state_after}
 use Rattle.tide_model.specs.Layout.{Layout}
 use Rattle.tide_model.specs.Periods.{open_count}
@@ -30,7 +30,7 @@ pub data Enters (layout : Layout) (shapes : ShapeLists) (old : Heap) (history : 
     ℕ → Type 0 where
   visits : (who visits left : ℕ) →
       Enters layout shapes old history (visits + left) old (history ++ plain (Visits who visits) ∷ []) left
-  begins : (new : Heap) → is_marking old ≡ false → HasBegun layout old new →
+  begins : (new : Heap) → is_marking old ≡ false → IsSwept layout history → HasBegun layout old new →
       Enters layout shapes old history 0 new (with_begin history) 0
   pauses : (new : Heap) (visits : ℕ) → HasPaused layout old new visits →
       Enters layout shapes old history 0 new (history ++ plain (Pause visits) ∷ []) 0

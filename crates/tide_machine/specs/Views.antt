@@ -1,5 +1,5 @@
 -- What a participant's view becomes by a step of its own, kind by kind.
-use Rattle.std.specs.Prelude.{ℕ, List, [], ◌∷◌, ◌++◌, Option, None, Some}
+use Rattle.std.specs.Prelude.{ℕ, List, [], ◌∷◌, ◌++◌, Option, None, Some, if◌then◌else◌}
 use Rattle.tide_machine.specs.Entries.{entry_of}
 use Rattle.tide_machine.specs.Kind.{Kind, Split, Join, Activate, StoreStopped, Retire, LoadRegister, StoreRegister, LoadCall, StoreCall, LoadStrong, StoreStrong, LoadWeak, StoreWeak, LoadLink, StoreLink, LoadColour, Regrey, PushBit, LoadFree, TakeFree, StoreBorn, LoadPair, StorePair, StoreGroup, LoadClaim, TakeClaim, Release, LoadElement, StoreElement, TakeArray, Nuke, LoadOwnArray, StoreArray, LoadOwnStructure, StoreStructure, SwapGrey, Blacken, LoadStructure, LoadArray, LoadSlot, LoadElementOf, LoadAgain, LoadTarget, Mark, UnBlacken, PushRace, Publish, ClaimBlock, LoadDead, ZeroWord, GiveBits, Finish}
 use Rattle.tide_machine.specs.May.{called}
@@ -38,6 +38,7 @@ use Rattle.tide_machine.specs.kinds.UnBlacken.{un_blackened_view}
 use Rattle.tide_model.specs.History.{state_after}
 use Rattle.tide_model.specs.Layout.{Layout}
 use Rattle.tide_model.specs.Refused.{ShapeLists}
+use Rattle.tide_model.specs.Since.{is_call}
 use Rattle.tide_model.specs.declared.entry.Event.{Event}
 
 -- the fields that a step changes, beside what its participant has seen
@@ -92,16 +93,20 @@ changed layout shapes log me (Mark cell old cycle) read v = marked_view cell old
 changed layout shapes log me (UnBlacken cell cycle) read v = un_blackened_view cell cycle read v
 changed layout shapes log me (PushRace cell) read v = free_of_duty v
 changed layout shapes log me (Publish block mask) read v = published_view block mask v
-changed layout shapes log me (ClaimBlock block old cycle) read v = claimed_view block old read v
-changed layout shapes log me (LoadDead block) read v = dead_view read v
+changed layout shapes log me (ClaimBlock block old cycle) read v = claimed_view log block old cycle read v
+changed layout shapes log me (LoadDead block) read v = dead_view log block read v
 changed layout shapes log me (ZeroWord at index) read v = zeroed_view at index v
 changed layout shapes log me (GiveBits block bits) read v = given_view v
 changed layout shapes log me (Finish block) read v = finished_view v
 
--- a view that has seen an entry of its own, with the history before it, or none
+-- what a participant has made, after an entry of its step: a call is its own
+abbrev pub with_own : List Event → Event → List Event
+with_own mine event = if is_call event.entry then mine ++ event ∷ [] else mine
+
+-- a view that has seen an entry of its own step, with the history before it, or none
 abbrev pub with_entry : List Event → Option Event → View → View
 with_entry log None v = v
-with_entry log (Some event) v = record v { seen = log ++ event ∷ []; mine = v.mine ++ event ∷ [] }
+with_entry log (Some event) v = record v { seen = log ++ event ∷ []; mine = with_own v.mine event }
 
 -- the view after a step that found this word, where the history before it was `log`
 abbrev pub view_after : Layout → ShapeLists → List Event → ℕ → Kind → ℕ → View → View

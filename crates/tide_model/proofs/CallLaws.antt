@@ -1,21 +1,15 @@
 -- What calls answer, and what they leave of their caller.
-use Rattle.std.proofs.Common.{ℕ, ◌≡◌, ◌+◌, ◌<◌, refl, ap, arith, Bool, true, false, List, [], ◌∷◌, length, drop}
+use Rattle.std.proofs.Common.{ℕ, ◌≡◌, ◌+◌, ◌<◌, refl, arith, Bool, true, false, List, [], ◌∷◌, length, drop}
 use Rattle.std.proofs.lemmas.Bool.{eqb-true}
-use Rattle.std.specs.Prelude.{◌==◌, ◌++◌, filter, not, Option, None, Some}
-use Rattle.tide_model.specs.declared.val.Val.{Val}
-use Rattle.tide_model.specs.declared.val.Val.TheVariants.{Empty, Int, Cell}
-use Rattle.tide_model.specs.declared.op.Op.{Op}
-use Rattle.tide_model.specs.declared.op.Op.TheVariants.{Put, Claim, Release, Unclaim, Add, SetProp, PairSet, PairDel, Group, Retire}
+use Rattle.std.specs.Prelude.{◌==◌, Option}
+use Rattle.tide_model.specs.declared.op.Op.TheVariants.{Unclaim, Retire}
 use Rattle.tide_model.specs.declared.op.Reply.{Reply}
-use Rattle.tide_model.specs.declared.op.Reply.TheVariants.{Done, Refused}
+use Rattle.tide_model.specs.declared.op.Reply.TheVariants.{Done}
 use Rattle.tide_model.specs.declared.op.Refusal.TheVariants.{NotHeld}
 use Rattle.tide_model.specs.Answer.{IsAnswer, IsAnswerUnless, IsGranted}
-use Rattle.tide_model.specs.Applied.{after_call, at_cell, add_property, put_cell, put_claims, put_pair, put_property, put_slot}
 use Rattle.tide_model.specs.Layout.{Layout}
 use Rattle.tide_model.specs.Refused.{ShapeLists, refuse_if}
-use Rattle.tide_model.specs.Script.{is_retire}
 use Rattle.tide_model.specs.State.{State}
-use Rattle.tide_model.proofs.ReferenceLaws.{after_call-refused}
 
 granted_unclaim : (layout : Layout) (state : State) (who : ℕ) (reply : Reply) (took : Option ℕ) → IsGranted layout state who Unclaim reply took → reply ≡ Done
 granted_unclaim layout state who Done took granted = refl

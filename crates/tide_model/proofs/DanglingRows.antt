@@ -1,5 +1,5 @@
 -- A cell that an end keeps for an earlier moment's sake holds another, which that end may not free.
-use Rattle.std.specs.Prelude.{ℕ, ◌≡◌, ◌⊎◌, refl, true, List, [], ◌∷◌, ◌++◌, take, None}
+use Rattle.std.specs.Prelude.{ℕ, ◌≡◌, ◌⊎◌, refl, true, false, List, [], ◌∷◌, ◌++◌, take, None}
 use Rattle.std.proofs.Common.{arith, inl, inr, subst, sym, lit<, lit≤}
 use Rattle.tide_model.specs.declared.val.Val.TheVariants.{Empty, Cell}
 use Rattle.tide_model.specs.declared.op.Op.{Op}
@@ -12,16 +12,18 @@ use Rattle.tide_model.specs.declared.entry.Event.{Event}
 use Rattle.tide_model.specs.Layout.{IsBlockOf}
 use Rattle.tide_model.specs.Numbers.{put_at}
 use Rattle.tide_model.specs.State.{CellState, live, free, blank_cell}
-use Rattle.tide_model.specs.Graph.{IsRetained, is_root, in_register, in_slot, no_cell}
+use Rattle.tide_model.specs.Graph.{IsRetained, is_root, in_register, in_slot}
 use Rattle.tide_model.specs.History.{plain, state_after}
 use Rattle.tide_model.specs.Cycle.{StandsEnd, cycle_span}
 use Rattle.tide_model.specs.Lawful.{FitsLayout, IsLawful}
 use Rattle.tide_model.specs.Answer.{IsAnswer}
+use Rattle.tide_model.specs.Old.{IsSpared}
 use Rattle.tide_model.specs.Refused.{no_shapes}
 use Rattle.tide_model.specs.Rows.{small}
 use Rattle.tide_model.proofs.Histories.{IsLawful-nil, IsLawful-push}
 use Rattle.tide_model.proofs.LawfulReferences.{RefsAreLive-lawful}
 use Rattle.tide_model.proofs.NumberLaws.{put_at_elim}
+use Rattle.tide_model.proofs.PeriodTests.{IsSwept-tested}
 use Rattle.tide_model.proofs.Retained.{IsClosed-all_kept}
 
 -- cell 0 holds cell 1, and a weak handle names cell 0
@@ -33,7 +35,7 @@ linked =
 -- a cycle begins while registers hold both cells, and at its end none does
 abbrev before_end : List Event
 before_end =
-    linked ++ plain (Begin 1) ∷ plain (Call 0 (Drop 0) Done) ∷ plain (Call 0 (Drop 1) Done) ∷ plain (Pause 0) ∷ []
+    linked ++ plain (Begin 1 true) ∷ plain (Call 0 (Drop 0) Done) ∷ plain (Call 0 (Drop 1) Done) ∷ plain (Pause 0) ∷ []
 
 -- nothing retains cell 1 any more, and cell 0 was retained in the cycle, yet an end may not free the one and keep the other:
 -- the weak handle would lead to cell 0, and that to cell 1
@@ -64,7 +66,7 @@ before_end_is_lawful =
     let two = calls (take 1 before_end) (Alloc 1 0) (Born 1) one refl (lit< tt, lit< tt) (refl, record { of_class = in_block; is_free = refl }) (λ class is. cc) in
     let holds = calls (take 2 before_end) (Put 0 0 1) Done two refl (lit< tt, lit< tt) refl (λ class is. cc) in
     let named = calls (take 3 before_end) (WeakSet 0 0) Done holds refl (lit< tt, lit< tt) refl (λ class is. cc) in
-    let begun = IsLawful-push small no_shapes (take 4 before_end) (plain (Begin 1)) named (refl, record { is_idle = refl; is_next = refl }) in
+    let begun = IsLawful-push small no_shapes (take 4 before_end) (plain (Begin 1 true)) named (refl, record { is_idle = refl; is_swept = IsSwept-tested small (take 4 before_end) refl; is_next = refl }) in
     let dropped = calls (take 5 before_end) (Drop 0) Done begun refl (lit< tt) refl (λ class is. cc) in
     let all_dropped = calls (take 6 before_end) (Drop 1) Done dropped refl (lit< tt) refl (λ class is. cc) in
     IsLawful-push small no_shapes (take 7 before_end) (plain (Pause 0)) all_dropped refl
@@ -96,11 +98,12 @@ both_are_kept = record {
   were_live = λ cell among. absurd (cc);
   frees = λ cell among. absurd (cc);
   keeps = λ cell alive _. held cell (live_cells cell alive);
-  closed = IsClosed-all_kept (state_after small before_end) (RefsAreLive-lawful small no_shapes before_end before_end_is_lawful);
+  closed = IsClosed-all_kept (state_after small before_end) (IsSpared small before_end) (RefsAreLive-lawful small no_shapes before_end before_end_is_lawful)
+      (λ cell spared. absurd (let eden : false ≡ true = spared in cc));
 }
   where
     IsHeld : ℕ → Type 0
-    IsHeld cell = IsRetained (cycle_span small before_end) no_cell cell
+    IsHeld cell = IsRetained (cycle_span small before_end) (IsSpared small before_end) cell
 
     held : (cell : ℕ) → (cell ≡ 0) ⊎ (cell ≡ 1) → IsHeld cell
     held cell (inl is) = subst IsHeld (sym is) (is_root 0 (5, lit≤ tt, lit≤ tt, in_register 0 0 refl refl))

@@ -1,10 +1,10 @@
 -- Where nothing but marking and sweeping came since a cycle began, its end frees just what nothing retains.
-use Rattle.std.specs.Prelude.{ℕ, suc, ◌≡◌, ◌<◌, ◌≤◌, ◌==◌, Bool, true, false, ◌↔◌, List, [], ◌∷◌, ◌++◌, length, take, drop, if◌then◌else◌}
+use Rattle.std.specs.Prelude.{ℕ, suc, ◌≡◌, ◌<◌, ◌≤◌, ◌==◌, Bool, true, false, ◌↔◌, ◌&&◌, not, List, [], ◌∷◌, ◌++◌, length, take, drop, if◌then◌else◌}
 use Rattle.std.proofs.Common.{arith, refl, ap, subst, sym, ◌∙◌, true≢false}
 use Rattle.std.proofs.lemmas.Bool.{eqb-true, eqb-false}
 use Rattle.std.proofs.lemmas.List.{length-append, map-append, take-append-drop}
 use Rattle.tide_model.specs.declared.entry.Entry.{Entry}
-use Rattle.tide_model.specs.declared.entry.Entry.TheVariants.{Call, Begin, Pause, Visits, End, Sweep, Open}
+use Rattle.tide_model.specs.declared.entry.Entry.TheVariants.{Call, Begin, Pause, Visits, End, Taken, Sweep, Open}
 use Rattle.tide_model.specs.declared.entry.Event.{Event}
 use Rattle.tide_model.specs.Cycle.{StandsEnd, cycle_span, span_of}
 use Rattle.tide_model.specs.Each.{Each}
@@ -13,6 +13,7 @@ use Rattle.tide_model.specs.History.{after_entry, after_sweep, is_begin, moment_
 use Rattle.tide_model.specs.Lawful.{IsLawful, Stands, StandsEntry}
 use Rattle.tide_model.specs.Layout.{Layout, block_of_cell}
 use Rattle.tide_model.specs.Numbers.{is_among}
+use Rattle.tide_model.specs.Old.{IsSpared, full_after, full_with, is_old}
 use Rattle.tide_model.specs.Pace.{Pace}
 use Rattle.tide_model.specs.Periods.{IsLegal}
 use Rattle.tide_model.specs.References.{IsLive}
@@ -121,10 +122,11 @@ quiet_within layout history event quiet passes begins_none =
     by_entry : (entry : Entry) → quiet_after quiet (entry ∷ []) ≡ true → is_begin entry ≡ false →
         (quiet ≡ true) × IsWithin (graph_of now) (graph_of (after_entry layout now entry event.took))
     by_entry (Call who op reply) was none = absurd (cc)
-    by_entry (Begin cycle) was none = absurd (cc)
+    by_entry (Begin cycle full) was none = absurd (cc)
     by_entry (Pause visits) was none = (was, IsWithin-refl (graph_of now))
     by_entry (Visits who visits) was none = (was, IsWithin-refl (graph_of now))
     by_entry (End cycle freed) was none = absurd (cc)
+    by_entry (Taken block) was none = (was, IsWithin-refl (graph_of now))
     by_entry (Sweep block) was none = (was, sweep_within layout now block)
     by_entry (Open number run) was none = absurd (cc)
 
@@ -189,26 +191,57 @@ quiet_span layout shapes =
             let older = IsWithin-trans (cycle_span layout before) old now (earlier was) within in
             from (moment_after_last begins before) (at false is) older
 
+-- and that cycle is a full one
+quiet_is_full : (quiet full : Bool) (events : List Event) → (quiet ≡ true → full ≡ true) →
+    quiet_after quiet (entries_of events) ≡ true → full_after full events ≡ true
+quiet_is_full quiet full [] so passes = so passes
+quiet_is_full quiet full (event ∷ events) so passes =
+    let (next, is_so, rest) = by_entry event.entry passes in
+    quiet_is_full next (full_with full event.entry) events is_so rest
+  where
+    Next : Entry → Type 0
+    Next entry = (next : Bool) × (next ≡ true → full_with full entry ≡ true) × (quiet_after next (entries_of events) ≡ true)
+
+    by_entry : (entry : Entry) → quiet_after quiet (entry ∷ entries_of events) ≡ true → Next entry
+    by_entry (Begin cycle own) rest = (own, λ is. is, rest)
+    by_entry (Pause visits) rest = (quiet, so, rest)
+    by_entry (Visits who visits) rest = (quiet, so, rest)
+    by_entry (Taken block) rest = (quiet, so, rest)
+    by_entry (Sweep block) rest = (quiet, so, rest)
+    by_entry (Call who op reply) rest = (false, λ is. absurd (true≢false (sym is)), rest)
+    by_entry (End cycle freed) rest = (false, λ is. absurd (true≢false (sym is)), rest)
+    by_entry (Open number run) rest = (false, λ is. absurd (true≢false (sym is)), rest)
+
 -- so an end there frees just what nothing retains
 pub exact_end : (layout : Layout) (shapes : ShapeLists) (before : List Event) (cycle : ℕ) (freed : List ℕ) →
     IsLawful layout shapes before → quiet_after false (entries_of before) ≡ true → StandsEnd layout before cycle freed →
     (cell : ℕ) → (is_among freed cell ≡ true)
     ↔ (IsLive (state_after layout before) cell × (IsRetained (graph_of (state_after layout before)) no_cell cell → ⊥))
 exact_end layout shapes before cycle freed lawful quiet stands cell = (
-  λ among. (stands.were_live cell among, stands.frees cell among),
+  λ among. (stands.were_live cell among, λ kept. stands.frees cell among (more cell kept)),
   λ is. by_cases (is_among freed cell) refl is.0 is.1,
 )
   where
     now : State
     now = state_after layout before
 
+    -- the roots retain no less where more cells do besides
+    more : (c : ℕ) → IsRetained (graph_of now) no_cell c → IsRetained (graph_of now) (IsSpared layout before) c
+    more = retained_more (graph_of now) (graph_of now) no_cell (IsSpared layout before) (IsWithin-refl (graph_of now)) (λ c none. absurd none)
+
+    -- a full cycle spares none
+    none_spared : (c : ℕ) → IsSpared layout before c → IsRetained (graph_of now) no_cell c
+    none_spared c spared =
+        absurd (true≢false (sym spared
+        ∙ ap (λ b. not b && is_old layout before c) (quiet_is_full false false before (λ is. absurd (true≢false (sym is))) quiet)))
+
     by_cases : (among : Bool) → is_among freed cell ≡ among → IsLive now cell →
         (IsRetained (graph_of now) no_cell cell → ⊥) → among ≡ true
     by_cases true is alive unretained = refl
     by_cases false is alive unretained =
         let kept = stands.keeps cell alive (λ among. true≢false (sym among ∙ is)) in
-        absurd (unretained (retained_more (cycle_span layout before) (graph_of now) no_cell no_cell
-        (quiet_span layout shapes before lawful quiet) (λ c none. absurd none) cell kept))
+        absurd (unretained (retained_more (cycle_span layout before) (graph_of now) (IsSpared layout before) no_cell
+        (quiet_span layout shapes before lawful quiet) none_spared cell kept))
 
 pub cycles_are_exact : (pace : Pace) (layout : Layout) (shapes : ShapeLists) (history : List Event) →
     IsLegal pace layout shapes history → pace.trigger ≡ 0 → Each (FreesTheUnretained layout) history

@@ -56,10 +56,10 @@ abbrev pub one_born : List Event
 one_born = plain (Open 1 8) ∷ first_calls (Alloc 0 0) (Born 0) ∷ []
 
 -- a must freeze runs a whole cycle, and one that is no must and not due runs none
-pub must_cycle_runs : IsFreeze pace small one_born 8 true (Begin 1 ∷ Pause 1 ∷ End 1 [] ∷ [])
+pub must_cycle_runs : IsFreeze pace small one_born 8 true (Begin 1 true ∷ Pause 1 ∷ End 1 [] ∷ [])
 must_cycle_runs = record {
   old = [];
-  new = Begin 1 ∷ Pause 1 ∷ End 1 [] ∷ [];
+  new = Begin 1 true ∷ Pause 1 ∷ End 1 [] ∷ [];
   are = refl;
   goes_on = λ marks. absurd (cc);
   rests = λ rests. refl;
@@ -86,14 +86,14 @@ pub must_cycle_has_to_run : IsFreeze pace small one_born 8 true [] → ⊥
 must_cycle_has_to_run freeze =
     let begins = freeze.begins refl in
     let none : [] ≡ freeze.new = freeze.are ∙ ap (λ (old : List Entry). old ++ freeze.new) (freeze.rests refl) in
-    let some : [] ≡ Begin 1 ∷ pause_entries 1 begins.paused = none ∙ begins.are in
+    let some : [] ≡ Begin 1 true ∷ pause_entries 1 begins.paused = none ∙ begins.are in
     cc
 
-pub no_cycle_without_cause : IsFreeze pace small one_born 8 false (Begin 1 ∷ Pause 1 ∷ End 1 [] ∷ []) → ⊥
+pub no_cycle_without_cause : IsFreeze pace small one_born 8 false (Begin 1 true ∷ Pause 1 ∷ End 1 [] ∷ []) → ⊥
 no_cycle_without_cause freeze =
-    let some : Begin 1 ∷ Pause 1 ∷ End 1 [] ∷ [] ≡ freeze.new =
+    let some : Begin 1 true ∷ Pause 1 ∷ End 1 [] ∷ [] ≡ freeze.new =
     freeze.are ∙ ap (λ (old : List Entry). old ++ freeze.new) (freeze.rests refl) in
-    let none : Begin 1 ∷ Pause 1 ∷ End 1 [] ∷ [] ≡ [] = some ∙ freeze.stays refl in
+    let none : Begin 1 true ∷ Pause 1 ∷ End 1 [] ∷ [] ≡ [] = some ∙ freeze.stays refl in
     cc
 
 -- eight calls with four births, after which a cycle began by itself and marks
@@ -103,12 +103,29 @@ four_born =
     ∷ first_calls (Alloc 2 0) (Born 2) ∷ first_calls (Alloc 3 0) (Born 3) ∷ []
 
 abbrev pub marked : List Event
-marked = four_born ++ plain (Begin 1) ∷ plain (Pause 2) ∷ []
+marked = four_born ++ plain (Begin 1 true) ∷ plain (Pause 2) ∷ []
 
 pub dues :
     (is_due pace small one_born ≡ false) × (is_due pace small four_born ≡ true)
     × (is_due pace small marked ≡ false) × (is_due (record pace { trigger = 0 }) small four_born ≡ false)
 dues = (refl, refl, refl, refl)
+
+-- a cycle that has to be over in its freeze is a full one, and so, as yet, is one that begins by itself
+pub must_cycle_is_no_eden_cycle : IsFreeze pace small one_born 8 true (Begin 1 false ∷ Pause 1 ∷ End 1 [] ∷ []) → ⊥
+must_cycle_is_no_eden_cycle freeze =
+    let begins = freeze.begins refl in
+    let same : Begin 1 false ∷ Pause 1 ∷ End 1 [] ∷ [] ≡ Begin 1 true ∷ pause_entries 1 begins.paused =
+    freeze.are ∙ ap (λ (old : List Entry). old ++ freeze.new) (freeze.rests refl) ∙ begins.are in
+    let first : Begin 1 false ≡ Begin 1 true = cc in
+    cc
+
+pub due_cycle_is_no_eden_cycle : IsFreeze pace small four_born 8 false (Begin 1 false ∷ Pause 2 ∷ []) → ⊥
+due_cycle_is_no_eden_cycle freeze =
+    let begins = freeze.begins refl in
+    let same : Begin 1 false ∷ Pause 2 ∷ [] ≡ Begin 1 true ∷ pause_entries 1 begins.paused =
+    freeze.are ∙ ap (λ (old : List Entry). old ++ freeze.new) (freeze.rests refl) ∙ begins.are in
+    let first : Begin 1 false ≡ Begin 1 true = cc in
+    cc
 
 -- the visitor tells what it made black before the pause
 pub visits_come_first : GoesOn pace visited marked 6 true (Visits 0 3 ∷ Pause 1 ∷ End 1 [] ∷ [])

@@ -2,11 +2,12 @@
 use Rattle.std.proofs.Common.{ℕ, sym, subst, List, [], ◌∷◌, ◌++◌}
 use Rattle.std.specs.Prelude.{Option}
 use Rattle.tide_model.specs.declared.entry.Entry.{Entry}
-use Rattle.tide_model.specs.declared.entry.Entry.TheVariants.{Call, Begin, Pause, Visits, End, Sweep, Open}
+use Rattle.tide_model.specs.declared.entry.Entry.TheVariants.{Call, Begin, Pause, Visits, End, Taken, Sweep, Open}
 use Rattle.tide_model.specs.declared.entry.Event.{Event}
 use Rattle.tide_model.specs.Layout.{Layout}
 use Rattle.tide_model.specs.State.{State, marking}
 use Rattle.tide_model.specs.History.{after_entry, state_after}
+use Rattle.tide_model.specs.Old.{IsSpared}
 use Rattle.tide_model.specs.Refused.{ShapeLists}
 use Rattle.tide_model.specs.Lawful.{IsLawful, Stands, StandsEntry}
 use Rattle.tide_model.specs.References.{RefsAreLive}
@@ -26,10 +27,11 @@ RefsAreLive-event layout shapes before event refs stands =
 
     step : (entry : Entry) (took : Option ℕ) → StandsEntry layout shapes before entry took → RefsAreLive (after_entry layout now entry took)
     step (Call who op reply) took call = RefsAreLive-call layout shapes now who op reply took refs call.is_active call.answers
-    step (Begin cycle) took _ = RefsAreLive-phase now (marking cycle) refs
+    step (Begin cycle full) took _ = RefsAreLive-phase now (marking cycle) refs
     step (Pause visits) took _ = refs
     step (Visits who visits) took _ = refs
-    step (End cycle freed) took ends = RefsAreLive-end now freed refs ends.1.closed ends.1.were_live
+    step (End cycle freed) took ends = RefsAreLive-end now (IsSpared layout before) freed refs ends.1.closed ends.1.were_live
+    step (Taken block) took _ = refs
     step (Sweep block) took _ = RefsAreLive-sweep layout now block refs
     step (Open number run) took _ = refs
 

@@ -6,11 +6,15 @@ pub mod ClaimLaws
 pub mod CountLaws
 pub mod Cycles
 pub mod DanglingRows
+pub mod DeadLaws
+pub mod EdenRows
+pub mod EdenSweepRows
 pub mod ExactEnds
 pub mod FreezeRows
 pub mod Histories
 pub mod LawfulReferences
 pub mod NumberLaws
+pub mod OldLaws
 pub mod PeriodLaws
 pub mod PeriodRows
 pub mod PeriodTests
@@ -22,7 +26,9 @@ pub mod ReferenceSteps
 pub mod ReferencesInCycles
 pub mod Retained
 pub mod Retaining
+pub mod RoomRows
 pub mod ShareRows
 pub mod SinceLaws
 pub mod Spans
+pub mod SweepRows
 pub mod Windows

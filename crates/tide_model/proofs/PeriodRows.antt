@@ -14,7 +14,8 @@ use Rattle.tide_model.specs.Layout.{Layout}
 use Rattle.tide_model.specs.Pace.{stopped_share, running_share}
 use Rattle.tide_model.specs.Periods.{Period, StandsPeriod, ArePeriods, no_period, one_more, IsScheduled, EndsInTime, after_period, next_run}
 use Rattle.tide_model.specs.Rows.{small, kept_then_freed}
-use Rattle.tide_model.specs.Since.{is_call}
+use Rattle.tide_model.specs.Since.{is_call, is_of_part}
+use Rattle.tide_model.proofs.DeadLaws.{TakenAreSwept-none}
 use Rattle.tide_model.proofs.FreezeRows.{pace, first_calls, second_calls, ends_its_cycle}
 use Rattle.tide_model.proofs.PeriodLaws.{first_opens}
 use Rattle.tide_model.proofs.PeriodTests.{Each-tested, EndsInTime-tested, IsSwept-tested, ends_in_time, shares-tested}
@@ -37,21 +38,21 @@ first = record {
       ∷ first_calls (Alloc 2 0) (Born 2) ∷ first_calls (Alloc 3 0) (Born 3)
       ∷ first_calls (WeakSet 0 3) Done ∷ first_calls (Drop 3) Done
       ∷ first_calls (Set 3 5) Done ∷ first_calls (Set 3 6) Done ∷ [];
-  freeze = plain (Begin 1) ∷ plain (Pause 2) ∷ [];
+  freeze = plain (Begin 1 true) ∷ plain (Pause 2) ∷ [];
 }
 
 -- the weak handle is read, and a cycle is asked for
 abbrev second : Period
 second = record {
   part = first_calls (WeakGet 3 0) (Seen (Cell 3)) ∷ first_calls Collect Asked ∷ [];
-  freeze = plain (Pause 2) ∷ plain (End 1 []) ∷ plain (Begin 2) ∷ plain (Pause 4) ∷ plain (End 2 []) ∷ [];
+  freeze = plain (Pause 2) ∷ plain (End 1 []) ∷ plain (Begin 2 true) ∷ plain (Pause 4) ∷ plain (End 2 []) ∷ [];
 }
 
 -- the mutator retires
 abbrev third : Period
 third = record {
   part = first_calls Retire Done ∷ [];
-  freeze = plain (Begin 3) ∷ plain (Pause 0) ∷ plain (End 3 (0 ∷ 1 ∷ 2 ∷ 3 ∷ [])) ∷ plain (Sweep 0) ∷ [];
+  freeze = plain (Begin 3 true) ∷ plain (Pause 0) ∷ plain (End 3 (0 ∷ 1 ∷ 2 ∷ 3 ∷ [])) ∷ plain (Sweep 0) ∷ [];
 }
 
 abbrev after_first : List Event
@@ -74,10 +75,10 @@ numbers = (refl, refl, refl)
 pub runs : (next_run pace small [] ≡ 8) × (next_run pace small after_first ≡ 6) × (next_run pace small after_second ≡ 8)
 runs = (refl, refl, refl)
 
-first_freeze : IsFreeze pace small (plain (Open 1 8) ∷ first.part) 8 false (Begin 1 ∷ Pause 2 ∷ [])
+first_freeze : IsFreeze pace small (plain (Open 1 8) ∷ first.part) 8 false (Begin 1 true ∷ Pause 2 ∷ [])
 first_freeze = record {
   old = [];
-  new = Begin 1 ∷ Pause 2 ∷ [];
+  new = Begin 1 true ∷ Pause 2 ∷ [];
   are = refl;
   goes_on = λ marks. absurd (cc);
   rests = λ rests. refl;
@@ -91,10 +92,10 @@ first_freeze = record {
 
 second_freeze :
     IsFreeze pace small (after_first ++ plain (Open 2 6) ∷ second.part) 6 true
-    (Pause 2 ∷ End 1 [] ∷ Begin 2 ∷ Pause 4 ∷ End 2 [] ∷ [])
+    (Pause 2 ∷ End 1 [] ∷ Begin 2 true ∷ Pause 4 ∷ End 2 [] ∷ [])
 second_freeze = record {
   old = Pause 2 ∷ End 1 [] ∷ [];
-  new = Begin 2 ∷ Pause 4 ∷ End 2 [] ∷ [];
+  new = Begin 2 true ∷ Pause 4 ∷ End 2 [] ∷ [];
   are = refl;
   goes_on = λ marks. record {
     visits = [];
@@ -116,10 +117,10 @@ second_freeze = record {
 
 third_freeze :
     IsFreeze pace small (after_second ++ plain (Open 3 8) ∷ third.part) 8 true
-    (Begin 3 ∷ Pause 0 ∷ End 3 (0 ∷ 1 ∷ 2 ∷ 3 ∷ []) ∷ [])
+    (Begin 3 true ∷ Pause 0 ∷ End 3 (0 ∷ 1 ∷ 2 ∷ 3 ∷ []) ∷ [])
 third_freeze = record {
   old = [];
-  new = Begin 3 ∷ Pause 0 ∷ End 3 (0 ∷ 1 ∷ 2 ∷ 3 ∷ []) ∷ [];
+  new = Begin 3 true ∷ Pause 0 ∷ End 3 (0 ∷ 1 ∷ 2 ∷ 3 ∷ []) ∷ [];
   are = refl;
   goes_on = λ marks. absurd (cc);
   rests = λ rests. refl;
@@ -135,28 +136,34 @@ third_freeze = record {
 first_stands : StandsPeriod pace small [] first
 first_stands = record {
   goes_on = refl;
-  calls = AllPass-from_list_all (λ event. is_call event.entry) first.part refl;
+  entries = AllPass-from_list_all (λ event. is_of_part event.entry) first.part refl;
+  calls = λ marks. AllPass-from_list_all (λ event. is_call event.entry) first.part refl;
+  taken = TakenAreSwept-none first.part refl;
   shares = shares-tested pace small [] first refl;
   freeze = first_freeze;
-  swept = IsSwept-tested small after_first refl;
+  swept = λ must. IsSwept-tested small after_first refl;
 }
 
 second_stands : StandsPeriod pace small after_first second
 second_stands = record {
   goes_on = refl;
-  calls = AllPass-from_list_all (λ event. is_call event.entry) second.part refl;
+  entries = AllPass-from_list_all (λ event. is_of_part event.entry) second.part refl;
+  calls = λ marks. AllPass-from_list_all (λ event. is_call event.entry) second.part refl;
+  taken = TakenAreSwept-none second.part refl;
   shares = shares-tested pace small after_first second refl;
   freeze = second_freeze;
-  swept = IsSwept-tested small after_second refl;
+  swept = λ must. IsSwept-tested small after_second refl;
 }
 
 third_stands : StandsPeriod pace small after_second third
 third_stands = record {
   goes_on = refl;
-  calls = AllPass-from_list_all (λ event. is_call event.entry) third.part refl;
+  entries = AllPass-from_list_all (λ event. is_of_part event.entry) third.part refl;
+  calls = λ marks. AllPass-from_list_all (λ event. is_call event.entry) third.part refl;
+  taken = TakenAreSwept-none third.part refl;
   shares = shares-tested pace small after_second third refl;
   freeze = third_freeze;
-  swept = IsSwept-tested small whole refl;
+  swept = λ must. IsSwept-tested small whole refl;
 }
 
 periods : ArePeriods pace small whole
@@ -215,14 +222,14 @@ refused_and_busy = record {
       ∷ second_calls (Set 0 3) Done ∷ second_calls (Set 0 4) Done
       ∷ second_calls (Set 0 5) Done ∷ second_calls (Set 0 6) Done
       ∷ second_calls (Set 0 7) Done ∷ second_calls (Set 0 8) Done ∷ [];
-  freeze = plain (Begin 1) ∷ plain (Pause 0) ∷ plain (End 1 []) ∷ [];
+  freeze = plain (Begin 1 true) ∷ plain (Pause 0) ∷ plain (End 1 []) ∷ [];
 }
 
 refused_freeze :
-    IsFreeze pace pair (plain (Open 1 8) ∷ refused_and_busy.part) 8 true (Begin 1 ∷ Pause 0 ∷ End 1 [] ∷ [])
+    IsFreeze pace pair (plain (Open 1 8) ∷ refused_and_busy.part) 8 true (Begin 1 true ∷ Pause 0 ∷ End 1 [] ∷ [])
 refused_freeze = record {
   old = [];
-  new = Begin 1 ∷ Pause 0 ∷ End 1 [] ∷ [];
+  new = Begin 1 true ∷ Pause 0 ∷ End 1 [] ∷ [];
   are = refl;
   goes_on = λ marks. absurd (cc);
   rests = λ rests. refl;
@@ -237,8 +244,10 @@ refused_freeze = record {
 pub one_is_refused : StandsPeriod pace pair [] refused_and_busy
 one_is_refused = record {
   goes_on = refl;
-  calls = AllPass-from_list_all (λ event. is_call event.entry) refused_and_busy.part refl;
+  entries = AllPass-from_list_all (λ event. is_of_part event.entry) refused_and_busy.part refl;
+  calls = λ marks. AllPass-from_list_all (λ event. is_call event.entry) refused_and_busy.part refl;
+  taken = TakenAreSwept-none refused_and_busy.part refl;
   shares = shares-tested pace pair [] refused_and_busy refl;
   freeze = refused_freeze;
-  swept = IsSwept-tested pair (after_period pace pair [] refused_and_busy) refl;
+  swept = λ must. IsSwept-tested pair (after_period pace pair [] refused_and_busy) refl;
 }

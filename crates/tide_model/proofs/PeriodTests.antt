@@ -5,13 +5,14 @@ use Rattle.std.proofs.lemmas.Bool.{and_parts, or_parts, leb-true, ltb-true, lt-l
 use Rattle.tide_model.specs.declared.op.Op.{Op}
 use Rattle.tide_model.specs.declared.op.Reply.{Reply}
 use Rattle.tide_model.specs.declared.entry.Event.{Event}
-use Rattle.tide_model.specs.Cycle.{dead_cell, dead_array, live_count}
+use Rattle.tide_model.specs.Cycle.{IsSwept, dead_cell, dead_array, live_count}
 use Rattle.tide_model.specs.Each.{Each}
 use Rattle.tide_model.specs.History.{is_begin, state_after}
 use Rattle.tide_model.specs.Layout.{Layout, cell_count, array_count}
 use Rattle.tide_model.specs.Numbers.{any_below}
 use Rattle.tide_model.specs.Pace.{Pace}
-use Rattle.tide_model.specs.Periods.{Period, EndsInTime, IsSwept, after_part, next_run}
+use Rattle.tide_model.specs.Old.{spared_count}
+use Rattle.tide_model.specs.Periods.{Period, EndsInTime, after_part, next_run}
 use Rattle.tide_model.specs.Script.{calls_of, retry_of, retry_after_all}
 use Rattle.tide_model.specs.Share.{MayCall, IsShare, has_ended}
 use Rattle.tide_model.specs.Since.{born_since, visits_since, is_end}
@@ -133,8 +134,7 @@ live_after layout before event = live_count layout (state_after layout (before +
 -- whether an event that may end a cycle does so in time
 abbrev pub ends_in_time : Layout → List Event → Event → Bool
 ends_in_time layout before event = not (is_end event.entry)
-    || (nat_le (live_after layout before event) (visits_since is_begin before + born_since is_begin before)
-    && not (is_any_dead layout (state_after layout before)))
+    || nat_le (live_after layout before event) (visits_since is_begin before + born_since is_begin before + spared_count layout before)
 
 pub EndsInTime-tested : (layout : Layout) (before : List Event) (event : Event) →
     ends_in_time layout before event ≡ true → EndsInTime layout before event
@@ -144,16 +144,9 @@ EndsInTime-tested layout before event passes = by_kind (not (is_end event.entry)
     kept = live_after layout before event
 
     most : ℕ
-    most = visits_since is_begin before + born_since is_begin before
+    most = visits_since is_begin before + born_since is_begin before + spared_count layout before
 
     by_kind : (other : Bool) → not (is_end event.entry) ≡ other →
-        (other || (nat_le kept most && not (is_any_dead layout (state_after layout before)))) ≡ true →
-        EndsInTime layout before event
+        (other || nat_le kept most) ≡ true → EndsInTime layout before event
     by_kind true is passed = EndsInTime-other layout before event is
-    by_kind false is passed =
-        let (few, swept) = and_parts (nat_le kept most) (not (is_any_dead layout (state_after layout before))) passed in
-        record {
-          kept = λ cycle freed end. leb-true kept most few;
-          swept = λ cycle freed end.
-              IsSwept-tested layout before (not_true (is_any_dead layout (state_after layout before)) swept);
-        }
+    by_kind false is passed = record { kept = λ cycle freed end. leb-true kept most passed }

@@ -7,30 +7,32 @@ use Rattle.std.proofs.lemmas.List.{map-append}
 use Rattle.std.proofs.lemmas.List.Folds.{list_all-map}
 use Rattle.std.proofs.lemmas.List.Sums.{list_all-from_AllPass}
 use Rattle.tide_model.specs.declared.entry.Entry.{Entry}
-use Rattle.tide_model.specs.declared.entry.Entry.TheVariants.{Call, Begin, Pause, Visits, End, Sweep, Open}
+use Rattle.tide_model.specs.declared.entry.Entry.TheVariants.{Call, Begin, Pause, Visits, End, Taken, Sweep, Open}
 use Rattle.tide_model.specs.declared.entry.Event.{Event}
+use Rattle.tide_model.specs.Cycle.{begin_count}
 use Rattle.tide_model.specs.Each.{Each}
-use Rattle.tide_model.specs.Freeze.{IsFreeze, Paused, end_entries, is_due, is_marking_phase, marks_after, marks_of}
+use Rattle.tide_model.specs.Freeze.{IsFreeze, Paused, begins_full, end_entries, is_due, is_marking_phase, marks_after, marks_of}
 use Rattle.tide_model.specs.History.{plain, is_open, state_after}
 use Rattle.tide_model.specs.Layout.{Layout}
 use Rattle.tide_model.specs.Pace.{Pace, is_triggered}
 use Rattle.tide_model.specs.Periods.{Period, StandsPeriod, ArePeriods, no_period, one_more, after_part, after_period, is_must, next_run, open_count, opened}
-use Rattle.tide_model.specs.Since.{born_since, is_call, is_end, is_sweep}
+use Rattle.tide_model.specs.Since.{born_since, is_end, is_of_part, is_sweep}
 use Rattle.tide_model.specs.State.{State}
 use Rattle.tide_model.proofs.Histories.{state_after-append, state_after-push}
 use Rattle.tide_model.proofs.PeriodLaws.{Each-all, Each-append, Each-nil}
-use Rattle.tide_model.proofs.PhaseLaws.{marking_after, marking_after-calls, marking_after-marks, phase_after-events}
+use Rattle.tide_model.proofs.PhaseLaws.{marking_after, marking_after-part, marking_after-marks, phase_after-events}
 
 -- the entries of some events
 abbrev pub entries_of : List Event → List Entry
 entries_of events = map (λ event. event.entry) events
 
--- whether nothing but marking and sweeping came since a cycle began, from whether that was so before these entries
+-- whether nothing but marking and sweeping came since a full cycle began, from whether that was so before these entries
 abbrev pub quiet_after : Bool → List Entry → Bool
 quiet_after quiet [] = quiet
-quiet_after quiet (Begin cycle ∷ entries) = quiet_after true entries
+quiet_after quiet (Begin cycle full ∷ entries) = quiet_after full entries
 quiet_after quiet (Pause visits ∷ entries) = quiet_after quiet entries
 quiet_after quiet (Visits who visits ∷ entries) = quiet_after quiet entries
+quiet_after quiet (Taken block ∷ entries) = quiet_after quiet entries
 quiet_after quiet (Sweep block ∷ entries) = quiet_after quiet entries
 quiet_after quiet (Call who op reply ∷ entries) = quiet_after false entries
 quiet_after quiet (End cycle freed ∷ entries) = quiet_after false entries
@@ -39,9 +41,10 @@ quiet_after quiet (Open number run ∷ entries) = quiet_after false entries
 pub quiet_after-append : (quiet : Bool) (xs ys : List Entry) →
     quiet_after quiet (xs ++ ys) ≡ quiet_after (quiet_after quiet xs) ys
 quiet_after-append quiet [] ys = refl
-quiet_after-append quiet (Begin cycle ∷ xs) ys = quiet_after-append true xs ys
+quiet_after-append quiet (Begin cycle full ∷ xs) ys = quiet_after-append full xs ys
 quiet_after-append quiet (Pause visits ∷ xs) ys = quiet_after-append quiet xs ys
 quiet_after-append quiet (Visits who visits ∷ xs) ys = quiet_after-append quiet xs ys
+quiet_after-append quiet (Taken block ∷ xs) ys = quiet_after-append quiet xs ys
 quiet_after-append quiet (Sweep block ∷ xs) ys = quiet_after-append quiet xs ys
 quiet_after-append quiet (Call who op reply ∷ xs) ys = quiet_after-append false xs ys
 quiet_after-append quiet (End cycle freed ∷ xs) ys = quiet_after-append false xs ys
@@ -50,9 +53,10 @@ quiet_after-append quiet (Open number run ∷ xs) ys = quiet_after-append false 
 -- whether each end among some entries comes where it is so
 abbrev pub ends_quietly : Bool → List Entry → Bool
 ends_quietly quiet [] = true
-ends_quietly quiet (Begin cycle ∷ entries) = ends_quietly true entries
+ends_quietly quiet (Begin cycle full ∷ entries) = ends_quietly full entries
 ends_quietly quiet (Pause visits ∷ entries) = ends_quietly quiet entries
 ends_quietly quiet (Visits who visits ∷ entries) = ends_quietly quiet entries
+ends_quietly quiet (Taken block ∷ entries) = ends_quietly quiet entries
 ends_quietly quiet (Sweep block ∷ entries) = ends_quietly quiet entries
 ends_quietly quiet (Call who op reply ∷ entries) = ends_quietly false entries
 ends_quietly quiet (End cycle freed ∷ entries) = quiet && ends_quietly false entries
@@ -62,15 +66,16 @@ ends_quietly quiet (Open number run ∷ entries) = ends_quietly false entries
 ends_quietly-marks : (quiet : Bool) (entries : List Entry) →
     ends_quietly quiet entries ≡ ends_quietly quiet (filter (λ entry. not (is_sweep entry)) entries)
 ends_quietly-marks quiet [] = refl
-ends_quietly-marks quiet (Begin cycle ∷ entries) = ends_quietly-marks true entries
+ends_quietly-marks quiet (Begin cycle full ∷ entries) = ends_quietly-marks full entries
 ends_quietly-marks quiet (Pause visits ∷ entries) = ends_quietly-marks quiet entries
 ends_quietly-marks quiet (Visits who visits ∷ entries) = ends_quietly-marks quiet entries
+ends_quietly-marks quiet (Taken block ∷ entries) = ends_quietly-marks quiet entries
 ends_quietly-marks quiet (Sweep block ∷ entries) = ends_quietly-marks quiet entries
 ends_quietly-marks quiet (Call who op reply ∷ entries) = ends_quietly-marks false entries
 ends_quietly-marks quiet (End cycle freed ∷ entries) = ap (λ b. quiet && b) (ends_quietly-marks false entries)
 ends_quietly-marks quiet (Open number run ∷ entries) = ends_quietly-marks false entries
 
--- where the event is an end, nothing but marking and sweeping came since a cycle began
+-- where the event is an end, nothing but marking and sweeping came since a full cycle began
 abbrev pub EndsQuietly : Bool → List Event → Event → Type 0
 EndsQuietly quiet before event =
     (cycle : ℕ) (freed : List ℕ) → event.entry ≡ End cycle freed → quiet_after quiet (entries_of before) ≡ true
@@ -92,9 +97,10 @@ each_ends_quietly quiet (first ∷ events) passes (suc place) event is = λ cycl
         quiet_after q (entries_of (take place events)) ≡ true) →
         ends_quietly quiet (entry ∷ entries_of events) ≡ true →
         quiet_after quiet (entry ∷ entries_of (take place events)) ≡ true
-    by_entry (Begin cycle) others rest = others true rest
+    by_entry (Begin cycle full) others rest = others full rest
     by_entry (Pause visits) others rest = others quiet rest
     by_entry (Visits who visits) others rest = others quiet rest
+    by_entry (Taken block) others rest = others quiet rest
     by_entry (Sweep block) others rest = others quiet rest
     by_entry (Call who op reply) others rest = others false rest
     by_entry (End cycle freed) others rest =
@@ -114,30 +120,34 @@ part_is_quiet pace layout before period stands quiet = record {
   rests =
       ap (λ (s : State). is_marking_phase s.phase) (state_after-append layout (opened pace layout before) period.part)
       ∙ phase_after-events layout (state_after layout (opened pace layout before)) period.part
-      ∙ marking_after-calls (marks_after layout (opened pace layout before)) (entries_of period.part) calls
+      ∙ marking_after-part (marks_after layout (opened pace layout before)) (entries_of period.part) entries
       ∙ ap (λ (s : State). is_marking_phase s.phase) (state_after-push layout before opening)
       ∙ quiet.rests;
   ends = Each-append (EndsQuietly false) (opened pace layout before) period.part
       (Each-append (EndsQuietly false) before (opening ∷ []) quiet.ends
       (Each-all (λ b e. EndsQuietly false (before ++ b) e) (λ e. is_open e.entry)
       (λ b e is cycle freed end. absurd (true≢false (sym is ∙ ap is_open end))) (opening ∷ []) refl))
-      (Each-all (λ b e. EndsQuietly false (opened pace layout before ++ b) e) (λ e. is_call e.entry)
-      (λ b e is cycle freed end. absurd (true≢false (sym is ∙ ap is_call end))) period.part all_calls);
+      (Each-all (λ b e. EndsQuietly false (opened pace layout before ++ b) e) (λ e. is_of_part e.entry)
+      (λ b e is cycle freed end. absurd (true≢false (sym is ∙ ap is_of_part end))) period.part all);
 }
   where
     opening : Event
     opening = plain (Open (open_count before + 1) (next_run pace layout before))
 
-    all_calls : list_all (λ e. is_call e.entry) period.part ≡ true
-    all_calls = list_all-from_AllPass (λ e. is_call e.entry) period.part stands.calls
+    all : list_all (λ e. is_of_part e.entry) period.part ≡ true
+    all = list_all-from_AllPass (λ e. is_of_part e.entry) period.part stands.entries
 
-    calls : list_all is_call (entries_of period.part) ≡ true
-    calls = list_all-map is_call (λ e. e.entry) period.part ∙ all_calls
+    entries : list_all is_of_part (entries_of period.part) ≡ true
+    entries = list_all-map is_of_part (λ e. e.entry) period.part ∙ all
 
--- a freeze after which no cycle marks runs a whole one or none
+-- a cycle that has to be over in its freeze is a full one
+must_is_full : (must : Bool) (cycle : ℕ) → must ≡ true → begins_full must cycle ≡ true
+must_is_full must cycle is = refl
+
+-- a freeze before which no cycle marks, and in which none is due, runs a whole full one or none
 abbrev pub IsWholeOrNone : List Entry → Type 0
 IsWholeOrNone marks =
-    (marks ≡ []) ⊎ ((cycle visits : ℕ) × (freed : List ℕ) × (marks ≡ Begin cycle ∷ Pause visits ∷ End cycle freed ∷ []))
+    (marks ≡ []) ⊎ ((cycle visits : ℕ) × (freed : List ℕ) × (marks ≡ Begin cycle true ∷ Pause visits ∷ End cycle freed ∷ []))
 
 freeze_is_whole_or_none : (pace : Pace) (layout : Layout) (here : List Event) (run : ℕ) (must : Bool)
     (marks : List Entry) → pace.trigger ≡ 0 → marks_after layout here ≡ false →
@@ -152,23 +162,25 @@ freeze_is_whole_or_none pace layout here run must marks never rests freeze = by_
         ap (λ (marking : Bool). not marking && is_triggered pace.trigger (born_since is_end here)) rests
         ∙ ap (λ (trigger : ℕ). is_triggered trigger (born_since is_end here)) never
 
-    whole : (cycle : ℕ) (paused : Paused) →
-        freeze.new ≡ Begin cycle ∷ Pause paused.visits ∷ end_entries cycle paused.freed →
+    whole : (cycle : ℕ) (full : Bool) (paused : Paused) → full ≡ true →
+        freeze.new ≡ Begin cycle full ∷ Pause paused.visits ∷ end_entries cycle paused.freed →
         (freed : Option (List ℕ)) → paused.freed ≡ freed → is_some freed ≡ true → IsWholeOrNone marks
-    whole cycle paused are None is some = absurd (cc)
-    whole cycle paused are (Some freed) is some =
+    whole cycle full paused must are None is some = absurd (cc)
+    whole cycle full paused must are (Some freed) is some =
         inr (
           cycle,
           paused.visits,
           freed,
           only_new ∙ are
-              ∙ ap (λ (f : Option (List ℕ)). Begin cycle ∷ Pause paused.visits ∷ end_entries cycle f) is,
+              ∙ ap (λ (f : Option (List ℕ)). Begin cycle full ∷ Pause paused.visits ∷ end_entries cycle f) is
+              ∙ ap (λ (b : Bool). Begin cycle b ∷ Pause paused.visits ∷ End cycle freed ∷ []) must,
         )
 
     by_must : (m : Bool) → must ≡ m → IsWholeOrNone marks
     by_must true is =
         let begins = freeze.begins (ap (λ b. b || is_due pace layout here) is) in
-        whole _ begins.paused begins.are begins.paused.freed refl (begins.pause.ends is)
+        whole _ _ begins.paused (must_is_full must (begin_count here + 1) is) begins.are begins.paused.freed refl
+        (begins.pause.ends is)
     by_must false is = inl (only_new ∙ freeze.stays (ap (λ b. b || is_due pace layout here) is ∙ not_due))
 
 -- so a period keeps it too

@@ -4,7 +4,7 @@ use Rattle.std.specs.Prelude.{◌||◌, if◌then◌else◌, max}
 use Rattle.tide_model.specs.declared.entry.Event.{Event}
 use Rattle.tide_model.specs.Layout.{Layout, IsBlockOf}
 use Rattle.tide_model.specs.History.{state_after, is_call_of, is_open, moment_after_last}
-use Rattle.tide_model.specs.Room.{IsFullBlock, StandsFull, window_start}
+use Rattle.tide_model.specs.Room.{DeadIsTaken, IsFullBlock, StandsFull, window_start}
 use Rattle.tide_model.proofs.Cycles.{take-all}
 use Rattle.tide_model.proofs.Histories.{take-append-short, moment_after_last-le, moment_after_last-push}
 
@@ -44,16 +44,19 @@ StandsFull-push layout history event who class no_call no_open full block of_cla
       omega (arith, from, was.1),
       omega (arith, longer, was.2),
       subst (λ (h : List Event). IsFullBlock layout (state_after layout h) block) (sym (take-append-short history (event ∷ []) was.0 was.2)) was.3,
+      subst (λ (h : List Event). DeadIsTaken layout h block) (sym (take-append-short history (event ∷ []) was.0 was.2)) was.4,
     )
 
--- each block of the class is full right now, which is a moment of the window
+-- each block of the class is full right now, and what is dead there was taken: this is a moment of the window
 pub StandsFull-now : (layout : Layout) (history : List Event) (who class : ℕ) →
-    ((block : ℕ) → IsBlockOf layout class block → IsFullBlock layout (state_after layout history) block) → StandsFull layout history who class
-StandsFull-now layout history who class full block of_class =
+    ((block : ℕ) → IsBlockOf layout class block → IsFullBlock layout (state_after layout history) block) →
+    ((block : ℕ) → IsBlockOf layout class block → DeadIsTaken layout history block) → StandsFull layout history who class
+StandsFull-now layout history who class full taken block of_class =
     let calls = moment_after_last-le (λ event. is_call_of who event.entry) history in
     let opens = moment_after_last-le (λ event. is_open event.entry) history in (
       length history,
       omega (arith, calls, opens),
       omega arith,
       subst (λ (h : List Event). IsFullBlock layout (state_after layout h) block) (sym (take-all history)) (full block of_class),
+      subst (λ (h : List Event). DeadIsTaken layout h block) (sym (take-all history)) (taken block of_class),
     )

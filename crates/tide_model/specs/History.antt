@@ -3,7 +3,7 @@ use Rattle.std.specs.Prelude.{ℕ, zero, suc, ◌==◌, Bool, true, false, ◌&&
 use Rattle.tide_model.specs.declared.val.Val.{Val}
 use Rattle.tide_model.specs.declared.val.Val.TheVariants.{Empty, Int, Cell}
 use Rattle.tide_model.specs.declared.entry.Entry.{Entry}
-use Rattle.tide_model.specs.declared.entry.Entry.TheVariants.{Call, Begin, Pause, Visits, End, Sweep, Open}
+use Rattle.tide_model.specs.declared.entry.Entry.TheVariants.{Call, Begin, Pause, Visits, End, Taken, Sweep, Open}
 use Rattle.tide_model.specs.declared.entry.Event.{Event}
 use Rattle.tide_model.specs.Layout.{Layout, block_of_cell, block_of_array}
 use Rattle.tide_model.specs.Numbers.{is_among}
@@ -75,10 +75,11 @@ swept_all state = record state {
 -- the state that an entry leaves
 abbrev pub after_entry : Layout → State → Entry → Option ℕ → State
 after_entry layout state (Call who op reply) took = after_call state who op reply took
-after_entry layout state (Begin cycle) took = record state { phase = marking cycle }
+after_entry layout state (Begin cycle full) took = record state { phase = marking cycle }
 after_entry layout state (Pause visits) took = state
 after_entry layout state (Visits who visits) took = state
 after_entry layout state (End cycle freed) took = after_end state freed
+after_entry layout state (Taken block) took = state
 after_entry layout state (Sweep block) took = after_sweep layout state block
 after_entry layout state (Open number run) took = state
 
@@ -112,7 +113,7 @@ moment_after_last test (event ∷ events) = one_later (moment_after_last test ev
 
 -- the entry begins a cycle
 abbrev pub is_begin : Entry → Bool
-is_begin (Begin cycle) = true
+is_begin (Begin cycle full) = true
 is_begin _ = false
 
 -- the entry opens a running part

@@ -6,15 +6,15 @@ use Rattle.tide_model.specs.declared.op.Reply.{Reply}
 use Rattle.tide_model.specs.declared.op.Reply.TheVariants.{Refused}
 use Rattle.tide_model.specs.declared.op.Refusal.TheVariants.{Full}
 use Rattle.tide_model.specs.declared.entry.Entry.{Entry}
-use Rattle.tide_model.specs.declared.entry.Entry.TheVariants.{Call, Begin, Pause, Visits, End, Sweep, Open}
+use Rattle.tide_model.specs.declared.entry.Entry.TheVariants.{Call, Begin, Pause, Visits, End, Taken, Sweep, Open}
 use Rattle.tide_model.specs.declared.entry.Event.{Event}
 use Rattle.tide_model.specs.Each.{Each}
 use Rattle.tide_model.specs.Layout.{Layout}
 use Rattle.tide_model.specs.History.{state_after}
 use Rattle.tide_model.specs.Refused.{ShapeLists, table_class}
 use Rattle.tide_model.specs.Answer.{IsAnswer}
-use Rattle.tide_model.specs.Cycle.{StandsBegin, StandsEnd, HasDead}
-use Rattle.tide_model.specs.Room.{StandsFull}
+use Rattle.tide_model.specs.Cycle.{StandsBegin, StandsEnd, StandsTaken, HasDead}
+use Rattle.tide_model.specs.Room.{StandsRefused}
 
 -- the operands of an operation are those of the layout: registers of its mutator, handles, and a class of cells with
 -- slots; a number that is set, or that names a group, has 32 bits
@@ -50,15 +50,16 @@ pub record StandsCall (layout : Layout) (shapes : ShapeLists) (before : List Eve
   pub is_active : (state_after layout before).active who ≡ true
   pub fits : FitsLayout layout op
   pub answers : IsAnswer layout shapes (state_after layout before) who op reply took
-  pub room : (class : ℕ) → reply ≡ Refused (Full class) → StandsFull layout before who class
+  pub room : (class : ℕ) → reply ≡ Refused (Full class) → StandsRefused layout before who class
 
 -- when an entry may stand right after a history; only a call takes an array
 abbrev pub StandsEntry : Layout → ShapeLists → List Event → Entry → Option ℕ → Type 0
 StandsEntry layout shapes before (Call who op reply) took = StandsCall layout shapes before who op reply took
-StandsEntry layout shapes before (Begin cycle) took = (took ≡ None) × StandsBegin layout before cycle
+StandsEntry layout shapes before (Begin cycle full) took = (took ≡ None) × StandsBegin layout before cycle
 StandsEntry layout shapes before (Pause visits) took = took ≡ None
 StandsEntry layout shapes before (Visits who visits) took = took ≡ None
 StandsEntry layout shapes before (End cycle freed) took = (took ≡ None) × StandsEnd layout before cycle freed
+StandsEntry layout shapes before (Taken block) took = (took ≡ None) × StandsTaken layout before block
 StandsEntry layout shapes before (Sweep block) took = (took ≡ None) × HasDead layout (state_after layout before) block
 StandsEntry layout shapes before (Open number run) took = took ≡ None
 

@@ -12,6 +12,7 @@ use Rattle.tide_model.specs.Layout.{Layout}
 use Rattle.tide_model.specs.History.{state_after}
 use Rattle.tide_model.specs.Lawful.{IsLawful}
 use Rattle.tide_model.specs.Numbers.{is_among}
+use Rattle.tide_model.specs.Old.{IsOld}
 use Rattle.tide_model.specs.Pace.{Pace}
 use Rattle.tide_model.specs.Periods.{IsLegal}
 use Rattle.tide_model.specs.Prefix.{IsPrefix}
@@ -29,6 +30,12 @@ abbrev pub NoCellIsClaimedTwice : Type 0
 NoCellIsClaimedTwice =
     (layout : Layout) (shapes : ShapeLists) (history : List Event) → IsLawful layout shapes history →
     ClaimsAreOwn layout (state_after layout history)
+
+-- in every lawful history each old cell is live
+abbrev pub OldCellsAreLive : Type 0
+OldCellsAreLive =
+    (layout : Layout) (shapes : ShapeLists) (history : List Event) → IsLawful layout shapes history →
+    (cell : ℕ) → IsOld layout history cell → IsLive (state_after layout history) cell
 
 -- a beginning of a lawful history is lawful
 abbrev pub BeginningsAreLawful : Type 0

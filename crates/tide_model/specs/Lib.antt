@@ -11,6 +11,7 @@ pub mod Lawful
 pub mod Laws
 pub mod Layout
 pub mod Numbers
+pub mod Old
 pub mod OperationRows
 pub mod Pace
 pub mod Periods

@@ -3,18 +3,19 @@ use Rattle.std.specs.Prelude.{ℕ, ◌≡◌, ◌+◌, ◌<◌, ◌≤◌, Bool,
 use Rattle.std.specs.List.{AllPass}
 use Rattle.tide_model.specs.declared.entry.Entry.TheVariants.{End, Open}
 use Rattle.tide_model.specs.declared.entry.Event.{Event}
-use Rattle.tide_model.specs.Cycle.{HasDead, live_count}
+use Rattle.tide_model.specs.Cycle.{IsSwept, live_count}
 use Rattle.tide_model.specs.Each.{Each}
 use Rattle.tide_model.specs.Freeze.{IsFreeze, marks_after, marks_of}
 use Rattle.tide_model.specs.History.{plain, is_begin, is_open, state_after}
 use Rattle.tide_model.specs.Lawful.{IsLawful}
 use Rattle.tide_model.specs.Layout.{Layout}
 use Rattle.tide_model.specs.Numbers.{any_below}
+use Rattle.tide_model.specs.Old.{spared_count}
 use Rattle.tide_model.specs.Pace.{Pace, running_share}
 use Rattle.tide_model.specs.Refused.{ShapeLists}
 use Rattle.tide_model.specs.Script.{calls_of, retry_of}
 use Rattle.tide_model.specs.Share.{IsShare, has_ended}
-use Rattle.tide_model.specs.Since.{born_since, visits_since, is_call}
+use Rattle.tide_model.specs.Since.{TakenAreSwept, born_since, visits_since, is_call, is_of_part}
 
 -- no mutator is active any more
 abbrev pub is_over : Layout → List Event → Bool
@@ -34,10 +35,6 @@ next_run pace layout history = if marks_after layout history then running_share 
 abbrev pub open_count : List Event → ℕ
 open_count history = count_by (λ event. is_open event.entry) history
 
--- nothing is dead
-abbrev pub IsSwept : Layout → List Event → Type 0
-IsSwept layout history = (block : ℕ) → HasDead layout (state_after layout history) block → ⊥
-
 -- a running part, and the freeze after it
 pub record Period : Type 0 where
   pub part : List Event
@@ -47,7 +44,7 @@ pub record Period : Type 0 where
 abbrev pub opened : Pace → Layout → List Event → List Event
 opened pace layout before = before ++ plain (Open (open_count before + 1) (next_run pace layout before)) ∷ []
 
--- a history with a part opened, and its calls
+-- a history with a part opened, and its entries
 abbrev pub after_part : Pace → Layout → List Event → Period → List Event
 after_part pace layout before period = opened pace layout before ++ period.part
 
@@ -55,16 +52,21 @@ after_part pace layout before period = opened pace layout before ++ period.part
 abbrev pub after_period : Pace → Layout → List Event → Period → List Event
 after_period pace layout before period = after_part pace layout before period ++ period.freeze
 
--- a period may stand right after a history
+-- A period may stand right after a history. Its part has calls, and where no cycle marks also blocks that are taken and
+-- swept: each that is taken is swept there. After a must freeze nothing is dead. (Nor is anything when a cycle begins:
+-- `StandsBegin` says that.)
 pub record StandsPeriod (pace : Pace) (layout : Layout) (before : List Event) (period : Period) : Type 0 where
   pub goes_on : is_over layout before ≡ false
-  pub calls : AllPass (λ event. is_call event.entry) period.part
+  pub entries : AllPass (λ event. is_of_part event.entry) period.part
+  pub calls : marks_after layout (opened pace layout before) ≡ true → AllPass (λ event. is_call event.entry) period.part
+  pub taken : TakenAreSwept period.part
   pub shares : (who : ℕ) → who < layout.mutators →
       IsShare (next_run pace layout before) (retry_of who before)
       ((state_after layout (after_part pace layout before period)).active who) (calls_of who period.part)
   pub freeze : IsFreeze pace layout (after_part pace layout before period) (next_run pace layout before)
       (is_must layout (opened pace layout before) period.part) (marks_of period.freeze)
-  pub swept : IsSwept layout (after_period pace layout before period)
+  pub swept : is_must layout (opened pace layout before) period.part ≡ true →
+      IsSwept layout (after_period pace layout before period)
 
 -- the history is periods, one after another
 pub data ArePeriods (pace : Pace) (layout : Layout) : List Event → Type 0 where
@@ -72,12 +74,12 @@ pub data ArePeriods (pace : Pace) (layout : Layout) : List Event → Type 0 wher
   one_more : (before : List Event) (period : Period) → ArePeriods pace layout before → StandsPeriod pace layout before period →
       ArePeriods pace layout (after_period pace layout before period)
 
--- Where the event ends a cycle, the cells that it keeps are no more than those that its pauses and visitors said to have made
--- black and those born in it; and what an earlier end left dead was swept.
+-- Where the event ends a cycle, the cells that it keeps are no more than those that its pauses and visitors said to
+-- have made black, those born in it, and those that it spares.
 pub record EndsInTime (layout : Layout) (before : List Event) (event : Event) : Type 0 where
   pub kept : (cycle : ℕ) (freed : List ℕ) → event.entry ≡ End cycle freed →
-      live_count layout (state_after layout (before ++ event ∷ [])) ≤ visits_since is_begin before + born_since is_begin before
-  pub swept : (cycle : ℕ) (freed : List ℕ) → event.entry ≡ End cycle freed → IsSwept layout before
+      live_count layout (state_after layout (before ++ event ∷ []))
+      ≤ visits_since is_begin before + born_since is_begin before + spared_count layout before
 
 -- the history is periods until no mutator is active, and its cycles end in time
 pub record IsScheduled (pace : Pace) (layout : Layout) (history : List Event) : Type 0 where

@@ -7,10 +7,11 @@ use Rattle.tide_model.specs.declared.op.Op.TheVariants.{Alloc, Set, Group}
 use Rattle.tide_model.specs.declared.op.Reply.TheVariants.{Done}
 use Rattle.tide_model.specs.declared.entry.Entry.TheVariants.{Call}
 use Rattle.tide_model.specs.declared.entry.Event.{Event}
-use Rattle.tide_model.specs.Graph.{IsRoot, in_register, claimed, in_handle, IsClosed, retained_in_closed, no_cell}
+use Rattle.tide_model.specs.Graph.{IsRoot, in_register, claimed, in_handle, IsClosed, retained_in_closed}
 use Rattle.tide_model.specs.History.{plain, state_at}
 use Rattle.tide_model.specs.Cycle.{StandsEnd, cycle_span}
 use Rattle.tide_model.specs.Lawful.{FitsLayout, IsLawful}
+use Rattle.tide_model.specs.Old.{IsSpared}
 use Rattle.tide_model.specs.Refused.{no_shapes}
 use Rattle.tide_model.specs.Rows.{small, kept_then_freed}
 
@@ -44,7 +45,7 @@ no_root moment cell (inr at) root = let P : ℕ → Type 0 = λ m. IsRoot (state
 -- an end that keeps the cell of a retired mutator's register is refused
 pub garbage_is_not_kept : StandsEnd small before_second_end 2 [] → ⊥
 garbage_is_not_kept stands =
-    retained_in_closed (cycle_span small before_second_end) no_cell (λ cell. ⊥) closed 0 (stands.keeps 0 refl (λ is. absurd (cc)))
+    retained_in_closed (cycle_span small before_second_end) (IsSpared small before_second_end) (λ cell. ⊥) closed 0 (stands.keeps 0 refl (λ is. absurd (cc)))
   where
     seven_or_eight : (moment : ℕ) → 7 ≤ moment → moment ≤ 8 → (moment ≡ 7) ⊎ (moment ≡ 8)
     seven_or_eight moment low high = step (moment == 7) moment low high refl
@@ -52,10 +53,10 @@ garbage_is_not_kept stands =
         step : (b : Bool) (m : ℕ) → 7 ≤ m → m ≤ 8 → (m == 7) ≡ b → (m ≡ 7) ⊎ (m ≡ 8)
         step b m l h e = grind (arith)
 
-    closed : IsClosed (cycle_span small before_second_end) no_cell (λ cell. ⊥)
+    closed : IsClosed (cycle_span small before_second_end) (IsSpared small before_second_end) (λ cell. ⊥)
     closed = record {
       roots = λ cell root. no_root root.0 cell (seven_or_eight root.0 root.1 root.2) root.3;
-      further_cells = λ cell none. none;
+      further_cells = λ cell spared. (let eden : false ≡ true = spared in cc);
       links = λ source cell kept link. kept;
       pairs = λ table key cell kept_table kept_key triple. kept_table;
       twins = λ one other kept twin. kept;

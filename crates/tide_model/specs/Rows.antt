@@ -1,5 +1,5 @@
 -- Small histories worked out by hand, by which the definitions are checked.
-use Rattle.std.specs.Prelude.{◌≡◌, refl, List, [], ◌∷◌, take, None, Some}
+use Rattle.std.specs.Prelude.{◌≡◌, refl, true, List, [], ◌∷◌, take, None, Some}
 use Rattle.tide_model.specs.declared.val.Val.TheVariants.{Empty, Cell}
 use Rattle.tide_model.specs.declared.op.Op.TheVariants.{Alloc, Get, Put, Drop, Collect, Retire}
 use Rattle.tide_model.specs.declared.op.Reply.TheVariants.{Done, Born, Seen, Asked, Refused}
@@ -36,9 +36,9 @@ places_of_small = (refl, refl, refl, refl, refl, refl)
 abbrev pub kept_then_freed : List Event
 kept_then_freed =
     plain (Call 0 (Alloc 0 0) (Born 0)) ∷ plain (Call 0 Collect Asked)
-    ∷ plain (Begin 1) ∷ plain (Pause 1) ∷ plain (End 1 [])
+    ∷ plain (Begin 1 true) ∷ plain (Pause 1) ∷ plain (End 1 [])
     ∷ plain (Call 0 Retire Done)
-    ∷ plain (Begin 2) ∷ plain (Pause 0) ∷ plain (End 2 (0 ∷ [])) ∷ plain (Sweep 0) ∷ []
+    ∷ plain (Begin 2 true) ∷ plain (Pause 0) ∷ plain (End 2 (0 ∷ [])) ∷ plain (Sweep 0) ∷ []
 
 -- what became of the cell, and when a cycle marked
 pub states_of_kept_then_freed :
@@ -70,7 +70,7 @@ held_cell_is_not_freed stands = stands.frees 0 refl (is_root 0 (in_register 0 0 
 -- a refusal for room is tried once more, and counts once in the script
 abbrev refused_twice : List Event
 refused_twice =
-    plain (Call 0 (Alloc 0 1) (Refused (Full 1))) ∷ plain (Begin 1) ∷ plain (Pause 0) ∷ plain (End 1 [])
+    plain (Call 0 (Alloc 0 1) (Refused (Full 1))) ∷ plain (Begin 1 true) ∷ plain (Pause 0) ∷ plain (End 1 [])
     ∷ plain (Call 0 (Alloc 0 1) (Refused (Full 1))) ∷ plain (Call 0 Retire Done) ∷ []
 
 pub script_of_refused_twice :
@@ -87,7 +87,7 @@ ring =
     plain (Call 0 (Alloc 0 0) (Born 0)) ∷ plain (Call 0 (Alloc 1 0) (Born 1))
     ∷ plain (Call 0 (Put 0 0 1) Done) ∷ plain (Call 0 (Put 1 0 0) Done)
     ∷ plain (Call 0 (Drop 0) Done) ∷ plain (Call 0 (Drop 1) Done) ∷ plain (Call 0 Collect Asked)
-    ∷ plain (Begin 1) ∷ plain (Pause 0) ∷ []
+    ∷ plain (Begin 1 true) ∷ plain (Pause 0) ∷ []
 
 pub slots_of_ring :
     (((state_after small ring).cells 0).slots 0 ≡ Cell 1) × (((state_after small ring).cells 1).slots 0 ≡ Cell 0) × (((state_after small ring).cells 1).slots 1 ≡ Empty)

@@ -36,14 +36,16 @@ impl Ids {
 pub enum Entry {
     /// Mutator `who` asked for `op` and was answered `reply`.
     Call { who: u32, op: Op, reply: Reply },
-    /// A cycle begins to mark.
-    Begin { cycle: u64 },
+    /// A cycle begins to mark: a full one, or an Eden cycle, which keeps each old cell.
+    Begin { cycle: u64, full: bool },
     /// A pause made so many cells black.
     Pause { visits: u32 },
     /// Visitor `who` made so many cells black in the part that ended.
     Visits { who: u32, visits: u32 },
     /// A cycle ends, and these cells are dead.
     End { cycle: u64, freed: Ids },
+    /// A block is taken to be swept in a running part: nobody else takes it before the next cycle has ended.
+    Taken { block: u32 },
     /// The dead cells or arrays of a block become free. Array blocks follow the cell blocks.
     Sweep { block: u32 },
     /// A running part begins, in which each mutator makes at most `run` calls.

@@ -6,6 +6,7 @@ ghost use Rattle.tide_model.specs.Laws.{
   CyclesAreExact,
   NoCellIsClaimedTwice,
   NoReferenceDangles,
+  OldCellsAreLive,
   RefusalsChangeNothing,
 };
 
@@ -18,6 +19,11 @@ pub fn no_reference_dangles()
 /// A cell is claimed once, by one mutator.
 pub fn no_cell_is_claimed_twice()
     ensures claims { NoCellIsClaimedTwice }
+{}
+
+/// A cell that was live right after the last end of a cycle is live still: an Eden cycle finds all of its old cells.
+pub fn old_cells_are_live()
+    ensures live { OldCellsAreLive }
 {}
 
 /// Each beginning of a lawful history is lawful.

@@ -68,6 +68,7 @@ module _ (layout : Layout) (shapes : ShapeLists) (op : Op) (does : Plan) (reply 
     owed = done.owed;
     duty = done.duty;
     growth = ap (λ (k : Kept). k.growth) done.made.kept ∙ calling.between.growth;
+    sweeping = ap (λ (k : Kept). k.sweeping) done.made.kept ∙ calling.between.sweeping;
     calls = done.calls;
   }
 
@@ -118,7 +119,6 @@ module _ (layout : Layout) (shapes : ShapeLists) (op : Op) (does : Plan) (reply 
   rests_after rests = record {
     held = ap (λ (k : Kept). k.held) done.made.kept ∙ rests.held;
     scan = ap (λ (k : Kept). k.scan) done.made.kept ∙ rests.scan;
-    sweeping = ap (λ (k : Kept). k.sweeping) done.made.kept ∙ rests.sweeping;
     between = rests_between;
   }
 

@@ -11,7 +11,7 @@ use Rattle.tide_machine.specs.Kind.{LoadOwnArray, LoadOwnStructure, LoadPair}
 use Rattle.tide_machine.specs.May.{RunsAsMutator}
 use Rattle.tide_machine.specs.Moment.{Moment}
 use Rattle.tide_machine.specs.Owed.{IsOwnWord, Knows, own_array, own_pair, own_structure, owed_word}
-use Rattle.tide_machine.specs.RunningWave.{RunningWave}
+use Rattle.tide_heap.specs.Clean.{RunsClean}
 use Rattle.tide_machine.specs.World.{World}
 use Rattle.tide_machine.specs.declared.view.Owed.{Owed}
 use Rattle.tide_machine.specs.declared.view.View.{View}
@@ -145,28 +145,28 @@ module _ (layout : Layout) (shapes : ShapeLists) (v : View) (given : Layout) (wh
   runner : (w : World) → w.part v.who ≡ v → RunsAsMutator layout w v.who
   runner w is = record { is_mutator = below; runs = ap (λ (x : View). x.runs) is ∙ o.runs }
 
-  may_load_own : (at : Region) (w : World) → RunningWave layout shapes w → w.part v.who ≡ v →
+  may_load_own : (at : Region) (w : World) → RunsClean layout shapes w → w.part v.who ≡ v →
       MayLoadOwn layout w v.who cell
-  may_load_own at w wave is = record {
+  may_load_own at w running is = record {
     runner = runner w is;
-    claimed = claimed_then w.log at cell (w.heap at cell) (moment_in layout shapes w v at cell wave is);
+    claimed = claimed_then w.log at cell (w.heap at cell) (moment_in layout shapes w v at cell running is);
     grows_not = ap (λ (x : View). x.growth) is ∙ o.grows_not;
     owes_not = ap (λ (x : View). x.owed) is ∙ o.calm;
   }
 
   pub may_load_structure : MayStep layout shapes v (LoadOwnStructure cell)
-  may_load_structure w wave is = may_load_own region.Structure w wave is
+  may_load_structure w running is = may_load_own region.Structure w running is
 
   pub may_load_array : MayStep layout shapes v (LoadOwnArray cell)
-  may_load_array w wave is = may_load_own region.Array w wave is
+  may_load_array w running is = may_load_own region.Array w running is
 
   pub may_load_pair : (place : ℕ) → is_table given cell ≡ true → HasSlot given cell place →
       MayStep layout shapes v (LoadPair cell place None)
-  may_load_pair place one has w wave is = (
+  may_load_pair place one has w running is = (
     runner w is,
     record {
       claimed = claimed_then w.log region.Slots (index_of_slot layout cell place) _
-          (moment_in layout shapes w v region.Slots (index_of_slot layout cell place) wave is);
+          (moment_in layout shapes w v region.Slots (index_of_slot layout cell place) running is);
       is_one = subst (λ (l : Layout). is_table l cell ≡ true) o.same_layout one;
       has = subst (λ (l : Layout). HasSlot l cell place) o.same_layout has;
     },

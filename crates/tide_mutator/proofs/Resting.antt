@@ -35,11 +35,11 @@ began v t = by_test (heard.begun == heard.ticket)
       rests = λ r. record {
         held = r.held;
         scan = r.scan;
-        sweeping = r.sweeping;
         between = record {
           owed = r.between.owed;
           duty = r.between.duty;
           growth = r.between.growth;
+          sweeping = r.between.sweeping;
           calls = r.between.calls;
         };
       };
@@ -50,11 +50,11 @@ began v t = by_test (heard.begun == heard.ticket)
       rests = λ r. record {
         held = r.held;
         scan = r.scan;
-        sweeping = r.sweeping;
         between = record {
           owed = r.between.owed;
           duty = r.between.duty;
           growth = r.between.growth;
+          sweeping = r.between.sweeping;
           calls = r.between.calls;
         };
       };
@@ -70,11 +70,11 @@ rests_stopped v u is = subst (RestsAsBefore v) (sym is) record {
   rests = λ r. record {
     held = r.held;
     scan = r.scan;
-    sweeping = r.sweeping;
     between = record {
       owed = r.between.owed;
       duty = r.between.duty;
       growth = r.between.growth;
+      sweeping = r.between.sweeping;
       calls = r.between.calls;
     };
   };

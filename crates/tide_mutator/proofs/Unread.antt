@@ -20,6 +20,7 @@ module _ (v u : View) (same : unread u ≡ unread v) where
     owed = ap (λ (x : View). x.owed) same ∙ b.owed;
     duty = ap (λ (x : View). x.duty) same ∙ b.duty;
     growth = ap (λ (x : View). x.growth) same ∙ b.growth;
+    sweeping = ap (λ (x : View). x.sweeping) same ∙ b.sweeping;
     calls = ap (λ (x : View). x.calls) same ∙ b.calls ∙ ap (λ (x : View). length x.mine) (sym same);
   }
 
@@ -27,7 +28,6 @@ module _ (v u : View) (same : unread u ≡ unread v) where
   rests_unread r = record {
     held = ap (λ (x : View). x.held) same ∙ r.held;
     scan = ap (λ (x : View). x.scan) same ∙ r.scan;
-    sweeping = ap (λ (x : View). x.sweeping) same ∙ r.sweeping;
     between = between_unread r.between;
   }
 

@@ -3,7 +3,7 @@ use Rattle.std.proofs.Common.{ℕ, suc, ◌≡◌, ◌≤◌, ◌∙◌, refl, a
 use Rattle.std.proofs.lemmas.Bool.{eqb-true}
 use Rattle.std.specs.Prelude.{◌==◌, Option, slice_get, Some, if◌then◌else◌}
 use Rattle.tide_model.specs.declared.entry.Entry.{Entry}
-use Rattle.tide_model.specs.declared.entry.Entry.TheVariants.{Call, Begin, Pause, Visits, End, Sweep, Open}
+use Rattle.tide_model.specs.declared.entry.Entry.TheVariants.{Call, Begin, Pause, Visits, End, Taken, Sweep, Open}
 use Rattle.tide_model.specs.declared.entry.Event.{Event}
 use Rattle.tide_model.specs.declared.op.Op.{Op}
 use Rattle.tide_model.specs.declared.op.Reply.{Reply}
@@ -34,9 +34,10 @@ none_above layout shapes history lawful who past = calls_of-none who history (λ
         step : (same : Bool) → (w == who) ≡ same → own_calls who (Call w op reply) ≡ []
         step true e = (let is = eqb-true w who e in let below = stands.is_mutator in absurd (omega (arith, is, below, past)))
         step false e = own_calls-other who w op reply e
-    one before (Begin cycle) took stands = refl
+    one before (Begin cycle full) took stands = refl
     one before (Pause visits) took stands = refl
     one before (Visits w visits) took stands = refl
     one before (End cycle freed) took stands = refl
+    one before (Taken block) took stands = refl
     one before (Sweep block) took stands = refl
     one before (Open number run) took stands = refl

@@ -17,7 +17,7 @@ use Rattle.tide_model.specs.History.{state_after, is_call_of}
 use Rattle.tide_model.specs.Lawful.{IsLawful}
 use Rattle.tide_model.specs.Layout.{Layout}
 use Rattle.tide_model.specs.Refused.{ShapeLists}
-use Rattle.tide_model.specs.Room.{StandsFull}
+use Rattle.tide_model.specs.Room.{StandsRefused}
 use Rattle.tide_model.specs.Script.{is_retire}
 use Rattle.tide_model.specs.declared.entry.Event.{Event}
 use Rattle.tide_model.specs.declared.op.Op.{Op}
@@ -41,7 +41,7 @@ pub may_call : (layout : Layout) (shapes : ShapeLists) (w : World) (v : View) (o
     (took : Option ℕ) (at : Region) (index read : ℕ) → w.part v.who ≡ v → IsCalling layout v op →
     IsPlanned layout shapes v op does → (m : Moment layout shapes v w.log at index read) (new : Heap) →
     PlanWords layout m.settled v.who does reply took new →
-    ((class : ℕ) → reply ≡ Refused (Full class) → StandsFull layout w.log v.who class) →
+    ((class : ℕ) → reply ≡ Refused (Full class) → StandsRefused layout w.log v.who class) →
     MayCall layout shapes w v.who op reply took
 may_call layout shapes w v op does reply took at index read is calling planned m new words room = record {
   runner = runs_there layout w v op is calling;

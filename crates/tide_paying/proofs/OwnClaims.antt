@@ -23,10 +23,11 @@ module _ (one other : Layout) (p : ℕ) where
         ∙ sym (own_call p t op reply event.took))
     | inr apart ↦ other_call p who s op reply event.took apart ∙ same ∙ sym (other_call p who t op reply event.took apart)
   ]
-  same_event s t event (entry.Begin cycle) same = same
+  same_event s t event (entry.Begin cycle full) same = same
   same_event s t event (entry.Pause visits) same = same
   same_event s t event (entry.Visits who visits) same = same
   same_event s t event (entry.End cycle freed) same = same
+  same_event s t event (entry.Taken block) same = same
   same_event s t event (entry.Sweep block) same = same
   same_event s t event (entry.Open number run) same = same
 

@@ -33,7 +33,7 @@ owes_none index word = by_test (index == index) (eq-eqb index index refl)
 module _ (layout : Layout) (shapes : ShapeLists) (v : View) (dst : ℕ) (value : Val)
     (owing : OwesRegister layout v dst value) where
   pub may_pay : (word : ℕ) → word ≡ val_word value → MayStep layout shapes v (StoreRegister dst word None)
-  may_pay word same w wave is = (
+  may_pay word same w running is = (
     record { is_mutator = owing.is_mutator; runs = ap (λ (x : View). x.runs) is ∙ owing.runs },
     subst (λ (l : List Owed). Contains l (owed_word Registers (index_of_register layout v.who dst) word))
         (sym (ap (λ (x : View). x.owed) is ∙ owing.owed))
@@ -48,7 +48,7 @@ module _ (layout : Layout) (shapes : ShapeLists) (v : View) (dst : ℕ) (value :
     mutator_still = subst (λ (n : ℕ). n < layout.mutators) (sym (ap (λ (x : View). x.who) f.1.view)) owing.is_mutator
 
     pub may_count : (calls : ℕ) → calls ≡ length v.mine % 2 ^ 64 → MayStep layout shapes u (StoreCall calls None)
-    may_count calls counts w wave is = (
+    may_count calls counts w running is = (
       record { is_mutator = mutator_still; runs = ap (λ (x : View). x.runs) is ∙ runs_still },
       counts ∙ ap (λ (n : ℕ). n % 2 ^ 64)
           (sym (ap (λ (x : View). length x.mine) is ∙ ap (λ (x : View). length x.mine) f.1.view)),

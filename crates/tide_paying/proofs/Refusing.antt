@@ -74,8 +74,8 @@ module _ (layout : Layout) (shapes : ShapeLists) (v : View) (op : Op) (does : Pl
     (goes_on : does ≡ plan.Retire → ⊥) where
   -- a call that changes no word but the call word
   may_store : (word : ℕ) → word ≡ (length v.mine + 1) % 2 ^ 64 → MayStep layout shapes v (StoreCall word (Some op))
-  may_store word counts w wave is =
-      let m = moment_in layout shapes w v CallWord v.who wave is in
+  may_store word counts w running is =
+      let m = moment_in layout shapes w v CallWord v.who running is in
       let here = planned m.settled w.log
       (stands_then layout shapes v w.log CallWord v.who (w.heap CallWord v.who) calling.stays m) in (
         subst (λ (r : Reply). MayCall layout shapes w v.who op r None)

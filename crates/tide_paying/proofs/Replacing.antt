@@ -15,7 +15,7 @@ use Rattle.tide_machine.specs.Duties.{nuked_growth, stored_growth}
 use Rattle.tide_machine.specs.Kind.{Nuke, StoreArray, StoreElement, StoreStructure}
 use Rattle.tide_machine.specs.May.{RunsAsMutator}
 use Rattle.tide_machine.specs.Owed.{Owes, owed_elements, owed_word, without_word}
-use Rattle.tide_machine.specs.RunningWave.{RunningWave}
+use Rattle.tide_heap.specs.Clean.{RunsClean}
 use Rattle.tide_machine.specs.World.{World}
 use Rattle.tide_machine.specs.declared.view.Growth.{Growth as Stage}
 use Rattle.tide_machine.specs.declared.view.Growth.TheVariants as growing
@@ -102,24 +102,24 @@ module _ (layout : Layout) (shapes : ShapeLists) (v u : View) (growth : Growth) 
     abbrev debts : List Owed
     debts = structure_debt ∷ array_debt ∷ owed_elements layout o.properties taken (suc left)
 
-    known_keys : (w : World) → RunningWave layout shapes w → w.part u.who ≡ u →
+    known_keys : (w : World) → RunsClean layout shapes w → w.part u.who ≡ u →
         Contains ((state_after layout w.log).claims u.who) cell →
         left < length ((state_after layout w.log).cells cell).keys
-    known_keys w wave is claimed =
+    known_keys w running is claimed =
         let state = state_after layout w.log in
-        let alive : IsLive state cell = wave.refs.claimed u.who cell claimed in
-        let within = live_within layout shapes wave.words.settled state cell wave.words.reads alive in
-        let keys = ((wave.words.reads.parts.cells cell within).taken (ap is_free alive)).keys in
-        let owed = wave.words.owed u.who region.Structure cell growth.next
+        let alive : IsLive state cell = running.wave.refs.claimed u.who cell claimed in
+        let within = live_within layout shapes running.wave.words.settled state cell running.wave.words.reads alive in
+        let keys = ((running.wave.words.reads.parts.cells cell within).taken (ap is_free alive)).keys in
+        let owed = running.wave.words.owed u.who region.Structure cell growth.next
         (subst (λ (l : List Owed). Contains l structure_debt)
         (sym (ap (λ (x : View). x.owed) is ∙ o.holds.owed)) (0, omega arith, refl)) in
         let word = keys.is_word in
         let most = keys.few_keys in omega (arith, word, most, owed, next, few, below)
 
     pub may_pay : (word : ℕ) → word ≡ slice_index words left → MayStep layout shapes u (StoreElement taken left word None)
-    may_pay word is_word w wave is =
+    may_pay word is_word w running is =
         let knows = subst (λ (g : Stage). GrowthKnows w.heap (state_after layout w.log) u.who (w.part u.who) g)
-        (ap (λ (x : View). x.growth) is ∙ o.holds.stage) (wave.growths.knows u.who) in inl (record {
+        (ap (λ (x : View). x.growth) is ∙ o.holds.stage) (running.wave.growths.knows u.who) in inl (record {
           runner = runs_there filling debts o.holds w is;
           own = record {
             cell = cell;
@@ -134,7 +134,7 @@ module _ (layout : Layout) (shapes : ShapeLists) (v u : View) (growth : Growth) 
                 ap (λ (x : ℕ). owed_word region.Elements at x)
                     (sym (is_word ∙ o.words_are left (omega arith))),
               );
-          within = known_keys w wave is knows.0.claimed;
+          within = known_keys w running is knows.0.claimed;
         })
 
     -- and then it is owed no more
@@ -172,7 +172,7 @@ module _ (layout : Layout) (shapes : ShapeLists) (v u : View) (growth : Growth) 
         by_place (suc (suc k), inside, same) = absurd (omega (arith, inside))
 
     pub may_nuke : (word : ℕ) → word ≡ growth.old + 1 → MayStep layout shapes u (Nuke cell word)
-    may_nuke word is_word w wave is = record {
+    may_nuke word is_word w running is = record {
       runner = runs_there filling (structure_debt ∷ array_debt ∷ []) o.holds w is;
       array = taken;
       old = growth.old;
@@ -195,7 +195,7 @@ module _ (layout : Layout) (shapes : ShapeLists) (v u : View) (growth : Growth) 
     nuked_runs = g.runs
 
     pub may_store_array : MayStep layout shapes u (StoreArray cell taken)
-    may_store_array w wave is = record {
+    may_store_array w running is = record {
       runner = runs_there nuked (structure_debt ∷ array_debt ∷ []) g w is;
       old = growth.old;
       next = growth.next;
@@ -217,7 +217,7 @@ module _ (layout : Layout) (shapes : ShapeLists) (v u : View) (growth : Growth) 
     stored_runs = g.runs
 
     pub may_store_structure : MayStep layout shapes u (StoreStructure cell growth.next None)
-    may_store_structure w wave is = record {
+    may_store_structure w running is = record {
       runner = runs_there stored (structure_debt ∷ []) g w is;
       array = taken;
       old = growth.old;

@@ -33,7 +33,7 @@ module _ (layout : Layout) (shapes : ShapeLists) (v : View) (cell : ℕ) where
       subst (λ (g : Growth). GrowsOn g cell) (ap (λ (x : View). x.growth) is ∙ owing.growth) grows
 
   pub may_look : Owing layout v (duty.Barrier cell) → MayStep layout shapes v (LoadColour cell)
-  may_look owing w wave is = record {
+  may_look owing w running is = record {
     runner = runs_there (duty.Barrier cell) owing w is;
     owed = ap (λ (x : View). x.duty) is ∙ owing.duty;
     grown = grows_none (duty.Barrier cell) owing w is;
@@ -41,7 +41,7 @@ module _ (layout : Layout) (shapes : ShapeLists) (v : View) (cell : ℕ) where
 
   pub may_regrey : (word cycle : ℕ) → Owing layout v (duty.Regrey cell word) → cell < cell_count layout → cycle ≡ v.cycle →
       MayStep layout shapes v (Regrey cell cycle)
-  may_regrey word cycle owing within same w wave is = record {
+  may_regrey word cycle owing within same w running is = record {
     runner = runs_there (duty.Regrey cell word) owing w is;
     word = word;
     owed = ap (λ (x : View). x.duty) is ∙ owing.duty;
@@ -51,7 +51,7 @@ module _ (layout : Layout) (shapes : ShapeLists) (v : View) (cell : ℕ) where
   }
 
   pub may_push : Owing layout v (duty.Push cell) → MayStep layout shapes v (PushBit cell)
-  may_push owing w wave is = record {
+  may_push owing w running is = record {
     runner = runs_there (duty.Push cell) owing w is;
     owed = ap (λ (x : View). x.duty) is ∙ owing.duty;
   }
@@ -120,7 +120,7 @@ shaded_after v u w same owed shaded =
 -- a cell that was just taken gets the colour that it is born with
 pub may_colour : (layout : Layout) (shapes : ShapeLists) (v : View) (cell word : ℕ) → Owing layout v (duty.Born cell) →
     word ≡ colour_word v.cycle (if v.marks then Black else White) → MayStep layout shapes v (StoreBorn cell word)
-may_colour layout shapes v cell word owing same w wave is = record {
+may_colour layout shapes v cell word owing same w running is = record {
   runner = runs_there layout shapes v cell (duty.Born cell) owing w is;
   owed = ap (λ (x : View). x.duty) is ∙ owing.duty;
   is_word = same ∙ ap (λ (x : View). colour_word x.cycle (if x.marks then Black else White)) (sym is);

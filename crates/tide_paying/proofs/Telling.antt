@@ -32,7 +32,7 @@ module _ (layout : Layout) (shapes : ShapeLists) (op : Op) (does : Plan) (reply 
 
   -- its call word may tell it
   pub may_tell : (word : ℕ) → word ≡ (length v.mine + 1) % 2 ^ 64 → MayStep layout shapes u (StoreCall word None)
-  may_tell word counts w wave is = (
+  may_tell word counts w running is = (
     record {
       is_mutator = still_mutator;
       runs = ap (λ (x : View). x.runs) is ∙ still_runs;

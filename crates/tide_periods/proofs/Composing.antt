@@ -6,7 +6,7 @@ use Rattle.std.proofs.lemmas.Option.{slice_get_cases, slice_get_within}
 use Rattle.std.specs.Prelude.{Option, None, Some, filter, not, slice_get}
 use Rattle.tide_model.specs.declared.op.Op.{Op}
 use Rattle.tide_model.specs.declared.entry.Entry.{Entry}
-use Rattle.tide_model.specs.declared.entry.Entry.TheVariants.{Call, Begin, Pause, Visits, End, Sweep, Open}
+use Rattle.tide_model.specs.declared.entry.Entry.TheVariants.{Call, Begin, Pause, Visits, End, Taken, Sweep, Open}
 use Rattle.tide_model.specs.declared.entry.Event.{Event}
 use Rattle.tide_model.specs.Caller.{IsOwn}
 use Rattle.tide_model.specs.Cycle.{begin_count}
@@ -68,16 +68,17 @@ settled-calls setting before (event ∷ calls) settled lawful all =
         record {
           settled = IsSettled-event (recorded_at setting before) (recorded_at setting (before ++ called ∷ [])) called settled refl refl state begun opens refl
               (stands_last setting.layout setting.shapes before called whole)
-              (record { kept = λ cycle freed is. absurd (cc); swept = λ cycle freed is. absurd (cc) })
+              (record { kept = λ cycle freed is. absurd (cc) }) refl
               (subst (HasNoNewDead (state_after setting.layout before)) (sym state) (HasNoNewDead-call (state_after setting.layout before) who op reply took))
               (few_claims setting.layout setting.shapes (before ++ called ∷ []) whole);
           cycles = begun ∙ add-zero (begin_count before);
           parts = opens ∙ add-zero (open_count before);
         }
-    one (Begin cycle) took of whole = absurd (cc)
+    one (Begin cycle full) took of whole = absurd (cc)
     one (Pause visits) took of whole = absurd (cc)
     one (Visits who visits) took of whole = absurd (cc)
     one (End cycle freed) took of whole = absurd (cc)
+    one (Taken block) took of whole = absurd (cc)
     one (Sweep block) took of whole = absurd (cc)
     one (Open number run) took of whole = absurd (cc)
 

@@ -1,35 +1,40 @@
 -- A whole cycle stands after any call, ends in time, and leaves all swept.
-use Rattle.std.proofs.Common.{ℕ, zero, suc, ◌≡◌, ◌+◌, ◌≤◌, ◌<◌, refl, sym, ◌∙◌, ap, subst, arith, Bool, true, false, List, [], ◌∷◌, ◌++◌, append_assoc, append-nil, add-zero, length, drop}
+use Rattle.std.proofs.Common.{ℕ, zero, suc, ◌≡◌, ◌+◌, ◌≤◌, ◌<◌, refl, sym, ◌∙◌, ap, subst, arith, Bool, true, false, List, [], ◌∷◌, ◌++◌, append_assoc, append-nil, add-zero, length, drop, true≢false}
 use Rattle.std.proofs.lemmas.List.{map-append}
 use Rattle.std.specs.List.{list_all}
-use Rattle.std.specs.Prelude.{map, not, ◌||◌, ◌↔◌, if◌then◌else◌, count_by, sum_by}
+use Rattle.std.specs.Prelude.{map, not, ◌||◌, ◌↔◌, if◌then◌else◌, count_by, sum_by, ◌&&◌}
+use Rattle.std.proofs.lemmas.Bool.{and_from}
+use Rattle.std.proofs.lemmas.List.Folds.{list_all-append}
+use Rattle.tide_model.proofs.OldLaws.{full_after-push}
+use Rattle.tide_model.specs.Old.{IsSpared, is_full, is_old}
 use Rattle.tide_model.specs.declared.entry.Entry.TheVariants.{Begin, Pause, End, Sweep}
 use Rattle.tide_model.specs.declared.entry.Event.{Event}
 use Rattle.tide_model.specs.Layout.{Layout, cell_count}
 use Rattle.tide_model.specs.Lawful.{IsLawful, Stands}
 use Rattle.tide_model.specs.Numbers.{is_among, numbers_where}
-use Rattle.tide_model.specs.Periods.{EndsInTime, IsSwept, open_count}
+use Rattle.tide_model.specs.Periods.{EndsInTime, open_count}
 use Rattle.tide_model.specs.Refused.{ShapeLists}
 use Rattle.tide_model.specs.Each.{Each}
-use Rattle.tide_model.specs.Since.{born_since, is_birth, is_end, since, visits_in, visits_since}
+use Rattle.tide_model.specs.Since.{born_since, is_birth, is_end, is_taken, since, visits_in, visits_since}
 use Rattle.tide_model.specs.State.{State, CellState, Status, Phase, idle, free, live, spent, dead, is_live, is_dead, marking, blank_cell}
-use Rattle.tide_model.specs.Graph.{graph_of, IsRetained, is_further, no_cell, retained_more}
+use Rattle.tide_model.specs.Graph.{graph_of, IsRetained, is_further, no_cell, retained_more, IsClosed}
 use Rattle.tide_model.specs.History.{plain, state_from, state_after, after_event, after_end, swept_all, swept_cell, swept_status, is_this_array, is_array_of, unless_spent, is_begin, is_open}
-use Rattle.tide_model.specs.Cycle.{HasDead, dead_cell, dead_array, StandsEnd, begin_count, cycle_span, live_count}
+use Rattle.tide_model.specs.Cycle.{HasDead, dead_cell, dead_array, StandsEnd, begin_count, cycle_span, live_count, IsSwept, StaysLive}
 use Rattle.tide_model.proofs.NumberLaws.{below_and_passes, passing_is_among, count_where-same}
 use Rattle.tide_model.proofs.Histories.{IsLawful-push, push_cases, state_from-append, state_after-push, moment_after_last-push}
 use Rattle.tide_model.proofs.LawfulReferences.{RefsAreLive-lawful}
-use Rattle.tide_model.proofs.Retained.{IsClosed-kept}
+use Rattle.tide_model.proofs.Retained.{IsClosed-kept, IsWithin-refl}
 use Rattle.tide_model.proofs.Spans.{graph_in_cycle_span}
 use Rattle.tide_model.proofs.Cycles.{state_from-sweeps, phase_within}
 use Rattle.tide_model.proofs.ReferencesInCycles.{state_from-swept_in_layout}
 use Rattle.tide_layout.specs.Region.{block_count}
 use Rattle.tide_collect.specs.Collecting.{IsFreed, IsDeadWithin}
+use Rattle.tide_periods.proofs.RecordedLaws.{TookNone-push}
 use Rattle.tide_report.specs.Ends.{TellsEnds}
 use Rattle.tide_report.specs.Reports.{Reported, with_line}
 use Rattle.tide_report.proofs.EndLaws.{TellsEnds-end, TellsEnds-other, TellsEnds-part, TellsEnds-room}
 use Rattle.tide_periods.specs.Store.{Setting, blocks_in}
-use Rattle.tide_periods.specs.Recorded.{IsSettled, RanCycle, Recorded}
+use Rattle.tide_periods.specs.Recorded.{IsSettled, RanCycle, Recorded, TookNone}
 use Rattle.tide_model.proofs.SinceLaws.{count-push}
 
 -- what the end of a cycle leaves doesn't depend on the phase
@@ -44,7 +49,7 @@ after_end-phase state phase freed = λ i. record (after_end state freed) {
 
 -- a collection's facts: what was freed, which blocks were swept, and how many cells are kept
 pub record IsCollected (layout : Layout) (state : State) (freed : List ℕ) (is_swept : ℕ → Bool) (kept : ℕ) : Type 0 where
-  pub is_freed : IsFreed state freed
+  pub is_freed : IsFreed state no_cell freed
   pub within : IsDeadWithin layout (after_end state freed)
   pub swept : (block : ℕ) → block < block_count layout → (is_swept block ≡ true) ↔ HasDead layout (after_end state freed) block
   pub is_kept : kept ≡ live_count layout (swept_all (after_end state freed))
@@ -96,17 +101,27 @@ kept_after_end layout state freed is_swept kept collected =
     ∙ count_where-same (λ cell. is_live ((swept_all (after_end state freed)).cells cell).status) (λ cell. is_live ((after_end state freed).cells cell).status)
     (cell_count layout) (λ cell below. live_swept ((after_end state freed).cells cell))
 
--- the end of the cycle may stand
+-- the end of a full cycle may stand
 StandsEnd-freed : (layout : Layout) (shapes : ShapeLists) (state : State) (freed : List ℕ) (history : List Event) (cycle : ℕ) →
-    IsLawful layout shapes history → IsFreed state freed → state_after layout history ≡ record state { phase = marking cycle } → StandsEnd layout history cycle freed
-StandsEnd-freed layout shapes state freed history cycle lawful is_freed leaves = record {
+    IsLawful layout shapes history → is_full history ≡ true → IsFreed state no_cell freed →
+    state_after layout history ≡ record state { phase = marking cycle } → StandsEnd layout history cycle freed
+StandsEnd-freed layout shapes state freed history cycle lawful full is_freed leaves = record {
   marks = ap (λ (s : State). s.phase) leaves;
   rising = is_freed.rising;
   were_live = λ cell among. ap (λ (s : State). (s.cells cell).status) leaves ∙ is_freed.were_live cell among;
-  frees = frees;
+  frees = λ cell among kept. frees cell among
+      (retained_more (graph_of now) (graph_of now) (IsSpared layout history) no_cell (IsWithin-refl (graph_of now))
+      (λ c spared. absurd (none_spared c spared)) cell kept);
   keeps = λ cell alive unfreed.
-      retained_more (graph_of now) (cycle_span layout history) no_cell no_cell (graph_in_cycle_span layout history) is_further cell (keeps cell alive unfreed);
-  closed = IsClosed-kept now freed (RefsAreLive-lawful layout shapes history lawful) frees keeps;
+      retained_more (graph_of now) (cycle_span layout history) no_cell (IsSpared layout history) (graph_in_cycle_span layout history)
+      (λ c none. absurd none) cell (keeps cell alive unfreed);
+  closed = record {
+    roots = closed.roots;
+    further_cells = λ cell spared. absurd (none_spared cell spared);
+    links = closed.links;
+    pairs = closed.pairs;
+    twins = closed.twins;
+  };
 }
   where
     now : State
@@ -114,6 +129,9 @@ StandsEnd-freed layout shapes state freed history cycle lawful is_freed leaves =
 
     marks : State
     marks = record state { phase = marking cycle }
+
+    none_spared : (cell : ℕ) → IsSpared layout history cell → ⊥
+    none_spared cell spared = true≢false (sym spared ∙ ap (λ (b : Bool). not b && is_old layout history cell) full)
 
     frees : (cell : ℕ) → is_among freed cell ≡ true → IsRetained (graph_of now) no_cell cell → ⊥
     frees cell among kept = is_freed.frees cell among
@@ -125,6 +143,9 @@ StandsEnd-freed layout shapes state freed history cycle lawful is_freed leaves =
         let kept = is_freed.keeps cell (sym (ap (λ (s : State). (s.cells cell).status) leaves) ∙ alive) unfreed in
         subst (λ (s : State). IsRetained (graph_of s) no_cell cell) (sym leaves)
         (retained_more (graph_of state) (graph_of marks) no_cell no_cell (phase_within marks state.phase) is_further cell kept)
+
+    closed : IsClosed (graph_of now) no_cell (StaysLive now freed)
+    closed = IsClosed-kept now freed (RefsAreLive-lawful layout shapes history lawful) frees keeps
 
 -- a block with something dead is one of those that were swept
 dead_is_swept : (layout : Layout) (state : State) (freed : List ℕ) (is_swept : ℕ → Bool) (kept block : ℕ) → IsCollected layout state freed is_swept kept →
@@ -153,14 +174,14 @@ IsSoFar-push layout shapes history state next begins begins' opens opens' event 
 }
 
 -- what a freeze's pause said since the cycle began
-since_begin : (history : List Event) (cycle visits : ℕ) → since is_begin ((history ++ plain (Begin cycle) ∷ []) ++ plain (Pause visits) ∷ []) ≡ plain (Pause visits) ∷ []
+since_begin : (history : List Event) (cycle visits : ℕ) → since is_begin ((history ++ plain (Begin cycle true) ∷ []) ++ plain (Pause visits) ∷ []) ≡ plain (Pause visits) ∷ []
 since_begin history cycle visits =
-    ap (λ (m : ℕ). drop m ((history ++ plain (Begin cycle) ∷ []) ++ plain (Pause visits) ∷ []))
-    (moment_after_last-push (λ e. is_begin e.entry) (history ++ plain (Begin cycle) ∷ []) (plain (Pause visits))
-    ∙ moment_after_last-push (λ e. is_begin e.entry) history (plain (Begin cycle)))
+    ap (λ (m : ℕ). drop m ((history ++ plain (Begin cycle true) ∷ []) ++ plain (Pause visits) ∷ []))
+    (moment_after_last-push (λ e. is_begin e.entry) (history ++ plain (Begin cycle true) ∷ []) (plain (Pause visits))
+    ∙ moment_after_last-push (λ e. is_begin e.entry) history (plain (Begin cycle true)))
     ∙ past history
   where
-    past : (h : List Event) → drop (suc (length h)) ((h ++ plain (Begin cycle) ∷ []) ++ plain (Pause visits) ∷ []) ≡ plain (Pause visits) ∷ []
+    past : (h : List Event) → drop (suc (length h)) ((h ++ plain (Begin cycle true) ∷ []) ++ plain (Pause visits) ∷ []) ≡ plain (Pause visits) ∷ []
     past [] = refl
     past (e ∷ h) = past h
 
@@ -184,7 +205,7 @@ IsSoFar-sweeps layout shapes state is_swept history begins opens has so (suc cou
         let joined : map (λ b. plain (Sweep b)) (old ++ count ∷ []) ≡ map (λ b. plain (Sweep b)) old ++ plain (Sweep count) ∷ [] = map-append (λ b. plain (Sweep b)) old (count ∷ []) in
         let pushed = IsSoFar-push layout shapes (history ++ map (λ b. plain (Sweep b)) old) (state_from layout state (map (λ b. plain (Sweep b)) old))
         (state_from layout state (map (λ b. plain (Sweep b)) (old ++ count ∷ []))) begins begins opens opens (plain (Sweep count)) before (refl, stands)
-        (record { kept = λ cycle freed e. absurd (cc); swept = λ cycle freed e. absurd (cc) })
+        (record { kept = λ cycle freed e. absurd (cc) })
         (sym (state_from-append layout state (map (λ b. plain (Sweep b)) old) (plain (Sweep count) ∷ [])) ∙ ap (state_from layout state) (sym joined))
         (add-zero begins) (add-zero opens) in
         subst (λ (h : List Event). IsSoFar layout shapes h (state_from layout state (map (λ b. plain (Sweep b)) (old ++ count ∷ []))) begins opens)
@@ -214,27 +235,31 @@ swept_has_none layout state block (dead_array array within at is) = by (state.ar
 -- a history with a whole cycle behind it: its beginning, its pause, its end and its sweeps
 abbrev pub with_cycle : List Event → ℕ → List ℕ → ℕ → List ℕ → List Event
 with_cycle history cycle freed kept blocks =
-    (((history ++ plain (Begin cycle) ∷ []) ++ plain (Pause kept) ∷ []) ++ plain (End cycle freed) ∷ [])
+    (((history ++ plain (Begin cycle true) ∷ []) ++ plain (Pause kept) ∷ []) ++ plain (End cycle freed) ∷ [])
     ++ map (λ block. plain (Sweep block)) blocks
 
 sweeps_end_none : (blocks : List ℕ) → list_all (λ event. not (is_end event.entry)) (map (λ block. plain (Sweep block)) blocks) ≡ true
 sweeps_end_none [] = refl
 sweeps_end_none (block ∷ blocks) = sweeps_end_none blocks
 
+sweeps_take_none : (blocks : List ℕ) → TookNone (map (λ block. plain (Sweep block)) blocks)
+sweeps_take_none [] = refl
+sweeps_take_none (block ∷ blocks) = sweeps_take_none blocks
+
 -- a report with one line more tells the end of that cycle too
 TellsEnds-cycle : (layout : Layout) (history : List Event) (cycle : ℕ) (freed : List ℕ) (kept : ℕ) (blocks : List ℕ) (report report_now : Reported) →
     report_now.cycles ≡ (with_line report cycle kept freed).cycles → report_now.ids ≡ report.ids ++ freed → TellsEnds layout history report →
-    kept ≡ live_count layout (state_after layout (((history ++ plain (Begin cycle) ∷ []) ++ plain (Pause kept) ∷ []) ++ plain (End cycle freed) ∷ [])) →
+    kept ≡ live_count layout (state_after layout (((history ++ plain (Begin cycle true) ∷ []) ++ plain (Pause kept) ∷ []) ++ plain (End cycle freed) ∷ [])) →
     TellsEnds layout (with_cycle history cycle freed kept blocks) report_now
 TellsEnds-cycle layout history cycle freed kept blocks report report_now lines ids tells is =
-    let began = history ++ plain (Begin cycle) ∷ [] in
+    let began = history ++ plain (Begin cycle true) ∷ [] in
     let paused = began ++ plain (Pause kept) ∷ [] in
     let ended = paused ++ plain (End cycle freed) ∷ [] in
     TellsEnds-part layout ended (map (λ block. plain (Sweep block)) blocks) report_now (sweeps_end_none blocks)
     (TellsEnds-room layout ended (with_line report cycle kept freed) report_now lines ids
     (TellsEnds-end layout paused cycle kept freed report is
     (TellsEnds-other layout began (Pause kept) report refl
-    (TellsEnds-other layout history (Begin cycle) report refl tells))))
+    (TellsEnds-other layout history (Begin cycle true) report refl tells))))
 
 -- a whole cycle was run and recorded
 pub RanCycle-did : (old new : Recorded) (report report_now : Reported) (freed : List ℕ) (kept : ℕ) (is_swept : ℕ → Bool) → IsSettled old →
@@ -253,6 +278,7 @@ RanCycle-did old new report report_now freed kept is_swept recorded rests collec
       opens = ap open_count history ∙ last.opened ∙ sym parts;
       swept = subst (λ (s : Setting). IsSwept s.layout new.history) (sym same)
           (λ block has. swept_has_none layout (after_end old.state freed) block (subst (λ (s : State). HasDead layout s block) (leaves ∙ state) has));
+      untaken = subst TookNone (sym history) untaken;
       few = λ who. subst (λ (s : State). length (s.claims who) ≤ 8) (sym state) (recorded.few who);
       blocks = blocks ∙ recorded.blocks ∙ ap blocks_in (sym same);
     };
@@ -264,9 +290,9 @@ RanCycle-did old new report report_now freed kept is_swept recorded rests collec
     blocks = swept_blocks layout is_swept;
     history = history
         ∙ ap (λ (front : List Event). front ++ sweeps)
-        (append_assoc h1 (plain (Pause kept) ∷ []) (plain (End number freed) ∷ []) ∙ append_assoc old.history (plain (Begin number) ∷ []) (plain (Pause kept) ∷ plain (End number freed) ∷ []))
-        ∙ append_assoc old.history (plain (Begin number) ∷ plain (Pause kept) ∷ plain (End number freed) ∷ []) sweeps
-        ∙ ap (λ (n : ℕ). old.history ++ ((plain (Begin (n + 1)) ∷ plain (Pause kept) ∷ plain (End (n + 1) freed) ∷ []) ++ sweeps)) (sym recorded.begun);
+        (append_assoc h1 (plain (Pause kept) ∷ []) (plain (End number freed) ∷ []) ∙ append_assoc old.history (plain (Begin number true) ∷ []) (plain (Pause kept) ∷ plain (End number freed) ∷ []))
+        ∙ append_assoc old.history (plain (Begin number true) ∷ plain (Pause kept) ∷ plain (End number freed) ∷ []) sweeps
+        ∙ ap (λ (n : ℕ). old.history ++ ((plain (Begin (n + 1) true) ∷ plain (Pause kept) ∷ plain (End (n + 1) freed) ∷ []) ++ sweeps)) (sym recorded.begun);
     active = ap (λ (s : State). s.active) state;
     claims = ap (λ (s : State). s.claims) state;
     rests = ap (λ (s : State). s.phase) state;
@@ -290,27 +316,29 @@ RanCycle-did old new report report_now freed kept is_swept recorded rests collec
     marks = record old.state { phase = marking number }
 
     h1 : List Event
-    h1 = old.history ++ plain (Begin number) ∷ []
+    h1 = old.history ++ plain (Begin number true) ∷ []
 
     h2 : List Event
     h2 = h1 ++ plain (Pause kept) ∷ []
 
     began : IsSoFar layout shapes h1 marks number old.parts
-    began = IsSoFar-push layout shapes old.history old.state marks old.cycles number old.parts old.parts (plain (Begin number))
-        (record { lawful = recorded.lawful; ends = recorded.ends; leaves = recorded.leaves; begun = recorded.begun; opened = recorded.opens })
-        (refl, record { is_idle = ap (λ (s : State). s.phase) recorded.leaves ∙ rests; is_next = ap (λ (n : ℕ). n + 1) (sym recorded.begun) })
-        (record { kept = λ cycle f e. absurd (cc); swept = λ cycle f e. absurd (cc) }) refl refl (add-zero old.parts)
+    began = IsSoFar-push layout shapes old.history old.state marks old.cycles number old.parts old.parts (plain (Begin number true))
+        (record { lawful = recorded.lawful; ends = recorded.ends; leaves = recorded.leaves; begun = recorded.begun; opened = recorded.opens }) (
+          refl,
+          record {
+            is_idle = ap (λ (s : State). s.phase) recorded.leaves ∙ rests;
+            is_swept = recorded.swept;
+            is_next = ap (λ (n : ℕ). n + 1) (sym recorded.begun);
+          },
+        )
+        (record { kept = λ cycle f e. absurd (cc) }) refl refl (add-zero old.parts)
 
     paused : IsSoFar layout shapes h2 marks number old.parts
     paused = IsSoFar-push layout shapes h1 marks marks number number old.parts old.parts (plain (Pause kept)) began refl
-        (record { kept = λ cycle f e. absurd (cc); swept = λ cycle f e. absurd (cc) }) refl (add-zero number) (add-zero old.parts)
+        (record { kept = λ cycle f e. absurd (cc) }) refl (add-zero number) (add-zero old.parts)
 
-    clean : IsSwept layout h2
-    clean block has = recorded.swept block (as_before (subst (λ (s : State). HasDead layout s block) paused.leaves has))
-      where
-        as_before : HasDead layout marks block → HasDead layout (state_after layout old.history) block
-        as_before (dead_cell cell within at is) = subst (λ (s : State). HasDead layout s block) (sym recorded.leaves) (dead_cell cell within at is)
-        as_before (dead_array array within at is) = subst (λ (s : State). HasDead layout s block) (sym recorded.leaves) (dead_array array within at is)
+    is_full_cycle : is_full h2 ≡ true
+    is_full_cycle = full_after-push false h1 (plain (Pause kept)) ∙ full_after-push false old.history (plain (Begin number true))
 
     said : visits_since is_begin h2 + born_since is_begin h2 ≡ kept
     said = ap (λ (es : List Event). sum_by (λ event. visits_in event.entry) es + count_by (λ event. is_birth event.entry) es) (since_begin old.history number kept) ∙ omega arith
@@ -323,14 +351,11 @@ RanCycle-did old new report report_now freed kept is_swept recorded rests collec
         ∙ sym (kept_after_end layout old.state freed is_swept kept collected)
 
     in_time : EndsInTime layout h2 (plain (End number freed))
-    in_time = record {
-      kept = λ cycle f e. omega (arith, count, said);
-      swept = λ cycle f e. clean;
-    }
+    in_time = record { kept = λ cycle f e. omega (arith, count, said) }
 
     ended : IsSoFar layout shapes (h2 ++ plain (End number freed) ∷ []) (after_end old.state freed) number old.parts
     ended = IsSoFar-push layout shapes h2 marks (after_end old.state freed) number number old.parts old.parts (plain (End number freed)) paused
-        (refl, StandsEnd-freed layout shapes old.state freed h2 number paused.lawful collected.is_freed paused.leaves) in_time leaves_end (add-zero number) (add-zero old.parts)
+        (refl, StandsEnd-freed layout shapes old.state freed h2 number paused.lawful is_full_cycle collected.is_freed paused.leaves) in_time leaves_end (add-zero number) (add-zero old.parts)
 
     last : IsSoFar layout shapes ((h2 ++ plain (End number freed) ∷ []) ++ map (λ b. plain (Sweep b)) (swept_blocks layout is_swept))
         (state_from layout (after_end old.state freed) (map (λ b. plain (Sweep b)) (swept_blocks layout is_swept))) number old.parts
@@ -340,6 +365,15 @@ RanCycle-did old new report report_now freed kept is_swept recorded rests collec
     all_swept : state_from layout (after_end old.state freed) (map (λ b. plain (Sweep b)) (swept_blocks layout is_swept)) ≡ swept_all (after_end old.state freed)
     all_swept = state_from-swept_in_layout layout (after_end old.state freed) (swept_blocks layout is_swept) collected.within.cells collected.within.arrays
         (λ block has. dead_is_swept layout old.state freed is_swept kept block collected has)
+
+    untaken : TookNone (with_cycle old.history number freed kept (swept_blocks layout is_swept))
+    untaken =
+        let ended = h2 ++ plain (End number freed) ∷ [] in
+        list_all-append (λ (e : Event). not (is_taken e.entry)) ended sweeps
+        ∙ and_from (list_all (λ (e : Event). not (is_taken e.entry)) ended) (list_all (λ (e : Event). not (is_taken e.entry)) sweeps)
+        (TookNone-push h2 (plain (End number freed)) refl (TookNone-push h1 (plain (Pause kept)) refl
+        (TookNone-push old.history (plain (Begin number true)) refl recorded.untaken)))
+        (sweeps_take_none (swept_blocks layout is_swept))
 
     leaves : state_after layout new.history ≡ new.state
     leaves = ap (state_after layout) history ∙ last.leaves ∙ all_swept ∙ sym state

@@ -1,24 +1,25 @@
 -- A freeze in which no cycle goes on, and how a period joins its part and its freeze.
-use Rattle.std.proofs.Common.{ℕ, zero, suc, ◌≡◌, ◌+◌, ◌<◌, refl, sym, ◌∙◌, ap, subst, arith, Bool, true, false, List, [], ◌∷◌, ◌++◌, append-nil, inl, inr}
+use Rattle.std.proofs.Common.{ℕ, zero, suc, ◌≡◌, ◌+◌, ◌<◌, refl, sym, ◌∙◌, ap, subst, arith, Bool, true, false, List, [], ◌∷◌, ◌++◌, append-nil, inl, inr, get_or}
 use Rattle.std.proofs.lemmas.Bool.{and_parts, eqb-true, eqb-false}
 use Rattle.std.proofs.lemmas.List.Elements.{All-get_or}
 use Rattle.std.proofs.lemmas.List.Sums.{AllPass-from_list_all, list_all-from_AllPass}
 use Rattle.std.proofs.lemmas.Option.{slice_get_cases, slice_get_within}
 use Rattle.std.specs.Prelude.{None, Some, map, slice_get, not, ◌||◌, ◌&&◌, nat_lt, nat_le, ◌==◌, if◌then◌else◌}
 use Rattle.std.specs.List.{list_all}
+use Rattle.tide_model.proofs.DeadLaws.{TakenAreSwept-calls}
 use Rattle.tide_model.specs.declared.entry.Entry.{Entry}
-use Rattle.tide_model.specs.declared.entry.Entry.TheVariants.{Begin, Call, Pause, End, Sweep, Open, Visits}
+use Rattle.tide_model.specs.declared.entry.Entry.TheVariants.{Begin, Call, Pause, End, Sweep, Taken, Open, Visits}
 use Rattle.tide_model.specs.declared.entry.Event.{Event}
-use Rattle.tide_model.specs.Cycle.{begin_count}
+use Rattle.tide_model.specs.Cycle.{IsSwept, begin_count}
 use Rattle.tide_model.specs.Freeze.{IsFreeze, is_due, is_marking_phase, marks_after, marks_of}
 use Rattle.tide_model.specs.History.{is_begin, is_open, plain, state_after}
 use Rattle.tide_model.specs.Layout.{Layout}
 use Rattle.tide_model.specs.Pace.{Pace, running_share}
 use Rattle.tide_model.specs.Numbers.{any_below}
-use Rattle.tide_model.specs.Periods.{is_must, is_over, IsSwept, next_run, open_count, opened, after_part, Period}
+use Rattle.tide_model.specs.Periods.{is_must, is_over, next_run, open_count, opened, after_part, Period}
 use Rattle.tide_model.specs.Script.{calls_of, retry_after_all, retry_of}
 use Rattle.tide_model.specs.Share.{IsShare, has_ended}
-use Rattle.tide_model.specs.Since.{born_since, is_call, is_end}
+use Rattle.tide_model.specs.Since.{born_since, is_call, is_end, is_sweep, is_taken}
 use Rattle.tide_model.specs.State.{State, idle}
 use Rattle.tide_model.proofs.Histories.{calls_of-append}
 use Rattle.tide_model.proofs.PeriodLaws.{marks_of-append}
@@ -93,10 +94,10 @@ RanFreeze-cycle old new pace recorded rests some ran = record {
     number = begin_count old.history + 1
 
     marks : List Event
-    marks = plain (Begin number) ∷ plain (Pause ran.visits) ∷ plain (End number ran.freed) ∷ []
+    marks = plain (Begin number true) ∷ plain (Pause ran.visits) ∷ plain (End number ran.freed) ∷ []
 
     entries : List Entry
-    entries = Begin number ∷ Pause ran.visits ∷ End number ran.freed ∷ []
+    entries = Begin number true ∷ Pause ran.visits ∷ End number ran.freed ∷ []
 
     sweeps : List Event
     sweeps = map (λ block. plain (Sweep block)) ran.blocks
@@ -160,10 +161,11 @@ none_open (event ∷ part) all =
   where
     step : (entry : Entry) → is_call entry ≡ true → not (is_open entry) ≡ true
     step (Call who op reply) is = refl
-    step (Begin cycle) is = refl
+    step (Begin cycle full) is = refl
     step (Pause visits) is = refl
     step (Visits who visits) is = refl
     step (End cycle freed) is = refl
+    step (Taken block) is = refl
     step (Sweep block) is = refl
     step (Open number run) is = absurd (cc)
 
@@ -180,7 +182,10 @@ RanPeriod-by old begun ran new pace run next stopped must goes_on is_run opens p
   history = froze.history ∙ ap (λ (h : List Event). h ++ froze.freeze) ran_history;
   stands = record {
     goes_on = goes_on;
-    calls = part.calls;
+    entries = λ k event below.
+        ap (λ (b : Bool). b || (is_taken (get_or part.part k event).entry || is_sweep (get_or part.part k event).entry)) (part.calls k event below);
+    calls = λ marks. part.calls;
+    taken = TakenAreSwept-calls part.part (list_all-from_AllPass (λ event. is_call event.entry) part.part part.calls);
     shares = λ who below. subst (λ (r : ℕ). IsShare r (retry_of who old.history) ((state_after layout (after_part pace layout old.history period)).active who) (calls_of who part.part)) (sym runs)
         (IsShare-by run (retry_of who begun.history) (retry_of who old.history) ((state_after ran.setting.layout ran.history).active who)
         ((state_after layout (after_part pace layout old.history period)).active who) (calls_of who part.part) (calls_of who part.part)
@@ -190,7 +195,7 @@ RanPeriod-by old begun ran new pace run next stopped must goes_on is_run opens p
         (subst (λ (h : List Event). IsFreeze pace layout h (next_run pace layout old.history) must (marks_of froze.freeze)) ran_history
         (subst (λ (s : Setting). IsFreeze pace s.layout ran.history (next_run pace layout old.history) must (marks_of froze.freeze)) settings
         (subst (λ (n : ℕ). IsFreeze pace ran.setting.layout ran.history n must (marks_of froze.freeze)) last froze.is_freeze)));
-    swept = subst (IsSwept layout) (froze.history ∙ ap (λ (h : List Event). h ++ froze.freeze) ran_history)
+    swept = λ must. subst (IsSwept layout) (froze.history ∙ ap (λ (h : List Event). h ++ froze.freeze) ran_history)
         (subst (λ (s : Setting). IsSwept s.layout new.history) (froze.same ∙ settings) froze.settled.swept);
   };
   next = froze.next;

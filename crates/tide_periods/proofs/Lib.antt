@@ -3,6 +3,7 @@ pub mod CallerLaws
 pub mod Composing
 pub mod CycleLaws
 pub mod Freezing
+pub mod FullCollections
 pub mod LeftLaws
 pub mod Lists
 pub mod OwnShares

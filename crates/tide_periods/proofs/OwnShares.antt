@@ -6,7 +6,7 @@ use Rattle.std.specs.Prelude.{Option, None, Some, filter, is_some, not, ◌&&◌
 use Rattle.tide_model.specs.declared.op.Op.{Op}
 use Rattle.tide_model.specs.declared.op.Reply.{Reply}
 use Rattle.tide_model.specs.declared.entry.Entry.{Entry}
-use Rattle.tide_model.specs.declared.entry.Entry.TheVariants.{Call, Begin, Pause, Visits, End, Sweep, Open}
+use Rattle.tide_model.specs.declared.entry.Entry.TheVariants.{Call, Begin, Pause, Visits, End, Taken, Sweep, Open}
 use Rattle.tide_model.specs.declared.entry.Event.{Event}
 use Rattle.tide_model.specs.Answer.{IsAnswer}
 use Rattle.tide_model.specs.Caller.{IsOwn, MakesCall}
@@ -82,10 +82,11 @@ few_claims layout shapes history lawful =
       where
         step : (entry : Entry) (took : Option ℕ) → StandsEntry layout shapes before entry took → HasFewClaims (after_entry layout (state_after layout before) entry took)
         step (Call who op reply) took stands' = HasFewClaims-call layout shapes (state_after layout before) who op reply took few stands'.answers
-        step (Begin cycle) took stands' = few
+        step (Begin cycle full) took stands' = few
         step (Pause visits) took stands' = few
         step (Visits who visits) took stands' = few
         step (End cycle freed) took stands' = few
+        step (Taken block) took stands' = few
         step (Sweep block) took stands' = few
         step (Open number run) took stands' = few
 

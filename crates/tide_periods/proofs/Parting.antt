@@ -9,7 +9,7 @@ use Rattle.std.specs.Prelude.{Option, Some, map, slice_get, ◌==◌, ◌||◌}
 use Rattle.tide_model.specs.declared.op.Op.{Op}
 use Rattle.tide_model.specs.declared.op.Reply.{Reply}
 use Rattle.tide_model.specs.declared.entry.Entry.{Entry}
-use Rattle.tide_model.specs.declared.entry.Entry.TheVariants.{Call, Begin, Pause, Visits, End, Sweep, Open}
+use Rattle.tide_model.specs.declared.entry.Entry.TheVariants.{Call, Begin, Pause, Visits, End, Taken, Sweep, Open}
 use Rattle.tide_model.specs.declared.entry.Event.{Event}
 use Rattle.tide_model.specs.History.{is_call_of, state_after}
 use Rattle.tide_model.specs.Numbers.{any_below}
@@ -31,10 +31,11 @@ use Rattle.tide_periods.proofs.Sharing.{retry_of-events}
 -- what is called of one's own is a call
 is_call-own : (who : ℕ) (entry : Entry) → is_call_of who entry ≡ true → is_call entry ≡ true
 is_call-own who (Call w op reply) of = refl
-is_call-own who (Begin cycle) of = absurd (cc)
+is_call-own who (Begin cycle full) of = absurd (cc)
 is_call-own who (Pause visits) of = absurd (cc)
 is_call-own who (Visits w visits) of = absurd (cc)
 is_call-own who (End cycle freed) of = absurd (cc)
+is_call-own who (Taken block) of = absurd (cc)
 is_call-own who (Sweep block) of = absurd (cc)
 is_call-own who (Open number run) of = absurd (cc)
 

@@ -11,7 +11,7 @@ use Rattle.tide_model.specs.declared.op.Op.TheVariants.{Put, Claim, Release, Unc
 use Rattle.tide_model.specs.declared.op.Reply.{Reply}
 use Rattle.tide_model.specs.declared.op.Reply.TheVariants.{Done, Born, Seen, Asked, Refused}
 use Rattle.tide_model.specs.declared.entry.Entry.{Entry}
-use Rattle.tide_model.specs.declared.entry.Entry.TheVariants.{Call, Begin, Pause, Visits, End, Sweep, Open}
+use Rattle.tide_model.specs.declared.entry.Entry.TheVariants.{Call, Begin, Pause, Visits, End, Taken, Sweep, Open}
 use Rattle.tide_model.specs.declared.entry.Event.{Event}
 use Rattle.tide_model.specs.Applied.{after_call, at_cell, add_property, put_cell, put_claims, put_pair, put_property, put_slot}
 use Rattle.tide_model.specs.History.{after_entry, after_event, is_call_of, state_after, state_from}
@@ -96,10 +96,11 @@ active-others state who other op reply took apart = step (is_retire op) refl
 pub own_calls-other : (who : ℕ) (entry : Entry) → is_call_of who entry ≡ false → own_calls who entry ≡ []
 own_calls-other who (Call w op reply) other =
     ap (λ (b : Bool). if◌then◌else◌ {A = List (Op × Reply)} b ((op, reply) ∷ []) []) other
-own_calls-other who (Begin cycle) other = refl
+own_calls-other who (Begin cycle full) other = refl
 own_calls-other who (Pause visits) other = refl
 own_calls-other who (Visits w visits) other = refl
 own_calls-other who (End cycle freed) other = refl
+own_calls-other who (Taken block) other = refl
 own_calls-other who (Sweep block) other = refl
 own_calls-other who (Open number run) other = refl
 
@@ -109,10 +110,11 @@ is_other-no_calls who (Call w op reply) none = step (w == who) refl none
     step : (b : Bool) → (w == who) ≡ b → if◌then◌else◌ {A = List (Op × Reply)} b ((op, reply) ∷ []) [] ≡ [] → (w == who) ≡ false
     step true e clash = absurd (cc)
     step false e none' = e
-is_other-no_calls who (Begin cycle) none = refl
+is_other-no_calls who (Begin cycle full) none = refl
 is_other-no_calls who (Pause visits) none = refl
 is_other-no_calls who (Visits w visits) none = refl
 is_other-no_calls who (End cycle freed) none = refl
+is_other-no_calls who (Taken block) none = refl
 is_other-no_calls who (Sweep block) none = refl
 is_other-no_calls who (Open number run) none = refl
 
@@ -123,10 +125,11 @@ other-call who other (Call w op reply) apart of = step (w == who) refl
     step : (b : Bool) → (w == who) ≡ b → (w == who) ≡ false
     step true e = absurd (apart (sym (eqb-true w who e) ∙ eqb-true w other of))
     step false e = e
-other-call who other (Begin cycle) apart of = refl
+other-call who other (Begin cycle full) apart of = refl
 other-call who other (Pause visits) apart of = refl
 other-call who other (Visits w visits) apart of = refl
 other-call who other (End cycle freed) apart of = refl
+other-call who other (Taken block) apart of = refl
 other-call who other (Sweep block) apart of = refl
 other-call who other (Open number run) apart of = refl
 
@@ -150,19 +153,21 @@ from-quiet {X} part who keeps layout state (event ∷ events) quiet =
 
 claims-entry : (who : ℕ) (layout : Layout) (before : State) (entry : Entry) (took : Option ℕ) → is_call_of who entry ≡ false → (after_entry layout before entry took).claims who ≡ before.claims who
 claims-entry who layout before (Call w op reply) took other = claims-others before who w op reply took (λ same. eqb-false w who other (sym same))
-claims-entry who layout before (Begin cycle) took other = refl
+claims-entry who layout before (Begin cycle full) took other = refl
 claims-entry who layout before (Pause visits) took other = refl
 claims-entry who layout before (Visits w visits) took other = refl
 claims-entry who layout before (End cycle freed) took other = refl
+claims-entry who layout before (Taken block) took other = refl
 claims-entry who layout before (Sweep block) took other = refl
 claims-entry who layout before (Open number run) took other = refl
 
 active-entry : (who : ℕ) (layout : Layout) (before : State) (entry : Entry) (took : Option ℕ) → is_call_of who entry ≡ false → (after_entry layout before entry took).active who ≡ before.active who
 active-entry who layout before (Call w op reply) took other = active-others before who w op reply took (λ same. eqb-false w who other (sym same))
-active-entry who layout before (Begin cycle) took other = refl
+active-entry who layout before (Begin cycle full) took other = refl
 active-entry who layout before (Pause visits) took other = refl
 active-entry who layout before (Visits w visits) took other = refl
 active-entry who layout before (End cycle freed) took other = refl
+active-entry who layout before (Taken block) took other = refl
 active-entry who layout before (Sweep block) took other = refl
 active-entry who layout before (Open number run) took other = refl
 

@@ -1,6 +1,11 @@
 -- How what a recorder knows grows by one entry.
-use Rattle.std.proofs.Common.{ℕ, ◌≡◌, ◌+◌, refl, sym, ◌∙◌, ap, subst, List, [], ◌∷◌, ◌++◌, add-zero}
-use Rattle.std.specs.Prelude.{Option, if◌then◌else◌}
+use Rattle.std.proofs.Common.{ℕ, ◌≡◌, ◌+◌, refl, sym, ◌∙◌, ap, subst, List, [], ◌∷◌, ◌++◌, add-zero, zero, suc, Bool, true, false, drop}
+use Rattle.std.specs.Prelude.{Option, if◌then◌else◌, not, ◌&&◌}
+use Rattle.std.proofs.lemmas.Bool.{and_from, and_parts}
+use Rattle.std.proofs.lemmas.List.Folds.{list_all-append}
+use Rattle.std.specs.List.{list_all}
+use Rattle.tide_model.proofs.DeadLaws.{TakenAreSwept-none}
+use Rattle.tide_model.specs.Since.{is_taken, since}
 use Rattle.tide_model.specs.declared.op.Op.{Op}
 use Rattle.tide_model.specs.declared.op.Reply.{Reply}
 use Rattle.tide_model.specs.declared.op.Reply.TheVariants.{Refused}
@@ -9,12 +14,12 @@ use Rattle.tide_model.specs.declared.entry.Entry.TheVariants.{Open}
 use Rattle.tide_model.specs.declared.entry.Event.{Event}
 use Rattle.tide_model.specs.Answer.{IsAnswer}
 use Rattle.tide_model.specs.Applied.{after_call}
-use Rattle.tide_model.specs.Cycle.{HasDead, dead_cell, dead_array, begin_count}
-use Rattle.tide_model.specs.History.{after_event, is_begin, is_open, plain, state_after}
+use Rattle.tide_model.specs.Cycle.{HasDead, dead_cell, dead_array, begin_count, IsSwept}
+use Rattle.tide_model.specs.History.{after_event, is_begin, is_open, moment_after_last, plain, state_after}
 use Rattle.tide_model.specs.Lawful.{IsLawful, Stands}
 use Rattle.tide_model.specs.Layout.{Layout, IsBlockOf}
 use Rattle.tide_model.specs.Periods.{EndsInTime, open_count}
-use Rattle.tide_model.specs.Room.{IsFullBlock}
+use Rattle.tide_model.specs.Room.{IsFullBlock, StandsRefused}
 use Rattle.tide_model.specs.Each.{Each}
 use Rattle.tide_model.specs.State.{State}
 use Rattle.tide_model.proofs.Histories.{IsLawful-push, push_cases, state_after-push}
@@ -23,7 +28,7 @@ use Rattle.tide_periods.specs.Store.{Setting, blocks_in}
 use Rattle.tide_report.specs.Ends.{TellsEnds}
 use Rattle.tide_report.specs.Reports.{Reported}
 use Rattle.tide_report.proofs.EndLaws.{TellsEnds-other, TellsEnds-part}
-use Rattle.tide_periods.specs.Recorded.{IsSettled, MadeCall, MayAsk, OpenedPart, Recorded, StandsIdle}
+use Rattle.tide_periods.specs.Recorded.{IsSettled, MadeCall, MayAsk, OpenedPart, Recorded, StandsIdle, TookNone}
 use Rattle.tide_model.proofs.PhaseLaws.{phase_after-call}
 use Rattle.tide_model.proofs.Windows.{StandsFull-now}
 use Rattle.tide_model.proofs.CallKeeps.{HasFewClaims, HasFewClaims-call, HasNoNewDead, HasNoNewDead-call, same_dead}
@@ -45,12 +50,35 @@ IsSwept-grown : (layout : Layout) (one other : State) → HasNoNewDead one other
 IsSwept-grown layout one other none clean block (dead_cell cell within at is) = clean block (dead_cell cell within at (none.cells cell is))
 IsSwept-grown layout one other none clean block (dead_array array within at is) = clean block (dead_array array within at (none.arrays array is))
 
+-- an entry that takes no block
+pub TookNone-push : (history : List Event) (event : Event) → is_taken event.entry ≡ false → TookNone history → TookNone (history ++ event ∷ [])
+TookNone-push history event takes_none untaken =
+    list_all-append (λ (e : Event). not (is_taken e.entry)) history (event ∷ [])
+    ∙ and_from (list_all (λ (e : Event). not (is_taken e.entry)) history) (not (is_taken event.entry) && true) untaken
+    (ap (λ (b : Bool). not b && true) takes_none)
+
+-- what holds of all events holds of the last ones
+drop_all : (test : Event → Bool) (n : ℕ) (events : List Event) → list_all test events ≡ true → list_all test (drop n events) ≡ true
+drop_all test zero events all = all
+drop_all test (suc n) [] all = refl
+drop_all test (suc n) (event ∷ events) all = drop_all test n events (and_parts (test event) (list_all test events) all).1
+
+-- where nothing is dead and no block was taken, a refusal for room stands if each block of the class is full
+pub StandsRefused-settled : (layout : Layout) (history : List Event) (who class : ℕ) → IsSwept layout history → TookNone history →
+    ((block : ℕ) → IsBlockOf layout class block → IsFullBlock layout (state_after layout history) block) →
+    StandsRefused layout history who class
+StandsRefused-settled layout history who class swept untaken full = record {
+  full = StandsFull-now layout history who class full (λ block of has. absurd (swept block has));
+  alone = λ other_none. TakenAreSwept-none (since is_open history)
+      (drop_all (λ e. not (is_taken e.entry)) (moment_after_last (λ e. is_open e.entry) history) history untaken);
+}
+
 -- one entry more, after which nothing is dead
 pub IsSettled-event : (old new : Recorded) (event : Event) → IsSettled old → new.setting ≡ old.setting → new.history ≡ old.history ++ event ∷ [] →
     new.state ≡ after_event old.setting.layout old.state event → new.cycles ≡ old.cycles + (if is_begin event.entry then 1 else 0) → new.parts ≡ old.parts + (if is_open event.entry then 1 else 0) →
     new.blocks ≡ old.blocks → Stands old.setting.layout old.setting.shapes old.history event → EndsInTime old.setting.layout old.history event →
-    HasNoNewDead old.state new.state → HasFewClaims new.state → IsSettled new
-IsSettled-event old new event recorded same history state cycles parts blocks stands ends dead few = record {
+    is_taken event.entry ≡ false → HasNoNewDead old.state new.state → HasFewClaims new.state → IsSettled new
+IsSettled-event old new event recorded same history state cycles parts blocks stands ends takes_none dead few = record {
   lawful = subst (λ (s : Setting). IsLawful s.layout s.shapes new.history) (sym same)
       (subst (IsLawful layout old.setting.shapes) (sym history) (IsLawful-push layout old.setting.shapes old.history event recorded.lawful stands));
   ends = subst (λ (s : Setting). Each (EndsInTime s.layout) new.history) (sym same)
@@ -61,6 +89,7 @@ IsSettled-event old new event recorded same history state cycles parts blocks st
   swept = subst (λ (s : Setting). (block : ℕ) → HasDead s.layout (state_after s.layout new.history) block → ⊥) (sym same)
       (subst (λ (s : State). (block : ℕ) → HasDead layout s block → ⊥) (sym leaves_here)
       (IsSwept-grown layout old.state new.state dead (subst (λ (s : State). (block : ℕ) → HasDead layout s block → ⊥) recorded.leaves recorded.swept)));
+  untaken = subst TookNone (sym history) (TookNone-push old.history event takes_none recorded.untaken);
   few = few;
   blocks = blocks ∙ recorded.blocks ∙ ap blocks_in (sym same);
 }
@@ -86,10 +115,10 @@ MadeCall-did old new who op reply took recorded may answers state room same hist
     is_active = ap (λ (s : State). s.active who) recorded.leaves ∙ may.is_active;
     fits = may.fits;
     answers = subst (λ (s : State). IsAnswer old.setting.layout old.setting.shapes s who op reply took) (sym recorded.leaves) answers;
-    room = λ class is. StandsFull-now old.setting.layout old.history who class
+    room = λ class is. StandsRefused-settled old.setting.layout old.history who class recorded.swept recorded.untaken
         (λ block of_class. subst (λ (s : State). IsFullBlock old.setting.layout s block) (sym recorded.leaves) (room class is block of_class));
   })
-      (record { kept = λ cycle freed is. absurd (cc); swept = λ cycle freed is. absurd (cc) })
+      (record { kept = λ cycle freed is. absurd (cc) }) refl
       (subst (HasNoNewDead old.state) (sym state) (HasNoNewDead-call old.state who op reply took))
       (subst HasFewClaims (sym state) (HasFewClaims-call old.setting.layout old.setting.shapes old.state who op reply took recorded.few answers));
   same = same;
@@ -104,7 +133,7 @@ pub OpenedPart-did : (old new : Recorded) (run number : ℕ) → IsSettled old �
     new.history ≡ old.history ++ plain (Open number run) ∷ [] → new.cycles ≡ old.cycles → new.parts ≡ old.parts + 1 → new.blocks ≡ old.blocks → OpenedPart old new run
 OpenedPart-did old new run number recorded numbered state same history cycles parts blocks = record {
   settled = IsSettled-event old new (plain (Open number run)) recorded same history state (cycles ∙ sym (add-zero old.cycles)) parts blocks refl
-      (record { kept = λ cycle freed is. absurd (cc); swept = λ cycle freed is. absurd (cc) })
+      (record { kept = λ cycle freed is. absurd (cc) }) refl
       (subst (HasNoNewDead old.state) (sym state) (same_dead old.state)) (subst HasFewClaims (sym state) recorded.few);
   same = same;
   state = state;

@@ -6,9 +6,9 @@ use Rattle.std.proofs.lemmas.Option.{slice_get-map, slice_get_within, get_or_fro
 use Rattle.std.specs.Prelude.{Some, option_map, slice_get, nat_lt}
 use Rattle.tide_model.specs.declared.op.Op.{Op}
 use Rattle.tide_model.specs.declared.entry.Event.{Event}
-use Rattle.tide_model.specs.Cycle.{dead_cell, dead_array}
+use Rattle.tide_model.specs.Cycle.{dead_cell, dead_array, IsSwept}
 use Rattle.tide_model.specs.Lawful.{Stands}
-use Rattle.tide_model.specs.Periods.{EndsInTime, IsSwept}
+use Rattle.tide_model.specs.Periods.{EndsInTime}
 use Rattle.tide_model.specs.State.{State, empty_state}
 use Rattle.tide_model.proofs.PeriodLaws.{Each-nil}
 use Rattle.tide_periods.specs.declared.caller.Caller.{Caller}
@@ -123,6 +123,7 @@ IsSettled-nothing setting state blocks empty counted = record {
   begun = refl;
   opens = refl;
   swept = none_dead;
+  untaken = refl;
   few = λ who. subst (λ (s : State). length (s.claims who) ≤ 8) (sym empty) (omega arith);
   blocks = counted;
 }

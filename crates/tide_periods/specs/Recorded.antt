@@ -1,15 +1,17 @@
 -- What a recorder knows of what was run on its store.
-use Rattle.std.specs.Prelude.{ℕ, ◌≡◌, ◌+◌, ◌<◌, ◌≤◌, ◌++◌, List, [], ◌∷◌, length, map, true, Option}
+use Rattle.std.specs.Prelude.{ℕ, ◌≡◌, ◌+◌, ◌<◌, ◌≤◌, ◌++◌, List, [], ◌∷◌, length, map, true, Option, not}
+use Rattle.std.specs.List.{list_all}
+use Rattle.tide_model.specs.Since.{is_taken}
 use Rattle.tide_model.specs.declared.op.Op.{Op}
 use Rattle.tide_model.specs.declared.op.Op.TheVariants.{Retire}
 use Rattle.tide_model.specs.declared.op.Reply.{Reply}
 use Rattle.tide_model.specs.declared.entry.Entry.TheVariants.{Call, Begin, Pause, End, Sweep, Open}
 use Rattle.tide_model.specs.declared.entry.Event.{Event}
 use Rattle.tide_model.specs.Answer.{IsAnswer}
-use Rattle.tide_model.specs.Cycle.{begin_count}
+use Rattle.tide_model.specs.Cycle.{IsSwept, begin_count}
 use Rattle.tide_model.specs.History.{plain, state_after}
 use Rattle.tide_model.specs.Lawful.{FitsLayout, IsLawful}
-use Rattle.tide_model.specs.Periods.{EndsInTime, IsSwept, open_count}
+use Rattle.tide_model.specs.Periods.{EndsInTime, open_count}
 use Rattle.tide_model.specs.Each.{Each}
 use Rattle.tide_model.specs.Layout.{Layout}
 use Rattle.tide_model.specs.State.{State, idle}
@@ -37,7 +39,12 @@ recorded_at setting history = record {
   blocks = blocks_in setting;
 }
 
--- The history is lawful, its cycles end in time, and it leaves the store as it is: nothing is dead. A cycle may mark.
+-- no block was taken to be swept: all sweeps were a freeze's
+abbrev pub TookNone : List Event → Type 0
+TookNone history = list_all (λ event. not (is_taken event.entry)) history ≡ true
+
+-- The history is lawful, its cycles end in time, and it leaves the store as it is: nothing is dead, and no block was taken. A
+-- cycle may mark.
 pub record IsSettled (recorded : Recorded) : Type 0 where
   pub lawful : IsLawful recorded.setting.layout recorded.setting.shapes recorded.history
   pub ends : Each (EndsInTime recorded.setting.layout) recorded.history
@@ -45,6 +52,7 @@ pub record IsSettled (recorded : Recorded) : Type 0 where
   pub begun : begin_count recorded.history ≡ recorded.cycles
   pub opens : open_count recorded.history ≡ recorded.parts
   pub swept : IsSwept recorded.setting.layout recorded.history
+  pub untaken : TookNone recorded.history
   pub few : (who : ℕ) → length (recorded.state.claims who) ≤ 8
   pub blocks : recorded.blocks ≡ blocks_in recorded.setting
 
@@ -94,7 +102,7 @@ pub record RanCycle (old new : Recorded) : Type 0 where
   pub freed : List ℕ
   pub blocks : List ℕ
   pub history : new.history ≡ old.history
-      ++ ((plain (Begin (begin_count old.history + 1)) ∷ plain (Pause visits) ∷ plain (End (begin_count old.history + 1) freed) ∷ [])
+      ++ ((plain (Begin (begin_count old.history + 1) true) ∷ plain (Pause visits) ∷ plain (End (begin_count old.history + 1) freed) ∷ [])
       ++ map (λ block. plain (Sweep block)) blocks)
   pub active : new.state.active ≡ old.state.active
   pub claims : new.state.claims ≡ old.state.claims

@@ -143,7 +143,7 @@ impl<S: Store + Drop> Recording<S> {
         let kept = self.store.live();
         self.cycles += 1;
         let cycle = self.cycles;
-        enter(&mut self.events, Entry::Begin { cycle })?;
+        enter(&mut self.events, Entry::Begin { cycle, full: true })?;
         enter(&mut self.events, Entry::Pause { visits: kept })?;
         self.report.push(cycle, kept, freed.as_slice())?;
         let freed = Ids::new(freed);

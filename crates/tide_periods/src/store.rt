@@ -3,6 +3,7 @@ ghost use Rattle.std.specs.Prelude.{◌≡◌, ◌↔◌, ℕ, ◌<◌, Bool, Op
 ghost use Rattle.tide_model.specs.Answer.{IsAnswer};
 ghost use Rattle.tide_model.specs.Applied.{after_call};
 ghost use Rattle.tide_model.specs.Cycle.{live_count, HasDead};
+ghost use Rattle.tide_model.specs.Graph.{no_cell};
 ghost use Rattle.tide_model.specs.History.{after_end, swept_all};
 ghost use Rattle.tide_model.specs.Layout.{IsBlockOf};
 ghost use Rattle.tide_model.specs.Lawful.{FitsLayout};
@@ -47,7 +48,7 @@ pub trait Store {
 
     /// Frees exactly the live cells that nothing retains, sweeps all blocks, and gives the freed ids in rising order.
     fn collect(&mut self, alloc: Global) -> Result<Vec<u32>, Memory>
-        ensures freed { IfOk result (λ freed. IsFreed (state self.old) freed.items) }
+        ensures freed { IfOk result (λ freed. IsFreed (state self.old) no_cell freed.items) }
         ensures leaves { IfOk result (λ freed. state self.new ≡ swept_all (after_end (state self.old) freed.items)) }
         ensures swept { IfOk result (λ freed. (block : ℕ) → block < blocks_in (setting self.old) →
             (slice_index_or (sweeps self.new) block false ≡ true)

@@ -1,5 +1,5 @@
 -- Who claims a cell.
-use Rattle.std.proofs.Common.{ℕ, zero, suc, ◌≡◌, ◌<◌, refl, sym, ◌∙◌, ap, arith, Bool, true, List, [], ◌∷◌, ◌++◌, inl, inr}
+use Rattle.std.proofs.Common.{ℕ, zero, suc, ◌≡◌, ◌<◌, sym, ◌∙◌, ap, arith, Bool, true, List, [], ◌∷◌, ◌++◌, inl, inr}
 use Rattle.std.proofs.lemmas.Bool.{cases_eq}
 use Rattle.std.specs.Prelude.{if◌then◌else◌, Some}
 use Rattle.tide_model.specs.declared.op.Refusal.TheVariants.{Held}

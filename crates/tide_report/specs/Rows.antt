@@ -1,5 +1,5 @@
 -- A history of two cycles, worked out by hand, and what tells its ends.
-use Rattle.std.specs.Prelude.{◌≡◌, refl, List, [], ◌∷◌}
+use Rattle.std.specs.Prelude.{◌≡◌, refl, true, List, [], ◌∷◌}
 use Rattle.tide_model.specs.declared.op.Op.TheVariants.{Alloc, Drop, Collect, Retire}
 use Rattle.tide_model.specs.declared.op.Reply.TheVariants.{Done, Born, Asked}
 use Rattle.tide_model.specs.declared.entry.Entry.TheVariants.{Call, Begin, Pause, End, Sweep}
@@ -15,9 +15,9 @@ abbrev pub one_then_two : List Event
 one_then_two =
     plain (Call 0 (Alloc 0 0) (Born 0)) ∷ plain (Call 0 (Alloc 1 0) (Born 1)) ∷ plain (Call 0 (Alloc 2 0) (Born 2))
     ∷ plain (Call 0 (Drop 0) Done) ∷ plain (Call 0 Collect Asked)
-    ∷ plain (Begin 1) ∷ plain (Pause 2) ∷ plain (End 1 (0 ∷ [])) ∷ plain (Sweep 0)
+    ∷ plain (Begin 1 true) ∷ plain (Pause 2) ∷ plain (End 1 (0 ∷ [])) ∷ plain (Sweep 0)
     ∷ plain (Call 0 Retire Done)
-    ∷ plain (Begin 2) ∷ plain (Pause 0) ∷ plain (End 2 (1 ∷ 2 ∷ [])) ∷ plain (Sweep 0) ∷ []
+    ∷ plain (Begin 2 true) ∷ plain (Pause 0) ∷ plain (End 2 (1 ∷ 2 ∷ [])) ∷ plain (Sweep 0) ∷ []
 
 -- its ends: two cells live after the first, and none after the second
 abbrev pub its_ends : List CycleEnd

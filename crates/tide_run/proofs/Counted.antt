@@ -5,7 +5,7 @@ use Rattle.std.proofs.lemmas.List.{length-append, map-append, take_more}
 use Rattle.std.proofs.lemmas.List.Elements.{filter-append}
 use Rattle.std.specs.Prelude.{map, filter, ◌==◌, ◌⊎◌, if◌then◌else◌}
 use Rattle.tide_model.specs.declared.entry.Entry.{Entry}
-use Rattle.tide_model.specs.declared.entry.Entry.TheVariants.{Call, Begin, Pause, Visits, End, Sweep, Open}
+use Rattle.tide_model.specs.declared.entry.Entry.TheVariants.{Call, Begin, Pause, Visits, End, Taken, Sweep, Open}
 use Rattle.tide_model.specs.declared.entry.Event.{Event}
 use Rattle.tide_model.specs.declared.op.Op.{Op}
 use Rattle.tide_model.specs.declared.op.Reply.{Reply}
@@ -102,10 +102,11 @@ replies_to-all count (Call w op reply) none = replies_to-below count w op reply 
 
     below : w < count
     below = step (cases_lt w count)
-replies_to-all count (Begin cycle) none = replies_to-none count (Begin cycle) (λ who. refl)
+replies_to-all count (Begin cycle full) none = replies_to-none count (Begin cycle full) (λ who. refl)
 replies_to-all count (Pause visits) none = replies_to-none count (Pause visits) (λ who. refl)
 replies_to-all count (Visits w visits) none = replies_to-none count (Visits w visits) (λ who. refl)
 replies_to-all count (End cycle freed) none = replies_to-none count (End cycle freed) (λ who. refl)
+replies_to-all count (Taken block) none = replies_to-none count (Taken block) (λ who. refl)
 replies_to-all count (Sweep block) none = replies_to-none count (Sweep block) (λ who. refl)
 replies_to-all count (Open number run) none = replies_to-none count (Open number run) (λ who. refl)
 

@@ -10,7 +10,7 @@ use Rattle.tide_io.specs.Faults.{AppendsPart}
 use Rattle.tide_model.proofs.Cycles.{take-all}
 use Rattle.std.specs.List.{flat_map}
 use Rattle.tide_model.specs.declared.entry.Entry.{Entry}
-use Rattle.tide_model.specs.declared.entry.Entry.TheVariants.{Call, Begin, Pause, Visits, End, Sweep, Open}
+use Rattle.tide_model.specs.declared.entry.Entry.TheVariants.{Call, Begin, Pause, Visits, End, Taken, Sweep, Open}
 use Rattle.tide_model.specs.declared.entry.Event.{Event}
 use Rattle.tide_model.specs.Layout.{Layout}
 use Rattle.tide_model.specs.State.{State, empty_state}
@@ -53,10 +53,11 @@ line_of ended = cycle_line ended.number ended.kept ended.freed
 -- an entry prints the line of the end that it is
 entry_prints : (layout : Layout) (after : State) (entry : Entry) → end_line entry (live_count layout after) ≡ flat_map line_of (ends_at layout after entry)
 entry_prints layout after (Call who op reply) = refl
-entry_prints layout after (Begin cycle) = refl
+entry_prints layout after (Begin cycle full) = refl
 entry_prints layout after (Pause visits) = refl
 entry_prints layout after (Visits who visits) = refl
 entry_prints layout after (End cycle freed) = sym (append-nil (cycle_line cycle (live_count layout after) freed))
+entry_prints layout after (Taken block) = refl
 entry_prints layout after (Sweep block) = refl
 entry_prints layout after (Open number run) = refl
 

@@ -41,6 +41,7 @@ use Rattle.tide_heap.proofs.Leaving.{inactive-retired}
 use Rattle.tide_heap.proofs.Runs.{Law, Stays, allows, Leaves}
 use Rattle.tide_steps.proofs.Works.{Core, core, core_found, worked, worked_view, seen_after, mine_after}
 use Rattle.tide_steps.specs.Follows.{Follows, FollowsSome, May, MayStep, with_found}
+use Rattle.tide_heap.specs.Clean.{RunsClean}
 use Rattle.tide_heap.specs.Rule.{Rule}
 use Rattle.tide_steps.specs.Works.{is_work, is_leave, is_visit}
 use Rattle.tide_words.specs.heap.Heap.{Heap, write}
@@ -81,7 +82,7 @@ left_words layout shapes (SwapGrey grey block) works w me may =
 left_words layout shapes Split works w me may = absurd (cc)
 left_words layout shapes (Join ticket) works w me may = absurd (cc)
 left_words layout shapes Activate works w me may = absurd (cc)
-left_words layout shapes (ZeroWord at index) works w me may = absurd may
+left_words layout shapes (ZeroWord at index) works w me may = absurd (cc)
 left_words layout shapes _ works w me may = record { period = refl; phase = refl }
 
 -- the word that a step found is nothing that the wave looks at
@@ -113,8 +114,9 @@ module _ (layout : Layout) (shapes : ShapeLists) (v : View) (kind : Kind) where
   pub law_of : is_work kind ≡ true → v.runs ≡ true → MayStep layout shapes v kind → IsWithinLimits layout →
       slice_get shapes 0 ≡ Some [] → v.who < parties →
       Law layout shapes (region_of kind) (index_of layout v.who kind) (act_of kind) after event v
-  law_of works act may limits empty_shape few heap part log wave is =
-      let allowed = may (record { heap = heap; part = part; log = log }) wave is in
+  law_of works act may limits empty_shape few heap part log running is =
+      let wave = running.wave in
+      let allowed = may (record { heap = heap; part = part; log = log }) running is in
       let at = index_of layout v.who kind in
       let read = heap (region_of kind) at in
       wave_found kind layout shapes (write heap (region_of kind) at (acted (act_of kind) read)) part
@@ -155,7 +157,7 @@ module _ (layout : Layout) (shapes : ShapeLists) (v : View) (kind : Kind) where
         gone = λ before e. leaves_now (is_leave kind) refl before (sym (ap (λ (x : Core). x.left) c) ∙ e);
         tip = tip_of (event log read) (ap (λ (x : Core). x.seen) c);
         counts = λ period now. counts_of period v (after log read) (event log read)
-            (entry_own layout shapes (state_after layout log) v.who kind read) now (ap (λ (x : Core). x.begun) c)
+            (entry_own layout shapes (state_after layout log) v.who kind read works) now (ap (λ (x : Core). x.begun) c)
             (ap (λ (x : Core). x.born) c ∙ entry_born layout shapes (state_after layout log) v.who kind read v.born);
       }
     where
@@ -186,7 +188,7 @@ module _ (layout : Layout) (shapes : ShapeLists) (v : View) (kind : Kind) where
       tip_of (Some x) e = inr (sym e)
 
   follows_of : is_work kind ≡ true → (heap : Heap) (part : ℕ → View) (log : List Event) →
-      RunningWave layout shapes (record { heap = heap; part = part; log = log }) → part v.who ≡ v →
+      RunsClean layout shapes (record { heap = heap; part = part; log = log }) → part v.who ≡ v →
       RunningWave layout shapes (record {
         heap = write heap (region_of kind) (index_of layout v.who kind)
             (acted (act_of kind) (heap (region_of kind) (index_of layout v.who kind)));
@@ -195,7 +197,7 @@ module _ (layout : Layout) (shapes : ShapeLists) (v : View) (kind : Kind) where
       }) →
       Follows layout shapes kind v (heap (region_of kind) (index_of layout v.who kind))
       (after log (heap (region_of kind) (index_of layout v.who kind)))
-  follows_of works heap part log wave is next =
+  follows_of works heap part log running is next =
       let read = heap (region_of kind) (index_of layout v.who kind) in
       let u = after log read in
       let here = put_here part v.who u in record {
@@ -203,7 +205,7 @@ module _ (layout : Layout) (shapes : ShapeLists) (v : View) (kind : Kind) where
         view = refl;
         moment = subst (λ (x : View). Moment layout shapes x log (region_of kind) (index_of layout v.who kind) read) is
             (steps_are_told layout shapes (record { heap = heap; part = part; log = log }) v.who (region_of kind)
-            (index_of layout v.who kind) wave);
+            (index_of layout v.who kind) running.wave);
         lawful = IsLawful-prefix layout shapes u.seen (added log (event log read))
             (subst (λ (x : View). IsPrefix x.seen (added log (event log read))) here (next.known.seen v.who)) next.lawful;
         own = subst (λ (n : ℕ). filter (λ (e : Event). is_call_of n e.entry) u.seen ≡ u.mine)
@@ -214,11 +216,11 @@ module _ (layout : Layout) (shapes : ShapeLists) (v : View) (kind : Kind) where
 
   -- a kind that leaves is a retirement
   pub retires_of : is_leave kind ≡ true → MayStep layout shapes v kind → (heap : Heap) (part : ℕ → View) (log : List Event)
-      (read : ℕ) → RunningWave layout shapes (record { heap = heap; part = part; log = log }) → part v.who ≡ v →
+      (read : ℕ) → RunsClean layout shapes (record { heap = heap; part = part; log = log }) → part v.who ≡ v →
       (v.who < layout.mutators) × ((state_after layout (added log (event log read))).active v.who ≡ false)
-  retires_of leave may heap part log read wave is =
+  retires_of leave may heap part log read running is =
       left_by layout shapes kind leave (record { heap = heap; part = part; log = log }) v.who read
-      (may (record { heap = heap; part = part; log = log }) wave is)
+      (may (record { heap = heap; part = part; log = log }) running is)
 
 -- a step that tells the word found
 pub allows_find : (layout : Layout) (shapes : ShapeLists) (kind : Kind) (slots id : ℕ) (m : Me (Unit {0}) View) (at : ℕ)
@@ -230,15 +232,15 @@ allows_find layout shapes kind slots id m at act is may =
     (allows layout shapes slots id m (region_of kind) (index_of layout m.0.who kind) (act_of kind)
     (after layout shapes m.0 kind) (event layout shapes m.0 kind) at (λ r u. Follows layout shapes kind m.0 r u) is may.runs
     may.stands.inside may.stands.place (law_of layout shapes m.0 kind may.works may.runs may.may)
-    (λ limits heap part log wave mine.
+    (λ limits heap part log running mine.
     let w : World = record { heap = heap; part = part; log = log } in
-    let allowed = may.may w wave mine in (
+    let allowed = may.may w running mine in (
       left_words layout shapes kind may.works w m.0.who allowed,
       stays_of layout shapes m.0 kind may.works is may.runs log
           (heap (region_of kind) (index_of layout m.0.who kind))
-          (subst (λ (x : View). IsPrefix x.seen log) mine (wave.known.seen m.0.who))
+          (subst (λ (x : View). IsPrefix x.seen log) mine (running.wave.known.seen m.0.who))
           (λ leave. retires_of layout shapes m.0 kind leave may.may heap part log
-          (heap (region_of kind) (index_of layout m.0.who kind)) wave mine)
+          (heap (region_of kind) (index_of layout m.0.who kind)) running mine)
           (λ visit below. let after = visited_by layout shapes kind visit w m.0.who allowed in
           let few = limits.few_mutators in omega (arith, below, after, few)),
     ))

@@ -11,7 +11,7 @@ use Rattle.tide_machine.specs.Duties.{is_growing}
 use Rattle.tide_machine.specs.Owed.{owed_register, filled_register, owed_word}
 use Rattle.tide_machine.specs.Scanning.{rests_now}
 use Rattle.tide_machine.specs.Words.{cell_named, cells_in}
-use Rattle.tide_machine.specs.Views.{changed, with_entry}
+use Rattle.tide_machine.specs.Views.{changed, with_entry, with_own}
 use Rattle.tide_machine.specs.declared.view.Duty.TheVariants as duty
 use Rattle.tide_machine.specs.declared.view.Role.{Role}
 use Rattle.tide_machine.specs.declared.view.View.{View}
@@ -85,7 +85,7 @@ seen_after log seen (Some event) = log ++ event ∷ []
 
 abbrev pub mine_after : List Event → Option Event → List Event
 mine_after mine None = mine
-mine_after mine (Some event) = mine ++ event ∷ []
+mine_after mine (Some event) = with_own mine event
 
 looked : (log : List Event) (block read : ℕ) (v : View) → core (looked_view log block read v) ≡ core v
 looked log block read v = refl
@@ -224,5 +224,5 @@ pub worked_view : (layout : Layout) (shapes : ShapeLists) (log : List Event) (ki
     ≡ record (worked kind read (core v)) { seen = seen_after log v.seen event; mine = mine_after v.mine event }
 worked_view layout shapes log kind read v is None = core_kept layout shapes log v.who kind read v is
 worked_view layout shapes log kind read v is (Some event) =
-    ap (λ (c : Core). record c { seen = log ++ event ∷ []; mine = c.mine ++ event ∷ [] })
+    ap (λ (c : Core). record c { seen = log ++ event ∷ []; mine = with_own c.mine event })
     (core_kept layout shapes log v.who kind read v is)

@@ -4,7 +4,7 @@ use Rattle.std.specs.Prelude.{◌&&◌, not}
 use Rattle.tide_core.specs.FrozenWave.{is_born_in_cycle}
 use Rattle.tide_layout.specs.declared.region.Region.{Region}
 use Rattle.tide_layout.specs.declared.region.Region.TheVariants.{Phase, Period, Colour, Call, Swept}
-use Rattle.tide_machine.proofs.steps.SweepsKept.{swept_kept, is_taken}
+use Rattle.tide_machine.proofs.steps.SweepsKept.{swept_kept, told_kept, is_taken}
 use Rattle.tide_machine.specs.Frozen.{FrozenWith}
 use Rattle.tide_model.proofs.NumberLaws.{count_where-same}
 use Rattle.tide_model.specs.History.{state_after}
@@ -32,6 +32,7 @@ FrozenWith-same layout shapes old new history unentered same wave = record {
   cycle = running_cycle-same layout old new (same Phase) ∙ wave.cycle;
   period = same Period 0 (omega arith) ∙ wave.period;
   calls = λ who within. same Call who within ∙ wave.calls who within;
+  full = λ marks. wave.full (before marks);
   retained = λ marks cell within marked. wave.retained (before marks) cell within
       (sym (is_marked-same layout old new cell (same Phase) (same Colour) within) ∙ marked);
   born = λ marks cell within born.
@@ -46,6 +47,8 @@ FrozenWith-same layout shapes old new history unentered same wave = record {
   swept = swept_kept layout old new (same Phase 0 (omega arith)) (same Swept) wave.swept;
   clean = λ block within taken has. wave.clean block within
       (is_taken old new block (same Phase 0 (omega arith)) (same Swept block within) taken) has;
+  swept_told = told_kept layout old new history history (same Phase 0 (omega arith)) (same Swept)
+      (λ block. (λ was. was, λ was. was)) wave.swept_told;
 }
   where
     before : is_marking new ≡ true → is_marking old ≡ true
@@ -69,9 +72,11 @@ FrozenWith-more layout shapes heap history few more fewer wave = record {
   cycle = wave.cycle;
   period = wave.period;
   calls = wave.calls;
+  full = wave.full;
   retained = wave.retained;
   born = wave.born;
   counted = λ marks. (let c = wave.counted marks in omega (arith, c, fewer));
   swept = wave.swept;
   clean = wave.clean;
+  swept_told = wave.swept_told;
 }

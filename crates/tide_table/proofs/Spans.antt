@@ -14,7 +14,7 @@ use Rattle.tide_model.specs.References.{IsLive}
 use Rattle.tide_model.specs.Refused.{ShapeLists}
 use Rattle.tide_model.specs.State.{CellState, State, idle, marking}
 use Rattle.tide_model.specs.declared.entry.Entry.{Entry}
-use Rattle.tide_model.specs.declared.entry.Entry.TheVariants.{Call, Begin, Pause, Visits, End, Sweep, Open}
+use Rattle.tide_model.specs.declared.entry.Entry.TheVariants.{Call, Begin, Pause, Visits, End, Taken, Sweep, Open}
 use Rattle.tide_model.specs.declared.entry.Event.{Event}
 use Rattle.tide_heap.specs.Rule.{SpanStays}
 use Rattle.tide_words.specs.forms.ColourWord.{cycle_of}
@@ -76,9 +76,9 @@ module _ (layout : Layout) (shapes : ShapeLists) (log : List Event) (took : Opti
       SpanStays layout (later entry)
   span_entered (Call who op reply) no_call lawful =
       absurd (let none = no_call who in let some = Rattle.std.proofs.lemmas.Bool.eq-eqb who who refl in cc)
-  span_entered (Begin cycle) no_call lawful = λ heap says.
-      span-begun layout heap log (record { entry = Begin cycle; took = took }) refl
-      (RefsAreLive-lawful layout shapes (later (Begin cycle)) lawful)
+  span_entered (Begin cycle full) no_call lawful = λ heap says.
+      span-begun layout heap log (record { entry = Begin cycle full; took = took }) refl
+      (RefsAreLive-lawful layout shapes (later (Begin cycle full)) lawful)
   span_entered (Pause visits) no_call lawful =
       let after = state_after-push layout log (record { entry = Pause visits; took = took }) in
       goes_on (Pause visits) refl lawful (ap (λ (s : State). is_marking_phase s.phase) after)
@@ -90,6 +90,10 @@ module _ (layout : Layout) (shapes : ShapeLists) (log : List Event) (took : Opti
   span_entered (End cycle freed) no_call lawful =
       span_none layout (later (End cycle freed)) (ap (λ (s : State). is_marking_phase s.phase)
       (state_after-push layout log (record { entry = End cycle freed; took = took })))
+  span_entered (Taken block) no_call lawful =
+      let after = state_after-push layout log (record { entry = Taken block; took = took }) in
+      goes_on (Taken block) refl lawful (ap (λ (s : State). is_marking_phase s.phase) after)
+      (state_same (Taken block) (state_after layout log) after refl)
   span_entered (Sweep block) no_call lawful =
       let after = state_after-push layout log (record { entry = Sweep block; took = took }) in
       goes_on (Sweep block) refl lawful (ap (λ (s : State). is_marking_phase s.phase) after)

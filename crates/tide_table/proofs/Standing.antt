@@ -4,11 +4,11 @@ use Rattle.std.proofs.lemmas.Bool.{and_parts}
 use Rattle.std.specs.List.{list_all}
 use Rattle.std.specs.Prelude.{◌&&◌, count_by, if◌then◌else◌, map, not}
 use Rattle.tide_freeze.proofs.RunningLaws.{part_keeps_books}
-use Rattle.tide_freeze.proofs.QuietLaws.{HasFrozen-quiet, is_quiet, open_count-quiet, visits-quiet}
+use Rattle.tide_freeze.proofs.QuietLaws.{HasFrozen-quiet, open_count-quiet, visits-quiet}
 use Rattle.tide_freeze.proofs.VisitLaws.{HasVisited-none, IsSwept-visits, born_begin-visits, born_end-visits, visits_make_freeze}
 use Rattle.tide_freeze.specs.Births.{AreBornIn}
 use Rattle.tide_freeze.specs.Books.{AreBooks, WereKept}
-use Rattle.tide_freeze.proofs.BookLaws.{ends_in-part}
+use Rattle.tide_freeze.proofs.BookLaws.{IsSwept-none, ends_in-part}
 use Rattle.tide_report.specs.Ends.{CycleEnd, ends_in}
 use Rattle.tide_freeze.specs.Freezing.{HasFrozen, HasVisited, SharesGreys}
 use Rattle.tide_freeze.specs.Frozen.{IsFrozen}
@@ -26,7 +26,7 @@ use Rattle.tide_layout.specs.Limits.{IsWithinLimits}
 use Rattle.tide_model.proofs.Histories.{IsLawful-nil, IsLawful-prefix}
 use Rattle.tide_model.proofs.PeriodLaws.{Each-nil, ends_in_time-append}
 use Rattle.tide_model.proofs.SinceLaws.{count-push}
-use Rattle.tide_model.specs.Cycle.{begin_count}
+use Rattle.tide_model.specs.Cycle.{IsSwept, begin_count}
 use Rattle.tide_model.specs.Each.{Each}
 use Rattle.tide_model.specs.Freeze.{is_marking_phase, marks_after, visits_entries}
 use Rattle.tide_model.specs.State.{idle, marking}
@@ -37,9 +37,9 @@ use Rattle.tide_model.specs.Layout.{Layout}
 use Rattle.tide_model.specs.Pace.{Pace}
 use Rattle.tide_model.specs.Periods.{EndsInTime, next_run, open_count}
 use Rattle.tide_model.specs.Refused.{ShapeLists}
-use Rattle.tide_model.specs.Since.{is_call, is_end}
+use Rattle.tide_model.specs.Since.{is_call, is_end, is_of_freeze}
 use Rattle.tide_model.specs.declared.entry.Entry.{Entry}
-use Rattle.tide_model.specs.declared.entry.Entry.TheVariants.{Begin, Call, End, Open, Pause, Sweep, Visits}
+use Rattle.tide_model.specs.declared.entry.Entry.TheVariants.{Begin, Call, End, Open, Pause, Sweep, Taken, Visits}
 use Rattle.tide_model.specs.declared.entry.Event.{Event}
 use Rattle.tide_sched.proofs.RunLaws.{last_run-same}
 use Rattle.tide_sched.specs.Paces.{last_run}
@@ -56,28 +56,31 @@ use Rattle.tide_words.specs.marking.Colours.{is_black, is_marking}
 -- what calls of a part are not
 no_open : (entry : Entry) → is_call entry ≡ true → not (is_open entry) ≡ true
 no_open (Call who op reply) is = refl
-no_open (Begin cycle) is = absurd (cc)
+no_open (Begin cycle full) is = absurd (cc)
 no_open (Pause visits) is = absurd (cc)
 no_open (Visits who visits) is = absurd (cc)
 no_open (End cycle freed) is = absurd (cc)
+no_open (Taken block) is = absurd (cc)
 no_open (Sweep block) is = absurd (cc)
 no_open (Open number run) is = absurd (cc)
 
 no_end : (entry : Entry) → is_call entry ≡ true → not (is_end entry) ≡ true
 no_end (Call who op reply) is = refl
-no_end (Begin cycle) is = absurd (cc)
+no_end (Begin cycle full) is = absurd (cc)
 no_end (Pause visits) is = absurd (cc)
 no_end (Visits who visits) is = absurd (cc)
 no_end (End cycle freed) is = absurd (cc)
+no_end (Taken block) is = absurd (cc)
 no_end (Sweep block) is = absurd (cc)
 no_end (Open number run) is = absurd (cc)
 
 no_begin : (entry : Entry) → is_call entry ≡ true → not (is_begin entry) ≡ true
 no_begin (Call who op reply) is = refl
-no_begin (Begin cycle) is = absurd (cc)
+no_begin (Begin cycle full) is = absurd (cc)
 no_begin (Pause visits) is = absurd (cc)
 no_begin (Visits who visits) is = absurd (cc)
 no_begin (End cycle freed) is = absurd (cc)
+no_begin (Taken block) is = absurd (cc)
 no_begin (Sweep block) is = absurd (cc)
 no_begin (Open number run) is = absurd (cc)
 
@@ -142,6 +145,7 @@ StandsStill-froze layout shapes v w runs counts f = subst (StandsStill layout sh
   run = λ opened. runs.run ∙ sym (ap last_run f.since ∙ last_run-same v.start f.part (no_opens f.part f.calls));
   long = f.long;
   wave = subst (FrozenWith layout shapes (heap_of layout f.words) v.seen) counts f.wave;
+  clean = f.clean;
   ends = subst (Each (EndsInTime layout)) (sym f.since) (ends_in_time-append layout v.start f.part runs.ends (no_ends f.part f.calls));
   stopped = λ index below. refl;
   blacks = λ opened. refl;
@@ -162,30 +166,32 @@ StandsStill-started layout shapes v started limits = record {
       (FrozenWith-of layout shapes (heap_of layout v.words) [] (IsLawful-nil layout shapes)
       (span_none layout [] refl (heap_of layout v.words)
       (λ marks. marks_read layout shapes (heap_of layout v.words) [] started.wave.marking.reads ∙ marks))
-      started.swept started.clean started.wave);
+      started.swept (λ block within taken. IsSwept-none layout block) started.told started.wave);
+  clean = subst (IsSwept layout) (sym started.seen) (IsSwept-none layout);
   ends = subst (Each (EndsInTime layout)) (sym started.seen) (Each-nil (EndsInTime layout));
   stopped = started.stopped;
   blacks = λ later. absurd (let none = started.period in omega (arith, later, none));
 }
 
 -- an entry of a freeze is nobody's call
-own_quiet : (who : ℕ) (entry : Entry) → is_quiet entry ≡ true → is_call_of who entry ≡ false
+own_quiet : (who : ℕ) (entry : Entry) → is_of_freeze entry ≡ true → is_call_of who entry ≡ false
 own_quiet who (Call by op reply) quiet = absurd (cc)
 own_quiet who (Open number run) quiet = refl
-own_quiet who (Begin cycle) quiet = refl
+own_quiet who (Begin cycle full) quiet = refl
 own_quiet who (Pause visits) quiet = refl
 own_quiet who (Visits by visits) quiet = refl
 own_quiet who (End cycle freed) quiet = refl
+own_quiet who (Taken block) quiet = absurd (cc)
 own_quiet who (Sweep block) quiet = refl
 
 -- what stood in the cycle that marks stays live over the entries of a freeze
 span-quiet : (layout : Layout) (shapes : ShapeLists) (history events : List Event) →
-    list_all (λ e. is_quiet e.entry) events ≡ true → IsLawful layout shapes (history ++ events) →
+    list_all (λ e. is_of_freeze e.entry) events ≡ true → IsLawful layout shapes (history ++ events) →
     SpanStays layout history → SpanStays layout (history ++ events)
 span-quiet layout shapes history [] all lawful span =
     subst (SpanStays layout) (sym (append-nil history)) span
 span-quiet layout shapes history (event ∷ events) all lawful span =
-    let (here, later) = and_parts (is_quiet event.entry) (list_all (λ e. is_quiet e.entry) events) all in
+    let (here, later) = and_parts (is_of_freeze event.entry) (list_all (λ e. is_of_freeze e.entry) events) all in
     let joined : (history ++ event ∷ []) ++ events ≡ history ++ event ∷ events =
     append_assoc history (event ∷ []) events in
     let now : IsLawful layout shapes ((history ++ event ∷ []) ++ events) = subst (IsLawful layout shapes) (sym joined) lawful in
@@ -196,20 +202,21 @@ span-quiet layout shapes history (event ∷ events) all lawful span =
     (record { rest = events; joins = refl }) now)))
 
 -- entries of a freeze open no part
-quiet_open : (entry : Entry) → is_quiet entry ≡ true → not (is_open entry) ≡ true
+quiet_open : (entry : Entry) → is_of_freeze entry ≡ true → not (is_open entry) ≡ true
 quiet_open (Call by op reply) quiet = absurd (cc)
 quiet_open (Open number run) quiet = absurd (cc)
-quiet_open (Begin cycle) quiet = refl
+quiet_open (Begin cycle full) quiet = refl
 quiet_open (Pause visits) quiet = refl
 quiet_open (Visits by visits) quiet = refl
 quiet_open (End cycle freed) quiet = refl
+quiet_open (Taken block) quiet = absurd (cc)
 quiet_open (Sweep block) quiet = refl
 
-quiet_opens : (events : List Event) → list_all (λ e. is_quiet e.entry) events ≡ true →
+quiet_opens : (events : List Event) → list_all (λ e. is_of_freeze e.entry) events ≡ true →
     list_all (λ e. not (is_open e.entry)) events ≡ true
 quiet_opens [] all = refl
 quiet_opens (event ∷ events) all =
-    let (here, later) = and_parts (is_quiet event.entry) (list_all (λ (e : Event). is_quiet e.entry) events) all in
+    let (here, later) = and_parts (is_of_freeze event.entry) (list_all (λ (e : Event). is_of_freeze e.entry) events) all in
     ap (λ (b : Bool). b && list_all (λ (e : Event). not (is_open e.entry)) events) (quiet_open event.entry here)
     ∙ quiet_opens events later
 
@@ -301,8 +308,8 @@ module _ (layout : Layout) (shapes : ShapeLists) (v u : View) (still : StandsSti
       (frozen : IsFrozen layout shapes w.words w.seen (was_black_in layout w))
       (has : HasFrozen pace layout u.seen w.seen is_must)
       (left : LeavesParticipants layout (heap_of layout u.words) (heap_of layout w.words))
-      (shared : SharesGreys layout w.words w.seen) (is_run : run ≡ next_run pace layout w.seen) where
-    quiet : list_all (λ (e : Event). is_quiet e.entry) has.events ≡ true
+      (shared : SharesGreys layout w.words w.seen) (clean : IsSwept layout w.seen) (is_run : run ≡ next_run pace layout w.seen) where
+    quiet : list_all (λ (e : Event). is_of_freeze e.entry) has.events ≡ true
     quiet = HasFrozen-quiet pace layout u.seen w.seen is_must has
 
     span : SpanIsLive layout (heap_of layout w.words) w.seen
@@ -323,7 +330,7 @@ module _ (layout : Layout) (shapes : ShapeLists) (v u : View) (still : StandsSti
     rest = (λ i. record (same i) { visited = [] }) ∙ entered.rest
 
     seen_runs : (f : List Event → ℕ) →
-        ((history events : List Event) → list_all (λ (e : Event). is_quiet e.entry) events ≡ true → f (history ++ events) ≡ f history) →
+        ((history events : List Event) → list_all (λ (e : Event). is_of_freeze e.entry) events ≡ true → f (history ++ events) ≡ f history) →
         f w.seen ≡ f v.seen
     seen_runs f stays = ap f has.entered ∙ stays u.seen has.events quiet
         ∙ ap f entered.visited.entered ∙ stays v.seen visits_before (visits-quiet 0 entered.visited.visits)
@@ -331,7 +338,7 @@ module _ (layout : Layout) (shapes : ShapeLists) (v u : View) (still : StandsSti
     pub HasCollected-still : HasCollected layout shapes pace is_must v w run
     HasCollected-still =
         let follows = leads_to_opening pace layout shapes u.words w.words u.seen w.seen 0 is_must entered.wave frozen.wave
-        frozen.lawful has left shared in
+        frozen.lawful has clean left shared in
         let visited : w.visited ≡ u.visited = ap (λ (x : View). x.visited) same in
         let none : unentered w.visited ≡ 0 = ap unentered visited ∙ entered.entered in record {
           still = record {
@@ -343,7 +350,9 @@ module _ (layout : Layout) (shapes : ShapeLists) (v u : View) (still : StandsSti
                 ∙ sym (seen_runs last_run (λ history events all. last_run-same history events (quiet_opens events all)));
             long = frozen.all_words;
             wave = subst (FrozenWith layout shapes (heap_of layout w.words) w.seen) (sym none)
-                (FrozenWith-of layout shapes (heap_of layout w.words) w.seen frozen.lawful span follows.swept follows.clean frozen.wave);
+                (FrozenWith-of layout shapes (heap_of layout w.words) w.seen frozen.lawful span follows.swept
+                (λ block within taken. clean block) follows.told frozen.wave);
+            clean = clean;
             ends = frozen.ends;
             stopped = λ index below. left.stopped index below
                 ∙ (λ i. heap_of layout (entered.words i) Stopped index) ∙ still.stopped index below

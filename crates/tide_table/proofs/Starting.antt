@@ -73,6 +73,6 @@ started layout shapes one two v active free next =
       long = reads.all_words;
       wave = FrozenWave-of layout shapes (heap_of layout free.words) [] at_first;
       swept = at_first.swept;
-      clean = at_first.clean;
+      told = at_first.swept_told;
       stopped = λ index within. reads.each Stopped index within ∙ sym (zero_word layout Stopped index within);
     }

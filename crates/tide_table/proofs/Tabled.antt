@@ -11,7 +11,8 @@ use Rattle.tide_core.specs.FrozenWave.{FrozenWave}
 use Rattle.tide_machine.proofs.steps.StopPlaces.{stop_within}
 use Rattle.tide_machine.specs.Frozen.{MayOpen, newcomer}
 use Rattle.tide_machine.specs.Kind.{index_of_stopped}
-use Rattle.tide_machine.specs.points.Sweeps.{SweptAreBelow, TakenAreClean}
+use Rattle.tide_machine.specs.points.Sweeps.{SweptAreBelow, SweptAreTold}
+use Rattle.tide_model.specs.Cycle.{IsSwept}
 use Rattle.tide_words.specs.heap.Heap.{SameIn, heap_of}
 use Rattle.tide_machine.specs.World.{parties}
 use Rattle.tide_machine.specs.declared.view.Role.TheVariants.{Collector, Note, Spent}
@@ -99,6 +100,7 @@ module _ (layout : Layout) (shapes : ShapeLists) where
           part = since is_open rule.log;
           since = h.3;
           calls = h.4;
+          clean = h.13;
           births = h.5;
           few = (let same = h.5 in let most = h.6 in omega (arith, same, most));
           gone = h.7;
@@ -168,12 +170,12 @@ module _ (layout : Layout) (shapes : ShapeLists) where
   pub opens : (slots id : ℕ) (me : M) (at next run : ℕ) → me.0.role ≡ Collector → me.0.frozen ≡ true →
       at ≡ place_in layout region.Period 0 → next ≡ me.0.period + 1 →
       FrozenWave layout shapes (heap_of layout me.0.words) me.0.seen →
-      SweptAreBelow layout (heap_of layout me.0.words) →
-      TakenAreClean layout (heap_of layout me.0.words) (state_after layout me.0.seen) →
+      SweptAreBelow layout (heap_of layout me.0.words) → SweptAreTold layout (heap_of layout me.0.words) me.0.seen →
+      IsSwept layout me.0.seen →
       SameIn layout region.Stopped (heap_of layout me.0.stood) (heap_of layout me.0.words) →
       MayOpen layout (heap_of layout me.0.words) run →
       Allows (Rule layout shapes) slots id me at (λ _. next) (λ _ b. b.0 ≡ opened layout run me.0)
-  opens slots id me at next run is shut place later owed swept clean same may s rule long there fits = (
+  opens slots id me at next run is shut place later owed swept told clean same may s rule long there fits = (
     opened layout run me.0,
     keeps,
     tt,
@@ -181,8 +183,8 @@ module _ (layout : Layout) (shapes : ShapeLists) where
       log = rule.log ++ open_entry run me.0 ∷ [];
       tabled = subst (λ (x : ℕ × ℕ). Tabled layout shapes (set s.words x.0 x.1) (set s.views id (opened layout run me.0))
           (rule.log ++ open_entry run me.0 ∷ [])) (λ i. (sym place i, sym later i))
-          (open_next layout shapes s.words s.views rule.log id me.0 rule.tabled there is run shut owed swept clean same
-          may);
+          (open_next layout shapes s.words s.views rule.log id me.0 rule.tabled there is run shut owed swept told clean
+          same may);
     },
     refl,
   )
@@ -267,6 +269,8 @@ opens_at layout shapes words limits empty_shape zeros = record {
         full = λ p rests. refl;
         calls = λ p rests. refl;
         sweeping = λ p rests. refl;
+        saw = λ p rests. refl;
+        cleared = λ p rests. refl;
       };
       stops = λ p party. zero_word layout region.Stopped (index_of_stopped layout p) (stop_within layout p party);
       all_in = λ i party. inl (in_up_to i parties (few_parties layout limits i party));

@@ -7,8 +7,7 @@ use Rattle.tide_layout.specs.declared.region.Region.TheVariants.{Stopped}
 use Rattle.tide_core.specs.FrozenWave.{FrozenWave}
 use Rattle.tide_machine.specs.Frozen.{newcomer}
 use Rattle.tide_machine.specs.declared.view.View.{View}
-use Rattle.tide_machine.specs.points.Sweeps.{SweptAreBelow, TakenAreClean}
-use Rattle.tide_model.specs.History.{state_after}
+use Rattle.tide_machine.specs.points.Sweeps.{SweptAreBelow, SweptAreTold}
 use Rattle.tide_model.specs.Layout.{Layout}
 use Rattle.tide_model.specs.Refused.{ShapeLists}
 use Rattle.tide_steps.specs.declared.pass.Pass.{Pass}
@@ -42,5 +41,5 @@ pub record IsStarted (layout : Layout) (shapes : ShapeLists) (v : View) : Type 0
   pub long : length v.words ≡ word_count layout
   pub wave : FrozenWave layout shapes (heap_of layout v.words) []
   pub swept : SweptAreBelow layout (heap_of layout v.words)
-  pub clean : TakenAreClean layout (heap_of layout v.words) (state_after layout [])
+  pub told : SweptAreTold layout (heap_of layout v.words) []
   pub stopped : SameIn layout Stopped (heap_of layout v.stood) (heap_of layout v.words)

@@ -1,5 +1,5 @@
 -- Lines of real runs, to which the definitions compute.
-use Rattle.std.specs.Prelude.{◌≡◌, ℕ, List, [], ◌∷◌, codes}
+use Rattle.std.specs.Prelude.{◌≡◌, ℕ, true, List, [], ◌∷◌, codes}
 use Rattle.tide_model.specs.declared.op.Op.TheVariants.{Alloc, Table, Get, Put, Move, Set, Drop, Claim, Release, Unclaim, Add, GetProp, SetProp, StrongSet, StrongGet, WeakSet, WeakGet, PairSet, PairGet, PairDel, Group, Collect, Retire}
 use Rattle.tide_model.specs.declared.op.Refusal.TheVariants.{NotCell, IsTable, NotTable, NoSlot, Held, NotHeld, Present, Absent, NoShape, PairsFull, ClaimsFull, Full}
 use Rattle.tide_model.specs.declared.op.Reply.TheVariants.{Done, Born, Seen, Asked, Refused}
@@ -90,5 +90,5 @@ WorkedSummaries =
     (summary_text (counts_with 1 [] 0) ≡ codes "mutators 1 calls 0\nborn 0 ok 0 cell 0 int 0 empty 0 asked 0 refused 0\nlive 0\n")
     × (summary_text (counts_with 16 (Done ∷ Born 3 ∷ Seen (Cell 3) ∷ Seen (Int 3) ∷ Seen Empty ∷ Asked ∷ Refused IsTable ∷ Done ∷ []) 20480)
     ≡ codes "mutators 16 calls 8\nborn 1 ok 2 cell 1 int 1 empty 1 asked 1 refused 1\nlive 20480\n")
-    × (summary_of small (plain (Call 0 (Alloc 0 0) (Born 0)) ∷ plain (Call 0 Collect Asked) ∷ plain (Begin 1) ∷ plain (Pause 1) ∷ plain (End 1 []) ∷ [])
+    × (summary_of small (plain (Call 0 (Alloc 0 0) (Born 0)) ∷ plain (Call 0 Collect Asked) ∷ plain (Begin 1 true) ∷ plain (Pause 1) ∷ plain (End 1 []) ∷ [])
     ≡ codes "mutators 1 calls 2\nborn 1 ok 0 cell 0 int 0 empty 0 asked 1 refused 0\nlive 1\n")

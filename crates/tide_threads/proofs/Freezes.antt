@@ -1,11 +1,12 @@
 -- Why a heap that stands still may be collected, and what that leaves of its participants and of a run.
 use Rattle.std.proofs.Common.{ℕ, ◌≡◌, ◌<◌, ◌≤◌, ◌∙◌, refl, sym, ap, subst, Bool, true, false, List, [], ◌∷◌, ◌++◌, append-nil, length}
-use Rattle.std.proofs.lemmas.Bool.{and_parts}
+use Rattle.std.proofs.lemmas.Bool.{and_from, and_parts}
 use Rattle.std.proofs.lemmas.List.Elements.{filter-append}
 use Rattle.std.specs.List.{list_all}
-use Rattle.std.specs.Prelude.{Contains, ◌+◌, filter, if◌then◌else◌}
+use Rattle.std.specs.Prelude.{Contains, ◌+◌, filter, if◌then◌else◌, not}
 use Rattle.atomic_table.specs.Seated.{TableId}
-use Rattle.tide_freeze.proofs.QuietLaws.{HasFrozenWhole-quiet, calls_of-quiet, is_quiet, kept_by_quiet, open_count-quiet}
+use Rattle.std.proofs.lemmas.List.Folds.{list_all-append}
+use Rattle.tide_freeze.proofs.QuietLaws.{HasFrozenWhole-quiet, calls_of-quiet, kept_by_quiet, open_count-quiet, quiet_takes_none}
 use Rattle.tide_heap.specs.Parties.{In}
 use Rattle.tide_heap.specs.Turns.{calls_of as noted_calls_of}
 use Rattle.tide_machine.specs.World.{first_visitor}
@@ -15,16 +16,18 @@ use Rattle.tide_model.proofs.Histories.{state_from-append}
 use Rattle.tide_model.specs.History.{is_call_of, state_after, state_from}
 use Rattle.tide_model.specs.Layout.{Layout}
 use Rattle.tide_model.specs.Pace.{Pace}
-use Rattle.tide_model.specs.Periods.{IsSwept, open_count}
+use Rattle.tide_model.specs.Cycle.{IsSwept}
+use Rattle.tide_model.specs.Periods.{open_count}
 use Rattle.tide_model.specs.Prefix.{prefix_trans}
 use Rattle.tide_model.specs.Refused.{ShapeLists}
+use Rattle.tide_model.specs.Since.{is_of_freeze, is_taken}
 use Rattle.tide_model.specs.State.{State, empty_state}
 use Rattle.tide_model.specs.declared.entry.Entry.{Entry}
-use Rattle.tide_model.specs.declared.entry.Entry.TheVariants.{Begin, Call, End, Open, Pause, Sweep, Visits}
+use Rattle.tide_model.specs.declared.entry.Entry.TheVariants.{Begin, Call, End, Open, Pause, Sweep, Taken, Visits}
 use Rattle.tide_model.specs.declared.entry.Event.{Event}
 use Rattle.tide_mutator.specs.Viewed.{view_of}
 use Rattle.tide_periods.specs.Periods.{RanFreeze}
-use Rattle.tide_periods.specs.Recorded.{IsSettled, recorded_at}
+use Rattle.tide_periods.specs.Recorded.{IsSettled, TookNone, recorded_at}
 use Rattle.tide_sched.specs.Paces.{last_run}
 use Rattle.tide_table.specs.Standing.{HasCollected}
 use Rattle.tide_threads.specs.Parked.{IsAtRest, IsParked}
@@ -36,28 +39,29 @@ use Rattle.tide_threads.specs.declared.worker.Worker.TheVariants.{Mutator, Visit
 use Rattle.tide_visitor.specs.Viewed as visiting
 
 -- an entry of a freeze is nobody's call
-own_quiet : (who : ℕ) (entry : Entry) → is_quiet entry ≡ true → is_call_of who entry ≡ false
+own_quiet : (who : ℕ) (entry : Entry) → is_of_freeze entry ≡ true → is_call_of who entry ≡ false
 own_quiet who (Call by op reply) quiet = absurd (cc)
 own_quiet who (Open number run) quiet = refl
-own_quiet who (Begin cycle) quiet = refl
+own_quiet who (Begin cycle full) quiet = refl
 own_quiet who (Pause visits) quiet = refl
 own_quiet who (Visits by visits) quiet = refl
 own_quiet who (End cycle freed) quiet = refl
+own_quiet who (Taken block) quiet = refl
 own_quiet who (Sweep block) quiet = refl
 
 -- so a freeze adds no call of anybody
-pub own-quiet : (who : ℕ) (history events : List Event) → list_all (λ e. is_quiet e.entry) events ≡ true →
+pub own-quiet : (who : ℕ) (history events : List Event) → list_all (λ e. is_of_freeze e.entry) events ≡ true →
     filter (λ e. is_call_of who e.entry) (history ++ events) ≡ filter (λ e. is_call_of who e.entry) history
 own-quiet who history events all =
     filter-append (λ (e : Event). is_call_of who e.entry) history events
     ∙ ap (λ (more : List Event). filter (λ (e : Event). is_call_of who e.entry) history ++ more) (none events all)
     ∙ append-nil (filter (λ (e : Event). is_call_of who e.entry) history)
   where
-    none : (some : List Event) → list_all (λ e. is_quiet e.entry) some ≡ true →
+    none : (some : List Event) → list_all (λ e. is_of_freeze e.entry) some ≡ true →
         filter (λ e. is_call_of who e.entry) some ≡ []
     none [] quiet = refl
     none (event ∷ some) quiet =
-        let (here, later) = and_parts (is_quiet event.entry) (list_all (λ e. is_quiet e.entry) some) quiet in
+        let (here, later) = and_parts (is_of_freeze event.entry) (list_all (λ e. is_of_freeze e.entry) some) quiet in
         ap (λ (b : Bool). if b then event ∷ filter (λ (e : Event). is_call_of who e.entry) some
         else filter (λ (e : Event). is_call_of who e.entry) some) (own_quiet who event.entry here)
         ∙ none some later
@@ -65,7 +69,7 @@ own-quiet who history events all =
 -- what a collection leaves
 module _ (layout : Layout) (shapes : ShapeLists) (pace : Pace) (is_must : Bool) (v w : View) (run : ℕ)
     (did : HasCollected layout shapes pace is_must v w run) where
-  quiet : list_all (λ (e : Event). is_quiet e.entry) did.freezes.events ≡ true
+  quiet : list_all (λ (e : Event). is_of_freeze e.entry) did.freezes.events ≡ true
   quiet = HasFrozenWhole-quiet pace layout (last_run v.seen) v.seen w.seen is_must did.freezes
 
   -- the next part may be opened
@@ -134,6 +138,10 @@ module _ (layout : Layout) (shapes : ShapeLists) (pace : Pace) (is_must : Bool) 
       begun = refl;
       opens = refl;
       swept = swept;
+      untaken = subst TookNone (sym did.freezes.entered)
+          (list_all-append (λ (e : Event). not (is_taken e.entry)) v.seen did.freezes.events
+          ∙ and_from (list_all (λ (e : Event). not (is_taken e.entry)) v.seen)
+          (list_all (λ (e : Event). not (is_taken e.entry)) did.freezes.events) settled.untaken (quiet_takes_none did.freezes.events quiet));
       few = λ who. subst (λ (claims : ℕ → List ℕ). length (claims who) ≤ 8) (sym claims) (settled.few who);
       blocks = refl;
     };

@@ -107,8 +107,7 @@ pub Rests-newcomer : (who : ℕ) → Rests (newcomer who)
 Rests-newcomer who = record {
   held = refl;
   scan = refl;
-  sweeping = refl;
-  between = record { owed = refl; duty = refl; growth = refl; calls = refl };
+  between = record { owed = refl; duty = refl; growth = refl; sweeping = refl; calls = refl };
 }
 
 -- whoever has a visitor's number is one

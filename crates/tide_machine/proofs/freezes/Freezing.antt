@@ -1,5 +1,5 @@
 -- The empty heap meets the wave at a freeze; a freeze leads to it, and an opening from it.
-use Rattle.std.proofs.Common.{ℕ, zero, suc, ◌≡◌, refl, sym, ◌∙◌, ap, subst, arith, true, false, List, [], inl, inr, length}
+use Rattle.std.proofs.Common.{ℕ, zero, suc, ◌≡◌, refl, sym, ◌∙◌, ap, subst, arith, true, false, List, [], inl, inr, length, Option}
 use Rattle.std.proofs.lemmas.Bool.{cases_Bool}
 use Rattle.std.proofs.lemmas.List.Sums.{length-filter}
 use Rattle.std.specs.Prelude.{Contains, ◌%◌, ◌^◌}
@@ -9,24 +9,27 @@ use Rattle.tide_layout.specs.declared.region.Region.TheVariants.{Period}
 use Rattle.tide_layout.specs.declared.region.Region.TheVariants as region
 use Rattle.tide_machine.specs.Duties.{OwesBarrier, OwesColour}
 use Rattle.tide_machine.specs.Frozen.{FrozenWith, FrozenMachine, first_world}
-use Rattle.tide_machine.specs.Owed.{Owes, owed_word}
+use Rattle.tide_machine.proofs.steps.Lists.{nothing_in}
+use Rattle.tide_machine.specs.Owed.{Owes, Unsettles, owed_word, unsettled}
 use Rattle.tide_machine.specs.RunningWave.{RunningWave}
 use Rattle.tide_machine.specs.Scanning.{Place, slot, property}
 use Rattle.tide_machine.specs.World.{World, total, holds, parties, pushes}
 use Rattle.tide_machine.specs.declared.view.Duty.{Duty}
 use Rattle.tide_machine.specs.declared.view.Duty.TheVariants as duty
 use Rattle.tide_machine.specs.declared.view.Owed.{Owed}
+use Rattle.tide_machine.specs.declared.view.Sweeping.{Sweeping}
 use Rattle.tide_machine.specs.points.Links.{LinkAt, ScanExcuses, IsExcused}
 use Rattle.tide_machine.specs.points.Marks.{SpanIsLive, counted_in}
-use Rattle.tide_machine.specs.points.Sweeps.{Sweeps}
+use Rattle.tide_machine.specs.kinds.Sweep.{IsSweeping}
 use Rattle.tide_model.proofs.Histories.{IsLawful-nil}
 use Rattle.tide_model.specs.Cycle.{cycle_span, HasDead, dead_cell, dead_array}
 use Rattle.tide_model.specs.Graph.{IsRetained, retained_in_closed, no_cell, in_slot, in_property}
-use Rattle.tide_model.specs.History.{is_call_of, state_after}
+use Rattle.tide_model.specs.History.{is_call_of, is_open, state_after}
 use Rattle.tide_model.specs.Layout.{Layout}
 use Rattle.tide_model.specs.Prefix.{prefix_refl}
 use Rattle.tide_model.specs.References.{IsLive}
 use Rattle.tide_model.specs.Refused.{ShapeLists}
+use Rattle.tide_model.specs.Since.{TakenAreSwept, since}
 use Rattle.tide_model.specs.State.{empty_state}
 use Rattle.tide_model.specs.declared.entry.Event.{Event}
 use Rattle.tide_words.proofs.heap_laws.Frames.{ReadsAs-same}
@@ -52,11 +55,13 @@ FrozenMachine-first layout shapes = record {
     cycle = omega arith;
     period = refl;
     calls = λ who within. refl;
+    full = λ marks. absurd (cc);
     retained = λ marks. absurd (cc);
     born = λ marks. absurd (cc);
     counted = λ marks. absurd (cc);
     swept = record { last = λ block within. omega arith; ended = λ marks. absurd (cc) };
     clean = λ block within taken has. none_dead block has;
+    swept_told = λ idle some. absurd (omega (arith, some));
   };
   begun = λ p. omega arith;
   left = λ p. refl;
@@ -73,6 +78,8 @@ FrozenMachine-first layout shapes = record {
     full = λ p rests. refl;
     calls = λ p rests. refl;
     sweeping = λ p rests. refl;
+    saw = λ p rests. refl;
+    cleared = λ p rests. refl;
   };
 }
   where
@@ -113,8 +120,19 @@ module _ (layout : Layout) (shapes : ShapeLists) (w : World) (wave : RunningWave
       let push = ap (λ (d : Duty). pushes d cell) (no_duty p) in
       omega (arith, stack, push)
 
-  nobody_sweeps : (block : ℕ) → (p : ℕ) × Sweeps (w.part p) block → ⊥
+  nobody_unsettles : (p : ℕ) (at : Region) (index word : ℕ) → Unsettles (w.part p) at index word → ⊥
+  nobody_unsettles p at index word un = nothing_in (owed_word at index word)
+      (subst (λ (o : Option Sweeping). Contains (unsettled o) (owed_word at index word)) (wave.parked.sweeping p (parked p)) un)
+
+  nobody_sweeps : (block : ℕ) → (p : ℕ) × IsSweeping (w.part p) block → ⊥
   nobody_sweeps block (p, s) = (let none = wave.parked.sweeping p (parked p) in let is = s.is in absurd (cc))
+
+  -- each block that was taken in the part is swept there
+  pub parts_sweep : TakenAreSwept (since is_open w.log)
+  parts_sweep block = elim (wave.sweeps.taken block) [
+    | inl swept ↦ swept
+    | inr sweeps ↦ absurd (nobody_sweeps block sweeps)
+  ]
 
   nobody_excuses : (source : ℕ) (place : Place) (cell : ℕ) → IsExcused w.heap w.part source place cell → ⊥
   nobody_excuses source place cell ex = elim ex.excuse [
@@ -138,7 +156,8 @@ module _ (layout : Layout) (shapes : ShapeLists) (w : World) (wave : RunningWave
         ∙ ap length (sym (wave.known.own who)) ∙ length-filter (λ (event : Event). is_call_of who event.entry) w.log);
     marking = record {
       reads = ReadsAs-same layout shapes wave.words.settled w.heap (state_after layout w.log) (λ at read index below.
-          wave.words.same at index read (λ p word owes. nobody_owes p at index word owes)) wave.words.reads;
+          wave.words.same at index read (λ p word owes. nobody_owes p at index word owes)
+          (λ p word un. nobody_unsettles p at index word un)) wave.words.reads;
       references = wave.refs;
       few_cycles = wave.few_cycles;
       colours = wave.colours;
@@ -159,6 +178,7 @@ module _ (layout : Layout) (shapes : ShapeLists) (w : World) (wave : RunningWave
       live = λ marks cell within is. retained_is_live layout w.heap w.log wave.span marks cell
           (wave.retained.marked marks cell within is);
     };
+    full = wave.full;
     retained = wave.retained.marked;
     span = wave.span;
     born = λ marks cell within since. elim (wave.born.born marks cell within since) [
@@ -167,7 +187,8 @@ module _ (layout : Layout) (shapes : ShapeLists) (w : World) (wave : RunningWave
     ];
     counted = wave.counted.counted;
     swept = wave.swept;
-    clean = λ block within taken has. nobody_sweeps block (wave.sweeps.named block within taken has);
+    clean = λ block within taken has. nobody_sweeps block (wave.sweeps.named.named block within taken has);
+    swept_told = wave.sweeps.told;
   }
 
 -- once nobody runs the machine is frozen, with the visits that views count

@@ -14,7 +14,7 @@ use Rattle.tide_machine.proofs.steps.BareTables.{TablesAreBare-lawful}
 use Rattle.tide_machine.proofs.steps.Colouring.{count_where-le}
 use Rattle.tide_machine.proofs.steps.Growing
 use Rattle.tide_machine.proofs.steps.Lists.{nothing_in}
-use Rattle.tide_machine.proofs.steps.SweepsKept.{swept_kept}
+use Rattle.tide_machine.proofs.steps.SweepsKept.{swept_kept, told_kept}
 use Rattle.tide_machine.specs.Duties.{OwesColour, IsCalm}
 use Rattle.tide_machine.specs.Frozen.{FrozenMachine, FrozenWith, MayOpen}
 use Rattle.tide_machine.specs.Owed.{owed_word}
@@ -33,7 +33,9 @@ use Rattle.tide_machine.specs.points.Seen.{IsKnown, WhoLeftIsInactive, ParkedIsE
 use Rattle.tide_machine.specs.points.Stops.{StopsAreTold}
 use Rattle.tide_machine.specs.points.Sweeps.{Sweeps}
 use Rattle.tide_machine.specs.points.Witness.{IsLeft, in_word}
+use Rattle.tide_model.proofs.OldLaws.{is_full-kept}
 use Rattle.tide_model.proofs.Cycles.{graph_in_span}
+use Rattle.tide_model.proofs.DeadLaws.{WasTaken-before, WasTaken-push}
 use Rattle.tide_model.proofs.Histories.{IsLawful-push, state_after-push, moment_after_last-le}
 use Rattle.tide_model.proofs.SinceLaws.{count-push, since-none}
 use Rattle.tide_model.specs.Cycle.{cycle_span, HasDead}
@@ -44,7 +46,7 @@ use Rattle.tide_model.specs.Periods.{open_count}
 use Rattle.tide_model.specs.Prefix.{prefix_trans, prefix_push}
 use Rattle.tide_model.specs.References.{IsLive, RefsAreLive}
 use Rattle.tide_model.specs.Refused.{ShapeLists}
-use Rattle.tide_model.specs.Since.{visits_since}
+use Rattle.tide_model.specs.Since.{is_sweep_of, is_taken_of, visits_since}
 use Rattle.tide_model.specs.State.{State, is_free}
 use Rattle.tide_model.specs.declared.entry.Entry.TheVariants.{Open}
 use Rattle.tide_model.specs.declared.entry.Event.{Event}
@@ -131,7 +133,8 @@ module _ (layout : Layout) (shapes : ShapeLists) (heap : Heap) (part : ℕ → V
     words = record {
       settled = new;
       reads = subst (ReadsAs layout shapes new) (sym same_state) reads_still;
-      same = λ at index read free. refl;
+      same = λ at index read free swept. refl;
+      given = λ p s is gave. absurd (let none = empty.sweeping p (parked p) in cc);
       owed = λ p at index word owes. absurd
           (nothing (part p).owed (owed_word at index word) (empty.owed p (parked p)) owes);
       known = λ p at index word is. absurd
@@ -139,7 +142,7 @@ module _ (layout : Layout) (shapes : ShapeLists) (heap : Heap) (part : ℕ → V
       owns = λ p at index word owes. absurd
           (nothing (part p).owed (owed_word at index word) (empty.owed p (parked p)) owes);
     };
-    calls_alone = λ event at. absurd
+    part_alone = λ event at. absurd
         (nothing_in event (subst (λ (l : List Event). Contains l event)
         (since-none is_open before (plain (Open number run)) refl) at));
     calls = λ p within. wave.calls p within ∙ ap (λ (n : ℕ). n % 2 ^ 64)
@@ -179,6 +182,7 @@ module _ (layout : Layout) (shapes : ShapeLists) (heap : Heap) (part : ℕ → V
           (linked source cell place (subst (λ (t : State). LinkAt t source place cell) same_state link)) in
           absurd (cc));
     };
+    full = λ marks. is_full-kept before (plain (Open number run)) refl ∙ wave.full marks;
     retained = record {
       marked = λ marks cell within is. retained-push layout before (plain (Open number run)) refl cell
           (wave.retained marks cell within is);
@@ -235,11 +239,26 @@ module _ (layout : Layout) (shapes : ShapeLists) (heap : Heap) (part : ℕ → V
         (IsLawful-push layout shapes before (plain (Open number run)) wave.lawful refl);
     swept = swept_kept layout heap new refl (λ block within. refl) wave.swept;
     sweeps = record {
-      taken = λ p block s. no_sweep p block s;
-      owner = λ block. 0;
-      once = λ p block s. no_sweep p block s;
-      named = λ block within taken has. absurd (wave.clean block within (taken.0, taken.1)
-          (subst (λ (t : State). HasDead layout t block) same_state has));
+      named = record {
+        taken = λ p block s. no_sweep p block s;
+        begun = λ p block s. no_sweep p block s;
+        active = λ p block s. no_sweep p block s;
+        owner = λ block. 0;
+        once = λ p block s. no_sweep p block s;
+        named = λ block within taken has. absurd (wave.clean block within (taken.0, taken.1)
+            (subst (λ (t : State). HasDead layout t block) same_state has));
+        stands = λ p s is. absurd (let none = empty.sweeping p (parked p) in cc);
+        saw = λ p saw is. absurd (let none = empty.saw p (parked p) in cc);
+      };
+      told = told_kept layout heap new before log refl (λ block within. refl) (λ block. (
+        WasTaken-push before (plain (Open number run)) block refl,
+        WasTaken-before before (plain (Open number run)) block refl,
+      )) wave.swept_told;
+      taken = λ block. inl (subst (λ (l : List Event). moment_after_last (λ e. is_taken_of block e.entry) l
+          ≤ moment_after_last (λ e. is_sweep_of block e.entry) l) (sym (since-none is_open before (plain (Open number run)) refl))
+          (omega arith));
+      cleared = λ p block moment is. absurd (nothing (part p).cleared (record { block = block; moment = moment })
+          (empty.cleared p (parked p)) is);
     };
     left = subst (WhoLeftIsInactive part) (sym same_state) left;
     scans = record { knows = λ p scan is. no_scan p scan is };

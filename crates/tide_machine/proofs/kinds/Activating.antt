@@ -9,6 +9,7 @@ use Rattle.tide_machine.proofs.steps.Lists.{nothing_in}
 use Rattle.tide_machine.proofs.steps.Steps.{any_step}
 use Rattle.tide_machine.proofs.steps.SweepsKept.{sweeps_kept}
 use Rattle.tide_machine.proofs.steps.Waiting.{left_kept}
+use Rattle.tide_machine.proofs.steps.Unsettled.{given_put, unsettles_put}
 use Rattle.tide_machine.specs.Duties.{GrowsAndOwes}
 use Rattle.tide_machine.specs.Owed.{Owes, IsOwnWord, owed_word}
 use Rattle.tide_machine.specs.RunningWave.{RunningWave}
@@ -49,10 +50,11 @@ module _ (layout : Layout) (shapes : ShapeLists) (w : World) (me : ℕ) (inside 
   words_after = record {
     settled = wave.words.settled;
     reads = wave.words.reads;
-    same = λ at index read free. wave.words.same at index read (λ p word owes.
+    same = λ at index read free swept. wave.words.same at index read (λ p word owes.
         free p word (put_at_elim (λ p u. (at : Region) (index word : ℕ) → Owes (w.part p) at index word →
         Owes u at index word) w.part me later (λ at index word o. o) (λ p apart at index word o.
-        o) p at index word owes));
+        o) p at index word owes)) (unsettles_put w.part me later refl at index swept);
+    given = given_put wave.words.settled w.part me later refl wave.words.given;
     owed = each_put (λ p u. (at : Region) (index word : ℕ) → Owes u at index word → wave.words.settled at index ≡ word)
         w.part me later (wave.words.owed me) wave.words.owed;
     known = each_put (λ p u. (at : Region) (index word : ℕ) → Contains u.known (owed_word at index word) →
@@ -87,8 +89,8 @@ module _ (layout : Layout) (shapes : ShapeLists) (w : World) (me : ℕ) (inside 
         (λ is_one none. let more = counts first_or_again in omega (arith, more, none)) round_anew wave.waits;
     stands = wave.arrays;
     swept = wave.swept;
-    sweeps = sweeps_kept layout w.heap w.heap w.part me later (state_after layout w.log) (state_after layout w.log) refl
-        (λ block. refl) refl (λ block has. has) wave.sweeps;
+    sweeps = sweeps_kept layout w.heap w.heap w.part me later w.log refl (λ block. refl) (λ block. refl)
+        (λ p at index word un. refl) refl refl refl refl wave.sweeps;
     empties = λ is. absurd (cc);
     colours = wave.colours;
     balance = λ _ c in_c few. refl;

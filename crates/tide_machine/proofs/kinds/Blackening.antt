@@ -187,6 +187,8 @@ module _ (layout : Layout) (shapes : ShapeLists) (w : World) (me : ℕ) (inside 
     begun = refl;
     left = refl;
     sweeping = refl;
+    saw = refl;
+    cleared = refl;
     swept = λ block. refl;
     waits = waits_after;
     period = refl;

@@ -40,6 +40,8 @@ store_call_word layout shapes w me inside wave word may =
       period = refl;
       left = refl;
       sweeping = refl;
+      saw = refl;
+      cleared = refl;
       swept = λ block. refl;
       waits = left_quiet layout w.heap new w.part me later refl refl (λ _ c in_c is. is) (λ c is. is) refl refl refl
           refl

@@ -1,5 +1,5 @@
 -- The kinds on claim words keep the wave: a claim is taken, is found to be another's, or is given back.
-use Rattle.std.proofs.Common.{ℕ, ◌≡◌, ◌≢◌, ◌<◌, ◌==◌, refl, sym, ◌∙◌, ap, subst, arith, Bool, true, false, List, [], ◌∷◌, ◌++◌, inl, inr, Some, None}
+use Rattle.std.proofs.Common.{ℕ, zero, ◌≡◌, ◌≢◌, ◌<◌, ◌==◌, refl, sym, ◌∙◌, ap, subst, arith, Bool, true, false, List, [], ◌∷◌, ◌++◌, inl, inr, Some, None}
 use Rattle.std.proofs.lemmas.List.Elements.{Contains-append_cases, Contains-append_right}
 use Rattle.std.specs.Prelude.{Contains, if◌then◌else◌, filter, drop, not, slice_get}
 use Rattle.tide_call.proofs.reading_laws.CallReading.{calls_read_back}
@@ -14,6 +14,7 @@ use Rattle.tide_machine.proofs.steps.Lists.{in_one}
 use Rattle.tide_machine.proofs.steps.Loads.{load_same, load_nothing}
 use Rattle.tide_machine.proofs.steps.Paying.{filter_was}
 use Rattle.tide_machine.proofs.steps.PlainWords.{plain_word}
+use Rattle.tide_machine.proofs.steps.SettledNow.{claim_now}
 use Rattle.tide_machine.specs.Entries.{reply_of_call, call_of, added}
 use Rattle.tide_machine.specs.Groups.{is_of_claims}
 use Rattle.tide_machine.specs.Kind.{Kind, LoadClaim, TakeClaim, Release}
@@ -32,6 +33,7 @@ use Rattle.tide_model.specs.Applied.{after_call, at_cell, put_claims}
 use Rattle.tide_model.specs.History.{state_after}
 use Rattle.tide_model.specs.Layout.{Layout}
 use Rattle.tide_model.specs.Numbers.{put_at}
+use Rattle.tide_model.specs.References.{IsLive}
 use Rattle.tide_model.specs.Refused.{ShapeLists}
 use Rattle.tide_model.specs.State.{State}
 use Rattle.tide_model.specs.declared.op.Op.{Op}
@@ -62,7 +64,7 @@ module _ (layout : Layout) (shapes : ShapeLists) (limits : IsWithinLimits layout
       by _ _ (own_element c a k at is has) e = omega (arith, e)
 
   -- a call writes one claim word, and changes the claims of its mutator
-  pub changes_claim : (o : Op) (cell word : ℕ) (claims : List ℕ) → MayCall layout shapes w me o Done None →
+  pub changes_claim : (o : Op) (cell word : ℕ) (claims : List ℕ) → IsLive state cell → MayCall layout shapes w me o Done None →
       after_call state me o Done None ≡ put_claims state me claims →
       CallWords layout shapes wave.words.settled state me o Done None (write wave.words.settled region.Claim cell word)
       →
@@ -72,12 +74,13 @@ module _ (layout : Layout) (shapes : ShapeLists) (limits : IsWithinLimits layout
         part = put_at w.part me (with_entry w.log (Some (call_of me o Done None)) (called [] (w.part me)));
         log = added w.log (Some (call_of me o Done None));
       })
-  changes_claim o cell word claims may becomes words unknown =
+  changes_claim o cell word claims alive may becomes words unknown =
       plain_word layout shapes w me inside wave may.runner.runs may.between.duty may.between.owed may.between.growth
       o Done (λ c. refl) may.stands state.active state.registers (put_at state.claims me claims) state.strong state.weak
       (w.part me).left region.Claim cell word record {
         changes = refl;
         no_call = refl;
+        settled = claim_now layout shapes w wave cell (λ is. absurd (cc));
         becomes = becomes;
         reads = subst (ReadsAs layout shapes (write wave.words.settled region.Claim cell word)) becomes
             (calls_read_back layout shapes wave.words.settled (write wave.words.settled region.Claim cell word) state me
@@ -97,6 +100,7 @@ module _ (layout : Layout) (shapes : ShapeLists) (limits : IsWithinLimits layout
         claims_else = λ p apart. else_claims p apart;
         active_else = λ p apart. refl;
         left_is = wave.left me;
+        leaves = inl refl;
         hidden = λ p c apart alive h. (
           h.registers,
           h.strong,
@@ -152,7 +156,8 @@ module _ (layout : Layout) (shapes : ShapeLists) (limits : IsWithinLimits layout
             log = added w.log (Some (call_of me (op.Claim src) (if b then Done else reply_of_call layout shapes state me
                 (op.Claim src)) None));
           })
-      by true call = changes_claim (op.Claim src) cell (claim_word (Some me)) (state.claims me ++ cell ∷ []) call
+      by true call = changes_claim (op.Claim src) cell (claim_word (Some me)) (state.claims me ++ cell ∷ [])
+          (wave.refs.in_registers me src cell call.stands.is_active source) call
           (ap (λ (x : Val). at_cell state x (λ c. put_claims state me (state.claims me ++ c ∷ []))) source)
           (cell, source, λ other index below. refl)
           (λ p c apart h at. elim (Contains-append_cases (state.claims me) (cell ∷ []) c at) [
@@ -167,13 +172,15 @@ module _ (layout : Layout) (shapes : ShapeLists) (limits : IsWithinLimits layout
       RunningWave layout shapes (stepped layout shapes w me (Release cell (Some o)))
   release cell (op.Release src) (source, may) =
       changes_claim (op.Release src) cell (claim_word None)
-      (filter (λ claimed. not (claimed == cell)) (state.claims me)) may
+      (filter (λ claimed. not (claimed == cell)) (state.claims me))
+      (wave.refs.in_registers me src cell may.stands.is_active source) may
       (ap (λ (x : Val). at_cell state x (λ c.
       put_claims state me (filter (λ claimed. not (claimed == c)) (state.claims me)))) source)
       (cell, source, λ other index below. refl)
       (λ p c apart h at. h.claims me (filter_was (λ (claimed : ℕ). not (claimed == cell)) (state.claims me) c at).0)
   release cell op.Unclaim ((others, is), may) =
-      changes_claim op.Unclaim cell (claim_word None) others may
+      changes_claim op.Unclaim cell (claim_word None) others
+      (wave.refs.claimed me cell (subst (λ (l : List ℕ). Contains l cell) (sym is) (zero, omega arith, refl))) may
       (ap (λ (l : List ℕ). put_claims state me (drop 1 l)) is)
       (cell, others, is, λ other index below. refl)
       (λ p c apart h at. h.claims me (subst (λ (l : List ℕ). Contains l c) (sym is)

@@ -9,11 +9,11 @@ use Rattle.tide_model.specs.Refused.{ShapeLists}
 
 pub allowed_has_law : (layout : Layout) (shapes : ShapeLists) (w : World) (me : ℕ) (kind : Kind) →
     IsAllowed layout shapes w me kind → has_law kind ≡ true
-allowed_has_law layout shapes w me (ClaimBlock block old cycle) may = absurd may
-allowed_has_law layout shapes w me (LoadDead block) may = absurd may
-allowed_has_law layout shapes w me (ZeroWord at index) may = absurd may
-allowed_has_law layout shapes w me (GiveBits block bits) may = absurd may
-allowed_has_law layout shapes w me (Finish block) may = absurd may
+allowed_has_law layout shapes w me (ClaimBlock block old cycle) may = refl
+allowed_has_law layout shapes w me (LoadDead block) may = refl
+allowed_has_law layout shapes w me (ZeroWord at index) may = refl
+allowed_has_law layout shapes w me (GiveBits block bits) may = refl
+allowed_has_law layout shapes w me (Finish block) may = refl
 allowed_has_law layout shapes w me Split may = refl
 allowed_has_law layout shapes w me (Join ticket) may = refl
 allowed_has_law layout shapes w me Activate may = refl

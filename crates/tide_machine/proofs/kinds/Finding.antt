@@ -37,6 +37,8 @@ finds layout shapes heap part log me inside wave runs word = quiet_step layout s
   period = refl;
   left = refl;
   sweeping = refl;
+  saw = refl;
+  cleared = refl;
   swept = λ block. refl;
   waits = left_quiet layout heap heap part me (record (part me) { found = word }) refl refl (λ _ c in_c is. is)
       (λ c is. is) refl refl refl refl wave.waits;

@@ -14,6 +14,8 @@ use Rattle.tide_machine.proofs.steps.Paying.{words_over, words_paid, in_filter, 
 use Rattle.tide_machine.proofs.steps.Steps.{any_step}
 use Rattle.tide_machine.proofs.steps.SweepsKept.{swept_kept, sweeps_kept}
 use Rattle.tide_machine.proofs.steps.Waiting.{left_quiet}
+use Rattle.tide_machine.proofs.steps.SettledNow.{own_now}
+use Rattle.tide_machine.proofs.steps.Unsettled.{unsettled_write}
 use Rattle.tide_machine.specs.Duties.{GrowsAndOwes, GrowsOn, OwesBarrier, nuked_growth, stored_growth}
 use Rattle.tide_machine.specs.Kind.{Nuke, StoreArray, StoreStructure}
 use Rattle.tide_machine.specs.Machine.{stepped}
@@ -96,7 +98,9 @@ module _ (layout : Layout) (shapes : ShapeLists) (w : World) (me : ℕ) (inside 
           let p = property_stands place (omega (arith, below, few)) in
           p.1 ∙ sym (elements (index_of_element layout array place) ∙ wave.words.same region.Elements
           (index_of_element layout array place) refl (λ p x owes. unowed place (property_stands place
-          (omega (arith, below, few))).0 p x owes));
+          (omega (arith, below, few))).0 p x owes)
+          (own_now layout shapes w wave me region.Elements (index_of_element layout array place)
+          (own_element cell array place mine has (property_stands place (omega (arith, below, few))).0)));
     }
       where
         unowed : (place : ℕ) → HasElement layout array place → (p x : ℕ) →
@@ -259,8 +263,9 @@ module _ (layout : Layout) (shapes : ShapeLists) (w : World) (me : ℕ) (inside 
             refl refl refl wave.waits;
         stands = arrays_after;
         swept = swept_kept layout w.heap new refl (λ block within. refl) wave.swept;
-        sweeps = sweeps_kept layout w.heap new w.part me (later stage owed) state state refl (λ block. refl) refl
-            (λ block has. has) wave.sweeps;
+        sweeps = sweeps_kept layout w.heap new w.part me (later stage owed) w.log refl (λ block. refl) (λ block. refl)
+            (unsettled_write w.heap w.part region.Structure cell word
+            (own_now layout shapes w wave me region.Structure cell (own_structure cell mine))) refl refl refl refl wave.sweeps;
         growth = s.growth;
         growths = λ p apart. growth_kept w.heap new state state p (w.part p) (w.part p)
             (λ c its. there c (λ e. claimed_alone p cell apart mine (subst (Contains (state.claims p)) e its)))
@@ -341,7 +346,7 @@ module _ (layout : Layout) (shapes : ShapeLists) (w : World) (me : ℕ) (inside 
         or_nuked = inl (nuked_word_reads may.old k.0.even).0;
         words = words_over layout shapes w.heap w.part me state wave.words region.Structure cell
             (later (growth.Nuked cell may.array may.old may.next) (w.part me).owed)
-            (λ r i x at. from_none (owed_word r i x) at) (nuked_word may.old) may.next k.0.owes refl;
+            (λ r i x at. from_none (owed_word r i x) at) refl (nuked_word may.old) may.next k.0.owes refl;
         growth = (
           record {
             claimed = k.0.claimed;
@@ -391,7 +396,7 @@ module _ (layout : Layout) (shapes : ShapeLists) (w : World) (me : ℕ) (inside 
             omega (arith, o, c, m));
         words = words_paid layout shapes w.heap w.part me state wave.words region.Structure cell
             (later growth.Nothing (without_word region.Structure cell (w.part me).owed))
-            (λ r i x at. from_none (owed_word r i x) at) next k.0.owes refl;
+            (λ r i x at. from_none (owed_word r i x) at) refl next k.0.owes refl;
         growth = tt;
         beyond = λ marks source n target link past g.
             let same : cell ≡ source = subst (λ (h : Growth). GrowsOn h source) may.stage g.grows in
@@ -507,7 +512,7 @@ module _ (layout : Layout) (shapes : ShapeLists) (w : World) (me : ℕ) (inside 
       phase = refl;
       period = refl;
       words = words_paid layout shapes w.heap w.part me state wave.words region.Array cell stored_view
-          (λ r i x at. from_none (owed_word r i x) at) (array + 1) k.1 refl;
+          (λ r i x at. from_none (owed_word r i x) at) refl (array + 1) k.1 refl;
       who = refl;
       seen = inl refl;
       mine = refl;
@@ -522,8 +527,9 @@ module _ (layout : Layout) (shapes : ShapeLists) (w : World) (me : ℕ) (inside 
           refl refl wave.waits;
       stands = arrays_stored;
       swept = swept_kept layout w.heap stored refl (λ block within. refl) wave.swept;
-      sweeps = sweeps_kept layout w.heap stored w.part me stored_view state state refl (λ block. refl) refl
-          (λ block has. has) wave.sweeps;
+      sweeps = sweeps_kept layout w.heap stored w.part me stored_view w.log refl (λ block. refl) (λ block. refl)
+          (unsettled_write w.heap w.part region.Array cell (array + 1)
+          (own_now layout shapes w wave me region.Array cell (own_array cell k.0.claimed))) refl refl refl refl wave.sweeps;
       growth = (
         record {
           claimed = k.0.claimed;

@@ -12,6 +12,7 @@ use Rattle.tide_machine.proofs.steps.Owning.{own_alone}
 use Rattle.tide_machine.proofs.steps.Steps.{any_step}
 use Rattle.tide_machine.proofs.steps.SweepsKept.{sweeps_kept}
 use Rattle.tide_machine.proofs.steps.Waiting.{left_quiet}
+use Rattle.tide_machine.proofs.steps.Unsettled.{given_put, own_settled, unsettles_put}
 use Rattle.tide_machine.specs.Duties.{GrowsAndOwes}
 use Rattle.tide_machine.specs.Owed.{Owes, owed_word, IsOwnWord}
 use Rattle.tide_machine.specs.RunningWave.{RunningWave}
@@ -55,7 +56,8 @@ module _ (layout : Layout) (shapes : ShapeLists) (w : World) (me : ℕ) (inside 
     ]
 
     settled_is : wave.words.settled at index ≡ w.heap at index
-    settled_is = sym (wave.words.same at index read unowed)
+    settled_is = sym (wave.words.same at index read unowed (own_settled layout shapes w.heap w.part state wave.words
+        wave.sweeps.named wave.refs me at index own))
 
     -- what is known is this word, or was known
     known_cases : (r : Region) (i x : ℕ) → Contains later.known (owed_word r i x) →
@@ -69,7 +71,9 @@ module _ (layout : Layout) (shapes : ShapeLists) (w : World) (me : ℕ) (inside 
     words_after = record {
       settled = wave.words.settled;
       reads = wave.words.reads;
-      same = λ r i is_one free. wave.words.same r i is_one (λ p x owes. free p x (back p r i x owes));
+      same = λ r i is_one free swept. wave.words.same r i is_one (λ p x owes. free p x (back p r i x owes))
+          (unsettles_put w.part me later refl r i swept);
+      given = given_put wave.words.settled w.part me later refl wave.words.given;
       owed = each_put (λ p u. (r : Region) (i x : ℕ) → Owes u r i x → wave.words.settled r i ≡ x) w.part me later
           (wave.words.owed me) wave.words.owed;
       known = each_put (λ p u. (r : Region) (i x : ℕ) → Contains u.known (owed_word r i x) →
@@ -117,8 +121,8 @@ module _ (layout : Layout) (shapes : ShapeLists) (w : World) (me : ℕ) (inside 
           wave.waits;
       stands = wave.arrays;
       swept = wave.swept;
-      sweeps = sweeps_kept layout w.heap w.heap w.part me later state state refl (λ block. refl) refl (λ block has. has)
-          wave.sweeps;
+      sweeps = sweeps_kept layout w.heap w.heap w.part me later w.log refl (λ block. refl) (λ block. refl)
+          (λ p r i x un. refl) refl refl refl refl wave.sweeps;
       growth = growth_kept w.heap w.heap state state me (w.part me) later (λ c mine. refl) (λ c mine. refl) (λ c at. at)
           (λ c a mine is. is) (λ c x o. o) (λ c x o. o) (λ i x o. o) (w.part me).growth (wave.growths.knows me);
       growths = λ p apart. wave.growths.knows p;

@@ -14,6 +14,7 @@ use Rattle.tide_machine.proofs.steps.GrowthsKept.{growth_kept}
 use Rattle.tide_machine.proofs.steps.Owning.{own_alone}
 use Rattle.tide_machine.proofs.steps.Registers.{register_after}
 use Rattle.tide_machine.proofs.steps.ScansKept.{scan_kept}
+use Rattle.tide_machine.proofs.steps.Unsettled.{given_put, unsettles_put}
 use Rattle.tide_machine.specs.Duties.{OwesColour, IsCalm}
 use Rattle.tide_machine.specs.Entries.{call_of}
 use Rattle.tide_machine.specs.Owed.{Owes, IsOwnWord, own_register, own_structure, own_array, own_pair, own_element, owed_word}
@@ -116,9 +117,10 @@ module _ (layout : Layout) (shapes : ShapeLists) (w : World) (me : ℕ) (inside 
     settled = settled;
     reads = Reading-register layout shapes wave.words.settled state wave.words.reads me dst value stands.is_mutator
         in_registers number;
-    same = λ at index read free. elim (cases_Bool ((tag at == tag region.Registers) && (index == idx))) [
+    same = λ at index read free swept. elim (cases_Bool ((tag at == tag region.Registers) && (index == idx))) [
       | inl both ↦ absurd (free me (val_word value) (here at index both))
-      | inr isnt ↦ wave.words.same at index read (λ p x owes. free p x (back p at index x owes)) ∙
+      | inr isnt ↦ wave.words.same at index read (λ p x owes. free p x (back p at index x owes))
+          (unsettles_put w.part me later refl at index swept) ∙
           sym (ap (λ (b : Bool). if b then val_word value else wave.words.settled at index) isnt)
     ];
     owed = put_at_elim (λ p u. (at : Region) (index x : ℕ) → Owes u at index x → settled at index ≡ x) w.part me later
@@ -126,6 +128,7 @@ module _ (layout : Layout) (shapes : ShapeLists) (w : World) (me : ℕ) (inside 
         (write-same wave.words.settled region.Registers idx (val_word value)))
         (λ p apart at index x owes. elsewhere p at index apart (wave.words.owns p at index x owes) ∙
         wave.words.owed p at index x owes);
+    given = given_put settled w.part me later refl wave.words.given;
     known = put_at_elim (λ p u. (at : Region) (index x : ℕ) → Contains u.known (owed_word at index x) →
         settled at index ≡ x) w.part me later
         (λ at index x is. absurd (let below = is.1 in omega (arith, below)))
@@ -235,6 +238,11 @@ module _ (layout : Layout) (shapes : ShapeLists) (w : World) (me : ℕ) (inside 
     held = refl;
     round = refl;
     sweeping = refl;
+    saw = refl;
+    cleared = refl;
+    leaves = inl refl;
+    dead_words = λ b. refl;
+    differs = λ p at index other un. refl;
     scan = refl;
     known = refl;
     full = refl;

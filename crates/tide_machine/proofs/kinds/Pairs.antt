@@ -14,6 +14,7 @@ use Rattle.tide_machine.proofs.steps.Lists.{nothing_in}
 use Rattle.tide_machine.proofs.steps.Loads.{load_same}
 use Rattle.tide_machine.proofs.steps.Owning.{own_alone}
 use Rattle.tide_machine.proofs.steps.SameLinks.{SameLinks, same_links, same_arrays, all_same}
+use Rattle.tide_machine.proofs.steps.SettledNow.{own_now}
 use Rattle.tide_machine.specs.Duties.{IsCalm, OwesColour}
 use Rattle.tide_machine.specs.Kind.{LoadPair, StorePair}
 use Rattle.tide_machine.specs.Machine.{stepped}
@@ -64,6 +65,8 @@ module _ (layout : Layout) (shapes : ShapeLists) (limits : IsWithinLimits layout
       region.Slots region.Slots (index_of_slot layout table other) (index_of_slot layout table other)
       (wave.words.owns p region.Slots (index_of_slot layout table other) word owes)
       (own_pair table other own.claimed own.is_one has) refl refl))
+      (own_now layout shapes w wave me region.Slots (index_of_slot layout table other)
+      (own_pair table other own.claimed own.is_one has))
     where
       nobody : (p word : ℕ) → Owes (w.part p) region.Slots (index_of_slot layout table other) word → p ≡ me → ⊥
       nobody p word owes same =
@@ -105,6 +108,8 @@ module _ (layout : Layout) (shapes : ShapeLists) (limits : IsWithinLimits layout
           called = refl;
           no_period = refl;
           no_call = refl;
+          no_dead = refl;
+          settled = own_now layout shapes w wave me region.Slots idx (own_pair table place own.claimed own.is_one own.has);
           becomes = becomes;
           reads = subst (ReadsAs layout shapes (write wave.words.settled region.Slots idx word)) becomes
               (call_reads layout shapes limits empty_shape w wave me op Done None

@@ -15,6 +15,8 @@ use Rattle.tide_machine.proofs.steps.ScansKept.{scan_kept}
 use Rattle.tide_machine.proofs.steps.Steps.{any_step}
 use Rattle.tide_machine.proofs.steps.SweepsKept.{swept_kept, sweeps_kept}
 use Rattle.tide_machine.proofs.steps.Waiting.{left_quiet}
+use Rattle.tide_machine.proofs.steps.SettledNow.{register_now}
+use Rattle.tide_machine.proofs.steps.Unsettled.{unsettled_write}
 use Rattle.tide_machine.specs.Duties.{GrowsAndOwes, OwesBarrier}
 use Rattle.tide_machine.specs.Owed.{is_at, Owes, IsOwnWord, owed_word, without_word}
 use Rattle.tide_machine.specs.RunningWave.{RunningWave}
@@ -76,7 +78,7 @@ module _ (layout : Layout) (shapes : ShapeLists) (w : World) (me : ℕ) (inside 
     inside = inside;
     phase = refl;
     words = words_paid layout shapes w.heap w.part me state wave.words region.Registers idx later (λ r i x at.
-        from_none (owed_word r i x) at) word owes_it refl;
+        from_none (owed_word r i x) at) refl word owes_it refl;
     who = refl;
     seen = inl refl;
     mine = refl;
@@ -92,7 +94,8 @@ module _ (layout : Layout) (shapes : ShapeLists) (w : World) (me : ℕ) (inside 
     stands = arrays_kept layout w.heap new state state (λ c. refl) (λ c. refl) (λ i. refl) (λ array. refl)
         (λ c array alive is. (alive, refl, refl, refl)) (λ c alive none. inl alive) wave.arrays;
     swept = swept_kept layout w.heap new refl (λ block within. refl) wave.swept;
-    sweeps = sweeps_kept layout w.heap new w.part me later state state refl (λ block. refl) refl (λ block has. has)
+    sweeps = sweeps_kept layout w.heap new w.part me later w.log refl (λ block. refl) (λ block. refl)
+        (unsettled_write w.heap w.part region.Registers idx word (register_now layout shapes w wave idx)) refl refl refl refl
         wave.sweeps;
     empties = λ is. absurd (cc);
     growth = growth_kept w.heap new state state me (w.part me) later (λ c mine. refl) (λ c mine. refl) (λ c at. at)

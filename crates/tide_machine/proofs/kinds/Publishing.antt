@@ -147,6 +147,8 @@ module _ (layout : Layout) (shapes : ShapeLists) (w : World) (me : ℕ) (inside 
     period = refl;
     left = refl;
     sweeping = refl;
+    saw = refl;
+    cleared = refl;
     swept = λ block. refl;
     waits = left_kept layout w.heap new w.part me later refl refl (λ _ c in_c is. is) bit_stays (λ is_one none. none)
         given_back wave.waits;

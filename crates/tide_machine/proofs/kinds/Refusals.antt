@@ -1,5 +1,5 @@
 -- A call that changes no word that is read, and leaves the store as it was, keeps the wave: refusals, and Collect.
-use Rattle.std.proofs.Common.{ℕ, ◌≡◌, ◌<◌, ◌+◌, refl, ◌∙◌, ap, subst, true, false, List, [], ◌∷◌, ◌++◌, Option, Some, None}
+use Rattle.std.proofs.Common.{ℕ, ◌≡◌, ◌<◌, ◌+◌, refl, ◌∙◌, ap, subst, true, false, List, [], ◌∷◌, ◌++◌, Option, Some, None, inl}
 use Rattle.std.proofs.lemmas.Bool.{ne_eqb}
 use Rattle.std.specs.Prelude.{Contains, ◌%◌, ◌^◌, length}
 use Rattle.tide_core.specs.FrozenWave.{is_birth_of}
@@ -10,6 +10,7 @@ use Rattle.tide_layout.specs.declared.region.Region.TheVariants as region
 use Rattle.tide_machine.proofs.steps.Colouring.{unread_write}
 use Rattle.tide_machine.proofs.steps.Lists.{nothing_in}
 use Rattle.tide_machine.proofs.steps.PlainCalls
+use Rattle.tide_machine.proofs.steps.Unsettled.{given_put, unsettled_read, unsettles_put}
 use Rattle.tide_machine.specs.Entries.{reply_of_call, refused_or_full, class_taken, call_of}
 use Rattle.tide_machine.specs.Kind.{StoreCall}
 use Rattle.tide_machine.specs.Machine.{stepped}
@@ -64,8 +65,10 @@ module _ (layout : Layout) (shapes : ShapeLists) (w : World) (me : ℕ) (inside 
     words_after = record {
       settled = wave.words.settled;
       reads = wave.words.reads;
-      same = λ at index read free. words at index read ∙
-          wave.words.same at index read (λ p x owes. free p x (back p at index x owes));
+      same = λ at index read free swept. words at index read ∙
+          wave.words.same at index read (λ p x owes. free p x (back p at index x owes))
+          (unsettles_put w.part me later refl at index swept);
+      given = given_put wave.words.settled w.part me later refl wave.words.given;
       owed = put_at_elim (λ p u. (at : Region) (index x : ℕ) → Owes u at index x →
           wave.words.settled at index ≡ x) w.part me later
           (λ at index x owes. absurd (nothing_in (owed_word at index x) owes)) (λ p apart at index x owes.
@@ -99,6 +102,8 @@ module _ (layout : Layout) (shapes : ShapeLists) (w : World) (me : ℕ) (inside 
         state.active state.registers state.claims state.strong state.weak calls (w.part me).left new [] record {
           becomes = becomes;
           same = same;
+          differs = λ p at index other un. words at index (unsettled_read layout w.heap (w.part p) at index other
+              (wave.sweeps.named.stands p) un);
           words = words_after;
           told = told;
           kept = λ p at index x apart is. words at index (wave.kept.reads p at index x is) ∙
@@ -106,6 +111,7 @@ module _ (layout : Layout) (shapes : ShapeLists) (w : World) (me : ℕ) (inside 
           claims_else = λ p apart. refl;
           active_else = λ p apart. refl;
           left_is = wave.left me;
+          leaves = inl refl;
           hidden = λ p c apart alive h. (h.registers, h.strong, h.weak, h.claims);
         }
 

@@ -1,17 +1,18 @@
 -- A participant that owes and holds nothing stops, learns what a ticket says, or hands out its note.
-use Rattle.std.proofs.Common.{ℕ, ◌⊎◌, ◌≡◌, ◌<◌, ◌==◌, refl, sym, ◌∙◌, ap, subst, arith, Bool, true, false, List, [], inl, inr, Some}
+use Rattle.std.proofs.Common.{ℕ, ◌⊎◌, ◌≡◌, ◌<◌, ◌≤◌, ◌==◌, refl, sym, ◌∙◌, ap, subst, arith, Bool, true, false, List, [], inl, inr, length, None, Some, take}
 use Rattle.std.proofs.lemmas.Bool.{cases_eq}
 use Rattle.std.specs.Prelude.{Contains, filter, if◌then◌else◌}
 use Rattle.tide_layout.specs.declared.region.Region.{Region}
 use Rattle.tide_layout.specs.declared.region.Region.TheVariants as region
 use Rattle.tide_machine.proofs.steps.Colouring.{unread_write}
 use Rattle.tide_machine.proofs.steps.Frames.{calls_view, stops_view, each_put, put_here}
-use Rattle.tide_machine.proofs.steps.Lists.{nothing_in}
+use Rattle.tide_machine.proofs.steps.Lists.{from_none, nothing_in}
 use Rattle.tide_machine.proofs.steps.Quiet.{quiet_step}
 use Rattle.tide_machine.proofs.steps.Steps.{any_step}
 use Rattle.tide_machine.proofs.steps.StopPlaces.{stop_apart}
-use Rattle.tide_machine.proofs.steps.SweepsKept.{sweeps_kept}
+use Rattle.tide_machine.proofs.steps.SweepsKept.{owed_kept, sweeping_same, sweeps_same}
 use Rattle.tide_machine.proofs.steps.Waiting.{left_quiet}
+use Rattle.tide_machine.proofs.steps.Unsettled.{given_put, unsettles_put}
 use Rattle.tide_machine.specs.Duties.{GrowsAndOwes}
 use Rattle.tide_machine.specs.Kind.{index_of_stopped}
 use Rattle.tide_machine.specs.May.{Rests}
@@ -24,6 +25,12 @@ use Rattle.tide_machine.specs.points.Growths.{GrowthKnows}
 use Rattle.tide_machine.specs.points.Scans.{held, scanned, buffered}
 use Rattle.tide_machine.specs.points.SettledWords.{RunningWordsRead}
 use Rattle.tide_machine.specs.points.Stops.{StopsAreTold}
+use Rattle.tide_machine.specs.points.Sweeps.{IsTaken, SweepStands, Sweeps, SweepsAreRight}
+use Rattle.tide_machine.specs.declared.view.Saw.{Saw}
+use Rattle.tide_machine.specs.declared.view.Sweeping.{Sweeping}
+use Rattle.tide_machine.specs.kinds.Sweep.{IsSweeping}
+use Rattle.tide_model.specs.Room.{DeadIsTaken}
+use Rattle.tide_layout.specs.Region.{block_count}
 use Rattle.tide_model.proofs.ReferenceLaws.{put_at_elim}
 use Rattle.tide_model.specs.History.{state_after, is_call_of}
 use Rattle.tide_model.specs.Layout.{Layout}
@@ -33,6 +40,7 @@ use Rattle.tide_model.specs.Refused.{ShapeLists}
 use Rattle.tide_model.specs.declared.entry.Event.{Event}
 use Rattle.tide_words.proofs.heap_laws.HeapLaws.{write-same, write-other_index}
 use Rattle.tide_words.specs.heap.Heap.{Heap, write}
+use Rattle.tide_words.specs.marking.Colours.{running_cycle}
 
 module _ (layout : Layout) (shapes : ShapeLists) (heap : Heap) (part : ℕ → View) (log : List Event) (me : ℕ)
     (inside : me < parties)
@@ -55,16 +63,19 @@ module _ (layout : Layout) (shapes : ShapeLists) (heap : Heap) (part : ℕ → V
       told = said;
       known = [];
       full = [];
+      saw = None;
+      cleared = [];
     }
 
     words_after : RunningWordsRead layout shapes heap (put_at part me later) (state_after layout log)
     words_after = record {
       settled = wave.words.settled;
       reads = wave.words.reads;
-      same = λ at index read free. wave.words.same at index read (λ p word owes.
+      same = λ at index read free swept. wave.words.same at index read (λ p word owes.
           free p word (put_at_elim (λ p u. (at : Region) (index word : ℕ) → Owes (part p) at index word →
           Owes u at index word) part me later (λ at index word o. o) (λ p apart at index word o.
-          o) p at index word owes));
+          o) p at index word owes)) (unsettles_put part me later refl at index swept);
+      given = given_put wave.words.settled part me later refl wave.words.given;
       owed = each_put (λ p u. (at : Region) (index word : ℕ) → Owes u at index word →
           wave.words.settled at index ≡ word) part me later (wave.words.owed me) wave.words.owed;
       known = each_put (λ p u. (at : Region) (index word : ℕ) → Contains u.known (owed_word at index word) →
@@ -73,6 +84,41 @@ module _ (layout : Layout) (shapes : ShapeLists) (heap : Heap) (part : ℕ → V
       owns = each_put (λ p u. (at : Region) (index word : ℕ) → Owes u at index word →
           IsOwnWord layout (state_after layout log) p at index) part me later (wave.words.owns me) wave.words.owns;
     }
+
+    -- it sweeps nothing, and has forgotten what it saw of blocks
+    rested : SweepsAreRight layout heap (put_at part me later) log
+    rested = record {
+      named = record {
+        taken = each_put (λ p u. (block : ℕ) → Sweeps u block → IsTaken heap block) part me later
+            (λ block s. right.named.taken me block (sweeps_same (part me) later block refl s)) right.named.taken;
+        begun = each_put (λ p u. (block : ℕ) → Sweeps u block → 0 < running_cycle heap) part me later
+            (λ block s. right.named.begun me block (sweeps_same (part me) later block refl s)) right.named.begun;
+        active = each_put (λ p u. (block : ℕ) → Sweeps u block → (p < layout.mutators) × (u.left ≡ false)) part me later
+            (λ block s. right.named.active me block (sweeps_same (part me) later block refl s)) right.named.active;
+        owner = right.named.owner;
+        once = each_put (λ p u. (block : ℕ) → Sweeps u block → right.named.owner block ≡ p) part me later
+            (λ block s. right.named.once me block (sweeps_same (part me) later block refl s)) right.named.once;
+        named = λ block within is has. let (p, s) = right.named.named block within is has in (
+          p,
+          put_at_elim (λ p u. IsSweeping (part p) block → IsSweeping u block) part me later
+              (sweeping_same later (part me) block refl) (λ p apart s. s) p s,
+        );
+        stands = each_put (λ p u. (s : Sweeping) → u.sweeping ≡ Some s → SweepStands layout heap s) part me later
+            (right.named.stands me) right.named.stands;
+        saw = each_put (λ p u. (saw : Saw) → u.saw ≡ Some saw → (saw.block < block_count layout) ×
+            ((heap region.Dead saw.block ≡ saw.word) ⊎ IsTaken heap saw.block)) part me later
+            (λ saw is. absurd (cc)) right.named.saw;
+      };
+      told = right.told;
+      taken = owed_kept part me later log refl right.taken;
+      cleared = each_put (λ p u. (block moment : ℕ) →
+          Contains u.cleared (record { block = block; moment = moment }) → (moment ≤ length log)
+          × ((later : ℕ) → moment ≤ later → later ≤ length log → DeadIsTaken layout (take later log) block)) part me later
+          (λ block moment is. from_none (record { block = block; moment = moment }) is) right.cleared;
+    }
+      where
+        right : SweepsAreRight layout heap part log
+        right = wave.sweeps
 
     -- it doesn't run, whatever it has heard
     pub rest_step : RunningWave layout shapes (record { heap = heap; part = put_at part me later; log = log })
@@ -96,8 +142,7 @@ module _ (layout : Layout) (shapes : ShapeLists) (heap : Heap) (part : ℕ → V
           wave.waits;
       stands = wave.arrays;
       swept = wave.swept;
-      sweeps = sweeps_kept layout heap heap part me later (state_after layout log) (state_after layout log) refl (λ
-          block. refl) refl (λ block has. has) wave.sweeps;
+      sweeps = rested;
       empties = λ _. (
         rests.held,
         rests.scan,
@@ -107,7 +152,9 @@ module _ (layout : Layout) (shapes : ShapeLists) (heap : Heap) (part : ℕ → V
         refl,
         refl,
         rests.between.calls,
-        rests.sweeping,
+        rests.between.sweeping,
+        refl,
+        refl,
       );
       colours = wave.colours;
       balance = λ _ c in_c few. refl;
@@ -179,6 +226,8 @@ module _ (layout : Layout) (shapes : ShapeLists) (heap : Heap) (part : ℕ → V
       period = refl;
       left = refl;
       sweeping = refl;
+      saw = refl;
+      cleared = refl;
       swept = λ block. refl;
       waits = left_quiet layout heap told_heap part me telling refl refl (λ _ c in_c is. is) (λ c is. is) refl refl refl
           refl wave.waits;
@@ -235,7 +284,7 @@ pub stop : (layout : Layout) (shapes : ShapeLists) (heap : Heap) (part : ℕ →
     Rests (part me) → (word : ℕ) →
     RunningWave layout shapes (record {
       heap = write heap region.Stopped (index_of_stopped layout me) word;
-      part = put_at part me (record (part me) { runs = false; known = []; full = []; stopped = word });
+      part = put_at part me (record (part me) { runs = false; known = []; full = []; saw = None; cleared = []; stopped = word });
       log = log;
     })
 stop layout shapes heap part log me inside party wave runs rests word =
@@ -247,8 +296,8 @@ stop layout shapes heap part log me inside party wave runs rests word =
     let rests_so : Rests told = record {
       held = rests.held;
       scan = rests.scan;
-      sweeping = rests.sweeping;
       between = record {
+        sweeping = rests.between.sweeping;
         owed = rests.between.owed;
         duty = rests.between.duty;
         growth = rests.between.growth;
@@ -262,5 +311,5 @@ stop layout shapes heap part log me inside party wave runs rests word =
       part = q;
       log = log;
     }))
-    (ap (put_at now me) (ap (λ (x : View). record x { runs = false; known = []; full = [] }) same)
-    ∙ put_twice part me told (record told { runs = false; known = []; full = [] })) after
+    (ap (put_at now me) (ap (λ (x : View). record x { runs = false; known = []; full = []; saw = None; cleared = [] }) same)
+    ∙ put_twice part me told (record told { runs = false; known = []; full = []; saw = None; cleared = [] })) after

@@ -180,6 +180,8 @@ module _ (layout : Layout) (shapes : ShapeLists) (w : World) (me : ℕ) (inside 
           period = refl;
           left = refl;
           sweeping = refl;
+          saw = refl;
+          cleared = refl;
           swept = λ block. refl;
           waits = left_kept layout w.heap (coloured w.heap cell Grey) w.part me
               (with_scan (w.part me) (cell ∷ (w.part me).held) (still_open shorter)) refl refl
@@ -328,6 +330,8 @@ module _ (layout : Layout) (shapes : ShapeLists) (w : World) (me : ℕ) (inside 
           period = refl;
           left = refl;
           sweeping = refl;
+          saw = refl;
+          cleared = refl;
           swept = λ block. refl;
           waits = left_quiet layout w.heap w.heap w.part me
               (with_scan (w.part me) (w.part me).held (still_open shorter)) refl refl (λ _ c in_c is. is) (λ c is. is)

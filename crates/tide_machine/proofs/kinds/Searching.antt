@@ -14,6 +14,7 @@ use Rattle.tide_machine.proofs.steps.ScansKept.{scan_kept}
 use Rattle.tide_machine.proofs.steps.Steps.{any_step}
 use Rattle.tide_machine.proofs.steps.SweepsKept.{swept_kept, sweeps_kept}
 use Rattle.tide_machine.proofs.steps.Waiting.{left_quiet}
+use Rattle.tide_machine.proofs.steps.Unsettled.{given_put, settled_region, unsettled_write, unsettles_put}
 use Rattle.tide_machine.specs.Looked.{FreeIsShown}
 use Rattle.tide_machine.specs.Duties.{GrowsAndOwes}
 use Rattle.tide_machine.specs.Owed.{own_register, own_structure, own_array, own_pair, own_element, Owes, IsOwnWord, owed_word}
@@ -157,8 +158,10 @@ module _ (layout : Layout) (shapes : ShapeLists) (w : World) (me : ℕ) (inside 
     words_after = record {
       settled = write wave.words.settled region.Free block word;
       reads = ReadsAs-bits layout shapes wave.words.settled state block word same wave.words.reads;
-      same = λ at index read free. ap (λ (z : ℕ). if (tag at == tag region.Free) && (index == block) then word else z)
-          (wave.words.same at index read (λ p x owes. free p x (back p at index x owes)));
+      same = λ at index read free swept. ap (λ (z : ℕ). if (tag at == tag region.Free) && (index == block) then word else z)
+          (wave.words.same at index read (λ p x owes. free p x (back p at index x owes))
+          (unsettles_put w.part me later refl at index swept));
+      given = given_put (write wave.words.settled region.Free block word) w.part me later refl wave.words.given;
       owed = each_put (λ p u. (at : Region) (index x : ℕ) → Owes u at index x →
           write wave.words.settled region.Free block word at index ≡ x) w.part me later
           (λ at index x owes. not_free wave.words.settled me at index (wave.words.owns me at index x owes) ∙
@@ -208,8 +211,9 @@ module _ (layout : Layout) (shapes : ShapeLists) (w : World) (me : ℕ) (inside 
       stands = arrays_kept layout w.heap after state state (λ c. refl) (λ c. refl) (λ i. refl) (λ array. refl)
           (λ c array alive is. (alive, refl, refl, refl)) (λ c alive none. inl alive) wave.arrays;
       swept = swept_kept layout w.heap after refl (λ b within. refl) wave.swept;
-      sweeps = sweeps_kept layout w.heap after w.part me later state state refl (λ b. refl) refl (λ b has. has)
-          wave.sweeps;
+      sweeps = sweeps_kept layout w.heap after w.part me later w.log refl (λ b. refl) (λ b. refl)
+          (unsettled_write w.heap w.part region.Free block word (λ p x un. settled_region layout shapes w.heap w.part state
+          wave.words wave.sweeps.named region.Free refl (λ t. omega (arith, t)) block p x un)) refl refl refl refl wave.sweeps;
       calls = calls_view layout w.heap after w.part me later refl (λ p. refl) wave.calls;
       stops = stops_view layout w.heap after w.part me later refl (λ p. refl) wave.stops;
       empties = λ is. absurd (cc);

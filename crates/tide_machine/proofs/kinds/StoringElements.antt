@@ -16,6 +16,7 @@ use Rattle.tide_machine.proofs.steps.Paying.{words_paid, in_filter, filter_was}
 use Rattle.tide_machine.proofs.steps.Steps.{any_step}
 use Rattle.tide_machine.proofs.steps.SweepsKept.{swept_kept, sweeps_kept}
 use Rattle.tide_machine.proofs.steps.Waiting.{left_quiet}
+use Rattle.tide_machine.proofs.steps.Unsettled.{given_put, own_settled, unsettled_write, unsettles_put}
 use Rattle.tide_machine.specs.Duties.{GrowsAndOwes, OwesBarrier}
 use Rattle.tide_machine.specs.Kind.{StoreElement}
 use Rattle.tide_machine.specs.Machine.{stepped}
@@ -179,8 +180,9 @@ module _ (layout : Layout) (shapes : ShapeLists) (w : World) (me : ℕ) (inside 
           wave.waits;
       stands = record { stand = stands; bare = wave.arrays.bare };
       swept = swept_kept layout w.heap new refl (λ block within. refl) wave.swept;
-      sweeps = sweeps_kept layout w.heap new w.part me later state state refl (λ block. refl) refl (λ block has. has)
-          wave.sweeps;
+      sweeps = sweeps_kept layout w.heap new w.part me later w.log refl (λ block. refl) (λ block. refl)
+          (unsettled_write w.heap w.part region.Elements idx word
+          (own_settled layout shapes w.heap w.part state wave.words wave.sweeps.named wave.refs me region.Elements idx own_it)) refl refl refl refl wave.sweeps;
       growth = growth_kept w.heap new state state me (w.part me) later (λ c mine. refl) (λ c mine. refl) (λ c at. at)
           (λ c a mine is. is) (λ c x. stays_owed region.Structure c x refl) (λ c x. stays_owed region.Array c x refl)
           (λ i x o. was_owed region.Elements i x o) (w.part me).growth
@@ -286,7 +288,7 @@ module _ (layout : Layout) (shapes : ShapeLists) (w : World) (me : ℕ) (inside 
       (λ r i x is. elim (known_cases r i x is) [
         | inl this ↦ subst (λ (o : Owed). wave.words.settled o.region o.index ≡ o.word) this settled_is
         | inr was ↦ wave.words.known me r i x was.0
-      ]) word owes refl)
+      ]) refl word owes refl)
     where
       settled_is : wave.words.settled region.Elements idx ≡ word
       settled_is = wave.words.owed me region.Elements idx word owes
@@ -345,9 +347,11 @@ module _ (layout : Layout) (shapes : ShapeLists) (w : World) (me : ℕ) (inside 
     words_next = record {
       settled = write wave.words.settled region.Elements idx word;
       reads = reads;
-      same = λ at index is_one free. ap (λ (z : ℕ). if (tag at == tag region.Elements) && (index == idx) then word else
+      same = λ at index is_one free swept. ap (λ (z : ℕ). if (tag at == tag region.Elements) && (index == idx) then word else
           z)
-          (wave.words.same at index is_one (λ p x is. free p x (back p at index x is)));
+          (wave.words.same at index is_one (λ p x is. free p x (back p at index x is))
+          (unsettles_put w.part me later refl at index swept));
+      given = given_put (write wave.words.settled region.Elements idx word) w.part me later refl wave.words.given;
       owed = put_at_elim (λ p u. (at : Region) (index x : ℕ) → Owes u at index x →
           write wave.words.settled region.Elements idx word at index ≡ x) w.part me later
           (λ at index x is. absurd (not_owed_later at index x is)) (λ p apart at index x is.

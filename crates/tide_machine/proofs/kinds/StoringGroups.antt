@@ -8,6 +8,7 @@ use Rattle.tide_layout.specs.declared.region.Region.TheVariants as region
 use Rattle.tide_machine.proofs.steps.CallReadings.{call_reads}
 use Rattle.tide_machine.proofs.steps.CellCalls.{cell_call}
 use Rattle.tide_machine.proofs.steps.SameLinks.{SameLinks, same_links, same_arrays, all_same}
+use Rattle.tide_machine.proofs.steps.SettledNow.{group_now}
 use Rattle.tide_machine.specs.Duties.{IsCalm, OwesColour}
 use Rattle.tide_machine.specs.Kind.{StoreGroup}
 use Rattle.tide_machine.specs.Machine.{stepped}
@@ -67,6 +68,8 @@ module _ (layout : Layout) (shapes : ShapeLists) (limits : IsWithinLimits layout
           called = refl;
           no_period = refl;
           no_call = refl;
+          no_dead = refl;
+          settled = group_now layout shapes w wave cell (λ is. let alive = wave.refs.in_registers me src cell may.stands.is_active source in absurd (cc));
           becomes = becomes;
           reads = subst (ReadsAs layout shapes (write wave.words.settled region.Group cell n)) becomes
               (call_reads layout shapes limits empty_shape w wave me (Group src n) Done None

@@ -18,6 +18,8 @@ use Rattle.tide_machine.proofs.steps.GrowthsKept.{growth_kept}
 use Rattle.tide_machine.proofs.steps.Lists.{nothing_in}
 use Rattle.tide_machine.proofs.steps.ScansKept.{scan_kept}
 use Rattle.tide_machine.proofs.steps.SlotCells
+use Rattle.tide_machine.proofs.steps.Unsettled.{given_put, live_is_not_dead, unsettled_write, unsettles_put}
+use Rattle.tide_machine.proofs.steps.SettledNow.{slot_now}
 use Rattle.tide_machine.specs.Duties.{OwesBarrier, OwesColour}
 use Rattle.tide_machine.specs.Entries.{call_of}
 use Rattle.tide_machine.specs.Kind.{StoreLink}
@@ -170,9 +172,12 @@ module _ (layout : Layout) (shapes : ShapeLists) (w : World) (me : ℕ) (inside 
         (put_slot state (Cell cell) slot_number value)) (sym stored)
         (Reading-slot layout shapes wave.words.settled state cell within alive wave.words.reads slot_number value fits
         number);
-    same = λ at index read free. ap (λ (z : ℕ).
+    same = λ at index read free swept. ap (λ (z : ℕ).
         if (tag at == tag region.Slots) && (index == index_of_slot layout cell slot_number) then word else z)
-        (wave.words.same at index read (λ p other owes. free p other (back p at index other owes)));
+        (wave.words.same at index read (λ p other owes. free p other (back p at index other owes))
+        (unsettles_put w.part me later refl at index swept));
+    given = given_put (write wave.words.settled region.Slots (index_of_slot layout cell slot_number) word) w.part me later refl
+        wave.words.given;
     owed = each_put (λ p u. (at : Region) (index other : ℕ) → Owes u at index other →
         write wave.words.settled region.Slots (index_of_slot layout cell slot_number) word at index ≡ other) w.part me
         later
@@ -290,6 +295,13 @@ module _ (layout : Layout) (shapes : ShapeLists) (w : World) (me : ℕ) (inside 
         held = refl;
         round = refl;
         sweeping = refl;
+        saw = refl;
+        cleared = refl;
+        leaves = inl refl;
+        dead_words = λ b. refl;
+        differs = unsettled_write w.heap w.part region.Slots (index_of_slot layout cell slot_number) word
+            (slot_now layout shapes w wave cell slot_number (HasSlot-class layout cell slot_number within fits)
+            (live_is_not_dead (state.cells cell).status alive));
         scan = refl;
         known = refl;
         full = refl;

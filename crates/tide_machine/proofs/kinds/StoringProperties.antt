@@ -10,11 +10,12 @@ use Rattle.tide_layout.specs.declared.region.Region.TheVariants as region
 use Rattle.tide_machine.proofs.WordLaws.{cell_word_is}
 use Rattle.tide_machine.proofs.steps.Barriers.{pushes_barrier, colour_barrier, calm_barrier, owes_barrier}
 use Rattle.tide_machine.proofs.steps.CallReadings.{call_reads}
-use Rattle.tide_machine.proofs.steps.CellCalls.{ShowsCell, cell_call, words_after, later}
+use Rattle.tide_machine.proofs.steps.CellCalls.{ShowsCell, cell_call, named_after, words_after, later}
 use Rattle.tide_machine.proofs.steps.Claimed.{unowed, count_is, array_is}
 use Rattle.tide_machine.proofs.steps.Lists.{nothing_in}
 use Rattle.tide_machine.proofs.steps.Owning.{own_alone}
 use Rattle.tide_machine.proofs.steps.StandingArrays.{array_settled}
+use Rattle.tide_machine.proofs.steps.SettledNow.{own_now}
 use Rattle.tide_machine.specs.Duties.{OwesBarrier}
 use Rattle.tide_machine.specs.Kind.{StoreElement}
 use Rattle.tide_machine.specs.Machine.{stepped}
@@ -26,6 +27,7 @@ use Rattle.tide_machine.specs.Words.{is_cell_word, count_of, cell_named}
 use Rattle.tide_machine.specs.World.{World, parties}
 use Rattle.tide_machine.specs.declared.view.View.{View}
 use Rattle.tide_machine.specs.kinds.StorePrivateElement.{SetsProperty}
+use Rattle.tide_machine.specs.points.Sweeps.{SweepsAreNamed}
 use Rattle.tide_machine.specs.points.Arrays.{ArrayStands, ArraysStand}
 use Rattle.tide_machine.specs.points.Links.{LinkAt}
 use Rattle.tide_model.proofs.ClaimLaws.{ClaimsAreOwn-lawful}
@@ -137,6 +139,8 @@ module _ (layout : Layout) (shapes : ShapeLists) (limits : IsWithinLimits layout
     called = refl;
     no_period = refl;
     no_call = refl;
+    no_dead = refl;
+    settled = own_now layout shapes w wave me region.Elements idx (own_element cell array place claimed its_array has);
     becomes = becomes;
     reads = reads;
     alone = λ p apart own. apart (own_alone layout state (ClaimsAreOwn-lawful layout shapes w.log wave.lawful)
@@ -204,6 +208,10 @@ module _ (layout : Layout) (shapes : ShapeLists) (limits : IsWithinLimits layout
       (λ x owes. nothing_in (owed_word at i x) owes)
       (λ p apart x owes. unowed layout shapes w me wave may.between.owed at i own p x owes)
 
+  named_then : SweepsAreNamed layout new (put_at w.part me next_view) after
+  named_then = named_after layout shapes w me inside wave may.runner.runs may.between.duty may.between.owed may.between.growth
+      (SetProp src key val) Done (λ c. refl) may.stands cell set next_duty region.Elements idx word shown
+
   stands_here : (a : ℕ) → w.heap region.Array cell ≡ a + 1 → ArrayStands layout new after cell a
   stands_here a is =
       let same = array_is layout shapes w me wave may.between.owed cell claimed array its_array a is in
@@ -216,7 +224,7 @@ module _ (layout : Layout) (shapes : ShapeLists) (limits : IsWithinLimits layout
       (none_owes region.Structure cell (Rattle.tide_machine.specs.Owed.own_structure cell claimed))
       (none_owes region.Array cell (Rattle.tide_machine.specs.Owed.own_array cell claimed))
       (λ n p x has_it. none_owes region.Elements (index_of_element layout a n)
-      (own_element cell a n claimed (its_array ∙ ap Some (sym same)) has_it) p x)
+      (own_element cell a n claimed (its_array ∙ ap Some (sym same)) has_it) p x) named_then
 
   stands_else : (x a : ℕ) → x ≢ cell → IsLive state x → w.heap region.Array x ≡ a + 1 → ArrayStands layout new after x a
   stands_else x a apart alive is =

@@ -9,6 +9,7 @@ use Rattle.tide_layout.specs.declared.region.Region.TheVariants as region
 use Rattle.tide_machine.proofs.steps.Owning.{own_alone}
 use Rattle.tide_machine.proofs.steps.PlainWords.{plain_word}
 use Rattle.tide_machine.proofs.steps.Registers.{register_after}
+use Rattle.tide_machine.proofs.steps.SettledNow.{active_now, register_now, strong_now, weak_now}
 use Rattle.tide_machine.specs.Kind.{StoreRegister, StoreStrong, StoreWeak, Retire as RetireKind}
 use Rattle.tide_machine.specs.Machine.{stepped}
 use Rattle.tide_machine.specs.May.{MayCall}
@@ -63,6 +64,7 @@ module _ (layout : Layout) (shapes : ShapeLists) (w : World) (me : ℕ) (inside 
       region.Registers (index_of_register layout me dst) (val_word value) record {
         changes = refl;
         no_call = refl;
+        settled = register_now layout shapes w wave (index_of_register layout me dst);
         becomes = fills;
         reads = Reading-register layout shapes wave.words.settled state wave.words.reads me dst value
             may.stands.is_mutator within number;
@@ -73,6 +75,7 @@ module _ (layout : Layout) (shapes : ShapeLists) (w : World) (me : ℕ) (inside 
         claims_else = λ p apart. refl;
         active_else = λ p apart. refl;
         left_is = wave.left me;
+        leaves = inl refl;
         hidden = λ p c apart alive h. (
           (λ who register not_p active is. elim (register_after state me dst value who register (Cell c) is) [
             | inl now ↦ unseen p c apart h now
@@ -122,6 +125,7 @@ module _ (layout : Layout) (shapes : ShapeLists) (w : World) (me : ℕ) (inside 
       region.Strong at (val_word (state.registers me val)) record {
         changes = refl;
         no_call = refl;
+        settled = strong_now layout shapes w wave at;
         becomes = refl;
         reads = Reading-strong layout shapes wave.words.settled state wave.words.reads at
             (state.registers me val) may.stands.fits.0
@@ -130,6 +134,7 @@ module _ (layout : Layout) (shapes : ShapeLists) (w : World) (me : ℕ) (inside 
         claims_else = λ p apart. refl;
         active_else = λ p apart. refl;
         left_is = wave.left me;
+        leaves = inl refl;
         hidden = λ p c apart alive h. (
           h.registers,
           put_at_elim (λ n (held : Val). held ≡ Cell c → ⊥) state.strong at (state.registers me val)
@@ -154,6 +159,7 @@ module _ (layout : Layout) (shapes : ShapeLists) (w : World) (me : ℕ) (inside 
       region.Weak at (val_word (state.registers me val)) record {
         changes = refl;
         no_call = refl;
+        settled = weak_now layout shapes w wave at;
         becomes = refl;
         reads = Reading-weak layout shapes wave.words.settled state wave.words.reads at
             (state.registers me val) may.stands.fits.0
@@ -162,6 +168,7 @@ module _ (layout : Layout) (shapes : ShapeLists) (w : World) (me : ℕ) (inside 
         claims_else = λ p apart. refl;
         active_else = λ p apart. refl;
         left_is = wave.left me;
+        leaves = inl refl;
         hidden = λ p c apart alive h. (
           h.registers,
           h.strong,
@@ -181,11 +188,13 @@ module _ (layout : Layout) (shapes : ShapeLists) (w : World) (me : ℕ) (inside 
       record {
         changes = refl;
         no_call = refl;
+        settled = active_now layout shapes w wave me;
         becomes = refl;
         reads = Reading-retire layout shapes wave.words.settled state wave.words.reads me may.stands.is_mutator;
         alone = λ p apart. not_own region.Active refl refl refl refl refl p me;
         claims_else = λ p apart. refl;
         active_else = λ p apart. active_of p apart;
+        leaves = inr may.between.sweeping;
         left_is = sym (ap not (ap (λ (b : Bool). if b then false else state.active me) (eq-eqb me me refl)));
         hidden = λ p c apart alive h. (
           (λ who register not_p active is. h.registers who register not_p (was_active who active) is),

@@ -188,6 +188,8 @@ module _ (layout : Layout) (shapes : ShapeLists) (w : World) (me : ℕ) (inside 
       begun = refl;
       left = refl;
       sweeping = refl;
+      saw = refl;
+      cleared = refl;
       swept = swept;
       waits = waits_after;
       period = period;
@@ -291,6 +293,8 @@ module _ (layout : Layout) (shapes : ShapeLists) (w : World) (me : ℕ) (inside 
       begun = refl;
       left = refl;
       sweeping = refl;
+      saw = refl;
+      cleared = refl;
       swept = λ block. refl;
       waits = left_kept layout w.heap w.heap w.part me (found_view b) refl refl (λ _ c in_c is. is) (λ c is. is)
           (λ v none. none) (waits_still b is) wave.waits;

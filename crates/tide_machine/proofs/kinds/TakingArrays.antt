@@ -25,6 +25,8 @@ use Rattle.tide_machine.proofs.steps.Frames.{each_put, put_here, calls_view}
 use Rattle.tide_machine.proofs.steps.GrowthsKept.{growth_kept}
 use Rattle.tide_machine.proofs.steps.Lists.{nothing_in}
 use Rattle.tide_machine.proofs.steps.Owning.{own_alone}
+use Rattle.tide_machine.proofs.steps.SettledNow.{free_now}
+use Rattle.tide_machine.proofs.steps.Unsettled.{given_put, own_is_not_dead, unsettled_write, unsettles_put}
 use Rattle.tide_machine.specs.Duties.{OwesBarrier, OwesColour, GrowsAndOwes}
 use Rattle.tide_machine.specs.Entries.{call_of, added}
 use Rattle.tide_machine.specs.Kind.{TakeArray}
@@ -200,7 +202,7 @@ module _ (layout : Layout) (shapes : ShapeLists) (limits : IsWithinLimits layout
     where
       same_word : wave.words.settled region.Free block ≡ read
       same_word = sym (wave.words.same region.Free block refl (λ p x owes.
-          free_is_unowed layout state p block (wave.words.owns p region.Free block x owes)))
+          free_is_unowed layout state p block (wave.words.owns p region.Free block x owes)) (free_now layout shapes w wave block))
 
       free_word : (b : ℕ) → settled region.Free b ≡ base region.Free b
       free_word b = filled_else layout properties array n base region.Free b (λ place less. refl)
@@ -318,15 +320,19 @@ module _ (layout : Layout) (shapes : ShapeLists) (limits : IsWithinLimits layout
   words_after = record {
     settled = settled;
     reads = reads;
-    same = λ at index read free.
+    same = λ at index read free swept.
         ap (λ (z : ℕ). if (tag at == tag region.Free) && (index == block) then word else z)
-        (wave.words.same at index read (λ p x owes. free p x (back p at index x owes)))
+        (wave.words.same at index read (λ p x owes. free p x (back p at index x owes))
+        (unsettles_put w.part me later refl at index swept))
         ∙ sym (paid_else layout properties array cell next n base has at index (λ x debt.
         free me x (subst (λ (u : View). Owes u at index x) (sym (put_here w.part me later)) debt)));
     owed = put_at_elim (λ p u. (at : Region) (index x : ℕ) → Owes u at index x → settled at index ≡ x) w.part me later
         (paid_stored layout properties array cell next n base has)
         (λ p apart at index x owes. settled_else p at index apart (wave.words.owns p at index x owes) ∙
         wave.words.owed p at index x owes);
+    given = given_put settled w.part me later refl (λ p g is gave. paid_else layout properties array cell next n base has
+        region.Dead g.block (λ x debt. own_is_not_dead layout after me region.Dead g.block (debt_owned region.Dead g.block x debt)
+        refl) ∙ wave.words.given p g is gave);
     known = put_at_elim (λ p u. (at : Region) (index x : ℕ) → Contains u.known (owed_word at index x) →
         settled at index ≡ x) w.part me later
         (λ at index x is. absurd (nothing_in (owed_word at index x) is))
@@ -587,6 +593,11 @@ module _ (layout : Layout) (shapes : ShapeLists) (limits : IsWithinLimits layout
     held = refl;
     round = refl;
     sweeping = refl;
+    saw = refl;
+    cleared = refl;
+    leaves = inl refl;
+    dead_words = λ b. refl;
+    differs = unsettled_write w.heap w.part region.Free block word (free_now layout shapes w wave block);
     scan = refl;
     known = refl;
     full = refl;

@@ -17,6 +17,8 @@ use Rattle.tide_machine.proofs.steps.Lists.{in_one}
 use Rattle.tide_machine.proofs.steps.Owning.{own_alone}
 use Rattle.tide_machine.proofs.steps.Registers.{register_after}
 use Rattle.tide_machine.proofs.steps.ScansKept.{scan_kept}
+use Rattle.tide_machine.proofs.steps.SettledNow.{array_now, free_now, structure_now}
+use Rattle.tide_machine.proofs.steps.Unsettled.{given_put, unsettled_write, unsettles_put}
 use Rattle.tide_machine.specs.Duties.{OwesBarrier, OwesColour}
 use Rattle.tide_machine.specs.Entries.{call_of}
 use Rattle.tide_machine.specs.Owed.{Owes, IsOwnWord, own_register, own_structure, own_array, own_pair, own_element, owed_word}
@@ -43,7 +45,7 @@ use Rattle.tide_model.specs.Layout.{Layout, cell_count, block_of_cell}
 use Rattle.tide_model.specs.Numbers.{put_at}
 use Rattle.tide_model.specs.References.{IsLive, RefsAreLive}
 use Rattle.tide_model.specs.Refused.{ShapeLists}
-use Rattle.tide_model.specs.State.{State, CellState, live, free, blank_cell}
+use Rattle.tide_model.specs.State.{State, CellState, dead, live, free, blank_cell}
 use Rattle.tide_model.specs.declared.op.Op.{Op}
 use Rattle.tide_model.specs.declared.op.Reply.TheVariants.{Born}
 use Rattle.tide_model.specs.declared.val.Val.TheVariants.{Cell}
@@ -98,6 +100,9 @@ module _ (layout : Layout) (shapes : ShapeLists) (w : World) (me : ℕ) (inside 
   not_live : IsLive state cell → ⊥
   not_live alive = absurd (cc)
 
+  not_dead : (state.cells cell).status ≢ dead
+  not_dead is = (let both : free ≡ dead = sym was_free ∙ is in absurd (cc))
+
   else_same : (x : ℕ) → x ≢ cell → after.cells x ≡ state.cells x
   else_same = Births.cell_else layout shapes w wave me op dst cell bears was_free within stands.is_active
 
@@ -147,11 +152,12 @@ module _ (layout : Layout) (shapes : ShapeLists) (w : World) (me : ℕ) (inside 
         (Reading-birth layout shapes wave.words.settled (write wave.words.settled region.Free (block_of_cell cell) word)
         state cell within was_free blank_shape put wave.words.reads)
         me dst (Cell cell) stands.is_mutator in_registers fits;
-    same = λ at index read free. elim (cases_Bool ((tag at == tag region.Registers) && (index == idx))) [
+    same = λ at index read free swept. elim (cases_Bool ((tag at == tag region.Registers) && (index == idx))) [
       | inl both ↦ absurd (free me (val_word (Cell cell)) (here at index both))
       | inr isnt ↦
           ap (λ (z : ℕ). if (tag at == tag region.Free) && (index == block_of_cell cell) then word else z)
-          (wave.words.same at index read (λ p x owes. free p x (back p at index x owes)))
+          (wave.words.same at index read (λ p x owes. free p x (back p at index x owes))
+          (unsettles_put w.part me later refl at index swept))
           ∙ sym (ap (λ (b : Bool). if b then val_word (Cell cell) else write wave.words.settled region.Free
           (block_of_cell cell) word at index) isnt)
     ];
@@ -164,6 +170,7 @@ module _ (layout : Layout) (shapes : ShapeLists) (w : World) (me : ℕ) (inside 
         ap (λ (b : Bool). if b then val_word (Cell cell) else write wave.words.settled region.Free
         (block_of_cell cell) word at index) (apart_from p at index apart own)
         ∙ free_else wave.words.settled p at index own ∙ wave.words.owed p at index x owes);
+    given = given_put settled w.part me later refl wave.words.given;
     known = put_at_elim (λ p u. (at : Region) (index x : ℕ) → Contains u.known (owed_word at index x) →
         settled at index ≡ x) w.part me later
         (λ at index x is. absurd (let below = is.1 in omega (arith, below)))
@@ -251,7 +258,8 @@ module _ (layout : Layout) (shapes : ShapeLists) (w : World) (me : ℕ) (inside 
       -- a free cell's array word is 0, and nobody owes it
       no_array : w.heap region.Array cell ≡ 0
       no_array = wave.words.same region.Array cell refl (λ p x owes.
-          unclaimed p (wave.words.owns p region.Array cell x owes)) ∙
+          unclaimed p (wave.words.owns p region.Array cell x owes))
+          (array_now layout shapes w wave cell not_dead) ∙
           ((wave.words.reads.parts.cells cell within).zeroed was_free).array
         where
           unclaimed : (p : ℕ) → IsOwnWord layout state p region.Array cell → ⊥
@@ -273,7 +281,8 @@ module _ (layout : Layout) (shapes : ShapeLists) (w : World) (me : ℕ) (inside 
       -- its structure's word is 0 too
       no_structure : w.heap region.Structure cell ≡ 0
       no_structure = wave.words.same region.Structure cell refl (λ p x owes.
-          unclaimed p (wave.words.owns p region.Structure cell x owes)) ∙
+          unclaimed p (wave.words.owns p region.Structure cell x owes))
+          (structure_now layout shapes w wave cell not_dead) ∙
           ((wave.words.reads.parts.cells cell within).zeroed was_free).structure
         where
           unclaimed : (p : ℕ) → IsOwnWord layout state p region.Structure cell → ⊥
@@ -322,6 +331,12 @@ module _ (layout : Layout) (shapes : ShapeLists) (w : World) (me : ℕ) (inside 
     held = refl;
     round = refl;
     sweeping = refl;
+    saw = refl;
+    cleared = refl;
+    leaves = inl refl;
+    dead_words = λ b. refl;
+    differs = unsettled_write w.heap w.part region.Free (block_of_cell cell) word
+        (free_now layout shapes w wave (block_of_cell cell));
     scan = refl;
     known = refl;
     full = refl;

@@ -63,6 +63,8 @@ module _ (layout : Layout) (shapes : ShapeLists) (w : World) (me : ℕ) (inside 
     period = refl;
     left = refl;
     sweeping = refl;
+    saw = refl;
+    cleared = refl;
     swept = λ block. refl;
     waits = left_quiet layout w.heap (coloured w.heap cell Grey) w.part me later refl refl
         (λ _ other in_other is. grey_after_grey w.heap cell other is) (λ c is. is) refl refl refl refl wave.waits;
@@ -153,6 +155,8 @@ module _ (layout : Layout) (shapes : ShapeLists) (w : World) (me : ℕ) (inside 
     period = refl;
     left = refl;
     sweeping = refl;
+    saw = refl;
+    cleared = refl;
     swept = λ block. refl;
     waits = left_quiet layout w.heap w.heap w.part me done refl refl (λ _ c in_c is. is) (λ c is. is) refl refl refl
         refl

@@ -10,6 +10,7 @@ use Rattle.tide_layout.specs.declared.region.Region.{Region}
 use Rattle.tide_layout.specs.declared.region.Region.TheVariants as region
 use Rattle.tide_machine.proofs.steps.Lists.{in_one}
 use Rattle.tide_machine.proofs.steps.Rereading.{scan_step, with_scan}
+use Rattle.tide_machine.proofs.steps.SettledNow.{slot_now}
 use Rattle.tide_machine.specs.Duties.{OwesBarrier}
 use Rattle.tide_machine.specs.Owed.{IsOwnWord, own_register, own_structure, own_array, own_pair, own_element}
 use Rattle.tide_machine.specs.RunningWave.{RunningWave}
@@ -180,7 +181,8 @@ module _ (layout : Layout) (shapes : ShapeLists) (w : World) (me : ℕ) (inside 
     slot_is = (((wave.words.reads.parts.cells scan.cell within).taken (ap is_free alive)).slots n fits).is_word
         ∙ sym (wave.words.same region.Slots (index_of_slot layout scan.cell n) refl (λ p word owes.
         no_pair p region.Slots (index_of_slot layout scan.cell n)
-        (wave.words.owns p region.Slots (index_of_slot layout scan.cell n) word owes) refl refl))
+        (wave.words.owns p region.Slots (index_of_slot layout scan.cell n) word owes) refl refl)
+        (slot_now layout shapes w wave scan.cell n (HasSlot-class layout scan.cell n within fits) (λ gone. let lives = alive in absurd (cc))))
 
     slot_names : (c : ℕ) → slot_read ≡ 4 * c + 2 → (state.cells scan.cell).slots n ≡ Cell c
     slot_names c is = same_from_val_word ((state.cells scan.cell).slots n) (Cell c) (slot_is ∙ is)

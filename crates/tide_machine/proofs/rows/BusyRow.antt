@@ -17,6 +17,7 @@ use Rattle.tide_machine.specs.Schedule.{Comes, running, frozen, at_first, steps,
 use Rattle.tide_machine.specs.World.{World}
 use Rattle.tide_machine.specs.declared.view.Duty.TheVariants as duty
 use Rattle.tide_machine.specs.declared.view.View.{View}
+use Rattle.tide_model.proofs.PeriodTests.{IsSwept-tested}
 use Rattle.tide_model.specs.History.{plain}
 use Rattle.tide_model.specs.Layout.{blocks_of}
 use Rattle.tide_model.specs.Prefix.{prefix_refl}
@@ -73,7 +74,7 @@ begins_first = record {
 
 came_begun : Comes small no_shapes has_law (frozen 0) begun
 came_begun = enters first_world 0 0 (write empty_heap region.Phase 0 3) (with_begin []) at_first
-    (begins (write empty_heap region.Phase 0 3) refl begins_first)
+    (begins (write empty_heap region.Phase 0 3) refl (IsSwept-tested small [] refl) begins_first)
 
 -- a part of 16 calls is opened
 abbrev pub opened : World
@@ -126,7 +127,7 @@ came_taken = steps activated 0 (TakeFree 0 0 (Some (Alloc 0 0))) came_activated 
   omega arith,
   (λ set. record {
     runner = record { is_mutator = omega arith; runs = refl };
-    between = record { owed = refl; duty = refl; growth = refl; calls = refl };
+    between = record { owed = refl; duty = refl; growth = refl; sweeping = refl; calls = refl };
     stands = record {
       is_mutator = omega arith;
       is_active = refl;
@@ -178,7 +179,7 @@ came_linked = steps told 0 (StoreLink 0 0 2 (Some (Put 0 0 0))) came_told (omega
   refl,
   record {
     runner = record { is_mutator = omega arith; runs = refl };
-    between = record { owed = refl; duty = refl; growth = refl; calls = refl };
+    between = record { owed = refl; duty = refl; growth = refl; sweeping = refl; calls = refl };
     stands = record {
       is_mutator = omega arith;
       is_active = refl;
@@ -243,7 +244,7 @@ came_busy = steps told_again 0 (StoreLink 0 1 2 (Some (Put 0 1 0))) came_told_ag
   refl,
   record {
     runner = record { is_mutator = omega arith; runs = refl };
-    between = record { owed = refl; duty = refl; growth = refl; calls = refl };
+    between = record { owed = refl; duty = refl; growth = refl; sweeping = refl; calls = refl };
     stands = record {
       is_mutator = omega arith;
       is_active = refl;
@@ -264,7 +265,7 @@ pub busy_is : (is_marking busy.heap ≡ true) × (is_grey busy.heap 0 ≡ true) 
 busy_is = (refl, refl, refl, refl)
 
 -- its history: what the collector entered, and the mutator's calls
-pub busy_log : busy.log ≡ plain (Begin 1) ∷ plain (Open 1 16) ∷ plain (Call 0 (Alloc 0 0) (Born 0))
+pub busy_log : busy.log ≡ plain (Begin 1 true) ∷ plain (Open 1 16) ∷ plain (Call 0 (Alloc 0 0) (Born 0))
     ∷ plain (Call 0 (Put 0 0 0) Done) ∷ plain (Call 0 (Put 0 1 0) Done) ∷ []
 busy_log = refl
 
@@ -298,11 +299,11 @@ came_stopped = steps told_all 0 (StoreStopped 1) came_told_all (omega arith) ref
   rests = record {
     held = refl;
     scan = refl;
-    sweeping = refl;
     between = record {
       owed = refl;
       duty = refl;
       growth = refl;
+      sweeping = refl;
       calls =
           refl;
     };

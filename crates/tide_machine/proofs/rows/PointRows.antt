@@ -1,12 +1,12 @@
 -- Worlds near to one that has the wave, each of which breaks one of its points.
-use Rattle.std.proofs.Common.{ℕ, refl, arith, false, List, [], ◌∷◌, Some, inl, inr}
+use Rattle.std.proofs.Common.{ℕ, refl, arith, true, false, List, [], ◌∷◌, Some, inl, inr}
 use Rattle.tide_layout.specs.declared.region.Region.TheVariants as region
 use Rattle.tide_machine.proofs.Scheduling.{all_schedules}
 use Rattle.tide_machine.proofs.freezes.Freezing.{retained_is_live}
 use Rattle.tide_machine.proofs.rows.BusyRow.{busy, opened, came_opened, limits}
 use Rattle.tide_machine.proofs.steps.Lists.{is_in_one, nothing_in}
 use Rattle.tide_machine.specs.Frozen.{newcomer}
-use Rattle.tide_machine.specs.Owed.{owed_word, Owes}
+use Rattle.tide_machine.specs.Owed.{owed_word, Owes, Unsettles}
 use Rattle.tide_machine.specs.Scanning.{scan_of, slot}
 use Rattle.tide_machine.specs.Schedule.{running}
 use Rattle.tide_machine.specs.declared.view.Duty.TheVariants as duty
@@ -19,7 +19,7 @@ use Rattle.tide_machine.specs.points.Holders.{RunningGreyIsHeld, RestsWhereIdle}
 use Rattle.tide_machine.specs.points.Links.{RunningBlackPointsToMarked}
 use Rattle.tide_machine.specs.points.Marks.{RunningMarkedIsRetained, RunningBlackIsCounted}
 use Rattle.tide_machine.specs.points.Scans.{HandsAreLive, held, ScansAreRight, TargetsAreRight}
-use Rattle.tide_machine.specs.points.Seen.{IsKnown, NumbersRead, CallsAreTold, HasCallsAlone, ParkedIsEmpty}
+use Rattle.tide_machine.specs.points.Seen.{IsKnown, NumbersRead, CallsAreTold, HasPartAlone, ParkedIsEmpty}
 use Rattle.tide_machine.specs.points.SettledWords.{RunningWordsRead, OwnIsKept}
 use Rattle.tide_machine.specs.points.Stops.{StopsAreTold}
 use Rattle.tide_model.proofs.ReferenceLaws.{put_at_elim}
@@ -71,8 +71,8 @@ stops-untold : StopsAreTold small busy.heap (alone (record mutator { stopped = 1
 stops-untold point = (let word = point 0 (inl (omega arith)) in absurd (omega (arith, word)))
 
 -- a cycle begins in the midst of a part
-alone-begins : HasCallsAlone (plain (Open 1 16) ∷ plain (Begin 1) ∷ []) → ⊥
-alone-begins point = (let is = point (plain (Begin 1)) (is_in_one (plain (Begin 1))) in absurd (cc))
+alone-begins : HasPartAlone (plain (Open 1 16) ∷ plain (Begin 1 true) ∷ []) → ⊥
+alone-begins point = (let is = point (plain (Begin 1 true)) (is_in_one (plain (Begin 1 true))) in absurd (cc))
 
 -- a mutator has stopped, and owes its barrier
 parked-owes : ParkedIsEmpty (alone (record mutator { runs = false })) → ⊥
@@ -87,9 +87,13 @@ words-unpaid : RunningWordsRead small no_shapes (write busy.heap region.Register
     (state_after small busy.log) → ⊥
 words-unpaid point =
     let word = (point.reads.roots.registers 0 0 (omega arith) (omega arith)).is_word in
-    let same = point.same region.Registers 0 refl nobody in
+    let same = point.same region.Registers 0 refl nobody none in
     absurd (omega (arith, word, same))
   where
+    none : (p word : ℕ) → Unsettles (alone mutator p) region.Registers 0 word → ⊥
+    none p word = put_at_elim (λ p u. Unsettles u region.Registers 0 word → ⊥) newcomer 0 mutator
+        (nothing_in (owed_word region.Registers 0 word)) (λ p apart. nothing_in (owed_word region.Registers 0 word)) p
+
     nobody : (p word : ℕ) → Owes (alone mutator p) region.Registers 0 word → ⊥
     nobody p word = put_at_elim (λ p u. Owes u region.Registers 0 word → ⊥) newcomer 0 mutator
         (nothing_in (owed_word region.Registers 0 word)) (λ p apart. nothing_in (owed_word region.Registers 0 word)) p
@@ -141,7 +145,7 @@ growths-unclaimed point = (let claimed = (point.knows 0).0.claimed in absurd (no
 
 -- two cells are born, then a cycle begins, and the first one, which is black, gets the other, which is white
 abbrev linked_late : List Event
-linked_late = plain (Call 0 (Alloc 0 0) (Born 0)) ∷ plain (Call 0 (Alloc 1 0) (Born 1)) ∷ plain (Begin 1) ∷ plain
+linked_late = plain (Call 0 (Alloc 0 0) (Born 0)) ∷ plain (Call 0 (Alloc 1 0) (Born 1)) ∷ plain (Begin 1 true) ∷ plain
     (Open 1 16)
     ∷ plain (Call 0 (Put 0 0 1) Done) ∷ []
 
@@ -170,7 +174,7 @@ retained-never point =
 
 -- a cell was born in the cycle, it is white, and nobody owes its colour
 abbrev born_white : List Event
-born_white = plain (Begin 1) ∷ plain (Open 1 16) ∷ plain (Call 0 (Alloc 0 0) (Born 0)) ∷ []
+born_white = plain (Begin 1 true) ∷ plain (Open 1 16) ∷ plain (Call 0 (Alloc 0 0) (Born 0)) ∷ []
 
 born-white : RunningBornIsMarked small (write (write empty_heap region.Phase 0 3) region.Colour 0 5) newcomer born_white
     → ⊥

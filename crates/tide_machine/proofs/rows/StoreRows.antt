@@ -1,18 +1,20 @@
 -- Worlds that have the points on the store itself, its arrays, its tables and its sweeps, and near ones that break
 -- each.
-use Rattle.std.proofs.Common.{ℕ, ◌≡◌, ◌≤◌, ◌==◌, refl, sym, ◌∙◌, ap, subst, arith, Bool, true, false, List, [], ◌∷◌, Some, inl, inr, ◌+◌}
+use Rattle.std.proofs.Common.{ℕ, ◌≡◌, ◌<◌, ◌≤◌, ◌⊎◌, ◌==◌, refl, sym, ◌∙◌, ap, subst, arith, Bool, true, false, List, [], ◌∷◌, Some, inl, inr, ◌+◌}
 use Rattle.std.proofs.lemmas.Bool.{cases_eq, ne_eqb}
 use Rattle.std.specs.Prelude.{if◌then◌else◌}
+use Rattle.tide_layout.specs.Region.{block_count}
 use Rattle.tide_layout.specs.declared.region.Region.TheVariants as region
 use Rattle.tide_machine.proofs.rows.BusyRow.{busy, busy_has_the_wave}
 use Rattle.tide_machine.specs.Frozen.{newcomer}
+use Rattle.tide_machine.specs.declared.view.Saw.{Saw}
 use Rattle.tide_machine.specs.declared.view.Sweeping.{Sweeping}
 use Rattle.tide_machine.specs.declared.view.View.{View}
 use Rattle.tide_machine.specs.points.Arrays.{ArraysStand, ArrayStands}
 use Rattle.tide_machine.specs.points.Growths.{RunningGrowthIsOwed}
 use Rattle.tide_machine.specs.points.Marks.{SpanIsLive}
 use Rattle.tide_machine.specs.points.Seen.{WhoLeftIsInactive}
-use Rattle.tide_machine.specs.points.Sweeps.{SweptAreBelow, Sweeps, IsTaken, SweepsAreNamed}
+use Rattle.tide_machine.specs.points.Sweeps.{IsTaken, SweepStands, Sweeps, SweepsAreNamed, SweptAreBelow}
 use Rattle.tide_machine.specs.points.Tables.{TablesAreBare}
 use Rattle.tide_model.proofs.ReferenceLaws.{put_at_elim}
 use Rattle.tide_model.specs.Cycle.{dead_cell}
@@ -52,7 +54,7 @@ colours-later point = (let few = point 0 (omega arith) in omega (arith, few))
 
 -- a cell stood in a register while the cycle marked, and is dead
 abbrev ended_early : List Event
-ended_early = plain (Begin 1) ∷ plain (Call 0 (Alloc 0 0) (Born 0)) ∷ plain (End 1 (0 ∷ [])) ∷ []
+ended_early = plain (Begin 1 true) ∷ plain (Call 0 (Alloc 0 0) (Born 0)) ∷ plain (End 1 (0 ∷ [])) ∷ []
 
 span-dead : SpanIsLive small (write empty_heap region.Phase 0 3) ended_early → ⊥
 span-dead point =
@@ -164,10 +166,30 @@ sweeps-by_one = record {
   taken = put_at_elim (λ p u. (block : ℕ) → Sweeps u block → IsTaken taken_block block) newcomer 0 (sweeper 0)
       (λ block s. subst (IsTaken taken_block) (sym (its_block block s)) (refl, refl))
       (λ p apart block s. nobody_sweeps p block s);
+  begun = λ p block s. omega arith;
+  active = put_at_elim (λ p u. (block : ℕ) → Sweeps u block → (p < small.mutators) × (u.left ≡ false)) newcomer 0 (sweeper 0)
+      (λ block s. (omega arith, refl)) (λ p apart block s. nobody_sweeps p block s);
   owner = λ block. 0;
   once = put_at_elim (λ p u. (block : ℕ) → Sweeps u block → 0 ≡ p) newcomer 0 (sweeper 0) (λ block s. refl)
       (λ p apart block s. nobody_sweeps p block s);
-  named = λ block within taken has. (0, record { sweeping = of_block_0; is = refl; of_block = first block taken });
+  named = λ block within taken has. (
+    0,
+    record {
+      sweeping = of_block_0;
+      is = refl;
+      of_block = first block taken;
+      ungiven = refl;
+    },
+  );
+  stands = put_at_elim (λ p u. (s : Sweeping) → u.sweeping ≡ Some s → SweepStands small taken_block s) newcomer 0 (sweeper 0)
+      (λ s is. let same : of_block_0 ≡ s = cc in subst (SweepStands small taken_block) same (record {
+        within = omega arith;
+        dead = λ waits. refl;
+        zeroed = λ waits at index word has. absurd (let below = has.1 in omega (arith, below));
+      })) (λ p apart s is. absurd (cc));
+  saw = put_at_elim (λ p u. (saw : Saw) → u.saw ≡ Some saw → (saw.block < block_count small) ×
+      ((taken_block region.Dead saw.block ≡ saw.word) ⊎ IsTaken taken_block saw.block)) newcomer 0 (sweeper 0)
+      (λ saw is. absurd (cc)) (λ p apart saw is. absurd (cc));
 }
   where
     first : (block : ℕ) → IsTaken taken_block block → 0 ≡ block
@@ -182,7 +204,7 @@ sweeps-by_one = record {
 sweeps-by_none : SweepsAreNamed small taken_block newcomer one_dead → ⊥
 sweeps-by_none point =
     (let (p, s) = point.named 0 (omega arith) (refl, refl) (dead_cell 5 (omega arith) refl refl) in
-    nobody_sweeps p 0 s)
+    nobody_sweeps p 0 (record { sweeping = s.sweeping; is = s.is; of_block = s.of_block }))
 
 sweeps-by_two : SweepsAreNamed small taken_block sweeper one_dead → ⊥
 sweeps-by_two point =

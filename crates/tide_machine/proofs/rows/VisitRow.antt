@@ -26,6 +26,7 @@ use Rattle.tide_machine.specs.Schedule.{Comes, running, frozen, at_first, steps,
 use Rattle.tide_machine.specs.World.{World}
 use Rattle.tide_machine.specs.declared.view.View.{View}
 use Rattle.tide_model.proofs.NumberLaws.{count_where-same}
+use Rattle.tide_model.proofs.PeriodTests.{IsSwept-tested}
 use Rattle.tide_model.specs.Graph.{IsRetained, graph_of, is_root, is_further, in_register}
 use Rattle.tide_model.specs.History.{plain}
 use Rattle.tide_model.specs.Layout.{Layout}
@@ -131,7 +132,7 @@ came_taken = steps activated 0 (TakeFree 0 0 (Some (Alloc 0 0))) came_activated 
   omega arith,
   (λ set. record {
     runner = record { is_mutator = omega arith; runs = refl };
-    between = record { owed = refl; duty = refl; growth = refl; calls = refl };
+    between = record { owed = refl; duty = refl; growth = refl; sweeping = refl; calls = refl };
     stands = record {
       is_mutator = omega arith;
       is_active = refl;
@@ -181,7 +182,7 @@ came_taken_too = steps told 0 (TakeFree 0 1 (Some (Alloc 1 0))) came_told (omega
   omega arith,
   (λ set. record {
     runner = record { is_mutator = omega arith; runs = refl };
-    between = record { owed = refl; duty = refl; growth = refl; calls = refl };
+    between = record { owed = refl; duty = refl; growth = refl; sweeping = refl; calls = refl };
     stands = record {
       is_mutator = omega arith;
       is_active = refl;
@@ -232,7 +233,7 @@ came_linked = steps told_too 0 (StoreLink 0 0 6 (Some (Put 0 0 1))) came_told_to
   refl,
   record {
     runner = record { is_mutator = omega arith; runs = refl };
-    between = record { owed = refl; duty = refl; growth = refl; calls = refl };
+    between = record { owed = refl; duty = refl; growth = refl; sweeping = refl; calls = refl };
     stands = record {
       is_mutator = omega arith;
       is_active = refl;
@@ -262,8 +263,7 @@ came_stopped = steps told_all 0 (StoreStopped 1) came_told_all (omega arith) ref
   rests = record {
     held = refl;
     scan = refl;
-    sweeping = refl;
-    between = record { owed = refl; duty = refl; growth = refl; calls = refl };
+    between = record { owed = refl; duty = refl; growth = refl; sweeping = refl; calls = refl };
   };
   of_part = refl;
 }
@@ -316,7 +316,7 @@ begins_here = record {
 
 came_begun : Comes visited no_shapes has_law (frozen 0) begun
 came_begun = enters stopped 0 0 begun.heap begun.log (freezes stopped came_stopped nobody_runs)
-    (begins begun.heap refl begins_here)
+    (begins begun.heap refl (IsSwept-tested visited stopped.log refl) begins_here)
 
 -- a pause makes the first cell grey, with its bit in the shared word
 abbrev old : Heap
@@ -626,8 +626,7 @@ stopped_may = record {
   rests = record {
     held = refl;
     scan = refl;
-    sweeping = refl;
-    between = record { owed = refl; duty = refl; growth = refl; calls = refl };
+    between = record { owed = refl; duty = refl; growth = refl; sweeping = refl; calls = refl };
   };
   of_part = refl;
 }

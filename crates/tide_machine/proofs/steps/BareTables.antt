@@ -12,7 +12,7 @@ use Rattle.tide_model.specs.Layout.{Layout, block_of_cell}
 use Rattle.tide_model.specs.Refused.{ShapeLists, refusal_of, refusal_at, first_of, refuse_if, is_table, holds, has_key, may_add}
 use Rattle.tide_model.specs.State.{State, CellState, is_dead, blank_cell, free}
 use Rattle.tide_model.specs.declared.entry.Entry.{Entry}
-use Rattle.tide_model.specs.declared.entry.Entry.TheVariants.{Call, Begin, Pause, Visits, End, Sweep, Open}
+use Rattle.tide_model.specs.declared.entry.Entry.TheVariants.{Call, Begin, Pause, Visits, End, Taken, Sweep, Open}
 use Rattle.tide_model.specs.declared.entry.Event.{Event}
 use Rattle.tide_model.specs.declared.op.Op.{Op}
 use Rattle.tide_model.specs.declared.op.Op.TheVariants.{Alloc, Table, Get, Put, Move, Set, Drop, Claim, Release, Unclaim, Add, GetProp, SetProp, StrongSet, StrongGet, WeakSet, WeakGet, PairSet, PairGet, PairDel, Group, Collect, Retire}
@@ -135,10 +135,11 @@ bare_event layout shapes before event bare stands =
         TablesAreBare layout (after_entry layout (state_after layout before) entry took)
     step (Call who op reply) took call =
         bare_call layout shapes (state_after layout before) who op reply took bare call.answers
-    step (Begin cycle) took _ = bare
+    step (Begin cycle full) took _ = bare
     step (Pause visits) took _ = bare
     step (Visits who visits) took _ = bare
     step (End cycle freed) took ends = bare
+    step (Taken block) took _ = bare
     step (Sweep block) took _ = λ cell is.
         (let held = (state_after layout before).cells cell in
         swept ((block_of_cell cell == block) && is_dead held.status) held (bare cell is))

@@ -11,12 +11,12 @@ use Rattle.tide_machine.proofs.steps.Colouring.{count_where-le}
 use Rattle.tide_machine.proofs.steps.Frames.{each_put, put_here, put_else, total_below-put, held_view, stops_view}
 use Rattle.tide_machine.proofs.steps.Growing
 use Rattle.tide_machine.proofs.steps.Lists.{nothing_in}
-use Rattle.tide_machine.proofs.steps.SweepsKept.{swept_kept, sweeps_kept}
+use Rattle.tide_machine.proofs.steps.SweepsKept.{swept_kept, sweeps_called}
 use Rattle.tide_machine.proofs.steps.Waiting.{left_quiet}
 use Rattle.tide_machine.specs.Looked.{FreeIsShown}
 use Rattle.tide_machine.specs.Duties.{IsCalm, OwesBarrier, GrowsAndOwes, OwesColour}
 use Rattle.tide_machine.specs.Entries.{call_of}
-use Rattle.tide_machine.specs.Owed.{IsOwnWord, owed_word}
+use Rattle.tide_machine.specs.Owed.{IsOwnWord, owed_word, Unsettles}
 use Rattle.tide_machine.specs.RunningWave.{RunningWave}
 use Rattle.tide_machine.specs.Scanning.{IsTrue, Place, slot, property}
 use Rattle.tide_machine.specs.Words.{count_of}
@@ -35,6 +35,7 @@ use Rattle.tide_machine.specs.points.Marks.{counted_in}
 use Rattle.tide_machine.specs.points.Scans.{IsAtHand, held, scanned, buffered, ScanKnows}
 use Rattle.tide_machine.specs.points.Seen.{CallsAreTold, WhoLeftIsInactive}
 use Rattle.tide_machine.specs.points.SettledWords.{RunningWordsRead}
+use Rattle.tide_model.proofs.OldLaws.{is_full-kept}
 use Rattle.tide_model.proofs.Histories.{IsLawful-push, state_after-push}
 use Rattle.tide_model.proofs.ReferenceLaws.{put_at_elim}
 use Rattle.tide_model.specs.Applied.{after_call}
@@ -131,6 +132,13 @@ module _ (layout : Layout) (shapes : ShapeLists) (old : Heap) (part : ℕ → Vi
     pub held : w.held ≡ (part me).held
     pub round : w.round ≡ (part me).round
     pub sweeping : w.sweeping ≡ (part me).sweeping
+    pub saw : w.saw ≡ (part me).saw
+    pub cleared : w.cleared ≡ (part me).cleared
+    -- only one that sweeps nothing may retire
+    pub leaves : (w.left ≡ (part me).left) ⊎ ((part me).sweeping ≡ None)
+    -- no call writes a word of dead bits, nor one that a sweep has differ
+    pub dead_words : (block : ℕ) → new region.Dead block ≡ old region.Dead block
+    pub differs : (p : ℕ) (at : Region) (index word : ℕ) → Unsettles (part p) at index word → new at index ≡ old at index
     pub scan : w.scan ≡ (part me).scan
     pub known : w.known ≡ []
     pub full : w.full ≡ []
@@ -248,7 +256,7 @@ module _ (layout : Layout) (shapes : ShapeLists) (old : Heap) (part : ℕ → Vi
     pub call_step : RunningWave layout shapes (record { heap = new; part = put_at part me w; log = longer })
     call_step = record {
       lawful = IsLawful-push layout shapes log (call_of me op reply took) wave.lawful s.stands;
-      calls_alone = Growing.calls_alone-push log me op reply took wave.calls_alone;
+      part_alone = Growing.part_alone-push log me op reply took wave.part_alone;
       calls = s.calls;
       stops = stops_view layout old new part me w s.stopped (λ index. s.uncalled region.Stopped index refl) wave.stops;
       few_cycles = (let few = wave.few_cycles in omega (arith, few, running));
@@ -348,6 +356,7 @@ module _ (layout : Layout) (shapes : ShapeLists) (old : Heap) (part : ℕ → Vi
                   (wave.black.excused (sym marking ∙ marks) source place cell link_before was_black was_white)
             ];
       };
+      full = λ marks. is_full-kept log (call_of me op reply took) refl ∙ wave.full (sym marking ∙ marks);
       retained = record {
         marked = λ marks cell within is.
             retained_longer cell (wave.retained.marked (sym marking ∙ marks) cell within (sym (same_marked cell) ∙ is));
@@ -402,8 +411,9 @@ module _ (layout : Layout) (shapes : ShapeLists) (old : Heap) (part : ℕ → Vi
       bare = TablesAreBare-lawful layout shapes longer
           (IsLawful-push layout shapes log (call_of me op reply took) wave.lawful s.stands);
       swept = swept_kept layout old new phase (λ block within. s.uncalled region.Swept block refl) wave.swept;
-      sweeps = sweeps_kept layout old new part me w before after phase (λ block. s.uncalled region.Swept block refl)
-          s.sweeping now_of.dead wave.sweeps;
+      sweeps = sweeps_called layout old new part me w log (call_of me op reply took) refl phase
+          (λ block. s.uncalled region.Swept block refl) s.dead_words s.differs s.sweeping s.saw s.cleared s.leaves now_of.dead
+          wave.sweeps;
       left = now_of.inactive;
       scans = record { knows = scans_of (λ scan. ScanKnows layout new after scan) now_of.scans };
       grows = record {
@@ -442,6 +452,8 @@ module _ (layout : Layout) (shapes : ShapeLists) (old : Heap) (part : ℕ → Vi
         full = each_put (λ p u. u.runs ≡ false → u.full ≡ []) part me w stopped wave.parked.full;
         calls = each_put (λ p u. u.runs ≡ false → u.calls ≡ length u.mine) part me w stopped wave.parked.calls;
         sweeping = each_put (λ p u. u.runs ≡ false → u.sweeping ≡ None) part me w stopped wave.parked.sweeping;
+        saw = each_put (λ p u. u.runs ≡ false → u.saw ≡ None) part me w stopped wave.parked.saw;
+        cleared = each_put (λ p u. u.runs ≡ false → u.cleared ≡ []) part me w stopped wave.parked.cleared;
       };
     }
       where

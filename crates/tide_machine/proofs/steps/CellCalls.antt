@@ -10,9 +10,11 @@ use Rattle.tide_machine.proofs.steps.Calls.{OfState, call_step, is_uncalled}
 use Rattle.tide_machine.proofs.steps.Frames.{each_put, calls_view}
 use Rattle.tide_machine.proofs.steps.GrowthsKept.{growth_kept}
 use Rattle.tide_machine.proofs.steps.Lists.{nothing_in}
+use Rattle.tide_machine.proofs.steps.SweepsKept.{named_kept}
+use Rattle.tide_machine.proofs.steps.Unsettled.{given_put, unsettled_write, unsettles_put}
 use Rattle.tide_machine.specs.Duties.{IsCalm, OwesBarrier, OwesColour}
 use Rattle.tide_machine.specs.Entries.{call_of}
-use Rattle.tide_machine.specs.Owed.{owed_word, Owes, IsOwnWord, own_register, own_structure, own_array, own_pair, own_element}
+use Rattle.tide_machine.specs.Owed.{owed_word, Owes, IsOwnWord, own_register, own_structure, own_array, own_pair, own_element, Unsettles}
 use Rattle.tide_machine.specs.RunningWave.{RunningWave}
 use Rattle.tide_machine.specs.Scanning.{IsTrue, Place, property}
 use Rattle.tide_machine.specs.Words.{count_of}
@@ -28,6 +30,7 @@ use Rattle.tide_machine.specs.points.Births.{IsHidden}
 use Rattle.tide_machine.specs.points.Growths.{GrowthKnows}
 use Rattle.tide_machine.specs.points.Links.{LinkAt}
 use Rattle.tide_machine.specs.points.Scans.{ScanKnows}
+use Rattle.tide_machine.specs.points.Sweeps.{SweepsAreNamed}
 use Rattle.tide_machine.specs.points.SettledWords.{RunningWordsRead}
 use Rattle.tide_model.proofs.ReferenceLaws.{put_at_elim, RefsAreLive-call}
 use Rattle.tide_model.specs.Applied.{after_call, put_cell}
@@ -80,6 +83,9 @@ module _ (layout : Layout) (shapes : ShapeLists) (w : World) (me : ℕ) (inside 
     pub called : is_uncalled there ≡ false
     pub no_period : (tag region.Period == tag there) ≡ false
     pub no_call : (tag region.Call == tag there) ≡ false
+    pub no_dead : (tag region.Dead == tag there) ≡ false
+    -- no sweep has the word differ
+    pub settled : (p other : ℕ) → Unsettles (w.part p) there idx other → ⊥
     pub becomes : after_call state me op reply None ≡ after
     pub reads : ReadsAs layout shapes (write wave.words.settled there idx word) after
     -- no other mutator's own word is written
@@ -136,8 +142,11 @@ module _ (layout : Layout) (shapes : ShapeLists) (w : World) (me : ℕ) (inside 
     words_after = record {
       settled = write wave.words.settled there idx word;
       reads = s.reads;
-      same = λ at index read free. ap (λ (z : ℕ). if (tag at == tag there) && (index == idx) then word else z)
-          (wave.words.same at index read (λ p x owes. free p x (back p at index x owes)));
+      same = λ at index read free swept. ap (λ (z : ℕ). if (tag at == tag there) && (index == idx) then word else z)
+          (wave.words.same at index read (λ p x owes. free p x (back p at index x owes))
+          (unsettles_put w.part me later refl at index swept));
+      given = given_put (write wave.words.settled there idx word) w.part me later refl (λ p g is gave.
+          write-other_region wave.words.settled there region.Dead idx g.block word s.no_dead ∙ wave.words.given p g is gave);
       owed = put_at_elim (λ p u. (at : Region) (index x : ℕ) → Owes u at index x →
           write wave.words.settled there idx word at index ≡ x) w.part me later
           (λ at index x owes. absurd (nothing_in (owed_word at index x) owes)) (λ p apart at index x owes.
@@ -207,6 +216,12 @@ module _ (layout : Layout) (shapes : ShapeLists) (w : World) (me : ℕ) (inside 
         (ne_eqb (tag at) (tag there) (λ same. let r = tag-injective at there same in let also = ap is_uncalled r in
         let c = s.called in absurd (cc)))
 
+    pub named_after : SweepsAreNamed layout new (put_at w.part me later) after
+    named_after = named_kept layout w.heap new w.part me later state after (uncalled_else region.Phase 0 refl)
+        (λ block. uncalled_else region.Swept block refl)
+        (λ block. write-other_region w.heap there region.Dead idx block word s.no_dead)
+        (unsettled_write w.heap w.part there idx word s.settled) refl refl (inl refl) still_dead wave.sweeps.named
+
     pub cell_call : ArraysStand layout new after → RunningWave layout shapes (record {
       heap = new;
       part = put_at w.part me later;
@@ -229,6 +244,11 @@ module _ (layout : Layout) (shapes : ShapeLists) (w : World) (me : ℕ) (inside 
       held = refl;
       round = refl;
       sweeping = refl;
+      saw = refl;
+      cleared = refl;
+      dead_words = λ block. write-other_region w.heap there region.Dead idx block word s.no_dead;
+      differs = unsettled_write w.heap w.part there idx word s.settled;
+      leaves = inl refl;
       scan = refl;
       known = refl;
       full = refl;

@@ -89,6 +89,8 @@ module _ (layout : Layout) (shapes : ShapeLists) (old : Heap) (part : ℕ → Vi
     period = s.period;
     left = refl;
     sweeping = refl;
+    saw = refl;
+    cleared = refl;
     swept = s.swept;
     waits = left_quiet layout old new part me (with_duty (part me) d) (s.words region.Phase 0 refl) s.period s.greys
         s.shared refl refl refl refl wave.waits;

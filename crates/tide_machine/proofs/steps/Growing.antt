@@ -8,7 +8,7 @@ use Rattle.std.specs.Prelude.{◌||◌, Contains, Option, filter, if◌then◌el
 use Rattle.tide_core.specs.FrozenWave.{is_born_in_cycle, is_birth_of}
 use Rattle.tide_machine.proofs.steps.Lists.{in_one}
 use Rattle.tide_machine.specs.Entries.{call_of}
-use Rattle.tide_machine.specs.points.Seen.{HasCallsAlone}
+use Rattle.tide_machine.specs.points.Seen.{HasPartAlone}
 use Rattle.tide_model.proofs.Cycles.{take-all}
 use Rattle.tide_model.proofs.Histories.{take-append-short, moment_after_last-push}
 use Rattle.tide_model.proofs.SinceLaws.{since-push, count-push, visits_since-push}
@@ -20,7 +20,7 @@ use Rattle.tide_model.specs.History.{state_after, state_at, is_begin, is_open, i
 use Rattle.tide_model.specs.Layout.{Layout}
 use Rattle.tide_model.specs.Periods.{open_count}
 use Rattle.tide_model.specs.Room.{window_start}
-use Rattle.tide_model.specs.Since.{is_call, since, visits_since, visits_in}
+use Rattle.tide_model.specs.Since.{is_of_part, since, visits_since, visits_in}
 use Rattle.tide_model.specs.State.{State}
 use Rattle.tide_model.specs.declared.entry.Event.{Event}
 use Rattle.tide_model.specs.declared.op.Op.{Op}
@@ -166,12 +166,12 @@ pub open_count-call : (log : List Event) (who : ℕ) (op : Op) (reply : Reply) (
 open_count-call log who op reply took =
     (let counted = count-push (λ event. is_open event.entry) log (call_of who op reply took) in omega (arith, counted))
 
--- and the part has calls alone after it
-pub calls_alone-push : (log : List Event) (who : ℕ) (op : Op) (reply : Reply) (took : Option ℕ) → HasCallsAlone log →
-    HasCallsAlone (log ++ call_of who op reply took ∷ [])
-calls_alone-push log who op reply took alone event at =
+-- and the part has nothing but its entries after it
+pub part_alone-push : (log : List Event) (who : ℕ) (op : Op) (reply : Reply) (took : Option ℕ) → HasPartAlone log →
+    HasPartAlone (log ++ call_of who op reply took ∷ [])
+part_alone-push log who op reply took alone event at =
     elim (Contains-append_cases (since is_open log) (call_of who op reply took ∷ []) event
     (subst (λ (l : List Event). Contains l event) (since-push is_open log (call_of who op reply took) refl) at)) [
       | inl before ↦ alone event before
-      | inr now ↦ subst (λ (x : Event). is_call x.entry ≡ true) (in_one (call_of who op reply took) event now) refl
+      | inr now ↦ subst (λ (x : Event). is_of_part x.entry ≡ true) (in_one (call_of who op reply took) event now) refl
     ]

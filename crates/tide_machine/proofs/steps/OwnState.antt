@@ -178,10 +178,11 @@ other_event : (layout : Layout) (p : ℕ) (s : State) (event : Event) (e : Entry
     is_call_of p e ≡ false → own_of p (after_entry layout s e event.took) ≡ own_of p s
 other_event layout p s event (entry.Call who op reply) is fails =
     other_call p who s op reply event.took (λ same. (let test = eq-eqb who p (sym same) in absurd (cc)))
-other_event layout p s event (entry.Begin cycle) is fails = refl
+other_event layout p s event (entry.Begin cycle full) is fails = refl
 other_event layout p s event (entry.Pause visits) is fails = refl
 other_event layout p s event (entry.Visits who visits) is fails = refl
 other_event layout p s event (entry.End cycle freed) is fails = refl
+other_event layout p s event (entry.Taken block) is fails = refl
 other_event layout p s event (entry.Sweep block) is fails = refl
 other_event layout p s event (entry.Open number run) is fails = refl
 
@@ -194,10 +195,11 @@ own_event layout p s t event (entry.Call who op reply) is same =
     (sym (eqb-true who p is))
     (own_call p s op reply event.took ∙ ap (λ (o : Own). own_after o op reply) same ∙
     sym (own_call p t op reply event.took))
-own_event layout p s t event (entry.Begin cycle) is same = absurd (cc)
+own_event layout p s t event (entry.Begin cycle full) is same = absurd (cc)
 own_event layout p s t event (entry.Pause visits) is same = absurd (cc)
 own_event layout p s t event (entry.Visits who visits) is same = absurd (cc)
 own_event layout p s t event (entry.End cycle freed) is same = absurd (cc)
+own_event layout p s t event (entry.Taken block) is same = absurd (cc)
 own_event layout p s t event (entry.Sweep block) is same = absurd (cc)
 own_event layout p s t event (entry.Open number run) is same = absurd (cc)
 

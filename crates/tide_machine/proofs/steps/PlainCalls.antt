@@ -1,6 +1,6 @@
 -- A call that leaves all cells and arrays as they were keeps the wave: one on a register, a handle, a claim,
 -- or none.
-use Rattle.std.proofs.Common.{ℕ, ◌≡◌, ◌≢◌, ◌<◌, ◌≤◌, refl, sym, ap, subst, Bool, true, false, List, [], ◌∷◌, ◌++◌, inl, inr, None, ◌∙◌}
+use Rattle.std.proofs.Common.{ℕ, ◌≡◌, ◌≢◌, ◌<◌, ◌≤◌, refl, sym, ap, subst, Bool, true, false, List, [], ◌∷◌, ◌++◌, inl, inr, None, ◌∙◌, ◌⊎◌}
 use Rattle.std.proofs.lemmas.Bool.{cases_Bool}
 use Rattle.std.specs.Prelude.{Contains, not}
 use Rattle.tide_core.specs.FrozenWave.{is_birth_of}
@@ -12,7 +12,7 @@ use Rattle.tide_machine.proofs.steps.GrowthsKept.{growth_kept}
 use Rattle.tide_machine.proofs.steps.ScansKept.{scan_kept}
 use Rattle.tide_machine.specs.Duties.{OwesColour, IsCalm}
 use Rattle.tide_machine.specs.Entries.{call_of}
-use Rattle.tide_machine.specs.Owed.{IsOwnWord, own_register, own_structure, own_array, own_pair, own_element, owed_word}
+use Rattle.tide_machine.specs.Owed.{IsOwnWord, own_register, own_structure, own_array, own_pair, own_element, owed_word, Unsettles}
 use Rattle.tide_machine.specs.RunningWave.{RunningWave}
 use Rattle.tide_machine.specs.Scanning.{Place, slot, property, IsStill}
 use Rattle.tide_machine.specs.Words.{count_of}
@@ -82,6 +82,7 @@ module _ (layout : Layout) (shapes : ShapeLists) (w : World) (me : ℕ) (inside 
   pub record ShowsPlain (new : Heap) (owed : List Owed) : Type 0 where
     pub becomes : after_call state me op reply None ≡ after
     pub same : (at : Region) (index : ℕ) → is_changed at ≡ false → new at index ≡ w.heap at index
+    pub differs : (p : ℕ) (at : Region) (index word : ℕ) → Unsettles (w.part p) at index word → new at index ≡ w.heap at index
     pub words : RunningWordsRead layout shapes new (put_at w.part me (later owed)) after
     pub told : CallsAreTold layout new (put_at w.part me (later owed))
     pub kept : (p : ℕ) (at : Region) (index word : ℕ) → p ≢ me → Contains (w.part p).known (owed_word at index word) →
@@ -93,6 +94,7 @@ module _ (layout : Layout) (shapes : ShapeLists) (w : World) (me : ℕ) (inside 
         ((who : ℕ) → Contains (claims who) c → ⊥)
     pub active_else : (p : ℕ) → p ≢ me → active p ≡ state.active p
     pub left_is : left ≡ not (active me)
+    pub leaves : (left ≡ (w.part me).left) ⊎ ((w.part me).sweeping ≡ None)
 
   module _ (new : Heap) (owed : List Owed) (s : ShowsPlain new owed) where
     own_still : (p : ℕ) (at : Region) (index : ℕ) → p ≢ me → IsOwnWord layout state p at index →
@@ -183,6 +185,11 @@ module _ (layout : Layout) (shapes : ShapeLists) (w : World) (me : ℕ) (inside 
       held = refl;
       round = refl;
       sweeping = refl;
+      saw = refl;
+      cleared = refl;
+      dead_words = λ block. s.same region.Dead block refl;
+      differs = s.differs;
+      leaves = s.leaves;
       scan = refl;
       known = refl;
       full = refl;

@@ -1,6 +1,6 @@
 -- A call that writes one word of a register, a handle or a claim keeps the wave, by the reading law of its
 -- operation.
-use Rattle.std.proofs.Common.{ℕ, ◌≡◌, ◌≢◌, ◌<◌, ◌==◌, refl, sym, ◌∙◌, ap, subst, arith, Bool, true, false, List, [], ◌∷◌, ◌++◌, inl, inr, None}
+use Rattle.std.proofs.Common.{ℕ, ◌≡◌, ◌≢◌, ◌<◌, ◌==◌, refl, sym, ◌∙◌, ap, subst, arith, Bool, true, false, List, [], ◌∷◌, ◌++◌, inl, inr, None, ◌⊎◌}
 use Rattle.std.proofs.lemmas.Bool.{cases_Bool, eqb-true, ne_eqb, and_parts}
 use Rattle.std.specs.Prelude.{Contains, if◌then◌else◌, ◌&&◌, not}
 use Rattle.tide_core.specs.FrozenWave.{is_birth_of}
@@ -11,8 +11,9 @@ use Rattle.tide_layout.specs.declared.region.Region.TheVariants as region
 use Rattle.tide_machine.proofs.steps.Frames.{calls_view}
 use Rattle.tide_machine.proofs.steps.Lists.{nothing_in}
 use Rattle.tide_machine.proofs.steps.PlainCalls
+use Rattle.tide_machine.proofs.steps.Unsettled.{given_put, unsettled_write, unsettles_put}
 use Rattle.tide_machine.specs.Entries.{call_of}
-use Rattle.tide_machine.specs.Owed.{Owes, IsOwnWord, own_register, own_structure, own_array, own_pair, own_element, owed_word}
+use Rattle.tide_machine.specs.Owed.{Owes, IsOwnWord, own_register, own_structure, own_array, own_pair, own_element, owed_word, Unsettles}
 use Rattle.tide_machine.specs.RunningWave.{RunningWave}
 use Rattle.tide_machine.specs.World.{World, parties}
 use Rattle.tide_machine.specs.declared.view.Duty.TheVariants as duty
@@ -69,12 +70,15 @@ module _ (layout : Layout) (shapes : ShapeLists) (w : World) (me : ℕ) (inside 
   pub record ShowsWord : Type 0 where
     pub changes : PlainCalls.is_changed there ≡ true
     pub no_call : (tag region.Call == tag there) ≡ false
+    -- no sweep has the word differ
+    pub settled : (p other : ℕ) → Unsettles (w.part p) there idx other → ⊥
     pub becomes : after_call state me op reply None ≡ after
     pub reads : ReadsAs layout shapes (write wave.words.settled there idx word) after
     pub alone : (p : ℕ) → p ≢ me → IsOwnWord layout state p there idx → ⊥
     pub claims_else : (p : ℕ) → p ≢ me → claims p ≡ state.claims p
     pub active_else : (p : ℕ) → p ≢ me → active p ≡ state.active p
     pub left_is : left ≡ not (active me)
+    pub leaves : (left ≡ (w.part me).left) ⊎ ((w.part me).sweeping ≡ None)
     pub hidden : (p c : ℕ) → p ≢ me → IsLive state c → IsHidden state p c →
         ((who register : ℕ) → who ≢ p → active who ≡ true → registers who register ≡ Cell c → ⊥)
         × ((handle : ℕ) → strong handle ≡ Cell c → ⊥) × ((handle : ℕ) → weak handle ≡ Cell c → ⊥) ×
@@ -109,8 +113,13 @@ module _ (layout : Layout) (shapes : ShapeLists) (w : World) (me : ℕ) (inside 
     words_after = record {
       settled = write wave.words.settled there idx word;
       reads = s.reads;
-      same = λ at index read free. ap (λ (z : ℕ). if (tag at == tag there) && (index == idx) then word else z)
-          (wave.words.same at index read (λ p x owes. free p x (back p at index x owes)));
+      same = λ at index read free swept. ap (λ (z : ℕ). if (tag at == tag there) && (index == idx) then word else z)
+          (wave.words.same at index read (λ p x owes. free p x (back p at index x owes))
+          (unsettles_put w.part me later refl at index swept));
+      given = given_put (write wave.words.settled there idx word) w.part me later refl (λ p g is gave.
+          write-other_region wave.words.settled there region.Dead idx g.block word
+          (ne_eqb (tag region.Dead) (tag there) (λ same. let r = tag-injective region.Dead there same in let also =
+          ap PlainCalls.is_changed r in let c = s.changes in absurd (cc))) ∙ wave.words.given p g is gave);
       owed = put_at_elim (λ p u. (at : Region) (index x : ℕ) → Owes u at index x →
           write wave.words.settled there idx word at index ≡ x) w.part me later
           (λ at index x owes. absurd (nothing_in (owed_word at index x) owes)) (λ p apart at index x owes.
@@ -147,6 +156,7 @@ module _ (layout : Layout) (shapes : ShapeLists) (w : World) (me : ℕ) (inside 
           same = λ at index isnt. write-other_region w.heap there at idx index word
               (ne_eqb (tag at) (tag there) (λ same. let r = tag-injective at there same in let also =
               ap PlainCalls.is_changed r in let c = s.changes in absurd (cc)));
+          differs = unsettled_write w.heap w.part there idx word s.settled;
           words = words_after;
           kept = λ p at index x apart is. own_same w.heap p at index apart (wave.kept.owns p at index x is) ∙
               wave.kept.known p at index x is;
@@ -155,5 +165,6 @@ module _ (layout : Layout) (shapes : ShapeLists) (w : World) (me : ℕ) (inside 
           claims_else = s.claims_else;
           active_else = s.active_else;
           left_is = s.left_is;
+          leaves = s.leaves;
           hidden = s.hidden;
         }

@@ -11,6 +11,7 @@ use Rattle.tide_machine.proofs.steps.Frames.{each_put}
 use Rattle.tide_machine.proofs.steps.GrowthsKept.{growth_kept}
 use Rattle.tide_machine.proofs.steps.ScansKept.{scan_kept}
 use Rattle.tide_machine.proofs.steps.Steps.{any_step}
+use Rattle.tide_machine.proofs.steps.Unsettled.{given_put, unsettled_read, unsettles_put}
 use Rattle.tide_machine.proofs.steps.SweepsKept.{swept_kept, sweeps_kept}
 use Rattle.tide_machine.specs.Duties.{IsCalm, OwesBarrier, GrowsAndOwes, OwesColour}
 use Rattle.tide_machine.specs.Owed.{owed_word, Owes, IsOwnWord}
@@ -70,6 +71,8 @@ module _ (layout : Layout) (shapes : ShapeLists) (old : Heap) (part : ℕ → Vi
     pub begun : w.begun ≡ (part me).begun
     pub left : w.left ≡ (part me).left
     pub sweeping : w.sweeping ≡ (part me).sweeping
+    pub saw : w.saw ≡ (part me).saw
+    pub cleared : w.cleared ≡ (part me).cleared
     pub ran : (part me).runs ≡ true
     pub runs : w.runs ≡ true
     pub period : new region.Period 0 ≡ old region.Period 0
@@ -145,8 +148,10 @@ module _ (layout : Layout) (shapes : ShapeLists) (old : Heap) (part : ℕ → Vi
     words_after = record {
       settled = wave.words.settled;
       reads = wave.words.reads;
-      same = λ at index read free. s.words at index read ∙
-          wave.words.same at index read (λ p word owes. free p word (back at index word p owes));
+      same = λ at index read free settled. s.words at index read ∙
+          wave.words.same at index read (λ p word owes. free p word (back at index word p owes))
+          (unsettles_put part me w s.sweeping at index settled);
+      given = given_put wave.words.settled part me w s.sweeping wave.words.given;
       owed = each_put (λ p u. (at : Region) (index word : ℕ) → Owes u at index word →
           wave.words.settled at index ≡ word) part me w
           (λ at index word owes. wave.words.owed me at index word (was at index word owes)) wave.words.owed;
@@ -204,8 +209,10 @@ module _ (layout : Layout) (shapes : ShapeLists) (old : Heap) (part : ℕ → Vi
           s.words region.Array c refl) (λ i. s.words region.Elements i refl) (λ array. refl) (λ c array alive is.
           (alive, refl, refl, refl)) (λ c alive none. inl alive) wave.arrays;
       swept = swept_kept layout old new (s.words region.Phase 0 refl) (λ block within. s.swept block) wave.swept;
-      sweeps = sweeps_kept layout old new part me w (state_after layout log) (state_after layout log)
-          (s.words region.Phase 0 refl) s.swept s.sweeping (λ block has. has) wave.sweeps;
+      sweeps = sweeps_kept layout old new part me w log (s.words region.Phase 0 refl) s.swept
+          (λ block. s.words region.Dead block refl) (λ p at index word is. s.words at index
+          (unsettled_read layout old (part p) at index word (wave.sweeps.named.stands p) is)) s.sweeping s.saw s.cleared
+          s.left wave.sweeps;
       told = λ is. (let t = wave.numbers.told me s.ran in (s.marks ∙ t.0, s.cycle ∙ t.1, s.begun ∙ t.2));
       calls = s.calls;
       stops = s.stops;

@@ -76,6 +76,8 @@ module _ (layout : Layout) (shapes : ShapeLists) (w : World) (me : ℕ) (inside 
     period = refl;
     left = refl;
     sweeping = refl;
+    saw = refl;
+    cleared = refl;
     swept = λ block. refl;
     waits = left_quiet layout w.heap w.heap w.part me (with_scan (w.part me) after) refl refl (λ _ c in_c is. is) (λ c
         is. is) refl refl refl refl wave.waits;

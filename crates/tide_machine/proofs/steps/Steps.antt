@@ -29,7 +29,7 @@ use Rattle.tide_machine.specs.points.Scans.{IsAtHand, ScanKnows}
 use Rattle.tide_machine.specs.points.Seen.{CallsAreTold}
 use Rattle.tide_machine.specs.points.SettledWords.{RunningWordsRead}
 use Rattle.tide_machine.specs.points.Stops.{StopsAreTold}
-use Rattle.tide_machine.specs.points.Sweeps.{SweptAreBelow, SweepsAreNamed}
+use Rattle.tide_machine.specs.points.Sweeps.{SweptAreBelow, SweepsAreRight}
 use Rattle.tide_machine.specs.points.Witness.{GreyIsLeft}
 use Rattle.tide_model.proofs.ReferenceLaws.{put_at_elim}
 use Rattle.tide_model.specs.Cycle.{cycle_span}
@@ -81,6 +81,7 @@ module _ (layout : Layout) (shapes : ShapeLists) (old : Heap) (part : ℕ → Vi
     pub empties : w.runs ≡ false → (w.held ≡ []) × (w.scan ≡ None) × (w.owed ≡ []) × (w.duty ≡ duty.Nothing) ×
         (w.growth ≡ growth.Nothing)
         × (w.known ≡ []) × (w.full ≡ []) × (w.calls ≡ length w.mine) × (w.sweeping ≡ None)
+        × (w.saw ≡ None) × (w.cleared ≡ [])
     -- colours and holders
     pub colours : NoLaterColours layout new
     pub balance : is_marking old ≡ true → (cell : ℕ) → cell < cell_count layout →
@@ -101,7 +102,7 @@ module _ (layout : Layout) (shapes : ShapeLists) (old : Heap) (part : ℕ → Vi
     pub waits : GreyIsLeft layout new (put_at part me w)
     pub stands : ArraysStand layout new (state_after layout log)
     pub swept : SweptAreBelow layout new
-    pub sweeps : SweepsAreNamed layout new (put_at part me w) (state_after layout log)
+    pub sweeps : SweepsAreRight layout new (put_at part me w) log
     -- growths
     pub growth : GrowthKnows new (state_after layout log) me w w.growth
     pub growths : (p : ℕ) → p ≢ me → GrowthKnows new (state_after layout log) p (part p) (part p).growth
@@ -204,7 +205,7 @@ module _ (layout : Layout) (shapes : ShapeLists) (old : Heap) (part : ℕ → Vi
     pub any_step : RunningWave layout shapes (record { heap = new; part = put_at part me w; log = log })
     any_step = record {
       lawful = wave.lawful;
-      calls_alone = wave.calls_alone;
+      part_alone = wave.part_alone;
       calls = s.calls;
       stops = s.stops;
       few_cycles = (let few = wave.few_cycles in omega (arith, few, running));
@@ -256,6 +257,7 @@ module _ (layout : Layout) (shapes : ShapeLists) (old : Heap) (part : ℕ → Vi
             (wave.rests.duties (sym marking ∙ idle));
       };
       black = record { excused = black_after };
+      full = λ marks. wave.full (sym marking ∙ marks);
       retained = record {
         marked = λ marks cell within is. elim (s.marked (sym marking ∙ marks) cell within is) [
           | inl before ↦ wave.retained.marked (sym marking ∙ marks) cell within before
@@ -334,6 +336,8 @@ module _ (layout : Layout) (shapes : ShapeLists) (old : Heap) (part : ℕ → Vi
             (s.empties is).7) wave.parked.calls;
         sweeping = each_put (λ p u. u.runs ≡ false → u.sweeping ≡ None) part me w (λ is.
             (s.empties is).8) wave.parked.sweeping;
+        saw = each_put (λ p u. u.runs ≡ false → u.saw ≡ None) part me w (λ is. (s.empties is).9) wave.parked.saw;
+        cleared = each_put (λ p u. u.runs ≡ false → u.cleared ≡ []) part me w (λ is. (s.empties is).10) wave.parked.cleared;
       };
     }
       where

@@ -117,9 +117,9 @@ module _ (layout : Layout) (shapes : ShapeLists) (v : View) (op : Op) (addition 
 
   -- the element may be stored, of which no key tells yet
   may_store : MayStep layout shapes v (StoreElement array addition.count (val_word value) None)
-  may_store w wave is =
+  may_store w running is =
       let read = w.heap region.Elements at in
-      let m = moment_in layout shapes w v region.Elements at wave is in
+      let m = moment_in layout shapes w v region.Elements at running is in
       let here = append_here w.log region.Elements at read m in inr (record {
         runner = runs_there layout w v op is calling;
         own = record {
@@ -157,9 +157,9 @@ module _ (layout : Layout) (shapes : ShapeLists) (v : View) (op : Op) (addition 
     )
 
     may_add_key : MayStep layout shapes v (StoreStructure addition.cell whole (Some op))
-    may_add_key w wave is =
+    may_add_key w running is =
         let read = w.heap region.Structure addition.cell in
-        let m = moment_in layout shapes w v region.Structure addition.cell wave is in
+        let m = moment_in layout shapes w v region.Structure addition.cell running is in
         let here = append_here w.log region.Structure addition.cell read m in
         let state = state_after layout w.log in
         subst (λ (o : Op). MayStoreStructure layout shapes w v.who addition.cell whole (Some o)) (sym here.same)
@@ -255,6 +255,7 @@ module _ (layout : Layout) (shapes : ShapeLists) (v : View) (op : Op) (addition 
       owed = ap (without_word region.Elements place) calling.between.owed;
       duty = calling.between.duty;
       growth = calling.between.growth;
+      sweeping = calling.between.sweeping;
       calls = calling.between.calls;
     };
     own = calling.own;

@@ -53,9 +53,9 @@ module _ (layout : Layout) (shapes : ShapeLists) (v : View) (op : Op) (dst : ℕ
     (calling : IsCalling layout v op) (planned : IsPlanned layout shapes v op (plan.Fill dst value)) where
   pub may_fill : is_told_by_registers op ≡ true →
       MayStep layout shapes v (StoreRegister dst (val_word value) (Some op))
-  may_fill told w wave is =
+  may_fill told w running is =
       let index = index_of_register layout v.who dst in
-      let m = moment_in layout shapes w v Registers index wave is in (
+      let m = moment_in layout shapes w v Registers index running is in (
         may_call layout shapes w v op (plan.Fill dst value) Done None Registers index (w.heap Registers index) is calling
             planned m _ (fills layout m.settled v.who dst value) (λ class full. absurd (cc)),
         stores (caller_of layout shapes v) m.settled (state_after layout w.log) op dst value told

@@ -47,9 +47,9 @@ module _ (layout : Layout) (shapes : ShapeLists) (v : View) (op : Op) (cell grou
     (calling : IsCalling layout v op) (told : is_told_by_registers op ≡ true)
     (planned : IsPlanned layout shapes v op (plan.Join cell group)) where
   may_group : MayStep layout shapes v (StoreGroup cell group (Some op))
-  may_group w wave is =
+  may_group w running is =
       let read = w.heap region.Group cell in
-      let m = moment_in layout shapes w v region.Group cell wave is in
+      let m = moment_in layout shapes w v region.Group cell running is in
       let here = is_group (caller_of layout shapes v) m.settled (state_after layout w.log) op cell group told
       (planned m.settled w.log (stands_then layout shapes v w.log region.Group cell read calling.stays m)) in
       subst (λ (o : Op). MayStoreGroup layout shapes w v.who cell group (Some o)) (sym here.same) (

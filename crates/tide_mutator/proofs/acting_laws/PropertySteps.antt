@@ -180,9 +180,9 @@ module _ (layout : Layout) (shapes : ShapeLists) (v : View) (op : Op) (array pla
       )
 
     pub may_get_property : MayStep layout shapes v (LoadElement array place (Some op))
-    may_get_property w wave is =
+    may_get_property w running is =
         let read = w.heap region.Elements at in
-        let m = moment_in layout shapes w v region.Elements at wave is in
+        let m = moment_in layout shapes w v region.Elements at running is in
         let here = read_here w.log read m in
         subst (λ (o : Op). MayLoadElement layout shapes w v.who array place read (Some o)) (sym here.same) record {
           own = own_there w here.src here.key here.cell here.of;
@@ -219,9 +219,9 @@ module _ (layout : Layout) (shapes : ShapeLists) (v : View) (op : Op) (array pla
           value (planned m.settled log (stands_then layout shapes v log region.Elements at read calling.stays m))
 
       may_write : MayStep layout shapes v (StoreElement array place (val_word value) (Some op))
-      may_write w wave is =
+      may_write w running is =
           let read = w.heap region.Elements at in
-          let m = moment_in layout shapes w v region.Elements at wave is in
+          let m = moment_in layout shapes w v region.Elements at running is in
           let here = write_here w.log read m in
           subst (λ (o : Op). MayStoreElement layout shapes w v.who array place (val_word value) (Some o)) (sym here.same)
           record {

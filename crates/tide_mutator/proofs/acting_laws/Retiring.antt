@@ -43,9 +43,9 @@ module _ (layout : Layout) (shapes : ShapeLists) (v : View) (op : Op) (calling :
       (planned m.settled log (stands_then layout shapes v log region.Active v.who read calling.stays m))
 
   pub may_leave : MayStep layout shapes v (RetireStep (Some Retire))
-  may_leave w wave is =
+  may_leave w running is =
       let read = w.heap region.Active v.who in
-      let m = moment_in layout shapes w v region.Active v.who wave is in
+      let m = moment_in layout shapes w v region.Active v.who running is in
       subst (λ (o : Op). MayCall layout shapes w v.who o Done None) (retires_there w.log read m)
       (may_call layout shapes w v op plan.Retire Done None region.Active v.who read is calling
       planned m (write m.settled region.Active v.who 0) (refl, λ other index inside. refl) (λ class full. absurd (cc)))

@@ -63,6 +63,7 @@ module _ (v u : View) (h : HasRead v u) where
         owed = c.between.owed;
         duty = c.between.duty;
         growth = c.between.growth;
+        sweeping = c.between.sweeping;
         calls = c.between.calls;
       };
       own = c.own;

@@ -85,9 +85,9 @@ module _ (layout : Layout) (shapes : ShapeLists) (v : View) (op : Op) (growth : 
   its_cell = growth.addition.cell
 
   pub may_load_structure : MayStep layout shapes v (LoadOwnStructure its_cell)
-  may_load_structure w wave is =
+  may_load_structure w running is =
       let read = w.heap region.Structure its_cell in
-      let m = moment_in layout shapes w v region.Structure its_cell wave is in record {
+      let m = moment_in layout shapes w v region.Structure its_cell running is in record {
         runner = runs_there layout w v op is calling;
         claimed = claimed_there layout shapes v op growth calling planned m.settled w.log
             (stands_then layout shapes v w.log region.Structure its_cell read calling.stays m);
@@ -143,9 +143,9 @@ module _ (layout : Layout) (shapes : ShapeLists) (v : View) (op : Op) (growth : 
     at_element = index_of_element layout source place
 
     pub may_load_element : MayStep layout shapes v (LoadElement source place None)
-    may_load_element w wave is =
+    may_load_element w running is =
         let read = w.heap region.Elements at_element in
-        let m = moment_in layout shapes w v region.Elements at_element wave is in
+        let m = moment_in layout shapes w v region.Elements at_element running is in
         let stands = stands_then layout shapes v w.log region.Elements at_element read calling.stays m in (
           runs_there layout w v op is calling,
           inl (
@@ -179,7 +179,7 @@ module _ (layout : Layout) (shapes : ShapeLists) (v : View) (op : Op) (growth : 
     block_within = class_block-within layout growth.class block calling.limits few_classes of_class
 
     pub may_load : MayStep layout shapes v (LoadFree block None)
-    may_load w wave is = (runs_there layout w v op is calling, block_within)
+    may_load w running is = (runs_there layout w v op is calling, block_within)
 
     module _ (read : ℕ) (u : View) (f : Follows layout shapes (LoadFree block None) v read u) where
       pub loaded_looked : HasLooked v u
@@ -233,7 +233,8 @@ module _ (layout : Layout) (shapes : ShapeLists) (v : View) (op : Op) (growth : 
 
         set_there : bit_at (m.settled region.Free block) k ≡ 1
         set_there = ap (λ (x : ℕ). bit_at x k)
-            (found_there layout shapes v log region.Free block read refl (refl, refl, refl, refl, refl) m) ∙ set
+            (found_there layout shapes v log region.Free block read refl (refl, refl, refl, refl, refl) (λ gone. gone) m)
+            ∙ set
 
         wide_there : width_of_array layout taken ≡ width_of_class growth.class
         wide_there = wide-array layout m.settled _ growth.class block k calling.limits (is_taken m.settled set_there)
@@ -275,9 +276,9 @@ module _ (layout : Layout) (shapes : ShapeLists) (v : View) (op : Op) (growth : 
         )
 
       pub may_take_bit : MayStep layout shapes v (TakeArray block k growth.old growth.next (Some op))
-      may_take_bit w wave is =
+      may_take_bit w running is =
           let read = w.heap region.Free block in
-          let m = moment_in layout shapes w v region.Free block wave is in
+          let m = moment_in layout shapes w v region.Free block running is in
           let stands = stands_then layout shapes v w.log region.Free block read calling.stays m in
           let g = growth_there layout shapes v op growth calling planned m.settled w.log stands in
           subst (λ (o : Op). MayTakeArray layout shapes w v.who block k growth.old growth.next read (Some o))
@@ -389,16 +390,16 @@ module _ (layout : Layout) (shapes : ShapeLists) (v : View) (op : Op) (growth : 
 
     pub may_tell_full : (word : ℕ) → word ≡ (length v.mine + 1) % 2 ^ 64 →
         MayStep layout shapes v (StoreCall word (Some op))
-    may_tell_full word counts w wave is =
+    may_tell_full word counts w running is =
         let read = w.heap region.Call v.who in
-        let m = moment_in layout shapes w v region.Call v.who wave is in
+        let m = moment_in layout shapes w v region.Call v.who running is in
         let g = growth_there layout shapes v op growth calling planned m.settled w.log
         (stands_then layout shapes v w.log region.Call v.who read calling.stays m) in (
           subst (λ (reply : Reply). MayCall layout shapes w v.who op reply None)
               (sym (full_reply (caller_of layout shapes v) (state_after layout w.log) op growth g))
               (may_call layout shapes w v op (plan_of growth) (Refused (Full growth.class)) None region.Call v.who read is
               calling planned m m.settled (full_words m.settled)
-              (stands_full layout shapes v growth.class w.log region.Call v.who read m lost)),
+              (stands_full layout shapes v growth.class w.log region.Call v.who read m running.clean lost)),
           counts ∙ ap (λ (n : ℕ). (n + 1) % 2 ^ 64) (sym (ap (λ (x : View). length x.mine) is)),
         )
 

@@ -14,16 +14,16 @@ pub store_strong-requires-clause-may : goal.store_strong-requires-clause-may
 store_strong-requires-clause-may g c = record {
   own = c.requires.own;
   runs = c.requires.ready.runs;
-  may = λ w wave is.
+  may = λ w running is.
       let layout = c.args.heap.now.key.layout in
       let shapes = g.S.HeapShapes.lists c.args.heap.now.key.shapes in
       let v = c.args.pass.now.seat.me.0 in
-      let own = own_now layout shapes v (set_calls v.who) c.requires.ready.made w wave is in
+      let own = own_now layout shapes v (set_calls v.who) c.requires.ready.made w running is in
       let holds = ap (λ (o : Own). o.registers 0) own ∙ seven layout v.who in (
         refl,
         c.val_word-word.ensures ∙ sym (ap (λ (value : Val). val_word value) holds),
         may_call layout shapes v (set_calls v.who) (StrongSet 0 0) c.requires.ready refl (c.requires.strong, c.requires.has)
-            (λ s same. refl) w wave is,
+            (λ s same. refl) w running is,
       );
 }
 

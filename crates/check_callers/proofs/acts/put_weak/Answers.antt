@@ -12,15 +12,15 @@ pub store_weak-requires-clause-may : goal.store_weak-requires-clause-may
 store_weak-requires-clause-may g c = record {
   own = c.requires.own;
   runs = c.requires.ready.runs;
-  may = λ w wave is.
+  may = λ w running is.
       let layout = c.args.heap.now.key.layout in
       let shapes = g.S.HeapShapes.lists c.args.heap.now.key.shapes in
       let v = c.args.pass.now.seat.me.0 in
-      let own = own_now layout shapes v (strong_calls v.who) c.requires.ready.made w wave is in
+      let own = own_now layout shapes v (strong_calls v.who) c.requires.ready.made w running is in
       let holds = ap (λ (o : Own). o.registers 0) own ∙ seven layout v.who in (
         refl,
         c.val_word-word.ensures ∙ sym (ap (λ (value : Val). val_word value) holds),
         may_call layout shapes v (strong_calls v.who) (WeakSet 0 0) c.requires.ready refl (c.requires.weak, c.requires.has)
-            (λ s same. refl) w wave is,
+            (λ s same. refl) w running is,
       );
 }

@@ -11,9 +11,9 @@ pub store_register-requires-clause-may : goal.store_register-requires-clause-may
 store_register-requires-clause-may g c = record {
   own = c.requires.own;
   runs = c.requires.ready.runs;
-  may = λ w wave is. (
+  may = λ w running is. (
     may_call c.args.heap.now.key.layout (g.S.HeapShapes.lists c.args.heap.now.key.shapes) c.args.pass.now.seat.me.0
-        [] (Set 0 7) c.requires.ready refl (c.requires.has, omega arith) (λ s own. refl) w wave is,
+        [] (Set 0 7) c.requires.ready refl (c.requires.has, omega arith) (λ s own. refl) w running is,
     (refl, c.val_word-word.ensures),
   );
 }

@@ -1,5 +1,5 @@
 -- What the beginning of a cycle asks and leaves, over the words of a frozen heap.
-use Rattle.std.proofs.Common.{ℕ, ◌≡◌, ◌+◌, ◌<◌, refl, sym, ◌∙◌, ap, subst, arith, false, List}
+use Rattle.std.proofs.Common.{ℕ, ◌≡◌, ◌+◌, ◌<◌, refl, sym, ◌∙◌, ap, subst, arith, false, List, true}
 use Rattle.check_visits.proofs.Freezes.{begun_there, may_begin}
 use Rattle.check_visits.specs.Parts.{IsAtFreeze}
 use Rattle.tide_core.specs.Entered.{HasBegun}
@@ -53,11 +53,12 @@ enter_begin-requires-clause-may g c =
     } in
     let number : begin_count v.seen + 1 ≡ k.result.0 + 1 = ap (λ (n : ℕ). n + 1)
     (sym freeze.wave.cycle ∙ ap (λ (x : View). running_cycle (heap_of layout x.words)) k.ensures.view ∙ sym k.ensures.cycle) in
-    subst (λ (n : ℕ). MayEnter layout (g.S.HeapShapes.lists f.heap.now.key.shapes) (heap_of layout u.words) u.seen (Begin n))
+    subst (λ (n : ℕ).
+    MayEnter layout (g.S.HeapShapes.lists f.heap.now.key.shapes) (heap_of layout u.words) u.seen (Begin n true))
     number
     (subst (λ (h : List Event). MayEnter layout (g.S.HeapShapes.lists f.heap.now.key.shapes) (heap_of layout u.words) h
-    (Begin (begin_count v.seen + 1))) (sym (ap (λ (r : Besides). r.seen) rest))
-    (subst (λ (s : ShapeLists). MayEnter layout s (heap_of layout u.words) v.seen (Begin (begin_count v.seen + 1)))
+    (Begin (begin_count v.seen + 1) true)) (sym (ap (λ (r : Besides). r.seen) rest))
+    (subst (λ (s : ShapeLists). MayEnter layout s (heap_of layout u.words) v.seen (Begin (begin_count v.seen + 1) true))
     (sym (ap (λ (r : Besides). r.whose.shapes) rest ∙ k.ensures.shapes))
     (may_begin layout shapes v freeze u.words idle begun)))
 
@@ -87,8 +88,9 @@ returns-clause-freeze g c =
     λ is. begun_there layout shapes v freeze u.words idle begun x c.begin.ensures.all_words
     (ap (λ (w : Whose). w.view) c.enter_begin.ensures.kept ∙ ap (λ (r : Besides). r.whose.view) rest)
     c.enter_begin.ensures.same
-    (c.enter_begin.ensures.entered ∙ ap (λ (h : List Event). with_entry h (Begin (k.result.0 + 1))) (ap (λ (r : Besides). r.seen) rest)
-    ∙ ap (λ (n : ℕ). with_entry v.seen (Begin n)) (sym number))
+    (c.enter_begin.ensures.entered
+    ∙ ap (λ (h : List Event). with_entry h (Begin (k.result.0 + 1) true)) (ap (λ (r : Besides). r.seen) rest)
+    ∙ ap (λ (n : ℕ). with_entry v.seen (Begin n true)) (sym number))
     (sym (ap (λ (l : Layout). is_black (heap_of l x.base)) there) ∙ c.enter_begin.ensures.blacks)
     (LeavesParticipants-begun layout (heap_of layout v.words) (heap_of layout u.words) begun.others).stopped
 

@@ -1,5 +1,5 @@
 -- Answers to the goals of recording::RecordingRecorder::freeze.
-use Rattle.std.proofs.Common.{◌<◌, sym, subst, arith, Bool}
+use Rattle.std.proofs.Common.{sym, subst, arith, Bool}
 use Rattle.tide_periods.specs.Periods.{RanFreeze}
 use Rattle.tide_sched.specs.Paces.{pace_of}
 use Rattle.tide_periods.specs.Recorded.{Recorded}

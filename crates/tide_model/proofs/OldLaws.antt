@@ -1,0 +1,177 @@
+-- Old cells stay old, and a cycle full or not, until a cycle begins or ends; and what is old is live.
+use Rattle.std.proofs.Common.{ℕ, suc, ◌≡◌, refl, sym, ◌∙◌, ap, subst, Bool, true, false, true≢false, List, [], ◌∷◌, ◌++◌, length, take, length-append, arith, inl, inr}
+use Rattle.std.proofs.lemmas.Bool.{cases_Bool}
+use Rattle.std.specs.Prelude.{◌==◌, if◌then◌else◌, ◌&&◌, not, filter, Option, None, Some}
+use Rattle.tide_model.specs.declared.op.Op.{Op}
+use Rattle.tide_model.specs.declared.op.Op.TheVariants.{Alloc, Table, Put, Claim, Release, Add, SetProp, PairSet, PairDel, Group}
+use Rattle.tide_model.specs.declared.op.Reply.{Reply}
+use Rattle.tide_model.specs.declared.op.Reply.TheVariants.{Done, Born, Refused}
+use Rattle.tide_model.specs.declared.entry.Entry.{Entry}
+use Rattle.tide_model.specs.declared.entry.Entry.TheVariants.{Call, Begin, Pause, Visits, End, Taken, Sweep, Open}
+use Rattle.tide_model.specs.declared.entry.Event.{Event}
+use Rattle.tide_model.specs.Applied.{after_call, add_property, array_after, at_cell, place_of, put_cell, put_claims, put_pair, put_property}
+use Rattle.tide_model.specs.Cycle.{cycle_span}
+use Rattle.tide_model.specs.Graph.{IsRetained, is_further, retained_more}
+use Rattle.tide_model.specs.History.{after_entry, is_begin, moment_after_last, state_after, state_at}
+use Rattle.tide_model.specs.Lawful.{IsLawful, Stands}
+use Rattle.tide_model.specs.Layout.{Layout, block_of_cell}
+use Rattle.tide_model.specs.Numbers.{put_at}
+use Rattle.tide_model.specs.Old.{IsOld, IsSpared, full_after, full_with, is_full, is_old, is_spared, rested_state}
+use Rattle.tide_model.specs.References.{IsLive}
+use Rattle.tide_model.specs.Refused.{ShapeLists}
+use Rattle.tide_model.specs.Since.{is_end}
+use Rattle.tide_model.specs.State.{State, CellState, Status, blank_cell, free, is_live, live, spent, dead}
+use Rattle.tide_model.proofs.Cycles.{take-all}
+use Rattle.tide_model.proofs.Histories.{IsLawful-elim, moment_after_last-le, moment_after_last-push, state_after-push, take-append-short}
+use Rattle.tide_model.proofs.PhaseLaws.{at_cell_keeps, put_slot_keeps}
+use Rattle.tide_model.proofs.ReferenceLaws.{after_call-refused, put_at_elim}
+use Rattle.tide_model.proofs.ReferencesInCycles.{swept_cell-live}
+use Rattle.tide_model.proofs.Spans.{cycle_span-push}
+
+full_with-same : (full : Bool) (entry : Entry) → is_begin entry ≡ false → full_with full entry ≡ full
+full_with-same full (Call who op reply) none = refl
+full_with-same full (Begin cycle own) none = absurd (cc)
+full_with-same full (Pause visits) none = refl
+full_with-same full (Visits who visits) none = refl
+full_with-same full (End cycle freed) none = refl
+full_with-same full (Taken block) none = refl
+full_with-same full (Sweep block) none = refl
+full_with-same full (Open number run) none = refl
+
+pub full_after-push : (full : Bool) (log : List Event) (event : Event) →
+    full_after full (log ++ event ∷ []) ≡ full_with (full_after full log) event.entry
+full_after-push full [] event = refl
+full_after-push full (first ∷ log) event = full_after-push (full_with full first.entry) log event
+
+-- the last cycle stays a full one, or none, where none begins
+pub is_full-kept : (log : List Event) (event : Event) → is_begin event.entry ≡ false → is_full (log ++ event ∷ []) ≡ is_full log
+is_full-kept log event begins_none = full_after-push false log event ∙ full_with-same (is_full log) event.entry begins_none
+
+module _ (layout : Layout) (log : List Event) (event : Event) (ends_none : is_end event.entry ≡ false) where
+  abbrev rest : List Event → ℕ
+  rest history = moment_after_last (λ e. is_end e.entry) history
+
+  same_moment : rest (log ++ event ∷ []) ≡ rest log
+  same_moment = moment_after_last-push (λ e. is_end e.entry) log event
+      ∙ ap (λ (b : Bool). if b then suc (length log) else rest log) ends_none
+
+  -- the same cells are old where no cycle ends
+  pub rested_state-push : rested_state layout (log ++ event ∷ []) ≡ rested_state layout log
+  rested_state-push = ap (state_at layout (log ++ event ∷ [])) same_moment
+      ∙ ap (state_after layout) (take-append-short log (event ∷ []) (rest log) (moment_after_last-le (λ e. is_end e.entry) log))
+
+  pub is_old-push : (cell : ℕ) → is_old layout (log ++ event ∷ []) cell ≡ is_old layout log cell
+  is_old-push cell = ap (λ (s : State). is_live (s.cells cell).status) rested_state-push
+
+module _ (layout : Layout) (log : List Event) (event : Event) (begins_none : is_begin event.entry ≡ false)
+    (ends_none : is_end event.entry ≡ false) where
+  pub is_full-push : is_full (log ++ event ∷ []) ≡ is_full log
+  is_full-push = is_full-kept log event begins_none
+
+  -- the same cells are spared where none begins either
+  pub is_spared-push : (cell : ℕ) → is_spared layout (log ++ event ∷ []) cell ≡ is_spared layout log cell
+  is_spared-push cell =
+      ap (λ (b : Bool). not b && is_old layout (log ++ event ∷ []) cell) is_full-push
+      ∙ ap (λ (b : Bool). not (is_full log) && b) (is_old-push layout log event ends_none cell)
+
+  -- what the cycle retained, with the cells that it spares, it still retains
+  pub spared_retained-push : (cell : ℕ) → IsRetained (cycle_span layout log) (IsSpared layout log) cell →
+      IsRetained (cycle_span layout (log ++ event ∷ [])) (IsSpared layout (log ++ event ∷ [])) cell
+  spared_retained-push = retained_more (cycle_span layout log) (cycle_span layout (log ++ event ∷ []))
+      (IsSpared layout log) (IsSpared layout (log ++ event ∷ [])) (cycle_span-push layout log event begins_none)
+      (λ cell spared. is_further cell (is_spared-push cell ∙ spared))
+
+-- right after an end the old cells are those that live then
+pub is_old-ended : (layout : Layout) (log : List Event) (event : Event) → is_end event.entry ≡ true → (cell : ℕ) →
+    is_old layout (log ++ event ∷ []) cell ≡ is_live ((state_after layout (log ++ event ∷ [])).cells cell).status
+is_old-ended layout log event ends cell = ap (λ (h : List Event). is_live ((state_after layout h).cells cell).status) now
+  where
+    longer : length (log ++ event ∷ []) ≡ suc (length log)
+    longer = (let l = length-append log (event ∷ []) in omega (arith, l))
+
+    at : moment_after_last (λ e. is_end e.entry) (log ++ event ∷ []) ≡ length (log ++ event ∷ [])
+    at = moment_after_last-push (λ e. is_end e.entry) log event
+        ∙ ap (λ (b : Bool). if b then suc (length log) else moment_after_last (λ e. is_end e.entry) log) ends
+        ∙ sym longer
+
+    now : take (moment_after_last (λ e. is_end e.entry) (log ++ event ∷ [])) (log ++ event ∷ []) ≡ log ++ event ∷ []
+    now = ap (λ (n : ℕ). take n (log ++ event ∷ [])) at ∙ take-all (log ++ event ∷ [])
+
+-- what was live is live still
+abbrev pub KeepsLive : State → State → Type 0
+KeepsLive one other = (cell : ℕ) → IsLive one cell → IsLive other cell
+
+put_live : (state : State) (at : ℕ) (held : CellState) → ((state.cells at).status ≡ live → held.status ≡ live) →
+    (cell : ℕ) → IsLive state cell → (put_at state.cells at held cell).status ≡ live
+put_live state at held same = put_at_elim (λ n (c : CellState). (state.cells n).status ≡ live → c.status ≡ live) state.cells at held same (λ n apart is. is)
+
+-- a call leaves each live cell live
+pub KeepsLive-call : (state : State) (who : ℕ) (op : Op) (reply : Reply) (took : Option ℕ) → KeepsLive state (after_call state who op reply took)
+KeepsLive-call state who (Alloc dst class) (Born cell) took = put_live state cell (blank_cell live) (λ is. refl)
+KeepsLive-call state who (Table dst) (Born cell) took = put_live state cell (blank_cell live) (λ is. refl)
+KeepsLive-call state who op (Refused refusal) took = subst (KeepsLive state) (sym (after_call-refused state who op refusal took)) (λ c is. is)
+KeepsLive-call state who (Put src slot val) Done took =
+    put_slot_keeps (KeepsLive state) state (state.registers who src) slot (state.registers who val) (λ c is. is)
+    (λ cell. put_live state cell (record (state.cells cell) { slots = put_at (state.cells cell).slots slot (state.registers who val) }) (λ is. is))
+KeepsLive-call state who (Claim src) Done took =
+    at_cell_keeps (KeepsLive state) state (state.registers who src) (λ cell. put_claims state who (state.claims who ++ cell ∷ [])) (λ c is. is) (λ cell c is. is)
+KeepsLive-call state who (Release src) Done took =
+    at_cell_keeps (KeepsLive state) state (state.registers who src) (λ cell. put_claims state who (filter (λ claimed. not (claimed == cell)) (state.claims who)))
+    (λ c is. is) (λ cell c is. is)
+KeepsLive-call state who (Add src key val) Done took =
+    at_cell_keeps (KeepsLive state) state (state.registers who src) (λ cell. add_property state cell key (state.registers who val) took) (λ c is. is)
+    (λ cell. put_live state cell (record (state.cells cell) {
+      keys = (state.cells cell).keys ++ key ∷ [];
+      properties = put_at (state.cells cell).properties (length (state.cells cell).keys) (state.registers who val);
+      array = array_after (state.cells cell).array took;
+    }) (λ is. is))
+KeepsLive-call state who (SetProp src key val) Done took =
+    at_cell_keeps (KeepsLive state) state (state.registers who src) (λ cell. put_property state cell key (state.registers who val)) (λ c is. is)
+    (λ cell. put_live state cell (record (state.cells cell) { properties = put_at (state.cells cell).properties (place_of (state.cells cell).keys key) (state.registers who val) }) (λ is. is))
+KeepsLive-call state who (PairSet src key val) Done took =
+    at_cell_keeps (KeepsLive state) state (state.registers who src) (λ table. at_cell state (state.registers who key) (λ cell. put_pair state table cell (Some (state.registers who val)))) (λ c is. is)
+    (λ table. at_cell_keeps (KeepsLive state) state (state.registers who key) (λ cell. put_pair state table cell (Some (state.registers who val))) (λ c is. is)
+    (λ cell. put_live state table (record (state.cells table) { pairs = put_at (state.cells table).pairs cell (Some (state.registers who val)) }) (λ is. is)))
+KeepsLive-call state who (PairDel src key) Done took =
+    at_cell_keeps (KeepsLive state) state (state.registers who src) (λ table. at_cell state (state.registers who key) (λ cell. put_pair state table cell None)) (λ c is. is)
+    (λ table. at_cell_keeps (KeepsLive state) state (state.registers who key) (λ cell. put_pair state table cell None) (λ c is. is)
+    (λ cell. put_live state table (record (state.cells table) { pairs = put_at (state.cells table).pairs cell None }) (λ is. is)))
+KeepsLive-call state who (Group src n) Done took =
+    at_cell_keeps (KeepsLive state) state (state.registers who src) (λ cell. put_cell state cell (record (state.cells cell) { group = n })) (λ c is. is)
+    (λ cell. put_live state cell (record (state.cells cell) { group = n }) (λ is. is))
+KeepsLive-call state who op reply took = λ c is. is
+
+-- and so does each entry but an end
+KeepsLive-entry : (layout : Layout) (state : State) (entry : Entry) (took : Option ℕ) → is_end entry ≡ false →
+    KeepsLive state (after_entry layout state entry took)
+KeepsLive-entry layout state (Call who op reply) took none = KeepsLive-call state who op reply took
+KeepsLive-entry layout state (Begin cycle full) took none = λ c is. is
+KeepsLive-entry layout state (Pause visits) took none = λ c is. is
+KeepsLive-entry layout state (Visits who visits) took none = λ c is. is
+KeepsLive-entry layout state (End cycle freed) took none = absurd (cc)
+KeepsLive-entry layout state (Taken block) took none = λ c is. is
+KeepsLive-entry layout state (Sweep block) took none = λ c is.
+    ap (λ (held : CellState). held.status) (swept_cell-live (block_of_cell c == block) (state.cells c) is) ∙ is
+KeepsLive-entry layout state (Open number run) took none = λ c is. is
+
+live_from : (status : Status) → is_live status ≡ true → status ≡ live
+live_from free e = absurd (true≢false (sym e))
+live_from live e = refl
+live_from spent e = absurd (true≢false (sym e))
+live_from dead e = absurd (true≢false (sym e))
+
+-- so each old cell is live
+pub old_stays_live : (layout : Layout) (shapes : ShapeLists) (history : List Event) → IsLawful layout shapes history →
+    (cell : ℕ) → IsOld layout history cell → IsLive (state_after layout history) cell
+old_stays_live layout shapes =
+    IsLawful-elim layout shapes (λ before. (cell : ℕ) → IsOld layout before cell → IsLive (state_after layout before) cell)
+    (λ cell old. absurd (true≢false (sym old))) push
+  where
+    push : (before : List Event) (event : Event) → ((cell : ℕ) → IsOld layout before cell → IsLive (state_after layout before) cell) →
+        Stands layout shapes before event → (cell : ℕ) → IsOld layout (before ++ event ∷ []) cell → IsLive (state_after layout (before ++ event ∷ [])) cell
+    push before event earlier stands cell old = elim (cases_Bool (is_end event.entry)) [
+      | inl ends ↦ live_from ((state_after layout (before ++ event ∷ [])).cells cell).status (sym (is_old-ended layout before event ends cell) ∙ old)
+      | inr none ↦ subst (λ (s : State). IsLive s cell) (sym (state_after-push layout before event))
+          (KeepsLive-entry layout (state_after layout before) event.entry event.took none cell
+          (earlier cell (sym (is_old-push layout before event none cell) ∙ old)))
+    ]
