@@ -1,7 +1,8 @@
 /* What lies on a program's first thread between the end of one part and the start of the next: from where it joined the
  * last thread of a part to where it starts the first thread of the next, or writes. That is the part's freeze, with what
- * little stands around it. Loaded before the C library, it prints at the end how many there were, their sum, and the
- * longest, in microseconds. */
+ * little stands around it. And what lies between: from where it starts the first thread of a part to where it joined the
+ * last. Loaded before the C library, it prints at the end how many there were of each, their sum and the longest, in
+ * microseconds. */
 #define _GNU_SOURCE
 #include <dlfcn.h>
 #include <pthread.h>
@@ -13,6 +14,8 @@
 static pthread_t first;
 static double joined, longest, sum;
 static int count;
+static double begun, longest_part, parts_sum;
+static int running, parts;
 
 static double now(void)
 {
@@ -39,6 +42,8 @@ int pthread_create(pthread_t *thread, const pthread_attr_t *attr, void *(*start)
     if (!real)
         real = dlsym(RTLD_NEXT, "pthread_create");
     over();
+    if (pthread_equal(pthread_self(), first) && running++ == 0)
+        begun = now();
     return real(thread, attr, start, arg);
 }
 
@@ -48,8 +53,16 @@ int pthread_join(pthread_t thread, void **result)
     if (!real)
         real = dlsym(RTLD_NEXT, "pthread_join");
     int ended = real(thread, result);
-    if (pthread_equal(pthread_self(), first))
-        joined = now();
+    if (!pthread_equal(pthread_self(), first))
+        return ended;
+    joined = now();
+    if (--running == 0) {
+        double took = joined - begun;
+        parts++;
+        parts_sum += took;
+        if (took > longest_part)
+            longest_part = took;
+    }
     return ended;
 }
 
@@ -71,6 +84,7 @@ __attribute__((constructor)) static void begin(void)
 void _exit(int status)
 {
     fprintf(stderr, "%d freezes, %.0f microseconds in all, the longest %.0f\n", count, sum, longest);
+    fprintf(stderr, "%d parts, %.0f microseconds in all, the longest %.0f\n", parts, parts_sum, longest_part);
     syscall(SYS_exit_group, status);
     __builtin_unreachable();
 }

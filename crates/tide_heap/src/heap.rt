@@ -90,8 +90,7 @@ impl<S: HeapShapes> Heap<S> {
         ensures { result ≡ place_in self.now.key.layout Registers
             (index_of_register self.now.key.layout who register) }
     {
-        let index = who * u32::from(self.key.layout.registers()) + u32::from(register);
-        self.key.layout.place(Region::Registers, index)
+        self.key.layout.register(who, register)
     }
 
     /// The place of a cell's slot.

@@ -11,7 +11,7 @@ use Rattle.tide_model.specs.Layout.{Layout}
 use Rattle.tide_layout.specs.declared.region.Region.{Region}
 use Rattle.tide_layout.specs.Layout.{starts_of}
 use Rattle.tide_layout.specs.Limits.{IsWithinLimits}
-use Rattle.tide_layout.specs.Region.{base_of, regions, size_of, tag, word_count}
+use Rattle.tide_layout.specs.Region.{base_of, regions, room_of, tag, word_count}
 use Rattle.tide_layout.proofs.LimitLaws.{word_count-few}
 use Rattle.tide_layout.proofs.Places.{tag-below}
 
@@ -19,33 +19,33 @@ use Rattle.tide_layout.proofs.Places.{tag-below}
 pub starts_of-base : (layout : Layout) (region : Region) → get_or (starts_of layout) (tag region) 0 ≡ base_of layout region
 unfolding starts_of base_of
 starts_of-base layout region =
-    get_or-map-range_with_len (λ (count : ℕ). sum_by (size_of layout) (take count regions)) 0 22 (tag region) (tag region) 0
+    get_or-map-range_with_len (λ (count : ℕ). sum_by (room_of layout) (take count regions)) 0 22 (tag region) (tag region) 0
     (let below = tag-below region in omega (arith, below)) (omega arith)
 
 -- where all regions end
 pub starts_of-words : (layout : Layout) → get_or (starts_of layout) 21 0 ≡ word_count layout
 unfolding starts_of word_count
 starts_of-words layout =
-    get_or-map-range_with_len (λ (count : ℕ). sum_by (size_of layout) (take count regions)) 0 22 21 21 0 (omega arith) (omega arith)
+    get_or-map-range_with_len (λ (count : ℕ). sum_by (room_of layout) (take count regions)) 0 22 21 21 0 (omega arith) (omega arith)
 
--- the sizes of all regions have few words together
-pub sum-sizes : (layout : Layout) (sizes : List ℕ) → IsWithinLimits layout → sizes ≡ map (size_of layout) regions → sum sizes ≤ 769658
+-- the rooms of all regions have few words together
+pub sum-rooms : (layout : Layout) (rooms : List ℕ) → IsWithinLimits layout → rooms ≡ map (room_of layout) regions → sum rooms ≤ 771146
 unfolding word_count
-sum-sizes layout sizes limits is_sizes =
-    let few : sum_by (size_of layout) regions ≤ 769658 = word_count-few layout limits in
-    let all : sum sizes ≡ sum_by (size_of layout) regions = ap sum is_sizes ∙ sum-map (size_of layout) regions in
+sum-rooms layout rooms limits is_rooms =
+    let few : sum_by (room_of layout) regions ≤ 771146 = word_count-few layout limits in
+    let all : sum rooms ≡ sum_by (room_of layout) regions = ap sum is_rooms ∙ sum-map (room_of layout) regions in
     omega (arith, few, all)
 
--- sums of the first sizes are the starts
-pub starts_of-is : (layout : Layout) (sizes starts : List ℕ) → sizes ≡ map (size_of layout) regions → length starts ≡ 22 →
-    ((k : ℕ) → k ≤ 21 → slice_index starts k ≡ sum (take k sizes)) → starts ≡ starts_of layout
+-- sums of the first rooms are the starts
+pub starts_of-is : (layout : Layout) (rooms starts : List ℕ) → rooms ≡ map (room_of layout) regions → length starts ≡ 22 →
+    ((k : ℕ) → k ≤ 21 → slice_index starts k ≡ sum (take k rooms)) → starts ≡ starts_of layout
 unfolding starts_of
-starts_of-is layout sizes starts is_sizes all each =
-    let first : ℕ → ℕ = λ count. sum_by (size_of layout) (take count regions) in
+starts_of-is layout rooms starts is_rooms all each =
+    let first : ℕ → ℕ = λ count. sum_by (room_of layout) (take count regions) in
     let many = length-map-range_with_len first 0 22 in
     ext_get_or 0 starts (map first (range_with_len 0 22)) (all ∙ sym many)
     (λ k h. each k (omega (arith, all))
-    ∙ ap (λ (xs : List ℕ). sum (take k xs)) is_sizes ∙ ap sum (take-map (size_of layout) k regions) ∙ sum-map (size_of layout) (take k regions)
+    ∙ ap (λ (xs : List ℕ). sum (take k xs)) is_rooms ∙ ap sum (take-map (room_of layout) k regions) ∙ sum-map (room_of layout) (take k regions)
     ∙ sym (get_or-map-range_with_len first 0 22 k k 0 (omega (arith, all)) (omega arith)))
 
 -- blocks of five and five classes that are in their limits

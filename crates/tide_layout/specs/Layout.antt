@@ -4,7 +4,7 @@ use Rattle.std.specs.List.{range_with_len}
 use Rattle.tide_model.specs.Layout.{Layout}
 use Rattle.tide_layout.specs.declared.numbers.Numbers.{Numbers}
 use Rattle.tide_layout.specs.Limits.{IsWithinLimits}
-use Rattle.tide_layout.specs.Region.{regions, size_of}
+use Rattle.tide_layout.specs.Region.{regions, room_of}
 
 -- the plain numbers of a layout
 abbrev pub layout_of : Numbers → Layout
@@ -20,7 +20,7 @@ layout_of numbers = record {
 
 -- where each region begins, and last where all of them end
 unfoldable pub starts_of : Layout → List ℕ
-starts_of layout = map (λ count. sum_by (size_of layout) (take count regions)) (range_with_len 0 22)
+starts_of layout = map (λ count. sum_by (room_of layout) (take count regions)) (range_with_len 0 22)
 
 -- a layout in its limits, with the starts of its regions
 pub record IsLaidOut (layout : Layout) (starts : List ℕ) : Type 0 where

@@ -1,5 +1,5 @@
 -- The regions of a heap's words, and the place of each word.
-use Rattle.std.specs.Prelude.{ℕ, ◌+◌, ◌*◌, List, [], ◌∷◌, sum, sum_by, take}
+use Rattle.std.specs.Prelude.{ℕ, ◌≤◌, ◌+◌, ◌*◌, ◌/◌, ◌⊎◌, List, [], ◌∷◌, sum, sum_by, take, Option, None, Some, unwrap_or}
 use Rattle.tide_model.specs.Layout.{Layout, cell_count, array_count}
 use Rattle.tide_layout.specs.declared.region.Region.{Region}
 use Rattle.tide_layout.specs.declared.region.Region.TheVariants.{Period, Phase, Active, Call, Stopped, Registers, Strong, Weak, Colour, Structure, Array, Claim, Group, Slots, Elements, Free, Dead, GreyShared, GreyMutator, GreyRace, Swept}
@@ -66,17 +66,50 @@ size_of layout GreyMutator = cell_block_count layout
 size_of layout GreyRace = cell_block_count layout
 size_of layout Swept = block_count layout
 
+-- the participant whose own a word is, mutators first and then visitors; the others are nobody's own
+abbrev pub owner_of : Layout → Region → ℕ → Option ℕ
+owner_of layout Active index = Some index
+owner_of layout Call index = Some index
+owner_of layout Stopped index = Some index
+owner_of layout Registers index = Some (index / layout.registers)
+owner_of layout _ index = None
+
+-- how many participants have words of their own in a region
+abbrev pub owners_in : Layout → Region → ℕ
+owners_in layout Active = layout.mutators
+owners_in layout Call = layout.mutators
+owners_in layout Stopped = layout.mutators + layout.visitors
+owners_in layout Registers = layout.mutators
+owners_in layout _ = 0
+
+-- how many words that say nothing lie behind the words of each participant in a region, and behind each region: 128 bytes,
+-- which is two lines of a processor's cache
+abbrev pub gap : ℕ
+gap = 16
+
+-- how many words a region takes, with its gaps
+abbrev pub room_of : Layout → Region → ℕ
+room_of layout region = size_of layout region + gap * (owners_in layout region + 1)
+
 -- where a region begins: after all regions before it
 unfoldable pub base_of : Layout → Region → ℕ
-base_of layout region = sum_by (size_of layout) (take (tag region) regions)
+base_of layout region = sum_by (room_of layout) (take (tag region) regions)
 
--- how many words there are
+-- how many words there are, with those in the gaps
 unfoldable pub word_count : Layout → ℕ
-word_count layout = sum_by (size_of layout) regions
+word_count layout = sum_by (room_of layout) regions
+
+-- how many gaps lie before a word in its region: as many as there are participants before its owner
+abbrev pub gaps_before : Layout → Region → ℕ → ℕ
+gaps_before layout region index = unwrap_or (owner_of layout region index) 0
 
 -- the place of a region's word
 unfoldable pub place_in : Layout → Region → ℕ → ℕ
-place_in layout region index = base_of layout region + index
+place_in layout region index = base_of layout region + index + gap * gaps_before layout region index
+
+-- no 64 bytes hold the words of both places, wherever they begin
+abbrev pub AreApart : ℕ → ℕ → Type 0
+AreApart one other = (one + 8 ≤ other) ⊎ (other + 8 ≤ one)
 
 -- the place of a cell's slot, or of a table's pair
 abbrev pub place_of_slot : Layout → ℕ → ℕ → ℕ

@@ -3,6 +3,7 @@ ghost use Rattle.std.specs.Prelude.{◌≡◌, ◌≤◌, ℕ, slice_index, sum,
 
 use crate::numbers::Numbers;
 use crate::region::Region;
+use crate::sizes::GAP;
 use std::marker::Model;
 
 /// How large a heap is: its blocks of each class, its registers and handles, and who takes part.
@@ -42,25 +43,27 @@ impl Model for Layout {
     ghost inverse_ok = { λ a h. ap (λ starts. record { numbers = a.numbers; starts = starts }) (sym h.begins) };
 }
 
-/// Where each of some regions begins, and last where all of them end.
-fn starts_of(sizes: &[u32; 21]) -> [u32; 22]
-    requires { sum sizes.now ≤ 769658 }
-    ensures { (k : ℕ) → k ≤ 21 → slice_index result k ≡ sum (take k sizes.now) }
+/// Where each of some regions begins that take so many words, and last where all of them end.
+fn starts_of(rooms: &[u32; 21]) -> [u32; 22]
+    requires { sum rooms.now ≤ 771146 }
+    ensures { (k : ℕ) → k ≤ 21 → slice_index result k ≡ sum (take k rooms.now) }
 {
     let mut starts = [0; 22];
     for tag in 0..21 {
-        starts[tag + 1] = starts[tag] + sizes[tag];
+        starts[tag + 1] = starts[tag] + rooms[tag];
     }
     starts
 }
 
 impl Layout {
-    ghost use Rattle.std.specs.Prelude.{◌≡◌, ◌<◌, ◌≤◌, All, ℕ};
+    ghost use Rattle.std.specs.Prelude.{◌≡◌, ◌≢◌, ◌<◌, ◌≤◌, All, ℕ};
     ghost use Rattle.tide_model.specs.Layout.{array_count, blocks_of, cell_count};
     ghost use Rattle.tide_layout.specs.Limits.{IsWithinLimits};
-    ghost use Rattle.tide_layout.specs.Region.{block_count, place_in, place_of_element, place_of_slot, size_of, word_count};
+    ghost use Rattle.tide_layout.specs.Region.{AreApart, block_count, index_of_register, owner_of, place_in};
+    ghost use Rattle.tide_layout.specs.Region.{place_of_element, place_of_slot, size_of, word_count};
     ghost use Rattle.tide_layout.specs.Slots.{index_of_element, index_of_slot, width_of_array, width_of_cell, HasElement, HasSlot};
     ghost use Rattle.tide_layout.specs.declared.region.Region.{Region};
+    ghost use Rattle.tide_layout.specs.declared.region.Region.TheVariants.{Registers};
 
     /// A layout of these numbers: at most 64 blocks of each class, 16 registers, 256 strong and 256 weak handles, 16
     /// mutators and 8 visitors.
@@ -102,7 +105,7 @@ impl Layout {
             mutators,
             visitors,
         };
-        let starts = starts_of(&numbers.sizes());
+        let starts = starts_of(&numbers.rooms());
         Layout { numbers, starts }
     }
 
@@ -187,23 +190,38 @@ impl Layout {
         self.numbers.visitors
     }
 
-    /// How many words there are.
+    /// How many words there are, with those in the gaps.
     pub fn words(&self) -> usize
         ensures words { result ≡ word_count self.now }
-        ensures few { result ≤ 769658 }
+        ensures few { result ≤ 771146 }
     {
         self.starts[21] as usize
     }
 
-    /// The place of a region's word. No other word has it.
+    /// The place of a region's word. No other word has it, and no 64 bytes hold it and a word of another owner.
     pub fn place(&self, region: Region, index: u32) -> usize
         requires { index < size_of self.now region }
         ensures place { result ≡ place_in self.now region index }
         ensures within { result < word_count self.now }
         ensures alone { (other : Region) (at : ℕ) → at < size_of self.now other →
             place_in self.now other at ≡ result → (other ≡ region) × (at ≡ index) }
+        ensures apart { (other : Region) (at : ℕ) → at < size_of self.now other →
+            owner_of self.now other at ≢ owner_of self.now region index → AreApart (place_in self.now other at) result }
     {
-        self.starts[usize::from(region.tag())] as usize + index as usize
+        let gaps = self.numbers.gaps_before(region, index);
+        self.starts[usize::from(region.tag())] as usize + (index + GAP * gaps) as usize
+    }
+
+    /// The place of a mutator's register.
+    pub fn register(&self, mutator: u32, register: u8) -> usize
+        requires in_mutators { mutator < self.now.mutators }
+        requires in_registers { register < self.now.registers }
+        ensures place { result ≡ place_in self.now Registers (index_of_register self.now mutator register) }
+        ensures within { result < word_count self.now }
+    {
+        let row = u32::from(self.numbers.registers) + GAP;
+        self.starts[usize::from(Region::Registers.tag())] as usize
+            + (mutator * row + u32::from(register)) as usize
     }
 
     /// Where among the words of all cells a slot lies.

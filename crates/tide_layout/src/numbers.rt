@@ -1,11 +1,12 @@
 //! The numbers that a layout is made of, and the sizes that follow from them. It knows no place of a word.
-ghost use Rattle.std.specs.Prelude.{◌≡◌, ◌*◌, ◌≤◌, map, sum};
+ghost use Rattle.std.specs.Prelude.{◌≡◌, ◌*◌, ◌+◌, ◌<◌, ◌≤◌, map, sum};
 ghost use Rattle.tide_model.specs.Layout.{array_count, cell_count};
 ghost use Rattle.tide_layout.specs.Layout.{layout_of};
-ghost use Rattle.tide_layout.specs.Region.{block_count, regions, size_of};
+ghost use Rattle.tide_layout.specs.Region.{block_count, gap, gaps_before, regions, room_of, size_of};
 ghost use Rattle.tide_layout.specs.Slots.{words_among, words_before_array, words_before_cell};
 
-use crate::sizes::{BLOCK_SIZE, width};
+use crate::region::Region;
+use crate::sizes::{BLOCK_SIZE, GAP, width};
 
 /// The numbers that a layout is made of.
 #[derive(Clone, Copy, Debug, PartialEq, Eq)]
@@ -35,7 +36,8 @@ fn blocks_of_all(blocks: &[u8; 5]) -> u32
 fn words_among(blocks: &[u8; 5], first: u8, ids: u32) -> u32
     requires few { first ≤ 5 }
     requires within { ids ≤ 64 * sum blocks.now }
-    ensures { result ≡ words_among blocks.now first ids }
+    ensures words { result ≡ words_among blocks.now first ids }
+    ensures small { result ≤ 20808000 }
 {
     let mut rest = ids;
     let mut words = 0;
@@ -45,6 +47,16 @@ fn words_among(blocks: &[u8; 5], first: u8, ids: u32) -> u32
         rest -= of_class;
     }
     words
+}
+
+/// How many words a region takes that has so many, in rows of so many participants: a gap lies behind each row, and one
+/// behind the region.
+fn room(words: u32, owners: u32) -> u32
+    requires few_words { words ≤ 20808000 }
+    requires few_owners { owners ≤ 510 }
+    ensures { result ≡ words + gap * (owners + 1) }
+{
+    words + GAP * (owners + 1)
 }
 
 impl Numbers {
@@ -75,7 +87,8 @@ impl Numbers {
     /// How many words the slots and pairs of the cells before this one take.
     pub(crate) fn words_before_cell(&self, cell: u32) -> u32
         requires { cell ≤ cell_count (layout_of self.now) }
-        ensures { result ≡ words_before_cell (layout_of self.now) cell }
+        ensures words { result ≡ words_before_cell (layout_of self.now) cell }
+        ensures small { result ≤ 20808000 }
     {
         words_among(&self.cell_blocks, 0, cell)
     }
@@ -83,14 +96,27 @@ impl Numbers {
     /// How many words the elements of the arrays before this one take.
     pub(crate) fn words_before_array(&self, array: u32) -> u32
         requires { array ≤ array_count (layout_of self.now) }
-        ensures { result ≡ words_before_array (layout_of self.now) array }
+        ensures words { result ≡ words_before_array (layout_of self.now) array }
+        ensures small { result ≤ 20808000 }
     {
         words_among(&self.array_blocks, 5, array)
     }
 
-    /// How many words each region has, in the order of the regions.
-    pub(crate) fn sizes(&self) -> [u32; 21]
-        ensures { result ≡ map (size_of (layout_of self.now)) regions }
+    /// How many gaps lie before a region's word: as many as there are participants before its owner.
+    pub(crate) fn gaps_before(&self, region: Region, index: u32) -> u32
+        requires within { index < size_of (layout_of self.now) region }
+        ensures { result ≡ gaps_before (layout_of self.now) region index }
+    {
+        match region {
+            Region::Active | Region::Call | Region::Stopped => index,
+            Region::Registers => index / u32::from(self.registers),
+            _ => 0,
+        }
+    }
+
+    /// How many words each region takes, in the order of the regions.
+    pub(crate) fn rooms(&self) -> [u32; 21]
+        ensures { result ≡ map (room_of (layout_of self.now)) regions }
     {
         let mutators = u32::from(self.mutators);
         let participants = mutators + u32::from(self.visitors);
@@ -98,27 +124,27 @@ impl Numbers {
         let cell_blocks = blocks_of_all(&self.cell_blocks);
         let blocks = self.block_count();
         [
-            1, // Period
-            1, // Phase
-            mutators, // Active
-            mutators, // Call
-            participants, // Stopped
-            mutators * u32::from(self.registers), // Registers
-            u32::from(self.strong), // Strong
-            u32::from(self.weak), // Weak
-            cells, // Colour
-            cells, // Structure
-            cells, // Array
-            cells, // Claim
-            cells, // Group
-            self.words_before_cell(cells), // Slots
-            self.words_before_array(self.arrays()), // Elements
-            blocks, // Free
-            blocks, // Dead
-            cell_blocks, // GreyShared
-            cell_blocks, // GreyMutator
-            cell_blocks, // GreyRace
-            blocks, // Swept
+            room(1, 0), // Period
+            room(1, 0), // Phase
+            room(mutators, mutators), // Active
+            room(mutators, mutators), // Call
+            room(participants, participants), // Stopped
+            room(mutators * u32::from(self.registers), mutators), // Registers
+            room(u32::from(self.strong), 0), // Strong
+            room(u32::from(self.weak), 0), // Weak
+            room(cells, 0), // Colour
+            room(cells, 0), // Structure
+            room(cells, 0), // Array
+            room(cells, 0), // Claim
+            room(cells, 0), // Group
+            room(self.words_before_cell(cells), 0), // Slots
+            room(self.words_before_array(self.arrays()), 0), // Elements
+            room(blocks, 0), // Free
+            room(blocks, 0), // Dead
+            room(cell_blocks, 0), // GreyShared
+            room(cell_blocks, 0), // GreyMutator
+            room(cell_blocks, 0), // GreyRace
+            room(blocks, 0), // Swept
         ]
     }
 }

@@ -12,6 +12,11 @@ pub const TABLE: u8 = 4;
 /// How many pairs a table has.
 pub const PAIRS: u8 = 8;
 
+/// How many words that say nothing lie behind the words of each participant in a region, and behind each region: two
+/// lines of a processor's cache, since some processors load lines by twos. A word that one thread stores often is never
+/// in a line with one that another thread stores or loads, wherever the heap begins.
+pub(crate) const GAP: u32 = 16;
+
 /// The number of inline slots of a cell of a class from 0 to 4. A table, which is of class 4, has none.
 pub fn slots(class: u8) -> u8
     requires { class ≤ 4 }

@@ -10,7 +10,7 @@ use Rattle.tide_layout.proofs.layout.Layout.index_of_element.Goals as goal
 
 pub overflow_add-result : goal.overflow_add-result
 overflow_add-result c =
-    let words = c.words_before_array.ensures ∙ ap (λ (l : Layout). words_before_array l c.args.array) c.self.view_is in
+    let words = c.words_before_array.ensures.words ∙ ap (λ (l : Layout). words_before_array l c.args.array) c.self.view_is in
     let is = index_of_element-is c.args.self.now c.args.array c.args.k in
     let below = index_of_element-below c.args.self.now c.args.array c.args.k c.requires in
     let few = size_of-few c.args.self.now Elements (subst IsWithinLimits c.self.view_is c.self.invariant.limits) in
@@ -18,6 +18,6 @@ overflow_add-result c =
 
 pub returns : goal.returns
 returns c =
-    let words = c.words_before_array.ensures ∙ ap (λ (l : Layout). words_before_array l c.args.array) c.self.view_is in
+    let words = c.words_before_array.ensures.words ∙ ap (λ (l : Layout). words_before_array l c.args.array) c.self.view_is in
     let is = index_of_element-is c.args.self.now c.args.array c.args.k in
     omega (arith, words, is, c.from.ensures)

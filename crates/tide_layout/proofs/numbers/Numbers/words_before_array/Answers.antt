@@ -4,5 +4,5 @@ use Rattle.tide_layout.specs.Layout.{layout_of}
 use Rattle.tide_layout.proofs.ClassWidths.{words_before_array-among}
 use Rattle.tide_layout.proofs.numbers.Numbers.words_before_array.Goals as goal
 
-pub returns : goal.returns
-returns c = c.words_among.ensures ∙ sym (words_before_array-among (layout_of c.args.self.now) c.args.array (omega arith))
+pub returns-clause-words : goal.returns-clause-words
+returns-clause-words c = c.words_among.ensures.words ∙ sym (words_before_array-among (layout_of c.args.self.now) c.args.array (omega arith))
