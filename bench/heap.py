@@ -5,14 +5,16 @@
 
 Lines that aren't a cell's are passed over, so the whole text of a run may be given. Each cell is a box, coloured by its
 class, in the column of its distance: how many steps the shortest path to it has. What nothing retains stands in a column
-of its own. An arrow is a link, dotted where it is the value of a pair, whose key stands beside it; cells of one group have
-its number, and a line joins each with the next of them. The path of CELL is drawn over all that; where no cell is given, it
-is that of the last one among the farthest. A column with many cells shows the first of them, and how many more there are,
-and of many columns the first and the last are shown.
+of its own, and is grey whatever its class. An arrow is a link, dotted where it is the value of a pair, whose key stands
+beside it; cells of one group have its number, and a line joins each with the next of them. The path of CELL is drawn over
+all that; where no cell is given, it is that of the last one among the farthest. A column with many cells shows the first
+of them, and how many more there are; of many columns the first and the last are shown, and that of CELL with the one
+before it.
 """
 import html
 import re
 import sys
+from itertools import groupby
 
 CLASSES = {
     0: ("class 0: 2 slots", "#dbe9f6"), 1: ("class 1: 4 slots", "#b9d7ee"), 2: ("class 2: 8 slots", "#8fbfe0"),
@@ -56,19 +58,28 @@ def read_cell(line):
     return cell
 
 
-def columns_of(cells, path):
-    """The cells of each distance that are shown, those of the path among them, and how many aren't; what nothing retains last."""
-    columns = {}
+def columns_of(cells, path, chosen):
+    """The cells of each distance that are shown, the chosen one and its path among them, and how many aren't; what nothing
+    retains last."""
+    columns, first = {}, {chosen, *path}
     for cell in sorted(cells.values(), key=lambda cell: cell.number):
         columns.setdefault(cell.distance() if cell.path else -1, []).append(cell)
     shown = []
     for distance in sorted(columns, key=lambda d: (d < 0, d)):
         column = columns[distance]
-        first = [cell for cell in column if cell.number in path] + [cell for cell in column if cell.number not in path]
-        kept = sorted(first[:MOST], key=lambda cell: cell.number)
-        shown.append((distance, kept, len(column) - len(kept)))
-    left_out = len(shown) - 2 * ENDS
-    return shown if left_out < 2 else shown[:ENDS] + [(None, [], left_out)] + shown[-ENDS:]
+        kept = sorted(column, key=lambda cell: cell.number not in first)[:MOST]
+        shown.append((distance, sorted(kept, key=lambda cell: cell.number), len(column) - len(kept)))
+    here = next((at for at, (_, kept, _) in enumerate(shown) if any(cell.number == chosen for cell in kept)), 0)
+    return with_gaps(shown, {*range(ENDS), *range(len(shown) - ENDS, len(shown)), here - 1, here})
+
+
+def with_gaps(columns, wanted):
+    """The columns that are wanted, and how many are between them; a single one between them is shown."""
+    found = []
+    for is_wanted, those in groupby(enumerate(columns), lambda column: column[0] in wanted):
+        those = [column for _, column in those]
+        found += those if is_wanted or len(those) == 1 else [(None, [], len(those))]
+    return found
 
 
 def text(x, y, words, anchor="start", size=11, colour="#222", weight="normal"):
@@ -107,7 +118,7 @@ def curve(one, other, colour, width, dashes="", mark=""):
 
 
 def joined_groups(places, cells):
-    """A line from each member of a group to the next one."""
+    """A line from each member of a group to the next one, below the middle, where a step of the path may lie."""
     groups, shapes = {}, []
     for number in sorted(places):
         if cells[number].group:
@@ -115,7 +126,7 @@ def joined_groups(places, cells):
     for members in groups.values():
         for one, other in zip(members, members[1:]):
             (x, y), (a, b) = places[one], places[other]
-            x, y, a, b = x + WIDE / 2, y + HIGH / 2, a + WIDE / 2, b + HIGH / 2
+            x, y, a, b = x + WIDE / 2, y + HIGH - 7, a + WIDE / 2, b + HIGH - 7
             shapes.append(f'<path d="M {x:.0f} {y:.0f} L {a:.0f} {b:.0f}" stroke="{GROUP}" stroke-width="1.5" '
                           'stroke-dasharray="2 4" fill="none"/>')
     return shapes
@@ -147,11 +158,11 @@ def arrows(places, cells, path):
     return below, above
 
 
-def box(place, cell, on_path):
+def box(place, cell, is_marked):
     """A cell's box, with its number, and its group where it is in one."""
     x, y = place
     fill = CLASSES[cell.kind][1] if cell.path else LOST
-    edge, width = (PATH, 2.5) if on_path else ("#556", 1)
+    edge, width = (PATH, 2.5) if is_marked else ("#556", 1)
     shapes = [f'<rect x="{x:.0f}" y="{y:.0f}" width="{WIDE}" height="{HIGH}" rx="5" fill="{fill}" stroke="{edge}" '
               f'stroke-width="{width}"/>', text(x + WIDE / 2, y + 15, f"#{cell.number}", "middle", 13, weight="bold")]
     holds = many(len(cell.pairs), "pair") if cell.kind == 4 else f"class {cell.kind}"
@@ -166,7 +177,7 @@ def legend(y, cells, path):
         shapes.append(f'<rect x="{x}" y="{y - 11}" width="16" height="13" rx="3" fill="{CLASSES[kind][1]}" stroke="#556"/>')
         shapes.append(text(x + 22, y, CLASSES[kind][0]))
         x += 132
-    lines = [("a link", LINK, ""), ("the path", PATH, "")]
+    lines = [("a link", LINK, "")] + ([("the path", PATH, "")] if path else [])
     if any(cell.pairs for cell in cells.values()):
         lines.insert(1, ("a pair's value", PAIR, "4 3"))
     if any(cell.group for cell in cells.values()):
@@ -193,7 +204,7 @@ def heads():
 def draw(cells, chosen):
     """The picture."""
     path = cells[chosen].path if chosen is not None else []
-    shown = columns_of(cells, set(path))
+    shown = columns_of(cells, path, chosen)
     places, titles, high = {}, [], 1
     for at, (distance, column, more) in enumerate(shown):
         x = LEFT + at * ACROSS
@@ -216,9 +227,12 @@ def draw(cells, chosen):
             roots.append(text(x - 16, y + 21, cells[number].root, "end", 11, PATH if on else "#222", "bold" if on else "normal"))
             roots.append(f'<path d="M {x - 13} {y + 17} h 11" stroke="{PATH if on else LINK}" stroke-width="{2.5 if on else 1}" '
                          f'marker-end="url(#{"path" if on else "link"})"/>')
-    boxes = [shape for number in sorted(places) for shape in box(places[number], cells[number], number in path)]
+    marked = {chosen, *path}
+    boxes = [shape for number in sorted(places) for shape in box(places[number], cells[number], number in marked)]
     head = many(len(cells), "live cell")
-    if path:
+    if chosen is not None and not path:
+        head += f"; nothing retains #{chosen}"
+    elif path:
         head += f"; why #{chosen} is one: {many(cells[chosen].distance(), 'step')} from {cells[chosen].root}"
     return "\n".join([
         f'<svg xmlns="http://www.w3.org/2000/svg" viewBox="0 0 {max(width, 720)} {height}" font-family="sans-serif">',
@@ -226,16 +240,31 @@ def draw(cells, chosen):
         *heads(), *titles, *joined_groups(places, cells), *below, *boxes, *roots, *above, *legend(height - 34, cells, path), "</svg>"])
 
 
+def lines_of(name):
+    """The lines of a file, or of the standard input."""
+    try:
+        with sys.stdin if name == "-" else open(name, encoding="utf-8") as text:
+            return text.read().splitlines()
+    except (OSError, UnicodeDecodeError) as fault:
+        sys.exit(f"{name} can't be read: {getattr(fault, 'strerror', None) or 'it is no text'}")
+
+
+def number_of(word):
+    """The number of a cell, with or without its #."""
+    if not re.fullmatch(r"#?[0-9]+", word):
+        sys.exit(f"{word} is no cell: give its number")
+    return int(word.lstrip("#"))
+
+
 def main():
     if len(sys.argv) not in (2, 3):
         sys.exit(__doc__.strip())
-    lines = sys.stdin if sys.argv[1] == "-" else open(sys.argv[1], encoding="utf-8")
-    found = [cell for cell in map(read_cell, (line.rstrip("\n") for line in lines)) if cell]
+    found = [cell for cell in map(read_cell, lines_of(sys.argv[1])) if cell]
     cells = {cell.number: cell for cell in found}
     if not cells:
         sys.exit("the text has no line of a cell")
     if len(sys.argv) == 3:
-        chosen = int(sys.argv[2].lstrip("#"))
+        chosen = number_of(sys.argv[2])
         if chosen not in cells:
             sys.exit(f"the text has no line of #{chosen}")
     else:

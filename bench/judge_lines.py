@@ -7,14 +7,16 @@ PROGRAM is a built `riptide`. The workloads are those of model.py for the seeds 
 operations behind them that build what strong handles hold; half of those of several mutators are run with visitors. How far
 each cell is is found here anew, from what the lines say that cells hold. All of this has to hold:
 
-- there is one line for each cell that lives at the end, in rising order;
+- there is one line for each cell that lives at the end, in rising order, and something retains each, since the last cycle
+  freed all else;
 - what it holds lives, the keys of its pairs rise, and each path leads to its cell, from a strong handle by steps: along a
   slot or a property, from a table to the value of a pair whose key is retained, or to another cell of its group;
-- no path is longer than the distance that was found, and there is none just where nothing retains the cell.
+- no path is longer than the distance that was found.
 
 Of one mutator the model tells the whole state at the end: the text before the lines, what each cell holds and what the
-strong handles hold have to be the model's. Of several the roots are the cells that a handle is said to hold. Where something
-is otherwise, the workload is kept in a temporary file, and the status is 1.
+strong handles hold have to be the model's. Of several the roots are the cells with which some path begins: a handle
+that no line names isn't missed where another one retains its cell. Where something is otherwise, the workload is kept in a
+temporary file, and the status is 1.
 """
 import random
 import re
@@ -89,10 +91,8 @@ def distances(roots, lines):
 def judge_path(line, lines, far, holds):
     """The path of a line is a shortest one."""
     if line.number not in far:
-        if line.path:
-            raise Wrong(f"#{line.number} isn't retained")
-        return
-    if not line.path or line.path[-1] != line.number or not holds(line.handle, line.path[0]):
+        raise Wrong(f"#{line.number} isn't retained")
+    if line.path[-1] != line.number or not holds(line.handle, line.path[0]):
         raise Wrong(f"the path of #{line.number} doesn't lead to it from a root")
     for one, other in zip(line.path, line.path[1:]):
         if other not in steps_from(lines[one], lines, far):
@@ -123,16 +123,18 @@ def judge(work, printed):
             raise Wrong(f"#{line.number} holds a cell that doesn't live")
         if [key for key, _ in line.pairs] != sorted({key for key, _ in line.pairs} & set(lines)):
             raise Wrong(f"the keys of #{line.number}'s pairs don't rise, or one doesn't live")
+        if not line.path:
+            raise Wrong(f"nothing retains #{line.number}, which lives at the end")
     if len(work["mutators"]) == 1:
         store, expected = model.model_run(work)
         judge_store(f"{text}{live}{count}\n", lines, store, expected)
         strong = dict(enumerate(store.strong))
         roots = {value[1] for value in store.strong if isinstance(value, tuple)}
     else:
-        strong = {line.handle: ("cell", line.number) for line in read if len(line.path) == 1}
-        for line in read:
-            strong.setdefault(line.handle, ("cell", line.path[0] if line.path else None))
-        roots = {line.number for line in read if len(line.path) == 1}
+        strong = {line.handle: ("cell", line.path[0]) for line in read if line.handle < work["strong"]}
+        roots = {line.path[0] for line in read}
+    if not roots <= set(lines):
+        raise Wrong("a root that doesn't live")
     far = distances(roots, lines)
     for line in read:
         judge_path(line, lines, far, lambda handle, cell: strong.get(handle) == ("cell", cell))

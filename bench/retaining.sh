@@ -7,8 +7,8 @@
 # The programs are crates/checks/out/checks and crates/riptide/out/riptide where they aren't given; in each of the two
 # folders `rt run < stdin` builds it. It needs bash and awk. The microseconds are the least of 100 snapshots, of a heap as
 # `check_snapshot` makes it. The seconds are the processor's, user and system, the least of three: of a run with
-# `--snapshot`, less one without, into /dev/null. The text of a run of 65,536 calls stands beside them: what its reading
-# and running take is in its seconds.
+# `--snapshot`, less one without, into /dev/null. The last row is the whole text of the chain's run without `--snapshot`, to
+# compare with: the reading of the workload and its running are in its seconds.
 set -u
 
 here=$(cd "$(dirname "$0")" && pwd)
@@ -66,3 +66,8 @@ for kind in chain group; do
     }'
 done
 echo "| tables in the worst order | $(taken worst) | | | |"
+workload chain > "$folder/load.toml"
+bytes=$("$riptide" < "$folder/load.toml" | wc -c)
+awk -v bytes="$bytes" -v all="$(least "$folder/load.toml")" 'BEGIN {
+    printf "| the whole run of the chain, without lines of cells | | %.1f | %.3f | %.0f |\n", bytes / 1e6, all, bytes / 1e6 / all
+}'

@@ -13,7 +13,8 @@
 
 It also refuses a crates.txt in which a crate stands above one that it stands on, a README.md of a crate that names
 others than crates.txt under "What it stands on", a reading order that names a definition that the clauses of `riptide`
-don't rest on, or leaves out a fact (a name in CamelCase) that they do, and an edit that doesn't fit its file any more.
+don't rest on, or leaves out a fact (a name in CamelCase) that they do, an edit that doesn't fit its file any more, and a
+table of edits in docs/GATE.md that names others than the files of must-fail.
 """
 import re
 import sys
@@ -88,6 +89,23 @@ def edits_that_miss():
                 break
             elif word == "new":
                 texts[path] = texts[path].replace(old, rest)
+
+
+def edits_told_otherwise():
+    """Edits that docs/GATE.md doesn't tell of, in its table or as one `of` a crate, and such as aren't there."""
+    page = (TOP / "docs" / "GATE.md").read_text().partition("\n## What an edit shows\n")[2]
+    told = {(crate, name) for name, crate in re.findall(r"`(\w+)` of `(\w+)`", page) if edit_of(crate, name).exists()}
+    for names, its in re.findall(r"^\| (`[^|]+) \| (`[^|]+) \|", page, re.M):
+        told.update((crate, name) for crate in re.findall(r"`(\w+)`", its) for name in re.findall(r"`(\w+)`", names))
+    there = {(edit.parent.parent.name, edit.stem) for edit in TOP.glob("crates/*/must-fail/*.edit")}
+    for crate, name in sorted(there - told):
+        yield f"docs/GATE.md doesn't tell of the edit {name} of {crate}"
+    for crate, name in sorted(told - there):
+        yield f"docs/GATE.md tells of an edit {name} of {crate}, which isn't there"
+
+
+def edit_of(crate, name):
+    return TOP / "crates" / crate / "must-fail" / f"{name}.edit"
 
 
 # The definitions of specs/
@@ -345,7 +363,7 @@ def main():
     for name in readmes_differ():
         differ = 1
         print(f"crates/{name}/README.md doesn't say what it stands on as crates.txt does")
-    for miss in edits_that_miss():
+    for miss in [*edits_that_miss(), *edits_told_otherwise()]:
         differ = 1
         print(miss)
     for path, text in pages().items():

@@ -105,20 +105,19 @@ def write_calls(path, ops):
 
 
 # the programs: each says milliseconds of all operations but the collections, how many of these there were, milliseconds of
-# one of them and of the longest, megabytes, and how many cells are live at the end
+# one of them and of the longest, and how many cells are live at the end
 
 
 def timed(words, path, out, preload=None):
-    """The seconds by the clock, the megabytes and the status of a run, and what it wrote on its standard error."""
+    """The seconds by the clock and the status of a run, and what it wrote on its standard error."""
     environment = {**os.environ, "LD_PRELOAD": preload} if preload else os.environ
     with open(path) as source, open(out, "w") as sink, tempfile.TemporaryFile("w+") as told:
         began = time.perf_counter()
         process = subprocess.Popen(words, stdin=source, stdout=sink, stderr=told, env=environment)
-        _, status, used = os.wait4(process.pid, 0)
-        process.returncode = os.waitstatus_to_exitcode(status)
+        status = process.wait()
         clock = time.perf_counter() - began
         told.seek(0)
-        return clock, used.ru_maxrss / 1024, process.returncode, told.read()
+        return clock, status, told.read()
 
 
 def riptide(program, room, ops, shim):
@@ -126,25 +125,25 @@ def riptide(program, room, ops, shim):
     write_workload(path, ops)
     write_workload(refused, ops + ["nothing"])
     reading = timed([program], refused, out)
-    clock, megabytes, status, told = timed([program], path, out, shim)
+    clock, status, told = timed([program], path, out, shim)
     freezes = TOLD.search(told)
-    if reading[2] != 3 or status != 0 or not freezes:
-        sys.exit(f"{program} ended with {reading[2]} and {status}, and not with 3 and 0")
+    if reading[1] != 3 or status != 0 or not freezes:
+        sys.exit(f"{program} ended with {reading[1]} and {status}, and not with 3 and 0")
     with open(out) as text:
         live = int(text.read().split()[-1])
     count, collected, longest = (int(number) for number in freezes.groups())
-    return 1e3 * (clock - reading[0]) - collected / 1e3, count, collected / 1e3 / count, longest / 1e3, megabytes, live
+    return 1e3 * (clock - reading[0]) - collected / 1e3, count, collected / 1e3 / count, longest / 1e3, live
 
 
 def peer(words, room, ops):
     calls, out = os.path.join(room, "calls"), os.path.join(room, "out")
     write_calls(calls, ops)
-    _, megabytes, status, _ = timed([*words, calls], os.devnull, out)
+    _, status, _ = timed([*words, calls], os.devnull, out)
     if status != 0:
         sys.exit(f"{words[0]} ended with {status}")
     with open(out) as text:
         took, asked, collected, longest, live, _ = (int(number) for number in text.read().split())
-    return (took - collected) / 1e6, asked, collected / 1e6 / asked, longest / 1e6, megabytes, live
+    return (took - collected) / 1e6, asked, collected / 1e6 / asked, longest / 1e6, live
 
 
 def programs(program, room):
@@ -176,12 +175,12 @@ def main():
     words = [word for word in sys.argv[1:] if word != "--write"]
     program = words[0] if words else os.path.join(TOP, "crates", "riptide", "out", "riptide")
     times = int(words[1]) if len(words) > 1 else 9
-    lines = ["| Workload | Program | Operations, ms | Collections | One, ms | Longest, ms | Memory, MB | Live at the end |",
-             "|---|---|---|---|---|---|---|---|"]
+    lines = ["| Workload | Program | Operations, ms | Collections | One, ms | Longest, ms | Live at the end |",
+             "|---|---|---|---|---|---|---|"]
     live = {}
     print(*lines, sep="\n")
-    for workload, name, (operations, count, one, longest, megabytes, cells) in rows(program, times):
-        lines.append(f"| {workload} | {name} | {operations:.2f} | {count:.0f} | {one:.3f} | {longest:.3f} | {megabytes:.1f} | {cells:.0f} |")
+    for workload, name, (operations, count, one, longest, cells) in rows(program, times):
+        lines.append(f"| {workload} | {name} | {operations:.2f} | {count:.0f} | {one:.3f} | {longest:.3f} | {cells:.0f} |")
         live.setdefault(workload, set()).add(cells)
         print(lines[-1], flush=True)
     differing = [workload for workload, cells in live.items() if len(cells) > 1]
