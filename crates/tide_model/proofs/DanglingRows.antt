@@ -47,7 +47,7 @@ pub dangling_is_not_lawful : (rest : List Event) → IsLawful small no_shapes (b
 dangling_is_not_lawful rest lawful = held_cell_is_not_freed (lawful 8 (plain (End 1 (1 ∷ []))) refl).1
 
 -- a call of mutator 0 that is not refused for room
-calls : (before : List Event) (op : Op) (reply : Reply) → IsLawful small no_shapes before → (state_after small before).active 0 ≡ true → FitsLayout small op →
+pub calls : (before : List Event) (op : Op) (reply : Reply) → IsLawful small no_shapes before → (state_after small before).active 0 ≡ true → FitsLayout small op →
     IsAnswer small no_shapes (state_after small before) 0 op reply None → ((class : ℕ) → reply ≡ Refused (Full class) → ⊥) →
     IsLawful small no_shapes (before ++ plain (Call 0 op reply) ∷ [])
 calls before op reply lawful active fits answers has_room = IsLawful-push small no_shapes before (plain (Call 0 op reply)) lawful (record {

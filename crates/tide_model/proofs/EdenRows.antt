@@ -1,5 +1,5 @@
 -- An Eden cycle keeps an old cell that nothing holds any more, and so what that cell holds; a full one frees both.
-use Rattle.std.specs.Prelude.{ℕ, ◌≡◌, ◌==◌, ◌⊎◌, ◌<◌, ◌+◌, ◌&&◌, refl, Bool, true, false, not, if◌then◌else◌, List, [], ◌∷◌, ◌++◌, length, slice_index, None, Some}
+use Rattle.std.specs.Prelude.{ℕ, ◌≡◌, ◌==◌, ◌⊎◌, ◌<◌, ◌≤◌, ◌+◌, ◌&&◌, refl, Bool, true, false, not, if◌then◌else◌, List, [], ◌∷◌, ◌++◌, length, slice_index, take, None, Some}
 use Rattle.std.proofs.Common.{arith, ap, inl, inr, lit<, lit≤, subst, sym, ◌∙◌, true≢false}
 use Rattle.std.proofs.lemmas.Bool.{cases_eq, ne_eqb}
 use Rattle.tide_model.specs.declared.val.Val.{Val}
@@ -8,17 +8,25 @@ use Rattle.tide_model.specs.declared.op.Op.TheVariants.{Alloc, Put, Drop, WeakSe
 use Rattle.tide_model.specs.declared.op.Reply.TheVariants.{Done, Born}
 use Rattle.tide_model.specs.declared.entry.Entry.TheVariants.{Call, Begin, Pause, End}
 use Rattle.tide_model.specs.declared.entry.Event.{Event}
-use Rattle.tide_model.specs.Graph.{IsRoot, in_register, claimed, in_handle, IsLink, in_slot, in_property, IsTriple, AreTwins, IsRetained, IsClosed, graph_of, is_further, by_link, no_cell, retained_in_closed}
-use Rattle.tide_model.specs.History.{after_end, plain, state_after}
-use Rattle.tide_model.specs.Cycle.{StandsEnd, StaysLive, cycle_span}
+use Rattle.tide_model.specs.Graph.{is_root, IsRoot, in_register, claimed, in_handle, IsLink, in_slot, in_property, IsTriple, AreTwins, IsRetained, IsClosed, graph_of, is_further, by_link, no_cell, retained_in_closed}
+use Rattle.tide_model.specs.History.{after_end, plain, state_after, state_at}
+use Rattle.tide_model.specs.Cycle.{StandsBegin, StandsEnd, StaysLive, begin_count, cycle_span}
+use Rattle.tide_model.specs.Lawful.{IsLawful}
+use Rattle.tide_model.specs.Layout.{IsBlockOf}
 use Rattle.tide_model.specs.Numbers.{is_among}
 use Rattle.tide_model.specs.Old.{IsOld, IsSpared, is_full, is_old, spared_count}
 use Rattle.tide_model.specs.Periods.{EndsInTime}
 use Rattle.tide_model.specs.References.{IsLive}
+use Rattle.tide_model.specs.Refused.{no_shapes}
 use Rattle.tide_model.specs.Rows.{small}
-use Rattle.tide_model.specs.State.{CellState, State, Status, blank_cell, dead, free, is_live, live, marking}
+use Rattle.tide_model.specs.State.{CellState, State, Status, blank_cell, dead, free, idle, is_live, live, marking}
+use Rattle.tide_model.proofs.DanglingRows.{calls}
+use Rattle.tide_model.proofs.Histories.{IsLawful-nil, IsLawful-push}
+use Rattle.tide_model.proofs.LawfulReferences.{RefsAreLive-lawful}
 use Rattle.tide_model.proofs.NumberLaws.{put_at_elim}
-use Rattle.tide_model.proofs.PeriodTests.{EndsInTime-tested}
+use Rattle.tide_model.proofs.OldLaws.{old_stays_live}
+use Rattle.tide_model.proofs.PeriodTests.{EndsInTime-tested, IsSwept-tested, is_any_dead}
+use Rattle.tide_model.proofs.Retained.{IsClosed-all_kept}
 
 -- the first cycle keeps cell 0, which is old from then on; a weak handle names it
 abbrev pub one_old : List Event
@@ -38,6 +46,10 @@ in_eden = old_garbage ++ plain (Begin 2 false) ∷ plain (Pause 1) ∷ []
 
 abbrev pub in_full : List Event
 in_full = old_garbage ++ plain (Begin 2 true) ∷ plain (Pause 1) ∷ []
+
+-- an Eden cycle is about to end that made no cell black
+abbrev in_idle_eden : List Event
+in_idle_eden = old_garbage ++ plain (Begin 2 false) ∷ plain (Pause 0) ∷ []
 
 -- after three Eden cycles, which keep both, the fourth is an Eden cycle too, or a full one
 abbrev three_kept : List Event
@@ -280,9 +292,12 @@ fourth_end_frees_both = frees_both in_fourth_full 4 fourth_are_left refl refl
 pub fourth_eden_frees_none : StandsEnd small in_fourth_eden 4 (0 ∷ 1 ∷ []) → ⊥
 fourth_eden_frees_none stands = stands.frees 1 refl (is_further 1 refl)
 
--- an Eden cycle that made one cell black may keep an old one beside it, and a full one may not
+-- an Eden cycle that made one cell black may keep an old one beside it; one that made none black, or a full one, may not
 pub eden_end_in_time : EndsInTime small in_eden (plain (End 2 []))
 eden_end_in_time = EndsInTime-tested small in_eden (plain (End 2 [])) refl
+
+pub eden_end_keeps_too_many : EndsInTime small in_idle_eden (plain (End 2 [])) → ⊥
+eden_end_keeps_too_many stands = let few = stands.kept 2 [] refl in omega (arith, few)
 
 pub full_end_keeps_too_many : EndsInTime small in_full (plain (End 2 [])) → ⊥
 full_end_keeps_too_many stands = let few = stands.kept 2 [] refl in omega (arith, few)
@@ -298,3 +313,190 @@ pub reference_would_dangle :
     × (((after_end now (1 ∷ [])).cells 0).slots 0 ≡ Cell 1)
     × (((after_end now (1 ∷ [])).cells 1).status ≡ dead)
 reference_would_dangle = (refl, refl, refl, refl)
+
+-- the old cell is garbage, and beside it lies a young one that nothing ever held, while an Eden cycle marks
+abbrev with_young : List Event
+with_young =
+    one_old ++ plain (Call 0 (Alloc 1 0) (Born 1)) ∷ plain (Call 0 (Drop 0) Done) ∷ plain (Call 0 (Drop 1) Done)
+    ∷ plain (Begin 2 false) ∷ plain (Pause 0) ∷ []
+
+abbrev young_now : State
+young_now = state_after small with_young
+
+-- a cell holds nothing
+record HoldsNothing (held : CellState) : Type 0 where
+  pub slots : (slot cell : ℕ) → held.slots slot ≡ Cell cell → ⊥
+  pub keys : held.keys ≡ []
+  pub pairs : (key : ℕ) → held.pairs key ≡ None
+  pub group : held.group ≡ 0
+
+-- neither roots nor cells hold anything
+record NothingIsHeld (state : State) : Type 0 where
+  pub roots : (cell : ℕ) → IsRoot state cell → ⊥
+  pub holds : (cell : ℕ) → HoldsNothing (state.cells cell)
+
+module _ (state : State) (held : NothingIsHeld state) where
+  no_link_at_all : (source cell : ℕ) → IsLink state source cell → ⊥
+  no_link_at_all source cell (in_slot slot alive is) = (held.holds source).slots slot cell is
+  no_link_at_all source cell (in_property place alive within is) =
+      let none = ap (λ (keys : List ℕ). length keys) (held.holds source).keys in omega (arith, within, none)
+
+  no_pair_at_all : (table key cell : ℕ) → IsTriple state table key cell → ⊥
+  no_pair_at_all table key cell triple =
+      let e : None ≡ Some (Cell cell) = sym ((held.holds table).pairs key) ∙ triple.has_pair in cc
+
+  no_twin_at_all : (one other : ℕ) → AreTwins state one other → ⊥
+  no_twin_at_all one other twins = twins.in_a_group (held.holds one).group
+
+  -- so what is kept needs only to have the cells that retain as roots do
+  closed_where_nothing_is_held : (further member : ℕ → Type 0) → ((cell : ℕ) → further cell → member cell) →
+      IsClosed (graph_of state) further member
+  closed_where_nothing_is_held further member have = record {
+    roots = λ cell root. absurd (held.roots cell root);
+    further_cells = have;
+    links = λ source cell kept link. absurd (no_link_at_all source cell link);
+    pairs = λ table key cell kept_table kept_key triple. absurd (no_pair_at_all table key cell triple);
+    twins = λ one other kept twin. absurd (no_twin_at_all one other twin);
+  }
+
+abbrev IsFirstOrSecond : ℕ → CellState → Type 0
+IsFirstOrSecond n held = (held.status ≡ live → (n ≡ 0) ⊎ (n ≡ 1)) × HoldsNothing held
+
+blank_holds_nothing : (status : Status) → HoldsNothing (blank_cell status)
+blank_holds_nothing status = record {
+  slots = λ slot cell is. (let e : Empty ≡ Cell cell = is in cc);
+  keys = refl;
+  pairs = λ key. refl;
+  group = refl;
+}
+
+young_cells_are : (cell : ℕ) → IsFirstOrSecond cell (young_now.cells cell)
+young_cells_are = put_at_elim IsFirstOrSecond (state_after small one_old).cells 1 (blank_cell live)
+    ((λ is. inr refl), blank_holds_nothing live)
+    (λ m other. put_at_elim IsFirstOrSecond (λ _. blank_cell free) 0 (blank_cell live)
+    ((λ is. inl refl), blank_holds_nothing live)
+    (λ k none. ((λ is. absurd (let e : free ≡ live = is in cc)), blank_holds_nothing free)) m)
+
+young_is_held_by_none : NothingIsHeld young_now
+young_is_held_by_none = record { roots = no_root; holds = λ cell. (young_cells_are cell).1 }
+  where
+    no_root : (cell : ℕ) → IsRoot young_now cell → ⊥
+    no_root cell (in_register who register active is) = no_register who register cell is
+    no_root cell (claimed who has) = absurd (omega (arith, has.1))
+    no_root cell (in_handle handle is) = let e : Empty ≡ Cell cell = is in cc
+
+first_is_spared : (cell : ℕ) → IsSpared small with_young cell → cell ≡ 0
+first_is_spared = put_at_elim (λ (n : ℕ) (held : CellState). is_live held.status ≡ true → n ≡ 0) (λ _. blank_cell free) 0
+    (blank_cell live) (λ is. refl) (λ n apart is. absurd (let e : false ≡ true = is in cc))
+
+second_is_among : (cell : ℕ) → is_among (1 ∷ []) cell ≡ true → cell ≡ 1
+second_is_among cell among = elim (cases_eq cell 1) [
+  | inl is ↦ is
+  | inr other ↦ absurd (let b = ne_eqb cell 1 other in cc)
+]
+
+-- the Eden cycle frees the young one, and keeps the old one beside it
+pub young_is_freed : StandsEnd small with_young 2 (1 ∷ [])
+young_is_freed = record {
+  marks = refl;
+  rising = λ k below. absurd (omega (arith, below));
+  were_live = λ cell among. subst (IsLive young_now) (sym (second_is_among cell among)) refl;
+  frees = λ cell among kept. (
+      let old : cell ≡ 0 = first_is_spared cell (retained_in_closed (graph_of young_now) (IsSpared small with_young)
+      (IsSpared small with_young) (closed_where_nothing_is_held young_now young_is_held_by_none (IsSpared small with_young)
+      (IsSpared small with_young) (λ c spared. spared)) cell kept) in
+      let young = second_is_among cell among in omega (arith, old, young));
+  keeps = λ cell alive stays. kept cell ((young_cells_are cell).0 alive) stays;
+  closed = closed_where_nothing_is_held young_now young_is_held_by_none (IsSpared small with_young)
+      (StaysLive young_now (1 ∷ [])) (λ cell spared. old_stays cell (first_is_spared cell spared));
+}
+  where
+    Kept : ℕ → Type 0
+    Kept = IsRetained (cycle_span small with_young) (IsSpared small with_young)
+
+    kept : (cell : ℕ) → (cell ≡ 0) ⊎ (cell ≡ 1) → (is_among (1 ∷ []) cell ≡ true → ⊥) → Kept cell
+    kept cell (inl is) stays = subst Kept (sym is) (is_further 0 refl)
+    kept cell (inr is) stays = absurd (stays (subst (λ (n : ℕ). is_among (1 ∷ []) n ≡ true) (sym is) refl))
+
+    old_stays : (cell : ℕ) → cell ≡ 0 → StaysLive young_now (1 ∷ []) cell
+    old_stays cell is = subst (StaysLive young_now (1 ∷ [])) (sym is) (record { is_live = refl; not_freed = λ among. absurd (cc) })
+
+-- it may not keep the young one: nothing held it while it marked
+pub young_garbage_is_not_kept : StandsEnd small with_young 2 [] → ⊥
+young_garbage_is_not_kept stands =
+    let old : 1 ≡ 0 = retained_in_closed (cycle_span small with_young) (IsSpared small with_young) (λ cell. cell ≡ 0)
+    none_in_span 1 (stands.keeps 1 refl (λ among. (let e : false ≡ true = among in cc))) in omega (arith, old)
+  where
+    at_each : (moment : ℕ) → 9 ≤ moment → moment ≤ 10 → NothingIsHeld (state_at small with_young moment)
+    at_each moment early late = elim (cases_eq moment 10) [
+      | inl is ↦ subst (λ (m : ℕ). NothingIsHeld (state_at small with_young m)) (sym is) young_is_held_by_none
+      | inr other ↦ (let is : moment ≡ 9 = omega (arith, early, late, other) in
+          subst (λ (m : ℕ). NothingIsHeld (state_at small with_young m)) (sym is) young_is_held_by_none)
+    ]
+
+    none_in_span : IsClosed (cycle_span small with_young) (IsSpared small with_young) (λ cell. cell ≡ 0)
+    none_in_span = record {
+      roots = λ cell root. absurd ((at_each root.0 root.1 root.2).roots cell root.3);
+      further_cells = first_is_spared;
+      links = λ source cell kept link.
+          absurd (no_link_at_all (state_at small with_young link.0) (at_each link.0 link.1 link.2) source cell link.3);
+      pairs = λ table key cell kept_table kept_key triple. absurd (no_pair_at_all
+          (state_at small with_young triple.0) (at_each triple.0 triple.1 triple.2) table key cell triple.3);
+      twins = λ one other kept twin.
+          absurd (no_twin_at_all (state_at small with_young twin.0) (at_each twin.0 twin.1 twin.2) one other twin.3);
+    }
+
+-- an end that frees nothing stands where all that lives was retained, or is spared
+keeps_all : (history : List Event) (cycle : ℕ) → IsLawful small no_shapes history →
+    (state_after small history).phase ≡ marking cycle →
+    ((cell : ℕ) → IsLive (state_after small history) cell → IsRetained (cycle_span small history) (IsSpared small history) cell) →
+    ((cell : ℕ) → IsSpared small history cell → IsLive (state_after small history) cell) → StandsEnd small history cycle []
+keeps_all history cycle lawful marks retained spared = record {
+  marks = marks;
+  rising = λ k below. absurd (omega (arith, below));
+  were_live = λ cell among. absurd (let e : false ≡ true = among in cc);
+  frees = λ cell among kept. absurd (let e : false ≡ true = among in cc);
+  keeps = λ cell alive stays. retained cell alive;
+  closed = IsClosed-all_kept (state_after small history) (IsSpared small history)
+      (RefsAreLive-lawful small no_shapes history lawful) spared;
+}
+
+-- the history with three Eden cycles is lawful
+pub three_kept_is_lawful : IsLawful small no_shapes three_kept
+three_kept_is_lawful =
+    let none = IsLawful-nil small no_shapes in
+    let born = calls (before 0) (Alloc 0 0) (Born 0) none refl (lit< tt, lit< tt) (refl, record { of_class = in_block; is_free = refl }) (λ class is. cc) in
+    let named = calls (before 1) (WeakSet 0 0) Done born refl (lit< tt, lit< tt) refl (λ class is. cc) in
+    let begun = IsLawful-push small no_shapes (before 2) (plain (Begin 1 false)) named (refl, begins 2 1 refl refl refl) in
+    let paused = IsLawful-push small no_shapes (before 3) (plain (Pause 1)) begun refl in
+    let ended = IsLawful-push small no_shapes (before 4) (plain (End 1 [])) paused (refl, keeps_all (before 4) 1 paused refl root (λ cell spared. absurd (let e : false ≡ true = spared in cc))) in
+    let second = calls (before 5) (Alloc 1 0) (Born 1) ended refl (lit< tt, lit< tt) (refl, record { of_class = in_block; is_free = refl }) (λ class is. cc) in
+    let holds = calls (before 6) (Put 0 0 1) Done second refl (lit< tt, lit< tt) refl (λ class is. cc) in
+    let dropped = calls (before 7) (Drop 0) Done holds refl (lit< tt) refl (λ class is. cc) in
+    let all_dropped = calls (before 8) (Drop 1) Done dropped refl (lit< tt) refl (λ class is. cc) in
+    let begun_again = IsLawful-push small no_shapes (before 9) (plain (Begin 2 false)) all_dropped (refl, begins 9 2 refl refl refl) in
+    let paused_again = IsLawful-push small no_shapes (before 10) (plain (Pause 1)) begun_again refl in
+    let ended_again = IsLawful-push small no_shapes (before 11) (plain (End 2 [])) paused_again (refl, old_and_held_are_kept) in
+    let third = IsLawful-push small no_shapes (before 12) (plain (Begin 3 false)) ended_again (refl, begins 12 3 refl refl refl) in
+    let paused_third = IsLawful-push small no_shapes (before 13) (plain (Pause 0)) third refl in
+    IsLawful-push small no_shapes (before 14) (plain (End 3 [])) paused_third (
+      refl,
+      keeps_all (before 14) 3 paused_third refl
+          (λ cell alive. is_further cell (ap is_live alive)) (old_stays_live small no_shapes (before 14) paused_third),
+    )
+  where
+    before : ℕ → List Event
+    before n = take n three_kept
+
+    in_block : IsBlockOf small 0 0
+    in_block = record { from = lit≤ tt; below = lit< tt }
+
+    begins : (n cycle : ℕ) → (state_after small (before n)).phase ≡ idle → is_any_dead small (state_after small (before n)) ≡ false →
+        cycle ≡ begin_count (before n) + 1 → StandsBegin small (before n) cycle
+    begins n cycle idles swept next = record { is_idle = idles; is_swept = IsSwept-tested small (before n) swept; is_next = next }
+
+    root : (cell : ℕ) → IsLive (state_after small (before 4)) cell → IsRetained (cycle_span small (before 4)) (IsSpared small (before 4)) cell
+    root = put_at_elim
+        (λ (n : ℕ) (held : CellState). held.status ≡ live → IsRetained (cycle_span small (before 4)) (IsSpared small (before 4)) n)
+        (λ _. blank_cell free) 0 (blank_cell live) (λ is. is_root 0 (3, lit≤ tt, lit≤ tt, in_register 0 0 refl refl))
+        (λ n apart is. absurd (let e : free ≡ live = is in cc))

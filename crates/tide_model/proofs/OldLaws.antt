@@ -1,30 +1,23 @@
 -- Old cells stay old, and a cycle full or not, until a cycle begins or ends; and what is old is live.
 use Rattle.std.proofs.Common.{ℕ, suc, ◌≡◌, refl, sym, ◌∙◌, ap, subst, Bool, true, false, true≢false, List, [], ◌∷◌, ◌++◌, length, take, length-append, arith, inl, inr}
 use Rattle.std.proofs.lemmas.Bool.{cases_Bool}
-use Rattle.std.specs.Prelude.{◌==◌, if◌then◌else◌, ◌&&◌, not, filter, Option, None, Some}
-use Rattle.tide_model.specs.declared.op.Op.{Op}
-use Rattle.tide_model.specs.declared.op.Op.TheVariants.{Alloc, Table, Put, Claim, Release, Add, SetProp, PairSet, PairDel, Group}
-use Rattle.tide_model.specs.declared.op.Reply.{Reply}
-use Rattle.tide_model.specs.declared.op.Reply.TheVariants.{Done, Born, Refused}
+use Rattle.std.specs.Prelude.{◌==◌, if◌then◌else◌, ◌&&◌, not, Option}
 use Rattle.tide_model.specs.declared.entry.Entry.{Entry}
 use Rattle.tide_model.specs.declared.entry.Entry.TheVariants.{Call, Begin, Pause, Visits, End, Taken, Sweep, Open}
 use Rattle.tide_model.specs.declared.entry.Event.{Event}
-use Rattle.tide_model.specs.Applied.{after_call, add_property, array_after, at_cell, place_of, put_cell, put_claims, put_pair, put_property}
 use Rattle.tide_model.specs.Cycle.{cycle_span}
 use Rattle.tide_model.specs.Graph.{IsRetained, is_further, retained_more}
 use Rattle.tide_model.specs.History.{after_entry, is_begin, moment_after_last, state_after, state_at}
 use Rattle.tide_model.specs.Lawful.{IsLawful, Stands}
 use Rattle.tide_model.specs.Layout.{Layout, block_of_cell}
-use Rattle.tide_model.specs.Numbers.{put_at}
 use Rattle.tide_model.specs.Old.{IsOld, IsSpared, full_after, full_with, is_full, is_old, is_spared, rested_state}
 use Rattle.tide_model.specs.References.{IsLive}
 use Rattle.tide_model.specs.Refused.{ShapeLists}
 use Rattle.tide_model.specs.Since.{is_end}
-use Rattle.tide_model.specs.State.{State, CellState, Status, blank_cell, free, is_live, live, spent, dead}
+use Rattle.tide_model.specs.State.{State, CellState, Status, free, is_live, live, spent, dead}
+use Rattle.tide_model.proofs.CallKeeps.{KeepsLive, KeepsLive-call}
 use Rattle.tide_model.proofs.Cycles.{take-all}
 use Rattle.tide_model.proofs.Histories.{IsLawful-elim, moment_after_last-le, moment_after_last-push, state_after-push, take-append-short}
-use Rattle.tide_model.proofs.PhaseLaws.{at_cell_keeps, put_slot_keeps}
-use Rattle.tide_model.proofs.ReferenceLaws.{after_call-refused, put_at_elim}
 use Rattle.tide_model.proofs.ReferencesInCycles.{swept_cell-live}
 use Rattle.tide_model.proofs.Spans.{cycle_span-push}
 
@@ -97,51 +90,7 @@ is_old-ended layout log event ends cell = ap (λ (h : List Event). is_live ((sta
     now : take (moment_after_last (λ e. is_end e.entry) (log ++ event ∷ [])) (log ++ event ∷ []) ≡ log ++ event ∷ []
     now = ap (λ (n : ℕ). take n (log ++ event ∷ [])) at ∙ take-all (log ++ event ∷ [])
 
--- what was live is live still
-abbrev pub KeepsLive : State → State → Type 0
-KeepsLive one other = (cell : ℕ) → IsLive one cell → IsLive other cell
-
-put_live : (state : State) (at : ℕ) (held : CellState) → ((state.cells at).status ≡ live → held.status ≡ live) →
-    (cell : ℕ) → IsLive state cell → (put_at state.cells at held cell).status ≡ live
-put_live state at held same = put_at_elim (λ n (c : CellState). (state.cells n).status ≡ live → c.status ≡ live) state.cells at held same (λ n apart is. is)
-
--- a call leaves each live cell live
-pub KeepsLive-call : (state : State) (who : ℕ) (op : Op) (reply : Reply) (took : Option ℕ) → KeepsLive state (after_call state who op reply took)
-KeepsLive-call state who (Alloc dst class) (Born cell) took = put_live state cell (blank_cell live) (λ is. refl)
-KeepsLive-call state who (Table dst) (Born cell) took = put_live state cell (blank_cell live) (λ is. refl)
-KeepsLive-call state who op (Refused refusal) took = subst (KeepsLive state) (sym (after_call-refused state who op refusal took)) (λ c is. is)
-KeepsLive-call state who (Put src slot val) Done took =
-    put_slot_keeps (KeepsLive state) state (state.registers who src) slot (state.registers who val) (λ c is. is)
-    (λ cell. put_live state cell (record (state.cells cell) { slots = put_at (state.cells cell).slots slot (state.registers who val) }) (λ is. is))
-KeepsLive-call state who (Claim src) Done took =
-    at_cell_keeps (KeepsLive state) state (state.registers who src) (λ cell. put_claims state who (state.claims who ++ cell ∷ [])) (λ c is. is) (λ cell c is. is)
-KeepsLive-call state who (Release src) Done took =
-    at_cell_keeps (KeepsLive state) state (state.registers who src) (λ cell. put_claims state who (filter (λ claimed. not (claimed == cell)) (state.claims who)))
-    (λ c is. is) (λ cell c is. is)
-KeepsLive-call state who (Add src key val) Done took =
-    at_cell_keeps (KeepsLive state) state (state.registers who src) (λ cell. add_property state cell key (state.registers who val) took) (λ c is. is)
-    (λ cell. put_live state cell (record (state.cells cell) {
-      keys = (state.cells cell).keys ++ key ∷ [];
-      properties = put_at (state.cells cell).properties (length (state.cells cell).keys) (state.registers who val);
-      array = array_after (state.cells cell).array took;
-    }) (λ is. is))
-KeepsLive-call state who (SetProp src key val) Done took =
-    at_cell_keeps (KeepsLive state) state (state.registers who src) (λ cell. put_property state cell key (state.registers who val)) (λ c is. is)
-    (λ cell. put_live state cell (record (state.cells cell) { properties = put_at (state.cells cell).properties (place_of (state.cells cell).keys key) (state.registers who val) }) (λ is. is))
-KeepsLive-call state who (PairSet src key val) Done took =
-    at_cell_keeps (KeepsLive state) state (state.registers who src) (λ table. at_cell state (state.registers who key) (λ cell. put_pair state table cell (Some (state.registers who val)))) (λ c is. is)
-    (λ table. at_cell_keeps (KeepsLive state) state (state.registers who key) (λ cell. put_pair state table cell (Some (state.registers who val))) (λ c is. is)
-    (λ cell. put_live state table (record (state.cells table) { pairs = put_at (state.cells table).pairs cell (Some (state.registers who val)) }) (λ is. is)))
-KeepsLive-call state who (PairDel src key) Done took =
-    at_cell_keeps (KeepsLive state) state (state.registers who src) (λ table. at_cell state (state.registers who key) (λ cell. put_pair state table cell None)) (λ c is. is)
-    (λ table. at_cell_keeps (KeepsLive state) state (state.registers who key) (λ cell. put_pair state table cell None) (λ c is. is)
-    (λ cell. put_live state table (record (state.cells table) { pairs = put_at (state.cells table).pairs cell None }) (λ is. is)))
-KeepsLive-call state who (Group src n) Done took =
-    at_cell_keeps (KeepsLive state) state (state.registers who src) (λ cell. put_cell state cell (record (state.cells cell) { group = n })) (λ c is. is)
-    (λ cell. put_live state cell (record (state.cells cell) { group = n }) (λ is. is))
-KeepsLive-call state who op reply took = λ c is. is
-
--- and so does each entry but an end
+-- each entry but an end leaves each live cell live
 KeepsLive-entry : (layout : Layout) (state : State) (entry : Entry) (took : Option ℕ) → is_end entry ≡ false →
     KeepsLive state (after_entry layout state entry took)
 KeepsLive-entry layout state (Call who op reply) took none = KeepsLive-call state who op reply took

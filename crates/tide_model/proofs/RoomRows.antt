@@ -96,3 +96,17 @@ full_after_its_sweep = record {
       (one_block 1 (λ block. DeadIsTaken (with_mutators 1) full_again block) (λ has. lit< tt));
   alone = λ alone. swept_since;
 }
+
+-- a later cycle frees all of it once more, and a part is opened
+abbrev dead_again : List Event
+dead_again = full_again ++ first_calls (Drop 0) Done ∷ plain (Begin 2 true) ∷ plain (Pause 0)
+    ∷ plain (End 2 (numbers_where (λ cell. true) 64)) ∷ plain (Open 2 200) ∷ []
+
+-- that it was taken before this end doesn't serve a refusal
+pub taken_before_the_end : StandsFull (with_mutators 1) dead_again 0 0 → ⊥
+taken_before_the_end full =
+    let (moment, early, late, none, taken) = full 0 (record { from = lit≤ tt; below = lit< tt }) in
+    let same : moment ≡ 140 = omega (arith, early, late) in
+    let was = subst (λ (m : ℕ). DeadIsTaken (with_mutators 1) (take m dead_again) 0) same taken
+    (dead_cell 0 (lit< tt) refl refl) in
+    omega (arith, was)

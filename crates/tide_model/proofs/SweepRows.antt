@@ -50,16 +50,16 @@ first_cell = record {
 abbrev collected : List Event
 collected = plain (Open 1 4) ∷ born_and_freed.part ++ born_and_freed.freeze
 
-abbrev on_demand : List Event
-on_demand = collected ++ plain (Open 2 4) ∷ next_cell.part ++ next_cell.freeze
+abbrev next_free_is_taken : List Event
+next_free_is_taken = collected ++ plain (Open 2 4) ∷ next_cell.part ++ next_cell.freeze
 
-abbrev swept_first : List Event
-swept_first = collected ++ plain (Open 2 4) ∷ first_cell.part ++ first_cell.freeze
+abbrev swept_in_the_part : List Event
+swept_in_the_part = collected ++ plain (Open 2 4) ∷ first_cell.part ++ first_cell.freeze
 
 numbers :
     (after_period short small [] born_and_freed ≡ collected)
-    × (after_period short small collected next_cell ≡ on_demand)
-    × (after_period short small collected first_cell ≡ swept_first)
+    × (after_period short small collected next_cell ≡ next_free_is_taken)
+    × (after_period short small collected first_cell ≡ swept_in_the_part)
 numbers = (refl, refl, refl)
 
 first_freeze :
@@ -140,7 +140,7 @@ next_stands = record {
   taken = TakenAreSwept-none next_cell.part refl;
   shares = shares-tested short small collected next_cell refl;
   freeze = next_freeze;
-  swept = λ must. IsSwept-tested small on_demand refl;
+  swept = λ must. IsSwept-tested small next_free_is_taken refl;
 }
 
 swept_stands : StandsPeriod short small collected first_cell
@@ -151,21 +151,21 @@ swept_stands = record {
   taken = first_taken;
   shares = shares-tested short small collected first_cell refl;
   freeze = swept_freeze;
-  swept = λ must. IsSwept-tested small swept_first refl;
+  swept = λ must. IsSwept-tested small swept_in_the_part refl;
 }
 
 -- both schedules stand: with the lowest free cell that is found at once, and with a block that is swept before
-pub on_demand_is_scheduled : IsScheduled short small on_demand
-on_demand_is_scheduled = record {
+pub scheduled_where_next_free_is_taken : IsScheduled short small next_free_is_taken
+scheduled_where_next_free_is_taken = record {
   periods = one_more collected next_cell (one_more [] born_and_freed no_period first_stands) next_stands;
-  ends = Each-tested (EndsInTime small) (ends_in_time small) (EndsInTime-tested small) on_demand refl;
+  ends = Each-tested (EndsInTime small) (ends_in_time small) (EndsInTime-tested small) next_free_is_taken refl;
   over = refl;
 }
 
-pub swept_first_is_scheduled : IsScheduled short small swept_first
-swept_first_is_scheduled = record {
+pub scheduled_where_swept_in_the_part : IsScheduled short small swept_in_the_part
+scheduled_where_swept_in_the_part = record {
   periods = one_more collected first_cell (one_more [] born_and_freed no_period first_stands) swept_stands;
-  ends = Each-tested (EndsInTime small) (ends_in_time small) (EndsInTime-tested small) swept_first refl;
+  ends = Each-tested (EndsInTime small) (ends_in_time small) (EndsInTime-tested small) swept_in_the_part refl;
   over = refl;
 }
 
@@ -200,6 +200,17 @@ block_is_taken_twice takes = takes.is_first (lit< tt)
 
 pub swept_block_is_taken : StandsTaken small (opened_part ++ plain (Taken 0) ∷ plain (Sweep 0) ∷ []) 0 → ⊥
 swept_block_is_taken takes = takes.is_first (lit< tt)
+
+-- and once more after a later end, where something is dead again
+abbrev later_end : List Event
+later_end = opened_part ++ first_cell.part ++ plain (Begin 2 true) ∷ plain (Pause 0) ∷ plain (End 2 (0 ∷ [])) ∷ []
+
+pub block_is_taken_again : StandsTaken small later_end 0
+block_is_taken_again = record {
+  is_idle = refl;
+  has_dead = dead_cell 0 (lit< tt) refl refl;
+  is_first = λ was. omega (arith, was);
+}
 
 -- a part may not end before the block that was taken is swept
 pub taken_is_not_swept : TakenAreSwept (plain (Taken 0) ∷ first_calls Retire Done ∷ []) → ⊥

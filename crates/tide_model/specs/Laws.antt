@@ -1,6 +1,6 @@
 -- What holds after every lawful history, and in every legal one.
-use Rattle.std.specs.Prelude.{ℕ, ◌≡◌, ◌↔◌, true, List}
-use Rattle.tide_model.specs.declared.entry.Entry.TheVariants.{End}
+use Rattle.std.specs.Prelude.{ℕ, ◌≡◌, ◌↔◌, Bool, true, List}
+use Rattle.tide_model.specs.declared.entry.Entry.TheVariants.{Begin, End}
 use Rattle.tide_model.specs.declared.entry.Event.{Event}
 use Rattle.tide_model.specs.declared.op.Op.{Op}
 use Rattle.tide_model.specs.declared.op.Refusal.{Refusal}
@@ -12,9 +12,9 @@ use Rattle.tide_model.specs.Layout.{Layout}
 use Rattle.tide_model.specs.History.{state_after}
 use Rattle.tide_model.specs.Lawful.{IsLawful}
 use Rattle.tide_model.specs.Numbers.{is_among}
-use Rattle.tide_model.specs.Old.{IsOld}
+use Rattle.tide_model.specs.Old.{IsOld, IsSpared}
 use Rattle.tide_model.specs.Pace.{Pace}
-use Rattle.tide_model.specs.Periods.{IsLegal}
+use Rattle.tide_model.specs.Periods.{IsLegal, IsScheduled}
 use Rattle.tide_model.specs.Prefix.{IsPrefix}
 use Rattle.tide_model.specs.References.{ClaimsAreOwn, IsLive, RefsAreLive}
 use Rattle.tide_model.specs.Refused.{ShapeLists}
@@ -64,3 +64,23 @@ abbrev pub CyclesAreExact : Type 0
 CyclesAreExact =
     (pace : Pace) (layout : Layout) (shapes : ShapeLists) (history : List Event) → IsLegal pace layout shapes history →
     pace.trigger ≡ 0 → Each (FreesTheUnretained layout) history
+
+-- where the event begins a cycle, that is a full one
+abbrev pub BeginsFull : List Event → Event → Type 0
+BeginsFull before event = (cycle : ℕ) (full : Bool) → event.entry ≡ Begin cycle full → full ≡ true
+
+-- in every scheduled history each cycle is a full one
+abbrev pub CyclesAreFull : Type 0
+CyclesAreFull =
+    (pace : Pace) (layout : Layout) (history : List Event) → IsScheduled pace layout history → Each BeginsFull history
+
+-- where the event ends a cycle, that spares no cell
+abbrev pub SparesNone : Layout → List Event → Event → Type 0
+SparesNone layout before event =
+    (cycle : ℕ) (freed : List ℕ) → event.entry ≡ End cycle freed → (cell : ℕ) → IsSpared layout before cell → ⊥
+
+-- in every legal history no cycle that ends spares a cell
+abbrev pub EndsSpareNone : Type 0
+EndsSpareNone =
+    (pace : Pace) (layout : Layout) (shapes : ShapeLists) (history : List Event) → IsLegal pace layout shapes history →
+    Each (SparesNone layout) history

@@ -34,8 +34,8 @@ StandsFull layout before who class =
 abbrev pub IsAlone : Layout → State → ℕ → Type 0
 IsAlone layout state who = (other : ℕ) → other < layout.mutators → state.active other ≡ true → other ≡ who
 
--- A refusal for room stands where no block has room. A mutator that is alone has itself taken each block that was taken
--- in this part, and sweeps it before it is refused.
+-- A refusal for room stands where no block has room. Where no other mutator is active, each block that was taken in
+-- this part is swept before it: one who retired had finished its sweeps.
 pub record StandsRefused (layout : Layout) (before : List Event) (who class : ℕ) : Type 0 where
   pub full : StandsFull layout before who class
   pub alone : IsAlone layout (state_after layout before) who → TakenAreSwept (since is_open before)

@@ -4,6 +4,8 @@
 ghost use Rattle.tide_model.specs.Laws.{
   BeginningsAreLawful,
   CyclesAreExact,
+  CyclesAreFull,
+  EndsSpareNone,
   NoCellIsClaimedTwice,
   NoReferenceDangles,
   OldCellsAreLive,
@@ -40,4 +42,10 @@ pub fn refusals_change_nothing()
 /// begins and ends in one freeze, however many mutators and visitors there are.
 pub fn cycles_are_exact()
     ensures exact { CyclesAreExact }
+{}
+
+/// Each cycle of a scheduled history is a full one, as yet; so no end of a legal history keeps a cell for its age alone.
+pub fn cycles_are_full()
+    ensures full { CyclesAreFull }
+    ensures spared { EndsSpareNone }
 {}

@@ -32,7 +32,7 @@ state_of store = state_of_contents store.contents
 abbrev pub is_old : Plain → ℕ → Bool
 is_old store cell = slice_index_or store.kept cell false
 
--- a collection keeps the cell whatever retains it: it is no full one, and the cell is old
+-- a collection keeps the cell for its age alone: it is no full one, and the cell is old
 abbrev pub IsSpared : Plain → Bool → ℕ → Type 0
 IsSpared store full cell = (not full && is_old store cell) ≡ true
 
