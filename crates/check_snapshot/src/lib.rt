@@ -23,8 +23,8 @@ use lines::Lines;
 use std::alloc::{AllocError, Global};
 pub use timing::time_large;
 
-/// Makes the check that words say, but for `time`, which `time_large` makes, tells what was otherwise than expected, and
-/// answers whether all was as expected.
+/// Makes the check that words say, but for `time`, which `time_large` makes, tells what was otherwise than expected,
+/// and answers whether all was as expected.
 pub fn check_snapshot(
     alloc: Global,
     findings: &mut String,

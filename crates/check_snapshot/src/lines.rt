@@ -5,8 +5,8 @@
 //!
 //! - `line CELL` is answered with the line of a cell, `dead` where it isn't live, and `unended` where it doesn't end;
 //! - `line CELL within ROOM` with what a sink with room for so many bytes holds of it, and `all` or `failed`;
-//! - `lines` with the lines of all live cells, ` | ` between them, and `lines within ROOM` with what a sink with room for
-//!   so many bytes holds of them;
+//! - `lines` with the lines of all live cells, ` | ` between them, and `lines within ROOM` with what a sink with room
+//!   for so many bytes holds of them;
 //! - `distance CELL` with how far it is, and `none` where nothing retains it;
 //! - `distances` with each cell that is retained and how far it is.
 //!

@@ -95,8 +95,8 @@ impl Shot {
         Ok(Some(held_by(alloc, &sink, is_whole)?))
     }
 
-    /// What a sink with room for so many bytes holds once the lines of all live cells were written to it, and whether all
-    /// of these were.
+    /// What a sink with room for so many bytes holds once the lines of all live cells were written to it, and whether
+    /// all of these were.
     pub fn lines(&self, alloc: Global, room: usize) -> Result<Written, AllocError> {
         let mut sink = sink_for(alloc, room)?;
         let is_whole = self.snapshot.write_lines(&mut sink, &self.load).is_ok();

@@ -7,7 +7,8 @@ use std::io;
 use std::io::Eprint;
 use std::time::{Clock, Duration, Instant};
 
-/// Takes a snapshot of a large heap once. Answers how long that took, or `None` where a cell isn't as far as it should be.
+/// Takes a snapshot of a large heap once. Answers how long that took, or `None` where a cell isn't as far as it should
+/// be.
 fn time_one<R: Clock>(rt: &R, alloc: Global, large: &mut Large) -> io::Result<Option<Duration>> {
     let Some(load) = workload_of(alloc, "")? else {
         return Ok(None);
@@ -25,8 +26,8 @@ fn time_one<R: Clock>(rt: &R, alloc: Global, large: &mut Large) -> io::Result<Op
 }
 
 /// Takes so many snapshots of the heap of this kind, of so many blocks a class, and tells the least time of one, in
-/// nanoseconds: that of `take`, and of the look before it at the shapes that the words name. Answers whether the words say
-/// such a heap, all of whose cells are as far as they should be.
+/// nanoseconds: that of `take`, and of the look before it at the shapes that the words name. Answers whether the words
+/// say such a heap, all of whose cells are as far as they should be.
 pub fn time_large<R: Clock + Eprint>(
     rt: &R,
     alloc: Global,

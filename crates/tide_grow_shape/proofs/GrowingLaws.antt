@@ -5,7 +5,7 @@ use Rattle.std.proofs.lemmas.Bool.{cases_eq}
 use Rattle.std.proofs.lemmas.List.{get_or_default}
 use Rattle.std.proofs.lemmas.List.Quantifiers.{all_pairs_push}
 use Rattle.std.proofs.lemmas.List.Elements.{All-contains, All-nil, All-push, All-weaker}
-use Rattle.std.specs.Prelude.{IfOk, All, Contains, OnErr, OnOk, is_some}
+use Rattle.std.specs.Prelude.{IfOk, Contains, OnErr, OnOk, is_some}
 use Rattle.tide_shape.specs.ShapeTable.{HasNoKeyTwice}
 use Rattle.tide_grow_shape.specs.Grown.{Fact, Knowledge, IsKnowledge, Table, known_keys, learned}
 use Rattle.tide_sights.specs.Cells.{keys_in, last_in, name_of}

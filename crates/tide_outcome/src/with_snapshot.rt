@@ -18,8 +18,8 @@ use tide_snapshot::Snapshot;
 use tide_threads::{HeapRun, run_with_snapshot as run_to_snapshot};
 use tide_workload::Workload;
 
-/// Runs a workload on one heap as `run` does, and takes a snapshot of the last state of its history. Lines of the snapshot
-/// may be written under the names of this workload's keys.
+/// Runs a workload on one heap as `run` does, and takes a snapshot of the last state of its history. Lines of the
+/// snapshot may be written under the names of this workload's keys.
 pub fn run_with_snapshot<R: Threads + Sync, T: Turnstile>(
     rt: &R,
     alloc: Global,

@@ -1,4 +1,5 @@
-//! `Index`: items under labels, such as cells under their groups. It knows neither.
+//! `Index`: items under labels, and the two that a search asks: cells under their groups, and tables under the keys of
+//! their pairs. It knows no word.
 ghost use Rattle.std.specs.Prelude.{◌≡◌, ◌↔◌, ◌≤◌, [], ◌∷◌, ◌++◌, length, Contains, IfOk, OnOk};
 ghost use Rattle.std.specs.List.{flat_map};
 ghost use Rattle.tide_retained.specs.Index.{entry, group_entries, key_entries, up_to, AreUnder, HasGroups, HasKeys};

@@ -1,4 +1,4 @@
-//! The laws of snapshots that others cite. They have no code.
+//! The laws of snapshots: what a path shows, and of which words a snapshot may be taken. They have no code.
 ghost use Rattle.tide_retained.specs.Holding.{ReadsNameShapes};
 ghost use Rattle.tide_retained.specs.Path.{DistancesAreAlone, PathsRetain};
 

@@ -1,4 +1,4 @@
-//! Reading what a cell holds from the words. It knows no other cell.
+//! Reading what the live cells hold from the words: their keys, links, groups and pairs. It searches nothing.
 ghost use Rattle.std.specs.Prelude.{◌≡◌, ◌⊎◌, ◌↔◌, ◌<◌, ◌≤◌, ◌^◌, ℕ, Contains, Option, Some, length, slice_get, slice_index, IfOk, IfSome, OnOk, true};
 ghost use Rattle.tide_layout.specs.Region.{index_of_register, size_of, word_count};
 ghost use Rattle.tide_layout.specs.Slots.{HasElement, HasSlot};

@@ -143,8 +143,8 @@ impl Retained {
         }
     }
 
-    /// Notes cells of the path to a cell, one behind another, from the one that is so many steps from its first on: as many
-    /// as there is room for. It takes no memory, and little more time than to note them.
+    /// Notes cells of the path to a cell, one behind another, from the one that is so many steps from its first on: as
+    /// many as there is room for. It takes no memory, and little more time than to note them.
     pub fn cells_on_way(&self, cell: u32, steps: u32, cells: &mut [u32])
         requires { steps < length (cells_on (path_of self.now cell)) }
         ensures same_size { length cells.new ≡ length cells.old }

@@ -155,7 +155,8 @@ fn note_up_from(found: &[Option<Found>], last: u32, cells: &mut [u32], count: us
     }
 }
 
-/// Notes cells on the way to a cell, one behind another, from the one at this distance on: as many as there is room for.
+/// Notes cells on the way to a cell, one behind another, from the one at this distance on: as many as there is room
+/// for.
 #[tactic(auto, using(crate::proofs::TrailLaws::on_way_to_end, crate::proofs::TrailLaws::on_way_in_room))]
 pub(crate) fn note_way(
     found: &[Option<Found>],

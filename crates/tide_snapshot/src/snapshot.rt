@@ -42,8 +42,8 @@ impl Model for Snapshot {
 }
 
 /// A snapshot of the state that the words read as: what each live cell holds, what the roots hold, and a shortest path
-/// to each cell that is retained. It takes memory for all of this, and changes no word. Of the words it asks no more than
-/// that the structures of live cells name shapes of the table, as those of a state do
+/// to each cell that is retained. It takes memory for all of this, and changes no word. Of the words it asks no more
+/// than that the structures of live cells name shapes of the table, as those of a state do
 /// (`tide_retained::laws::states_may_be_taken`).
 pub fn take<W: Words, S: ShapeTable>(
     alloc: Global,
@@ -103,8 +103,8 @@ impl Snapshot {
         write_cell_line(out, names_of(load), &self.retained, cell)
     }
 
-    /// Writes the lines of all cells that were live, in rising order. The workload is the one whose paths made the shapes
-    /// that the snapshot was taken with. It takes no memory.
+    /// Writes the lines of all cells that were live, in rising order. The workload is the one whose paths made the
+    /// shapes that the snapshot was taken with. It takes no memory.
     pub fn write_lines<K: Sink>(&self, out: &mut K, load: &Workload) -> Result<(), Failed>
         requires shapes { HasKeysOf (shapes_of_paths load.now.paths) self.now }
         ensures whole { OnOk result ((text : List ℕ) × AreLinesIn self.now load.now.keys text

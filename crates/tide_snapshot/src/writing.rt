@@ -246,8 +246,8 @@ fn write_held<K: Sink>(out: &mut K, names: &Keys, cell: u32, held: &Held) -> Res
     write_group(out, held.group)
 }
 
-/// The cell on the way to a cell that is so many steps from its first: out of a stretch of the way, where it has this cell;
-/// else the stretch from there on is looked up in its place.
+/// The cell on the way to a cell that is so many steps from its first: out of a stretch of the way, where it has this
+/// cell; else the stretch from there on is looked up in its place.
 fn cell_on_way(
     retained: &Retained,
     cell: u32,

@@ -38,7 +38,8 @@ pub(crate) fn snapshot_of(
     take(alloc, &mut frozen, heap.layout(), heap.shapes())
 }
 
-/// Runs the scripts of a heap's mutators as `run_on_threads` does, and takes a snapshot of what the heap holds at the end.
+/// Runs the scripts of a heap's mutators as `run_on_threads` does, and takes a snapshot of what the heap holds at the
+/// end.
 pub fn run_with_snapshot<R: Threads + Sync, T: Turnstile>(
     rt: &R,
     alloc: Global,
