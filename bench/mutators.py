@@ -5,8 +5,10 @@
 PROGRAM is crates/riptide/out/riptide where it isn't given. Each of 1, 2, 4, 8 and 16 mutators makes a cell of its own and
 then 16,383 gets, puts and moves, all in one part. The runs of each number are made TIMES times (11), in turn, and medians
 are printed of the part alone, as bench/freezes.c tells it, which gcc builds: from where the first thread is started to where
-the last is joined. Where one mutator has calls, a second one has none, so that a thread is started there too. The last column
-is how many times as many calls a second all of them make as one does. It asks for as many processors as mutators.
+the last is joined. Where one mutator has calls, a second one has none, so that a thread is started there too. The last but
+one column is how many times as many calls a second all of them make as one does. The last is the same of the threads of
+bench/lines.c, each of which stores a word in a line of its own for as long as a part takes, in turn with the parts: more than
+these the machine doesn't give. It asks for as many processors as mutators.
 """
 import os
 import re
@@ -48,6 +50,11 @@ def part(program, path, shim):
     return int(told[1])
 
 
+def stores(threads, count):
+    """The microseconds that so many threads of bench/lines.c take."""
+    return int(subprocess.run([threads, str(count)], stdout=subprocess.PIPE, check=True).stdout)
+
+
 def main():
     program = sys.argv[1] if len(sys.argv) > 1 else os.path.join(HERE, "..", "crates", "riptide", "out", "riptide")
     times = int(sys.argv[2]) if len(sys.argv) > 2 else 11
@@ -56,15 +63,21 @@ def main():
         shim = os.path.join(room, "freezes.so")
         paths = [os.path.join(room, f"{mutators}.toml") for mutators in numbers]
         subprocess.run(["gcc", "-O2", "-shared", "-fPIC", "-o", shim, os.path.join(HERE, "freezes.c"), "-ldl"], check=True)
+        threads = os.path.join(room, "lines")
+        subprocess.run(["gcc", "-O2", "-pthread", "-o", threads, os.path.join(HERE, "lines.c")], check=True)
         for mutators, path in zip(numbers, paths):
             write(path, mutators)
-        each = zip(*[[part(program, path, shim) for path in paths] for _ in range(times)])
-        medians = [statistics.median(runs) for runs in each]
-        print("| Mutators | A part, microseconds | A call, nanoseconds | Calls a second, times those of one |")
-        print("|---|---|---|---|")
-        for mutators, took in zip(numbers, medians):
+        each = []
+        for _ in range(times):
+            each.append([part(program, path, shim) for path in paths] + [stores(threads, count) for count in numbers])
+        medians = [statistics.median(runs) for runs in zip(*each)]
+        parts, loops = medians[:len(numbers)], medians[len(numbers):]
+        print("| Mutators | A part, microseconds | A call, nanoseconds | Calls a second, times those of one | Stores alone |")
+        print("|---|---|---|---|---|")
+        for mutators, took, loop in zip(numbers, parts, loops):
             calls = 1e3 * took / (mutators * CALLS)
-            print(f"| {mutators} | {took:.0f} | {calls:.0f} | {mutators * medians[0] / took:.2f} |", flush=True)
+            gains = f"{mutators * parts[0] / took:.2f} | {mutators * loops[0] / loop:.2f}"
+            print(f"| {mutators} | {took:.0f} | {calls:.0f} | {gains} |", flush=True)
 
 
 if __name__ == "__main__":
