@@ -38,6 +38,7 @@ table run bash bench/run.sh
 table one_mutator python3 bench/twin/one_mutator.py crates/riptide/out/riptide 9
 table threads python3 bench/twin/threads.py
 table mutators python3 bench/mutators.py
+table allocations python3 bench/allocations.py
 table visitors python3 bench/visitors.py crates/riptide/out/riptide 5
 table peers python3 bench/peers/peers.py
 table marking bash bench/marking.sh

@@ -39,6 +39,13 @@ def write(path, mutators):
             file.write("]\n")
 
 
+def made_shim(room):
+    """bench/freezes.c, built in a folder."""
+    shim = os.path.join(room, "freezes.so")
+    subprocess.run(["gcc", "-O2", "-shared", "-fPIC", "-o", shim, os.path.join(HERE, "freezes.c"), "-ldl"], check=True)
+    return shim
+
+
 def part(program, path, shim):
     """The microseconds of the one part of a run."""
     with open(path) as source:
@@ -60,9 +67,8 @@ def main():
     times = int(sys.argv[2]) if len(sys.argv) > 2 else 11
     numbers = (1, 2, 4, 8, 16)
     with tempfile.TemporaryDirectory() as room:
-        shim = os.path.join(room, "freezes.so")
+        shim = made_shim(room)
         paths = [os.path.join(room, f"{mutators}.toml") for mutators in numbers]
-        subprocess.run(["gcc", "-O2", "-shared", "-fPIC", "-o", shim, os.path.join(HERE, "freezes.c"), "-ldl"], check=True)
         threads = os.path.join(room, "lines")
         subprocess.run(["gcc", "-O2", "-pthread", "-o", threads, os.path.join(HERE, "lines.c")], check=True)
         for mutators, path in zip(numbers, paths):

@@ -1,5 +1,5 @@
 -- PairSet, PairDel and PairGet: the step on the pair's word makes the call.
-use Rattle.std.proofs.Common.{ℕ, ◌≡◌, ◌≢◌, refl, sym, ◌∙◌, ap, subst, arith, Bool, true, false, List, [], ◌∷◌, None, Option, Some, inl, inr}
+use Rattle.std.proofs.Common.{ℕ, ◌≡◌, refl, sym, ◌∙◌, ap, subst, arith, Bool, true, false, List, [], ◌∷◌, None, Option, Some, inl, inr}
 use Rattle.std.specs.Prelude.{◌&&◌, nat_le, not}
 use Rattle.tide_call.specs.CallWords.{HasPairAt, IsPlaceFor}
 use Rattle.tide_call.specs.Callers.{Caller}
@@ -38,7 +38,7 @@ use Rattle.tide_linking.proofs.OwnFound.{own_found}
 use Rattle.tide_paying.proofs.Standing.{moment_in, stands_then}
 use Rattle.tide_paying.specs.Calling.{IsCalling}
 use Rattle.tide_paying.specs.Made.{HasMade}
-use Rattle.tide_paying.specs.Standing.{IsPlanned, StandsAt, caller_of}
+use Rattle.tide_paying.specs.Standing.{IsPlanned, caller_of}
 use Rattle.tide_steps.specs.Follows.{Follows, FollowsSome, MayStep}
 use Rattle.tide_words.specs.forms.PairWord.{pair_word}
 use Rattle.tide_words.specs.forms.ValueWord.{val_word}

@@ -2,11 +2,13 @@
 //!
 //! Each function acts on one plan: a cell is taken, a slot or a handle or a pair is stored or loaded, a cell is claimed
 //! or given back. One step makes the call's entry in the history, and what the call owes then is paid by `tide_paying`.
-//! It knows no property and no group, and which plan a call has it is told.
+//! It knows no property and no group, and which plan a call has it is told. Where a search of something free begins is
+//! told by `hints`, of arrays too.
 #![tactic(auto)]
 
 pub mod births;
 pub mod claiming;
 pub mod handles;
+pub mod hints;
 pub mod pairs;
 pub mod slots;

@@ -18,6 +18,7 @@ use tide_call::Plan;
 use tide_linking::births::take;
 use tide_linking::claiming::{claim, release};
 use tide_linking::handles::{get_strong, get_weak, put_strong, put_weak};
+use tide_linking::hints::Hints;
 use tide_linking::pairs::{drop_pair, get_pair, put_pair};
 use tide_linking::slots::{get, put};
 use tide_model::{Op, Reply, Turnstile};
@@ -71,6 +72,7 @@ fn act_without_growth<S: HeapShapes, T: Turnstile>(
     pass: &mut Pass,
     heap: &Heap<S>,
     gate: &T,
+    hints: &mut Hints,
     op: Op,
     calls: u64,
     plan: Plan,
@@ -89,7 +91,7 @@ fn act_without_growth<S: HeapShapes, T: Turnstile>(
 {
     match plan {
         Plan::Refuse { refusal } => refuse(pass, heap, op, calls, refusal),
-        Plan::Take { dst, class } => take(pass, heap, op, calls, dst, class),
+        Plan::Take { dst, class } => take(pass, heap, hints, op, calls, dst, class),
         Plan::LoadSlot { dst, cell, slot } => get(pass, heap, op, calls, dst, cell, slot),
         Plan::StoreSlot { cell, slot, value } => put(
             pass, heap, gate, op, calls, cell, slot, value,
@@ -120,6 +122,7 @@ pub(crate) fn act<S: HeapShapes, T: Turnstile>(
     pass: &mut Pass,
     heap: &Heap<S>,
     gate: &T,
+    hints: &mut Hints,
     op: Op,
     calls: u64,
     plan: Plan,
@@ -141,7 +144,9 @@ pub(crate) fn act<S: HeapShapes, T: Turnstile>(
             array,
             class,
             value,
-        } => grow(pass, heap, gate, op, calls, addition, array, class, value),
-        _ => act_without_growth(pass, heap, gate, op, calls, plan),
+        } => grow(
+            pass, heap, gate, hints, op, calls, addition, array, class, value,
+        ),
+        _ => act_without_growth(pass, heap, gate, hints, op, calls, plan),
     }
 }

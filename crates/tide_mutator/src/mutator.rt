@@ -5,12 +5,15 @@ ghost use Rattle.tide_machine.specs.May.{Rests};
 
 use crate::own::OwnPass;
 use tide_call::Claims;
+use tide_linking::hints::Hints;
 
 /// A mutator, with its right to step on a heap. Between its calls it owes nothing.
 #[derive(Drop)]
 pub struct Mutator {
     pub(crate) own: OwnPass,
     pub(crate) claims: Claims,
+    /// Where its searches go on in this part.
+    pub(crate) hints: Hints,
     /// How many calls it made, modulo 2^64.
     pub(crate) calls: u64,
     ghost rests: { Rests own.pass.seat.me.0 },
