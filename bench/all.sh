@@ -37,6 +37,7 @@ table() { # NAME COMMAND..
 table run bash bench/run.sh
 table one_mutator python3 bench/twin/one_mutator.py crates/riptide/out/riptide 9
 table threads python3 bench/twin/threads.py
+table operations python3 bench/operations.py
 table mutators python3 bench/mutators.py
 table allocations python3 bench/allocations.py
 table visitors python3 bench/visitors.py crates/riptide/out/riptide 5

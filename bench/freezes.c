@@ -80,11 +80,22 @@ __attribute__((constructor)) static void begin(void)
     first = pthread_self();
 }
 
-/* The program ends so, and no destructor runs. */
-void _exit(int status)
+static void tell(void)
 {
     fprintf(stderr, "%d freezes, %.0f microseconds in all, the longest %.0f\n", count, sum, longest);
     fprintf(stderr, "%d parts, %.0f microseconds in all, the longest %.0f\n", parts, parts_sum, longest_part);
+}
+
+/* A program that ends otherwise tells it here, as the twin does. */
+__attribute__((destructor)) static void end(void)
+{
+    tell();
+}
+
+/* The program ends so, and no destructor runs. */
+void _exit(int status)
+{
+    tell();
     syscall(SYS_exit_group, status);
     __builtin_unreachable();
 }

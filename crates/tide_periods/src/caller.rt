@@ -54,6 +54,7 @@ impl Caller {
     }
 
     /// Records a reply, and answers whether the mutator stops for this part.
+    #[inline(always)]
     pub fn take(&mut self, op: Op, reply: Reply) -> Result<bool, Memory>
         ensures took { IfOk result (λ stops. TookReply self.old self.new op reply) }
         ensures stops { IfOk result (λ stops. stops ≡ (is_asked reply || (not self.old.retry && is_full_reply reply))) }
