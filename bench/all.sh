@@ -40,6 +40,8 @@ table threads python3 bench/twin/threads.py
 table operations python3 bench/operations.py
 table mutators python3 bench/mutators.py
 table allocations python3 bench/allocations.py
+table pauses python3 bench/pauses.py
+table squares python3 bench/squares.py
 table visitors python3 bench/visitors.py crates/riptide/out/riptide 5
 table peers python3 bench/peers/peers.py
 table marking bash bench/marking.sh
