@@ -3,11 +3,12 @@
     python3 bench/allocations.py [TIMES [PROGRAM...]]
 
 PROGRAM is crates/riptide/out/riptide where none is given; of several each has a row, and they run in turn. One mutator
-allocates in the five classes of the largest heap in turn, all in one part: a quarter of its 20,480 cells, three quarters
-of them, all, and five, each TIMES times (21). Of each run the part alone is timed, as bench/freezes.c tells it, from where
-the first thread is started to where the last is joined; a second mutator has no calls, so that a thread is started. A
-figure is the difference of two medians over the allocations between them: of the first quarter, in which a search from the
-first block of a class looks at 8 blocks in the mean, of the last, in which it looks at 56, and of all, 32.
+allocates in the five classes of the largest heap in turn, all in one part: a quarter of its 20,480 cells, three
+quarters of them, all, and five, each TIMES times (21). Of each run the part alone is timed, as bench/freezes.c tells
+it, from where the first thread is started to where the last is joined; a second mutator has no calls, so that a thread
+is started. A figure is the difference of two medians over the allocations between them: of the first quarter, in which
+a search from the first block of a class looks at 8 blocks in the mean, of the last, in which it looks at 56, and of
+all, 32.
 """
 import os
 import statistics

@@ -1,14 +1,15 @@
-"""What one operation takes: 60,000 calls of each in one part, on riptide and on the unproved twin of bench/twin/twin.rs.
+"""What one operation takes, on riptide and on the unproved twin of bench/twin/twin.rs: many calls of each in one part.
 
     python3 bench/operations.py [PROGRAM [TIMES]]
 
 PROGRAM is crates/riptide/out/riptide where it isn't given; `cd crates/riptide && rt run < stdin` builds it. The twin is
-built by rustc and bench/freezes.c by gcc, into a folder of their own. One mutator makes what the calls need, and then the
-calls, all in one part; a second mutator has none, so that both programs start a thread for the part. The two programs are
-run TIMES times (11) on each workload, in turn. A part is timed by bench/freezes.c, from where its first thread is started to
-where the last is joined. What a part of the same workload without the calls takes is taken off, by medians, so that what is
-left is the calls alone, with the first touch of the list that keeps their replies. A ratio is that of medians, and holds
-within one run of this script alone. It asks for two processors.
+built by rustc and bench/freezes.c by gcc, into a folder of their own. One mutator makes what the calls need, and then
+the calls, all in one part; a second mutator has none, so that both programs start a thread for the part. The two
+programs are run TIMES times (11) on each workload, in turn. There are 60,000 calls of each operation, but of `alloc`
+16,384: all cells that are no tables. A part is timed by bench/freezes.c, from where its first thread is started to
+where the last is joined. What a part of the same workload without the calls takes is taken off, by medians, so that
+what is left is the calls alone, with the first touch of the list that keeps their replies. A ratio is that of medians,
+and holds within one run of this script alone. It asks for two processors.
 """
 import os
 import statistics
@@ -44,7 +45,7 @@ OPERATIONS = [
     ("pair", TABLE, ["pair r0 r1 r1"]),
     ("pget", TABLE, ["pget r2 r0 r1"]),
 ]
-# A heap has no room for more allocations than these: all cells of each class, one class after another.
+# All cells of the four classes that are no tables, one class after another: there is room for no more.
 ALLOCATIONS = [f"alloc r1 {size}" for size in range(4) for _ in range(4096)]
 
 

@@ -2,12 +2,13 @@
 
     python3 bench/pauses.py [PROGRAM [TIMES]]
 
-PROGRAM is crates/riptide/out/riptide where it isn't given; `cd crates/riptide && rt run < stdin` builds it. The twin is built
-by rustc and bench/freezes.c, which tells of freezes, by gcc, into a folder of their own. The two programs are run TIMES times
-(11) on each workload, in turn, and medians are printed: of all freezes of a run together, and of the longest of them.
+PROGRAM is crates/riptide/out/riptide where it isn't given; `cd crates/riptide && rt run < stdin` builds it. The twin is
+built by rustc and bench/freezes.c, which tells of freezes, by gcc, into a folder of their own. The two programs are run
+TIMES times (11) on each workload, in turn, and medians are printed: of all freezes of a run together, and of the
+longest of them.
 
 - `--make 7` is the generated workload: four mutators, 80,004 calls, 16,000 cells.
-- `full of live cells` is the largest heap, 20,480 cells in one chain, with a table at each of the first 4,096. Its cycle is
+- `full of live cells` is the largest heap: 16,384 cells in one chain, with a table at each of the first 4,096. It is
   collected by a freeze that is a must, and once more at the end of the run.
 - In `full of dead cells` the chain dies before it is collected.
 - In `dead cells and arrays` 16,384 cells die, and with 4,096 of them the array of their property.

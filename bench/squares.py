@@ -1,16 +1,18 @@
-"""Heaps that a collection marks a cell a round: what one freeze takes in which each pass over all cells gives one cell more.
+"""Heaps that a collection marks a cell a round: what one freeze takes in which each pass over all cells gives one cell
+more.
 
     python3 bench/squares.py [PROGRAM [TIMES]]
 
-PROGRAM is crates/riptide/out/riptide where it isn't given; `cd crates/riptide && rt run < stdin` builds it. Each workload
-makes a chain of cells out of ordinary operations and collects once while a register keeps all of it. Each is made in a
-quarter of its size too: where the time is four times as long for the whole, the cost is linear, and where it is sixteen
-times as long, it is a square. The twin (bench/twin/twin.rs, which rustc builds) and the plain store run the same files; the
-three are run TIMES times (3) in turn, and the least counts: of the longest freeze, as bench/freezes.c tells it, which gcc
-builds, and of the processor's seconds of each whole run. It ends with 1 where a chain isn't kept whole, or a text differs.
+PROGRAM is crates/riptide/out/riptide where it isn't given; `cd crates/riptide && rt run < stdin` builds it. Each
+workload makes a chain of cells out of ordinary operations and collects once while a register keeps all of it. Each is
+made in a quarter of its size too: where the time is four times as long for the whole, the cost is linear, and where it
+is sixteen times as long, it is a square. The twin (bench/twin/twin.rs, which rustc builds) and the plain store run the
+same files; the three are run TIMES times (3) in turn, and the least counts: of the longest freeze, as bench/freezes.c
+tells it, which gcc builds, and of the processor's seconds of each whole run. It ends with 1 where a chain isn't kept
+whole, or a text differs.
 
-- keys: each cell is the key of a pair whose value is the next one, in tables that are all kept. The first pair of the chain
-  stands in the last place of the last table, so that a pass over the tables from the first on meets each pair too soon.
+- keys: each cell is the key of a pair whose value is the next one, in tables that are all kept. The first pair of the
+  chain is the last one of the last table, so that a pass over the tables from the first on meets each pair too soon.
 - turns: cells that hold one another by a slot and by a group in turn.
 - pairs: each table has one pair, whose value is in a group with the next table.
 """
