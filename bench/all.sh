@@ -5,7 +5,7 @@
 #
 # It runs crates/riptide/out/riptide and crates/checks/out/checks, as the gate builds them. Each file begins with the
 # commit, the load of the machine and how much of its processors other work had before the script, and ends with the
-# load behind it: tables hold for a machine with nothing else to do. It takes a quarter of an hour.
+# load behind it: tables hold for a machine with nothing else to do.
 set -u
 
 here=$(cd "$(dirname "$0")" && pwd)
