@@ -167,9 +167,15 @@ impl<'a, S: ShapeTable> Caller<'a, S> {
             slice_index result place ≡ slot_word self.now.layout heap table place) }
         ensures owns { Leaves (O.owns own.old) (O.owns own.new) context.now self.now (O.rest own.old) (O.rest own.new) }
     {
+        // The pairs of a table lie side by side.
+        let first = self.layout.slot(table, 0);
+        let end = self.layout.words();
+        prove!(first < end);
         let mut words = [0; 8];
         for place in 0..PAIRS {
-            words[usize::from(place)] = own.pair(context, self.layout, self.who, table, place);
+            let past = usize::from(place);
+            let at = first + past;
+            words[past] = own.pair(context, self.layout, self.who, table, place, at);
         }
         words
     }

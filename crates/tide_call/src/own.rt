@@ -1,6 +1,6 @@
 //! `OwnRegisters` and `OwnWords`: the words that a mutator alone changes, wherever they are. They know no operation.
 ghost use Rattle.std.specs.Prelude.{◌≡◌, ◌<◌, ℕ, Some, true};
-ghost use Rattle.tide_layout.specs.Region.{index_of_register};
+ghost use Rattle.tide_layout.specs.Region.{index_of_register, place_of_slot};
 ghost use Rattle.tide_layout.specs.Slots.{HasSlot};
 ghost use Rattle.tide_layout.specs.declared.region.Region.TheVariants.{Array, Claim, Registers, Structure};
 ghost use Rattle.tide_model.specs.Layout.{Layout as PlainLayout, cell_count};
@@ -62,11 +62,20 @@ pub trait OwnWords<C>: OwnRegisters<C> {
         ensures owns { LeavesOwn (Self.owns self.old) (Self.owns self.new) context.now layout.now who
             (Self.rest self.old) (Self.rest self.new) };
 
-    /// The word at a place of a table, which the mutator claims.
-    fn pair(&mut self, context: &C, layout: &Layout, who: u32, table: u32, place: u8) -> u64
+    /// The word at a place of a table, which the mutator claims. It lies `at` this place among all words.
+    fn pair(
+        &mut self,
+        context: &C,
+        layout: &Layout,
+        who: u32,
+        table: u32,
+        place: u8,
+        at: usize,
+    ) -> u64
         requires mutator { who < layout.now.mutators }
         requires of_layout { HasSlot layout.now table place }
         requires table { is_table layout.now table ≡ true }
+        requires at { at ≡ place_of_slot layout.now table place }
         requires claimed { (heap : Heap) → Self.owns self.old context.now layout.now who heap →
             heap Claim table ≡ claim_word (Some who) }
         requires known { (heap : Heap) × Self.owns self.old context.now layout.now who heap }

@@ -44,7 +44,8 @@ impl<S: HeapShapes> OwnWords<Heap<S>> for OwnPass {
         _who: u32,
         table: u32,
         place: u8,
+        at: usize,
     ) -> u64 {
-        self.pass.load_pair(context, table, place, None)
+        self.pass.load_pair_at(context, table, place, at)
     }
 }

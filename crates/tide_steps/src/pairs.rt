@@ -1,5 +1,6 @@
 //! A mutator's steps on claims, on the pairs of a table, and on groups.
-ghost use Rattle.std.specs.Prelude.{◌<◌};
+ghost use Rattle.std.specs.Prelude.{◌≡◌, ◌<◌, None};
+ghost use Rattle.tide_layout.specs.Region.{place_of_slot};
 ghost use Rattle.tide_layout.specs.Slots.{HasSlot};
 ghost use Rattle.tide_machine.specs.Kind.{LoadClaim, LoadPair, Release, StoreGroup, StorePair, TakeClaim};
 ghost use Rattle.tide_model.specs.Layout.{cell_count};
@@ -49,6 +50,22 @@ impl Pass {
         let at = heap.place(Region::Claim, cell);
         let word = claim_word(None);
         self.make_step(heap, at, Act::Store(word), Step::Release(cell, made));
+    }
+
+    /// Loads the word of a pair of a table that it claims from its place, which is known. No call sees it.
+    pub fn load_pair_at<S: HeapShapes>(
+        &mut self,
+        heap: &Heap<S>,
+        table: u32,
+        place: u8,
+        at: usize,
+    ) -> u64
+        requires within { HasSlot heap.now.key.layout table place }
+        requires at { at ≡ place_of_slot heap.now.key.layout table place }
+        requires may { CanStep S.lists heap.now self.old (LoadPair table place None) }
+        ensures step { HasStepped S.lists heap.now (LoadPair table place None) self.old result self.new }
+    {
+        self.make_step(heap, at, Act::Load, Step::LoadPair(table, place, None))
     }
 
     /// Loads the word of a pair of a table that it claims, and sees the value by a call, or doesn't.

@@ -1,9 +1,10 @@
 -- What the words of a table say of its pairs.
-use Rattle.std.proofs.Common.{ℕ, ◌≡◌, ◌<◌, refl, sym, ◌∙◌, ap, arith, Bool, true, false, List, Option, None, Some, inl, inr}
+use Rattle.std.proofs.Common.{ℕ, ◌≡◌, ◌+◌, ◌<◌, refl, sym, ◌∙◌, ap, arith, Bool, true, false, List, Option, None, Some, inl, inr}
 use Rattle.std.proofs.lemmas.Bool.{eq-eqb, eqb-true, ne_eqb}
 use Rattle.std.proofs.lemmas.Bool.Decides.{nat_tests}
 use Rattle.std.specs.Prelude.{◌==◌, ◌&&◌, is_some, nat_le, not, slice_index}
-use Rattle.tide_layout.specs.Slots.{HasSlot, width_of_class}
+use Rattle.tide_layout.specs.Region.{place_in, place_of_slot}
+use Rattle.tide_layout.specs.Slots.{HasSlot, index_of_slot, width_of_class}
 use Rattle.tide_model.specs.declared.val.Val.{Val}
 use Rattle.tide_model.specs.Layout.{Layout, cell_count, class_of}
 use Rattle.tide_model.specs.Refused.{has_pair, is_table, pair_count, pairs_most}
@@ -148,3 +149,8 @@ module _ (owns : OwnHeaps) (caller : Caller) (heap : Heap) (state : State) (call
   pub place-slot : (key place : ℕ) → IsPlaceAmong words key place → HasSlot layout table place
   place-slot key place (inl (value, stands)) = pair_slot place stands.within
   place-slot key place (inr (lacks, first)) = pair_slot place first.within
+
+-- the words of a cell's slots lie side by side
+pub slot_past : (layout : Layout) (cell past : ℕ) → place_of_slot layout cell 0 + past ≡ place_of_slot layout cell past
+unfolding place_in index_of_slot
+slot_past layout cell past = omega arith

@@ -1,11 +1,13 @@
-use Rattle.std.proofs.Common.{refl, sym, ◌∙◌, ap, arith, inl, inr}
+use Rattle.std.proofs.Common.{ℕ, ◌+◌, refl, sym, ◌∙◌, ap, arith, inl, inr}
 use Rattle.std.proofs.Math.ListN.{length-set}
 use Rattle.std.proofs.lemmas.Bool.{cases_eq}
 use Rattle.std.proofs.lemmas.List.{get_or-set_other}
 use Rattle.std.proofs.lemmas.Grind.{get_or-set_at}
+use Rattle.tide_layout.specs.Region.{place_of_slot}
 use Rattle.tide_words.specs.heap.Reading.{slot_word}
 use Rattle.tide_call.specs.Callers.{Caller}
 use Rattle.tide_call.proofs.plan_laws.OwnLaws.{Leaves-own, claims-there, owned-seen}
+use Rattle.tide_call.proofs.plan_laws.PairPlaces.{slot_past}
 use Rattle.tide_call.proofs.caller.Caller.pairs_of.Goals as goal
 
 pub loop-place-init : goal.loop-place-init
@@ -27,11 +29,17 @@ pub pair-requires-clause-claimed : goal.pair-requires-clause-claimed
 pair-requires-clause-claimed g c = claims-there (g.O.OwnRegisters.owns c.loop-place.own c.args.context.now) _
     c.args.self.now c.self.view_is c.loop-place.invariant.0.0 c.args.table c.requires.claimed c.requires.of_layout
 
+pub pair-requires-clause-at : goal.pair-requires-clause-at
+pair-requires-clause-at g c =
+    ap (λ (n : ℕ). n + c.from-past.result) c.slot-first.ensures.place
+    ∙ slot_past c.self.inside.layout.now c.args.table c.from-past.result
+    ∙ ap (place_of_slot c.self.inside.layout.now c.args.table) c.from-past.ensures
+
 pub loop-place-preserved : goal.loop-place-preserved
 loop-place-preserved g c =
     let words = c.loop-place.words in
-    let at = c.from.result in
-    let is_at = c.from.ensures in
+    let at = c.from-past.result in
+    let is_at = c.from-past.ensures in
     let below = c.loop-place-test.true in
     let before = c.loop-place.invariant.0 in
     let whole = c.loop-place.invariant.1 in
