@@ -4,8 +4,8 @@ use crate::reading::number;
 use std::sync::atomic::{AtomicU32, Ordering};
 use tide_model::Place;
 
-/// Where a participant meets the turnstile: who, at which place, with the number of its call or the cell there, and in which
-/// of its calls, if that is told. A visitor's number is 16 and more, and its call's is 0.
+/// Where a participant meets the turnstile: who, at which place, with the number of its call, the cell or the block
+/// there, and in which of its calls, if that is told. A visitor's number is 16 and more, and its call's is 0.
 #[derive(Drop)]
 pub struct Point {
     who: u32,
@@ -23,6 +23,7 @@ fn place_of(word: &str) -> Option<Place> {
         "linked" => Some(Place::Linked),
         "nuked" => Some(Place::Nuked),
         "stored" => Some(Place::Stored),
+        "taken" => Some(Place::Taken),
         "blackened" => Some(Place::Blackened),
         "scanned" => Some(Place::Scanned),
         _ => None,
@@ -41,8 +42,8 @@ impl Point {
         })
     }
 
-    /// The point that some words begin with, and the words behind it. It is `WHO PLACE WHAT`, or `WHO PLACE WHAT in call CALL`
-    /// where a participant comes to a place with that cell in several calls.
+    /// The point that some words begin with, and the words behind it. It is `WHO PLACE WHAT`, or `WHO PLACE WHAT in call
+    /// CALL` where a participant comes to a place with that cell or block in several calls.
     pub fn first_of<'a, 'b>(words: &'a [&'b str]) -> Option<(Point, &'a [&'b str])> {
         let [who, place, what, behind @ ..] = words else {
             return None;

@@ -1,13 +1,14 @@
 -- Blocks that are swept in a running part, worked out by hand, and what is refused beside them.
 use Rattle.std.specs.Prelude.{◌≡◌, ◌≤◌, ◌==◌, refl, Bool, true, false, List, [], ◌∷◌, ◌++◌, Some}
-use Rattle.std.proofs.Common.{arith, lit<, lit≤}
+use Rattle.std.proofs.Common.{arith, ap, lit<, lit≤, ◌∙◌}
 use Rattle.std.proofs.lemmas.List.Sums.{AllPass-from_list_all}
 use Rattle.tide_model.specs.declared.op.Op.TheVariants.{Alloc, Drop, Retire}
 use Rattle.tide_model.specs.declared.op.Reply.TheVariants.{Done, Born}
+use Rattle.tide_model.specs.declared.entry.Entry.{Entry}
 use Rattle.tide_model.specs.declared.entry.Entry.TheVariants.{Begin, Pause, End, Taken, Sweep, Open}
 use Rattle.tide_model.specs.declared.entry.Event.{Event}
 use Rattle.tide_model.specs.Cycle.{StandsBegin, StandsTaken, dead_cell}
-use Rattle.tide_model.specs.Freeze.{IsFreeze}
+use Rattle.tide_model.specs.Freeze.{IsFreeze, pause_entries}
 use Rattle.tide_model.specs.History.{one_later, plain}
 use Rattle.tide_model.specs.Pace.{Pace}
 use Rattle.tide_model.specs.Periods.{Period, StandsPeriod, no_period, one_more, IsScheduled, EndsInTime, after_period}
@@ -241,3 +242,22 @@ marked_first = plain (Open 1 4) ∷ born_and_freed.part ++ plain (Begin 1 true) 
 
 pub block_is_swept_while_marking : StandsPeriod short small marked_first first_cell → ⊥
 block_is_swept_while_marking stands = let is : false ≡ true = stands.calls refl 0 (plain (Taken 0)) (lit< tt) in cc
+
+-- and no freeze takes one: what it sweeps it sweeps while nobody runs
+abbrev taken_in_its_freeze : Period
+taken_in_its_freeze = record next_cell { freeze = plain (Taken 0) ∷ next_cell.freeze }
+
+pub block_is_taken_in_a_must_freeze : StandsPeriod short small collected taken_in_its_freeze → ⊥
+block_is_taken_in_a_must_freeze stands =
+    let freeze = stands.freeze in
+    let begins = freeze.begins refl in
+    let same : Taken 0 ∷ Begin 2 true ∷ Pause 0 ∷ End 2 (3 ∷ []) ∷ [] ≡ Begin 2 true ∷ pause_entries 2 begins.paused =
+    freeze.are ∙ ap (λ (old : List Entry). old ++ freeze.new) (freeze.rests refl) ∙ begins.are in
+    let first : Taken 0 ≡ Begin 2 true = cc in
+    cc
+
+pub block_is_taken_in_a_freeze : IsFreeze short small (collected ++ plain (Open 2 4) ∷ []) 4 false (Taken 0 ∷ []) → ⊥
+block_is_taken_in_a_freeze freeze =
+    let same : Taken 0 ∷ [] ≡ freeze.new = freeze.are ∙ ap (λ (old : List Entry). old ++ freeze.new) (freeze.rests refl) in
+    let none : Taken 0 ∷ [] ≡ [] = same ∙ freeze.stays refl in
+    cc

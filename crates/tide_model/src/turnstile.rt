@@ -12,6 +12,8 @@ pub enum Place {
     Nuked,
     /// After the array reference is stored.
     Stored,
+    /// After a mutator took a block to sweep it, before the first of its words is made 0.
+    Taken,
     /// After a visitor made a cell black.
     Blackened,
     /// Before a visitor reads a structure for the second time.
@@ -23,7 +25,7 @@ pub trait Turnstile: Sync {
     /// Returns when the participant may go on, and changes nothing of the store.
     ///
     /// `who` is a mutator's number, or 16 plus a visitor's. `what` is the number of the call, modulo 2^32, at
-    /// `Call` of a mutator, 0 at `Call` of a visitor, and the cell at the other places.
+    /// `Call` of a mutator, 0 at `Call` of a visitor, the block at `Taken`, and the cell at the other places.
     fn at(&self, who: u32, place: Place, what: u32);
 }
 
