@@ -7,7 +7,7 @@ use Rattle.tide_machine.proofs.steps.OwnState.{own_state}
 use Rattle.tide_machine.specs.Kind.{StoreCall}
 use Rattle.tide_machine.specs.May.{RunsAsMutator, MayCall, IsBetweenCalls}
 use Rattle.tide_machine.specs.Own.{Own, own_of}
-use Rattle.tide_heap.specs.Clean.{RunsClean}
+use Rattle.tide_machine.specs.RunningWave.{RunningWave}
 use Rattle.tide_machine.specs.World.{World}
 use Rattle.tide_machine.specs.declared.view.View.{View}
 use Rattle.tide_model.specs.Answer.{IsAnswer}
@@ -25,12 +25,12 @@ use Rattle.tide_steps.specs.Follows.{FollowsSome, MayStep}
 
 -- what is its own follows from its calls
 pub own_now : (layout : Layout) (shapes : ShapeLists) (v : View) (mine : List Event) → v.mine ≡ mine → (w : World) →
-    RunsClean layout shapes w → w.part v.who ≡ v →
+    RunningWave layout shapes w → w.part v.who ≡ v →
     own_of v.who (state_after layout w.log) ≡ own_of v.who (state_after layout mine)
 own_now layout shapes v mine made w running is =
     own_state layout v.who w.log
     ∙ ap (λ (l : List Event). own_of v.who (state_after layout l))
-    (running.wave.known.own v.who ∙ ap (λ (u : View). u.mine) is ∙ made)
+    (running.known.own v.who ∙ ap (λ (u : View). u.mine) is ∙ made)
 
 pub runner : (layout : Layout) (v : View) → v.who < layout.mutators → v.runs ≡ true → (w : World) →
     w.part v.who ≡ v → RunsAsMutator layout w v.who
@@ -40,7 +40,7 @@ runner layout v mutator runs w is = record { is_mutator = mutator; runs = ap (λ
 pub may_call : (layout : Layout) (shapes : ShapeLists) (v : View) (mine : List Event) (op : Op) →
     IsReady layout v mine false → (state_after layout mine).active v.who ≡ true → FitsLayout layout op →
     ((s : State) → own_of v.who s ≡ own_of v.who (state_after layout mine) → IsAnswer layout shapes s v.who op Done None) →
-    (w : World) → RunsClean layout shapes w → w.part v.who ≡ v → MayCall layout shapes w v.who op Done None
+    (w : World) → RunningWave layout shapes w → w.part v.who ≡ v → MayCall layout shapes w v.who op Done None
 may_call layout shapes v mine op ready active fits granted w running is = record {
   runner = runner layout v ready.is_mutator ready.runs w is;
   between = subst IsBetweenCalls (sym is) ready.rests.between;

@@ -10,10 +10,10 @@ use Rattle.tide_heap.specs.Turns.{frozen_with, visits_entered, Freezes}
 use Rattle.tide_layout.specs.Region.{word_count}
 use Rattle.tide_layout.specs.declared.region.Region.TheVariants.{Stopped}
 use Rattle.tide_machine.proofs.freezes.Entering.{FrozenWave-of, FrozenWith-entered}
+use Rattle.tide_machine.proofs.steps.DeadBits.{swept_at_first}
 use Rattle.tide_machine.specs.Frozen.{FrozenWith}
 use Rattle.tide_machine.specs.Schedule.{begins, pauses, visits}
 use Rattle.tide_machine.specs.declared.view.View.{View}
-use Rattle.tide_model.proofs.DeadLaws.{HasDead-push}
 use Rattle.tide_model.specs.Cycle.{IsSwept, begin_count}
 use Rattle.tide_model.specs.History.{plain}
 use Rattle.tide_model.specs.Layout.{Layout, cell_count}
@@ -26,7 +26,7 @@ use Rattle.tide_table.proofs.Visits.{unentered-entered}
 use Rattle.tide_table.specs.Shown.{bare, was_black_in}
 use Rattle.tide_table.specs.VisitsTold.{unentered}
 use Rattle.tide_words.specs.heap.Heap.{SameIn, heap_of}
-use Rattle.tide_words.specs.marking.Colours.{is_black, is_marking}
+use Rattle.tide_words.specs.marking.Colours.{is_black, is_marking, running_cycle}
 
 -- the visits that the notes told are entered
 pub visits_told : (layout : Layout) (shapes : ShapeLists) (v w u : View) (visitor count : ℕ) → Freezes layout shapes v w →
@@ -42,8 +42,6 @@ visits_told layout shapes v w u visitor count freezes counted told note entered 
           (v.seen ++ plain (Visits visitor count) ∷ []) (count + 0) 0
           (subst (FrozenWith layout shapes (heap_of layout freezes.words) v.seen)
           (told ∙ (let e : count ≡ count + 0 = omega arith in e)) freezes.wave) (visits visitor count 0);
-      clean = λ block has. freezes.clean block
-          (HasDead-push layout v.seen (plain (Visits visitor count)) block refl has);
       entered = (let left = unentered-entered (first_visitor + visitor) v.visited
           (record { who = first_visitor + visitor; visits = count; done = true }) note refl in
           omega (arith, left, counted, told));
@@ -59,7 +57,6 @@ nothing_told layout shapes v w freezes counted none =
       blacks = refl;
       long = freezes.long;
       wave = subst (FrozenWith layout shapes (heap_of layout freezes.words) v.seen) none freezes.wave;
-      clean = freezes.clean;
       entered = counted ∙ none;
       stopped = λ index below. refl;
     }
@@ -91,8 +88,6 @@ module _ (layout : Layout) (shapes : ShapeLists) (v : View) (freeze : IsAtFreeze
     long = ap {A = List ℕ} length words_are ∙ long;
     wave = subst (λ (ws : List ℕ). FrozenWith layout shapes (heap_of layout ws) x.seen 0) (sym words_are)
         (subst (λ (h : List Event). FrozenWith layout shapes (heap_of layout words) h 0) (sym seen) then);
-    clean = subst (IsSwept layout) (sym seen)
-        (λ block has. freeze.clean block (HasDead-push layout v.seen (plain (Pause count)) block refl has));
     entered = ap (λ (y : View). unentered y.visited) same ∙ freeze.entered;
     stopped = subst (λ (ws : List ℕ). SameIn layout Stopped (heap_of layout x.stood) (heap_of layout ws)) (sym words_are)
         (subst (λ (st : List ℕ). SameIn layout Stopped (heap_of layout st) (heap_of layout words))
@@ -100,19 +95,22 @@ module _ (layout : Layout) (shapes : ShapeLists) (v : View) (freeze : IsAtFreeze
         (λ index below. left index below ∙ freeze.stopped index below));
   }
 
--- below, v is the collector's view before a cycle began, and x once that is entered
+-- below, v is the collector's view before the first cycle began, and x once that is entered
 module _ (layout : Layout) (shapes : ShapeLists) (v : View) (freeze : IsAtFreeze layout shapes v) (words : List ℕ)
-    (idle : is_marking (heap_of layout v.words) ≡ false)
+    (idle : is_marking (heap_of layout v.words) ≡ false) (first : running_cycle (heap_of layout v.words) ≡ 0)
     (begun : HasBegun layout (heap_of layout v.words) (heap_of layout words)) where
+  clean : IsSwept layout v.seen
+  clean = swept_at_first layout shapes v.seen freeze.wave.lawful (sym freeze.wave.cycle ∙ first)
+
   after : FrozenWith layout shapes (heap_of layout words) (with_begin v.seen) 0
   after = FrozenWith-entered layout shapes (heap_of layout v.words) (heap_of layout words) v.seen (with_begin v.seen) 0 0
-      freeze.wave (begins (heap_of layout words) idle freeze.clean begun)
+      freeze.wave (begins (heap_of layout words) idle clean begun)
 
   pub may_begin : MayEnter layout shapes (heap_of layout words) v.seen (Begin (begin_count v.seen + 1) true)
   may_begin = MayEnter-by layout shapes (heap_of layout words) v.seen (Begin (begin_count v.seen + 1) true) (
     refl,
     StandsBegin-next layout shapes (heap_of layout v.words) v.seen
-        (FrozenWave-of layout shapes (heap_of layout v.words) v.seen freeze.wave) idle freeze.clean,
+        (FrozenWave-of layout shapes (heap_of layout v.words) v.seen freeze.wave) idle clean,
   )
       (FrozenWave-of layout shapes (heap_of layout words) (with_begin v.seen) after)
 
@@ -125,8 +123,6 @@ module _ (layout : Layout) (shapes : ShapeLists) (v : View) (freeze : IsAtFreeze
     long = ap {A = List ℕ} length words_are ∙ long;
     wave = subst (λ (ws : List ℕ). FrozenWith layout shapes (heap_of layout ws) x.seen 0) (sym words_are)
         (subst (λ (h : List Event). FrozenWith layout shapes (heap_of layout words) h 0) (sym seen) after);
-    clean = subst (IsSwept layout) (sym seen) (λ block has. freeze.clean block
-        (HasDead-push layout v.seen (plain (Begin (begin_count v.seen + 1) true)) block refl has));
     entered = ap (λ (y : View). unentered y.visited) same ∙ freeze.entered;
     stopped = subst (λ (ws : List ℕ). SameIn layout Stopped (heap_of layout x.stood) (heap_of layout ws)) (sym words_are)
         (subst (λ (st : List ℕ). SameIn layout Stopped (heap_of layout st) (heap_of layout words))

@@ -5,7 +5,6 @@ use Rattle.tide_layout.specs.declared.region.Region.TheVariants.{Stopped}
 use Rattle.tide_machine.specs.Frozen.{FrozenWith}
 use Rattle.tide_machine.specs.May.{Rests}
 use Rattle.tide_machine.specs.declared.view.View.{View}
-use Rattle.tide_model.specs.Cycle.{IsSwept}
 use Rattle.tide_model.specs.Layout.{Layout}
 use Rattle.tide_model.specs.Refused.{ShapeLists}
 use Rattle.tide_table.specs.Shown.{was_black_in}
@@ -26,14 +25,12 @@ pub record IsNoteOf (visitor part : ℕ) (note : View) : Type 0 where
   pub period : note.period ≡ part
   pub begun : note.begun ≡ part
 
--- The collector's view at a freeze, whose words are those of its history: no cell is
--- black that wasn't at the last entry, nothing is dead, no visit is left to enter, and who stopped when stands as it
--- did when all had stopped.
+-- The collector's view at a freeze, whose words are those of its history: no cell is black that wasn't at the last entry,
+-- no visit is left to enter, and who stopped when stands as it did when all had stopped.
 pub record IsAtFreeze (layout : Layout) (shapes : ShapeLists) (v : View) : Type 0 where
   pub frozen : v.frozen ≡ true
   pub blacks : was_black_in layout v ≡ is_black (heap_of layout v.words)
   pub long : length v.words ≡ word_count layout
   pub wave : FrozenWith layout shapes (heap_of layout v.words) v.seen 0
-  pub clean : IsSwept layout v.seen
   pub entered : unentered v.visited ≡ 0
   pub stopped : SameIn layout Stopped (heap_of layout v.stood) (heap_of layout v.words)

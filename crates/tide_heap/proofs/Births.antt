@@ -4,9 +4,10 @@ use Rattle.std.proofs.lemmas.Bool.{cases_Bool, cases_eq, eq-eqb, ne_eqb}
 use Rattle.std.proofs.lemmas.Bool.Decides.{nat_tests}
 use Rattle.std.proofs.lemmas.List.Elements.{Contains-append_left, Contains-append_right}
 use Rattle.std.proofs.lemmas.List.Sums.{sum_by-append}
+use Rattle.std.specs.List.{list_all}
 use Rattle.std.specs.Prelude.{Contains, ◌==◌, ◌&&◌, ◌||◌, count_by, if◌then◌else◌}
 use Rattle.tide_freeze.proofs.BirthLaws.{born-none, born-push}
-use Rattle.tide_freeze.proofs.FewBirths.{live_called}
+use Rattle.tide_freeze.proofs.FewBirths.{HasFewBirths-lawful}
 use Rattle.tide_layout.proofs.ClassWidths.{count_where-le}
 use Rattle.tide_layout.proofs.LimitLaws.{few_cells}
 use Rattle.tide_layout.specs.Limits.{IsWithinLimits}
@@ -15,22 +16,21 @@ use Rattle.tide_machine.proofs.steps.Frames.{put_here, put_else}
 use Rattle.tide_machine.specs.Entries.{added}
 use Rattle.tide_machine.specs.World.{parties}
 use Rattle.tide_machine.specs.declared.view.View.{View}
-use Rattle.tide_model.proofs.Histories.{IsLawful-elim, state_after-push}
+use Rattle.tide_machine.specs.points.Seen.{HasPartAlone}
+use Rattle.tide_model.proofs.Histories.{IsLawful-elim}
 use Rattle.tide_model.proofs.NumberLaws.{put_at_elim}
 use Rattle.tide_model.proofs.SinceLaws.{since-none, since-push}
-use Rattle.tide_model.specs.Cycle.{live_count}
 use Rattle.tide_model.specs.History.{is_call_of, is_open, state_after}
 use Rattle.tide_model.specs.Layout.{Layout, cell_count}
 use Rattle.tide_model.specs.Lawful.{IsLawful, Stands}
 use Rattle.tide_model.specs.Numbers.{is_among, put_at}
 use Rattle.tide_model.specs.Refused.{ShapeLists}
-use Rattle.tide_model.specs.Since.{born_since, is_birth, is_born_reply, is_call, since}
+use Rattle.tide_model.specs.Since.{born_since, is_birth, is_born_reply, is_end, is_of_part, since}
 use Rattle.tide_model.specs.State.{is_live}
 use Rattle.tide_model.specs.declared.entry.Entry.{Entry}
 use Rattle.tide_model.specs.declared.entry.Entry.TheVariants.{Call, Begin, Pause, Visits, End, Taken, Sweep, Open}
 use Rattle.tide_model.specs.declared.entry.Event.{Event}
 use Rattle.tide_heap.specs.Births.{births_in, born_to, is_birth_of, told_births}
-use Rattle.tide_heap.specs.Clean.{HasCallsAlone}
 use Rattle.tide_heap.specs.Parties.{In}
 
 -- how many cells are born at an entry, or at none
@@ -38,26 +38,33 @@ abbrev pub births_at : Option Event → ℕ
 births_at None = 0
 births_at (Some event) = if is_birth event.entry then 1 else 0
 
--- an entry is a call of this participant
+-- the entry is a call of this participant, or has a block taken or swept
+abbrev pub is_step_of : ℕ → Entry → Bool
+is_step_of who (Taken block) = true
+is_step_of who (Sweep block) = true
+is_step_of who entry = is_call_of who entry
+
+-- a step of this participant makes the entry, if it makes one
 abbrev pub IsOwnEntry : ℕ → Option Event → Type 0
 IsOwnEntry who None = Unit {0}
-IsOwnEntry who (Some event) = is_call_of who event.entry ≡ true
+IsOwnEntry who (Some event) = is_step_of who event.entry ≡ true
 
 pub still : (n : ℕ) → n ≡ n + 0
 still n = omega arith
 
--- a call opens no part, and is one of one mutator
-pub own_no_open : (who : ℕ) (entry : Entry) → is_call_of who entry ≡ true → is_open entry ≡ false
+-- such an entry opens no part, and is no call of another
+pub own_no_open : (who : ℕ) (entry : Entry) → is_step_of who entry ≡ true → is_open entry ≡ false
 own_no_open who (Call p o reply) is = refl
 own_no_open who (Begin cycle full) is = absurd (cc)
 own_no_open who (Pause visits) is = absurd (cc)
 own_no_open who (Visits p visits) is = absurd (cc)
 own_no_open who (End cycle freed) is = absurd (cc)
-own_no_open who (Taken block) is = absurd (cc)
-own_no_open who (Sweep block) is = absurd (cc)
+own_no_open who (Taken block) is = refl
+own_no_open who (Sweep block) is = refl
 own_no_open who (Open number run) is = absurd (cc)
 
-not_of_other : (who other : ℕ) (entry : Entry) → is_call_of who entry ≡ true → other ≢ who → is_call_of other entry ≡ false
+not_of_other : (who other : ℕ) (entry : Entry) → is_step_of who entry ≡ true → other ≢ who →
+    is_call_of other entry ≡ false
 not_of_other who other (Call p o reply) is apart =
     ne_eqb p other (λ e. apart (let same : p ≡ who = grind (arith, nat_tests) in sym e ∙ same))
 not_of_other who other (Begin cycle full) is apart = refl
@@ -83,7 +90,7 @@ pub born_to-none : (who : ℕ) (log : List Event) (event : Event) → is_open ev
 born_to-none who log event opens =
     ap {A = List Event} (count_by (λ e. is_birth_of who e.entry)) (since-none is_open log event opens)
 
--- an entry that is no call is no birth to anybody
+-- an entry that is no call of a mutator is no birth to it
 pub born_to-quiet : (who : ℕ) (log : List Event) (event : Event) → is_open event.entry ≡ false →
     is_call_of who event.entry ≡ false → born_to who (log ++ event ∷ []) ≡ born_to who log
 born_to-quiet who log event no_open no_call =
@@ -91,13 +98,24 @@ born_to-quiet who log event no_open no_call =
     let none = ap {B = ℕ} (λ (b : Bool). if b && is_birth event.entry then 1 else 0) no_call in
     omega (arith, more, none)
 
+-- its births are all that the entry has
+own_birth : (who : ℕ) (entry : Entry) → is_step_of who entry ≡ true →
+    ◌≡◌ {A = ℕ} (if is_birth_of who entry then 1 else 0) (if is_birth entry then 1 else 0)
+own_birth who (Call p o reply) is = ap {B = ℕ} (λ (b : Bool). if b && is_born_reply reply then 1 else 0) is
+own_birth who (Begin cycle full) is = absurd (cc)
+own_birth who (Pause visits) is = absurd (cc)
+own_birth who (Visits p visits) is = absurd (cc)
+own_birth who (End cycle freed) is = absurd (cc)
+own_birth who (Taken block) is = refl
+own_birth who (Sweep block) is = refl
+own_birth who (Open number run) is = absurd (cc)
+
 born_to-own : (who : ℕ) (log : List Event) (event : Option Event) → IsOwnEntry who event →
     born_to who (added log event) ≡ born_to who log + births_at event
 born_to-own who log None own = still (born_to who log)
 born_to-own who log (Some event) own =
     let more = born_to-push who log event (own_no_open who event.entry own) in
-    let one = ap {B = ℕ} (λ (b : Bool). if b && is_birth event.entry then 1 else 0) own in
-    omega (arith, more, one)
+    let one = own_birth who event.entry own in omega (arith, more, one)
 
 born_to-other : (who other : ℕ) (log : List Event) (event : Option Event) → IsOwnEntry who event → other ≢ who →
     born_to other (added log event) ≡ born_to other log
@@ -308,59 +326,44 @@ born_to_all layout shapes limits =
           omega (arith, grown, was, one, more)
     ])
 
--- since the part was opened no cell died, so no more were born than live
+-- where each event of a list passes a test, they all do
+pub all_pass : (test : Event → Bool) (events : List Event) →
+    ((event : Event) → Contains events event → test event ≡ true) → list_all test events ≡ true
+all_pass test [] each = refl
+all_pass test (event ∷ events) each =
+    ap (λ (b : Bool). b && list_all test events) (each event (0, omega arith, refl))
+    ∙ all_pass test events (λ e at. each e (Contains-append_right (event ∷ []) events e at))
+
+-- no cycle ends in a part
+part_ends_none : (entry : Entry) → is_of_part entry ≡ true → is_end entry ≡ false
+part_ends_none (End cycle freed) is = absurd (cc)
+part_ends_none _ is = refl
+
 module _ (layout : Layout) (shapes : ShapeLists) (limits : IsWithinLimits layout) where
-  abbrev FewSince : List Event → Type 0
-  FewSince log = HasCallsAlone log → born_since is_open log ≤ live_count layout (state_after layout log)
-
-  few_more : (before : List Event) (event : Event) → is_open event.entry ≡ false → is_call event.entry ≡ true →
-      Stands layout shapes before event → born_since is_open before ≤ live_count layout (state_after layout before) →
-      born_since is_open (before ++ event ∷ []) ≤ live_count layout (state_after layout (before ++ event ∷ []))
-  few_more before event no_open is stands was = by event.entry refl
-    where
-      kept : (entry : Entry) → is_call entry ≡ true → is_open entry ≡ false →
-          Stands layout shapes before (record { entry = entry; took = event.took }) →
-          born_since is_open (before ++ record { entry = entry; took = event.took } ∷ [])
-          ≤ live_count layout (state_after layout (before ++ record { entry = entry; took = event.took } ∷ []))
-      kept (Call who o reply) call opens s =
-          let one : Event = record { entry = Call who o reply; took = event.took } in
-          let more = born-push is_open before one opens in
-          let grown = live_called layout shapes before who o reply event.took limits.five_cell_classes s in
-          let after = ap (live_count layout) (state_after-push layout before one) in
-          omega (arith, more, grown, after, was)
-      kept (Begin cycle full) call opens s = absurd (cc)
-      kept (Pause visits) call opens s = absurd (cc)
-      kept (Visits p visits) call opens s = absurd (cc)
-      kept (End cycle freed) call opens s = absurd (cc)
-      kept (Taken block) call opens s = absurd (cc)
-      kept (Sweep block) call opens s = absurd (cc)
-      kept (Open number run) call opens s = absurd (cc)
-
-      by : (entry : Entry) → event.entry ≡ entry →
-          born_since is_open (before ++ event ∷ []) ≤ live_count layout (state_after layout (before ++ event ∷ []))
-      by entry e = subst (λ (x : Entry). born_since is_open (before ++ record { entry = x; took = event.took } ∷ [])
-          ≤ live_count layout (state_after layout (before ++ record { entry = x; took = event.took } ∷ []))) (sym e)
-          (kept entry (ap is_call (sym e) ∙ is) (ap is_open (sym e) ∙ no_open)
-          (subst (λ (x : Entry). Stands layout shapes before (record { entry = x; took = event.took })) e stands))
-
-  few_since : (log : List Event) → IsLawful layout shapes log → FewSince log
-  few_since = IsLawful-elim layout shapes FewSince (λ alone. omega arith)
+  -- so no more cells were born since the part was opened than since a cycle ended
+  since_end : (log : List Event) → IsLawful layout shapes log → HasPartAlone log →
+      born_since is_open log ≤ born_since is_end log
+  since_end = IsLawful-elim layout shapes (λ log. HasPartAlone log → born_since is_open log ≤ born_since is_end log)
+      (λ alone. omega arith)
       (λ before event was stands alone. elim (cases_Bool (is_open event.entry)) [
         | inl opens ↦ (let none = born-none is_open before event opens in omega (arith, none))
         | inr goes_on ↦
             let joined = since-push is_open before event goes_on in
-            let all : (e : Event) → Contains (since is_open before ++ event ∷ []) e → is_call e.entry ≡ true =
+            let all : (e : Event) → Contains (since is_open before ++ event ∷ []) e → is_of_part e.entry ≡ true =
             λ e at. alone e (subst (λ (l : List Event). Contains l e) (sym joined) at) in
-            few_more before event goes_on
-            (all event (Contains-append_right (since is_open before) (event ∷ []) event (0, omega arith, refl))) stands
-            (was (λ e at. all e (Contains-append_left (since is_open before) (event ∷ []) e at)))
+            let of_part = all event
+            (Contains-append_right (since is_open before) (event ∷ []) event (0, omega arith, refl)) in
+            let earlier = was (λ e at. all e (Contains-append_left (since is_open before) (event ∷ []) e at)) in
+            let more = born-push is_open before event goes_on in
+            let of_cycle = born-push is_end before event (part_ends_none event.entry of_part) in
+            omega (arith, earlier, more, of_cycle)
       ])
 
   -- so their number is far from 2 to the power of 32
-  pub births_few : (log : List Event) → IsLawful layout shapes log → HasCallsAlone log →
-      born_since is_open log ≤ 20480
+  pub births_few : (log : List Event) → IsLawful layout shapes log → HasPartAlone log → born_since is_open log ≤ 20480
   births_few log lawful alone =
-      let few = few_since log lawful alone in
-      let live = count_where-le (λ cell. is_live ((state_after layout log).cells cell).status) (cell_count layout) in
+      let few = since_end log lawful alone in
+      let live = (HasFewBirths-lawful layout shapes log limits.five_cell_classes lawful).since_end in
+      let cells = count_where-le (λ cell. is_live ((state_after layout log).cells cell).status) (cell_count layout) in
       let most = few_cells layout limits in
-      omega (arith, few, live, most)
+      omega (arith, few, live, cells, most)

@@ -1,6 +1,5 @@
 pub mod Beginnings
 pub mod Births
-pub mod Cleaning
 pub mod Leaving
 pub mod Members
 pub mod Runs

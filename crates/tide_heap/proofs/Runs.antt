@@ -25,8 +25,6 @@ use Rattle.tide_model.specs.declared.entry.Event.{Event}
 use Rattle.tide_heap.proofs.Births.{Counts, births_added, start-added}
 use Rattle.tide_heap.proofs.Leaving.{inactive-push}
 use Rattle.tide_heap.proofs.Members.{member, member_ok, member_step, running, now_running, few_parties}
-use Rattle.tide_heap.proofs.Cleaning.{part_is_clean}
-use Rattle.tide_heap.specs.Clean.{RunsClean}
 use Rattle.tide_heap.specs.Parties.{In}
 use Rattle.tide_heap.specs.Rule.{MemberOk, IsFrozen, IsRunning, Tabled, Rule}
 use Rattle.tide_words.proofs.heap_laws.HeapLaws.{reads_write, write-other_region}
@@ -160,7 +158,7 @@ abbrev pub Law : Layout → ShapeLists → Region → ℕ → Act → (List Even
     (List Event → ℕ → Option Event) → View → Type 0
 Law layout shapes at index act after event v =
     (heap : Heap) (part : ℕ → View) (log : List Event) →
-    RunsClean layout shapes (record { heap = heap; part = part; log = log }) → part v.who ≡ v →
+    RunningWave layout shapes (record { heap = heap; part = part; log = log }) → part v.who ≡ v →
     RunningWave layout shapes (record {
       heap = write heap at index (acted act (heap at index));
       part = put_at part v.who (after log (heap at index));
@@ -181,10 +179,10 @@ pub allows : (layout : Layout) (shapes : ShapeLists) (slots id : ℕ) (me : Me (
     (IsWithinLimits layout → slice_get shapes 0 ≡ Some [] → me.0.who < parties →
     Law layout shapes at index act after event me.0) →
     (IsWithinLimits layout → (heap : Heap) (part : ℕ → View) (log : List Event) →
-    RunsClean layout shapes (record { heap = heap; part = part; log = log }) → part me.0.who ≡ me.0 →
+    RunningWave layout shapes (record { heap = heap; part = part; log = log }) → part me.0.who ≡ me.0 →
     Leaves at × Stays layout log me.0 (event log (heap at index)) (after log (heap at index))) →
     ((heap : Heap) (part : ℕ → View) (log : List Event) →
-    RunsClean layout shapes (record { heap = heap; part = part; log = log }) → part me.0.who ≡ me.0 →
+    RunningWave layout shapes (record { heap = heap; part = part; log = log }) → part me.0.who ≡ me.0 →
     RunningWave layout shapes (record {
       heap = write heap at index (acted act (heap at index));
       part = put_at part me.0.who (after log (heap at index));
@@ -200,15 +198,11 @@ allows layout shapes slots id me at index act after event word Tells is act_now 
     let thawed = running layout shapes s.words s.views log id v k there is act_now in
     let run = now_running layout shapes s.words s.views log id v k there thawed in
     let h = run.heap in
-    let runs : RunsClean layout shapes (record { heap = h; part = k.part; log = log }) = record {
-      wave = run.wave;
-      clean = part_is_clean layout shapes k.cv.start log run.wave.lawful run.wave.part_alone k.start run.swept;
-    } in
     let r = h at index in
     let u = after log r in
     let later = runs_later layout shapes s.words s.views log id v k there is act_now in
-    let next = law k.limits k.empty_shape (few_parties layout k.limits v.who mine.0) h k.part log runs (sym mine.2) in
-    let (leaves, stay) = stays k.limits h k.part log runs (sym mine.2) in
+    let next = law k.limits k.empty_shape (few_parties layout k.limits v.who mine.0) h k.part log run.wave (sym mine.2) in
+    let (leaves, stay) = stays k.limits h k.part log run.wave (sym mine.2) in
     let begun : v.begun ≡ k.cv.period = ap (λ (x : View). x.begun) mine.2
     ∙ (run.wave.numbers.told v.who (ap (λ (x : View). x.runs) (sym mine.2) ∙ act_now)).2 ∙ run.period in
     let e : get_or s.words word 0 ≡ r = ap (λ (i : ℕ). get_or s.words i 0) at_word ∙ run.reads.each at index inside in
@@ -232,11 +226,10 @@ allows layout shapes slots id me at index act after event word Tells is act_now 
                   (sym (no_phase h at index (acted act r) leaves.phase));
               cycle = run.cycle ∙ ap (λ (x : ℕ). running_cycle (λ at index. x))
                   (sym (no_phase h at index (acted act r) leaves.phase));
-              swept = run.swept;
               some_run = run.some_run;
             };
       },
-      tells h k.part log runs (sym mine.2) next,
+      tells h k.part log run.wave (sym mine.2) next,
     )
   where
     gone_of : (u : View) (event : Option Event) → u.left ≡ true →

@@ -69,7 +69,6 @@ module _ (layout : Layout) (shapes : ShapeLists) (words : List ℕ) (views : Lis
     period = run.period;
     marks = run.marks;
     cycle = run.cycle;
-    swept = run.swept;
     some_run = run.some_run;
   }
 
@@ -237,7 +236,6 @@ module _ (layout : Layout) (shapes : ShapeLists) (words : List ℕ) (views : Lis
         period = run.period;
         marks = run.marks;
         cycle = run.cycle;
-        swept = run.swept;
         some_run = run.some_run;
       }
 

@@ -16,7 +16,6 @@ use Rattle.tide_machine.specs.declared.view.View.{View}
 use Rattle.tide_machine.specs.points.Marks.{SpanIsLive}
 use Rattle.tide_machine.specs.points.Seen.{IsKnown, WhoLeftIsInactive, ParkedIsEmpty}
 use Rattle.tide_machine.specs.points.Stops.{StopsAreTold}
-use Rattle.tide_model.specs.Cycle.{IsSwept}
 use Rattle.tide_model.specs.Freeze.{marks_after}
 use Rattle.tide_model.specs.History.{is_open, state_after}
 use Rattle.tide_model.specs.Lawful.{IsLawful}
@@ -136,8 +135,6 @@ pub record IsRunning (layout : Layout) (shapes : ShapeLists) (words : List ℕ) 
   pub period : heap region.Period 0 ≡ cv.period
   pub marks : cv.marks ≡ is_marking heap
   pub cycle : cv.cycle ≡ running_cycle heap
-  -- nothing was dead when the part was opened
-  pub swept : IsSwept layout cv.start
   -- where it marks and there are visitors, they run for some calls
   pub some_run : cv.marks ≡ true → 0 < layout.visitors → 0 < cv.run
 

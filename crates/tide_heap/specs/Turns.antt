@@ -12,12 +12,11 @@ use Rattle.tide_machine.specs.declared.view.Role.TheVariants.{Collector, Note, T
 use Rattle.tide_machine.specs.declared.view.View.{View}
 use Rattle.tide_machine.specs.declared.view.Visited.{Visited}
 use Rattle.tide_machine.specs.kinds.Join.{joined_view}
-use Rattle.tide_model.specs.Cycle.{IsSwept}
 use Rattle.tide_model.specs.History.{is_call_of, plain, state_after}
 use Rattle.tide_model.specs.Layout.{Layout}
 use Rattle.tide_model.specs.Prefix.{IsPrefix}
 use Rattle.tide_model.specs.Refused.{ShapeLists}
-use Rattle.tide_model.specs.Since.{is_birth, is_call}
+use Rattle.tide_model.specs.Since.{TakenAreSwept, is_birth, is_of_part}
 use Rattle.tide_model.specs.declared.entry.Entry.TheVariants.{Open, Visits}
 use Rattle.tide_model.specs.declared.entry.Event.{Event}
 use Rattle.tide_heap.specs.Parties.{In, IsParty, longer, up_to}
@@ -135,8 +134,8 @@ opened layout run v = record v {
 }
 
 -- What a freeze tells the collector: the words, and that they meet the wave of the history that it has seen, with the
--- visits that the notes tell and that aren't entered yet. Nothing is dead. What came since the part was opened are
--- calls alone, and in them so many cells were born as the notes tell.
+-- visits that the notes tell and that aren't entered yet. What came since the part was opened are calls, and blocks that
+-- are taken, each of which is swept there; and in it so many cells were born as the notes tell.
 pub record Freezes (layout : Layout) (shapes : ShapeLists) (v w : View) : Type 0 where
   pub limits : IsWithinLimits layout
   pub words : List ℕ
@@ -145,8 +144,8 @@ pub record Freezes (layout : Layout) (shapes : ShapeLists) (v w : View) : Type 0
   pub wave : FrozenWith layout shapes (heap_of layout words) v.seen v.ledger
   pub part : List Event
   pub since : v.seen ≡ v.start ++ part
-  pub calls : list_all (λ event. is_call event.entry) part ≡ true
-  pub clean : IsSwept layout v.seen
+  pub of_part : list_all (λ event. is_of_part event.entry) part ≡ true
+  pub taken : TakenAreSwept part
   pub births : v.births ≡ count_by (λ event. is_birth event.entry) part
   pub few : v.births ≤ 20480
   -- what each note tells of the history is a beginning of it, and what it tells of its participant's calls are all that

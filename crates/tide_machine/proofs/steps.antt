@@ -23,6 +23,7 @@ pub mod StopPlaces
 pub mod SweepsKept
 pub mod SettledNow
 pub mod Unsettled
+pub mod DeadBits
 pub mod Waiting
 pub mod Steps
 pub mod Quiet

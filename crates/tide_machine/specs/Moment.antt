@@ -18,7 +18,7 @@ use Rattle.tide_machine.specs.points.Arrays.{ArraysStand}
 use Rattle.tide_machine.specs.points.Scans.{IsAtHand, ScanKnows}
 use Rattle.tide_machine.specs.points.Seen.{HasPartAlone}
 use Rattle.tide_machine.specs.points.Sweeps.{IsTaken, SweptAreTold}
-use Rattle.tide_model.specs.Cycle.{IsSwept}
+use Rattle.tide_model.specs.Cycle.{HasDead, IsSwept}
 use Rattle.tide_model.specs.History.{state_after, state_at, is_call_of, is_open}
 use Rattle.tide_model.specs.Lawful.{IsLawful}
 use Rattle.tide_model.specs.Layout.{Layout, cell_count}
@@ -82,15 +82,20 @@ pub record Moment (layout : Layout) (shapes : ShapeLists) (v : View) (log : List
       (window_start v.who log ≤ moment) × (moment ≤ length log)
       × FreeIsShown layout (state_at layout log moment) block word
   -- of sweeps: what is dead where a cycle marks, the blocks that are cleared, the one whose dead bits it saw, its own
-  -- sweep, and those of others
+  -- sweep, a word of dead bits that is found, cycles that blocks were taken in, and the sweeps of others
   pub clean : v.runs ≡ true → v.marks ≡ true → IsSwept layout log
   pub cleared : (block moment : ℕ) → Contains v.cleared (record { block = block; moment = moment }) →
       (moment ≤ length log)
       × ((later : ℕ) → moment ≤ later → later ≤ length log → DeadIsTaken layout (take later log) block)
   pub saw : (saw : Saw) → v.saw ≡ Some saw → (saw.block < block_count layout) ×
       ((settled region.Dead saw.block ≡ saw.word) ⊎ IsTaken words saw.block)
+  pub swept : (saw : Saw) (word : ℕ) → v.saw ≡ Some saw → saw.swept ≡ Some word →
+      (words region.Swept saw.block ≡ word) ⊎ IsTaken words saw.block
   pub told : SweptAreTold layout words log
   pub sweeping : (s : Sweeping) → v.sweeping ≡ Some s → s.given ≡ false → settled region.Dead s.block ≡ s.dead
+  pub none_dead : at ≡ region.Dead → read ≡ 0 → HasDead layout (state_after layout log) index → ⊥
+  pub begun : at ≡ region.Dead → index < block_count layout → 0 < read → read < 2 ^ 64 → 0 < running_cycle words
+  pub below : (block : ℕ) → block < block_count layout → words region.Swept block ≤ running_cycle words
   pub alone : v.sweeping ≡ None → IsAlone layout (state_after layout log) v.who → TakenAreSwept (since is_open log)
 
 -- in a running part that is so of each participant and each word

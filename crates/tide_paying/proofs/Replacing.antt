@@ -15,7 +15,7 @@ use Rattle.tide_machine.specs.Duties.{nuked_growth, stored_growth}
 use Rattle.tide_machine.specs.Kind.{Nuke, StoreArray, StoreElement, StoreStructure}
 use Rattle.tide_machine.specs.May.{RunsAsMutator}
 use Rattle.tide_machine.specs.Owed.{Owes, owed_elements, owed_word, without_word}
-use Rattle.tide_heap.specs.Clean.{RunsClean}
+use Rattle.tide_machine.specs.RunningWave.{RunningWave}
 use Rattle.tide_machine.specs.World.{World}
 use Rattle.tide_machine.specs.declared.view.Growth.{Growth as Stage}
 use Rattle.tide_machine.specs.declared.view.Growth.TheVariants as growing
@@ -102,15 +102,15 @@ module _ (layout : Layout) (shapes : ShapeLists) (v u : View) (growth : Growth) 
     abbrev debts : List Owed
     debts = structure_debt ∷ array_debt ∷ owed_elements layout o.properties taken (suc left)
 
-    known_keys : (w : World) → RunsClean layout shapes w → w.part u.who ≡ u →
+    known_keys : (w : World) → RunningWave layout shapes w → w.part u.who ≡ u →
         Contains ((state_after layout w.log).claims u.who) cell →
         left < length ((state_after layout w.log).cells cell).keys
     known_keys w running is claimed =
         let state = state_after layout w.log in
-        let alive : IsLive state cell = running.wave.refs.claimed u.who cell claimed in
-        let within = live_within layout shapes running.wave.words.settled state cell running.wave.words.reads alive in
-        let keys = ((running.wave.words.reads.parts.cells cell within).taken (ap is_free alive)).keys in
-        let owed = running.wave.words.owed u.who region.Structure cell growth.next
+        let alive : IsLive state cell = running.refs.claimed u.who cell claimed in
+        let within = live_within layout shapes running.words.settled state cell running.words.reads alive in
+        let keys = ((running.words.reads.parts.cells cell within).taken (ap is_free alive)).keys in
+        let owed = running.words.owed u.who region.Structure cell growth.next
         (subst (λ (l : List Owed). Contains l structure_debt)
         (sym (ap (λ (x : View). x.owed) is ∙ o.holds.owed)) (0, omega arith, refl)) in
         let word = keys.is_word in
@@ -119,7 +119,7 @@ module _ (layout : Layout) (shapes : ShapeLists) (v u : View) (growth : Growth) 
     pub may_pay : (word : ℕ) → word ≡ slice_index words left → MayStep layout shapes u (StoreElement taken left word None)
     may_pay word is_word w running is =
         let knows = subst (λ (g : Stage). GrowthKnows w.heap (state_after layout w.log) u.who (w.part u.who) g)
-        (ap (λ (x : View). x.growth) is ∙ o.holds.stage) (running.wave.growths.knows u.who) in inl (record {
+        (ap (λ (x : View). x.growth) is ∙ o.holds.stage) (running.growths.knows u.who) in inl (record {
           runner = runs_there filling debts o.holds w is;
           own = record {
             cell = cell;

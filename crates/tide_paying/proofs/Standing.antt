@@ -7,7 +7,7 @@ use Rattle.tide_layout.specs.declared.region.Region.{Region}
 use Rattle.tide_machine.proofs.steps.Moments.{moment_of}
 use Rattle.tide_machine.specs.Moment.{Moment}
 use Rattle.tide_machine.specs.Own.{Own}
-use Rattle.tide_heap.specs.Clean.{RunsClean}
+use Rattle.tide_machine.specs.RunningWave.{RunningWave}
 use Rattle.tide_machine.specs.World.{World}
 use Rattle.tide_machine.specs.declared.view.View.{View}
 use Rattle.tide_model.specs.History.{state_after}
@@ -37,8 +37,8 @@ stands_then layout shapes v log at index read stays m = record {
 
 -- what a machine with the wave tells of a word
 abbrev pub moment_in : (layout : Layout) (shapes : ShapeLists) (w : World) (v : View) (at : Region) (index : ℕ) →
-    RunsClean layout shapes w → w.part v.who ≡ v → Moment layout shapes v w.log at index (w.heap at index)
-moment_in layout shapes w v at index running is = moment_of layout shapes w v at index running.wave is
+    RunningWave layout shapes w → w.part v.who ≡ v → Moment layout shapes v w.log at index (w.heap at index)
+moment_in layout shapes w v at index running is = moment_of layout shapes w v at index running is
 
 -- where it may stand it may call
 pub calls_there : (layout : Layout) (shapes : ShapeLists) (v : View) (heap : Heap) (log : List Event) →

@@ -7,6 +7,8 @@ use Rattle.tide_heap.specs.declared.heap.Heap.{Heap as Shared}
 use Rattle.tide_layout.proofs.Places.{place_in-below}
 use Rattle.tide_layout.specs.Limits.{IsWithinLimits}
 use Rattle.tide_layout.specs.Region.{word_count}
+use Rattle.tide_layout.specs.declared.region.Region.{Region}
+use Rattle.tide_layout.specs.declared.region.Region.TheVariants as region
 use Rattle.tide_machine.proofs.Scheduling.{step_keeps}
 use Rattle.tide_machine.proofs.kinds.EachKind.{allowed_has_law}
 use Rattle.tide_machine.proofs.kinds.Finding.{finds_after}
@@ -41,9 +43,9 @@ use Rattle.tide_heap.proofs.Leaving.{inactive-retired}
 use Rattle.tide_heap.proofs.Runs.{Law, Stays, allows, Leaves}
 use Rattle.tide_steps.proofs.Works.{Core, core, core_found, worked, worked_view, seen_after, mine_after}
 use Rattle.tide_steps.specs.Follows.{Follows, FollowsSome, May, MayStep, with_found}
-use Rattle.tide_heap.specs.Clean.{RunsClean}
 use Rattle.tide_heap.specs.Rule.{Rule}
 use Rattle.tide_steps.specs.Works.{is_work, is_leave, is_visit}
+use Rattle.tide_sweep.specs.Zeroed.{IsDeadWord}
 use Rattle.tide_words.specs.heap.Heap.{Heap, write}
 
 -- no call but Retire is made at the store of an Active word
@@ -71,6 +73,12 @@ visited_by : (layout : Layout) (shapes : ShapeLists) (kind : Kind) → is_visit 
 visited_by layout shapes (Blacken cell cycle) visit w me may = may.runner.is_visitor
 visited_by layout shapes _ visit w me may = absurd (cc)
 
+-- no word of the period or of the phase is one of what is dead in a block
+dead_words : (layout : Layout) (at : Region) (index block bits : ℕ) → IsDeadWord layout block bits at index → Leaves at
+dead_words layout region.Period index block bits word = absurd word
+dead_words layout region.Phase index block bits word = absurd word
+dead_words layout _ index block bits word = record { period = refl; phase = refl }
+
 -- a work leaves the words of the period and of the phase
 left_words : (layout : Layout) (shapes : ShapeLists) (kind : Kind) → is_work kind ≡ true → (w : World) (me : ℕ) →
     IsAllowed layout shapes w me kind → Leaves (region_of kind)
@@ -82,7 +90,8 @@ left_words layout shapes (SwapGrey grey block) works w me may =
 left_words layout shapes Split works w me may = absurd (cc)
 left_words layout shapes (Join ticket) works w me may = absurd (cc)
 left_words layout shapes Activate works w me may = absurd (cc)
-left_words layout shapes (ZeroWord at index) works w me may = absurd (cc)
+left_words layout shapes (ZeroWord at index) works w me may =
+    dead_words layout at index may.block may.sweeps.sweeping.dead may.word
 left_words layout shapes _ works w me may = record { period = refl; phase = refl }
 
 -- the word that a step found is nothing that the wave looks at
@@ -115,7 +124,6 @@ module _ (layout : Layout) (shapes : ShapeLists) (v : View) (kind : Kind) where
       slice_get shapes 0 ≡ Some [] → v.who < parties →
       Law layout shapes (region_of kind) (index_of layout v.who kind) (act_of kind) after event v
   law_of works act may limits empty_shape few heap part log running is =
-      let wave = running.wave in
       let allowed = may (record { heap = heap; part = part; log = log }) running is in
       let at = index_of layout v.who kind in
       let read = heap (region_of kind) at in
@@ -127,7 +135,7 @@ module _ (layout : Layout) (shapes : ShapeLists) (v : View) (kind : Kind) where
         part = put_at part v.who (view_after layout shapes log v.who kind read x);
         log = added log (entry_of layout shapes (state_after layout log) v.who kind read);
       })) is
-      (step_keeps layout shapes limits empty_shape (record { heap = heap; part = part; log = log }) v.who few wave kind
+      (step_keeps layout shapes limits empty_shape (record { heap = heap; part = part; log = log }) v.who few running kind
       (allowed_has_law layout shapes (record { heap = heap; part = part; log = log }) v.who kind allowed) allowed))
 
   -- a work leaves what the rule says of its participant, but where it retires
@@ -188,7 +196,7 @@ module _ (layout : Layout) (shapes : ShapeLists) (v : View) (kind : Kind) where
       tip_of (Some x) e = inr (sym e)
 
   follows_of : is_work kind ≡ true → (heap : Heap) (part : ℕ → View) (log : List Event) →
-      RunsClean layout shapes (record { heap = heap; part = part; log = log }) → part v.who ≡ v →
+      RunningWave layout shapes (record { heap = heap; part = part; log = log }) → part v.who ≡ v →
       RunningWave layout shapes (record {
         heap = write heap (region_of kind) (index_of layout v.who kind)
             (acted (act_of kind) (heap (region_of kind) (index_of layout v.who kind)));
@@ -205,7 +213,7 @@ module _ (layout : Layout) (shapes : ShapeLists) (v : View) (kind : Kind) where
         view = refl;
         moment = subst (λ (x : View). Moment layout shapes x log (region_of kind) (index_of layout v.who kind) read) is
             (steps_are_told layout shapes (record { heap = heap; part = part; log = log }) v.who (region_of kind)
-            (index_of layout v.who kind) running.wave);
+            (index_of layout v.who kind) running);
         lawful = IsLawful-prefix layout shapes u.seen (added log (event log read))
             (subst (λ (x : View). IsPrefix x.seen (added log (event log read))) here (next.known.seen v.who)) next.lawful;
         own = subst (λ (n : ℕ). filter (λ (e : Event). is_call_of n e.entry) u.seen ≡ u.mine)
@@ -216,7 +224,7 @@ module _ (layout : Layout) (shapes : ShapeLists) (v : View) (kind : Kind) where
 
   -- a kind that leaves is a retirement
   pub retires_of : is_leave kind ≡ true → MayStep layout shapes v kind → (heap : Heap) (part : ℕ → View) (log : List Event)
-      (read : ℕ) → RunsClean layout shapes (record { heap = heap; part = part; log = log }) → part v.who ≡ v →
+      (read : ℕ) → RunningWave layout shapes (record { heap = heap; part = part; log = log }) → part v.who ≡ v →
       (v.who < layout.mutators) × ((state_after layout (added log (event log read))).active v.who ≡ false)
   retires_of leave may heap part log read running is =
       left_by layout shapes kind leave (record { heap = heap; part = part; log = log }) v.who read
@@ -238,7 +246,7 @@ allows_find layout shapes kind slots id m at act is may =
       left_words layout shapes kind may.works w m.0.who allowed,
       stays_of layout shapes m.0 kind may.works is may.runs log
           (heap (region_of kind) (index_of layout m.0.who kind))
-          (subst (λ (x : View). IsPrefix x.seen log) mine (running.wave.known.seen m.0.who))
+          (subst (λ (x : View). IsPrefix x.seen log) mine (running.known.seen m.0.who))
           (λ leave. retires_of layout shapes m.0 kind leave may.may heap part log
           (heap (region_of kind) (index_of layout m.0.who kind)) running mine)
           (λ visit below. let after = visited_by layout shapes kind visit w m.0.who allowed in

@@ -29,7 +29,7 @@ own_if_empty word state who o = by_test (word == 0)
     by_test true = eq-eqb who who refl
     by_test false = tt
 
--- each entry of a work is a call of the one that steps
+-- each entry of a work is a call of the one that steps, or has a block taken or swept
 pub entry_own : (layout : Layout) (shapes : ShapeLists) (state : State) (who : ℕ) (kind : Kind) (read : ℕ) →
     is_work kind ≡ true → IsOwnEntry who (entry_of layout shapes state who kind read)
 entry_own layout shapes state who (Retire (Some o)) read works = eq-eqb who who refl
@@ -64,8 +64,12 @@ entry_own layout shapes state who (TakeArray block k old next (Some o)) read wor
     by_test true = eq-eqb who who refl
     by_test false = tt
 entry_own layout shapes state who (StoreStructure cell word (Some o)) read works = eq-eqb who who refl
-entry_own layout shapes state who (ClaimBlock block old cycle) read works = absurd (cc)
-entry_own layout shapes state who (GiveBits block bits) read works = absurd (cc)
+entry_own layout shapes state who (ClaimBlock block old cycle) read works = by_test (read == old)
+  where
+    by_test : (b : Bool) → IsOwnEntry who (if b then Some (plain (Taken block)) else None)
+    by_test true = refl
+    by_test false = tt
+entry_own layout shapes state who (GiveBits block bits) read works = refl
 entry_own layout shapes state who kind read works = tt
 
 none_more : (n : ℕ) (b : Bool) → b ≡ false → n ≡ n + (if b then 1 else 0)

@@ -3,3 +3,4 @@ pub mod Comings
 pub mod EntryBirths
 pub mod Allowing
 pub mod Ties
+pub mod Zeroing

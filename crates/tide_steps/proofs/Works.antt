@@ -1,11 +1,11 @@
 -- What a participant's work between its beginning and its stop leaves of its view.
-use Rattle.std.proofs.Common.{ℕ, ◌+◌, ◌≡◌, refl, ap, Bool, true, false, List, [], ◌∷◌, ◌++◌, Option, None, Some}
+use Rattle.std.proofs.Common.{ℕ, ◌+◌, ◌≡◌, refl, ap, Bool, true, false, List, [], ◌∷◌, ◌++◌, length, Option, None, Some}
 use Rattle.std.specs.Prelude.{if◌then◌else◌, ◌==◌, ◌||◌, ◌*◌}
 use Rattle.std.specs.Int.{bit_at}
 use Rattle.tide_layout.specs.Slots.{index_of_element}
 use Rattle.tide_layout.specs.declared.region.Region.{Region}
 use Rattle.tide_layout.specs.declared.region.Region.TheVariants.{Elements}
-use Rattle.tide_machine.specs.Kind.{Kind, Retire, LoadRegister, StoreRegister, LoadCall, StoreCall, LoadStrong, StoreStrong, LoadWeak, StoreWeak, LoadLink, StoreLink, LoadColour, Regrey, PushBit, LoadFree, TakeFree, StoreBorn, LoadPair, StorePair, StoreGroup, LoadClaim, TakeClaim, Release, LoadElement, StoreElement, TakeArray, Nuke, LoadOwnArray, StoreArray, LoadOwnStructure, StoreStructure, SwapGrey, Blacken, LoadStructure, LoadArray, LoadSlot, LoadElementOf, LoadAgain, LoadTarget, Mark, UnBlacken, PushRace, Publish}
+use Rattle.tide_machine.specs.Kind.{Kind, Retire, LoadRegister, StoreRegister, LoadCall, StoreCall, LoadStrong, StoreStrong, LoadWeak, StoreWeak, LoadLink, StoreLink, LoadColour, Regrey, PushBit, LoadFree, TakeFree, StoreBorn, LoadPair, StorePair, StoreGroup, LoadClaim, TakeClaim, Release, LoadElement, StoreElement, TakeArray, Nuke, LoadOwnArray, StoreArray, LoadOwnStructure, StoreStructure, SwapGrey, Blacken, LoadStructure, LoadArray, LoadSlot, LoadElementOf, LoadAgain, LoadTarget, Mark, UnBlacken, PushRace, Publish, ClaimBlock, LoadDead, ZeroWord, GiveBits, Finish}
 use Rattle.tide_machine.specs.May.{called}
 use Rattle.tide_machine.specs.Duties.{is_growing}
 use Rattle.tide_machine.specs.Owed.{owed_register, filled_register, owed_word}
@@ -19,6 +19,7 @@ use Rattle.tide_machine.specs.kinds.LoadFree.{searched_view, looked_view}
 use Rattle.tide_machine.specs.kinds.StorePrivateElement.{element_view, stored_element_view}
 use Rattle.tide_machine.specs.kinds.StoreStructure.{structured_view}
 use Rattle.tide_machine.specs.kinds.SwapGrey.{swapped_view}
+use Rattle.tide_machine.specs.kinds.Sweep.{claimed_view, cleared_from, dead_view, saw_word, with_swept}
 use Rattle.tide_machine.specs.kinds.TakeArray.{array_view, array_at, grown_view}
 use Rattle.tide_model.specs.History.{state_after}
 use Rattle.tide_model.specs.Layout.{Layout}
@@ -148,6 +149,25 @@ swapped grey block read v = by_test (read == 0)
     by_test true = refl
     by_test false = refl
 
+dead_seen : (log : List Event) (block read : ℕ) (v : View) → core (dead_view log block read v) ≡ core v
+dead_seen log block read v = by_test (read == 0)
+  where
+    by_test : (b : Bool) → core (if b then cleared_from (length log) block v
+        else record v { saw = Some (record { block = block; word = read; swept = None }) }) ≡ core v
+    by_test true = refl
+    by_test false = refl
+
+claimed : (log : List Event) (block old cycle read : ℕ) (v : View) →
+    core (claimed_view log block old cycle read v) ≡ core v
+claimed log block old cycle read v = by_test (read == old) (read == cycle)
+  where
+    by_test : (took last : Bool) → core (if took then record (cleared_from (length log + 1) block v) {
+      sweeping = Some (record { block = block; dead = saw_word v.saw; given = false; zeroed = [] });
+    } else if last then cleared_from (length log) block v else record v { saw = with_swept read v.saw }) ≡ core v
+    by_test true last = refl
+    by_test false true = refl
+    by_test false false = refl
+
 pub core_kept : (layout : Layout) (shapes : ShapeLists) (log : List Event) (me : ℕ) (kind : Kind) (read : ℕ)
     (v : View) → is_work kind ≡ true → core (changed layout shapes log me kind read v) ≡ worked kind read (core v)
 core_kept layout shapes log me (Retire made) read v is = refl
@@ -209,6 +229,11 @@ core_kept layout shapes log me (Mark cell old cycle) read v is = refl
 core_kept layout shapes log me (UnBlacken cell cycle) read v is = refl
 core_kept layout shapes log me (PushRace cell) read v is = refl
 core_kept layout shapes log me (Publish block mask) read v is = refl
+core_kept layout shapes log me (ClaimBlock block old cycle) read v is = claimed log block old cycle read v
+core_kept layout shapes log me (LoadDead block) read v is = dead_seen log block read v
+core_kept layout shapes log me (ZeroWord at index) read v is = refl
+core_kept layout shapes log me (GiveBits block bits) read v is = refl
+core_kept layout shapes log me (Finish block) read v is = refl
 core_kept layout shapes log me kind read v is = absurd (cc)
 
 -- the word that a step found is no part of it

@@ -1,12 +1,15 @@
 -- What a call of a pass asks, and what it tells.
-use Rattle.std.specs.Prelude.{ℕ, ◌≡◌, true}
-use Rattle.tide_machine.specs.Kind.{Kind}
+use Rattle.std.specs.Prelude.{ℕ, ◌≡◌, ◌<◌, true}
+use Rattle.tide_layout.specs.Region.{place_in, size_of}
+use Rattle.tide_layout.specs.declared.region.Region.{Region}
+use Rattle.tide_machine.specs.Kind.{Kind, ZeroWord}
 use Rattle.tide_machine.specs.declared.act.Act.{Act}
 use Rattle.tide_machine.specs.declared.act.Act.TheVariants.{Load, Store, Swap, And, Or, Exchange}
 use Rattle.tide_steps.specs.Follows.{MayStep, Follows}
 use Rattle.tide_heap.specs.declared.heap.Heap.{Heap}
 use Rattle.tide_steps.specs.declared.pass.Pass.{Pass}
 use Rattle.tide_model.specs.Refused.{ShapeLists}
+use Rattle.tide_sweep.specs.Running.{IsDeadPlace}
 
 -- below, the lists of keys are those of the shapes that a heap was made of
 module _ {S : Type 0} (lists : S → ShapeLists) where
@@ -35,3 +38,15 @@ module _ {S : Type 0} (lists : S → ShapeLists) where
   HasActed (And mask) heap kind old read new = HasStepped heap kind old read new
   HasActed (Or mask) heap kind old read new = HasStepped heap kind old read new
   HasActed (Exchange before after) heap kind old read new = HasStepped heap kind old read new
+
+  -- it can zero the word at this place, which is one of what is dead in a block with these dead bits
+  pub record CanZero (heap : Heap S) (pass : Pass) (at : ℕ) : Type 0 where
+    pub block : ℕ
+    pub bits : ℕ
+    pub place : IsDeadPlace heap.key.layout block bits at
+    pub can : CanStep heap pass (ZeroWord place.region place.index)
+
+  -- it has zeroed the word at this place: no other word has it
+  abbrev pub HasZeroed : Heap S → Pass → ℕ → Pass → Type 0
+  HasZeroed heap old at new = (region : Region) (index : ℕ) → index < size_of heap.key.layout region →
+      place_in heap.key.layout region index ≡ at → HasStored heap (ZeroWord region index) old new

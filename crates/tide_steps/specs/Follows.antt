@@ -4,6 +4,7 @@ use Rattle.tide_layout.specs.Region.{place_in, size_of}
 use Rattle.tide_machine.specs.Kind.{Kind, LoadCall, LoadRegister, region_of, index_of, act_of}
 use Rattle.tide_machine.specs.Machine.{IsAllowed}
 use Rattle.tide_machine.specs.Moment.{Moment}
+use Rattle.tide_machine.specs.RunningWave.{RunningWave}
 use Rattle.tide_machine.specs.Views.{view_after}
 use Rattle.tide_machine.specs.World.{World}
 use Rattle.tide_machine.specs.declared.act.Act.{Act}
@@ -14,13 +15,12 @@ use Rattle.tide_model.specs.Lawful.{IsLawful}
 use Rattle.tide_model.specs.Layout.{Layout}
 use Rattle.tide_model.specs.Refused.{ShapeLists}
 use Rattle.tide_model.specs.declared.entry.Event.{Event}
-use Rattle.tide_heap.specs.Clean.{RunsClean}
 use Rattle.tide_steps.specs.Works.{is_work}
 
 -- Whatever the machine is when a participant with this view steps, it is allowed the step of this kind. What the caller
--- knows of the machine is that the wave holds and nothing is dead, and its own view.
+-- knows of the machine is that the wave holds, and its own view.
 abbrev pub MayStep : Layout → ShapeLists → View → Kind → Type 0
-MayStep layout shapes v kind = (w : World) → RunsClean layout shapes w → w.part v.who ≡ v →
+MayStep layout shapes v kind = (w : World) → RunningWave layout shapes w → w.part v.who ≡ v →
     IsAllowed layout shapes w v.who kind
 
 -- the view with the word that a step of this kind found; what its registers and its call word tell, it knows already

@@ -1,7 +1,7 @@
 -- The kinds of step that a participant makes between its beginning and its stop, and for which a pass has a call.
 use Rattle.std.specs.Int.{bit_at}
 use Rattle.std.specs.Prelude.{ℕ, ◌+◌, Bool, true, false, Some, ◌==◌, if◌then◌else◌}
-use Rattle.tide_machine.specs.Kind.{Kind, Retire, LoadRegister, StoreRegister, LoadCall, StoreCall, LoadStrong, StoreStrong, LoadWeak, StoreWeak, LoadLink, StoreLink, LoadColour, Regrey, PushBit, LoadFree, TakeFree, StoreBorn, LoadPair, StorePair, StoreGroup, LoadClaim, TakeClaim, Release, LoadElement, StoreElement, TakeArray, Nuke, LoadOwnArray, StoreArray, LoadOwnStructure, StoreStructure, SwapGrey, Blacken, LoadStructure, LoadArray, LoadSlot, LoadElementOf, LoadAgain, LoadTarget, Mark, UnBlacken, PushRace, Publish}
+use Rattle.tide_machine.specs.Kind.{Kind, Retire, LoadRegister, StoreRegister, LoadCall, StoreCall, LoadStrong, StoreStrong, LoadWeak, StoreWeak, LoadLink, StoreLink, LoadColour, Regrey, PushBit, LoadFree, TakeFree, StoreBorn, LoadPair, StorePair, StoreGroup, LoadClaim, TakeClaim, Release, LoadElement, StoreElement, TakeArray, Nuke, LoadOwnArray, StoreArray, LoadOwnStructure, StoreStructure, SwapGrey, Blacken, LoadStructure, LoadArray, LoadSlot, LoadElementOf, LoadAgain, LoadTarget, Mark, UnBlacken, PushRace, Publish, ClaimBlock, LoadDead, ZeroWord, GiveBits, Finish}
 
 -- the kind is one of them
 abbrev pub is_work : Kind → Bool
@@ -48,6 +48,11 @@ is_work (Mark cell old cycle) = true
 is_work (UnBlacken cell cycle) = true
 is_work (PushRace cell) = true
 is_work (Publish block mask) = true
+is_work (ClaimBlock block old cycle) = true
+is_work (LoadDead block) = true
+is_work (ZeroWord at index) = true
+is_work (GiveBits block bits) = true
+is_work (Finish block) = true
 is_work _ = false
 
 -- how many cells were born to a participant after a step of the kind that finds this word

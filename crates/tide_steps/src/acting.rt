@@ -57,11 +57,11 @@ impl Pass {
         act: Act,
         step: Step,
     ) -> u64
-        requires plain { is_plain (kind_of step) ≡ true }
-        requires stands { StandsAt heap.now.key.layout self.old.seat.me.0.who (kind_of step) at }
-        requires acts { act ≡ act_of (kind_of step) }
-        requires may { CanStep S.lists heap.now self.old (kind_of step) }
-        ensures step { HasActed S.lists act heap.now (kind_of step) self.old result self.new }
+        requires plain { is_plain (kind_of heap.now.key.layout step) ≡ true }
+        requires stands { StandsAt heap.now.key.layout self.old.seat.me.0.who (kind_of heap.now.key.layout step) at }
+        requires acts { act ≡ act_of (kind_of heap.now.key.layout step) }
+        requires may { CanStep S.lists heap.now self.old (kind_of heap.now.key.layout step) }
+        ensures step { HasActed S.lists act heap.now (kind_of heap.now.key.layout step) self.old result self.new }
     {
         act_as::<S, Brand>(&mut self.seat, heap, at, act, step)
     }

@@ -15,6 +15,7 @@ mod plays;
 mod properties;
 mod slots;
 mod step;
+mod sweeps;
 mod visits;
 
 pub use notes::{Note, Ticket};

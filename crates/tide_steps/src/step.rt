@@ -51,4 +51,9 @@ pub(crate) enum Step {
     UnBlacken(u32, u64),
     PushRace(u32),
     Publish(u32, u64),
+    LoadDead(u32),
+    ClaimBlock(u32, u64, u64),
+    ZeroWord(usize),
+    GiveBits(u32, u64),
+    Finish(u32),
 }

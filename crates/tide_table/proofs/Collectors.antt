@@ -1,7 +1,6 @@
 -- The collector's steps keep the rule: it freezes, stores words, enters, opens, takes notes in and gives tickets out.
 use Rattle.std.proofs.Common.{◌≡◌, ℕ, zero, suc, ◌+◌, ◌≤◌, ◌⊎◌, List, [], ◌∷◌, ◌++◌, length, sym, refl, ap, ◌∙◌, inl, inr, subst, arith, Bool, true, false, set, MatchBool, length-set, append-nil}
 use Rattle.std.proofs.lemmas.Bool.{and_parts, cases_Bool, eq-eqb, ne_eqb}
-use Rattle.tide_heap.specs.Clean.{IsClean}
 use Rattle.tide_machine.proofs.freezes.Progress.{progress}
 use Rattle.tide_machine.proofs.steps.Paying.{filter_was}
 use Rattle.tide_machine.proofs.steps.StopPlaces.{stop_within}
@@ -16,7 +15,7 @@ use Rattle.tide_layout.specs.Region.{word_count, place_in}
 use Rattle.tide_layout.specs.declared.region.Region.TheVariants as region
 use Rattle.tide_core.specs.FrozenWave.{FrozenWave}
 use Rattle.tide_machine.proofs.freezes.Entering.{FrozenWith-of}
-use Rattle.tide_machine.proofs.freezes.Freezing.{FrozenMachine-running}
+use Rattle.tide_machine.proofs.freezes.Freezing.{FrozenMachine-running, parts_sweep}
 use Rattle.tide_machine.proofs.freezes.OpeningParts.{RunningWave-opened}
 use Rattle.tide_machine.specs.Frozen.{FrozenWith, FrozenMachine, MayOpen}
 use Rattle.tide_machine.specs.RunningWave.{RunningWave}
@@ -27,23 +26,21 @@ use Rattle.tide_machine.specs.declared.view.View.{View}
 use Rattle.tide_machine.specs.declared.view.Visited.{Visited}
 use Rattle.tide_machine.specs.points.Marks.{counted_in}
 use Rattle.tide_machine.specs.points.Seen.{WhoLeftIsInactive}
-use Rattle.tide_machine.specs.points.Sweeps.{SweptAreBelow, SweptAreTold}
-use Rattle.tide_model.proofs.Histories.{IsLawful-push, state_after-push}
+use Rattle.tide_machine.specs.points.Sweeps.{SweptAreBelow, SweptAreTold, TakenAreClean}
+use Rattle.tide_model.proofs.Histories.{IsLawful-push}
 use Rattle.tide_model.proofs.SinceLaws.{count-push}
-use Rattle.tide_model.specs.Cycle.{HasDead, IsSwept}
+use Rattle.tide_model.specs.Cycle.{HasDead}
 use Rattle.tide_model.specs.History.{is_call_of, is_open, plain, state_after}
 use Rattle.tide_model.specs.Lawful.{IsLawful, Stands}
 use Rattle.tide_model.specs.Layout.{Layout}
 use Rattle.tide_model.specs.Prefix.{IsPrefix, prefix_refl, prefix_trans, prefix_push}
 use Rattle.tide_model.specs.Refused.{ShapeLists}
-use Rattle.tide_model.specs.State.{State}
 use Rattle.tide_model.specs.declared.entry.Entry.TheVariants.{Open}
 use Rattle.tide_model.specs.declared.entry.Event.{Event}
 use Rattle.tide_heap.proofs.Beginnings.{longer_ok, same_lists}
-use Rattle.tide_heap.proofs.Cleaning.{part_is_clean, part_stays_clean}
-use Rattle.tide_heap.proofs.Births.{born_to-none, born_to-quiet, births_few, born_to_all, start-opened, start-push, told_all, told_more, told_none, total_same}
+use Rattle.tide_heap.proofs.Births.{all_pass, born_to-none, born_to-quiet, births_few, born_to_all, start-opened, start-push, told_all, told_more, told_none, total_same}
 use Rattle.tide_heap.specs.Births.{births_in, born_to, told_births}
-use Rattle.tide_model.specs.Since.{born_since, is_call, since}
+use Rattle.tide_model.specs.Since.{TakenAreSwept, born_since, is_of_part, since}
 use Rattle.tide_table.proofs.FrozenWords.{FrozenWith-read, FrozenWith-more}
 use Rattle.tide_table.proofs.Heeding.{own, mode_of, ok_of, prefix_of, collector_step, continue_part}
 use Rattle.tide_heap.proofs.Leaving.{inactive-push, active-push}
@@ -236,7 +233,7 @@ module _ (layout : Layout) (shapes : ShapeLists) (words : List ℕ) (views : Lis
       × (length words ≡ word_count layout)
       × Tabled layout shapes words (set views me (frozen_with words v)) log
       × (v.seen ≡ v.start ++ since is_open log)
-      × (list_all (λ event. is_call event.entry) (since is_open log) ≡ true)
+      × (list_all (λ event. is_of_part event.entry) (since is_open log) ≡ true)
       × (v.births ≡ born_since is_open log) × (born_since is_open log ≤ 20480)
       × ((i : ℕ) → IsParty layout i → (state_after layout v.seen).active i ≡ false → In i v.gone)
       × ((noted : NotedCalls) → IsParty layout noted.who → Contains v.noted_calls noted → IsPrefix noted.seen v.seen)
@@ -246,12 +243,10 @@ module _ (layout : Layout) (shapes : ShapeLists) (words : List ℕ) (views : Lis
       × ((i : ℕ) → IsParty layout i → In i v.notes →
       heap_of layout words region.Stopped (index_of_stopped layout i) ≡ v.period)
       × (v.marks ≡ is_marking (heap_of layout words))
-      × IsSwept layout v.seen
+      × TakenAreSwept (since is_open log)
   freeze_all thawed all_in =
       let run = running_mode thawed in
       let seen = all_seen all_in in
-      let clean : IsClean layout log =
-      part_is_clean layout shapes v.start log run.wave.lawful run.wave.part_alone start_of run.swept in
       let machine : FrozenMachine layout shapes (record { heap = run.heap; part = k.part; log = log })
       (total (counted_in (run.heap region.Period 0)) k.part) =
       FrozenMachine-running layout shapes (record { heap = run.heap; part = k.part; log = log }) run.wave
@@ -304,9 +299,9 @@ module _ (layout : Layout) (shapes : ShapeLists) (words : List ℕ) (views : Lis
               all_in = all_in;
             },
         sym seen ∙ sym start_of,
-        (part_stays_clean layout shapes v.start log run.wave.lawful run.wave.part_alone start_of run.swept).calls,
+        all_pass (λ event. is_of_part event.entry) (since is_open log) run.wave.part_alone,
         births_told all_in run.wave.lawful,
-        births_few layout shapes k.limits log run.wave.lawful clean.calls_alone,
+        births_few layout shapes k.limits log run.wave.lawful run.wave.part_alone,
         λ i party left. gone_told all_in run.wave.left i party
             (subst (λ (l : List Event). (state_after layout l).active i ≡ false) (sym seen) left),
         heard_told,
@@ -316,7 +311,7 @@ module _ (layout : Layout) (shapes : ShapeLists) (words : List ℕ) (views : Lis
         λ i party a. run.reads.each region.Stopped (index_of_stopped layout i) (stop_within layout i party)
             ∙ run.wave.stops i party ∙ (ok_of layout shapes words views log me v k there is i party).halted a,
         run.marks ∙ sym (ap marks_by (run.reads.each region.Phase 0 (omega arith))),
-        subst (IsSwept layout) seen clean.swept,
+        parts_sweep layout shapes (record { heap = run.heap; part = k.part; log = log }) run.wave (all_parked all_in),
       )
 
   -- a store of the collector while frozen
@@ -428,7 +423,7 @@ module _ (layout : Layout) (shapes : ShapeLists) (words : List ℕ) (views : Lis
   -- the next part is opened where the words meet the wave at a freeze, with nothing left to enter
   pub open_next : (run : ℕ) → v.frozen ≡ true → FrozenWave layout shapes (heap_of layout v.words) v.seen →
       SweptAreBelow layout (heap_of layout v.words) → SweptAreTold layout (heap_of layout v.words) v.seen →
-      IsSwept layout v.seen →
+      TakenAreClean layout (heap_of layout v.words) (state_after layout v.seen) →
       SameIn layout region.Stopped (heap_of layout v.stood) (heap_of layout v.words) →
       MayOpen layout (heap_of layout v.words) run →
       Tabled layout shapes (set words (place_in layout region.Period 0) (v.period + 1)) (set views me (opened layout run v))
@@ -446,7 +441,7 @@ module _ (layout : Layout) (shapes : ShapeLists) (words : List ℕ) (views : Lis
       let wave = RunningWave-opened layout shapes (record { heap = heap; part = k.part; log = log }) run record {
         wave = FrozenWith-of layout shapes heap log now.lawful
             (now.span heap (λ marks. marks_read layout shapes heap log met.marking.reads ∙ marks)) swept
-            (λ block within taken has. clean block
+            (λ block within taken has. clean block within taken
             (subst (λ (l : List Event). HasDead layout (state_after layout l) block) now.seen_all has))
             (subst (λ (l : List Event). SweptAreTold layout heap l) (sym now.seen_all) told) met;
         known = now.known;
@@ -509,7 +504,6 @@ module _ (layout : Layout) (shapes : ShapeLists) (words : List ℕ) (views : Lis
         period = refl;
         marks = refl;
         cycle = refl;
-        swept = subst (λ (s : State). (block : ℕ) → HasDead layout s block → ⊥) (sym (state_after-push layout v.seen event)) clean;
         some_run = λ marks visitors. (may marks visitors).0;
       }
     where
@@ -609,7 +603,6 @@ module _ (layout : Layout) (shapes : ShapeLists) (words : List ℕ) (views : Lis
         period = run.period;
         marks = run.marks;
         cycle = run.cycle;
-        swept = run.swept;
         some_run = run.some_run;
       })
     where

@@ -95,7 +95,7 @@ HasOpenedNext-by layout shapes pace is_must run old counted books v u w x runs f
         let same = begin_count-opened layout run w x is in
         let more = did.freezes.cycles in
         let before = ap (λ (y : View). begin_count y.seen) froze.view ∙ ap begin_count froze.since
-        ∙ begin_count-part v.start froze.part froze.calls in
+        ∙ begin_count-part v.start froze.part froze.of_part in
         let few = runs.few in
         omega (arith, same, more, before, few, later);
     numbered = subst (λ (y : View). y.period < 2 ^ 32) (sym is) numbered;
@@ -133,7 +133,7 @@ AddsEnds-next layout shapes run report longer v u w x froze told is =
     (AddsEnds-same layout v.start u.seen report report
     (ap (λ (y : View). ends_in layout y.seen) froze.view
     ∙ ap (ends_in layout) froze.since
-    ∙ ends_in-part layout v.start froze.part (no_ends froze.part froze.calls)) refl refl)
+    ∙ ends_in-part layout v.start froze.part (no_ends froze.part froze.of_part)) refl refl)
     (AddsEnds-then layout u.seen w.seen x.start report longer longer told
     (AddsEnds-same layout w.seen x.start longer longer
     (ap (λ (y : View). ends_in layout y.start) is

@@ -10,8 +10,8 @@ use Rattle.tide_freeze.specs.Freezing.{HasFrozen, SharesGreys}
 use Rattle.tide_freeze.specs.Participants.{LeavesParticipants}
 use Rattle.tide_machine.proofs.freezes.RestingSweeps.{sweeps_rest}
 use Rattle.tide_machine.specs.Frozen.{FrozenWith}
-use Rattle.tide_machine.specs.points.Sweeps.{SweptAreTold}
-use Rattle.tide_model.specs.Cycle.{IsSwept}
+use Rattle.tide_machine.specs.points.Sweeps.{SweptAreTold, TakenAreClean}
+use Rattle.tide_model.specs.History.{state_after}
 use Rattle.tide_model.specs.Lawful.{IsLawful}
 use Rattle.tide_model.specs.Layout.{Layout}
 use Rattle.tide_model.specs.Pace.{Pace}
@@ -32,10 +32,10 @@ pub leads_to_opening : (pace : Pace) (layout : Layout) (shapes : ShapeLists) (wo
     (here after : List Event) (unentered : ℕ) (is_must : Bool) →
     FrozenWith layout shapes (heap_of layout words) here unentered →
     FrozenWave layout shapes (heap_of layout words_now) after → IsLawful layout shapes after →
-    HasFrozen pace layout here after is_must → IsSwept layout after →
+    HasFrozen pace layout here after is_must →
     LeavesParticipants layout (heap_of layout words) (heap_of layout words_now) →
     SharesGreys layout words_now after → MayFollow layout shapes words_now after (next_run pace layout after)
-leads_to_opening pace layout shapes words words_now here after unentered is_must f wave lawful has rested left shared =
+leads_to_opening pace layout shapes words words_now here after unentered is_must f wave lawful has left shared =
     let swept = sweeps_rest layout shapes (heap_of layout words) (heap_of layout words_now) here has.events unentered f
     (subst (FrozenWave layout shapes (heap_of layout words_now)) has.entered wave)
     (subst (IsLawful layout shapes) has.entered lawful)
@@ -44,7 +44,8 @@ leads_to_opening pace layout shapes words words_now here after unentered is_must
       wave = wave;
       swept = swept.0;
       told = subst (SweptAreTold layout (heap_of layout words_now)) (sym has.entered) swept.2;
-      clean = rested;
+      clean = subst (λ (h : List Event). TakenAreClean layout (heap_of layout words_now) (state_after layout h))
+          (sym has.entered) swept.1;
       may = λ marks visitors. (
         has.calls,
         shared (marks-same layout shapes (heap_of layout words_now) after wave ∙ marks),

@@ -81,4 +81,4 @@ seat_member layout shapes words views log me v k there is who later party = reco
 
     move : (b : Bool) → MatchBool b (IsFrozen layout shapes words log v k.part) (IsRunning layout shapes words log v k.part) → MatchBool b (IsFrozen layout shapes words log (seating who v) k.part) (IsRunning layout shapes words log (seating who v) k.part)
     move true h = record { words_are = h.words_are; long = h.long; seen_all = h.seen_all; lawful = h.lawful; counts = h.counts; span = h.span; known = h.known; begun = h.begun; left = h.left; empty = h.empty; stops = h.stops; all_in = h.all_in }
-    move false h = record { heap = h.heap; reads = h.reads; wave = h.wave; period = h.period; marks = h.marks; cycle = h.cycle; swept = h.swept; some_run = h.some_run }
+    move false h = record { heap = h.heap; reads = h.reads; wave = h.wave; period = h.period; marks = h.marks; cycle = h.cycle; some_run = h.some_run }

@@ -5,7 +5,7 @@ use Rattle.std.specs.List.{list_all}
 use Rattle.std.specs.Prelude.{◌&&◌, count_by, if◌then◌else◌, map, not}
 use Rattle.tide_freeze.proofs.RunningLaws.{part_keeps_books}
 use Rattle.tide_freeze.proofs.QuietLaws.{HasFrozen-quiet, open_count-quiet, visits-quiet}
-use Rattle.tide_freeze.proofs.VisitLaws.{HasVisited-none, IsSwept-visits, born_begin-visits, born_end-visits, visits_make_freeze}
+use Rattle.tide_freeze.proofs.VisitLaws.{HasVisited-none, born_begin-visits, born_end-visits, visits_make_freeze}
 use Rattle.tide_freeze.specs.Births.{AreBornIn}
 use Rattle.tide_freeze.specs.Books.{AreBooks, WereKept}
 use Rattle.tide_freeze.proofs.BookLaws.{IsSwept-none, ends_in-part}
@@ -26,7 +26,7 @@ use Rattle.tide_layout.specs.Limits.{IsWithinLimits}
 use Rattle.tide_model.proofs.Histories.{IsLawful-nil, IsLawful-prefix}
 use Rattle.tide_model.proofs.PeriodLaws.{Each-nil, ends_in_time-append}
 use Rattle.tide_model.proofs.SinceLaws.{count-push}
-use Rattle.tide_model.specs.Cycle.{IsSwept, begin_count}
+use Rattle.tide_model.specs.Cycle.{begin_count}
 use Rattle.tide_model.specs.Each.{Each}
 use Rattle.tide_model.specs.Freeze.{is_marking_phase, marks_after, visits_entries}
 use Rattle.tide_model.specs.State.{idle, marking}
@@ -37,7 +37,7 @@ use Rattle.tide_model.specs.Layout.{Layout}
 use Rattle.tide_model.specs.Pace.{Pace}
 use Rattle.tide_model.specs.Periods.{EndsInTime, next_run, open_count}
 use Rattle.tide_model.specs.Refused.{ShapeLists}
-use Rattle.tide_model.specs.Since.{is_call, is_end, is_of_freeze}
+use Rattle.tide_model.specs.Since.{is_end, is_of_freeze, is_of_part}
 use Rattle.tide_model.specs.declared.entry.Entry.{Entry}
 use Rattle.tide_model.specs.declared.entry.Entry.TheVariants.{Begin, Call, End, Open, Pause, Sweep, Taken, Visits}
 use Rattle.tide_model.specs.declared.entry.Event.{Event}
@@ -53,50 +53,32 @@ use Rattle.tide_table.specs.VisitsTold.{AreTold, all_entered, unentered, visits_
 use Rattle.tide_words.specs.heap.Heap.{heap_of}
 use Rattle.tide_words.specs.marking.Colours.{is_black, is_marking}
 
--- what calls of a part are not
-no_open : (entry : Entry) → is_call entry ≡ true → not (is_open entry) ≡ true
-no_open (Call who op reply) is = refl
-no_open (Begin cycle full) is = absurd (cc)
-no_open (Pause visits) is = absurd (cc)
-no_open (Visits who visits) is = absurd (cc)
-no_open (End cycle freed) is = absurd (cc)
-no_open (Taken block) is = absurd (cc)
-no_open (Sweep block) is = absurd (cc)
+-- what the entries of a part are not
+no_open : (entry : Entry) → is_of_part entry ≡ true → not (is_open entry) ≡ true
 no_open (Open number run) is = absurd (cc)
+no_open _ is = refl
 
-no_end : (entry : Entry) → is_call entry ≡ true → not (is_end entry) ≡ true
-no_end (Call who op reply) is = refl
-no_end (Begin cycle full) is = absurd (cc)
-no_end (Pause visits) is = absurd (cc)
-no_end (Visits who visits) is = absurd (cc)
+no_end : (entry : Entry) → is_of_part entry ≡ true → not (is_end entry) ≡ true
 no_end (End cycle freed) is = absurd (cc)
-no_end (Taken block) is = absurd (cc)
-no_end (Sweep block) is = absurd (cc)
-no_end (Open number run) is = absurd (cc)
+no_end _ is = refl
 
-no_begin : (entry : Entry) → is_call entry ≡ true → not (is_begin entry) ≡ true
-no_begin (Call who op reply) is = refl
+no_begin : (entry : Entry) → is_of_part entry ≡ true → not (is_begin entry) ≡ true
 no_begin (Begin cycle full) is = absurd (cc)
-no_begin (Pause visits) is = absurd (cc)
-no_begin (Visits who visits) is = absurd (cc)
-no_begin (End cycle freed) is = absurd (cc)
-no_begin (Taken block) is = absurd (cc)
-no_begin (Sweep block) is = absurd (cc)
-no_begin (Open number run) is = absurd (cc)
+no_begin _ is = refl
 
 -- so none of them is
-none_of : (test : Entry → Bool) → ((entry : Entry) → is_call entry ≡ true → not (test entry) ≡ true) → (part : List Event) →
-    list_all (λ e. is_call e.entry) part ≡ true → list_all (λ e. not (test e.entry)) part ≡ true
+none_of : (test : Entry → Bool) → ((entry : Entry) → is_of_part entry ≡ true → not (test entry) ≡ true) → (part : List Event) →
+    list_all (λ e. is_of_part e.entry) part ≡ true → list_all (λ e. not (test e.entry)) part ≡ true
 none_of test never [] all = refl
 none_of test never (event ∷ part) all =
-    let (here, later) = and_parts (is_call event.entry) (list_all (λ (e : Event). is_call e.entry) part) all in
+    let (here, later) = and_parts (is_of_part event.entry) (list_all (λ (e : Event). is_of_part e.entry) part) all in
     ap (λ (b : Bool). b && list_all (λ (e : Event). not (test e.entry)) part) (never event.entry here)
     ∙ none_of test never part later
 
-pub no_opens : (part : List Event) → list_all (λ e. is_call e.entry) part ≡ true → list_all (λ e. not (is_open e.entry)) part ≡ true
+pub no_opens : (part : List Event) → list_all (λ e. is_of_part e.entry) part ≡ true → list_all (λ e. not (is_open e.entry)) part ≡ true
 no_opens = none_of is_open no_open
 
-pub no_ends : (part : List Event) → list_all (λ e. is_call e.entry) part ≡ true → list_all (λ e. not (is_end e.entry)) part ≡ true
+pub no_ends : (part : List Event) → list_all (λ e. is_of_part e.entry) part ≡ true → list_all (λ e. not (is_end e.entry)) part ≡ true
 no_ends = none_of is_end no_end
 
 -- so they are as many as before
@@ -119,20 +101,20 @@ count_none test history (event ∷ part) none =
     isnt false is = refl
     isnt true is = absurd (cc)
 
-pub open_count-part : (history part : List Event) → list_all (λ e. is_call e.entry) part ≡ true →
+pub open_count-part : (history part : List Event) → list_all (λ e. is_of_part e.entry) part ≡ true →
     open_count (history ++ part) ≡ open_count history
 open_count-part history part all = count_none is_open history part (no_opens part all)
 
-pub begin_count-part : (history part : List Event) → list_all (λ e. is_call e.entry) part ≡ true →
+pub begin_count-part : (history part : List Event) → list_all (λ e. is_of_part e.entry) part ≡ true →
     begin_count (history ++ part) ≡ begin_count history
 begin_count-part history part all = count_none is_begin history part (none_of is_begin no_begin part all)
 
 -- the books go on over a part whose history is this
 pub AreBooks-counted : (layout : Layout) (start part seen : List Event) (books now : Books) → seen ≡ start ++ part →
-    list_all (λ e. is_call e.entry) part ≡ true → AreBornIn (start ++ part) now.births → now.greys.cap ≡ books.greys.cap →
+    AreBornIn (start ++ part) now.births → now.greys.cap ≡ books.greys.cap →
     AreBooks layout start books → AreBooks layout seen now
-AreBooks-counted layout start part seen books now since calls born cap are =
-    subst (λ (h : List Event). AreBooks layout h now) (sym since) (part_keeps_books layout start part books now calls born cap are)
+AreBooks-counted layout start part seen books now since born cap are =
+    subst (λ (h : List Event). AreBooks layout h now) (sym since) (part_keeps_books layout start part books now born cap are)
 
 -- Below, v is the collector's view while a part runs, and w once it is frozen.
 pub StandsStill-froze : (layout : Layout) (shapes : ShapeLists) (v w : View) → RunsPart layout v →
@@ -141,12 +123,11 @@ StandsStill-froze layout shapes v w runs counts f = subst (StandsStill layout sh
   limits = f.limits;
   frozen = refl;
   few = f.few;
-  period = runs.period ∙ sym (ap open_count f.since ∙ open_count-part v.start f.part f.calls);
-  run = λ opened. runs.run ∙ sym (ap last_run f.since ∙ last_run-same v.start f.part (no_opens f.part f.calls));
+  period = runs.period ∙ sym (ap open_count f.since ∙ open_count-part v.start f.part f.of_part);
+  run = λ opened. runs.run ∙ sym (ap last_run f.since ∙ last_run-same v.start f.part (no_opens f.part f.of_part));
   long = f.long;
   wave = subst (FrozenWith layout shapes (heap_of layout f.words) v.seen) counts f.wave;
-  clean = f.clean;
-  ends = subst (Each (EndsInTime layout)) (sym f.since) (ends_in_time-append layout v.start f.part runs.ends (no_ends f.part f.calls));
+  ends = subst (Each (EndsInTime layout)) (sym f.since) (ends_in_time-append layout v.start f.part runs.ends (no_ends f.part f.of_part));
   stopped = λ index below. refl;
   blacks = λ opened. refl;
 })
@@ -167,7 +148,6 @@ StandsStill-started layout shapes v started limits = record {
       (span_none layout [] refl (heap_of layout v.words)
       (λ marks. marks_read layout shapes (heap_of layout v.words) [] started.wave.marking.reads ∙ marks))
       started.swept (λ block within taken. IsSwept-none layout block) started.told started.wave);
-  clean = subst (IsSwept layout) (sym started.seen) (IsSwept-none layout);
   ends = subst (Each (EndsInTime layout)) (sym started.seen) (Each-nil (EndsInTime layout));
   stopped = started.stopped;
   blacks = λ later. absurd (let none = started.period in omega (arith, later, none));
@@ -235,7 +215,6 @@ AreBooks-visited layout run here after books has are = subst (λ (h : List Event
     since_end = are.births.since_end ∙ sym (born_end-visits has.visits here 0);
   };
   room = are.room;
-  swept = IsSwept-visits layout has.visits here 0 are.swept;
 })
 
 -- the phase word tells whether a cycle marks after the history
@@ -308,7 +287,7 @@ module _ (layout : Layout) (shapes : ShapeLists) (v u : View) (still : StandsSti
       (frozen : IsFrozen layout shapes w.words w.seen (was_black_in layout w))
       (has : HasFrozen pace layout u.seen w.seen is_must)
       (left : LeavesParticipants layout (heap_of layout u.words) (heap_of layout w.words))
-      (shared : SharesGreys layout w.words w.seen) (clean : IsSwept layout w.seen) (is_run : run ≡ next_run pace layout w.seen) where
+      (shared : SharesGreys layout w.words w.seen) (is_run : run ≡ next_run pace layout w.seen) where
     quiet : list_all (λ (e : Event). is_of_freeze e.entry) has.events ≡ true
     quiet = HasFrozen-quiet pace layout u.seen w.seen is_must has
 
@@ -338,7 +317,7 @@ module _ (layout : Layout) (shapes : ShapeLists) (v u : View) (still : StandsSti
     pub HasCollected-still : HasCollected layout shapes pace is_must v w run
     HasCollected-still =
         let follows = leads_to_opening pace layout shapes u.words w.words u.seen w.seen 0 is_must entered.wave frozen.wave
-        frozen.lawful has clean left shared in
+        frozen.lawful has left shared in
         let visited : w.visited ≡ u.visited = ap (λ (x : View). x.visited) same in
         let none : unentered w.visited ≡ 0 = ap unentered visited ∙ entered.entered in record {
           still = record {
@@ -351,8 +330,7 @@ module _ (layout : Layout) (shapes : ShapeLists) (v u : View) (still : StandsSti
             long = frozen.all_words;
             wave = subst (FrozenWith layout shapes (heap_of layout w.words) w.seen) (sym none)
                 (FrozenWith-of layout shapes (heap_of layout w.words) w.seen frozen.lawful span follows.swept
-                (λ block within taken. clean block) follows.told frozen.wave);
-            clean = clean;
+                follows.clean follows.told frozen.wave);
             ends = frozen.ends;
             stopped = λ index below. left.stopped index below
                 ∙ (λ i. heap_of layout (entered.words i) Stopped index) ∙ still.stopped index below

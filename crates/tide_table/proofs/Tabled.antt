@@ -11,8 +11,7 @@ use Rattle.tide_core.specs.FrozenWave.{FrozenWave}
 use Rattle.tide_machine.proofs.steps.StopPlaces.{stop_within}
 use Rattle.tide_machine.specs.Frozen.{MayOpen, newcomer}
 use Rattle.tide_machine.specs.Kind.{index_of_stopped}
-use Rattle.tide_machine.specs.points.Sweeps.{SweptAreBelow, SweptAreTold}
-use Rattle.tide_model.specs.Cycle.{IsSwept}
+use Rattle.tide_machine.specs.points.Sweeps.{SweptAreBelow, SweptAreTold, TakenAreClean}
 use Rattle.tide_words.specs.heap.Heap.{SameIn, heap_of}
 use Rattle.tide_machine.specs.World.{parties}
 use Rattle.tide_machine.specs.declared.view.Role.TheVariants.{Collector, Note, Spent}
@@ -99,8 +98,8 @@ module _ (layout : Layout) (shapes : ShapeLists) where
           wave = h.0;
           part = since is_open rule.log;
           since = h.3;
-          calls = h.4;
-          clean = h.13;
+          of_part = h.4;
+          taken = h.13;
           births = h.5;
           few = (let same = h.5 in let most = h.6 in omega (arith, same, most));
           gone = h.7;
@@ -171,7 +170,7 @@ module _ (layout : Layout) (shapes : ShapeLists) where
       at ≡ place_in layout region.Period 0 → next ≡ me.0.period + 1 →
       FrozenWave layout shapes (heap_of layout me.0.words) me.0.seen →
       SweptAreBelow layout (heap_of layout me.0.words) → SweptAreTold layout (heap_of layout me.0.words) me.0.seen →
-      IsSwept layout me.0.seen →
+      TakenAreClean layout (heap_of layout me.0.words) (state_after layout me.0.seen) →
       SameIn layout region.Stopped (heap_of layout me.0.stood) (heap_of layout me.0.words) →
       MayOpen layout (heap_of layout me.0.words) run →
       Allows (Rule layout shapes) slots id me at (λ _. next) (λ _ b. b.0 ≡ opened layout run me.0)

@@ -8,7 +8,7 @@ use Rattle.tide_layout.specs.Region.{word_count}
 use Rattle.tide_layout.specs.declared.region.Region.TheVariants.{Stopped}
 use Rattle.tide_machine.specs.Frozen.{FrozenWith, MayOpen}
 use Rattle.tide_machine.specs.declared.view.View.{View}
-use Rattle.tide_model.specs.Cycle.{IsSwept, begin_count}
+use Rattle.tide_model.specs.Cycle.{begin_count}
 use Rattle.tide_model.specs.Each.{Each}
 use Rattle.tide_model.specs.Freeze.{marks_after}
 use Rattle.tide_model.specs.History.{plain}
@@ -32,8 +32,8 @@ pub record RunsPart (layout : Layout) (v : View) : Type 0 where
   pub ends : Each (EndsInTime layout) v.start
 
 -- The heap stands still: its words meet the wave at a freeze, with the visits that notes told and that aren't entered yet.
--- Once a part was opened the black cells are those of its last entry. Nothing is dead, cycles ended in time, and who
--- stopped when is as it was at the freeze.
+-- Once a part was opened the black cells are those of its last entry. Cycles ended in time, and who stopped when is as it
+-- was at the freeze.
 pub record StandsStill (layout : Layout) (shapes : ShapeLists) (v : View) : Type 0 where
   pub limits : IsWithinLimits layout
   pub frozen : v.frozen ≡ true
@@ -42,7 +42,6 @@ pub record StandsStill (layout : Layout) (shapes : ShapeLists) (v : View) : Type
   pub run : 0 < v.period → v.run ≡ last_run v.seen
   pub long : length v.words ≡ word_count layout
   pub wave : FrozenWith layout shapes (heap_of layout v.words) v.seen (unentered v.visited)
-  pub clean : IsSwept layout v.seen
   pub ends : Each (EndsInTime layout) v.seen
   pub stopped : SameIn layout Stopped (heap_of layout v.stood) (heap_of layout v.words)
   pub blacks : 0 < v.period → is_black (heap_of layout v.words) ≡ is_black (heap_of layout v.base)

@@ -25,12 +25,11 @@ use Rattle.tide_machine.specs.points.Growths.{GrowthKnows}
 use Rattle.tide_machine.specs.points.Scans.{held, scanned, buffered}
 use Rattle.tide_machine.specs.points.SettledWords.{RunningWordsRead}
 use Rattle.tide_machine.specs.points.Stops.{StopsAreTold}
-use Rattle.tide_machine.specs.points.Sweeps.{IsTaken, SweepStands, Sweeps, SweepsAreRight}
+use Rattle.tide_machine.specs.points.Sweeps.{IsTaken, SawStands, SweepStands, Sweeps, SweepsAreRight}
 use Rattle.tide_machine.specs.declared.view.Saw.{Saw}
 use Rattle.tide_machine.specs.declared.view.Sweeping.{Sweeping}
 use Rattle.tide_machine.specs.kinds.Sweep.{IsSweeping}
 use Rattle.tide_model.specs.Room.{DeadIsTaken}
-use Rattle.tide_layout.specs.Region.{block_count}
 use Rattle.tide_model.proofs.ReferenceLaws.{put_at_elim}
 use Rattle.tide_model.specs.History.{state_after, is_call_of}
 use Rattle.tide_model.specs.Layout.{Layout}
@@ -105,8 +104,7 @@ module _ (layout : Layout) (shapes : ShapeLists) (heap : Heap) (part : ℕ → V
         );
         stands = each_put (λ p u. (s : Sweeping) → u.sweeping ≡ Some s → SweepStands layout heap s) part me later
             (right.named.stands me) right.named.stands;
-        saw = each_put (λ p u. (saw : Saw) → u.saw ≡ Some saw → (saw.block < block_count layout) ×
-            ((heap region.Dead saw.block ≡ saw.word) ⊎ IsTaken heap saw.block)) part me later
+        saw = each_put (λ p u. (saw : Saw) → u.saw ≡ Some saw → SawStands layout heap saw) part me later
             (λ saw is. absurd (cc)) right.named.saw;
       };
       told = right.told;

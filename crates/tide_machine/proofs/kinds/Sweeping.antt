@@ -8,7 +8,7 @@ use Rattle.tide_layout.specs.Region.{tag}
 use Rattle.tide_layout.specs.Slots.{HasElement, index_of_element}
 use Rattle.tide_layout.specs.declared.region.Region.{Region}
 use Rattle.tide_layout.specs.declared.region.Region.TheVariants as region
-use Rattle.tide_machine.proofs.kinds.SweepingBlocks.{clear_is_clean, clears, right_claimed, right_given, right_on, sees_dead, taken_is_clean, words_claimed}
+use Rattle.tide_machine.proofs.kinds.SweepingBlocks.{clear_is_clean, clears, right_claimed, right_given, right_on, sees, taken_is_clean, words_claimed}
 use Rattle.tide_machine.proofs.kinds.SweepingWords.{named_finished, named_given, named_zeroed, words_finished, words_given, words_zeroed}
 use Rattle.tide_machine.proofs.steps.ArraysKept.{arrays_kept}
 use Rattle.tide_machine.proofs.steps.Frames.{each_put, put_here}
@@ -30,10 +30,11 @@ use Rattle.tide_machine.specs.World.{World, parties}
 use Rattle.tide_machine.specs.declared.view.Owed.{Owed}
 use Rattle.tide_machine.specs.declared.view.Sweeping.{Sweeping}
 use Rattle.tide_machine.specs.declared.view.View.{View}
-use Rattle.tide_machine.specs.kinds.Sweep.{IsSweeping, MayClaimBlock, MayFinish, MayGiveBits, MayLoadDead, MayZeroWord, cleared_from, in_sweep, saw_word}
+use Rattle.tide_machine.specs.kinds.Sweep.{IsSweeping, MayClaimBlock, MayFinish, MayGiveBits, MayLoadDead, MayZeroWord, cleared_from, in_sweep, saw_word, with_swept}
+use Rattle.tide_machine.specs.declared.view.Saw.{Saw}
 use Rattle.tide_machine.specs.points.Arrays.{ArrayStands, ArraysStand}
 use Rattle.tide_machine.specs.points.SettledWords.{RunningWordsRead}
-use Rattle.tide_machine.specs.points.Sweeps.{IsTaken, SweptAreBelow}
+use Rattle.tide_machine.specs.points.Sweeps.{IsTaken, SawStands, SweptAreBelow}
 use Rattle.tide_model.proofs.Histories.{state_after-push}
 use Rattle.tide_model.proofs.LawfulReferences.{RefsAreLive-event}
 use Rattle.tide_model.proofs.ReferenceLaws.{put_at_elim}
@@ -81,6 +82,10 @@ module _ (layout : Layout) (shapes : ShapeLists) (w : World) (me : ℕ) (inside 
     given = given_put wave.words.settled w.part me u sweeping wave.words.given;
   }
 
+  -- what a load of the dead bits sees
+  abbrev seen_of : ℕ → Saw
+  seen_of block = record { block = block; word = w.heap region.Dead block; swept = None }
+
   -- the word of the dead bits is loaded
   load_dead : (block : ℕ) → MayLoadDead layout w me block → RunningWave layout shapes (stepped layout shapes w me (LoadDead block))
   load_dead block may = load_same layout shapes w.heap region.Dead block _ w.log (by (w.heap region.Dead block == 0) refl)
@@ -91,7 +96,7 @@ module _ (layout : Layout) (shapes : ShapeLists) (w : World) (me : ℕ) (inside 
       by : (b : Bool) → (w.heap region.Dead block == 0) ≡ b → RunningWave layout shapes (record {
         heap = w.heap;
         part = put_at w.part me (if b then cleared_from (length w.log) block (w.part me)
-            else record (w.part me) { saw = Some (record { block = block; word = w.heap region.Dead block }) });
+            else record (w.part me) { saw = Some (seen_of block) });
         log = w.log;
       })
       by true is = idle_step layout shapes w me inside wave may.runner.runs idle w.heap (w.part me).sweeping (w.part me).saw
@@ -107,14 +112,19 @@ module _ (layout : Layout) (shapes : ShapeLists) (w : World) (me : ℕ) (inside 
                 (eqb-true (w.heap region.Dead block) 0 is)) refl refl refl refl;
           }
       by false is = idle_step layout shapes w me inside wave may.runner.runs idle w.heap (w.part me).sweeping
-          (Some (record { block = block; word = w.heap region.Dead block })) (w.part me).cleared record {
+          (Some (seen_of block)) (w.part me).cleared record {
             same = λ at index left. refl;
             words = words_stay _ refl refl refl;
             known = wave.kept.known;
             arrays = wave.arrays;
             growths = wave.growths.knows;
             swept = wave.swept;
-            sweeps = sees_dead layout shapes w.heap w.part w.log wave.words wave.sweeps idle me _ block may.within refl refl refl refl;
+            sweeps = sees layout shapes w.heap w.part w.log wave.words wave.sweeps idle me _ (Some (seen_of block))
+                (λ one is_one. let same : seen_of block ≡ one = cc in subst (SawStands layout w.heap) same (record {
+                  within = may.within;
+                  dead = inl refl;
+                  swept = λ word is_word. absurd (cc);
+                })) refl refl refl refl;
           }
 
   -- a word of what is dead is zeroed
@@ -420,7 +430,7 @@ module _ (layout : Layout) (shapes : ShapeLists) (w : World) (me : ℕ) (inside 
       part = put_at w.part me (with_entry w.log (if b then Some (plain (Taken block)) else None)
           (if b then claims_it
           else if w.heap region.Swept block == cycle then cleared_from (length w.log) block (w.part me)
-          else w.part me));
+          else record (w.part me) { saw = with_swept (w.heap region.Swept block) (w.part me).saw }));
       log = added w.log (if b then Some (plain (Taken block)) else None);
     })
     by true is = idle_entry layout shapes w me inside wave may.runner.runs idle_c (plain (Taken block)) (may.stands same) refl
@@ -475,7 +485,8 @@ module _ (layout : Layout) (shapes : ShapeLists) (w : World) (me : ℕ) (inside 
       where
         found : (b : Bool) → (w.heap region.Swept block == cycle) ≡ b → RunningWave layout shapes (record {
           heap = w.heap;
-          part = put_at w.part me (if b then cleared_from (length w.log) block (w.part me) else w.part me);
+          part = put_at w.part me (if b then cleared_from (length w.log) block (w.part me)
+              else record (w.part me) { saw = with_swept (w.heap region.Swept block) (w.part me).saw });
           log = w.log;
         })
         found true last = idle_step layout shapes w me inside wave may.runner.runs idle_c w.heap (w.part me).sweeping (w.part me).saw
@@ -492,16 +503,32 @@ module _ (layout : Layout) (shapes : ShapeLists) (w : World) (me : ℕ) (inside 
                   (eqb-true (w.heap region.Swept block) cycle last ∙ is_last)) refl refl refl refl;
             }
         found false other = idle_step layout shapes w me inside wave may.runner.runs idle_c w.heap (w.part me).sweeping
-            (w.part me).saw (w.part me).cleared record {
+            (with_swept (w.heap region.Swept block) (w.part me).saw) (w.part me).cleared record {
               same = λ at index left. refl;
               words = words_stay _ refl refl refl;
               known = wave.kept.known;
               arrays = wave.arrays;
               growths = wave.growths.knows;
               swept = wave.swept;
-              sweeps = Rattle.tide_machine.proofs.steps.SweepsKept.sweeps_kept layout w.heap w.heap w.part me (w.part me) w.log refl
-                  (λ b. refl) (λ b. refl) (λ p r i x un. refl) refl refl refl refl wave.sweeps;
+              sweeps = sees layout shapes w.heap w.part w.log wave.words wave.sweeps idle_c me _
+                  (with_swept (w.heap region.Swept block) (w.part me).saw) seen_now refl refl refl refl;
             }
+          where
+            -- what the claim found stands in the block's word
+            seen_now : (one : Saw) → with_swept (w.heap region.Swept block) (w.part me).saw ≡ Some one →
+                SawStands layout w.heap one
+            seen_now one is_one =
+                let was = wave.sweeps.named.saw me may.saw may.is_saw in
+                let both : Some (record may.saw { swept = Some (w.heap region.Swept block) }) ≡ Some one =
+                sym (ap (with_swept (w.heap region.Swept block)) may.is_saw) ∙ is_one in
+                let same : record may.saw { swept = Some (w.heap region.Swept block) } ≡ one = cc in
+                subst (SawStands layout w.heap) same (record {
+                  within = was.within;
+                  dead = was.dead;
+                  swept = λ word is_word.
+                      let it : w.heap region.Swept block ≡ word = cc in
+                      inl (ap (w.heap region.Swept) may.of_block ∙ it);
+                })
 
     claim_block : RunningWave layout shapes (stepped layout shapes w me (ClaimBlock block old cycle))
     claim_block = by (w.heap region.Swept block == old) refl

@@ -1,10 +1,8 @@
 -- The steps of a sweep, as far as blocks and the history go: dead bits are loaded, a block is claimed, and what is said
 -- of sweeps after each step.
-use Rattle.std.proofs.Common.{ℕ, ◌≡◌, ◌≢◌, ◌+◌, ◌%◌, ◌<◌, ◌≤◌, ◌⊎◌, refl, sym, ◌∙◌, ap, subst, arith, Bool, true, false, List, [], ◌∷◌, ◌++◌, inl, inr, Option, Some, None, length, length-append, take}
+use Rattle.std.proofs.Common.{ℕ, ◌≡◌, ◌≢◌, ◌+◌, ◌<◌, ◌≤◌, ◌⊎◌, refl, sym, ◌∙◌, ap, subst, arith, Bool, true, false, List, [], ◌∷◌, ◌++◌, inl, inr, Option, Some, None, length, length-append, take}
 use Rattle.std.proofs.lemmas.Bool.{cases_eq, eq-eqb, ne_eqb}
 use Rattle.std.proofs.lemmas.List.Elements.{Contains-append_cases}
-use Rattle.std.proofs.lemmas.Nat.Bits.{bit_at-lt, bit_at-zero}
-use Rattle.std.specs.Int.{bit_at}
 use Rattle.std.specs.Prelude.{Contains, if◌then◌else◌}
 use Rattle.tide_layout.specs.Region.{block_count, tag}
 use Rattle.tide_layout.specs.declared.region.Region.{Region}
@@ -21,54 +19,27 @@ use Rattle.tide_machine.specs.declared.view.Sweeping.{Sweeping}
 use Rattle.tide_machine.specs.declared.view.View.{View}
 use Rattle.tide_machine.specs.kinds.Sweep.{IsSweeping}
 use Rattle.tide_machine.specs.points.SettledWords.{RunningWordsRead}
-use Rattle.tide_machine.specs.points.Sweeps.{ClearedAreClean, IsTaken, SweepStands, Sweeps, SweepsAreNamed, SweepsAreRight, SweptAreTold}
+use Rattle.tide_machine.specs.points.Sweeps.{ClearedAreClean, IsTaken, SawStands, SweepStands, Sweeps, SweepsAreNamed, SweepsAreRight, SweptAreTold}
 use Rattle.tide_model.proofs.Cycles.{take-all}
 use Rattle.tide_model.proofs.DeadLaws.{TakenAreSwept-now, TakenAreSwept-push, WasTaken-before, WasTaken-now, WasTaken-push}
 use Rattle.tide_model.proofs.Histories.{state_after-push}
 use Rattle.tide_model.proofs.ReferenceLaws.{put_at_elim}
 use Rattle.tide_model.proofs.SinceLaws.{since-push}
-use Rattle.tide_model.specs.Cycle.{HasDead, dead_array, dead_cell}
 use Rattle.tide_model.specs.History.{is_open, moment_after_last, plain, state_after}
-use Rattle.tide_model.specs.Layout.{Layout, block_of_array, block_of_cell}
+use Rattle.tide_model.specs.Layout.{Layout}
 use Rattle.tide_model.specs.Numbers.{put_at}
 use Rattle.tide_model.specs.Refused.{ShapeLists}
 use Rattle.tide_model.specs.Room.{DeadIsTaken}
 use Rattle.tide_model.specs.Since.{WasTaken, is_sweep_of, is_taken_of, since}
-use Rattle.tide_model.specs.State.{State, Status, is_dead, live, spent}
+use Rattle.tide_model.specs.State.{State}
 use Rattle.tide_model.specs.declared.entry.Entry.TheVariants.{Sweep, Taken}
 use Rattle.tide_model.specs.declared.entry.Event.{Event}
+use Rattle.tide_sweep.proofs.DeadLaws.{dead_word_is_set}
 use Rattle.tide_sweep.specs.Zeroed.{IsDeadWord}
-use Rattle.tide_sweep.proofs.StatusLaws.{dead_has_bits}
 use Rattle.tide_words.proofs.heap_laws.Frames.{is_read}
 use Rattle.tide_words.proofs.heap_laws.HeapLaws.{write-other_index, write-other_region, write-same}
 use Rattle.tide_words.specs.heap.Heap.{Heap, write}
-use Rattle.tide_words.specs.heap.Reading.{ReadsAs, status_by}
 use Rattle.tide_words.specs.marking.Colours.{is_marking, running_cycle}
-
--- where a reading says that no bit of a block's word of dead ones is set, nothing is dead there
-none_dead : (layout : Layout) (shapes : ShapeLists) (heap : Heap) (state : State) → ReadsAs layout shapes heap state →
-    (block : ℕ) → heap region.Dead block ≡ 0 → HasDead layout state block → ⊥
-none_dead layout shapes heap state reads block clear (dead_cell cell within at is) =
-    let (freed, set) = dead_has_bits (bit_at (heap region.Free (block_of_cell cell)) (cell % 64))
-    (bit_at (heap region.Dead (block_of_cell cell)) (cell % 64)) live (bit_at-lt (heap region.Free (block_of_cell cell)) (cell % 64))
-    (bit_at-lt (heap region.Dead (block_of_cell cell)) (cell % 64)) refl (sym (reads.parts.cells cell within).status ∙ is) in
-    let zero_bit = ap (λ (b : ℕ). bit_at (heap region.Dead b) (cell % 64)) at ∙ ap (λ (x : ℕ). bit_at x (cell % 64)) clear
-    ∙ bit_at-zero (cell % 64) in
-    absurd (omega (arith, set, zero_bit))
-none_dead layout shapes heap state reads block clear (dead_array array within at is) =
-    by spent refl (reads.parts.arrays.unnamed array within
-    (λ named. by live refl (reads.parts.arrays.named array within named)))
-  where
-    by : (otherwise : Status) → is_dead otherwise ≡ false → state.arrays array ≡ status_by (heap region.Free (block_of_array layout array))
-        (heap region.Dead (block_of_array layout array)) (array % 64) otherwise → ⊥
-    by otherwise alive status =
-        let (freed, set) = dead_has_bits (bit_at (heap region.Free (block_of_array layout array)) (array % 64))
-        (bit_at (heap region.Dead (block_of_array layout array)) (array % 64)) otherwise
-        (bit_at-lt (heap region.Free (block_of_array layout array)) (array % 64))
-        (bit_at-lt (heap region.Dead (block_of_array layout array)) (array % 64)) alive (sym status ∙ is) in
-        let zero_bit = ap (λ (b : ℕ). bit_at (heap region.Dead b) (array % 64)) at ∙ ap (λ (x : ℕ). bit_at x (array % 64)) clear
-        ∙ bit_at-zero (array % 64) in
-        omega (arith, set, zero_bit)
 
 module _ (layout : Layout) (shapes : ShapeLists) (heap : Heap) (part : ℕ → View) (log : List Event)
     (words : RunningWordsRead layout shapes heap part (state_after layout log)) (right : SweepsAreRight layout heap part log)
@@ -99,8 +70,8 @@ module _ (layout : Layout) (shapes : ShapeLists) (heap : Heap) (part : ℕ → V
         let (p, s) = right.named.named block within taken has in
         let some = right.named.begun p block (record { sweeping = s.sweeping; is = s.is; of_block = s.of_block }) in
         (right.told idle some block within).0 taken
-    | inr apart ↦ absurd (none_dead layout shapes words.settled state words.reads block
-        (sym (untaken_settled block (λ taken. apart taken.1)) ∙ clear) has)
+    | inr apart ↦ absurd (dead_word_is_set layout shapes words.settled state words.reads block has
+        (sym (untaken_settled block (λ taken. apart taken.1)) ∙ clear))
   ]
 
   -- a block that was taken is clean in this sense
@@ -146,11 +117,11 @@ module _ (layout : Layout) (shapes : ShapeLists) (heap : Heap) (part : ℕ → V
     cleared = cleared_now me w block clean is right.cleared;
   }
 
-  -- it sees dead bits
-  pub sees_dead : (me : ℕ) (w : View) (block : ℕ) → block < block_count layout → w.sweeping ≡ (part me).sweeping →
-      w.saw ≡ Some (record { block = block; word = heap region.Dead block }) → w.left ≡ (part me).left →
-      w.cleared ≡ (part me).cleared → SweepsAreRight layout heap (put_at part me w) log
-  sees_dead me w block within same saw left is = record {
+  -- it sees something of a block that stands there: its dead bits, or the cycle that it was taken in last
+  pub sees : (me : ℕ) (w : View) (now : Option Saw) → ((one : Saw) → now ≡ Some one → SawStands layout heap one) →
+      w.sweeping ≡ (part me).sweeping → w.saw ≡ now → w.left ≡ (part me).left → w.cleared ≡ (part me).cleared →
+      SweepsAreRight layout heap (put_at part me w) log
+  sees me w now right_now same saw left is = record {
     named = record {
       taken = each_put (λ p u. (b : ℕ) → Sweeps u b → IsTaken heap b) part me w
           (λ b s. right.named.taken me b (sweeps_same (part me) w b same s)) right.named.taken;
@@ -169,12 +140,8 @@ module _ (layout : Layout) (shapes : ShapeLists) (heap : Heap) (part : ℕ → V
       );
       stands = each_put (λ p u. (s : Sweeping) → u.sweeping ≡ Some s → SweepStands layout heap s) part me w
           (λ s has. right.named.stands me s (sym same ∙ has)) right.named.stands;
-      saw = each_put (λ p u. (s : Saw) → u.saw ≡ Some s → (s.block < block_count layout) ×
-          ((heap region.Dead s.block ≡ s.word) ⊎ IsTaken heap s.block)) part me w
-          (λ s has. let one : Some (record { block = block; word = heap region.Dead block }) ≡ Some s = sym saw ∙ has in
-          let seen : record { block = block; word = heap region.Dead block } ≡ s = cc in
-          subst (λ (x : Saw). (x.block < block_count layout) × ((heap region.Dead x.block ≡ x.word) ⊎ IsTaken heap x.block)) seen
-          (within, inl refl)) right.named.saw;
+      saw = each_put (λ p u. (s : Saw) → u.saw ≡ Some s → SawStands layout heap s) part me w
+          (λ s has. right_now s (sym saw ∙ has)) right.named.saw;
     };
     told = right.told;
     taken = owed_kept part me w log same right.taken;
@@ -301,20 +268,25 @@ module _ (layout : Layout) (shapes : ShapeLists) (heap : Heap) (part : ℕ → V
                   absurd (subst (λ (q : Region). IsDeadWord layout t.block t.dead q i) one z.0))) ∙ z.1,
             );
           });
-      saw = each_put (λ p u. (x : Saw) → u.saw ≡ Some x → (x.block < block_count layout) ×
-          ((claimed region.Dead x.block ≡ x.word) ⊎ IsTaken claimed x.block)) part me w
+      saw = each_put (λ p u. (x : Saw) → u.saw ≡ Some x → SawStands layout claimed x) part me w
           (λ x has. still me x (sym same_saw ∙ has)) still;
     }
       where
-        still : (p : ℕ) (x : Saw) → (part p).saw ≡ Some x → (x.block < block_count layout) ×
-            ((claimed region.Dead x.block ≡ x.word) ⊎ IsTaken claimed x.block)
-        still p x has = let was = right.named.saw p x has in (
-          was.0,
-          elim was.1 [ inl stands ↦ inl stands | inr taken ↦ inr (taken_now x.block taken) ],
-        )
+        still : (p : ℕ) (x : Saw) → (part p).saw ≡ Some x → SawStands layout claimed x
+        still p x has = let was = right.named.saw p x has in record {
+          within = was.within;
+          dead = elim was.dead [ inl stands ↦ inl stands | inr taken ↦ inr (taken_now x.block taken) ];
+          swept = λ found is. elim (was.swept found is) [
+            | inl stands ↦ elim (cases_eq x.block block) [
+              | inl same ↦ inr (subst (IsTaken claimed) (sym same) taken_here)
+              | inr apart ↦ inl (swept_else x.block apart ∙ stands)
+            ]
+            | inr taken ↦ inr (taken_now x.block taken)
+          ];
+        }
 
         dead_seen : heap region.Dead block ≡ word
-        dead_seen = elim (right.named.saw me saw is_saw).1 [
+        dead_seen = elim (right.named.saw me saw is_saw).dead [
           | inl stands ↦ ap (heap region.Dead) (sym of_block) ∙ stands ∙ sym seen
           | inr taken ↦ absurd (untaken (subst (IsTaken heap) of_block taken))
         ]

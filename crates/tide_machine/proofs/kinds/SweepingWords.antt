@@ -12,7 +12,7 @@ use Rattle.tide_layout.specs.declared.region.Region.TheVariants as region
 use Rattle.tide_layout.proofs.SlotPlaces.{index_of_slot-alone, index_of_element-alone}
 use Rattle.tide_machine.proofs.steps.Frames.{each_put, put_here}
 use Rattle.tide_machine.proofs.steps.Lists.{nothing_in, in_one}
-use Rattle.tide_machine.proofs.steps.SweepsKept.{is_taken, unsettles_zeroed}
+use Rattle.tide_machine.proofs.steps.SweepsKept.{is_taken, saw_kept, unsettles_zeroed}
 use Rattle.tide_machine.proofs.steps.Unsettled.{dead_settled, dead_word_region, own_settled, unsettled_cases}
 use Rattle.tide_machine.specs.Owed.{IsOwnWord, Knows, Owes, Unsettles, is_at, owed_word, own_array, own_element, own_pair, own_register, own_structure, unsettled}
 use Rattle.tide_machine.specs.declared.view.Owed.{Owed}
@@ -21,7 +21,7 @@ use Rattle.tide_machine.specs.declared.view.Sweeping.{Sweeping}
 use Rattle.tide_machine.specs.declared.view.View.{View}
 use Rattle.tide_machine.specs.kinds.Sweep.{IsSweeping}
 use Rattle.tide_machine.specs.points.SettledWords.{RunningWordsRead}
-use Rattle.tide_machine.specs.points.Sweeps.{IsTaken, SweepStands, Sweeps, SweepsAreNamed}
+use Rattle.tide_machine.specs.points.Sweeps.{IsTaken, SawStands, SweepStands, Sweeps, SweepsAreNamed}
 use Rattle.tide_model.proofs.DeadLaws.{HasNoNewDead-sweep, had_dead}
 use Rattle.tide_model.proofs.ReferenceLaws.{put_at_elim}
 use Rattle.tide_model.proofs.ReferencesInCycles.{swept_cell-live}
@@ -100,24 +100,15 @@ module _ (layout : Layout) (shapes : ShapeLists) (heap : Heap) (part : ℕ → V
 
   all_saw : (new : Heap) → ((b : ℕ) → IsTaken heap b → IsTaken new b) →
       ((b : ℕ) → b < block_count layout → (new region.Dead b ≡ heap region.Dead b) ⊎ IsTaken new b) →
-      (p : ℕ) (saw : Saw) → (put_at part me w p).saw ≡ Some saw → (saw.block < block_count layout) ×
-      ((new region.Dead saw.block ≡ saw.word) ⊎ IsTaken new saw.block)
-  all_saw new taken dead_words = each_put (λ p u. (saw : Saw) → u.saw ≡ Some saw → (saw.block < block_count layout) ×
-      ((new region.Dead saw.block ≡ saw.word) ⊎ IsTaken new saw.block)) part me w
-      (λ saw is. still me saw (sym same_saw ∙ is)) still
+      ((b : ℕ) → new region.Swept b ≡ heap region.Swept b) →
+      (p : ℕ) (saw : Saw) → (put_at part me w p).saw ≡ Some saw → SawStands layout new saw
+  all_saw new taken dead_words swept_words = each_put (λ p u. (saw : Saw) → u.saw ≡ Some saw → SawStands layout new saw)
+      part me w (λ saw is. still me saw (sym same_saw ∙ is)) still
     where
-      still : (p : ℕ) (saw : Saw) → (part p).saw ≡ Some saw → (saw.block < block_count layout) ×
-          ((new region.Dead saw.block ≡ saw.word) ⊎ IsTaken new saw.block)
-      still p saw is = let was = named.saw p saw is in (
-        was.0,
-        elim was.1 [
-          | inl stands ↦ elim (dead_words saw.block was.0) [
-            | inl same ↦ inl (same ∙ stands)
-            | inr now ↦ inr now
-          ]
-          | inr before ↦ inr (taken saw.block before)
-        ],
-      )
+      still : (p : ℕ) (saw : Saw) → (part p).saw ≡ Some saw → SawStands layout new saw
+      still p saw is =
+          let was = named.saw p saw is in
+          saw_kept layout heap new saw (taken saw.block) (dead_words saw.block was.within) (swept_words saw.block) was
 
   -- one more word is zeroed
   module _ (s : Sweeping) (is : (part me).sweeping ≡ Some s) (ungiven : s.given ≡ false) (at : Region) (index : ℕ)
@@ -227,7 +218,7 @@ module _ (layout : Layout) (shapes : ShapeLists) (heap : Heap) (part : ℕ → V
       );
       stands = put_at_elim (λ p u. (t : Sweeping) → u.sweeping ≡ Some t → SweepStands layout zeroed t) part me w mine_stands
           (λ p apart t is_too. others p t is_too);
-      saw = all_saw zeroed taken_now (λ b within. inl (zero_else region.Dead b refl));
+      saw = all_saw zeroed taken_now (λ b within. inl (zero_else region.Dead b refl)) (λ b. zero_else region.Swept b refl);
     }
       where
         still_sweeps : (b : ℕ) → IsSweeping (part me) b → IsSweeping w b
@@ -587,7 +578,7 @@ module _ (layout : Layout) (shapes : ShapeLists) (heap : Heap) (part : ℕ → V
                   absurd (subst (λ (q : Region). IsDeadWord layout t.block t.dead q i) one_is z.0))) ∙ z.1,
             );
           });
-      saw = all_saw given_heap (λ b taken. taken) (λ b within. inl refl);
+      saw = all_saw given_heap (λ b taken. taken) (λ b within. inl refl) (λ b. refl);
     }
 
   -- the word of the dead bits becomes 0, and the sweep is over
@@ -683,5 +674,5 @@ module _ (layout : Layout) (shapes : ShapeLists) (heap : Heap) (part : ℕ → V
       saw = all_saw finished (λ b taken. taken) (λ b within. elim (cases_eq b s.block) [
         | inl same ↦ inr (subst (IsTaken finished) (sym same) taken_here)
         | inr apart ↦ inl (dead_else b apart)
-      ]);
+      ]) (λ b. refl);
     }

@@ -3,7 +3,6 @@
 use Rattle.std.proofs.Common.{ℕ, ◌≡◌, ◌<◌, ◌≤◌, ◌⊎◌, ◌==◌, refl, sym, ◌∙◌, ap, subst, arith, Bool, true, false, List, [], ◌∷◌, Some, inl, inr, ◌+◌}
 use Rattle.std.proofs.lemmas.Bool.{cases_eq, ne_eqb}
 use Rattle.std.specs.Prelude.{if◌then◌else◌}
-use Rattle.tide_layout.specs.Region.{block_count}
 use Rattle.tide_layout.specs.declared.region.Region.TheVariants as region
 use Rattle.tide_machine.proofs.rows.BusyRow.{busy, busy_has_the_wave}
 use Rattle.tide_machine.specs.Frozen.{newcomer}
@@ -14,7 +13,7 @@ use Rattle.tide_machine.specs.points.Arrays.{ArraysStand, ArrayStands}
 use Rattle.tide_machine.specs.points.Growths.{RunningGrowthIsOwed}
 use Rattle.tide_machine.specs.points.Marks.{SpanIsLive}
 use Rattle.tide_machine.specs.points.Seen.{WhoLeftIsInactive}
-use Rattle.tide_machine.specs.points.Sweeps.{IsTaken, SweepStands, Sweeps, SweepsAreNamed, SweptAreBelow}
+use Rattle.tide_machine.specs.points.Sweeps.{IsTaken, SawStands, SweepStands, Sweeps, SweepsAreNamed, SweptAreBelow}
 use Rattle.tide_machine.specs.points.Tables.{TablesAreBare}
 use Rattle.tide_model.proofs.ReferenceLaws.{put_at_elim}
 use Rattle.tide_model.specs.Cycle.{dead_cell}
@@ -187,8 +186,7 @@ sweeps-by_one = record {
         dead = λ waits. refl;
         zeroed = λ waits at index word has. absurd (let below = has.1 in omega (arith, below));
       })) (λ p apart s is. absurd (cc));
-  saw = put_at_elim (λ p u. (saw : Saw) → u.saw ≡ Some saw → (saw.block < block_count small) ×
-      ((taken_block region.Dead saw.block ≡ saw.word) ⊎ IsTaken taken_block saw.block)) newcomer 0 (sweeper 0)
+  saw = put_at_elim (λ p u. (saw : Saw) → u.saw ≡ Some saw → SawStands small taken_block saw) newcomer 0 (sweeper 0)
       (λ saw is. absurd (cc)) (λ p apart saw is. absurd (cc));
 }
   where

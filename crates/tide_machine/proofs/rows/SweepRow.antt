@@ -70,7 +70,7 @@ may_claim = record {
   within = omega arith;
   of_last = refl;
   lower = omega arith;
-  saw = record { block = 0; word = 1 };
+  saw = record { block = 0; word = 1; swept = None };
   is_saw = refl;
   of_block = refl;
   stands = λ is. (

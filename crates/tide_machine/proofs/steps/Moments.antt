@@ -5,6 +5,7 @@ use Rattle.std.specs.Prelude.{◌^◌, Contains, not, if◌then◌else◌}
 use Rattle.tide_layout.specs.Region.{tag}
 use Rattle.tide_layout.specs.declared.region.Region.{Region}
 use Rattle.tide_layout.specs.declared.region.Region.TheVariants as region
+use Rattle.tide_machine.proofs.steps.DeadBits.{clear_has_none, set_has_begun}
 use Rattle.tide_machine.proofs.steps.Frames.{total_below-one}
 use Rattle.tide_machine.proofs.steps.Unsettled.{dead_settled, of_dead, own_is_not_dead, settled_region, unsettled_word}
 use Rattle.tide_machine.specs.Kind.{index_of_stopped}
@@ -107,10 +108,18 @@ moment_of layout shapes w v at index wave is = record {
       ∙ ap (λ (x : View). x.marks) is ∙ marks));
   cleared = λ block moment at. wave.sweeps.cleared v.who block moment
       (subst (λ (x : View). Contains x.cleared (record { block = block; moment = moment })) (sym is) at);
-  saw = λ saw at. let was = wave.sweeps.named.saw v.who saw (ap (λ (x : View). x.saw) is ∙ at) in (was.0, saw_told saw was.1);
+  saw = λ saw at. let was = wave.sweeps.named.saw v.who saw (ap (λ (x : View). x.saw) is ∙ at) in (was.within, saw_told saw was.dead);
+  swept = λ saw word at has. (wave.sweeps.named.saw v.who saw (ap (λ (x : View). x.saw) is ∙ at)).swept word has;
   told = wave.sweeps.told;
   sweeping = λ s at ungiven. dead_settled layout shapes w.heap w.part (state_after layout w.log) wave.words wave.sweeps.named
       v.who s (ap (λ (x : View). x.sweeping) is ∙ at) ungiven;
+  none_dead = λ here clear. clear_has_none layout shapes w.heap w.part (state_after layout w.log) wave.words
+      wave.sweeps.named index (ap (λ (r : Region). w.heap r index) (sym here) ∙ clear);
+  begun = λ here within some fits.
+      let there : w.heap at index ≡ w.heap region.Dead index = ap (λ (r : Region). w.heap r index) here in
+      set_has_begun layout shapes w.heap w.part (state_after layout w.log) wave.words wave.sweeps.named index w.log wave.lawful
+      refl wave.numbers.cycles within (omega (arith, there, some)) (omega (arith, there, fits));
+  below = wave.swept.last;
   alone = λ none alone block. elim (wave.sweeps.taken block) [
     | inl swept ↦ swept
     | inr sweeps ↦ absurd (nobody_else none alone block sweeps)

@@ -3,8 +3,8 @@ use Rattle.std.proofs.Common.{◌≡◌, sym, ◌∙◌, ap, subst, true, false,
 use Rattle.tide_core.specs.FrozenWave.{FrozenWave}
 use Rattle.tide_freeze.proofs.BookLaws.{IsSwept-none}
 use Rattle.tide_freeze.proofs.FrozenLaws.{marks-same}
-use Rattle.tide_machine.specs.points.Sweeps.{SweptAreTold}
-use Rattle.tide_model.specs.Cycle.{IsSwept}
+use Rattle.tide_machine.specs.points.Sweeps.{SweptAreTold, TakenAreClean}
+use Rattle.tide_model.specs.History.{state_after}
 use Rattle.tide_model.specs.declared.entry.Event.{Event}
 use Rattle.tide_table.specs.VisitsTold.{unentered}
 use Rattle.tide_words.specs.heap.Heap.{heap_of}
@@ -22,7 +22,8 @@ open-requires g c =
       wave = subst (λ (h : List Event). FrozenWave layout shapes heap h) (sym s.seen) s.wave;
       swept = s.swept;
       told = subst (SweptAreTold layout heap) (sym s.seen) s.told;
-      clean = subst (IsSwept layout) (sym s.seen) (IsSwept-none layout);
+      clean = subst (λ (h : List Event). TakenAreClean layout heap (state_after layout h)) (sym s.seen)
+          (λ block within taken. IsSwept-none layout block);
       stopped = s.stopped;
       entered = ap unentered s.visited;
       may = λ marks visitors. absurd (let clash : false ≡ true = marks-same layout shapes heap [] s.wave ∙ marks in cc);

@@ -26,7 +26,7 @@ pub begin-requires-clause-few : goal.begin-requires-clause-few
 begin-requires-clause-few g c =
     let layout = c.args.layout.now in
     let same = ap (λ (x : View). running_cycle (heap_of layout x.words)) c.phase_of-cycle.ensures.view ∙ sym c.phase_of-cycle.ensures.cycle in
-    let below = c.if-cycle-ge-LAST_CYCLE.false in
+    let below = c.if-cycle-gt0.false in
     omega (arith, same, below)
 
 pub enter_begin-requires-clause-laid_out : goal.enter_begin-requires-clause-laid_out
@@ -42,6 +42,9 @@ enter_begin-requires-clause-may g c =
     let freeze : IsAtFreeze layout shapes v = subst (IsAtFreeze layout shapes) (sym k.ensures.view) c.requires.freeze in
     let idle : is_marking (heap_of layout v.words) ≡ false = ap (λ (x : View). is_marking (heap_of layout x.words)) k.ensures.view
     ∙ sym k.ensures.marks ∙ c.if-marks.false in
+    let first : running_cycle (heap_of layout v.words) ≡ 0 =
+    (let same = ap (λ (x : View). running_cycle (heap_of layout x.words)) k.ensures.view ∙ sym k.ensures.cycle in
+    let none = c.if-cycle-gt0.false in omega (arith, same, none)) in
     let f = c.begin.new.words in
     let u = f.collector.now.seat.me.0 in
     let rest = c.begin.ensures.same_rest in
@@ -60,7 +63,7 @@ enter_begin-requires-clause-may g c =
     (Begin (begin_count v.seen + 1) true)) (sym (ap (λ (r : Besides). r.seen) rest))
     (subst (λ (s : ShapeLists). MayEnter layout s (heap_of layout u.words) v.seen (Begin (begin_count v.seen + 1) true))
     (sym (ap (λ (r : Besides). r.whose.shapes) rest ∙ k.ensures.shapes))
-    (may_begin layout shapes v freeze u.words idle begun)))
+    (may_begin layout shapes v freeze u.words idle first begun)))
 
 pub returns-clause-freeze : goal.returns-clause-freeze
 returns-clause-freeze g c =
@@ -71,6 +74,9 @@ returns-clause-freeze g c =
     let freeze : IsAtFreeze layout shapes v = subst (IsAtFreeze layout shapes) (sym k.ensures.view) c.requires.freeze in
     let idle : is_marking (heap_of layout v.words) ≡ false = ap (λ (x : View). is_marking (heap_of layout x.words)) k.ensures.view
     ∙ sym k.ensures.marks ∙ c.if-marks.false in
+    let first : running_cycle (heap_of layout v.words) ≡ 0 =
+    (let same = ap (λ (x : View). running_cycle (heap_of layout x.words)) k.ensures.view ∙ sym k.ensures.cycle in
+    let none = c.if-cycle-gt0.false in omega (arith, same, none)) in
     let f = c.begin.new.words in
     let u = f.collector.now.seat.me.0 in
     let rest = c.begin.ensures.same_rest in
@@ -85,7 +91,7 @@ returns-clause-freeze g c =
     let x = c.enter_begin.new.self.collector.now.seat.me.0 in
     let there = ap (λ (w : Whose). w.layout) c.enter_begin.ensures.kept ∙ ap (λ (r : Besides). r.whose.layout) rest
     ∙ k.ensures.layout in
-    λ is. begun_there layout shapes v freeze u.words idle begun x c.begin.ensures.all_words
+    λ is. begun_there layout shapes v freeze u.words idle first begun x c.begin.ensures.all_words
     (ap (λ (w : Whose). w.view) c.enter_begin.ensures.kept ∙ ap (λ (r : Besides). r.whose.view) rest)
     c.enter_begin.ensures.same
     (c.enter_begin.ensures.entered

@@ -14,7 +14,7 @@ pub open-requires-clause-swept : goal.open-requires-clause-swept
 open-requires-clause-swept g c = c.requires.freeze.wave.swept
 
 pub open-requires-clause-clean : goal.open-requires-clause-clean
-open-requires-clause-clean g c = c.requires.freeze.clean
+open-requires-clause-clean g c = c.requires.freeze.wave.clean
 
 pub open-requires-clause-told : goal.open-requires-clause-told
 open-requires-clause-told g c = c.requires.freeze.wave.swept_told

@@ -10,7 +10,7 @@ invariant_of-self g c =
     let v = c.args.self.now.seat.me.0 in
     let u = c.act_as.new.seat.me.0 in
     let shapes = g.S.HeapShapes.lists h.key.shapes in
-    let kind = kind_of c.args.step in
+    let kind = kind_of h.key.layout c.args.step in
     let works = works_of kind c.requires.plain in
     let f = some_follow c.args.act h.key.layout shapes kind v c.act_as.result u c.act_as.ensures.step in record {
       member = role_kept h.key.layout shapes kind v u f.0 f.1 works c.args.self.now.member;
@@ -25,7 +25,7 @@ act_as-requires g c = record {
   shapes = refl;
   role = c.args.self.now.member;
   may = record {
-    works = works_of (kind_of c.args.step) c.requires.plain;
+    works = works_of (kind_of c.args.heap.now.key.layout c.args.step) c.requires.plain;
     runs = c.requires.may.runs;
     stands = c.requires.stands;
     acts = c.requires.acts;
@@ -35,6 +35,6 @@ act_as-requires g c = record {
 
 pub returns : goal.returns
 returns g c = record {
-  step = has_acted g.S.HeapShapes.lists c.args.act c.args.heap.now (kind_of c.args.step) c.args.self.now c.act_as.result _
+  step = has_acted g.S.HeapShapes.lists c.args.act c.args.heap.now (kind_of c.args.heap.now.key.layout c.args.step) c.args.self.now c.act_as.result _
       c.act_as.ensures.same.0 c.act_as.ensures.same.1 c.act_as.ensures.step;
 }

@@ -35,6 +35,6 @@ pub returns-clause-books : goal.returns-clause-books
 returns-clause-books g c =
     let f = c.freeze-frozen.ensures.frozen in
     let v = c.args.self.now.seat.me.0 in
-    AreBooks-counted c.args.heap.now.key.layout v.start f.part v.seen c.args.books.now _ f.since f.calls
-    (c.add.ensures v.start f.part c.requires.books.births f.calls
+    AreBooks-counted c.args.heap.now.key.layout v.start f.part v.seen c.args.books.now _ f.since
+    (c.add.ensures v.start f.part c.requires.books.births f.of_part
     (c.born.ensures ∙ ap (λ (x : View). x.births) f.view ∙ f.births)) refl c.requires.books
