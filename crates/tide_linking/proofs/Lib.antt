@@ -1,10 +1,16 @@
+pub mod Allocating
 pub mod BirthSteps
 pub mod ClaimSteps
+pub mod FreeInParts
 pub mod HandleSteps
 pub mod Looking
-pub mod NewFree
+pub mod LookingSteps
+pub mod NoRoom
 pub mod OwnFound
 pub mod PairSteps
 pub mod SlotSteps
+pub mod SweepSteps
+pub mod Swept
+pub mod TakingSteps
 pub mod Unowned
 pub mod Values

@@ -14,7 +14,7 @@ use Rattle.tide_machine.specs.Kind.{LoadPair, StorePair}
 use Rattle.tide_machine.specs.May.{MayCall, called}
 use Rattle.tide_machine.specs.Moment.{Moment}
 use Rattle.tide_machine.specs.Owed.{filled_register, own_pair, owed_register}
-use Rattle.tide_heap.specs.Clean.{RunsClean}
+use Rattle.tide_machine.specs.RunningWave.{RunningWave}
 use Rattle.tide_machine.specs.Words.{value_of_pair}
 use Rattle.tide_machine.specs.World.{World}
 use Rattle.tide_machine.specs.declared.view.Duty.TheVariants.{Nothing}
@@ -191,16 +191,16 @@ module _ (layout : Layout) (shapes : ShapeLists) (v : View) (op : Op) (table pla
   }
 
   -- and its words are settled
-  module _ (w : World) (running : RunsClean layout shapes w) (is : w.part v.who ≡ v)
+  module _ (w : World) (running : RunningWave layout shapes w) (is : w.part v.who ≡ v)
       (own : IsOwnPair layout w v.who table place) where
     settled_there : (other : ℕ) → HasSlot layout table other →
-        slot_word layout running.wave.words.settled table other ≡ slot_word layout w.heap table other
+        slot_word layout running.words.settled table other ≡ slot_word layout w.heap table other
     settled_there other slot = own_found layout shapes v w.log region.Slots (index_of_slot layout table other)
         (w.heap region.Slots (index_of_slot layout table other)) refl calling.between.owed
         (own_pair table other own.claimed own.is_one slot)
         (moment_in layout shapes w v region.Slots (index_of_slot layout table other) running is)
 
-    place_there : (key : ℕ) → IsPlaceFor layout running.wave.words.settled (state_after layout w.log) table place key →
+    place_there : (key : ℕ) → IsPlaceFor layout running.words.settled (state_after layout w.log) table place key →
         IsPlaceFor layout w.heap (state_after layout w.log) table place key
     place_there key stood = elim stood [
       | inl (none, (empty, earlier)) ↦ inl (
@@ -216,7 +216,7 @@ module _ (layout : Layout) (shapes : ShapeLists) (v : View) (op : Op) (table pla
       | inr (value, pair) ↦ inr (value, subst (IsPairOf key value) (settled_there place has) pair)
     ]
 
-    pair_there : (key : ℕ) → HasPairAt layout running.wave.words.settled table place key →
+    pair_there : (key : ℕ) → HasPairAt layout running.words.settled table place key →
         HasPairAt layout w.heap table place key
     pair_there key (value, pair) = (value, subst (IsPairOf key value) (settled_there place has) pair)
 

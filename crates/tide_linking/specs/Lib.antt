@@ -1,2 +1,5 @@
+pub mod Births
 pub mod Claiming
+pub mod PortShown
 pub mod Searching
+pub mod Sweeping

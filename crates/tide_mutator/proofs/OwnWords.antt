@@ -11,7 +11,7 @@ use Rattle.tide_machine.specs.Kind.{LoadOwnArray, LoadOwnStructure, LoadPair}
 use Rattle.tide_machine.specs.May.{RunsAsMutator}
 use Rattle.tide_machine.specs.Moment.{Moment}
 use Rattle.tide_machine.specs.Owed.{IsOwnWord, Knows, own_array, own_pair, own_structure, owed_word}
-use Rattle.tide_heap.specs.Clean.{RunsClean}
+use Rattle.tide_machine.specs.RunningWave.{RunningWave}
 use Rattle.tide_machine.specs.World.{World}
 use Rattle.tide_machine.specs.declared.view.Owed.{Owed}
 use Rattle.tide_machine.specs.declared.view.View.{View}
@@ -145,7 +145,7 @@ module _ (layout : Layout) (shapes : ShapeLists) (v : View) (given : Layout) (wh
   runner : (w : World) → w.part v.who ≡ v → RunsAsMutator layout w v.who
   runner w is = record { is_mutator = below; runs = ap (λ (x : View). x.runs) is ∙ o.runs }
 
-  may_load_own : (at : Region) (w : World) → RunsClean layout shapes w → w.part v.who ≡ v →
+  may_load_own : (at : Region) (w : World) → RunningWave layout shapes w → w.part v.who ≡ v →
       MayLoadOwn layout w v.who cell
   may_load_own at w running is = record {
     runner = runner w is;

@@ -15,7 +15,7 @@ use Rattle.tide_machine.specs.Owed.{Knows, owed_elements, owed_word}
 use Rattle.tide_machine.specs.declared.view.Growth.TheVariants as growing
 use Rattle.tide_machine.specs.declared.view.Owed.{Owed}
 use Rattle.tide_machine.specs.declared.view.View.{View}
-use Rattle.tide_model.specs.Layout.{Layout}
+use Rattle.tide_model.specs.Layout.{Layout, cell_count}
 use Rattle.tide_model.specs.Refused.{ShapeLists}
 use Rattle.tide_model.specs.declared.op.Op.{Op}
 use Rattle.tide_model.specs.declared.op.Reply.TheVariants.{Done}
@@ -69,3 +69,10 @@ pub record HasTaken (layout : Layout) (shapes : ShapeLists) (op : Op) (growth : 
       Knows v region.Elements (index_of_element layout source place) word → word ≡ val_word (properties place)
   pub bare : growth.array ≡ None → growth.addition.count ≡ 0
   pub last : properties growth.addition.count ≡ growth.value
+
+-- It has taken the array of this bit, counted from that of the first cell on: arrays come after all cells.
+pub record HasTakenBit (layout : Layout) (shapes : ShapeLists) (op : Op) (growth : Growth) (v u : View) (bit : ℕ)
+    : Type 0 where
+  pub array : ℕ
+  pub is_bit : bit ≡ cell_count layout + array
+  pub has : HasTaken layout shapes op growth v u array

@@ -91,7 +91,7 @@ fn act_without_growth<S: HeapShapes, T: Turnstile>(
 {
     match plan {
         Plan::Refuse { refusal } => refuse(pass, heap, op, calls, refusal),
-        Plan::Take { dst, class } => take(pass, heap, hints, op, calls, dst, class),
+        Plan::Take { dst, class } => take(pass, heap, gate, hints, op, calls, dst, class),
         Plan::LoadSlot { dst, cell, slot } => get(pass, heap, op, calls, dst, cell, slot),
         Plan::StoreSlot { cell, slot, value } => put(
             pass, heap, gate, op, calls, cell, slot, value,

@@ -1,36 +1,37 @@
 -- The steps of a growth up to the take of its array: loads of own words, a block's word, and the take, which makes the
 -- call; or the store of the call word once nothing was found free.
 use Rattle.std.proofs.Common.{ℕ, suc, ◌≡◌, ◌+◌, ◌%◌, ◌<◌, ◌≤◌, ◌==◌, refl, sym, ◌∙◌, ap, subst, arith, Bool, false, List, ◌∷◌, length, None, Some, inl}
-use Rattle.std.proofs.lemmas.Bool.{eq-eqb, eqb-false, ne_eqb}
+use Rattle.std.proofs.lemmas.Bool.{eq-eqb, ne_eqb}
 use Rattle.std.specs.Int.{bit_at}
 use Rattle.std.specs.Prelude.{Contains, ◌^◌, bit_and, if◌then◌else◌}
 use Rattle.tide_paying.proofs.Entering.{made_by, may_call, none_born, runs_there}
 use Rattle.tide_linking.proofs.Looking.{looked_once}
+use Rattle.tide_linking.proofs.LookingSteps.{seen_once}
+use Rattle.tide_linking.proofs.NoRoom.{refused_then}
 use Rattle.tide_linking.proofs.OwnFound.{own_found}
 use Rattle.tide_paying.proofs.Refusing.{stored_at}
 use Rattle.tide_paying.proofs.Standing.{moment_in, stands_then}
 use Rattle.tide_linking.proofs.Unowned.{found_there}
 use Rattle.tide_paying.specs.Calling.{IsCalling, kept}
 use Rattle.tide_paying.specs.Made.{HasDone}
-use Rattle.tide_linking.specs.Searching.{ClassIsLost, HasLooked, HasSeen, IsLost}
+use Rattle.tide_linking.specs.Searching.{ClassIsSearched, HasLooked, HasSeen}
 use Rattle.tide_paying.specs.Standing.{IsPlanned, caller_of}
 use Rattle.tide_block.proofs.ArrayLaws.{block_of_arrays}
 use Rattle.tide_block.proofs.BitLaws.{without_bit-is}
 use Rattle.tide_call.specs.PlanWords.{PlanWords}
 use Rattle.tide_call.specs.ShapeWord.{whole_word}
-use Rattle.tide_mutator.proofs.growth_laws.FullClass.{stands_full}
 use Rattle.tide_mutator.proofs.growth_laws.Grown.{are_grown, grown_words}
 use Rattle.tide_mutator.proofs.growth_laws.Plans.{IsGrowth, bare_there, claimed_there, element_there, full_reply, growth_there, structure_there}
 use Rattle.tide_mutator.proofs.growth_laws.Reading.{read_once}
 use Rattle.tide_mutator.specs.Growing.{HasRead, HasTaken, IsReady, plan_of}
 use Rattle.tide_paying.specs.Replacing.{grown_out}
 use Rattle.tide_paying.specs.declared.growth.Growth.{Growth}
-use Rattle.tide_layout.specs.Region.{block_count, cell_block_count}
+use Rattle.tide_layout.specs.Region.{cell_block_count}
 use Rattle.tide_layout.specs.Slots.{HasElement, index_of_element, width_of_array, width_of_class}
 use Rattle.tide_layout.specs.declared.region.Region.TheVariants as region
 use Rattle.tide_machine.specs.Duties.{is_growing}
 use Rattle.tide_machine.specs.Entries.{call_of}
-use Rattle.tide_machine.specs.Kind.{LoadElement, LoadFree, LoadOwnStructure, StoreCall, TakeArray}
+use Rattle.tide_machine.specs.Kind.{LoadElement, LoadOwnStructure, StoreCall, TakeArray}
 use Rattle.tide_machine.specs.May.{MayCall}
 use Rattle.tide_machine.specs.Moment.{Moment}
 use Rattle.tide_machine.specs.Owed.{Knows, owed_elements, owed_word, own_structure}
@@ -44,6 +45,7 @@ use Rattle.tide_machine.specs.kinds.TakeArray.{MayTakeArray, array_at, array_vie
 use Rattle.tide_model.specs.History.{state_after}
 use Rattle.tide_model.specs.Layout.{IsBlockOf, Layout, block_of_array}
 use Rattle.tide_model.specs.Refused.{ShapeLists}
+use Rattle.tide_model.specs.Room.{StandsRefused}
 use Rattle.tide_model.specs.State.{State}
 use Rattle.tide_model.specs.declared.entry.Event.{Event}
 use Rattle.tide_model.specs.declared.op.Op.{Op}
@@ -52,18 +54,12 @@ use Rattle.tide_model.specs.declared.op.Reply.{Reply}
 use Rattle.tide_model.specs.declared.op.Reply.TheVariants.{Done, Refused}
 use Rattle.tide_model.specs.declared.val.Val.{Val}
 use Rattle.tide_steps.specs.Follows.{Follows, FollowsSome, MayStep}
-use Rattle.tide_call.proofs.plan_laws.TakenLaws.{class_block-within, taken-array, wide-array}
+use Rattle.tide_call.proofs.plan_laws.TakenLaws.{taken-array, wide-array}
 use Rattle.tide_call.specs.Taken.{IsTakenOf}
 use Rattle.tide_words.proofs.heap_laws.HeapLaws.{write-other_index, write-other_region, write-same}
 use Rattle.tide_words.specs.forms.ValueWord.{val_word}
 use Rattle.tide_words.specs.heap.Heap.{Heap, write}
 use Rattle.tide_words.specs.heap.Written.{IsBitPut}
-
--- a bit that isn't 1 is 0
-clear_by : (word k : ℕ) → (bit_at word k == 1) ≡ false → bit_at word k ≡ 0
-clear_by word k clear =
-    let not_one = eqb-false (bit_at word k) 1 clear in
-    omega (arith, not_one)
 
 -- a bit that was cleared
 cleared : (layout : Layout) (heap : Heap) (block k : ℕ) → k < 64 →
@@ -173,25 +169,8 @@ module _ (layout : Layout) (shapes : ShapeLists) (v : View) (op : Op) (growth : 
       element_known = subst (λ (x : View). Knows x region.Elements at_element read) (sym element_view_is)
           (0, omega arith, refl)
 
-  -- the load of a block's word
+  -- a block of the class
   module _ (block : ℕ) (of_class : IsBlockOf layout growth.class block) where
-    pub block_within : block < block_count layout
-    block_within = class_block-within layout growth.class block calling.limits few_classes of_class
-
-    pub may_load : MayStep layout shapes v (LoadFree block None)
-    may_load w running is = (runs_there layout w v op is calling, block_within)
-
-    module _ (read : ℕ) (u : View) (f : Follows layout shapes (LoadFree block None) v read u) where
-      pub loaded_looked : HasLooked v u
-      loaded_looked = looked_once v u (record { block = block; moment = length f.log; word = read }) read f.view
-
-      pub loaded_seen : HasSeen u block read
-      loaded_seen = record {
-        moment = length f.log;
-        saw = subst (λ (l : List Found). Contains l (record { block = block; moment = length f.log; word = read }))
-            (sym (ap (λ (x : View). x.full) f.view)) (0, omega arith, refl);
-      }
-
     -- blocks of arrays come after those of cells
     pub past_cells : cell_block_count layout ≤ block
     past_cells = (block_of_arrays layout growth.class block calling.limits.five_cell_classes
@@ -374,17 +353,10 @@ module _ (layout : Layout) (shapes : ShapeLists) (v : View) (op : Op) (growth : 
           lost_looked = looked_once v u (record { block = block; moment = length f.log; word = read }) read lost_view
 
           pub lost_seen : HasSeen u block read
-          lost_seen = record {
-            moment = length f.log;
-            saw = subst (λ (l : List Found). Contains l (record { block = block; moment = length f.log; word = read }))
-                (sym (ap (λ (x : View). x.full) lost_view)) (0, omega arith, refl);
-          }
+          lost_seen = seen_once layout shapes v u f.log region.Free block read f.moment block read lost_view
 
-          pub lost_now : IsLost u block k
-          lost_now = record { word = read; seen = lost_seen; clear = clear_by read k clear }
-
-  -- nothing of the class was found free
-  module _ (lost : ClassIsLost layout v growth.class) where
+  -- each block of the class was searched in vain
+  module _ (searched : ClassIsSearched layout v growth.class) where
     full_words : (heap : Heap) → PlanWords layout heap v.who (plan_of growth) (Refused (Full growth.class)) None heap
     full_words heap = (refl, refl, λ region index below. refl)
 
@@ -399,7 +371,9 @@ module _ (layout : Layout) (shapes : ShapeLists) (v : View) (op : Op) (growth : 
               (sym (full_reply (caller_of layout shapes v) (state_after layout w.log) op growth g))
               (may_call layout shapes w v op (plan_of growth) (Refused (Full growth.class)) None region.Call v.who read is
               calling planned m m.settled (full_words m.settled)
-              (stands_full layout shapes v growth.class w.log region.Call v.who read m running.clean lost)),
+              (λ full same. let number : growth.class ≡ full = cc in
+              subst (StandsRefused layout w.log v.who) number
+              (refused_then layout shapes w v running is calling.runs calling.between.sweeping growth.class searched))),
           counts ∙ ap (λ (n : ℕ). (n + 1) % 2 ^ 64) (sym (ap (λ (x : View). length x.mine) is)),
         )
 

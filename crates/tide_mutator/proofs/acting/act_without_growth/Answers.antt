@@ -14,7 +14,7 @@ act_on_rest-requires-clause-rest g c =
     rests_else c.args.plan c.requires.acted d.not-Refuse d.not-Take d.not-LoadSlot d.not-StoreSlot d.not-Fill d.not-Claim d.not-Release d.not-LoadElement d.not-StoreElement d.not-Append
 
 pub take-requires-clause-told : goal.take-requires-clause-told
-take-requires-clause-told g c = c.requires.told (ap is_plain c.in-Take.is)
+take-requires-clause-told g c = λ κs outlives. c.requires.told (ap is_plain c.in-Take.is)
 
 pub get-requires-clause-told : goal.get-requires-clause-told
 get-requires-clause-told g c = c.requires.told (ap is_plain c.in-LoadSlot.is)
@@ -44,7 +44,7 @@ returns-in-Refuse-clause-done g c =
     c.args.pass.now.seat.me.0 c.refuse.new.pass.seat.me.0) (sym c.in-Refuse.is) c.refuse.ensures.done
 
 pub take-requires-clause-planned : goal.take-requires-clause-planned
-take-requires-clause-planned g c =
+take-requires-clause-planned g c = λ κs outlives.
     let h = c.args.heap.now in
     subst (λ (does : Plan). IsPlanned h.key.layout (g.S.HeapShapes.lists h.key.shapes) c.args.pass.now.seat.me.0
     c.args.op does) c.in-Take.is c.requires.planned
@@ -116,12 +116,12 @@ returns-in-LoadElement-clause-done g c =
     c.args.pass.now.seat.me.0 c.get_property.new.pass.seat.me.0) (sym c.in-LoadElement.is) c.get_property.ensures.done
 
 pub take-requires-clause-register : goal.take-requires-clause-register
-take-requires-clause-register g c =
+take-requires-clause-register g c = λ κs outlives.
     let h = c.args.heap.now in
     (subst (FitsPlan h.key.layout c.requires.fits.0) c.in-Take.is c.requires.fits.1).0
 
 pub take-requires-clause-of_cells : goal.take-requires-clause-of_cells
-take-requires-clause-of_cells g c =
+take-requires-clause-of_cells g c = λ κs outlives.
     let h = c.args.heap.now in
     (subst (FitsPlan h.key.layout c.requires.fits.0) c.in-Take.is c.requires.fits.1).1
 
@@ -181,7 +181,7 @@ append-requires-clause-room g c = λ κs outlives.
     subst (FitsPlan h.key.layout c.requires.fits.0) c.in-Append.is c.requires.fits.1
 
 pub take-requires-clause-few : goal.take-requires-clause-few
-take-requires-clause-few g c = c.requires.few c.in-Take.dst c.in-Take.class c.in-Take.is
+take-requires-clause-few g c = λ κs outlives. c.requires.few c.in-Take.dst c.in-Take.class c.in-Take.is
 
 pub put-requires-clause-planned : goal.put-requires-clause-planned
 put-requires-clause-planned g c = λ κs outlives.

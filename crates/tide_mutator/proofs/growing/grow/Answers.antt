@@ -51,7 +51,7 @@ growth_of addition array class value old next = record {
 }
 
 pub search-requires-clause-ready : goal.search-requires-clause-ready
-search-requires-clause-ready g c =
+search-requires-clause-ready g c = λ κs outlives.
     let h = c.args.heap.now in
     let layout = h.key.layout in
     let shapes = g.S.HeapShapes.lists h.key.shapes in
@@ -87,7 +87,7 @@ store_call-requires-clause-may g c =
     let still = ready_looked layout shapes loaded u c.args.op growth looked ready in record {
       own = c.search.ensures.same.0 ∙ table;
       runs = still.calling.runs;
-      may = may_tell_full layout shapes u c.args.op growth still c.in_default.ensures.lost c.args.calls
+      may = may_tell_full layout shapes u c.args.op growth still c.in_default.ensures.searched c.args.calls
           (counted_looked loaded u looked c.args.calls (counted_still v loaded read c.args.calls c.requires.counts));
     }
 
@@ -114,7 +114,7 @@ returns-in_default-clause-done g c =
     let w = c.store_call.new.self.seat.me.0 in
     has_done_before v loaded read layout c.args.op shapes (plan_of growth) (Refused (Full c.args.class)) w
     (has_done_looked loaded u looked layout c.args.op shapes (plan_of growth) (Refused (Full c.args.class)) w
-    (full_by layout shapes u c.args.op growth still c.in_default.ensures.lost c.args.calls w (tell.0, tell.1.follows)))
+    (full_by layout shapes u c.args.op growth still c.in_default.ensures.searched c.args.calls w (tell.0, tell.1.follows)))
 
 pub replace-requires-clause-small : goal.replace-requires-clause-small
 replace-requires-clause-small g c = λ κs outlives.

@@ -1,0 +1,51 @@
+-- What a mutator knows of a block whose word of free bits it has seen.
+use Rattle.std.proofs.Common.{ℕ, ◌≡◌, ◌<◌, ◌==◌, sym, ◌∙◌, ap, subst, arith, refl, true, false, List, ◌∷◌, length}
+use Rattle.std.proofs.lemmas.Bool.{eqb-false}
+use Rattle.std.proofs.lemmas.Nat.Bits.{bit_at-lt}
+use Rattle.std.specs.Int.{bit_at}
+use Rattle.std.specs.Prelude.{Contains, None}
+use Rattle.tide_layout.specs.Region.{block_count}
+use Rattle.tide_layout.specs.declared.region.Region.{Region}
+use Rattle.tide_layout.specs.declared.region.Region.TheVariants.{Free}
+use Rattle.tide_linking.proofs.Looking.{looked_once}
+use Rattle.tide_linking.specs.Searching.{HasLooked, HasSeen}
+use Rattle.tide_machine.specs.Kind.{LoadFree}
+use Rattle.tide_machine.specs.Moment.{Moment}
+use Rattle.tide_machine.specs.declared.view.Cleared.{Cleared}
+use Rattle.tide_machine.specs.declared.view.Found.{Found}
+use Rattle.tide_machine.specs.declared.view.View.{View}
+use Rattle.tide_model.specs.Layout.{Layout}
+use Rattle.tide_model.specs.Refused.{ShapeLists}
+use Rattle.tide_model.specs.declared.entry.Event.{Event}
+use Rattle.tide_steps.specs.Follows.{Follows, MayStep}
+
+-- a bit that isn't 1 is 0
+pub clear_by : (word k : ℕ) → (bit_at word k == 1) ≡ false → bit_at word k ≡ 0
+clear_by word k clear =
+    let not_one = eqb-false (bit_at word k) 1 clear in
+    omega (arith, not_one)
+
+-- it has seen the word now: each block that it knows to be cleared was so before
+pub seen_once : (layout : Layout) (shapes : ShapeLists) (v u : View) (log : List Event) (at : Region) (index found : ℕ) →
+    Moment layout shapes v log at index found → (block read : ℕ) →
+    u ≡ record v { full = record { block = block; moment = length log; word = read } ∷ v.full; found = read } →
+    HasSeen u block read
+seen_once layout shapes v u log at index found m block read view = record {
+  moment = length log;
+  saw = subst (λ (l : List Found). Contains l (record { block = block; moment = length log; word = read }))
+      (sym (ap (λ (x : View). x.full) view)) (0, omega arith, refl);
+  late = λ one has. (m.cleared one.block one.moment
+      (subst (λ (l : List Cleared). Contains l one) (ap (λ (x : View). x.cleared) view) has)).0;
+}
+
+module _ (layout : Layout) (shapes : ShapeLists) (v : View) (is_mutator : v.who < layout.mutators) (runs : v.runs ≡ true)
+    (block : ℕ) (within : block < block_count layout) where
+  pub may_load : MayStep layout shapes v (LoadFree block None)
+  may_load w running is = (record { is_mutator = is_mutator; runs = ap (λ (x : View). x.runs) is ∙ runs }, within)
+
+  module _ (read : ℕ) (u : View) (f : Follows layout shapes (LoadFree block None) v read u) where
+    pub loaded_looked : HasLooked v u
+    loaded_looked = looked_once v u (record { block = block; moment = length f.log; word = read }) read f.view
+
+    pub loaded_seen : HasSeen u block read
+    loaded_seen = seen_once layout shapes v u f.log Free block read f.moment block read f.view
