@@ -2,8 +2,9 @@
 use Rattle.std.proofs.Common.{ℕ, zero, suc, ◌≡◌, ◌+◌, ◌<◌, ◌≤◌, refl, sym, ◌∙◌, ap, subst, arith, Bool, true, false, List, [], ◌∷◌, ◌++◌, length, append_assoc, append-nil, inl, inr, add-zero, All}
 use Rattle.std.proofs.lemmas.List.{append_cancel_left}
 use Rattle.std.proofs.lemmas.List.Elements.{All-head, All-tail, filter-append}
+use Rattle.std.proofs.lemmas.List.Sums.{AllPass-from_list_all, list_all-from_AllPass}
 use Rattle.std.proofs.lemmas.Option.{slice_get_cases, slice_get_within}
-use Rattle.std.specs.Prelude.{Option, None, Some, filter, not, slice_get}
+use Rattle.std.specs.Prelude.{Option, None, Some, filter, if◌then◌else◌, not, slice_get}
 use Rattle.tide_model.specs.declared.op.Op.{Op}
 use Rattle.tide_model.specs.declared.entry.Entry.{Entry}
 use Rattle.tide_model.specs.declared.entry.Entry.TheVariants.{Call, Begin, Pause, Visits, End, Taken, Sweep, Open}
@@ -18,8 +19,8 @@ use Rattle.tide_model.specs.Periods.{open_count}
 use Rattle.tide_model.specs.Prefix.{IsPrefix, prefix_trans}
 use Rattle.tide_model.specs.Script.{calls_of, retry_after_all, retry_of}
 use Rattle.tide_model.specs.Share.{IsShare, MayCall, has_ended}
-use Rattle.tide_model.specs.Since.{is_call}
-use Rattle.tide_model.proofs.CallKeeps.{HasNoNewDead, HasNoNewDead-call}
+use Rattle.tide_model.specs.Since.{is_call, is_of_part}
+use Rattle.tide_model.proofs.DeadLaws.{calls_where_marking}
 use Rattle.tide_model.proofs.Histories.{IsLawful-prefix, state_after-push}
 use Rattle.tide_model.proofs.PeriodLaws.{Each-nil}
 use Rattle.tide_model.proofs.SinceLaws.{count-push}
@@ -28,7 +29,7 @@ use Rattle.tide_periods.specs.Asking.{IsCallerAt, scripts_of, standing_of}
 use Rattle.tide_periods.specs.Laws.{SharesMakePart, with_open}
 use Rattle.tide_periods.specs.Left.{left_at, left_of, total_by}
 use Rattle.tide_periods.specs.Own.{RanOwnShare, TookPart, had_retired, left_within, made_share}
-use Rattle.tide_periods.specs.Part.{RanPart}
+use Rattle.tide_periods.specs.Part.{IsPartOf, RanPart}
 use Rattle.tide_periods.specs.Recorded.{IsSettled, OpenedPart, recorded_at}
 use Rattle.tide_periods.specs.Store.{Setting}
 use Rattle.tide_periods.proofs.Freezing.{calls_of-opened, one_fails}
@@ -37,50 +38,62 @@ use Rattle.tide_periods.proofs.OwnShares.{IsCallerAt-longer, calls_of-mine, call
 use Rattle.tide_periods.proofs.Parting.{IsShare-by, any_below-same}
 use Rattle.tide_periods.proofs.RecordedLaws.{IsSettled-event, OpenedPart-did}
 
--- what calls leave: a settled history, in which no cycle more began, and no part more was opened
-record AreSettledCalls (setting : Setting) (before over : List Event) : Type 0 where
+-- what a part leaves: a settled history, in which no cycle more began, and no part more was opened
+record AreSettledAfter (setting : Setting) (before over : List Event) : Type 0 where
   pub settled : IsSettled (recorded_at setting over)
   pub cycles : begin_count over ≡ begin_count before
   pub parts : open_count over ≡ open_count before
 
-settled-calls : (setting : Setting) (before calls : List Event) → IsSettled (recorded_at setting before) → IsLawful setting.layout setting.shapes (before ++ calls) →
-    All (λ event. is_call event.entry ≡ true) calls → AreSettledCalls setting before (before ++ calls)
-settled-calls setting before [] settled lawful all =
-    subst (AreSettledCalls setting before) (sym (append-nil before)) (record { settled = settled; cycles = refl; parts = refl })
-settled-calls setting before (event ∷ calls) settled lawful all =
-    let first = one event.entry event.took (All-head (λ e. is_call e.entry ≡ true) event calls all) (lawful_first event calls lawful) in
-    let rest = settled-calls setting (before ++ event ∷ []) calls first.settled
-    (subst (IsLawful setting.layout setting.shapes) (sym (append_assoc before (event ∷ []) calls)) lawful)
-    (All-tail (λ e. is_call e.entry ≡ true) event calls all) in
-    subst (AreSettledCalls setting before) (append_assoc before (event ∷ []) calls)
+-- the entries of a part neither begin nor end a cycle, and open no part
+record IsQuietInPart (entry : Entry) : Type 0 where
+  pub no_begin : is_begin entry ≡ false
+  pub no_open : is_open entry ≡ false
+  pub no_end : (cycle : ℕ) (freed : List ℕ) → entry ≡ End cycle freed → ⊥
+
+quiet_in_part : (entry : Entry) → is_of_part entry ≡ true → IsQuietInPart entry
+quiet_in_part (Call who op reply) of = record { no_begin = refl; no_open = refl; no_end = λ cycle freed is. absurd (cc) }
+quiet_in_part (Begin cycle full) of = absurd (cc)
+quiet_in_part (Pause visits) of = absurd (cc)
+quiet_in_part (Visits who visits) of = absurd (cc)
+quiet_in_part (End cycle freed) of = absurd (cc)
+quiet_in_part (Taken block) of = record { no_begin = refl; no_open = refl; no_end = λ cycle freed is. absurd (cc) }
+quiet_in_part (Sweep block) of = record { no_begin = refl; no_open = refl; no_end = λ cycle freed is. absurd (cc) }
+quiet_in_part (Open number run) of = absurd (cc)
+
+settled-part : (setting : Setting) (before part : List Event) → IsSettled (recorded_at setting before) →
+    IsLawful setting.layout setting.shapes (before ++ part) → All (λ event. is_of_part event.entry ≡ true) part →
+    AreSettledAfter setting before (before ++ part)
+settled-part setting before [] settled lawful all =
+    subst (AreSettledAfter setting before) (sym (append-nil before)) (record { settled = settled; cycles = refl; parts = refl })
+settled-part setting before (event ∷ part) settled lawful all =
+    let rest = settled-part setting (before ++ event ∷ []) part first.settled
+    (subst (IsLawful setting.layout setting.shapes) (sym (append_assoc before (event ∷ []) part)) lawful)
+    (All-tail (λ e. is_of_part e.entry ≡ true) event part all) in
+    subst (AreSettledAfter setting before) (append_assoc before (event ∷ []) part)
     (record { settled = rest.settled; cycles = rest.cycles ∙ first.cycles; parts = rest.parts ∙ first.parts })
   where
-    lawful_first : (e : Event) (more : List Event) → IsLawful setting.layout setting.shapes (before ++ e ∷ more) → IsLawful setting.layout setting.shapes (before ++ e ∷ [])
-    lawful_first e more whole = IsLawful-prefix setting.layout setting.shapes (before ++ e ∷ []) (before ++ e ∷ more) (record { rest = more; joins = append_assoc before (e ∷ []) more }) whole
+    whole : IsLawful setting.layout setting.shapes (before ++ event ∷ [])
+    whole = IsLawful-prefix setting.layout setting.shapes (before ++ event ∷ []) (before ++ event ∷ part)
+        (record { rest = part; joins = append_assoc before (event ∷ []) part }) lawful
 
-    one : (entry : Entry) (took : Option ℕ) → is_call entry ≡ true → IsLawful setting.layout setting.shapes (before ++ record { entry = entry; took = took } ∷ []) →
-        AreSettledCalls setting before (before ++ record { entry = entry; took = took } ∷ [])
-    one (Call who op reply) took of whole =
-        let called : Event = record { entry = Call who op reply; took = took } in
-        let state = state_after-push setting.layout before called in
-        let begun = count-push (λ x. is_begin x.entry) before called in
-        let opens = count-push (λ x. is_open x.entry) before called in
-        record {
-          settled = IsSettled-event (recorded_at setting before) (recorded_at setting (before ++ called ∷ [])) called settled refl refl state begun opens refl
-              (stands_last setting.layout setting.shapes before called whole)
-              (record { kept = λ cycle freed is. absurd (cc) }) refl
-              (subst (HasNoNewDead (state_after setting.layout before)) (sym state) (HasNoNewDead-call (state_after setting.layout before) who op reply took))
-              (few_claims setting.layout setting.shapes (before ++ called ∷ []) whole);
-          cycles = begun ∙ add-zero (begin_count before);
-          parts = opens ∙ add-zero (open_count before);
-        }
-    one (Begin cycle full) took of whole = absurd (cc)
-    one (Pause visits) took of whole = absurd (cc)
-    one (Visits who visits) took of whole = absurd (cc)
-    one (End cycle freed) took of whole = absurd (cc)
-    one (Taken block) took of whole = absurd (cc)
-    one (Sweep block) took of whole = absurd (cc)
-    one (Open number run) took of whole = absurd (cc)
+    quiet : IsQuietInPart event.entry
+    quiet = quiet_in_part event.entry (All-head (λ e. is_of_part e.entry ≡ true) event part all)
+
+    begun : begin_count (before ++ event ∷ []) ≡ begin_count before + (if is_begin event.entry then 1 else 0)
+    begun = count-push (λ x. is_begin x.entry) before event
+
+    opens : open_count (before ++ event ∷ []) ≡ open_count before + (if is_open event.entry then 1 else 0)
+    opens = count-push (λ x. is_open x.entry) before event
+
+    first : AreSettledAfter setting before (before ++ event ∷ [])
+    first = record {
+      settled = IsSettled-event (recorded_at setting before) (recorded_at setting (before ++ event ∷ [])) event settled refl refl
+          (state_after-push setting.layout before event) begun opens refl (stands_last setting.layout setting.shapes before event whole)
+          (record { kept = λ cycle freed is. absurd (quiet.no_end cycle freed is) })
+          (few_claims setting.layout setting.shapes (before ++ event ∷ []) whole);
+      cycles = begun ∙ ap (λ (b : Bool). begin_count before + (if b then 1 else 0)) quiet.no_begin ∙ add-zero (begin_count before);
+      parts = opens ∙ ap (λ (b : Bool). open_count before + (if b then 1 else 0)) quiet.no_open ∙ add-zero (open_count before);
+    }
 
 -- what comes of one mutator's part in the whole
 record HasShared (setting : Setting) (run : ℕ) (history calls : List Event) (old new : Caller) (stopped : Bool) : Type 0 where
@@ -243,7 +256,7 @@ found_beside xs ys k x many at =
     ]
 
 pub shares-make-part : SharesMakePart
-shares-make-part setting run history calls old new stopped settled are lawful all took = record {
+shares-make-part setting run history part old new stopped settled are lawful all taken took = record {
   ran = record { begun = recorded_at setting opened; opened = opens; ran = ran };
   callers = record {
     one_each = took.as_many ∙ are.one_each;
@@ -268,7 +281,7 @@ shares-make-part setting run history calls old new stopped settled are lawful al
     opened = with_open history run
 
     over : List Event
-    over = opened ++ calls
+    over = opened ++ part
 
     claims : ℕ → List ℕ
     claims = (state_after setting.layout history).claims
@@ -282,13 +295,22 @@ shares-make-part setting run history calls old new stopped settled are lawful al
         (count-push (λ e. is_begin e.entry) history open_event ∙ add-zero (begin_count history))
         (count-push (λ e. is_open e.entry) history open_event) refl
 
-    so : AreSettledCalls setting opened over
-    so = settled-calls setting opened calls opens.settled lawful all
+    so : AreSettledAfter setting opened over
+    so = settled-part setting opened part opens.settled lawful all
 
-    shared : (k : ℕ) (c d : Caller) → slice_get old k ≡ Some c → slice_get new k ≡ Some d → HasShared setting run history calls c d (stopped k)
-    shared k c d at to = shared-of setting run history calls c d (stopped k) (are.each k c at).1 (took.each k c d at to)
+    is_part : IsPartOf setting.layout opened part
+    is_part = record {
+      entries = all;
+      calls = λ marks. AllPass-from_list_all (λ event. is_call event.entry) part
+          (calls_where_marking setting.layout setting.shapes part opened lawful marks
+          (list_all-from_AllPass (λ event. is_of_part event.entry) part all));
+      taken = taken;
+    }
 
-    at_place : (who : ℕ) → who < setting.layout.mutators → (c : Caller) × (d : Caller) × (c.who ≡ who) × HasShared setting run history calls c d (stopped who)
+    shared : (k : ℕ) (c d : Caller) → slice_get old k ≡ Some c → slice_get new k ≡ Some d → HasShared setting run history part c d (stopped k)
+    shared k c d at to = shared-of setting run history part c d (stopped k) (are.each k c at).1 (took.each k c d at to)
+
+    at_place : (who : ℕ) → who < setting.layout.mutators → (c : Caller) × (d : Caller) × (c.who ≡ who) × HasShared setting run history part c d (stopped who)
     at_place who below = elim (slice_get_cases old who).1 [
       | inl there ↦
           let now = found_beside old new who there.0 took.as_many there.2 in
@@ -301,14 +323,14 @@ shares-make-part setting run history calls old new stopped settled are lawful al
       settled = so.settled;
       same = refl;
       counts = record { cycles = so.cycles; parts = so.parts };
-      part = calls;
+      part = part;
       history = refl;
-      calls = all;
+      is_part = is_part;
       shares = λ who below.
           let one = at_place who below in
-          subst (λ (w : ℕ). IsShare run (retry_of w opened) ((state_after setting.layout over).active w) (calls_of w calls)) one.2 one.3.share;
-      stops = any_below-same stopped (λ who. has_ended (retry_of who opened) (calls_of who calls)) setting.layout.mutators
+          subst (λ (w : ℕ). IsShare run (retry_of w opened) ((state_after setting.layout over).active w) (calls_of w part)) one.2 one.3.share;
+      stops = any_below-same stopped (λ who. has_ended (retry_of who opened) (calls_of who part)) setting.layout.mutators
           (λ who below.
           let one = at_place who below in
-          subst (λ (w : ℕ). stopped who ≡ has_ended (retry_of w opened) (calls_of w calls)) one.2 one.3.stops);
+          subst (λ (w : ℕ). stopped who ≡ has_ended (retry_of w opened) (calls_of w part)) one.2 one.3.stops);
     }

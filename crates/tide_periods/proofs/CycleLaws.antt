@@ -34,7 +34,7 @@ use Rattle.tide_report.specs.Ends.{TellsEnds}
 use Rattle.tide_report.specs.Reports.{Reported, with_line}
 use Rattle.tide_report.proofs.EndLaws.{TellsEnds-end, TellsEnds-other, TellsEnds-part, TellsEnds-room}
 use Rattle.tide_periods.specs.Store.{Setting, blocks_in}
-use Rattle.tide_periods.specs.Recorded.{IsSettled, RanCycle, Recorded, TookNone}
+use Rattle.tide_periods.specs.Recorded.{IsSettled, RanCycle, Recorded, StandsIdle, TookNone}
 use Rattle.tide_model.proofs.SinceLaws.{count-push}
 
 -- what the end of a cycle leaves doesn't depend on the phase
@@ -263,12 +263,12 @@ TellsEnds-cycle layout history cycle freed kept blocks report report_now lines i
 
 -- a whole cycle was run and recorded
 pub RanCycle-did : (old new : Recorded) (report report_now : Reported) (freed : List ℕ) (kept : ℕ) (is_swept : ℕ → Bool) → IsSettled old →
-    old.state.phase ≡ idle → IsCollected old.setting.layout old.state freed is_swept kept →
+    StandsIdle old.setting.layout old.state old.history report → IsCollected old.setting.layout old.state freed is_swept kept →
     new.state ≡ swept_all (after_end old.state freed) → new.setting ≡ old.setting → new.cycles ≡ old.cycles + 1 → new.parts ≡ old.parts → new.blocks ≡ old.blocks →
     new.history ≡ with_cycle old.history (old.cycles + 1) freed kept (swept_blocks old.setting.layout is_swept) →
     report_now.cycles ≡ (with_line report (old.cycles + 1) kept freed).cycles → report_now.ids ≡ report.ids ++ freed →
-    RanCycle old new × (TellsEnds old.setting.layout old.history report → TellsEnds new.setting.layout new.history report_now)
-RanCycle-did old new report report_now freed kept is_swept recorded rests collected state same cycles parts blocks history lines ids = (
+    RanCycle old new × StandsIdle new.setting.layout new.state new.history report_now
+RanCycle-did old new report report_now freed kept is_swept recorded stands collected state same cycles parts blocks history lines ids = (
   record {
     settled = record {
       lawful = subst (λ (s : Setting). IsLawful s.layout s.shapes new.history) (sym same) (subst (IsLawful layout shapes) (sym history) last.lawful);
@@ -276,9 +276,6 @@ RanCycle-did old new report report_now freed kept is_swept recorded rests collec
       leaves = ap (λ (s : Setting). state_after s.layout new.history) same ∙ leaves;
       begun = ap begin_count history ∙ last.begun ∙ sym cycles;
       opens = ap open_count history ∙ last.opened ∙ sym parts;
-      swept = subst (λ (s : Setting). IsSwept s.layout new.history) (sym same)
-          (λ block has. swept_has_none layout (after_end old.state freed) block (subst (λ (s : State). HasDead layout s block) (leaves ∙ state) has));
-      untaken = subst TookNone (sym history) untaken;
       few = λ who. subst (λ (s : State). length (s.claims who) ≤ 8) (sym state) (recorded.few who);
       blocks = blocks ∙ recorded.blocks ∙ ap blocks_in (sym same);
     };
@@ -295,9 +292,16 @@ RanCycle-did old new report report_now freed kept is_swept recorded rests collec
         ∙ ap (λ (n : ℕ). old.history ++ ((plain (Begin (n + 1) true) ∷ plain (Pause kept) ∷ plain (End (n + 1) freed) ∷ []) ++ sweeps)) (sym recorded.begun);
     active = ap (λ (s : State). s.active) state;
     claims = ap (λ (s : State). s.claims) state;
-    rests = ap (λ (s : State). s.phase) state;
+    rests = rests;
+    clean = subst (λ (s : Setting). IsSwept s.layout new.history) (sym same)
+        (λ block has. clean block (subst (λ (s : State). HasDead layout s block) leaves has));
   },
-  told,
+  record {
+    rests = rests;
+    clean = subst (λ (s : Setting). (block : ℕ) → HasDead s.layout new.state block → ⊥) (sym same) clean;
+    untaken = subst TookNone (sym history) untaken;
+    told = told stands.told;
+  },
 )
   where
     layout : Layout
@@ -326,8 +330,8 @@ RanCycle-did old new report report_now freed kept is_swept recorded rests collec
         (record { lawful = recorded.lawful; ends = recorded.ends; leaves = recorded.leaves; begun = recorded.begun; opened = recorded.opens }) (
           refl,
           record {
-            is_idle = ap (λ (s : State). s.phase) recorded.leaves ∙ rests;
-            is_swept = recorded.swept;
+            is_idle = ap (λ (s : State). s.phase) recorded.leaves ∙ stands.rests;
+            is_swept = λ block has. stands.clean block (subst (λ (s : State). HasDead layout s block) recorded.leaves has);
             is_next = ap (λ (n : ℕ). n + 1) (sym recorded.begun);
           },
         )
@@ -372,8 +376,14 @@ RanCycle-did old new report report_now freed kept is_swept recorded rests collec
         list_all-append (λ (e : Event). not (is_taken e.entry)) ended sweeps
         ∙ and_from (list_all (λ (e : Event). not (is_taken e.entry)) ended) (list_all (λ (e : Event). not (is_taken e.entry)) sweeps)
         (TookNone-push h2 (plain (End number freed)) refl (TookNone-push h1 (plain (Pause kept)) refl
-        (TookNone-push old.history (plain (Begin number true)) refl recorded.untaken)))
+        (TookNone-push old.history (plain (Begin number true)) refl stands.untaken)))
         (sweeps_take_none (swept_blocks layout is_swept))
+
+    rests : new.state.phase ≡ idle
+    rests = ap (λ (s : State). s.phase) state
+
+    clean : (block : ℕ) → HasDead layout new.state block → ⊥
+    clean block has = swept_has_none layout (after_end old.state freed) block (subst (λ (s : State). HasDead layout s block) state has)
 
     leaves : state_after layout new.history ≡ new.state
     leaves = ap (state_after layout) history ∙ last.leaves ∙ all_swept ∙ sym state

@@ -1,12 +1,11 @@
 -- A freeze in which no cycle goes on, and how a period joins its part and its freeze.
-use Rattle.std.proofs.Common.{ℕ, zero, suc, ◌≡◌, ◌+◌, ◌<◌, refl, sym, ◌∙◌, ap, subst, arith, Bool, true, false, List, [], ◌∷◌, ◌++◌, append-nil, inl, inr, get_or}
+use Rattle.std.proofs.Common.{ℕ, zero, suc, ◌≡◌, ◌+◌, ◌<◌, refl, sym, ◌∙◌, ap, subst, arith, Bool, true, false, List, [], ◌∷◌, ◌++◌, append-nil, inl, inr}
 use Rattle.std.proofs.lemmas.Bool.{and_parts, eqb-true, eqb-false}
 use Rattle.std.proofs.lemmas.List.Elements.{All-get_or}
 use Rattle.std.proofs.lemmas.List.Sums.{AllPass-from_list_all, list_all-from_AllPass}
 use Rattle.std.proofs.lemmas.Option.{slice_get_cases, slice_get_within}
 use Rattle.std.specs.Prelude.{None, Some, map, slice_get, not, ◌||◌, ◌&&◌, nat_lt, nat_le, ◌==◌, if◌then◌else◌}
 use Rattle.std.specs.List.{list_all}
-use Rattle.tide_model.proofs.DeadLaws.{TakenAreSwept-calls}
 use Rattle.tide_model.specs.declared.entry.Entry.{Entry}
 use Rattle.tide_model.specs.declared.entry.Entry.TheVariants.{Begin, Call, Pause, End, Sweep, Taken, Open, Visits}
 use Rattle.tide_model.specs.declared.entry.Event.{Event}
@@ -19,7 +18,7 @@ use Rattle.tide_model.specs.Numbers.{any_below}
 use Rattle.tide_model.specs.Periods.{is_must, is_over, next_run, open_count, opened, after_part, Period}
 use Rattle.tide_model.specs.Script.{calls_of, retry_after_all, retry_of}
 use Rattle.tide_model.specs.Share.{IsShare, has_ended}
-use Rattle.tide_model.specs.Since.{born_since, is_call, is_end, is_sweep, is_taken}
+use Rattle.tide_model.specs.Since.{born_since, is_end, is_of_part}
 use Rattle.tide_model.specs.State.{State, idle}
 use Rattle.tide_model.proofs.Histories.{calls_of-append}
 use Rattle.tide_model.proofs.PeriodLaws.{marks_of-append}
@@ -86,6 +85,7 @@ RanFreeze-cycle old new pace recorded rests some ran = record {
     };
     stays = λ clash. absurd (cc);
   };
+  clean = λ must. ran.clean;
   next = run_at_rest pace new ran.settled ran.rests;
   some = some;
 }
@@ -124,6 +124,7 @@ RanFreeze-rest old pace settled rests some none = record {
     begins = λ due. (let clash : true ≡ false = sym due ∙ no_trigger pace old.setting.layout old.history none in absurd (cc));
     stays = λ _. refl;
   };
+  clean = λ clash. absurd (cc);
   next = run_at_rest pace old settled rests;
   some = some;
 }
@@ -151,15 +152,15 @@ any_below-some test (suc n) k below passes = step (k == n) refl (λ less. any_be
     step true same earlier = ap (λ (b : Bool). any_below test n || b) (ap test (sym (eqb-true k n same)) ∙ passes) ∙ or_true (any_below test n)
     step false same earlier = let apart = eqb-false k n same in ap (λ (b : Bool). b || test n) (earlier (omega (arith, apart, below)))
 
--- calls open no part
-none_open : (part : List Event) → list_all (λ event. is_call event.entry) part ≡ true →
+-- a part opens none
+none_open : (part : List Event) → list_all (λ event. is_of_part event.entry) part ≡ true →
     list_all (λ event. not (is_open event.entry)) part ≡ true
 none_open [] all = refl
 none_open (event ∷ part) all =
-    let (here, later) = and_parts (is_call event.entry) (list_all (λ (e : Event). is_call e.entry) part) all in
+    let (here, later) = and_parts (is_of_part event.entry) (list_all (λ (e : Event). is_of_part e.entry) part) all in
     ap (λ (b : Bool). b && list_all (λ (e : Event). not (is_open e.entry)) part) (step event.entry here) ∙ none_open part later
   where
-    step : (entry : Entry) → is_call entry ≡ true → not (is_open entry) ≡ true
+    step : (entry : Entry) → is_of_part entry ≡ true → not (is_open entry) ≡ true
     step (Call who op reply) is = refl
     step (Begin cycle full) is = refl
     step (Pause visits) is = refl
@@ -182,10 +183,10 @@ RanPeriod-by old begun ran new pace run next stopped must goes_on is_run opens p
   history = froze.history ∙ ap (λ (h : List Event). h ++ froze.freeze) ran_history;
   stands = record {
     goes_on = goes_on;
-    entries = λ k event below.
-        ap (λ (b : Bool). b || (is_taken (get_or part.part k event).entry || is_sweep (get_or part.part k event).entry)) (part.calls k event below);
-    calls = λ marks. part.calls;
-    taken = TakenAreSwept-calls part.part (list_all-from_AllPass (λ event. is_call event.entry) part.part part.calls);
+    entries = part.is_part.entries;
+    calls = λ marks. part.is_part.calls
+        (ap (λ (s : Setting). marks_after s.layout begun.history) opens.same ∙ ap (marks_after layout) is_opened ∙ marks);
+    taken = part.is_part.taken;
     shares = λ who below. subst (λ (r : ℕ). IsShare r (retry_of who old.history) ((state_after layout (after_part pace layout old.history period)).active who) (calls_of who part.part)) (sym runs)
         (IsShare-by run (retry_of who begun.history) (retry_of who old.history) ((state_after ran.setting.layout ran.history).active who)
         ((state_after layout (after_part pace layout old.history period)).active who) (calls_of who part.part) (calls_of who part.part)
@@ -196,7 +197,7 @@ RanPeriod-by old begun ran new pace run next stopped must goes_on is_run opens p
         (subst (λ (s : Setting). IsFreeze pace s.layout ran.history (next_run pace layout old.history) must (marks_of froze.freeze)) settings
         (subst (λ (n : ℕ). IsFreeze pace ran.setting.layout ran.history n must (marks_of froze.freeze)) last froze.is_freeze)));
     swept = λ must. subst (IsSwept layout) (froze.history ∙ ap (λ (h : List Event). h ++ froze.freeze) ran_history)
-        (subst (λ (s : Setting). IsSwept s.layout new.history) (froze.same ∙ settings) froze.settled.swept);
+        (subst (λ (s : Setting). IsSwept s.layout new.history) (froze.same ∙ settings) (froze.clean (is_must_now ∙ must)));
   };
   next = froze.next;
   some = froze.some;
@@ -222,7 +223,7 @@ RanPeriod-by old begun ran new pace run next stopped must goes_on is_run opens p
 
     last : last_run ran.history ≡ next_run pace layout old.history
     last = ap last_run ran_history
-        ∙ last_run-same (opened pace layout old.history) part.part (none_open part.part (list_all-from_AllPass (λ (event : Event). is_call event.entry) part.part part.calls))
+        ∙ last_run-same (opened pace layout old.history) part.part (none_open part.part (list_all-from_AllPass (λ (event : Event). is_of_part event.entry) part.part part.is_part.entries))
         ∙ last_run-opened old.history (open_count old.history + 1) (next_run pace layout old.history)
 
     still : (who : ℕ) → retry_of who begun.history ≡ retry_of who old.history

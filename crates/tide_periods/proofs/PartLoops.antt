@@ -11,6 +11,7 @@ use Rattle.tide_model.specs.Since.{is_call}
 use Rattle.tide_model.specs.Prefix.{IsPrefix}
 use Rattle.tide_periods.specs.declared.caller.Caller.{Caller}
 use Rattle.tide_periods.specs.Own.{IsCallerWithin, left_within}
+use Rattle.tide_periods.specs.Part.{IsPartOf}
 use Rattle.tide_periods.specs.Store.{Setting}
 use Rattle.tide_periods.specs.Recorded.{HasSameCounts, IsSettled, Recorded}
 
@@ -34,6 +35,7 @@ pub record IsPartway (old now : Recorded) (run count : ℕ) (ended : Bool) : Typ
   pub part : List Event
   pub history : now.history ≡ old.history ++ part
   pub calls : AllPass (λ event. is_call event.entry) part
+  pub is_part : IsPartOf old.setting.layout old.history part
   pub shares : (who : ℕ) → who < count →
       IsShare run (retry_of who old.history) ((state_after now.setting.layout now.history).active who) (calls_of who part)
   pub none : (who : ℕ) → count ≤ who → calls_of who part ≡ []

@@ -3,6 +3,8 @@ use Rattle.std.proofs.Common.{ℕ, zero, suc, ◌≡◌, ◌≢◌, ◌<◌, ref
 use Rattle.std.proofs.lemmas.Bool.{eqb-true, eqb-false}
 use Rattle.std.proofs.lemmas.List.{get_or-set_same, get_or-set_other, length-set}
 use Rattle.std.proofs.lemmas.List.Elements.{All-append, All-nil, All-weaker}
+use Rattle.std.proofs.lemmas.List.Sums.{list_all-from_AllPass}
+use Rattle.std.specs.List.{AllPass}
 use Rattle.std.proofs.lemmas.Option.{slice_get-get_or, slice_get_within, get_or_from_slice_get}
 use Rattle.std.proofs.Math.ListN.{set}
 use Rattle.std.specs.Prelude.{Option, Some, map, slice_get, ◌==◌, ◌||◌}
@@ -16,13 +18,15 @@ use Rattle.tide_model.specs.Numbers.{any_below}
 use Rattle.tide_model.specs.Script.{retry_of}
 use Rattle.tide_model.specs.Script.{calls_of, retry_after_all}
 use Rattle.tide_model.specs.Share.{IsShare, has_ended}
-use Rattle.tide_model.specs.Since.{is_call}
+use Rattle.tide_model.specs.Layout.{Layout}
+use Rattle.tide_model.specs.Since.{is_call, is_of_part, is_sweep, is_taken}
+use Rattle.tide_model.proofs.DeadLaws.{TakenAreSwept-calls}
 use Rattle.tide_model.proofs.Histories.{calls_of-append}
 use Rattle.tide_periods.specs.declared.caller.Caller.{Caller}
 use Rattle.tide_periods.specs.Answered.{pair_of}
 use Rattle.tide_periods.specs.Asking.{IsCaller, IsMutatorAt, Standing, standing_of}
 use Rattle.tide_periods.proofs.PartLoops.{IsPartway}
-use Rattle.tide_periods.specs.Part.{AreCallers, RanShare}
+use Rattle.tide_periods.specs.Part.{AreCallers, IsPartOf, RanShare}
 use Rattle.tide_periods.specs.Store.{Setting}
 use Rattle.tide_periods.specs.Recorded.{IsSettled, Recorded}
 use Rattle.tide_periods.proofs.Quiet.{IsMutatorAt-quiet, active_after-quiet, calls_of-others}
@@ -52,6 +56,16 @@ pub IsShare-by : (run : ℕ) (retry retry' : Option Op) (active active' : Bool) 
 IsShare-by run retry retry' active active' calls calls' e1 e2 e3 share =
     subst (λ (r : Option Op). IsShare run r active' calls') e1 (subst (λ (a : Bool). IsShare run retry a calls') e2 (subst (IsShare run retry active) e3 share))
 
+-- calls alone are a part
+pub IsPartOf-calls : (layout : Layout) (before part : List Event) → AllPass (λ event. is_call event.entry) part →
+    IsPartOf layout before part
+IsPartOf-calls layout before part calls = record {
+  entries = All-weaker (λ event. is_call event.entry ≡ true) (λ event. is_of_part event.entry ≡ true)
+      (λ event is. ap (λ (b : Bool). b || (is_taken event.entry || is_sweep event.entry)) is) part calls;
+  calls = λ marks. calls;
+  taken = TakenAreSwept-calls part (list_all-from_AllPass (λ event. is_call event.entry) part calls);
+}
+
 -- no mutator made a call yet
 pub IsPartway-nothing : (old : Recorded) (run : ℕ) → IsSettled old → IsPartway old old run 0 false
 IsPartway-nothing old run settled = record {
@@ -61,6 +75,7 @@ IsPartway-nothing old run settled = record {
   part = [];
   history = sym (append-nil old.history);
   calls = All-nil (λ event. is_call event.entry ≡ true);
+  is_part = IsPartOf-calls old.setting.layout old.history [] (All-nil (λ event. is_call event.entry ≡ true));
   shares = λ who below. absurd (omega arith);
   none = λ who above. refl;
   stops = refl;
@@ -75,8 +90,8 @@ IsPartway-share old now new run count ended stopped way ran = record {
   counts = record { cycles = ran.counts.cycles ∙ way.counts.cycles; parts = ran.counts.parts ∙ way.counts.parts };
   part = way.part ++ ran.events;
   history = ran.history ∙ ap (λ (h : List Event). h ++ ran.events) way.history ∙ append_assoc old.history way.part ran.events;
-  calls = All-append (λ event. is_call event.entry ≡ true) way.part ran.events way.calls
-      (All-weaker (λ event. is_call_of count event.entry ≡ true) (λ event. is_call event.entry ≡ true) (λ event of. is_call-own count event.entry of) ran.events ran.own);
+  calls = calls;
+  is_part = IsPartOf-calls old.setting.layout old.history (way.part ++ ran.events) calls;
   shares = λ who below. share who (who == count) refl below;
   none = λ who above. calls_of-append who way.part ran.events
       ∙ ap (λ (mine : List (Op × Reply)). mine ++ calls_of who ran.events) (way.none who (omega arith))
@@ -90,6 +105,10 @@ IsPartway-share old now new run count ended stopped way ran = record {
       (ap (λ (r : Option Op). has_ended r (calls_of count ran.events)) still ∙ ap (has_ended (retry_of count old.history)) (sym of_own));
 }
   where
+    calls : AllPass (λ event. is_call event.entry) (way.part ++ ran.events)
+    calls = All-append (λ event. is_call event.entry ≡ true) way.part ran.events way.calls
+        (All-weaker (λ event. is_call_of count event.entry ≡ true) (λ event. is_call event.entry ≡ true) (λ event of. is_call-own count event.entry of) ran.events ran.own)
+
     of_others : (who : ℕ) → who < count → calls_of who (way.part ++ ran.events) ≡ calls_of who way.part
     of_others who below = calls_of-append who way.part ran.events
         ∙ ap (λ (more : List (Op × Reply)). calls_of who way.part ++ more) (calls_of-others who count ran.events (λ same. omega (arith, same, below)) ran.own)

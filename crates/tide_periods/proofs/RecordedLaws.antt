@@ -31,7 +31,7 @@ use Rattle.tide_report.proofs.EndLaws.{TellsEnds-other, TellsEnds-part}
 use Rattle.tide_periods.specs.Recorded.{IsSettled, MadeCall, MayAsk, OpenedPart, Recorded, StandsIdle, TookNone}
 use Rattle.tide_model.proofs.PhaseLaws.{phase_after-call}
 use Rattle.tide_model.proofs.Windows.{StandsFull-now}
-use Rattle.tide_model.proofs.CallKeeps.{HasFewClaims, HasFewClaims-call, HasNoNewDead, HasNoNewDead-call, same_dead}
+use Rattle.tide_model.proofs.CallKeeps.{HasFewClaims, HasFewClaims-call, HasNoNewDead, HasNoNewDead-call}
 use Rattle.tide_periods.proofs.CallerLaws.{called}
 
 -- what contracts see of a store and of its history
@@ -73,12 +73,12 @@ StandsRefused-settled layout history who class swept untaken full = record {
       (drop_all (λ e. not (is_taken e.entry)) (moment_after_last (λ e. is_open e.entry) history) history untaken);
 }
 
--- one entry more, after which nothing is dead
+-- one entry more
 pub IsSettled-event : (old new : Recorded) (event : Event) → IsSettled old → new.setting ≡ old.setting → new.history ≡ old.history ++ event ∷ [] →
     new.state ≡ after_event old.setting.layout old.state event → new.cycles ≡ old.cycles + (if is_begin event.entry then 1 else 0) → new.parts ≡ old.parts + (if is_open event.entry then 1 else 0) →
     new.blocks ≡ old.blocks → Stands old.setting.layout old.setting.shapes old.history event → EndsInTime old.setting.layout old.history event →
-    is_taken event.entry ≡ false → HasNoNewDead old.state new.state → HasFewClaims new.state → IsSettled new
-IsSettled-event old new event recorded same history state cycles parts blocks stands ends takes_none dead few = record {
+    HasFewClaims new.state → IsSettled new
+IsSettled-event old new event recorded same history state cycles parts blocks stands ends few = record {
   lawful = subst (λ (s : Setting). IsLawful s.layout s.shapes new.history) (sym same)
       (subst (IsLawful layout old.setting.shapes) (sym history) (IsLawful-push layout old.setting.shapes old.history event recorded.lawful stands));
   ends = subst (λ (s : Setting). Each (EndsInTime s.layout) new.history) (sym same)
@@ -86,10 +86,6 @@ IsSettled-event old new event recorded same history state cycles parts blocks st
   leaves = leaves;
   begun = ap begin_count history ∙ count-push (λ e. is_begin e.entry) old.history event ∙ ap (λ (n : ℕ). n + (if is_begin event.entry then 1 else 0)) recorded.begun ∙ sym cycles;
   opens = ap open_count history ∙ count-push (λ e. is_open e.entry) old.history event ∙ ap (λ (n : ℕ). n + (if is_open event.entry then 1 else 0)) recorded.opens ∙ sym parts;
-  swept = subst (λ (s : Setting). (block : ℕ) → HasDead s.layout (state_after s.layout new.history) block → ⊥) (sym same)
-      (subst (λ (s : State). (block : ℕ) → HasDead layout s block → ⊥) (sym leaves_here)
-      (IsSwept-grown layout old.state new.state dead (subst (λ (s : State). (block : ℕ) → HasDead layout s block → ⊥) recorded.leaves recorded.swept)));
-  untaken = subst TookNone (sym history) (TookNone-push old.history event takes_none recorded.untaken);
   few = few;
   blocks = blocks ∙ recorded.blocks ∙ ap blocks_in (sym same);
 }
@@ -103,23 +99,24 @@ IsSettled-event old new event recorded same history state cycles parts blocks st
     leaves : state_after new.setting.layout new.history ≡ new.state
     leaves = ap (λ (s : Setting). state_after s.layout new.history) same ∙ leaves_here
 
--- a call was made and recorded
-pub MadeCall-did : (old new : Recorded) (who : ℕ) (op : Op) (reply : Reply) (took : Option ℕ) → IsSettled old → MayAsk old who op →
+-- a call was made and recorded, where nothing is dead and no block was taken
+pub MadeCall-did : (old new : Recorded) (who : ℕ) (op : Op) (reply : Reply) (took : Option ℕ) → IsSettled old →
+    ((block : ℕ) → HasDead old.setting.layout old.state block → ⊥) → TookNone old.history → MayAsk old who op →
     IsAnswer old.setting.layout old.setting.shapes old.state who op reply took → new.state ≡ after_call old.state who op reply took →
     ((class : ℕ) → reply ≡ Refused (Full class) → (block : ℕ) → IsBlockOf old.setting.layout class block → IsFullBlock old.setting.layout old.state block) →
     new.setting ≡ old.setting → new.history ≡ old.history ++ called who op reply took ∷ [] → new.cycles ≡ old.cycles → new.parts ≡ old.parts → new.blocks ≡ old.blocks →
     MadeCall old new who op reply
-MadeCall-did old new who op reply took recorded may answers state room same history cycles parts blocks = record {
+MadeCall-did old new who op reply took recorded clean untaken may answers state room same history cycles parts blocks = record {
   settled = IsSettled-event old new (called who op reply took) recorded same history state (cycles ∙ sym (add-zero old.cycles)) (parts ∙ sym (add-zero old.parts)) blocks (record {
     is_mutator = may.is_mutator;
     is_active = ap (λ (s : State). s.active who) recorded.leaves ∙ may.is_active;
     fits = may.fits;
     answers = subst (λ (s : State). IsAnswer old.setting.layout old.setting.shapes s who op reply took) (sym recorded.leaves) answers;
-    room = λ class is. StandsRefused-settled old.setting.layout old.history who class recorded.swept recorded.untaken
+    room = λ class is. StandsRefused-settled old.setting.layout old.history who class
+        (subst (λ (s : State). (block : ℕ) → HasDead old.setting.layout s block → ⊥) (sym recorded.leaves) clean) untaken
         (λ block of_class. subst (λ (s : State). IsFullBlock old.setting.layout s block) (sym recorded.leaves) (room class is block of_class));
   })
-      (record { kept = λ cycle freed is. absurd (cc) }) refl
-      (subst (HasNoNewDead old.state) (sym state) (HasNoNewDead-call old.state who op reply took))
+      (record { kept = λ cycle freed is. absurd (cc) })
       (subst HasFewClaims (sym state) (HasFewClaims-call old.setting.layout old.setting.shapes old.state who op reply took recorded.few answers));
   same = same;
   counts = record { cycles = cycles; parts = parts };
@@ -133,8 +130,7 @@ pub OpenedPart-did : (old new : Recorded) (run number : ℕ) → IsSettled old �
     new.history ≡ old.history ++ plain (Open number run) ∷ [] → new.cycles ≡ old.cycles → new.parts ≡ old.parts + 1 → new.blocks ≡ old.blocks → OpenedPart old new run
 OpenedPart-did old new run number recorded numbered state same history cycles parts blocks = record {
   settled = IsSettled-event old new (plain (Open number run)) recorded same history state (cycles ∙ sym (add-zero old.cycles)) parts blocks refl
-      (record { kept = λ cycle freed is. absurd (cc) }) refl
-      (subst (HasNoNewDead old.state) (sym state) (same_dead old.state)) (subst HasFewClaims (sym state) recorded.few);
+      (record { kept = λ cycle freed is. absurd (cc) }) (subst HasFewClaims (sym state) recorded.few);
   same = same;
   state = state;
   cycles = cycles;
@@ -148,6 +144,10 @@ pub StandsIdle-called : (layout layout_now : Layout) (state state_now : State) (
     more ≡ history ++ called who op reply took ∷ [] → StandsIdle layout_now state_now more report
 StandsIdle-called layout layout_now state state_now history more report who op reply took stands same is is_more = record {
   rests = ap (λ (s : State). s.phase) is ∙ phase_after-call state who op reply took ∙ stands.rests;
+  clean = subst (λ (l : Layout). (block : ℕ) → HasDead l state_now block → ⊥) (sym same)
+      (subst (λ (s : State). (block : ℕ) → HasDead layout s block → ⊥) (sym is)
+      (IsSwept-grown layout state (after_call state who op reply took) (HasNoNewDead-call state who op reply took) stands.clean));
+  untaken = subst TookNone (sym is_more) (TookNone-push history (called who op reply took) refl stands.untaken);
   told = subst (λ (l : Layout). TellsEnds l more report) (sym same)
       (subst (λ (h : List Event). TellsEnds layout h report) (sym is_more)
       (TellsEnds-part layout history (called who op reply took ∷ []) report refl stands.told));
@@ -157,6 +157,8 @@ pub StandsIdle-opened : (layout : Layout) (state : State) (history more : List E
     StandsIdle layout state history report → more ≡ history ++ plain (Open number run) ∷ [] → StandsIdle layout state more report
 StandsIdle-opened layout state history more report number run stands is_more = record {
   rests = stands.rests;
+  clean = stands.clean;
+  untaken = subst TookNone (sym is_more) (TookNone-push history (plain (Open number run)) refl stands.untaken);
   told = subst (λ (h : List Event). TellsEnds layout h report) (sym is_more)
       (TellsEnds-other layout history (Open number run) report refl stands.told);
 }

@@ -6,7 +6,7 @@ use Rattle.std.proofs.lemmas.Option.{slice_get-map, slice_get_within, get_or_fro
 use Rattle.std.specs.Prelude.{Some, option_map, slice_get, nat_lt}
 use Rattle.tide_model.specs.declared.op.Op.{Op}
 use Rattle.tide_model.specs.declared.entry.Event.{Event}
-use Rattle.tide_model.specs.Cycle.{dead_cell, dead_array, IsSwept}
+use Rattle.tide_model.specs.Cycle.{HasDead, dead_cell, dead_array}
 use Rattle.tide_model.specs.Lawful.{Stands}
 use Rattle.tide_model.specs.Periods.{EndsInTime}
 use Rattle.tide_model.specs.State.{State, empty_state}
@@ -15,7 +15,7 @@ use Rattle.tide_periods.specs.declared.caller.Caller.{Caller}
 use Rattle.tide_periods.specs.Asking.{AreNew, IsAskable, IsMutatorAt, IsNew, Standing, standing_of, IsAskedBy}
 use Rattle.tide_periods.specs.Left.{left_by, left_of, total_by}
 use Rattle.tide_periods.specs.Part.{AreCallers}
-use Rattle.tide_periods.specs.Recorded.{IsSettled, Recorded, StandsIdle}
+use Rattle.tide_periods.specs.Recorded.{IsSettled, Recorded, StandsIdle, TookNone}
 use Rattle.tide_periods.specs.Store.{Setting, blocks_in}
 use Rattle.tide_model.specs.Layout.{Layout}
 use Rattle.tide_report.specs.Reports.{Reported}
@@ -122,20 +122,21 @@ IsSettled-nothing setting state blocks empty counted = record {
   leaves = sym empty;
   begun = refl;
   opens = refl;
-  swept = none_dead;
-  untaken = refl;
   few = λ who. subst (λ (s : State). length (s.claims who) ≤ 8) (sym empty) (omega arith);
   blocks = counted;
 }
-  where
-    none_dead : IsSwept setting.layout []
-    none_dead block (dead_cell cell within at is) = absurd (cc)
-    none_dead block (dead_array array within at is) = absurd (cc)
+
+-- nothing is dead in an empty store
+none_dead : (layout : Layout) (block : ℕ) → HasDead layout empty_state block → ⊥
+none_dead layout block (dead_cell cell within at is) = absurd (cc)
+none_dead layout block (dead_array array within at is) = absurd (cc)
 
 -- nothing was run yet, and no cycle marks
 pub StandsIdle-nothing : (layout : Layout) (state : State) (history : List Event) (report : Reported) → state ≡ empty_state → history ≡ [] →
     report.cycles ≡ [] → report.ids ≡ [] → StandsIdle layout state history report
 StandsIdle-nothing layout state history report empty none no_cycles no_ids = record {
   rests = ap (λ (s : State). s.phase) empty;
+  clean = subst (λ (s : State). (block : ℕ) → HasDead layout s block → ⊥) (sym empty) (none_dead layout);
+  untaken = subst TookNone (sym none) refl;
   told = TellsEnds-nothing layout history report none no_cycles no_ids;
 }

@@ -7,7 +7,7 @@ use Rattle.tide_model.specs.History.{plain}
 use Rattle.tide_model.specs.Lawful.{IsLawful}
 use Rattle.tide_model.specs.Numbers.{any_below}
 use Rattle.tide_model.specs.Periods.{open_count}
-use Rattle.tide_model.specs.Since.{is_call}
+use Rattle.tide_model.specs.Since.{TakenAreSwept, is_of_part}
 use Rattle.tide_periods.specs.declared.caller.Caller.{Caller}
 use Rattle.tide_periods.specs.Own.{AllTookPart}
 use Rattle.tide_periods.specs.Part.{AreCallers, RanPartBy}
@@ -18,13 +18,13 @@ use Rattle.tide_periods.specs.Store.{Setting}
 abbrev pub with_open : List Event → ℕ → List Event
 with_open history run = history ++ plain (Open (open_count history + 1) run) ∷ []
 
--- A history was settled, and its next part was opened. Where what follows are calls, the whole is lawful, and each
--- caller's mutator took part, the part was run by these callers.
+-- A history was settled, and its next part was opened. Where what follows is of a part, each block that was taken in it was
+-- swept, the whole is lawful, and each caller's mutator took part, the part was run by these callers.
 abbrev pub SharesMakePart : Type 0
-SharesMakePart = (setting : Setting) (run : ℕ) (history calls : List Event) (old new : List Caller)
+SharesMakePart = (setting : Setting) (run : ℕ) (history part : List Event) (old new : List Caller)
     (stopped : ℕ → Bool) → IsSettled (recorded_at setting history) → AreCallers (recorded_at setting history) old →
-    IsLawful setting.layout setting.shapes (with_open history run ++ calls) →
-    AllPass (λ event. is_call event.entry) calls →
-    AllTookPart setting run history (with_open history run ++ calls) old new stopped →
-    RanPartBy (recorded_at setting history) (recorded_at setting (with_open history run ++ calls)) run old new
+    IsLawful setting.layout setting.shapes (with_open history run ++ part) →
+    AllPass (λ event. is_of_part event.entry) part → TakenAreSwept part →
+    AllTookPart setting run history (with_open history run ++ part) old new stopped →
+    RanPartBy (recorded_at setting history) (recorded_at setting (with_open history run ++ part)) run old new
     (any_below stopped setting.layout.mutators)

@@ -1,12 +1,14 @@
 -- What a running part did.
-use Rattle.std.specs.Prelude.{ℕ, ◌≡◌, ◌<◌, ◌≤◌, ◌++◌, Bool, false, List, slice_get, Some, length}
+use Rattle.std.specs.Prelude.{ℕ, ◌≡◌, ◌<◌, ◌≤◌, ◌++◌, Bool, true, false, List, slice_get, Some, length}
 use Rattle.std.specs.List.{AllPass, list_all}
 use Rattle.tide_model.specs.declared.entry.Event.{Event}
+use Rattle.tide_model.specs.Freeze.{marks_after}
 use Rattle.tide_model.specs.History.{is_call_of, state_after}
+use Rattle.tide_model.specs.Layout.{Layout}
 use Rattle.tide_model.specs.Numbers.{any_below}
 use Rattle.tide_model.specs.Script.{calls_of, retry_of}
 use Rattle.tide_model.specs.Share.{IsShare, has_ended}
-use Rattle.tide_model.specs.Since.{is_call}
+use Rattle.tide_model.specs.Since.{TakenAreSwept, is_call, is_of_part}
 use Rattle.tide_periods.specs.declared.caller.Caller.{Caller}
 use Rattle.tide_periods.specs.Asking.{IsCaller, scripts_of}
 use Rattle.tide_periods.specs.Left.{total_left}
@@ -30,6 +32,13 @@ pub record AreCallers (recorded : Recorded) (callers : List Caller) : Type 0 whe
   pub each : (who : ℕ) (caller : Caller) → slice_get callers who ≡ Some caller →
       (caller.who ≡ who) × IsCaller recorded caller
 
+-- What a running part may have after a history: calls, and where no cycle marks also blocks that are taken and swept. Each
+-- that is taken is swept in it.
+pub record IsPartOf (layout : Layout) (before part : List Event) : Type 0 where
+  pub entries : AllPass (λ event. is_of_part event.entry) part
+  pub calls : marks_after layout before ≡ true → AllPass (λ event. is_call event.entry) part
+  pub taken : TakenAreSwept part
+
 -- each mutator made its share of the calls of a part
 pub record RanPart (old new : Recorded) (run : ℕ) (ended : Bool) : Type 0 where
   pub settled : IsSettled new
@@ -37,7 +46,7 @@ pub record RanPart (old new : Recorded) (run : ℕ) (ended : Bool) : Type 0 wher
   pub counts : HasSameCounts old new
   pub part : List Event
   pub history : new.history ≡ old.history ++ part
-  pub calls : AllPass (λ event. is_call event.entry) part
+  pub is_part : IsPartOf old.setting.layout old.history part
   pub shares : (who : ℕ) → who < old.setting.layout.mutators →
       IsShare run (retry_of who old.history)
       ((state_after new.setting.layout new.history).active who) (calls_of who part)

@@ -1,6 +1,7 @@
 -- What a freeze, a period and a run did.
-use Rattle.std.specs.Prelude.{ℕ, ◌≡◌, ◌+◌, ◌<◌, ◌≤◌, ◌++◌, Bool, List, [], slice_get, Some}
+use Rattle.std.specs.Prelude.{ℕ, ◌≡◌, ◌+◌, ◌<◌, ◌≤◌, ◌++◌, Bool, true, List, [], slice_get, Some}
 use Rattle.tide_model.specs.declared.entry.Event.{Event}
+use Rattle.tide_model.specs.Cycle.{IsSwept}
 use Rattle.tide_model.specs.Freeze.{IsFreeze, marks_of}
 use Rattle.tide_model.specs.Pace.{Pace}
 use Rattle.tide_model.specs.Periods.{IsScheduled, Period, StandsPeriod, after_period, next_run}
@@ -11,8 +12,8 @@ use Rattle.tide_periods.specs.declared.caller.Caller.{Caller}
 use Rattle.tide_periods.specs.Part.{AreCallers}
 use Rattle.tide_periods.specs.Recorded.{IsSettled, Recorded}
 
--- A freeze did what the schedule asks for after the running part that ended. Each mutator has so many calls in the next
--- part, and at least one.
+-- A freeze did what the schedule asks for after the running part that ended, and after a must nothing is dead. Each mutator
+-- has so many calls in the next part, and at least one.
 pub record RanFreeze (old new : Recorded) (pace : Pace) (is_must : Bool) (run : ℕ) : Type 0 where
   pub settled : IsSettled new
   pub same : new.setting ≡ old.setting
@@ -24,6 +25,7 @@ pub record RanFreeze (old new : Recorded) (pace : Pace) (is_must : Bool) (run : 
   pub active : new.state.active ≡ old.state.active
   pub claims : new.state.claims ≡ old.state.claims
   pub is_freeze : IsFreeze pace old.setting.layout old.history (last_run old.history) is_must (marks_of freeze)
+  pub clean : is_must ≡ true → IsSwept new.setting.layout new.history
   pub next : run ≡ next_run pace new.setting.layout new.history
   pub some : 0 < run
 

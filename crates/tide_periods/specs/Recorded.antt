@@ -8,7 +8,7 @@ use Rattle.tide_model.specs.declared.op.Reply.{Reply}
 use Rattle.tide_model.specs.declared.entry.Entry.TheVariants.{Call, Begin, Pause, End, Sweep, Open}
 use Rattle.tide_model.specs.declared.entry.Event.{Event}
 use Rattle.tide_model.specs.Answer.{IsAnswer}
-use Rattle.tide_model.specs.Cycle.{IsSwept, begin_count}
+use Rattle.tide_model.specs.Cycle.{HasDead, IsSwept, begin_count}
 use Rattle.tide_model.specs.History.{plain, state_after}
 use Rattle.tide_model.specs.Lawful.{FitsLayout, IsLawful}
 use Rattle.tide_model.specs.Periods.{EndsInTime, open_count}
@@ -43,23 +43,23 @@ recorded_at setting history = record {
 abbrev pub TookNone : List Event → Type 0
 TookNone history = list_all (λ event. not (is_taken event.entry)) history ≡ true
 
--- The history is lawful, its cycles end in time, and it leaves the store as it is: nothing is dead, and no block was taken. A
--- cycle may mark.
+-- The history is lawful, its cycles end in time, and it leaves the store as it is. A cycle may mark, and something may be
+-- dead.
 pub record IsSettled (recorded : Recorded) : Type 0 where
   pub lawful : IsLawful recorded.setting.layout recorded.setting.shapes recorded.history
   pub ends : Each (EndsInTime recorded.setting.layout) recorded.history
   pub leaves : state_after recorded.setting.layout recorded.history ≡ recorded.state
   pub begun : begin_count recorded.history ≡ recorded.cycles
   pub opens : open_count recorded.history ≡ recorded.parts
-  pub swept : IsSwept recorded.setting.layout recorded.history
-  pub untaken : TookNone recorded.history
   pub few : (who : ℕ) → length (recorded.state.claims who) ≤ 8
   pub blocks : recorded.blocks ≡ blocks_in recorded.setting
 
--- What holds between two entries of a store that runs whole cycles alone, beside what is recorded: no cycle marks, and
--- the report tells the ends of the history.
+-- What holds between two entries of a store that runs whole cycles alone, beside what is recorded: no cycle marks, nothing
+-- is dead, since each freeze swept all, no block was taken in a part, and the report tells the ends of the history.
 pub record StandsIdle (layout : Layout) (state : State) (history : List Event) (report : Reported) : Type 0 where
   pub rests : state.phase ≡ idle
+  pub clean : (block : ℕ) → HasDead layout state block → ⊥
+  pub untaken : TookNone history
   pub told : TellsEnds layout history report
 
 -- the mutator may make the call
@@ -107,3 +107,4 @@ pub record RanCycle (old new : Recorded) : Type 0 where
   pub active : new.state.active ≡ old.state.active
   pub claims : new.state.claims ≡ old.state.claims
   pub rests : new.state.phase ≡ idle
+  pub clean : IsSwept new.setting.layout new.history

@@ -1,12 +1,12 @@
 -- Why a heap that stands still may be collected, and what that leaves of its participants and of a run.
 use Rattle.std.proofs.Common.{ℕ, ◌≡◌, ◌<◌, ◌≤◌, ◌∙◌, refl, sym, ap, subst, Bool, true, false, List, [], ◌∷◌, ◌++◌, append-nil, length}
-use Rattle.std.proofs.lemmas.Bool.{and_from, and_parts}
+use Rattle.std.proofs.lemmas.Bool.{and_parts}
 use Rattle.std.proofs.lemmas.List.Elements.{filter-append}
 use Rattle.std.specs.List.{list_all}
-use Rattle.std.specs.Prelude.{Contains, ◌+◌, filter, if◌then◌else◌, not}
+use Rattle.std.specs.Prelude.{Contains, ◌+◌, filter, if◌then◌else◌}
 use Rattle.atomic_table.specs.Seated.{TableId}
-use Rattle.std.proofs.lemmas.List.Folds.{list_all-append}
-use Rattle.tide_freeze.proofs.QuietLaws.{HasFrozenWhole-quiet, calls_of-quiet, kept_by_quiet, open_count-quiet, quiet_takes_none}
+use Rattle.tide_freeze.proofs.FreezeLaws.{IsFreeze-by}
+use Rattle.tide_freeze.proofs.QuietLaws.{HasFrozenWhole-quiet, calls_of-quiet, kept_by_quiet, open_count-quiet}
 use Rattle.tide_heap.specs.Parties.{In}
 use Rattle.tide_heap.specs.Turns.{calls_of as noted_calls_of}
 use Rattle.tide_machine.specs.World.{first_visitor}
@@ -16,18 +16,17 @@ use Rattle.tide_model.proofs.Histories.{state_from-append}
 use Rattle.tide_model.specs.History.{is_call_of, state_after, state_from}
 use Rattle.tide_model.specs.Layout.{Layout}
 use Rattle.tide_model.specs.Pace.{Pace}
-use Rattle.tide_model.specs.Cycle.{IsSwept}
 use Rattle.tide_model.specs.Periods.{open_count}
 use Rattle.tide_model.specs.Prefix.{prefix_trans}
 use Rattle.tide_model.specs.Refused.{ShapeLists}
-use Rattle.tide_model.specs.Since.{is_of_freeze, is_taken}
+use Rattle.tide_model.specs.Since.{is_of_freeze}
 use Rattle.tide_model.specs.State.{State, empty_state}
 use Rattle.tide_model.specs.declared.entry.Entry.{Entry}
 use Rattle.tide_model.specs.declared.entry.Entry.TheVariants.{Begin, Call, End, Open, Pause, Sweep, Taken, Visits}
 use Rattle.tide_model.specs.declared.entry.Event.{Event}
 use Rattle.tide_mutator.specs.Viewed.{view_of}
 use Rattle.tide_periods.specs.Periods.{RanFreeze}
-use Rattle.tide_periods.specs.Recorded.{IsSettled, TookNone, recorded_at}
+use Rattle.tide_periods.specs.Recorded.{IsSettled, recorded_at}
 use Rattle.tide_sched.specs.Paces.{last_run}
 use Rattle.tide_table.specs.Standing.{HasCollected}
 use Rattle.tide_threads.specs.Parked.{IsAtRest, IsParked}
@@ -127,21 +126,16 @@ module _ (layout : Layout) (shapes : ShapeLists) (pace : Pace) (is_must : Bool) 
       }
 
   -- it did what a run's freeze does
-  pub RanFreeze-collected : IsSettled (recorded_at (record { layout = layout; shapes = shapes }) v.seen) → IsSwept layout w.seen →
+  pub RanFreeze-collected : IsSettled (recorded_at (record { layout = layout; shapes = shapes }) v.seen) →
       RanFreeze (recorded_at (record { layout = layout; shapes = shapes }) v.seen)
       (recorded_at (record { layout = layout; shapes = shapes }) w.seen) pace is_must run
-  RanFreeze-collected settled swept = record {
+  RanFreeze-collected settled = record {
     settled = record {
       lawful = did.still.wave.lawful;
       ends = did.still.ends;
       leaves = refl;
       begun = refl;
       opens = refl;
-      swept = swept;
-      untaken = subst TookNone (sym did.freezes.entered)
-          (list_all-append (λ (e : Event). not (is_taken e.entry)) v.seen did.freezes.events
-          ∙ and_from (list_all (λ (e : Event). not (is_taken e.entry)) v.seen)
-          (list_all (λ (e : Event). not (is_taken e.entry)) did.freezes.events) settled.untaken (quiet_takes_none did.freezes.events quiet));
       few = λ who. subst (λ (claims : ℕ → List ℕ). length (claims who) ≤ 8) (sym claims) (settled.few who);
       blocks = refl;
     };
@@ -153,7 +147,8 @@ module _ (layout : Layout) (shapes : ShapeLists) (pace : Pace) (is_must : Bool) 
     quiet = λ who. calls_of-quiet who did.freezes.events quiet;
     active = ap (λ (s : State). s.active) grown ∙ kept.0;
     claims = claims;
-    is_freeze = did.freezes.is_freeze;
+    is_freeze = IsFreeze-by pace layout v.seen (last_run v.seen) is_must did.freezes.events did.freezes.freezes;
+    clean = did.freezes.clean;
     next = did.next;
     some = subst (λ (n : ℕ). 0 < n) (sym did.next) did.freezes.calls;
   }

@@ -17,7 +17,7 @@ use Rattle.tide_model.specs.Layout.{Layout}
 use Rattle.tide_model.specs.Lawful.{IsLawful}
 use Rattle.tide_model.specs.Numbers.{any_below}
 use Rattle.tide_model.specs.Refused.{ShapeLists}
-use Rattle.tide_model.specs.Since.{is_call}
+use Rattle.tide_model.specs.Since.{is_of_part}
 use Rattle.tide_model.specs.declared.Memory.{Memory}
 use Rattle.tide_model.specs.declared.entry.Entry.TheVariants.{Open}
 use Rattle.tide_model.specs.declared.entry.Event.{Event}
@@ -212,7 +212,7 @@ module _ (id : TableId) (layout : Layout) (shapes : ShapeLists) (v0 v1 v2 v3 : V
       (law setting run v0.seen freezes.part (callers_in xs) (callers_in zs) (stopped_in ys) settled are
       (subst (IsLawful layout shapes) whole
       (subst (IsLawful layout shapes) (sym (ap (λ (x : View). x.seen) freezes.view)) freezes.wave.lawful))
-      (AllPass-from_list_all (λ (e : Event). is_call e.entry) freezes.part freezes.calls)
+      (AllPass-from_list_all (λ (e : Event). is_of_part e.entry) freezes.part freezes.of_part) freezes.taken
       (subst (λ (h : List Event). AllTookPart setting run v0.seen h (callers_in xs) (callers_in zs) (stopped_in ys)) whole
       (took_part ended served))))
     where

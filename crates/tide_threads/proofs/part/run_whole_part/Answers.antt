@@ -43,7 +43,7 @@ open-requires g c =
       wave = FrozenWave-of layout shapes (heap_of layout v.words) v.seen wave;
       swept = wave.swept;
       told = wave.swept_told;
-      clean = s.clean;
+      clean = wave.clean;
       stopped = s.stopped;
       may = c.requires.opens.may;
       entered = c.requires.opens.entered;
@@ -164,7 +164,7 @@ returns g c =
       books = subst (λ (h : List Event). AreBooks layout h c.freeze_part.new.books) (sym (ap (λ (v : View). v.seen) freezes.view)) c.freeze_part.ensures.books;
       told = subst (λ (b : Books). TellsEnds layout v3.seen b.report) (sym c.freeze_part.ensures.others)
           (subst (λ (h : List Event). TellsEnds layout h c.args.books.now.report) (sym seen)
-          (TellsEnds-part layout begun freezes.part c.args.books.now.report (no_ends freezes.part freezes.calls)
+          (TellsEnds-part layout begun freezes.part c.args.books.now.report (no_ends freezes.part freezes.of_part)
           (TellsEnds-part layout v0.seen (open_entry c.args.run v0 ∷ []) c.args.books.now.report refl c.requires.told)));
       pacing = ap (λ (b : Books). b.pacing) c.freeze_part.ensures.others;
       ran = RanPartBy-frozen id layout shapes v0 v1 v2 v3 c.args.run c.requires.still is_opened taken freezes xs ys zs

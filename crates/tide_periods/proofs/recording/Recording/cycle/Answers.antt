@@ -30,7 +30,7 @@ returns g c =
     } in
     let sweeps : ℕ → List Event = λ (count : ℕ). map (λ (b : ℕ). plain (Sweep b)) (numbers_where is_swept count) in
     let line : List ℕ → CycleLine = λ (f : List ℕ). record { number = self.cycles + 1; kept = kept; first = length self.report.ids; freed = length f } in
-    let did = RanCycle-did old new self.report c.push.new.self freed kept is_swept c.requires.settled c.requires.stands.rests collected c.in_ok-freed.ensures.leaves c.collect.ensures.setting refl refl refl
+    let did = RanCycle-did old new self.report c.push.new.self freed kept is_swept c.requires.settled c.requires.stands collected c.in_ok-freed.ensures.leaves c.collect.ensures.setting refl refl refl
     (c.in_ok-enter_sweeps.ensures
     ∙ ap (λ (n : ℕ). c.enter-3.new.events.items ++ sweeps n) c.requires.settled.blocks
     ∙ ap (λ (events : List Event). events ++ sweeps (blocks_in old.setting)) (c.in_ok-enter-3.ensures
@@ -41,5 +41,5 @@ returns g c =
     (c.in_ok-push.ensures.ids ∙ ap (λ (f : List ℕ). self.report.ids ++ f) c.as_slice.ensures.value) in
     record {
       ran = did.0;
-      stands = record { rests = did.0.rests; told = did.1 c.requires.stands.told };
+      stands = did.1;
     }

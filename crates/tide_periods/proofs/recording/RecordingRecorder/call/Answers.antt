@@ -14,7 +14,8 @@ returns-clause-made g c =
     let old : Recorded = recorded_of (g.S.Store.setting self.store) (g.S.Store.state self.store) self.events.items self.cycles self.parts self.blocks in
     let new : Recorded = recorded_of (g.S.Store.setting store) (g.S.Store.state store) c.append.new.list.items self.cycles self.parts self.blocks in
     let did = c.call-reply.ensures in
-    MadeCall-did old new c.args.who c.args.op c.call-reply.result c.taken-took.result c.requires.settled c.requires.asks
+    MadeCall-did old new c.args.who c.args.op c.call-reply.result c.taken-took.result c.requires.settled
+    c.requires.stands.clean c.requires.stands.untaken c.requires.asks
     (subst (IsAnswer old.setting.layout old.setting.shapes old.state c.args.who c.args.op c.call-reply.result) (sym c.taken-took.ensures) did.answers)
     (did.leaves ∙ ap (after_call old.state c.args.who c.args.op c.call-reply.result) (sym c.taken-took.ensures))
     did.room did.setting

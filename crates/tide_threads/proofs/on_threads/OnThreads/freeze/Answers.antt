@@ -35,7 +35,7 @@ returns c =
     let pace = pace_on self in
     let run = c.in_ok-next.next in
     record {
-      ran = RanFreeze-collected layout shapes pace c.args.is_must v w run e.collected c.requires.settled e.books.are.swept;
+      ran = RanFreeze-collected layout shapes pace c.args.is_must v w run e.collected c.requires.settled;
       stands = record {
         of_heap = e.own ∙ stands.of_heap;
         still = e.collected.still;
