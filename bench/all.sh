@@ -44,6 +44,7 @@ table pauses python3 bench/pauses.py
 table squares python3 bench/squares.py
 table visitors python3 bench/visitors.py crates/riptide/out/riptide 5
 table peers python3 bench/peers/peers.py
+table sweeps python3 bench/sweeps.py
 table marking bash bench/marking.sh
 table whole bash bench/whole.sh
 table retaining bash bench/retaining.sh

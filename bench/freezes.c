@@ -2,11 +2,12 @@
  * last thread of a part to where it starts the first thread of the next, or writes. That is the part's freeze, with what
  * little stands around it. And what lies between: from where it starts the first thread of a part to where it joined the
  * last. Loaded before the C library, it prints at the end how many there were of each, their sum and the longest, in
- * microseconds. */
+ * microseconds; and before that each one in a line of its own, if FREEZES_EACH is in the environment. */
 #define _GNU_SOURCE
 #include <dlfcn.h>
 #include <pthread.h>
 #include <stdio.h>
+#include <stdlib.h>
 #include <sys/syscall.h>
 #include <time.h>
 #include <unistd.h>
@@ -16,6 +17,17 @@ static double joined, longest, sum;
 static int count;
 static double begun, longest_part, parts_sum;
 static int running, parts;
+/* Kept until the end, so that no line is written while one of them is timed. */
+static struct { const char *what; double took; } each[100000];
+static int kept;
+
+static void keep(const char *what, double took)
+{
+    if (kept < (int)(sizeof each / sizeof *each)) {
+        each[kept].what = what;
+        each[kept++].took = took;
+    }
+}
 
 static double now(void)
 {
@@ -34,6 +46,7 @@ static void over(void)
     sum += took;
     if (took > longest)
         longest = took;
+    keep("freeze", took);
 }
 
 int pthread_create(pthread_t *thread, const pthread_attr_t *attr, void *(*start)(void *), void *arg)
@@ -62,6 +75,7 @@ int pthread_join(pthread_t thread, void **result)
         parts_sum += took;
         if (took > longest_part)
             longest_part = took;
+        keep("part", took);
     }
     return ended;
 }
@@ -82,6 +96,9 @@ __attribute__((constructor)) static void begin(void)
 
 static void tell(void)
 {
+    if (getenv("FREEZES_EACH"))
+        for (int number = 0; number < kept; number++)
+            fprintf(stderr, "%s %.0f\n", each[number].what, each[number].took);
     fprintf(stderr, "%d freezes, %.0f microseconds in all, the longest %.0f\n", count, sum, longest);
     fprintf(stderr, "%d parts, %.0f microseconds in all, the longest %.0f\n", parts, parts_sum, longest_part);
 }

@@ -7,7 +7,8 @@ PROGRAM is a built `riptide`. The workloads are those of model.py for the seeds 
 a trigger, and with small periods and headrooms. A text doesn't say in which freeze a cycle ended, so the judge looks for
 some way through the freezes, in which all of this holds:
 
-- each reply is the one of a plain store from which just the cells went that the text says;
+- each reply is the one of a plain store from which just the cells went that the text says, and in which a block is swept by
+  the operation that finds nothing free in it, by the freeze that next begins a cycle before it does, and by a must;
 - a cycle frees nothing that is retained where it ends, keeps nothing that was held by nothing while it ran, and what it
   keeps holds nothing that it frees;
 - what it kept and freed adds up, and so do the live cells at the end;
@@ -64,16 +65,6 @@ def closed(roots, links, pairs, members):
         if more <= kept:
             return kept
         kept |= more
-
-
-def free(store, gone):
-    """Frees cells as the end of a cycle does."""
-    for number in gone:
-        store.arrays.discard(store.cells.pop(number).array)
-    store.spent.clear()
-    for cell in store.cells.values():
-        cell.pairs = {key: value for key, value in cell.pairs.items() if key not in gone}
-    store.weak = [None if isinstance(v, tuple) and v[1] in gone else v for v in store.weak]
 
 
 class Run:
@@ -133,6 +124,7 @@ class Run:
         return must or not any(self.store.active)
 
     def begin(self):
+        self.store.sweep_all()
         self.span = held(self.store)
         self.in_cycle = 0
 
@@ -154,7 +146,7 @@ class Run:
         _, links, pairs, members = held(store)
         if closed(left, links, pairs, members) & gone:
             raise Wrong("what is kept holds what is freed")
-        free(store, gone)
+        store.free(gone)
         self.ended += 1
         self.span = None
         self.since_end = 0
@@ -181,7 +173,10 @@ def freezes(run, must):
         if must or is_due:
             way = copy.deepcopy(way)
             way.begin()
-            yield from pauses(way, must)
+            for ended in pauses(way, must):
+                if must:
+                    ended.store.sweep_all()
+                yield ended
         else:
             yield way
 

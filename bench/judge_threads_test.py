@@ -21,13 +21,66 @@ import model
 
 
 class Loose(model.Store):
-    """A store in which any free cell may be born: one that is chosen."""
+    """A store in which any cell may be born that isn't live: one that is chosen. Where it is dead, its block is swept first.
+    A call may be refused for room, where that is wished, if for each block of the class there was a moment since its mutator's
+    last call, and in this part, at which all of it was taken but what is dead; and it is promised that the block is swept
+    behind that moment."""
 
-    chosen = None
+    chosen = wished = None
+
+    def open(self):
+        """A part is opened."""
+        self.seen, self.promised = [set() for _ in self.active], set()
+        self.look()
+
+    def call(self, who, op):
+        self.who = who
+        try:
+            return super().call(who, op)
+        finally:
+            self.seen[who] = set()
+            self.look()
+
+    def blocks(self):
+        """Each block: its name, what of it is taken, and what is dead."""
+        for name, last, taken, dead in (("cells", self.first[5], self.cells, self.dead),
+                                        ("arrays", self.first_array[5], self.arrays | self.spent, self.dead_arrays)):
+            for start in range(0, last, model.BLOCK):
+                block = range(start, start + model.BLOCK)
+                yield (name, start), [number for number in block if number in taken], dead.intersection(block)
+
+    def look(self):
+        """Notes for each mutator the blocks that are full now but for what is dead."""
+        for block, taken, dead in self.blocks():
+            if dead and len(taken) + len(dead) == model.BLOCK:
+                for seen in self.seen:
+                    seen.add(block)
+
+    def refuse(self, name, numbers, full):
+        with_room = {block for block, taken, dead in self.blocks()
+                     if block[0] == name and block[1] in numbers and len(taken) < model.BLOCK}
+        if with_room and with_room <= self.seen[self.who] and self.wished(full):
+            self.promised |= with_room
+            raise model.Refused(full)
+
+    def is_kept(self):
+        """What was promised in the part is done."""
+        return not any(dead for block, taken, dead in self.blocks() if block in self.promised)
+
+    def free_array(self, kind):
+        self.refuse("arrays", range(*self.first_array[kind:kind + 2]), f"full {kind + 5}")
+        return super().free_array(kind)
 
     def free_cell(self, kind):
-        super().free_cell(kind)
-        return self.chosen([cell for cell in range(self.first[kind], self.first[kind + 1]) if cell not in self.cells])
+        self.refuse("cells", range(*self.first[kind:kind + 2]), f"full {kind}")
+        free = [cell for cell in range(self.first[kind], self.first[kind + 1]) if cell not in self.cells]
+        if not free:
+            raise model.Refused(f"full {kind}")
+        cell = self.chosen(free)
+        if cell in self.dead:
+            start = cell // model.BLOCK * model.BLOCK
+            self.dead.difference_update(range(start, start + model.BLOCK))
+        return cell
 
 
 class Made(judge.Run):
@@ -35,8 +88,7 @@ class Made(judge.Run):
 
     def __init__(self, work, draw):
         super().__init__(work, [], [])
-        self.store, self.draw = Loose(work), draw
-        self.store.chosen = draw.choice
+        self.store, self.draw, self.beside = Loose(work), draw, 0
         self.lines = [[] for _ in range(self.count)]
         self.black = 0
 
@@ -59,6 +111,19 @@ class Made(judge.Run):
         return first or reply == "asked"
 
     def part(self):
+        """A part in which what was refused beside a sweep is swept."""
+        for luck in (0.7, 0.7, 0.3, 0):
+            tried = copy.deepcopy(self)
+            tried.draw, tried.store.chosen = self.draw, self.draw.choice
+            tried.store.wished = lambda full: self.draw.random() < luck
+            must = tried.tried_part()
+            if tried.store.is_kept():
+                vars(self).update(vars(tried))
+                self.beside += bool(self.store.promised)
+                return must
+
+    def tried_part(self):
+        self.store.open()
         run = self.work["period"] if self.span is None else self.shares()[1]
         left = {who: run for who in range(self.count) if self.store.active[who]}
         must, bold, who = False, self.draw.choice([0, 0.5, 0.9]), None
@@ -80,7 +145,7 @@ class Made(judge.Run):
         stopped = self.shares()[0]
         if has_to_end or len(kept) <= self.black + stopped + self.in_cycle and self.draw.random() < 0.5:
             freed = sorted(live - kept)
-            judge.free(self.store, set(freed))
+            self.store.free(set(freed))
             line = f"cycle {len(self.cycles) + 1} kept {len(kept)} freed {len(freed)}"
             self.cycles.append(line + ":" * bool(freed) + "".join(f" #{cell}" for cell in freed))
             self.span, self.since_end = None, 0
@@ -95,6 +160,8 @@ class Made(judge.Run):
                 self.begin()
                 self.black = 0
                 self.pause(must)
+                if must:
+                    self.store.sweep_all()
         blocks = [f"mutator {who}\n" + "".join(line + "\n" for line in lines) for who, lines in enumerate(self.lines)]
         return "".join(blocks) + "".join(line + "\n" for line in self.cycles) + f"live {len(self.store.cells)}\n"
 
@@ -109,10 +176,11 @@ class Tried(judge.Run):
     def parts(self):
         """All ways through a running part, each with whether the freeze after it is a must."""
         run = self.work["period"] if self.span is None else self.shares()[1]
+        self.store.open()
         ways, seen = [(self, [run * active for active in self.store.active], False)], set()
         while ways:
             here, left, must = ways.pop()
-            if not any(left):
+            if not any(left) and here.store.is_kept():
                 yield here, must or not any(here.store.active)
             for who in range(self.count):
                 if left[who]:
@@ -123,7 +191,8 @@ class Tried(judge.Run):
                         more[who] = 0
                     store = way.store
                     cells = [(number, vars(cell)) for number, cell in store.cells.items()]
-                    key = str((more, way.told, store.strong, store.weak, store.claims, sorted(cells, key=str), way.span))
+                    key = str((more, way.told, store.strong, store.weak, store.claims, sorted(cells, key=str), way.span,
+                               [sorted(seen) for seen in store.seen], sorted(store.promised)))
                     if ended is not None and key not in seen:
                         seen.add(key)
                         ways.append((way, more, must or ended))
@@ -135,6 +204,7 @@ class Tried(judge.Run):
         line = self.replies[who][self.told[who]]
         named = int(line.split("#")[-1]) if re.search(r"= #\d+$", line) else -1
         self.store.chosen = lambda free: named if named in free else free[0]
+        self.store.wished = lambda full: line.endswith(f" = {full}")
         self.lines = [[] for _ in range(self.count)]
         ended = Made.call(self, who)
         if self.lines[who] != [line]:
@@ -203,6 +273,27 @@ def tiny(seed):
     return work, judge_threads.document_of(work)
 
 
+def crowded(seed):
+    """A short workload in whose parts about as many cells are born as its class has, of one block of three or two, and then
+    die; and its document. Of arrays there is one block at most: of more the judge knows less."""
+    draw = random.Random(f"crowded {seed}")
+    grows, blocks, count = draw.random() < 0.3, draw.choice([1, 1, 1, 2]), draw.choice([2, 3])
+    work = {"registers": 2, "strong": 1, "weak": 1, "blocks": [2 if grows else blocks, 0, 0, 0, 0]}
+    work["arrays"], work["shapes"], work["headroom"] = [int(grows), 0, 0, 0, 0], [["a"]], 100
+    work["period"], work["trigger"] = 7 if grows else draw.choice([4, 5]), draw.choice([1, 1, 3])
+    born = [("alloc", 0, 0)] + [("claim", 0), ("add", 0, "a", 0), ("release", 0)] * grows
+    others = [[("set", 0, 1)], [("set", 0, 1)], [("drop", 0)], [("strong", 0, 0)], [("sget", 1, 0)]]
+    work["mutators"] = [[] for _ in range(count)]
+    for _ in range(draw.choice([2, 3])):
+        births = draw.choices(range(count), k=model.BLOCK * (1 if grows else blocks) + draw.choice([-1, 0, 0, 0, 1]))
+        for who, ops in enumerate(work["mutators"]):
+            units = [born] * births.count(who)
+            while sum(map(len, units)) < work["period"] - 1:
+                units.insert(draw.randrange(len(units) + 1), draw.choice(others))
+            ops += sum(units, [])[:work["period"] - 1] + [("drop", 0)]
+    return work, judge_threads.document_of(work)
+
+
 WORKLOAD = """registers = 2
 strong = 1
 blocks = [1, 0, 0, 0, 0]
@@ -265,7 +356,7 @@ NEAR = {
     "a cycle too many": (True, "live 1", "cycle 3 kept 1 freed 0\nlive 1"),
     "a refusal for room isn't met by a second try": (True, "alloc r0 1 = full 1\nalloc r0 1 = full 1", "alloc r0 1 = full 1"),
     "a refusal for room is met by a third try": (True, "alloc r0 1 = full 1\n", "alloc r0 1 = full 1\nalloc r0 1 = full 1\n"),
-    "there is room": (False, "blocks = [1, 0, 0, 0, 0]", "blocks = [1, 1, 0, 0, 0]"),
+    "there is room": (True, "blocks = [1, 0, 0, 0, 0]", "blocks = [1, 1, 0, 0, 0]"),
 }
 
 
@@ -278,6 +369,34 @@ def filled(births, period):
     text += "mutator 1\nalloc r0 0 = full 0\nalloc r0 0 = #0\nretire = ok\n"
     text += f"cycle 1 kept 0 freed {births}:" + "".join(f" #{cell}" for cell in range(births))
     return document, text + "\ncycle 2 kept 0 freed 1: #0\nlive 0\n"
+
+
+def swept(kind):
+    """A workload in which a mutator makes the 64 cells of class 0, of which a cycle that begins by itself frees 63, and one
+    more of this class; another is refused in class 0 meanwhile. And its text."""
+    ops = ", ".join(['"alloc r0 0"'] * 64 + [f'"alloc r0 {kind}"']), ", ".join(['"set r0 1"'] * 64 + ['"alloc r0 0"'])
+    document = "registers = 1\nblocks = [1, 1, 0, 0, 0]\nheadroom = 1\nperiod = 64\ntrigger = 64\n"
+    document += "".join(f"[[mutator]]\nops = [{each}]\n" for each in ops)
+    text = "mutator 0\n" + "".join(f"alloc r0 0 = #{cell}\n" for cell in range(64))
+    text += f"alloc r0 {kind} = #{64 * kind}\nretire = ok\nmutator 1\n" + "set r0 1 = ok\n" * 64
+    text += "alloc r0 0 = full 0\nalloc r0 0 = #0\nretire = ok\n"
+    text += "cycle 1 kept 1 freed 63:" + "".join(f" #{cell}" for cell in range(63))
+    text += f"\ncycle 2 kept 0 freed 2: {'#63 #64' if kind else '#0 #63'}\ncycle 3 kept 0 freed 1: #0\nlive 0\n"
+    return document, text
+
+
+def after_a_sweep(is_seen):
+    """As swept(0), but before the other is refused it reads the cell that was born after the sweep, or, where it doesn't, takes a
+    dead cell itself. And the text."""
+    document, text = swept(0)
+    makes, sees = ('"strong 0 r0"', '"sget r0 0"') if is_seen else ('"set r0 1"', '"alloc r0 0"')
+    document = document.replace("headroom", "strong = 1\nheadroom").replace('"alloc r0 0"]\n[[', f'"alloc r0 0", {makes}]\n[[')
+    document = document.replace('"set r0 1", "alloc r0 0"]', f'"set r0 1", {sees}, "alloc r0 0"]')
+    one, other = "strong 0 r0 = ok\n" if is_seen else "set r0 1 = ok\n", "sget r0 0 = #0\n" if is_seen else "alloc r0 0 = #1\n"
+    text = text.replace("= #0\nretire", f"= #0\n{one}retire", 1).replace("alloc r0 0 = full", f"{other}alloc r0 0 = full")
+    text = text.replace("full 0\nalloc r0 0 = #0", "full 0\nalloc r0 0 = #2")
+    ends = ("kept 1 freed 1: #63", "kept 1 freed 1: #2", 1) if is_seen else ("kept 0 freed 3: #0 #1 #63", "kept 0 freed 1: #2", 0)
+    return document, text[:text.index("cycle 2")] + "cycle 2 {}\ncycle 3 {}\nlive {}\n".format(*ends)
 
 
 def written():
@@ -295,6 +414,13 @@ def written():
     for births, period, expected in ((64, 128, True), (63, 128, False), (64, 32, False)):
         if judged(*filled(births, period))[1] != expected:
             fail(f"a refusal for room after {births} births in parts of {period} calls", *filled(births, period))
+    for kind in (0, 1):
+        if judged(*swept(kind))[1] != (kind == 0):
+            fail(f"a refusal for room in class 0 beside a mutator that allocates in class {kind}", *swept(kind))
+    for is_seen in (True, False):
+        document, text = after_a_sweep(is_seen)
+        if judged(document, text) != (True, False):
+            fail("a refusal for room by one who knows of the sweep before it", document, text)
 
 
 def made_up(seeds):
@@ -312,19 +438,22 @@ def made_up(seeds):
     print(f"{len(spent)} texts, {calls} calls, {undecided} undecided; {sum(spent) / len(spent):.1f} ms each, {max(spent):.0f} at most")
 
 
-def compared(seeds):
+def compared(seeds, draws):
     """Judges short texts, and changed ones, as a search does that tries every order."""
-    said_of = {True: 0, False: 0, None: 0}
+    said_of, beside = {True: 0, False: 0, None: 0}, 0
     for seed in seeds:
         draw = random.Random(f"near {seed}")
-        work, document = tiny(seed)
-        text = Made(work, draw).text()
+        work, document = draws(seed)
+        run = Made(work, draw)
+        text = run.text()
+        beside += run.beside > 0
         for near in [text] + [changed(text, draw) for _ in range(3)]:
             expected = tries(work, near)
             said_of[expected] += 1
             if expected is not None and judge_threads.accepts(work, near) != expected:
                 fail(f"short seed {seed}: by trying all orders it is {expected}", document, near)
-    print(f"of short texts {said_of[True]} are accepted, {said_of[False]} refused, and {said_of[None]} weren't tried to the end")
+    print(f"of short texts {said_of[True]} are accepted, {said_of[False]} refused, and {said_of[None]} weren't tried to the end; "
+          f"{beside} runs have a refusal beside a sweep")
 
 
 def fail(what, document, text):
@@ -337,7 +466,9 @@ def main():
     first, count = [int(word) for word in (sys.argv[1:] + ["0", "200"][len(sys.argv) - 1:])[:2]]
     written()
     made_up(range(first, first + count))
-    compared(range(first, first + count // 4))
+    compared(range(first, first + count // 4), tiny)
+    model.BLOCK = 3
+    compared(range(first, first + count // 8), crowded)
 
 
 if __name__ == "__main__":

@@ -60,8 +60,8 @@ def cell():
     shapes += [arrow("M680 230H798", FREEZE), *number(740, 188, 5, FREEZE), text(740, 218, "condemned", 13, fill=FREEZE)]
     shapes += [text(740, 256, "end: not", 13, fill=FREEZE), text(740, 273, "marked", 13, fill=FREEZE)]
     # 6: the sweep
-    shapes += [arrow("M880 280C880 470 125 470 125 282", FREEZE), *number(505, 423, 6, FREEZE)]
-    return shapes + [text(505, 452, "its block is swept", 13, fill=FREEZE)]
+    shapes += [arrow("M880 280C880 470 125 470 125 282", CALL), *number(505, 423, 6, CALL)]
+    return shapes + [text(505, 452, "its block is swept: by who finds nothing free in it, or by a freeze", 13, fill=CALL)]
 
 
 def array():
@@ -76,8 +76,8 @@ def array():
     shapes += [arrow("M730 620H828", FREEZE), *number(778, 597, 9, FREEZE), text(778, 644, "end", 13, fill=FREEZE)]
     shapes += [arrow("M385 580C385 505 895 505 895 578", FREEZE), *number(640, 524, 10, FREEZE)]
     shapes += [text(660, 518, "end: its cell is dead", 13, "start", FREEZE)]
-    shapes += [arrow("M895 660C895 760 115 760 115 662", FREEZE), *number(505, 735, 11, FREEZE)]
-    return shapes + [text(505, 763, "its block is swept", 13, fill=FREEZE)]
+    shapes += [arrow("M895 660C895 760 115 760 115 662", CALL), *number(505, 735, 11, CALL)]
+    return shapes + [text(505, 763, "its block is swept: by who finds none free in it, or by a freeze", 13, fill=CALL)]
 
 
 def legend():
