@@ -3,17 +3,16 @@
 
     python3 bench/crowds.py [--facts] [--visitors=N] PROGRAM [FIRST [COUNT]]
 
-PROGRAM is a built `riptide`. The workloads are drawn for the seeds FIRST (0) to FIRST + COUNT (200) - 1. In each, cycles begin
-by themselves once as many cells were born as one or two classes of one to four blocks have, or some less, and few of them are
-held: so a part often opens where nothing is free and nearly all is dead, and who allocates first sweeps. Of two workloads
-one has up to 16 mutators in periods of few calls. The other has as many mutators as processors do at most, in periods of
-up to 1,024 calls, which stop to allocate between calls that touch no cell: so that one allocates while another sweeps. Some
-give their cells properties, so that blocks of arrays are swept too.
+PROGRAM is a built `riptide`. The workloads are drawn for the seeds FIRST (0) to FIRST + COUNT (200) - 1. In each part about as
+many cells are born as the classes have, of one, two or four blocks, or as there are arrays for their properties; most of them
+die at its end, and cycles begin by themselves. So a part often opens where little is free and nearly all of the rest is dead,
+and who allocates first sweeps. Of two workloads one has 2 to 16 mutators in short periods. The other has 2 to 4, in periods
+of some hundred calls, which allocate between calls that touch no cell: so that one allocates while another sweeps.
 
-What is judged, and what the words --facts and --visitors mean, docs of judge_threads.py say. What the texts had is counted and
-printed: the cycles; the blocks that were swept in parts, and those of which several mutators got cells that had been dead;
-the refusals for room, and those of them beside another's sweep, where the class wasn't full at the end of the part. They
-are counted on the way through the freezes that was found; of a text that is undecided, its calls alone.
+What is judged, and what --facts and --visitors mean, judge_threads.py says. What the texts had is counted and printed: the
+cycles; the blocks that were swept in parts, and those of which several mutators got cells that had been dead; the refusals
+for room, and those beside another's sweep, where the class wasn't full at the end of the part. They are counted on the way
+through the freezes that was found; of a text that is undecided, its calls alone.
 """
 import collections
 import random
@@ -50,13 +49,13 @@ def drawn(seed):
     count = draw.choice([2, 4, 8, 16, 16] if many else [2, 2, 3, 4])
     cells = model.BLOCK * min(blocks * len(kinds), *[work["arrays"][0]] * bool(keys), 8)
     births = max(1, int(cells * draw.choice([0.4, 0.6, 0.75, 0.9, 1])) // count)
-    rest = draw.choice([0, 0, 1, 4, 16] if many else [64, 256, 1000])
+    rest = draw.choice([0, 0, 1, 4, 16] if many else [16, 64, 256])
     work["period"] = max(4, len(share(draw, [unit(draw, kinds[0], keys)] * births, rest)))
     work["headroom"], work["trigger"] = draw.choice([1, 16, 1000]), draw.choice([1, births * count // 2, births * count])
     work["mutators"] = []
     for _ in range(count):
         shares = [share(draw, [unit(draw, draw.choice(kinds), keys) for _ in range(births)], rest)
-                  for _ in range(draw.choice([2, 4, 8] if many else [2, 4, 6]))]
+                  for _ in range(draw.choice([2, 4, 8] if many else [2, 3, 4]))]
         work["mutators"].append(sum(shares, []))
     return work, judge_threads.document_of(work)
 
@@ -68,18 +67,18 @@ class Sweeps(judge_threads.Tally):
         super().__init__()
         self.sweeps = collections.Counter()
 
-    def count(self, work, text, parts):
-        super().count(work, text, parts)
-        calls, cycles, _ = judge_threads.read_text(text, len(work["mutators"]))
-        told = [judge_threads.Told(work, who, lines) for who, lines in enumerate(calls)]
-        self.sweeps["cycles"] += len(cycles)
+    def count(self, work, text, way):
+        super().count(work, text, way)
+        told, _, parts = way or ((), (), ())
+        self.sweeps["cycles"] += text.count("\ncycle ")
         self.sweeps["refusals for room"] += text.count(" = full ")
         for part in parts:
             shares = [set(one.born[start:end]) for one, start, end in zip(told, part.before, part.after)]
             for block in {cell // model.BLOCK for cell in part.revived}:
                 own = {cell for cell in part.revived if cell // model.BLOCK == block}
                 self.sweeps["blocks swept in a part"] += 1
-                self.sweeps["of them blocks of which several mutators got cells"] += sum(map(bool, map(own.intersection, shares))) > 1
+                takers = sum(1 for born in shares if own & born)
+                self.sweeps["of them blocks of which several mutators got cells"] += takers > 1
             beside = set(part.late.values())
             self.sweeps["refusals beside another's sweep"] += sum(len(part.refused[kind]) for kind in beside)
 
