@@ -38,25 +38,25 @@ largest = made full full 16 256 256 16 8
 abbrev uneven : Layout
 uneven = made (1 ∷ 2 ∷ 3 ∷ 4 ∷ 5 ∷ []) (6 ∷ 7 ∷ 8 ∷ 9 ∷ 10 ∷ []) 11 12 13 14 8
 
--- the words of the period and the phase are there in any layout, and a gap behind each region
-nothing-counts : (cell_count nothing ≡ 0) × (array_count nothing ≡ 0) × (word_count nothing ≡ 338)
+-- the words of the period, the phase and the base are there in any layout, and a gap behind each region
+nothing-counts : (cell_count nothing ≡ 0) × (array_count nothing ≡ 0) × (word_count nothing ≡ 355)
 unfolding word_count words_before_cell words_before_array
 nothing-counts = (refl, refl, refl)
 
-small-counts : (cell_count small ≡ 128) × (array_count small ≡ 128) × (word_count small ≡ 2479)
+small-counts : (cell_count small ≡ 128) × (array_count small ≡ 128) × (word_count small ≡ 2496)
 unfolding word_count words_before_cell words_before_array
 small-counts = (refl, refl, refl)
 
-small-places : (place_in small Registers 3 ≡ 136) × (place_in small Free 0 ≡ 2365) × (place_in small Swept 3 ≡ 2462)
+small-places : (place_in small Registers 3 ≡ 153) × (place_in small Free 0 ≡ 2382) × (place_in small Swept 3 ≡ 2479)
 unfolding place_in base_of words_before_cell words_before_array
 small-places = (refl, refl, refl)
 
 -- the last slot of a block, the first and the last pair of the tables behind it
-small-slots : (place_of_slot small 63 1 ≡ 1052) × (place_of_slot small 64 0 ≡ 1053) × (place_of_slot small 127 7 ≡ 1564)
+small-slots : (place_of_slot small 63 1 ≡ 1069) × (place_of_slot small 64 0 ≡ 1070) × (place_of_slot small 127 7 ≡ 1581)
 unfolding place_in base_of index_of_slot words_before_cell
 small-slots = (refl, refl, refl)
 
-small-elements : (place_of_element small 63 3 ≡ 1836) × (place_of_element small 64 0 ≡ 1837)
+small-elements : (place_of_element small 63 3 ≡ 1853) × (place_of_element small 64 0 ≡ 1854)
 unfolding place_in base_of words_before_cell index_of_element words_before_array
 small-elements = (refl, refl)
 
@@ -129,13 +129,13 @@ largest-cells = (words_before_cell-among largest 20479 refl ∙ full-cells.0, wo
 largest-arrays : (words_before_array largest 20479 ≡ 507840) × (words_before_array largest 20480 ≡ 507904)
 largest-arrays = (words_before_array-among largest 20479 refl ∙ full-arrays.0, words_before_array-among largest 20480 refl ∙ full-arrays.1)
 
-largest-counts : (cell_count largest ≡ 20480) × (array_count largest ≡ 20480) × (word_count largest ≡ 771146)
+largest-counts : (cell_count largest ≡ 20480) × (array_count largest ≡ 20480) × (word_count largest ≡ 771163)
 unfolding word_count
 largest-counts = (refl, refl, omega (arith, largest-cells.1, largest-arrays.1))
 
 -- the last words of some regions, and of the whole heap
-largest-places : (place_in largest Stopped 23 ≡ 1001) × (place_in largest Weak 255 ≡ 2089) × (place_in largest Free 0 ≡ 768170)
-    × (place_in largest Dead 639 ≡ 769465) × (place_in largest GreyRace 319 ≡ 770473) × (place_in largest Swept 639 ≡ 771129)
+largest-places : (place_in largest Stopped 23 ≡ 1018) × (place_in largest Weak 255 ≡ 2106) × (place_in largest Free 0 ≡ 768187)
+    × (place_in largest Dead 639 ≡ 769482) × (place_in largest GreyRace 319 ≡ 770490) × (place_in largest Swept 639 ≡ 771146)
 unfolding place_in base_of
 largest-places = let cells = largest-cells.1 in let arrays = largest-arrays.1 in (
   refl,
@@ -147,13 +147,13 @@ largest-places = let cells = largest-cells.1 in let arrays = largest-arrays.1 in
 )
 
 -- a participant's words are 17 places from the next one's: so is the first mutator's last register from the second's first
-largest-owners : (place_in largest Active 15 ≡ 289) × (place_in largest Call 0 ≡ 322) × (place_in largest Call 1 ≡ 339)
-    × (place_in largest Registers 15 ≡ 1049) × (place_in largest Registers 16 ≡ 1066) × (place_in largest Registers 255 ≡ 1529)
+largest-owners : (place_in largest Active 15 ≡ 306) × (place_in largest Call 0 ≡ 339) × (place_in largest Call 1 ≡ 356)
+    × (place_in largest Registers 15 ≡ 1066) × (place_in largest Registers 16 ≡ 1083) × (place_in largest Registers 255 ≡ 1546)
 unfolding place_in base_of
 largest-owners = (refl, refl, refl, refl, refl, refl)
 
 -- the last pair of the last table, and the last element of the last array
-largest-ends : (place_of_slot largest 20479 7 ≡ 260233) × (place_of_element largest 20479 63 ≡ 768153)
+largest-ends : (place_of_slot largest 20479 7 ≡ 260250) × (place_of_element largest 20479 63 ≡ 768170)
 unfolding place_in base_of index_of_slot index_of_element
 largest-ends = let cells = largest-cells in let arrays = largest-arrays in (
   omega (arith, cells.0, cells.1),

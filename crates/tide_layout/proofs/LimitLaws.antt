@@ -76,8 +76,8 @@ words_among-few blocks first ids five few within =
     let s4 = words_among-step blocks first 4 ids (omega arith) five (few 4) in
     omega (arith, last, none, s0, s1, s2, s3, s4)
 
--- there are at most 771,146 words
-pub word_count-few : (layout : Layout) → IsWithinLimits layout → word_count layout ≤ 771146
+-- there are at most 771,163 words
+pub word_count-few : (layout : Layout) → IsWithinLimits layout → word_count layout ≤ 771163
 unfolding word_count
 word_count-few layout limits =
     let cells = few_cells layout limits in
@@ -94,8 +94,8 @@ word_count-few layout limits =
     let of_arrays = words_before_array-among layout (array_count layout) limits.five_cell_classes in
     omega (arith, cells, arrays, mutators, registers, each, visitors, strong, weak, slots, elements, of_cells, of_arrays)
 
--- each region has at most 771,146 words
-pub size_of-few : (layout : Layout) (region : Region) → IsWithinLimits layout → size_of layout region ≤ 771146
+-- each region has at most 771,163 words
+pub size_of-few : (layout : Layout) (region : Region) → IsWithinLimits layout → size_of layout region ≤ 771163
 size_of-few layout region limits =
     let few = word_count-few layout limits in
     let ends = base_of-end layout region in

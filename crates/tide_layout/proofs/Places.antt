@@ -8,13 +8,14 @@ use Rattle.std.proofs.Math.Nat.{div-mul-le_self, div-zero, le_trans}
 use Rattle.std.specs.Prelude.{◌≢◌, ◌==◌, ◌&&◌, ◌⊎◌, None, Some, unwrap_or}
 use Rattle.tide_model.specs.Layout.{Layout}
 use Rattle.tide_layout.specs.declared.region.Region.{Region}
-use Rattle.tide_layout.specs.declared.region.Region.TheVariants.{Period, Phase, Active, Call, Stopped, Registers, Strong, Weak, Colour, Structure, Array, Claim, Group, Slots, Elements, Free, Dead, GreyShared, GreyMutator, GreyRace, Swept}
+use Rattle.tide_layout.specs.declared.region.Region.TheVariants.{Period, Phase, Base, Active, Call, Stopped, Registers, Strong, Weak, Colour, Structure, Array, Claim, Group, Slots, Elements, Free, Dead, GreyShared, GreyMutator, GreyRace, Swept}
 use Rattle.tide_layout.specs.Region.{regions, tag, size_of, owner_of, owners_in, gap, gaps_before, room_of, base_of, word_count, place_in, AreApart}
 
 -- a region stands at its tag among all regions
 pub get_or-regions : (region : Region) → get_or regions (tag region) Period ≡ region
 get_or-regions Period = refl
 get_or-regions Phase = refl
+get_or-regions Base = refl
 get_or-regions Active = refl
 get_or-regions Call = refl
 get_or-regions Stopped = refl
@@ -35,10 +36,11 @@ get_or-regions GreyMutator = refl
 get_or-regions GreyRace = refl
 get_or-regions Swept = refl
 
--- there are 21 regions
-pub tag-below : (region : Region) → tag region < 21
+-- there are 22 regions
+pub tag-below : (region : Region) → tag region < 22
 tag-below Period = omega arith
 tag-below Phase = omega arith
+tag-below Base = omega arith
 tag-below Active = omega arith
 tag-below Call = omega arith
 tag-below Stopped = omega arith
@@ -90,6 +92,7 @@ owner_of-later layout Stopped one later before = numbered one later before
 owner_of-later layout Registers one later before = numbered (one / layout.registers) (later / layout.registers) (div-le one later layout.registers before)
 owner_of-later layout Period one later before = inl refl
 owner_of-later layout Phase one later before = inl refl
+owner_of-later layout Base one later before = inl refl
 owner_of-later layout Strong one later before = inl refl
 owner_of-later layout Weak one later before = inl refl
 owner_of-later layout Colour one later before = inl refl
@@ -114,6 +117,7 @@ gaps_before-few layout Stopped index within = omega (arith, within)
 gaps_before-few layout Registers index within = row_before layout.registers index layout.mutators within
 gaps_before-few layout Period index within = omega arith
 gaps_before-few layout Phase index within = omega arith
+gaps_before-few layout Base index within = omega arith
 gaps_before-few layout Strong index within = omega arith
 gaps_before-few layout Weak index within = omega arith
 gaps_before-few layout Colour index within = omega arith
@@ -150,7 +154,7 @@ base_of-end layout region =
 pub base_of-later : (layout : Layout) (one later : Region) → tag one < tag later → base_of layout one + room_of layout one ≤ base_of layout later
 unfolding base_of
 base_of-later layout one later before =
-    let below : tag later < 21 = tag-below later in
+    let below : tag later < 22 = tag-below later in
     let front = take (tag later) regions in
     let inside : tag one < length front = omega (arith, length-take (tag later) regions) in
     let within = sum_by_more_le (room_of layout) front (tag one) Period inside in

@@ -19,34 +19,34 @@ use Rattle.tide_layout.proofs.Places.{tag-below}
 pub starts_of-base : (layout : Layout) (region : Region) → get_or (starts_of layout) (tag region) 0 ≡ base_of layout region
 unfolding starts_of base_of
 starts_of-base layout region =
-    get_or-map-range_with_len (λ (count : ℕ). sum_by (room_of layout) (take count regions)) 0 22 (tag region) (tag region) 0
+    get_or-map-range_with_len (λ (count : ℕ). sum_by (room_of layout) (take count regions)) 0 23 (tag region) (tag region) 0
     (let below = tag-below region in omega (arith, below)) (omega arith)
 
 -- where all regions end
-pub starts_of-words : (layout : Layout) → get_or (starts_of layout) 21 0 ≡ word_count layout
+pub starts_of-words : (layout : Layout) → get_or (starts_of layout) 22 0 ≡ word_count layout
 unfolding starts_of word_count
 starts_of-words layout =
-    get_or-map-range_with_len (λ (count : ℕ). sum_by (room_of layout) (take count regions)) 0 22 21 21 0 (omega arith) (omega arith)
+    get_or-map-range_with_len (λ (count : ℕ). sum_by (room_of layout) (take count regions)) 0 23 22 22 0 (omega arith) (omega arith)
 
 -- the rooms of all regions have few words together
-pub sum-rooms : (layout : Layout) (rooms : List ℕ) → IsWithinLimits layout → rooms ≡ map (room_of layout) regions → sum rooms ≤ 771146
+pub sum-rooms : (layout : Layout) (rooms : List ℕ) → IsWithinLimits layout → rooms ≡ map (room_of layout) regions → sum rooms ≤ 771163
 unfolding word_count
 sum-rooms layout rooms limits is_rooms =
-    let few : sum_by (room_of layout) regions ≤ 771146 = word_count-few layout limits in
+    let few : sum_by (room_of layout) regions ≤ 771163 = word_count-few layout limits in
     let all : sum rooms ≡ sum_by (room_of layout) regions = ap sum is_rooms ∙ sum-map (room_of layout) regions in
     omega (arith, few, all)
 
 -- sums of the first rooms are the starts
-pub starts_of-is : (layout : Layout) (rooms starts : List ℕ) → rooms ≡ map (room_of layout) regions → length starts ≡ 22 →
-    ((k : ℕ) → k ≤ 21 → slice_index starts k ≡ sum (take k rooms)) → starts ≡ starts_of layout
+pub starts_of-is : (layout : Layout) (rooms starts : List ℕ) → rooms ≡ map (room_of layout) regions → length starts ≡ 23 →
+    ((k : ℕ) → k ≤ 22 → slice_index starts k ≡ sum (take k rooms)) → starts ≡ starts_of layout
 unfolding starts_of
 starts_of-is layout rooms starts is_rooms all each =
     let first : ℕ → ℕ = λ count. sum_by (room_of layout) (take count regions) in
-    let many = length-map-range_with_len first 0 22 in
-    ext_get_or 0 starts (map first (range_with_len 0 22)) (all ∙ sym many)
+    let many = length-map-range_with_len first 0 23 in
+    ext_get_or 0 starts (map first (range_with_len 0 23)) (all ∙ sym many)
     (λ k h. each k (omega (arith, all))
     ∙ ap (λ (xs : List ℕ). sum (take k xs)) is_rooms ∙ ap sum (take-map (room_of layout) k regions) ∙ sum-map (room_of layout) (take k regions)
-    ∙ sym (get_or-map-range_with_len first 0 22 k k 0 (omega (arith, all)) (omega arith)))
+    ∙ sym (get_or-map-range_with_len first 0 23 k k 0 (omega (arith, all)) (omega arith)))
 
 -- blocks of five and five classes that are in their limits
 few_of_both : (blocks arrays : List ℕ) → All (λ count. count ≤ 64) blocks → All (λ count. count ≤ 64) arrays →

@@ -20,7 +20,7 @@ layout_of numbers = record {
 
 -- where each region begins, and last where all of them end
 unfoldable pub starts_of : Layout → List ℕ
-starts_of layout = map (λ count. sum_by (room_of layout) (take count regions)) (range_with_len 0 22)
+starts_of layout = map (λ count. sum_by (room_of layout) (take count regions)) (range_with_len 0 23)
 
 -- a layout in its limits, with the starts of its regions
 pub record IsLaidOut (layout : Layout) (starts : List ℕ) : Type 0 where

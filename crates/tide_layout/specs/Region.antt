@@ -2,37 +2,38 @@
 use Rattle.std.specs.Prelude.{ℕ, ◌≤◌, ◌+◌, ◌*◌, ◌/◌, ◌⊎◌, List, [], ◌∷◌, sum, sum_by, take, Option, None, Some, unwrap_or}
 use Rattle.tide_model.specs.Layout.{Layout, cell_count, array_count}
 use Rattle.tide_layout.specs.declared.region.Region.{Region}
-use Rattle.tide_layout.specs.declared.region.Region.TheVariants.{Period, Phase, Active, Call, Stopped, Registers, Strong, Weak, Colour, Structure, Array, Claim, Group, Slots, Elements, Free, Dead, GreyShared, GreyMutator, GreyRace, Swept}
+use Rattle.tide_layout.specs.declared.region.Region.TheVariants.{Period, Phase, Base, Active, Call, Stopped, Registers, Strong, Weak, Colour, Structure, Array, Claim, Group, Slots, Elements, Free, Dead, GreyShared, GreyMutator, GreyRace, Swept}
 use Rattle.tide_layout.specs.Slots.{words_before_cell, words_before_array, index_of_slot, index_of_element}
 
 -- all regions, in the order in which their words stand
 abbrev pub regions : List Region
-regions = Period ∷ Phase ∷ Active ∷ Call ∷ Stopped ∷ Registers ∷ Strong ∷ Weak ∷ Colour ∷ Structure ∷ Array ∷ Claim ∷ Group
+regions = Period ∷ Phase ∷ Base ∷ Active ∷ Call ∷ Stopped ∷ Registers ∷ Strong ∷ Weak ∷ Colour ∷ Structure ∷ Array ∷ Claim ∷ Group
     ∷ Slots ∷ Elements ∷ Free ∷ Dead ∷ GreyShared ∷ GreyMutator ∷ GreyRace ∷ Swept ∷ []
 
 -- how many regions stand before this one
 abbrev pub tag : Region → ℕ
 tag Period = 0
 tag Phase = 1
-tag Active = 2
-tag Call = 3
-tag Stopped = 4
-tag Registers = 5
-tag Strong = 6
-tag Weak = 7
-tag Colour = 8
-tag Structure = 9
-tag Array = 10
-tag Claim = 11
-tag Group = 12
-tag Slots = 13
-tag Elements = 14
-tag Free = 15
-tag Dead = 16
-tag GreyShared = 17
-tag GreyMutator = 18
-tag GreyRace = 19
-tag Swept = 20
+tag Base = 2
+tag Active = 3
+tag Call = 4
+tag Stopped = 5
+tag Registers = 6
+tag Strong = 7
+tag Weak = 8
+tag Colour = 9
+tag Structure = 10
+tag Array = 11
+tag Claim = 12
+tag Group = 13
+tag Slots = 14
+tag Elements = 15
+tag Free = 16
+tag Dead = 17
+tag GreyShared = 18
+tag GreyMutator = 19
+tag GreyRace = 20
+tag Swept = 21
 
 -- how many blocks of cells there are
 abbrev pub cell_block_count : Layout → ℕ
@@ -46,6 +47,7 @@ block_count layout = sum layout.cell_blocks + sum layout.array_blocks
 abbrev pub size_of : Layout → Region → ℕ
 size_of layout Period = 1
 size_of layout Phase = 1
+size_of layout Base = 1
 size_of layout Active = layout.mutators
 size_of layout Call = layout.mutators
 size_of layout Stopped = layout.mutators + layout.visitors

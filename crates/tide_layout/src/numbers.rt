@@ -115,7 +115,7 @@ impl Numbers {
     }
 
     /// How many words each region takes, in the order of the regions.
-    pub(crate) fn rooms(&self) -> [u32; 21]
+    pub(crate) fn rooms(&self) -> [u32; 22]
         ensures { result ≡ map (room_of (layout_of self.now)) regions }
     {
         let mutators = u32::from(self.mutators);
@@ -126,6 +126,7 @@ impl Numbers {
         [
             room(1, 0), // Period
             room(1, 0), // Phase
+            room(1, 0), // Base
             room(mutators, mutators), // Active
             room(mutators, mutators), // Call
             room(participants, participants), // Stopped

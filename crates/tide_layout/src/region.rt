@@ -9,6 +9,8 @@ pub enum Region {
     Period,
     /// One word: the running cycle, and whether it marks.
     Phase,
+    /// One word: the number of the last full cycle's beginning, from which on a colour counts, or 1 before the first.
+    Base,
     /// Per mutator 1, or 0 once it has retired.
     Active,
     /// Per mutator the number of its calls, modulo 2^64.
@@ -53,7 +55,7 @@ impl Region {
     /// How many regions stand before this one.
     pub(crate) fn tag(self) -> u8
         ensures tag { result ≡ tag self }
-        ensures few { result < 21 }
+        ensures few { result < 22 }
     {
         self as u8
     }

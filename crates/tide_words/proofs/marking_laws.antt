@@ -1,5 +1,5 @@
 -- The laws of colours, greys, marking and constraints.
-pub mod BarrierLaws
+pub mod BlackenedLaws
 pub mod ColourLaws
 pub mod ConstraintLaws
 pub mod EmptyMarking

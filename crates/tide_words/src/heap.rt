@@ -11,4 +11,4 @@ pub use fields::{Fields, array_of};
 pub use live::{is_live, is_vacant};
 pub use vec_words::VecWords;
 pub use words::Words;
-pub use writing::{clear_bit, set_bit, store_word};
+pub use writing::{clear_bit, store_word};

@@ -15,8 +15,6 @@ pub use forms::{
     is_marked_in, pair_word, phase_word, structure_word, val_word, word_array, word_claim,
     word_pair, word_phase, word_structure, word_val,
 };
-pub use heap::{
-    Fields, VecWords, Words, array_of, clear_bit, is_live, is_vacant, set_bit, store_word,
-};
-pub use marking::{Constraint, GreyList, Volatility, is_grey, is_marked, running_cycle};
+pub use heap::{Fields, VecWords, Words, array_of, clear_bit, is_live, is_vacant, store_word};
+pub use marking::{Constraint, GreyList, Volatility, base_cycle, is_marked, running_cycle};
 pub use tide_layout::{Layout, Region};

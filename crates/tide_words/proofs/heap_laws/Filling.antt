@@ -5,7 +5,7 @@ use Rattle.std.proofs.lemmas.List.{get_or-set_other, get_or-replicate, length-re
 use Rattle.std.proofs.lemmas.Grind.{get_or-set_at}
 use Rattle.tide_model.specs.Layout.{Layout}
 use Rattle.tide_layout.specs.declared.region.Region.{Region}
-use Rattle.tide_layout.specs.declared.region.Region.TheVariants.{Period, Phase, Active, Call, Stopped, Registers, Strong, Weak, Colour, Structure, Array, Claim, Group, Slots, Elements, Free, Dead, GreyShared, GreyMutator, GreyRace, Swept}
+use Rattle.tide_layout.specs.declared.region.Region.TheVariants.{Period, Phase, Base, Active, Call, Stopped, Registers, Strong, Weak, Colour, Structure, Array, Claim, Group, Slots, Elements, Free, Dead, GreyShared, GreyMutator, GreyRace, Swept}
 use Rattle.tide_layout.specs.Region.{tag, size_of, word_count, place_in, block_count}
 use Rattle.tide_words.specs.heap.EmptyHeap.{empty_heap}
 use Rattle.tide_words.specs.heap.Filled.{IsFilledTo}
@@ -40,46 +40,49 @@ IsFilledTo-more layout region word count old new whole within before =
           ∙ before.others other index in_other apart;
     }
 
--- zeros, with each mutator active and each bit of the free words set, are the empty heap
-module _ (layout : Layout) (zeros active words : List ℕ) (all_zero : zeros ≡ replicate (word_count layout) 0)
-    (first : IsFilledTo layout Active 1 layout.mutators zeros active)
+-- zeros, with the base 1, each mutator active and each bit of the free words set, are the empty heap
+module _ (layout : Layout) (zeros based active words : List ℕ) (all_zero : zeros ≡ replicate (word_count layout) 0)
+    (base : IsFilledTo layout Base 1 1 zeros based)
+    (first : IsFilledTo layout Active 1 layout.mutators based active)
     (second : IsFilledTo layout Free (2 ^ 64 - 1) (block_count layout) active words) where
   zero : (region : Region) (index : ℕ) → index < size_of layout region → get_or zeros (place_in layout region index) 0 ≡ 0
   zero region index within =
       ap (λ xs. get_or xs (place_in layout region index) 0) all_zero
       ∙ get_or-replicate (word_count layout) (place_in layout region index) 0 0 (place_in-below layout region index within)
 
-  -- a region that was filled neither way
-  left_zero : (region : Region) (index : ℕ) → index < size_of layout region → (tag region == tag Active) ≡ false → (tag region == tag Free) ≡ false
-      → get_or words (place_in layout region index) 0 ≡ 0
-  left_zero region index within no_active no_free =
-      second.others region index within no_free ∙ first.others region index within no_active ∙ zero region index within
+  -- a region that was filled in none of the three ways
+  left_zero : (region : Region) (index : ℕ) → index < size_of layout region → (tag region == tag Base) ≡ false → (tag region == tag Active) ≡ false →
+      (tag region == tag Free) ≡ false → get_or words (place_in layout region index) 0 ≡ 0
+  left_zero region index within no_base no_active no_free =
+      second.others region index within no_free ∙ first.others region index within no_active
+      ∙ base.others region index within no_base ∙ zero region index within
 
   holds : (region : Region) (index : ℕ) → index < size_of layout region → get_or words (place_in layout region index) 0 ≡ empty_heap region index
-  holds Period index within = left_zero Period index within refl refl
-  holds Phase index within = left_zero Phase index within refl refl
+  holds Period index within = left_zero Period index within refl refl refl
+  holds Phase index within = left_zero Phase index within refl refl refl
+  holds Base index within = second.others Base index within refl ∙ first.others Base index within refl ∙ base.filled index within
   holds Active index within = second.others Active index within refl ∙ first.filled index within
-  holds Call index within = left_zero Call index within refl refl
-  holds Stopped index within = left_zero Stopped index within refl refl
-  holds Registers index within = left_zero Registers index within refl refl
-  holds Strong index within = left_zero Strong index within refl refl
-  holds Weak index within = left_zero Weak index within refl refl
-  holds Colour index within = left_zero Colour index within refl refl
-  holds Structure index within = left_zero Structure index within refl refl
-  holds Array index within = left_zero Array index within refl refl
-  holds Claim index within = left_zero Claim index within refl refl
-  holds Group index within = left_zero Group index within refl refl
-  holds Slots index within = left_zero Slots index within refl refl
-  holds Elements index within = left_zero Elements index within refl refl
+  holds Call index within = left_zero Call index within refl refl refl
+  holds Stopped index within = left_zero Stopped index within refl refl refl
+  holds Registers index within = left_zero Registers index within refl refl refl
+  holds Strong index within = left_zero Strong index within refl refl refl
+  holds Weak index within = left_zero Weak index within refl refl refl
+  holds Colour index within = left_zero Colour index within refl refl refl
+  holds Structure index within = left_zero Structure index within refl refl refl
+  holds Array index within = left_zero Array index within refl refl refl
+  holds Claim index within = left_zero Claim index within refl refl refl
+  holds Group index within = left_zero Group index within refl refl refl
+  holds Slots index within = left_zero Slots index within refl refl refl
+  holds Elements index within = left_zero Elements index within refl refl refl
   holds Free index within = second.filled index within
-  holds Dead index within = left_zero Dead index within refl refl
-  holds GreyShared index within = left_zero GreyShared index within refl refl
-  holds GreyMutator index within = left_zero GreyMutator index within refl refl
-  holds GreyRace index within = left_zero GreyRace index within refl refl
-  holds Swept index within = left_zero Swept index within refl refl
+  holds Dead index within = left_zero Dead index within refl refl refl
+  holds GreyShared index within = left_zero GreyShared index within refl refl refl
+  holds GreyMutator index within = left_zero GreyMutator index within refl refl refl
+  holds GreyRace index within = left_zero GreyRace index within refl refl refl
+  holds Swept index within = left_zero Swept index within refl refl refl
 
   pub Reads-empty : Reads layout words empty_heap
   Reads-empty = record {
-    all_words = second.len ∙ first.len ∙ ap length all_zero ∙ length-replicate (word_count layout) 0;
+    all_words = second.len ∙ first.len ∙ base.len ∙ ap length all_zero ∙ length-replicate (word_count layout) 0;
     each = holds;
   }

@@ -6,7 +6,7 @@ use Rattle.tide_model.specs.Layout.{Layout, block_of_cell}
 use Rattle.tide_model.specs.Refused.{ShapeLists}
 use Rattle.tide_model.specs.State.{CellState, Phase as CyclePhase, State, live}
 use Rattle.tide_layout.specs.declared.region.Region.{Region}
-use Rattle.tide_layout.specs.declared.region.Region.TheVariants.{Period, Phase, Active, Call, Stopped, Registers, Strong, Weak, Colour, Structure, Array, Claim, Group, Slots, Elements, Free, Dead, GreyShared, GreyMutator, GreyRace, Swept}
+use Rattle.tide_layout.specs.declared.region.Region.TheVariants.{Period, Phase, Base, Active, Call, Stopped, Registers, Strong, Weak, Colour, Structure, Array, Claim, Group, Slots, Elements, Free, Dead, GreyShared, GreyMutator, GreyRace, Swept}
 use Rattle.tide_layout.specs.Region.{tag}
 use Rattle.tide_words.specs.forms.ColourWord.{phase_of}
 use Rattle.tide_words.specs.heap.Heap.{Heap, SameIn, write}
@@ -22,6 +22,7 @@ use Rattle.tide_words.proofs.heap_laws.Parts.{PartsRead-same, RootsRead-phase, R
 abbrev pub is_part_region : Region → Bool
 is_part_region Period = false
 is_part_region Phase = false
+is_part_region Base = false
 is_part_region Active = false
 is_part_region Call = false
 is_part_region Stopped = false
@@ -78,13 +79,14 @@ ReadsAs-same layout shapes old new state same reads = record {
   parts = PartsRead-regions layout shapes old new state (λ region is. same region (or_right (is_root_region region) (is_part_region region) is)) reads.parts;
 }
 
--- a heap with the same words but that of the phase reads as the state in that phase
+-- a heap with the same words in each region that is read but the phase and the base reads as the state in that phase
 pub ReadsAs-phase : (layout : Layout) (shapes : ShapeLists) (old new : Heap) (state : State) (phase : CyclePhase) →
-    ((region : Region) → (tag region == tag Phase) ≡ false → SameIn layout region old new) → phase_of (new Phase 0) ≡ phase →
-    ReadsAs layout shapes old state → ReadsAs layout shapes new (record state { phase = phase })
+    ((region : Region) → is_read region ≡ true → (tag region == tag Phase) ≡ false → (tag region == tag Base) ≡ false → SameIn layout region old new) →
+    phase_of (new Phase 0) ≡ phase → ReadsAs layout shapes old state → ReadsAs layout shapes new (record state { phase = phase })
 ReadsAs-phase layout shapes old new state phase same is reads = record {
-  roots = RootsRead-phase layout old new state phase (λ region root apart. same region apart) is reads.roots;
-  parts = PartsRead-regions layout shapes old new state (λ region part. same region (tags-apart is_part_region Phase region refl part)) reads.parts;
+  roots = RootsRead-phase layout old new state phase (λ region root. same region (or_left (is_root_region region) (is_part_region region) root)) is reads.roots;
+  parts = PartsRead-regions layout shapes old new state (λ region part. same region (or_right (is_root_region region) (is_part_region region) part)
+      (tags-apart is_part_region Phase region refl part) (tags-apart is_part_region Base region refl part)) reads.parts;
 }
 
 -- a write to a region that isn't read leaves the reading

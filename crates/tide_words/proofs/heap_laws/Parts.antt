@@ -5,7 +5,7 @@ use Rattle.tide_model.specs.Refused.{ShapeLists}
 use Rattle.std.specs.Prelude.{◌==◌}
 use Rattle.tide_model.specs.State.{CellState, Phase as CyclePhase, State}
 use Rattle.tide_layout.specs.declared.region.Region.{Region}
-use Rattle.tide_layout.specs.declared.region.Region.TheVariants.{Period, Phase, Active, Call, Stopped, Registers, Strong, Weak, Colour, Structure, Array, Claim, Group, Slots, Elements, Free, Dead, GreyShared, GreyMutator, GreyRace, Swept}
+use Rattle.tide_layout.specs.declared.region.Region.TheVariants.{Period, Phase, Base, Active, Call, Stopped, Registers, Strong, Weak, Colour, Structure, Array, Claim, Group, Slots, Elements, Free, Dead, GreyShared, GreyMutator, GreyRace, Swept}
 use Rattle.tide_words.specs.forms.ColourWord.{phase_of}
 use Rattle.tide_words.specs.heap.Heap.{Heap, SameIn, write}
 use Rattle.tide_words.specs.heap.Reading.{PartsRead, RootsRead}
@@ -14,10 +14,11 @@ use Rattle.tide_words.proofs.heap_laws.ReadingLaws.{AreArraysRead-same, AreClaim
 use Rattle.tide_layout.proofs.SlotPlaces.{index_of_register-below}
 use Rattle.tide_words.proofs.heap_laws.CellReading.{CellReads-kept, SameCellWords}
 
--- a region that tells the roots
+-- a region that tells the roots, or the phase and from which cycle on colours count
 abbrev pub is_root_region : Region → Bool
 is_root_region Period = false
 is_root_region Phase = true
+is_root_region Base = true
 is_root_region Active = true
 is_root_region Call = false
 is_root_region Stopped = false
@@ -53,18 +54,19 @@ SameRoots-write layout heap region index word is_none other is_one =
 pub SameRoots-then : (layout : Layout) (one two three : Heap) → SameRoots layout one two → SameRoots layout two three → SameRoots layout one three
 SameRoots-then layout one two three first second region is index below = second region is index below ∙ first region is index below
 
--- roots whose words are the same, that of the phase apart, read as before, but for the phase
+-- roots whose words are the same, those of the phase and the base apart, read as before, but for the phase
 pub RootsRead-phase : (layout : Layout) (old new : Heap) (state : State) (phase : CyclePhase) →
-    ((region : Region) → is_root_region region ≡ true → (tag region == tag Phase) ≡ false → SameIn layout region old new) → phase_of (new Phase 0) ≡ phase →
+    ((region : Region) → is_root_region region ≡ true → (tag region == tag Phase) ≡ false → (tag region == tag Base) ≡ false → SameIn layout region old new) →
+    phase_of (new Phase 0) ≡ phase →
     RootsRead layout old state → RootsRead layout new (record state { phase = phase })
 RootsRead-phase layout old new state phase same is reads = record {
   phase = is;
-  active = λ who within. same Active refl refl who within ∙ reads.active who within;
+  active = λ who within. same Active refl refl refl who within ∙ reads.active who within;
   registers = λ who register in_mutators in_registers. IsValueOf-same (state.registers who register)
       (old Registers (index_of_register layout who register)) (new Registers (index_of_register layout who register))
-      (same Registers refl refl (index_of_register layout who register) (index_of_register-below layout who register in_mutators in_registers)) (reads.registers who register in_mutators in_registers);
-  strong = λ handle within. IsValueOf-same (state.strong handle) (old Strong handle) (new Strong handle) (same Strong refl refl handle within) (reads.strong handle within);
-  weak = λ handle within. IsValueOf-same (state.weak handle) (old Weak handle) (new Weak handle) (same Weak refl refl handle within) (reads.weak handle within);
+      (same Registers refl refl refl (index_of_register layout who register) (index_of_register-below layout who register in_mutators in_registers)) (reads.registers who register in_mutators in_registers);
+  strong = λ handle within. IsValueOf-same (state.strong handle) (old Strong handle) (new Strong handle) (same Strong refl refl refl handle within) (reads.strong handle within);
+  weak = λ handle within. IsValueOf-same (state.weak handle) (old Weak handle) (new Weak handle) (same Weak refl refl refl handle within) (reads.weak handle within);
   past_active = reads.past_active;
   past_registers = reads.past_registers;
   past_strong = reads.past_strong;
@@ -74,7 +76,7 @@ RootsRead-phase layout old new state phase same is reads = record {
 -- roots whose words are the same read as before
 pub RootsRead-same : (layout : Layout) (old new : Heap) (state : State) → SameRoots layout old new → RootsRead layout old state → RootsRead layout new state
 RootsRead-same layout old new state same reads =
-    RootsRead-phase layout old new state state.phase (λ region is apart. same region is) (ap phase_of (same Phase refl 0 (omega arith)) ∙ reads.phase) reads
+    RootsRead-phase layout old new state state.phase (λ region is no_phase no_base. same region is) (ap phase_of (same Phase refl 0 (omega arith)) ∙ reads.phase) reads
 
 -- the parts where the words of all cells, arrays and claims are the same
 pub PartsRead-same : (layout : Layout) (shapes : ShapeLists) (old new : Heap) (state : State) → SameParts layout old new → SameIn layout Free old new → SameIn layout Dead old new →

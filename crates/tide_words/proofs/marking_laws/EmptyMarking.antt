@@ -1,5 +1,6 @@
 -- The empty heap meets marking.
-use Rattle.std.proofs.Common.{arith, refl, []}
+use Rattle.std.proofs.Common.{◌%◌, arith, []}
+use Rattle.std.proofs.lemmas.Nat.Bits.{bit_at-zero}
 use Rattle.tide_model.specs.Layout.{Layout}
 use Rattle.tide_model.specs.Refused.{ShapeLists}
 use Rattle.tide_model.specs.State.{empty_state}
@@ -15,12 +16,12 @@ Marking-empty layout shapes = record {
   references = RefsAreLive-empty;
   few_cycles = omega arith;
   colours = λ cell within. omega arith;
+  counts = λ marks. absurd (cc);
+  soon = omega arith;
   held = record {
-    each_once = λ marks. absurd (cc);
+    each_once = λ cell within. (let none = bit_at-zero (cell % 64) in omega (arith, none));
     of_layout = λ cell at. absurd (nothing_in cell at);
-    no_words = λ rests block within. record { shared = refl; mutator = refl; race = refl };
-    no_cells = λ rests. refl;
   };
-  black = λ marks. absurd (cc);
-  live = λ marks. absurd (cc);
+  black = λ source cell black. absurd (cc);
+  live = λ cell within marked. absurd (cc);
 }

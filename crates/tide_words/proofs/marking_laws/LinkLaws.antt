@@ -11,15 +11,15 @@ use Rattle.tide_words.specs.heap.Reading.{ReadsAs}
 use Rattle.tide_words.specs.marking.Colours.{IsBlack, is_black, is_marking}
 use Rattle.tide_words.specs.marking.Marking.{Marking}
 use Rattle.tide_words.proofs.heap_laws.ReadingLaws.{live_within}
-use Rattle.tide_words.proofs.marking_laws.ColourLaws.{HasColours-same, is_black-same, is_marked-same, is_marking-same, running_cycle-same}
-use Rattle.tide_words.proofs.marking_laws.MarkingLaws.{GreysAreHeld-colours, SameColours, link_ends}
+use Rattle.tide_words.proofs.marking_laws.ColourLaws.{Counts-same, HasColours-same, is_black-same, is_marked-same, is_marking-same, running_cycle-same}
+use Rattle.tide_words.proofs.marking_laws.MarkingLaws.{GreysAreHeld-colours, SameColours, link_ends, soon_kept}
 
--- Another state is read, whose references are live. It loses no live cell, and where a cycle marks, each link that is
--- new is from a cell that isn't black: marking is kept.
+-- Another state is read, whose references are live. It loses no live cell, and each link that is new is from a cell that
+-- isn't black: marking is kept.
 pub Marking-linked : (layout : Layout) (shapes : ShapeLists) (old new : Heap) (state after : State) (cells : List ℕ) →
     SameColours layout old new → ReadsAs layout shapes new after → RefsAreLive after →
     ((cell : ℕ) → IsLive state cell → IsLive after cell) →
-    (is_marking old ≡ true → (source cell : ℕ) → IsLink after source cell →
+    ((source cell : ℕ) → IsLink after source cell →
     IsLink state source cell ⊎ (is_black old source ≡ false)) →
     Marking layout shapes old state cells → Marking layout shapes new after cells
 Marking-linked layout shapes old new state after cells same reads refs alive links before = record {
@@ -31,21 +31,23 @@ Marking-linked layout shapes old new state after cells same reads refs alive lin
       let cycle = running_cycle-same layout old new same.phase in
       let earlier = before.colours cell within in
       omega (arith, word, cycle, earlier);
+  counts = λ marks. Counts-same layout old new same.phase same.base (before.counts (marked_before marks));
+  soon = soon_kept layout old new same.phase same.base before.soon;
   held = GreysAreHeld-colours layout old new cells same before.held;
-  black = λ marks source cell black link.
+  black = λ source cell black link.
       let (source_alive, cell_alive) = link_ends after source cell refs link in
       let in_source = live_within layout shapes new after source reads source_alive in
       let in_cell = live_within layout shapes new after cell reads cell_alive in
-      let was_black : IsBlack old source = sym (is_black-same layout old new source same.phase same.colour in_source)
+      let was_black : IsBlack old source = sym (is_black-same layout old new source same.base same.colour in_source)
       ∙ black in
-      elim (links (marked_before marks) source cell link) [
-        | inl earlier ↦ is_marked-same layout old new cell same.phase same.colour in_cell
-            ∙ before.black (marked_before marks) source cell was_black earlier
+      elim (links source cell link) [
+        | inl earlier ↦ is_marked-same layout old new cell same.base same.colour in_cell
+            ∙ before.black source cell was_black earlier
         | inr not_black ↦ absurd (cc)
       ];
-  live = λ marks cell within marked.
-      alive cell (before.live (marked_before marks) cell within
-      (sym (is_marked-same layout old new cell same.phase same.colour within) ∙ marked));
+  live = λ cell within marked.
+      alive cell (before.live cell within
+      (sym (is_marked-same layout old new cell same.base same.colour within) ∙ marked));
 }
   where
     marked_before : is_marking new ≡ true → is_marking old ≡ true

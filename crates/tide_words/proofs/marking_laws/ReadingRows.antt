@@ -5,14 +5,14 @@ use Rattle.std.specs.Int.{bit_at}
 use Rattle.std.specs.Prelude.{◌⊎◌, if◌then◌else◌}
 use Rattle.tide_model.specs.declared.val.Val.{Val}
 use Rattle.tide_model.specs.declared.val.Val.TheVariants.{Empty, Cell}
-use Rattle.tide_model.specs.Graph.{in_slot}
+use Rattle.tide_model.specs.Graph.{IsLink, in_slot}
 use Rattle.tide_model.specs.Layout.{Layout}
 use Rattle.tide_model.specs.Numbers.{put_at}
 use Rattle.tide_model.specs.References.{IsLive, RefsAreLive}
 use Rattle.tide_model.specs.Refused.{ShapeLists, no_shapes}
 use Rattle.tide_model.specs.State.{State, CellState, free, live, dead, is_free, idle, marking, blank_cell, empty_state}
 use Rattle.tide_model.proofs.ReferenceLaws.{put_at_elim}
-use Rattle.tide_layout.specs.declared.region.Region.TheVariants.{Phase, Colour, Free, Dead, Registers, Structure, Claim, Group, Slots}
+use Rattle.tide_layout.specs.declared.region.Region.TheVariants.{Base, Phase, Colour, Free, Dead, Registers, Structure, Claim, Group, Slots}
 use Rattle.tide_words.specs.heap.EmptyHeap.{empty_heap}
 use Rattle.tide_words.specs.heap.Heap.{Heap, write}
 use Rattle.tide_words.specs.marking.Marking.{Marking}
@@ -268,14 +268,14 @@ marking_of_two = record {
   references = references;
   few_cycles = omega arith;
   colours = λ cell within. omega arith;
+  counts = λ marks. omega arith;
+  soon = omega arith;
   held = record {
-    each_once = λ marks cell within. (let none = bit_at-zero (cell % 64) in omega (arith, none));
+    each_once = λ cell within. (let none = bit_at-zero (cell % 64) in omega (arith, none));
     of_layout = λ cell at. absurd (nothing_in cell at);
-    no_words = λ rests. absurd (cc);
-    no_cells = λ rests. absurd (cc);
   };
-  black = λ marks source cell black. absurd (cc);
-  live = λ marks cell within marked. absurd (cc);
+  black = λ source cell black. absurd (cc);
+  live = λ cell within marked. absurd (cc);
 }
 
 -- with the first cell grey and in the list they do too
@@ -284,12 +284,21 @@ marking_of_one_grey = Marking-greyed small no_shapes worked two_cells [] 0 refl 
 
 -- but not where nobody holds the grey cell
 grey_cell_held_by_none : Marking small no_shapes (write worked Colour 0 10) two_cells [] → ⊥
-grey_cell_held_by_none meets = let once = meets.held.each_once refl 0 (omega arith) in absurd (cc)
+grey_cell_held_by_none meets = let once = meets.held.each_once 0 (omega arith) in absurd (cc)
 
 -- nor where a black cell holds a white one
 black_cell_to_white : Marking small no_shapes (write worked Colour 0 8) two_cells [] → ⊥
-black_cell_to_white meets = let marked = meets.black refl 0 1 refl (in_slot 0 refl refl) in absurd (cc)
+black_cell_to_white meets = let marked = meets.black 0 1 refl (in_slot 0 refl refl) in absurd (cc)
+
+-- whether a cycle marks or not
+black_cell_to_white_at_rest : (state : State) → IsLink state 0 1 →
+    Marking small no_shapes (write (write worked Phase 0 4) Colour 0 8) state [] → ⊥
+black_cell_to_white_at_rest state link meets = let marked = meets.black 0 1 refl link in absurd (cc)
 
 -- nor where the running cycle is one whose colours have no words of 64 bits
 cycle_without_colours : (state : State) → Marking small no_shapes (write worked Phase 0 (2 ^ 63 + 1)) state [] → ⊥
 cycle_without_colours state meets = let few = meets.few_cycles in omega (arith, few)
+
+-- nor where the colours of the running cycle don't count
+base_after_cycle : (state : State) → Marking small no_shapes (write worked Base 0 3) state [] → ⊥
+base_after_cycle state meets = let counts = meets.counts refl in omega (arith, counts)

@@ -1,12 +1,13 @@
 -- The words of a store that holds nothing.
 use Rattle.std.specs.Prelude.{◌-◌, ◌^◌}
-use Rattle.tide_layout.specs.declared.region.Region.TheVariants.{Period, Phase, Active, Call, Stopped, Registers, Strong, Weak, Colour, Structure, Array, Claim, Group, Slots, Elements, Free, Dead, GreyShared, GreyMutator, GreyRace, Swept}
+use Rattle.tide_layout.specs.declared.region.Region.TheVariants.{Period, Phase, Base, Active, Call, Stopped, Registers, Strong, Weak, Colour, Structure, Array, Claim, Group, Slots, Elements, Free, Dead, GreyShared, GreyMutator, GreyRace, Swept}
 use Rattle.tide_words.specs.heap.Heap.{Heap}
 
--- the empty heap: every mutator is active, and each cell and array of each block is free
+-- the empty heap: every mutator is active, colours count from cycle 1 on, and each cell and array of each block is free
 abbrev pub empty_heap : Heap
 empty_heap Period _ = 0
 empty_heap Phase _ = 0
+empty_heap Base _ = 1
 empty_heap Active _ = 1
 empty_heap Call _ = 0
 empty_heap Stopped _ = 0

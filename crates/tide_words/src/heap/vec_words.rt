@@ -34,6 +34,7 @@ impl VecWords {
             return Err(Memory);
         };
         let mut words = VecWords { words };
+        words.fill(layout, Region::Base, 1, 1);
         words.fill(layout, Region::Active, u32::from(layout.mutators()), 1);
         words.fill(layout, Region::Free, layout.block_count(), u64::MAX);
         Ok(words)

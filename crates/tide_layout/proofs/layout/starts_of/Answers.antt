@@ -9,7 +9,7 @@ use Rattle.tide_layout.proofs.layout.starts_of.Goals as goal
 pub loop-tag-preserved : goal.loop-tag-preserved
 loop-tag-preserved c =
     let tag = c.loop-tag.tag in
-    let all : length c.loop-tag.starts ≡ 22 = c.loop-tag.invariant.all in
+    let all : length c.loop-tag.starts ≡ 23 = c.loop-tag.invariant.all in
     let before = c.loop-tag.invariant.each in
     let here = before tag (omega arith) in
     let more = sum_by_more (λ (x : ℕ). x) c.args.rooms.now tag 0 (omega arith) in

@@ -16,7 +16,7 @@ returns-clause-place c =
     let layout = c.args.self.now in
     let start : get_or c.self.inside.starts c.from.result 0 ≡ base_of layout Registers =
     ap (λ (n : ℕ). get_or c.self.inside.starts n 0) (c.from.ensures ∙ c.tag.ensures.tag)
-    ∙ ap (λ starts. get_or starts 5 0) c.self.invariant.begins
+    ∙ ap (λ starts. get_or starts 6 0) c.self.invariant.begins
     ∙ starts_of-base (layout_of c.self.inside.numbers) Registers
     ∙ ap (λ (l : Layout). base_of l Registers) c.self.view_is in
     let row : c.from-row.result ≡ layout.registers = c.from-row.ensures ∙ ap (λ (l : Layout). l.registers) c.self.view_is in
