@@ -1,27 +1,31 @@
 -- Heaps with one cell, worked out by hand: two that have the wave, and near ones that haven't.
-use Rattle.std.proofs.Common.{ℕ, ◌≡◌, ◌≢◌, ◌-◌, ◌/◌, ◌%◌, ◌^◌, ◌<◌, ◌≤◌, ◌==◌, refl, sym, ◌∙◌, ap, subst, arith, true, [], ◌∷◌, List, inl, inr, length, None, Some}
+use Rattle.std.proofs.Common.{ℕ, ◌≡◌, ◌≢◌, ◌-◌, ◌/◌, ◌%◌, ◌^◌, ◌<◌, ◌≤◌, ◌==◌, refl, sym, ◌∙◌, ap, subst, arith, false, true, true≢false, [], ◌∷◌, List, inl, inr, length, lit<, lit≤, take, None, Some}
 use Rattle.std.proofs.lemmas.Bool.{cases_eq, ne_eqb}
 use Rattle.std.proofs.lemmas.Nat.Bits.{bit_at-zero, bit_at_mask_inside}
 use Rattle.std.specs.Int.{bit_at}
 use Rattle.std.specs.Prelude.{◌⊎◌, if◌then◌else◌}
 use Rattle.tide_layout.specs.Region.{index_of_register}
 use Rattle.tide_layout.specs.declared.region.Region.TheVariants.{Call as CallRegion, Dead, Free, Period, Phase, Registers}
-use Rattle.tide_model.specs.declared.entry.Entry.TheVariants.{Begin, Call, Pause}
+use Rattle.tide_model.specs.declared.entry.Entry.TheVariants.{Begin, Call, End, Pause}
 use Rattle.tide_model.specs.declared.entry.Event.{Event}
 use Rattle.tide_model.specs.declared.op.Op.TheVariants.{Alloc, Drop}
 use Rattle.tide_model.specs.declared.op.Reply.TheVariants.{Born, Done}
 use Rattle.tide_model.specs.declared.val.Val.{Val}
 use Rattle.tide_model.specs.declared.val.Val.TheVariants.{Cell, Empty}
 use Rattle.tide_model.specs.Cycle.{StandsEnd, cycle_span}
-use Rattle.tide_model.specs.Graph.{IsLink, IsRetained, IsRoot, claimed, in_handle, in_property, in_register, in_slot, is_root, no_cell, retained_in_closed}
+use Rattle.tide_model.specs.Graph.{IsLink, IsRetained, IsRoot, claimed, in_handle, in_property, in_register, in_slot, is_further, is_root, retained_in_closed}
 use Rattle.tide_model.specs.History.{is_begin, plain, state_at}
 use Rattle.tide_model.specs.Applied.{after_call}
+use Rattle.tide_model.specs.Lawful.{IsLawful}
 use Rattle.tide_model.specs.Numbers.{put_at}
+use Rattle.tide_model.specs.Old.{IsSpared, is_full}
 use Rattle.tide_model.specs.References.{RefsAreLive}
 use Rattle.tide_model.specs.Refused.{no_shapes}
 use Rattle.tide_model.specs.Since.{visits_since}
 use Rattle.tide_model.specs.State.{CellState, State, blank_cell, dead, empty_state, free, live, marking}
+use Rattle.tide_model.proofs.Histories.{IsLawful-nil, IsLawful-push}
 use Rattle.tide_model.proofs.NumberLaws.{put_at_elim}
+use Rattle.tide_model.proofs.PeriodTests.{IsSwept-tested}
 use Rattle.tide_model.proofs.ReferenceLaws.{RefsAreLive-call}
 use Rattle.tide_model.proofs.ReferenceSteps.{RefsAreLive-empty}
 use Rattle.tide_model.proofs.ReferencesInCycles.{RefsAreLive-phase}
@@ -31,6 +35,7 @@ use Rattle.tide_words.specs.heap.EmptyHeap.{empty_heap}
 use Rattle.tide_words.specs.heap.Heap.{Heap, write}
 use Rattle.tide_words.specs.heap.Reading.{CellReads, IsValueOf, ReadsAs, cell_status, status_by}
 use Rattle.tide_words.specs.marking.Colours.{IsMarked, coloured, is_marking}
+use Rattle.tide_words.specs.marking.Marked.{is_marked}
 use Rattle.tide_words.specs.marking.Marking.{Marking}
 use Rattle.tide_words.proofs.form_laws.FormLaws.{same_cell_from_val_word}
 use Rattle.tide_words.proofs.heap_laws.EmptyReading.{nothing_in}
@@ -39,7 +44,7 @@ use Rattle.tide_words.proofs.marking_laws.MarkingLaws.{Marking-blackened, Markin
 use Rattle.tide_words.proofs.marking_laws.ReadingRows.{small}
 use Rattle.tide_cycle.specs.Converged.{HasConverged}
 use Rattle.tide_cycle.specs.Reports.{kept_count}
-use Rattle.tide_core.specs.FrozenWave.{FrozenWave, call_count}
+use Rattle.tide_core.specs.FrozenWave.{FrozenWave, OldIsMarked, call_count}
 use Rattle.tide_core.proofs.EndLaws.{StandsEnd-converged}
 
 -- cell 0 is live, the register has it, and the first cycle marks
@@ -169,14 +174,14 @@ marking_unmarked = record {
   references = references;
   few_cycles = omega arith;
   colours = λ cell within. omega arith;
+  counts = λ marks. omega arith;
+  soon = omega arith;
   held = record {
-    each_once = λ marks cell within. (let none = bit_at-zero (cell % 64) in omega (arith, none));
+    each_once = λ cell within. (let none = bit_at-zero (cell % 64) in omega (arith, none));
     of_layout = λ cell at. absurd (nothing_in cell at);
-    no_words = λ rests. absurd (cc);
-    no_cells = λ rests. absurd (cc);
   };
-  black = λ marks source cell black. absurd (cc);
-  live = λ marks cell within marked. absurd (cc);
+  black = λ source cell black. absurd (cc);
+  live = λ cell within marked. absurd (cc);
 }
 
 marking_visited : Marking small no_shapes visited one_cell []
@@ -196,6 +201,15 @@ marked_is_first cell marked = elim (cases_eq cell 0) [
       absurd (cc)
 ]
 
+-- in a full cycle no old cell has to be marked
+old_in_full : (history : List Event) → is_full history ≡ true → OldIsMarked small visited history
+old_in_full history full = record {
+  old = λ eden. absurd (true≢false (sym full ∙ eden refl));
+  rests = λ rests. absurd (true≢false rests);
+  counts = λ marks. omega arith;
+  soon = omega arith;
+}
+
 -- the visit is counted: the heap has the wave
 visited_cell_has_wave : FrozenWave small no_shapes visited born_before
 visited_cell_has_wave = record {
@@ -203,8 +217,8 @@ visited_cell_has_wave = record {
   cycle = refl;
   period = refl;
   calls = λ who within. (let first : who ≡ 0 = omega (arith, within) in subst (λ (n : ℕ). visited CallRegion n ≡ call_count n born_before % 2 ^ 64) (sym first) refl);
-  full = λ marks. refl;
-  retained = λ marks cell within marked. subst (IsRetained (cycle_span small born_before) no_cell)
+  old = old_in_full born_before refl;
+  retained = λ marks cell within marked. subst (IsRetained (cycle_span small born_before) (IsSpared small born_before))
       (sym (marked_is_first cell marked))
       (is_root 0 (2, omega arith, omega arith, in_register 0 0 refl refl));
   born = λ marks cell within born. absurd (cc);
@@ -218,8 +232,8 @@ born_cell_has_wave = record {
   cycle = refl;
   period = refl;
   calls = λ who within. (let first : who ≡ 0 = omega (arith, within) in subst (λ (n : ℕ). visited CallRegion n ≡ call_count n born_after % 2 ^ 64) (sym first) refl);
-  full = λ marks. refl;
-  retained = λ marks cell within marked. subst (IsRetained (cycle_span small born_after) no_cell)
+  old = old_in_full born_after refl;
+  retained = λ marks cell within marked. subst (IsRetained (cycle_span small born_after) (IsSpared small born_after))
       (sym (marked_is_first cell marked))
       (is_root 0 (2, omega arith, omega arith, in_register 0 0 refl refl));
   born = λ marks cell within born. elim (cases_eq 0 cell) [
@@ -268,11 +282,31 @@ visited_is_converged = record {
     no_group : (cell : ℕ) → (one_cell.cells cell).group ≡ 0
     no_group = each_cell (λ n held. held.group ≡ 0) refl (λ n not_zero. refl)
 
+-- the history is lawful
+born_before_is_lawful : IsLawful small no_shapes born_before
+born_before_is_lawful =
+    let born = IsLawful-push small no_shapes [] (plain (Call 0 (Alloc 0 0) (Born 0))) (IsLawful-nil small no_shapes) (record {
+      is_mutator = lit< tt;
+      is_active = refl;
+      fits = (lit< tt, lit< tt);
+      answers = (refl, record { of_class = record { from = lit≤ tt; below = lit< tt }; is_free = refl });
+      room = λ class is. absurd (cc);
+    }) in
+    let begun = IsLawful-push small no_shapes (take 1 born_before) (plain (Begin 1 true)) born (
+      refl,
+      record {
+        is_idle = refl;
+        is_swept = IsSwept-tested small (take 1 born_before) refl;
+        is_next = refl;
+      },
+    ) in
+    IsLawful-push small no_shapes (take 2 born_before) (plain (Pause 1)) begun refl
+
 -- so the cycle may end, and it keeps the one cell that was visited
 visited_cell_is_kept : StandsEnd small born_before 1 [] × (kept_count small visited ≡ 1)
     × (visits_since is_begin born_before ≡ 1)
 visited_cell_is_kept = (
-  StandsEnd-converged small no_shapes visited born_before visited_cell_has_wave refl visited_is_converged,
+  StandsEnd-converged small no_shapes visited born_before visited_cell_has_wave born_before_is_lawful refl visited_is_converged,
   refl,
   refl,
 )
@@ -313,9 +347,9 @@ no_root cell (in_register who register active is) = (let none = none_held who re
 no_root cell (claimed who at) = nothing_in cell at
 no_root cell (in_handle handle is) = absurd (cc)
 
--- and so nothing of the cycle is retained
-none_retained : (cell : ℕ) → IsRetained (cycle_span small dropped) no_cell cell → ⊥
-none_retained = retained_in_closed (cycle_span small dropped) no_cell (λ cell. ⊥) (record {
+-- and so nothing of the cycle is retained, a full one, which spares none
+none_retained : (cell : ℕ) → IsRetained (cycle_span small dropped) (IsSpared small dropped) cell → ⊥
+none_retained = retained_in_closed (cycle_span small dropped) (IsSpared small dropped) (λ cell. ⊥) (record {
   roots = λ cell root. elim (cases_eq root.0 3) [
     | inl begun ↦ no_root cell (subst (λ (moment : ℕ). IsRoot (state_at small dropped moment) cell) begun root.3)
     | inr later ↦
@@ -324,7 +358,7 @@ none_retained = retained_in_closed (cycle_span small dropped) no_cell (λ cell. 
         let last : root.0 ≡ 4 = omega (arith, early, late, later) in
         no_root cell (subst (λ (moment : ℕ). IsRoot (state_at small dropped moment) cell) last root.3)
   ];
-  further_cells = λ cell none. none;
+  further_cells = λ cell spared. true≢false (sym spared);
   links = λ source cell from link. from;
   pairs = λ table key cell from_table from_key triple. from_table;
   twins = λ one other from twin. from;
@@ -333,3 +367,23 @@ none_retained = retained_in_closed (cycle_span small dropped) no_cell (λ cell. 
 -- a mark on the cell breaks the wave, whatever else the words say
 garbage_marked : (heap : Heap) → is_marking heap ≡ true → IsMarked heap 0 → FrozenWave small no_shapes heap dropped → ⊥
 garbage_marked heap marks marked wave = none_retained 0 (wave.retained marks 0 (omega arith) marked)
+
+-- the cell is kept by the first cycle, an Eden one, and dropped: the next one is an Eden cycle too
+abbrev old_dropped : List Event
+old_dropped =
+    plain (Call 0 (Alloc 0 0) (Born 0)) ∷ plain (Begin 1 false) ∷ plain (Pause 1) ∷ plain (End 1 [])
+    ∷ plain (Call 0 (Drop 0) Done) ∷ plain (Begin 2 false) ∷ []
+
+-- it is old, and so the cycle retains it, though nothing holds it
+old_garbage_is_retained : IsRetained (cycle_span small old_dropped) (IsSpared small old_dropped) 0
+old_garbage_is_retained = is_further 0 refl
+
+-- an Eden cycle that unmarked it breaks the wave, whatever else the words say: its end would free the cell
+old_unmarked : (heap : Heap) → is_marked heap 0 ≡ false → FrozenWave small no_shapes heap old_dropped → ⊥
+old_unmarked heap white wave = true≢false (sym (wave.old.old (λ marks. refl) 0 (omega arith) refl) ∙ white)
+
+-- a new cell that is marked between two cycles does too: the next Eden cycle would keep it for no cause
+young_marked : (heap : Heap) → is_marking heap ≡ false → IsMarked heap 1 → FrozenWave small no_shapes heap
+    (plain (Call 0 (Alloc 0 0) (Born 0)) ∷ plain (Begin 1 false) ∷ plain (Pause 1) ∷ plain (End 1 [])
+    ∷ plain (Call 0 (Alloc 0 0) (Born 1)) ∷ []) → ⊥
+young_marked heap rests marked wave = (let is = wave.old.rests rests 1 (omega arith) marked in true≢false (sym is))

@@ -9,7 +9,7 @@ use Rattle.tide_model.specs.declared.op.Refusal.TheVariants.{Full}
 use Rattle.tide_model.specs.declared.entry.Entry.{Entry}
 use Rattle.tide_model.specs.declared.entry.Entry.TheVariants.{Call, Begin, Pause, Visits, End, Open}
 use Rattle.tide_model.specs.declared.entry.Event.{Event}
-use Rattle.tide_model.specs.Freeze.{IsFreeze, GoesOn, IsPause, is_due, visits_entries, pause_entries}
+use Rattle.tide_model.specs.Freeze.{IsFreeze, GoesOn, IsPause, is_due, visits_entries, pause_entries, begins_full}
 use Rattle.tide_model.specs.History.{plain}
 use Rattle.tide_model.specs.Layout.{Layout}
 use Rattle.tide_model.specs.Pace.{Pace}
@@ -103,14 +103,19 @@ four_born =
     ∷ first_calls (Alloc 2 0) (Born 2) ∷ first_calls (Alloc 3 0) (Born 3) ∷ []
 
 abbrev pub marked : List Event
-marked = four_born ++ plain (Begin 1 true) ∷ plain (Pause 2) ∷ []
+marked = four_born ++ plain (Begin 1 false) ∷ plain (Pause 2) ∷ []
 
 pub dues :
     (is_due pace small one_born ≡ false) × (is_due pace small four_born ≡ true)
     × (is_due pace small marked ≡ false) × (is_due (record pace { trigger = 0 }) small four_born ≡ false)
 dues = (refl, refl, refl, refl)
 
--- a cycle that has to be over in its freeze is a full one, and so, as yet, is one that begins by itself
+-- a cycle is full that has to be over in its freeze, and each whose number is a multiple of four
+pub full_ones :
+    (begins_full true 1 ≡ true) × (begins_full true 4 ≡ true) × (begins_full false 4 ≡ true)
+    × (begins_full false 8 ≡ true) × (begins_full false 1 ≡ false) × (begins_full false 6 ≡ false)
+full_ones = (refl, refl, refl, refl, refl, refl)
+
 pub must_cycle_is_no_eden_cycle : IsFreeze pace small one_born 8 true (Begin 1 false ∷ Pause 1 ∷ End 1 [] ∷ []) → ⊥
 must_cycle_is_no_eden_cycle freeze =
     let begins = freeze.begins refl in
@@ -119,12 +124,13 @@ must_cycle_is_no_eden_cycle freeze =
     let first : Begin 1 false ≡ Begin 1 true = cc in
     cc
 
-pub due_cycle_is_no_eden_cycle : IsFreeze pace small four_born 8 false (Begin 1 false ∷ Pause 2 ∷ []) → ⊥
-due_cycle_is_no_eden_cycle freeze =
+-- the first one that begins by itself is an Eden cycle
+pub due_cycle_is_no_full_cycle : IsFreeze pace small four_born 8 false (Begin 1 true ∷ Pause 2 ∷ []) → ⊥
+due_cycle_is_no_full_cycle freeze =
     let begins = freeze.begins refl in
-    let same : Begin 1 false ∷ Pause 2 ∷ [] ≡ Begin 1 true ∷ pause_entries 1 begins.paused =
+    let same : Begin 1 true ∷ Pause 2 ∷ [] ≡ Begin 1 false ∷ pause_entries 1 begins.paused =
     freeze.are ∙ ap (λ (old : List Entry). old ++ freeze.new) (freeze.rests refl) ∙ begins.are in
-    let first : Begin 1 false ≡ Begin 1 true = cc in
+    let first : Begin 1 true ≡ Begin 1 false = cc in
     cc
 
 -- the visitor tells what it made black before the pause

@@ -11,7 +11,7 @@ pub mod EdenRows
 pub mod EdenSweepRows
 pub mod ExactEnds
 pub mod FreezeRows
-pub mod FullCycles
+pub mod FourthCycles
 pub mod Histories
 pub mod LawfulReferences
 pub mod NumberLaws

@@ -38,7 +38,7 @@ first = record {
       ∷ first_calls (Alloc 2 0) (Born 2) ∷ first_calls (Alloc 3 0) (Born 3)
       ∷ first_calls (WeakSet 0 3) Done ∷ first_calls (Drop 3) Done
       ∷ first_calls (Set 3 5) Done ∷ first_calls (Set 3 6) Done ∷ [];
-  freeze = plain (Begin 1 true) ∷ plain (Pause 2) ∷ [];
+  freeze = plain (Begin 1 false) ∷ plain (Pause 2) ∷ [];
 }
 
 -- the weak handle is read, and a cycle is asked for
@@ -75,10 +75,10 @@ numbers = (refl, refl, refl)
 pub runs : (next_run pace small [] ≡ 8) × (next_run pace small after_first ≡ 6) × (next_run pace small after_second ≡ 8)
 runs = (refl, refl, refl)
 
-first_freeze : IsFreeze pace small (plain (Open 1 8) ∷ first.part) 8 false (Begin 1 true ∷ Pause 2 ∷ [])
+first_freeze : IsFreeze pace small (plain (Open 1 8) ∷ first.part) 8 false (Begin 1 false ∷ Pause 2 ∷ [])
 first_freeze = record {
   old = [];
-  new = Begin 1 true ∷ Pause 2 ∷ [];
+  new = Begin 1 false ∷ Pause 2 ∷ [];
   are = refl;
   goes_on = λ marks. absurd (cc);
   rests = λ rests. refl;

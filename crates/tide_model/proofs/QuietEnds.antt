@@ -1,5 +1,5 @@
 -- Where no trigger begins a cycle, nothing but marking and sweeping comes between a cycle's beginning and its end.
-use Rattle.std.specs.Prelude.{ℕ, zero, suc, ◌≡◌, ◌+◌, Bool, true, false, ◌&&◌, ◌||◌, ◌⊎◌, List, [], ◌∷◌, ◌++◌, filter, map, not, take, is_some, Option, None, Some}
+use Rattle.std.specs.Prelude.{ℕ, zero, suc, ◌≡◌, ◌+◌, ◌%◌, ◌==◌, Bool, true, false, ◌&&◌, ◌||◌, ◌⊎◌, List, [], ◌∷◌, ◌++◌, filter, map, not, take, is_some, Option, None, Some}
 use Rattle.std.specs.List.{list_all}
 use Rattle.std.proofs.Common.{refl, ap, inl, inr, subst, sym, ◌∙◌, true≢false}
 use Rattle.std.proofs.lemmas.Bool.{and_parts}
@@ -142,7 +142,7 @@ part_is_quiet pace layout before period stands quiet = record {
 
 -- a cycle that has to be over in its freeze is a full one
 must_is_full : (must : Bool) (cycle : ℕ) → must ≡ true → begins_full must cycle ≡ true
-must_is_full must cycle is = refl
+must_is_full must cycle is = ap (λ (b : Bool). b || (cycle % 4 == 0)) is
 
 -- a freeze before which no cycle marks, and in which none is due, runs a whole full one or none
 abbrev pub IsWholeOrNone : List Entry → Type 0

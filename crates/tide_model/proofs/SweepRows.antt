@@ -29,7 +29,7 @@ born_and_freed = record {
   part =
       first_calls (Alloc 0 0) (Born 0) ∷ first_calls (Alloc 0 0) (Born 1)
       ∷ first_calls (Alloc 0 0) (Born 2) ∷ first_calls (Drop 0) Done ∷ [];
-  freeze = plain (Begin 1 true) ∷ plain (Pause 0) ∷ plain (End 1 (0 ∷ 1 ∷ 2 ∷ [])) ∷ [];
+  freeze = plain (Begin 1 false) ∷ plain (Pause 0) ∷ plain (End 1 (0 ∷ 1 ∷ 2 ∷ [])) ∷ [];
 }
 
 -- then the next free cell is taken, and the must freeze sweeps before its cycle begins and after it
@@ -65,10 +65,10 @@ numbers = (refl, refl, refl)
 
 first_freeze :
     IsFreeze short small (plain (Open 1 4) ∷ born_and_freed.part) 4 false
-    (Begin 1 true ∷ Pause 0 ∷ End 1 (0 ∷ 1 ∷ 2 ∷ []) ∷ [])
+    (Begin 1 false ∷ Pause 0 ∷ End 1 (0 ∷ 1 ∷ 2 ∷ []) ∷ [])
 first_freeze = record {
   old = [];
-  new = Begin 1 true ∷ Pause 0 ∷ End 1 (0 ∷ 1 ∷ 2 ∷ []) ∷ [];
+  new = Begin 1 false ∷ Pause 0 ∷ End 1 (0 ∷ 1 ∷ 2 ∷ []) ∷ [];
   are = refl;
   goes_on = λ marks. absurd (cc);
   rests = λ rests. refl;

@@ -1,5 +1,5 @@
 -- What holds after every lawful history, and in every legal one.
-use Rattle.std.specs.Prelude.{ℕ, ◌≡◌, ◌↔◌, Bool, true, List}
+use Rattle.std.specs.Prelude.{ℕ, ◌≡◌, ◌↔◌, ◌%◌, Bool, true, List}
 use Rattle.tide_model.specs.declared.entry.Entry.TheVariants.{Begin, End}
 use Rattle.tide_model.specs.declared.entry.Event.{Event}
 use Rattle.tide_model.specs.declared.op.Op.{Op}
@@ -65,22 +65,25 @@ CyclesAreExact =
     (pace : Pace) (layout : Layout) (shapes : ShapeLists) (history : List Event) → IsLegal pace layout shapes history →
     pace.trigger ≡ 0 → Each (FreesTheUnretained layout) history
 
--- where the event begins a cycle, that is a full one
-abbrev pub BeginsFull : List Event → Event → Type 0
-BeginsFull before event = (cycle : ℕ) (full : Bool) → event.entry ≡ Begin cycle full → full ≡ true
+-- where the event begins a cycle whose number is a multiple of four, that is a full one
+abbrev pub FourthBeginsFull : List Event → Event → Type 0
+FourthBeginsFull before event =
+    (cycle : ℕ) (full : Bool) → event.entry ≡ Begin cycle full → cycle % 4 ≡ 0 → full ≡ true
 
--- in every scheduled history each cycle is a full one
-abbrev pub CyclesAreFull : Type 0
-CyclesAreFull =
-    (pace : Pace) (layout : Layout) (history : List Event) → IsScheduled pace layout history → Each BeginsFull history
+-- in every scheduled history each fourth cycle is a full one
+abbrev pub FourthCyclesAreFull : Type 0
+FourthCyclesAreFull =
+    (pace : Pace) (layout : Layout) (history : List Event) → IsScheduled pace layout history →
+    Each FourthBeginsFull history
 
--- where the event ends a cycle, that spares no cell
-abbrev pub SparesNone : Layout → List Event → Event → Type 0
-SparesNone layout before event =
-    (cycle : ℕ) (freed : List ℕ) → event.entry ≡ End cycle freed → (cell : ℕ) → IsSpared layout before cell → ⊥
+-- where the event ends a cycle, it frees no cell that the cycle spares
+abbrev pub FreesNoSpared : Layout → List Event → Event → Type 0
+FreesNoSpared layout before event =
+    (cycle : ℕ) (freed : List ℕ) → event.entry ≡ End cycle freed → (cell : ℕ) → IsSpared layout before cell →
+    is_among freed cell ≡ true → ⊥
 
--- in every legal history no cycle that ends spares a cell
-abbrev pub EndsSpareNone : Type 0
-EndsSpareNone =
-    (pace : Pace) (layout : Layout) (shapes : ShapeLists) (history : List Event) → IsLegal pace layout shapes history →
-    Each (SparesNone layout) history
+-- in every lawful history the end of an Eden cycle frees no old cell
+abbrev pub EdenEndsKeepOld : Type 0
+EdenEndsKeepOld =
+    (layout : Layout) (shapes : ShapeLists) (history : List Event) → IsLawful layout shapes history →
+    Each (FreesNoSpared layout) history

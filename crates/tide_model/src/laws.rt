@@ -4,8 +4,8 @@
 ghost use Rattle.tide_model.specs.Laws.{
   BeginningsAreLawful,
   CyclesAreExact,
-  CyclesAreFull,
-  EndsSpareNone,
+  EdenEndsKeepOld,
+  FourthCyclesAreFull,
   NoCellIsClaimedTwice,
   NoReferenceDangles,
   OldCellsAreLive,
@@ -44,8 +44,12 @@ pub fn cycles_are_exact()
     ensures exact { CyclesAreExact }
 {}
 
-/// Each cycle of a scheduled history is a full one, as yet; so no end of a legal history keeps a cell for its age alone.
-pub fn cycles_are_full()
-    ensures full { CyclesAreFull }
-    ensures spared { EndsSpareNone }
+/// Each fourth cycle of a scheduled history is a full one, which keeps no cell for its age alone.
+pub fn fourth_cycles_are_full()
+    ensures full { FourthCyclesAreFull }
+{}
+
+/// The end of an Eden cycle frees no old cell: none that was live right after the end before it.
+pub fn eden_ends_keep_old_cells()
+    ensures kept { EdenEndsKeepOld }
 {}

@@ -13,7 +13,7 @@ use Rattle.tide_model.specs.Refused.{ShapeLists}
 use Rattle.tide_model.specs.State.{CellState, State, Status, free, is_free, live, spent}
 use Rattle.tide_model.proofs.ReferenceLaws.{put_at_elim}
 use Rattle.tide_layout.specs.declared.region.Region.{Region}
-use Rattle.tide_layout.specs.declared.region.Region.TheVariants.{Active, Array, Call, Claim, Colour, Dead, Elements, Free, GreyMutator, GreyRace, GreyShared, Group, Period, Phase, Registers, Slots, Stopped, Strong, Structure, Swept, Weak}
+use Rattle.tide_layout.specs.declared.region.Region.TheVariants.{Active, Array, Call, Claim, Colour, Dead, Elements, Free, GreyMutator, GreyRace, GreyShared, Group, Period, Phase, Base, Registers, Slots, Stopped, Strong, Structure, Swept, Weak}
 use Rattle.tide_words.specs.heap.Heap.{Heap}
 use Rattle.tide_words.specs.heap.Reading.{AreArraysRead, BitsAreApart, CellReads, IsNamedAmong, IsValueOf, PartsRead, PropertyReads, ReadsAs, TakenReads, array_status, cell_status, element_word, slot_word}
 use Rattle.tide_layout.specs.Region.{block_count}
@@ -34,6 +34,7 @@ pub not_grown : (test : Region → Bool) → test Structure ≡ false → test A
     (region : Region) → test region ≡ true → is_grown_region region ≡ false
 not_grown test no_structure no_array no_elements no_free Period is = refl
 not_grown test no_structure no_array no_elements no_free Phase is = refl
+not_grown test no_structure no_array no_elements no_free Base is = refl
 not_grown test no_structure no_array no_elements no_free Active is = refl
 not_grown test no_structure no_array no_elements no_free Call is = refl
 not_grown test no_structure no_array no_elements no_free Stopped is = refl
