@@ -43,3 +43,4 @@ pub mod SecondGroup
 pub mod EachKind
 pub mod Changing
 pub mod StayingGrey
+pub mod StayingBlack

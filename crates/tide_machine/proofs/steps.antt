@@ -3,6 +3,7 @@ pub mod Lists
 pub mod Registers
 pub mod SlotCells
 pub mod Stacks
+pub mod SameColours
 pub mod Colouring
 pub mod GreyBits
 pub mod CellsOfWords
@@ -37,6 +38,7 @@ pub mod CellCalls
 pub mod Paying
 pub mod Loads
 pub mod Births
+pub mod MarkedLives
 pub mod Rereading
 pub mod OwnState
 pub mod Moments

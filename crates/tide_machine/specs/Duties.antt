@@ -1,28 +1,27 @@
 -- What a view's duty and its growth say of a cell.
 use Rattle.std.specs.Prelude.{ℕ, ◌≡◌, Bool, true, false}
 use Rattle.tide_machine.specs.declared.view.Duty.{Duty}
-use Rattle.tide_machine.specs.declared.view.Duty.TheVariants as duty
 use Rattle.tide_machine.specs.declared.view.Growth.{Growth}
-use Rattle.tide_machine.specs.declared.view.Growth.TheVariants as growth
 use Rattle.tide_machine.specs.declared.view.View.{View}
+use Rattle.tide_layout.specs.declared.region.Region.TheVariants.{Colour}
+use Rattle.tide_words.specs.heap.Heap.{Heap}
+use Rattle.tide_machine.specs.declared.view.Duty.TheVariants as duty
+use Rattle.tide_machine.specs.declared.view.Growth.TheVariants as growth
 
--- no barrier and no push is owed
-abbrev pub IsCalm : Duty → Type 0
-IsCalm duty.Nothing = Unit {0}
-IsCalm (duty.Born cell) = Unit {0}
-IsCalm (duty.Barrier cell) = ⊥
-IsCalm (duty.Regrey cell word) = ⊥
-IsCalm (duty.Push cell) = ⊥
-IsCalm (duty.PushRace cell) = ⊥
+-- the barrier on the cell is owed, and the cell's colour isn't loaded yet
+abbrev pub AwaitsLoad : Duty → ℕ → Type 0
+AwaitsLoad (duty.Barrier c) cell = c ≡ cell
+AwaitsLoad _ cell = ⊥
 
--- the barrier on the cell is owed
-abbrev pub OwesBarrier : Duty → ℕ → Type 0
-OwesBarrier (duty.Barrier c) cell = c ≡ cell
-OwesBarrier (duty.Regrey c word) cell = c ≡ cell
-OwesBarrier duty.Nothing cell = ⊥
-OwesBarrier (duty.Push c) cell = ⊥
-OwesBarrier (duty.Born c) cell = ⊥
-OwesBarrier (duty.PushRace c) cell = ⊥
+-- the barrier on the cell is owed and will make it grey: its colour isn't loaded yet, or its word is still the one that was
+-- loaded
+abbrev pub StillOwes : Heap → Duty → ℕ → Type 0
+StillOwes heap (duty.Barrier c) cell = c ≡ cell
+StillOwes heap (duty.Regrey c word) cell = (c ≡ cell) × (heap Colour cell ≡ word)
+StillOwes heap duty.Nothing cell = ⊥
+StillOwes heap (duty.Push c) cell = ⊥
+StillOwes heap (duty.Born c) cell = ⊥
+StillOwes heap (duty.PushRace c) cell = ⊥
 
 -- the colour of the cell, which was just taken, is owed
 abbrev pub OwesColour : Duty → ℕ → Type 0
@@ -46,7 +45,7 @@ is_growing (growth.Stored cell array old new) = true
 -- the view grows the cell's array, and owes the barrier on the cell
 pub record GrowsAndOwes (v : View) (cell : ℕ) : Type 0 where
   pub grows : GrowsOn v.growth cell
-  pub owes : OwesBarrier v.duty cell
+  pub owes : AwaitsLoad v.duty cell
 
 -- the structure is nuked, in a growth
 abbrev pub nuked_growth : Growth → Growth

@@ -1,11 +1,8 @@
 -- The machine while the heap is frozen: nobody runs, and the collector alone makes entries.
 use Rattle.std.specs.Prelude.{ℕ, ◌≡◌, ◌+◌, ◌≤◌, ◌<◌, ◌%◌, ◌^◌, true, false, List, [], None}
-use Rattle.tide_core.specs.FrozenWave.{call_count, MarkedIsRetained, BornIsMarked, blackened_count}
+use Rattle.tide_core.specs.FrozenWave.{call_count, MarkedIsRetained, BornIsMarked, OldIsMarked, blackened_count}
 use Rattle.tide_cycle.specs.GreyWords.{IsShared}
-use Rattle.tide_layout.specs.declared.region.Region.TheVariants as region
 use Rattle.tide_machine.specs.World.{World}
-use Rattle.tide_machine.specs.declared.view.Duty.TheVariants as duty
-use Rattle.tide_machine.specs.declared.view.Growth.TheVariants as growth
 use Rattle.tide_machine.specs.declared.view.Role.TheVariants.{Member}
 use Rattle.tide_machine.specs.declared.view.View.{View}
 use Rattle.tide_machine.specs.points.Marks.{SpanIsLive}
@@ -16,7 +13,6 @@ use Rattle.tide_model.specs.Cycle.{begin_count}
 use Rattle.tide_model.specs.History.{state_after, is_begin}
 use Rattle.tide_model.specs.Lawful.{IsLawful}
 use Rattle.tide_model.specs.Layout.{Layout, cell_count}
-use Rattle.tide_model.specs.Old.{is_full}
 use Rattle.tide_model.specs.Periods.{open_count}
 use Rattle.tide_model.specs.Refused.{ShapeLists}
 use Rattle.tide_model.specs.Since.{visits_since}
@@ -25,6 +21,9 @@ use Rattle.tide_words.specs.heap.EmptyHeap.{empty_heap}
 use Rattle.tide_words.specs.heap.Heap.{Heap}
 use Rattle.tide_words.specs.marking.Colours.{is_marking, running_cycle}
 use Rattle.tide_words.specs.marking.Marking.{Marking}
+use Rattle.tide_layout.specs.declared.region.Region.TheVariants as region
+use Rattle.tide_machine.specs.declared.view.Duty.TheVariants as duty
+use Rattle.tide_machine.specs.declared.view.Growth.TheVariants as growth
 
 -- The wave at a freeze in which visits are told by notes alone so far: it is `FrozenWave` but that so many cells more
 -- may be black than the entries say. What stood in the cycle is live, and the history is lawful. Nothing is dead in a
@@ -37,7 +36,7 @@ pub record FrozenWith (layout : Layout) (shapes : ShapeLists) (heap : Heap) (his
   pub cycle : running_cycle heap ≡ begin_count history
   pub period : heap region.Period 0 ≡ open_count history
   pub calls : (who : ℕ) → who < layout.mutators → heap region.Call who ≡ call_count who history % 2 ^ 64
-  pub full : is_marking heap ≡ true → is_full history ≡ true
+  pub old : OldIsMarked layout heap history
   pub retained : is_marking heap ≡ true → MarkedIsRetained layout heap history
   pub born : is_marking heap ≡ true → BornIsMarked layout heap history
   pub counted : is_marking heap ≡ true → blackened_count layout heap history ≤ visits_since is_begin history + unentered
@@ -78,6 +77,7 @@ newcomer p = record {
   run = 0;
   marks = false;
   cycle = 0;
+  least = 0;
   earlier = [];
   told = [];
   runs = false;

@@ -24,7 +24,7 @@ abbrev pub is_of_second_group : Kind → Bool
 is_of_second_group (LoadLink cell slot made) = true
 is_of_second_group (StoreLink cell slot word made) = true
 is_of_second_group (LoadColour cell) = true
-is_of_second_group (Regrey cell cycle) = true
+is_of_second_group (Regrey cell word cycle) = true
 is_of_second_group (PushBit cell) = true
 is_of_second_group (LoadFree block made) = true
 is_of_second_group (TakeFree block k made) = true

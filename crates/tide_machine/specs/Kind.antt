@@ -3,7 +3,6 @@ use Rattle.std.specs.Prelude.{ℕ, ◌+◌, ◌-◌, Bool, List, ◌==◌, nat_l
 use Rattle.tide_layout.specs.Region.{index_of_register}
 use Rattle.tide_layout.specs.Slots.{index_of_slot, index_of_element}
 use Rattle.tide_layout.specs.declared.region.Region.{Region}
-use Rattle.tide_layout.specs.declared.region.Region.TheVariants as region
 use Rattle.tide_machine.specs.Words.{all_but, bit_of}
 use Rattle.tide_machine.specs.World.{first_visitor}
 use Rattle.tide_machine.specs.declared.act.Act.{Act}
@@ -14,9 +13,11 @@ use Rattle.tide_model.specs.declared.op.Op.{Op}
 use Rattle.tide_words.specs.declared.forms.colours.Colour.TheVariants.{Black, Grey}
 use Rattle.tide_words.specs.forms.ColourWord.{colour_word}
 use Rattle.tide_words.specs.forms.Reference.{array_word, claim_word}
+use Rattle.tide_layout.specs.declared.region.Region.TheVariants as region
 
 -- What a participant knows of the open part with a ticket: the history, as far as it knew it or the ticket told, what the
--- ticket told of it, the part's number and how many calls each mutator has in it, and whether a cycle marks, and which.
+-- ticket told of it, the part's number and how many calls each mutator has in it, whether a cycle marks, and which, and from
+-- which cycle on colours count.
 pub record Ticket : Type 0 where
   pub seen : List Event
   pub told : List Event
@@ -24,6 +25,7 @@ pub record Ticket : Type 0 where
   pub run : ℕ
   pub marks : Bool
   pub cycle : ℕ
+  pub base : ℕ
 
 -- A kind of step, with the place that it is on. Where it may make a call, it has the call's operation: the call is made
 -- if the word that the step finds answers it.
@@ -47,7 +49,7 @@ pub data Kind : Type 0 where
   LoadLink : ℕ → ℕ → Option Op → Kind
   StoreLink : ℕ → ℕ → ℕ → Option Op → Kind
   LoadColour : ℕ → Kind
-  Regrey : ℕ → ℕ → Kind
+  Regrey : ℕ → ℕ → ℕ → Kind
   PushBit : ℕ → Kind
   LoadFree : ℕ → Option Op → Kind
   TakeFree : ℕ → ℕ → Option Op → Kind
@@ -106,7 +108,7 @@ region_of (StoreWeak handle word made) = region.Weak
 region_of (LoadLink cell slot made) = region.Slots
 region_of (StoreLink cell slot word made) = region.Slots
 region_of (LoadColour cell) = region.Colour
-region_of (Regrey cell cycle) = region.Colour
+region_of (Regrey cell word cycle) = region.Colour
 region_of (PushBit cell) = region.GreyMutator
 region_of (LoadFree block made) = region.Free
 region_of (TakeFree block k made) = region.Free
@@ -166,7 +168,7 @@ index_of layout who (StoreWeak handle word made) = handle
 index_of layout who (LoadLink cell slot made) = index_of_slot layout cell slot
 index_of layout who (StoreLink cell slot word made) = index_of_slot layout cell slot
 index_of layout who (LoadColour cell) = cell
-index_of layout who (Regrey cell cycle) = cell
+index_of layout who (Regrey cell word cycle) = cell
 index_of layout who (PushBit cell) = block_of_cell cell
 index_of layout who (LoadFree block made) = block
 index_of layout who (TakeFree block k made) = block
@@ -221,7 +223,7 @@ act_of (StoreWeak handle word made) = Store word
 act_of (LoadLink cell slot made) = Load
 act_of (StoreLink cell slot word made) = Store word
 act_of (LoadColour cell) = Load
-act_of (Regrey cell cycle) = Exchange (colour_word cycle Black) (colour_word cycle Grey)
+act_of (Regrey cell word cycle) = Exchange word (colour_word cycle Grey)
 act_of (PushBit cell) = Or (bit_of cell)
 act_of (LoadFree block made) = Load
 act_of (TakeFree block k made) = And (all_but k)

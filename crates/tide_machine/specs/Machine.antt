@@ -85,7 +85,7 @@ IsAllowed layout shapes w me (LoadLink cell slot made) =
     MayLoadLink layout shapes w me cell slot (found layout w me (LoadLink cell slot made)) made
 IsAllowed layout shapes w me (StoreLink cell slot word made) = MayStoreLink layout shapes w me cell slot word made
 IsAllowed layout shapes w me (LoadColour cell) = MayLoadColour layout w me cell
-IsAllowed layout shapes w me (Regrey cell cycle) = MayRegrey layout w me cell cycle
+IsAllowed layout shapes w me (Regrey cell word cycle) = MayRegrey layout w me cell word cycle
 IsAllowed layout shapes w me (PushBit cell) = MayPushBit layout w me cell
 IsAllowed layout shapes w me (LoadFree block made) =
     MayLoadFree layout shapes w me block (found layout w me (LoadFree block made)) made

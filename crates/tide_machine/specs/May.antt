@@ -1,11 +1,9 @@
 -- What the conditions of several kinds of step have in common.
-use Rattle.std.specs.Prelude.{◌&&◌, if◌then◌else◌, ℕ, ◌≡◌, ◌<◌, ◌≤◌, ◌+◌, Bool, true, List, [], length, Option, None}
+use Rattle.std.specs.Prelude.{if◌then◌else◌, ℕ, ◌≡◌, ◌<◌, ◌≤◌, ◌+◌, true, List, [], length, Option, None}
 use Rattle.tide_machine.specs.Entries.{call_of}
 use Rattle.tide_machine.specs.Words.{is_cell_word}
 use Rattle.tide_machine.specs.World.{World, first_visitor}
 use Rattle.tide_machine.specs.declared.view.Duty.{Duty}
-use Rattle.tide_machine.specs.declared.view.Duty.TheVariants as duty
-use Rattle.tide_machine.specs.declared.view.Growth.TheVariants as growth
 use Rattle.tide_machine.specs.declared.view.Owed.{Owed}
 use Rattle.tide_machine.specs.declared.view.View.{View}
 use Rattle.tide_model.specs.Lawful.{Stands}
@@ -13,6 +11,8 @@ use Rattle.tide_model.specs.Layout.{Layout}
 use Rattle.tide_model.specs.Refused.{ShapeLists}
 use Rattle.tide_model.specs.declared.op.Op.{Op}
 use Rattle.tide_model.specs.declared.op.Reply.{Reply}
+use Rattle.tide_machine.specs.declared.view.Duty.TheVariants as duty
+use Rattle.tide_machine.specs.declared.view.Growth.TheVariants as growth
 
 -- the participant is a mutator of the layout in its running part
 pub record RunsAsMutator (layout : Layout) (w : World) (me : ℕ) : Type 0 where
@@ -53,6 +53,6 @@ pub record Rests (v : View) : Type 0 where
 abbrev pub called : List Owed → View → View
 called owed v = record v { owed = owed; known = []; full = [] }
 
--- the barrier that is owed after a store of a word in a cell, where a cycle marks and the word is a reference
-abbrev pub barrier_for : Bool → ℕ → ℕ → Duty
-barrier_for marks cell word = if marks && is_cell_word word then duty.Barrier cell else duty.Nothing
+-- the barrier that is owed after a store of a word in a cell, where the word is a reference, whether a cycle marks or not
+abbrev pub barrier_for : ℕ → ℕ → Duty
+barrier_for cell word = if is_cell_word word then duty.Barrier cell else duty.Nothing

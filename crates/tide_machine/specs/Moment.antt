@@ -1,4 +1,5 @@
 -- What a step tells of the machine at its moment.
+use Rattle.tide_words.specs.marking.Marked.{base_cycle}
 use Rattle.std.specs.Prelude.{ℕ, ◌≡◌, ◌+◌, ◌<◌, ◌≤◌, ◌%◌, ◌^◌, true, false, not, List, [], length, take, filter, Contains, ◌⊎◌, None, Some, if◌then◌else◌}
 use Rattle.tide_layout.specs.Region.{block_count}
 use Rattle.tide_layout.specs.declared.region.Region.{Region}
@@ -36,16 +37,16 @@ use Rattle.tide_words.specs.marking.Colours.{is_marking, is_grey, running_cycle,
 use Rattle.tide_words.specs.marking.Marking.{bits_of}
 
 -- What these words, as they stood, say of a view, and of the cells and arrays that it works with. The view has the
--- phase and the part from its ticket, its call word tells its calls, and its Stopped word its last stop. What it holds,
+-- phase, the base and the part from its ticket, its call word tells its calls, and its Stopped word its last stop. What it holds,
 -- scans or has read is live; a grey cell has one holder, and where no cycle marks the view has none at hand. Its scan's
 -- readings are right; and arrays say what the words of their cells tell.
 pub record WorksOn (layout : Layout) (v : View) (words : Heap) (state : State) : Type 0 where
-  pub phase : v.runs ≡ true → (v.marks ≡ is_marking words) × (v.cycle ≡ running_cycle words)
+  pub phase : v.runs ≡ true → (v.marks ≡ is_marking words) × (v.cycle ≡ running_cycle words) × (v.least ≡ base_cycle words)
   pub part : v.runs ≡ true → words region.Period 0 ≡ v.begun
   pub calls : v.who < layout.mutators → words region.Call v.who ≡ v.calls % 2 ^ 64
   pub stop : IsParty layout v.who → words region.Stopped (index_of_stopped layout v.who) ≡ v.stopped
   pub hands : (cell : ℕ) → IsAtHand v cell → IsLive state cell
-  pub greys : v.who < parties → is_marking words ≡ true → (cell : ℕ) → cell < cell_count layout →
+  pub greys : v.who < parties → (cell : ℕ) → cell < cell_count layout →
       bits_of words cell + holds cell v ≤ (if is_grey words cell then 1 else 0)
   pub idle : is_marking words ≡ false → (v.held ≡ []) × (v.scan ≡ None)
   pub scan : (scan : Scan) → v.scan ≡ Some scan → ScanKnows layout words state scan

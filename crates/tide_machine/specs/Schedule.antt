@@ -24,15 +24,15 @@ pub data Mode : Type 0 where
   running : Mode
   frozen : ℕ → Mode
 
--- What the collector may do with a frozen heap: it enters the visits of a note, begins a cycle, pauses and ends one,
--- and sweeps. What becomes of the words are the clauses of the calls that do it.
+-- What the collector may do with a frozen heap: it enters the visits of a note, begins a cycle, a full one or not, pauses
+-- while one marks, ends it, and sweeps. What becomes of the words are the clauses of the calls that do it.
 pub data Enters (layout : Layout) (shapes : ShapeLists) (old : Heap) (history : List Event) : ℕ → Heap → List Event →
     ℕ → Type 0 where
   visits : (who visits left : ℕ) →
       Enters layout shapes old history (visits + left) old (history ++ plain (Visits who visits) ∷ []) left
-  begins : (new : Heap) → is_marking old ≡ false → IsSwept layout history → HasBegun layout old new →
-      Enters layout shapes old history 0 new (with_begin history) 0
-  pauses : (new : Heap) (visits : ℕ) → HasPaused layout old new visits →
+  begins : (full : Bool) (new : Heap) → is_marking old ≡ false → IsSwept layout history → HasBegun layout full old new →
+      Enters layout shapes old history 0 new (with_begin history full) 0
+  pauses : (new : Heap) (visits : ℕ) → is_marking old ≡ true → HasPaused layout old new visits →
       Enters layout shapes old history 0 new (history ++ plain (Pause visits) ∷ []) 0
   ends : (new : Heap) → is_marking old ≡ true → HasConverged layout old (state_after layout history) →
       HasEnded layout old new → Enters layout shapes old history 0 new (with_end layout old history) 0

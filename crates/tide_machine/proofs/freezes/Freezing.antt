@@ -1,13 +1,12 @@
 -- The empty heap meets the wave at a freeze; a freeze leads to it, and an opening from it.
-use Rattle.std.proofs.Common.{ℕ, zero, suc, ◌≡◌, refl, sym, ◌∙◌, ap, subst, arith, true, false, List, [], inl, inr, length, Option}
+use Rattle.std.proofs.Common.{ℕ, zero, suc, ◌≡◌, refl, sym, ◌∙◌, ap, subst, arith, false, List, [], inl, inr, length, Option}
 use Rattle.std.proofs.lemmas.Bool.{cases_Bool}
 use Rattle.std.proofs.lemmas.List.Sums.{length-filter}
 use Rattle.std.specs.Prelude.{Contains, ◌%◌, ◌^◌}
 use Rattle.tide_layout.specs.Slots.{total_below}
 use Rattle.tide_layout.specs.declared.region.Region.{Region}
 use Rattle.tide_layout.specs.declared.region.Region.TheVariants.{Period}
-use Rattle.tide_layout.specs.declared.region.Region.TheVariants as region
-use Rattle.tide_machine.specs.Duties.{OwesBarrier, OwesColour}
+use Rattle.tide_machine.specs.Duties.{OwesColour, StillOwes}
 use Rattle.tide_machine.specs.Frozen.{FrozenWith, FrozenMachine, first_world}
 use Rattle.tide_machine.proofs.steps.Lists.{nothing_in}
 use Rattle.tide_machine.specs.Owed.{Owes, Unsettles, owed_word, unsettled}
@@ -15,29 +14,29 @@ use Rattle.tide_machine.specs.RunningWave.{RunningWave}
 use Rattle.tide_machine.specs.Scanning.{Place, slot, property}
 use Rattle.tide_machine.specs.World.{World, total, holds, parties, pushes}
 use Rattle.tide_machine.specs.declared.view.Duty.{Duty}
-use Rattle.tide_machine.specs.declared.view.Duty.TheVariants as duty
 use Rattle.tide_machine.specs.declared.view.Owed.{Owed}
 use Rattle.tide_machine.specs.declared.view.Sweeping.{Sweeping}
 use Rattle.tide_machine.specs.points.Links.{LinkAt, ScanExcuses, IsExcused}
-use Rattle.tide_machine.specs.points.Marks.{SpanIsLive, counted_in}
+use Rattle.tide_machine.specs.points.Marks.{counted_in}
 use Rattle.tide_machine.specs.kinds.Sweep.{IsSweeping}
 use Rattle.tide_model.proofs.Histories.{IsLawful-nil}
-use Rattle.tide_model.specs.Cycle.{cycle_span, HasDead, dead_cell, dead_array}
-use Rattle.tide_model.specs.Graph.{IsRetained, retained_in_closed, no_cell, in_slot, in_property}
+use Rattle.tide_model.specs.Cycle.{HasDead, dead_cell, dead_array}
+use Rattle.tide_model.specs.Graph.{in_slot, in_property}
 use Rattle.tide_model.specs.History.{is_call_of, is_open, state_after}
 use Rattle.tide_model.specs.Layout.{Layout}
 use Rattle.tide_model.specs.Prefix.{prefix_refl}
-use Rattle.tide_model.specs.References.{IsLive}
 use Rattle.tide_model.specs.Refused.{ShapeLists}
 use Rattle.tide_model.specs.Since.{TakenAreSwept, since}
 use Rattle.tide_model.specs.State.{empty_state}
 use Rattle.tide_model.specs.declared.entry.Event.{Event}
 use Rattle.tide_words.proofs.heap_laws.Frames.{ReadsAs-same}
 use Rattle.tide_words.proofs.marking_laws.EmptyMarking.{Marking-empty}
-use Rattle.tide_words.specs.heap.Heap.{Heap}
-use Rattle.tide_words.specs.marking.Colours.{is_marking, IsBlack, IsMarked}
+use Rattle.tide_words.specs.marking.Colours.{IsBlack, IsMarked}
+use Rattle.tide_machine.proofs.steps.MarkedLives.{marked_is_live}
 use Rattle.tide_words.specs.marking.Marked.{is_marked}
 use Rattle.tide_words.specs.marking.Marking.{times_in}
+use Rattle.tide_layout.specs.declared.region.Region.TheVariants as region
+use Rattle.tide_machine.specs.declared.view.Duty.TheVariants as duty
 
 -- before anything happened the machine is frozen, and the wave holds
 pub FrozenMachine-first : (layout : Layout) (shapes : ShapeLists) → FrozenMachine layout shapes first_world 0
@@ -55,7 +54,12 @@ FrozenMachine-first layout shapes = record {
     cycle = omega arith;
     period = refl;
     calls = λ who within. refl;
-    full = λ marks. absurd (cc);
+    old = record {
+      old = λ when cell within is. absurd (cc);
+      rests = λ idle cell within is. absurd (cc);
+      counts = λ marks. absurd (cc);
+      soon = omega arith;
+    };
     retained = λ marks. absurd (cc);
     born = λ marks. absurd (cc);
     counted = λ marks. absurd (cc);
@@ -91,19 +95,6 @@ pub total_none : (f : ℕ → ℕ) (n : ℕ) → ((k : ℕ) → f k ≡ 0) → t
 total_none f zero none = refl
 total_none f (suc n) none = (let before = total_none f n none in let last = none n in omega (arith, before, last))
 
--- what is retained while a cycle marks is live
-pub retained_is_live : (layout : Layout) (heap : Heap) (log : List Event) → SpanIsLive layout heap log →
-    is_marking heap ≡ true → (cell : ℕ) → IsRetained (cycle_span layout log) no_cell cell →
-    IsLive (state_after layout log) cell
-retained_is_live layout heap log span marks =
-    retained_in_closed (cycle_span layout log) no_cell (IsLive (state_after layout log)) record {
-      roots = span.roots marks;
-      further_cells = λ cell none. absurd none;
-      links = λ source cell alive link. (span.links marks source cell link).1;
-      pairs = λ table key cell one other triple. span.triples marks table key cell triple;
-      twins = λ one other alive twin. (span.twins marks one other twin).1;
-    }
-
 module _ (layout : Layout) (shapes : ShapeLists) (w : World) (wave : RunningWave layout shapes w) (parked : (p : ℕ) →
     (w.part p).runs ≡ false) where
   no_duty : (p : ℕ) → (w.part p).duty ≡ duty.Nothing
@@ -136,15 +127,15 @@ module _ (layout : Layout) (shapes : ShapeLists) (w : World) (wave : RunningWave
 
   nobody_excuses : (source : ℕ) (place : Place) (cell : ℕ) → IsExcused w.heap w.part source place cell → ⊥
   nobody_excuses source place cell ex = elim ex.excuse [
-    | inl owes ↦ subst (λ (d : Duty). OwesBarrier d source) (no_duty ex.by) owes
+    | inl owes ↦ subst (λ (d : Duty). StillOwes w.heap d source) (no_duty ex.by) owes
     | inr answers ↦ subst (ScanExcuses w.heap source place cell) (wave.parked.scan ex.by (parked ex.by)) answers
   ]
 
-  linked : (source cell : ℕ) → is_marking w.heap ≡ true → IsBlack w.heap source → (place : Place) →
+  linked : (source cell : ℕ) → IsBlack w.heap source → (place : Place) →
       LinkAt (state_after layout w.log) source place cell → IsMarked w.heap cell
-  linked source cell marks black place link = elim (cases_Bool (is_marked w.heap cell)) [
+  linked source cell black place link = elim (cases_Bool (is_marked w.heap cell)) [
     | inl is ↦ is
-    | inr isnt ↦ absurd (nobody_excuses source place cell (wave.black.excused marks source place cell link black isnt))
+    | inr isnt ↦ absurd (nobody_excuses source place cell (wave.black.excused source place cell link black isnt))
   ]
 
   pub FrozenWith-running : FrozenWith layout shapes w.heap w.log (total (counted_in (w.heap region.Period 0)) w.part)
@@ -161,24 +152,23 @@ module _ (layout : Layout) (shapes : ShapeLists) (w : World) (wave : RunningWave
       references = wave.refs;
       few_cycles = wave.few_cycles;
       colours = wave.colours;
+      counts = wave.old.counts;
+      soon = wave.old.soon;
       held = record {
-        each_once = λ marks cell within.
-            let once = wave.held.held marks cell within in
+        each_once = λ cell within.
+            let once = wave.held.held cell within in
             let none = total_none (λ p. holds cell (w.part p)) parties (holds_none cell) in
             let empty : times_in [] cell ≡ 0 = refl in
             omega (arith, once, none, empty);
         of_layout = λ cell at. absurd (let below = at.1 in omega (arith, below));
-        no_words = wave.rests.words;
-        no_cells = λ idle. refl;
       };
-      black = λ marks source cell black link. elim link [
-        | in_slot n alive is ↦ linked source cell marks black (slot n) (alive, is)
-        | in_property n alive below is ↦ linked source cell marks black (property n) (alive, below, is)
+      black = λ source cell black link. elim link [
+        | in_slot n alive is ↦ linked source cell black (slot n) (alive, is)
+        | in_property n alive below is ↦ linked source cell black (property n) (alive, below, is)
       ];
-      live = λ marks cell within is. retained_is_live layout w.heap w.log wave.span marks cell
-          (wave.retained.marked marks cell within is);
+      live = marked_is_live layout shapes w wave;
     };
-    full = wave.full;
+    old = wave.old;
     retained = wave.retained.marked;
     span = wave.span;
     born = λ marks cell within since. elim (wave.born.born marks cell within since) [

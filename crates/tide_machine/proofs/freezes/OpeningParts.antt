@@ -3,19 +3,16 @@ use Rattle.std.proofs.Common.{ℕ, ◌≡◌, ◌+◌, ◌≤◌, refl, sym, ◌
 use Rattle.std.proofs.lemmas.List.Elements.{filter-append}
 use Rattle.std.proofs.lemmas.List.Sums.{length-filter}
 use Rattle.std.specs.Prelude.{Contains, filter, if◌then◌else◌, ◌&&◌, ◌<◌, not, ◌%◌, ◌^◌}
-use Rattle.tide_core.proofs.PointLaws.{retained-push}
 use Rattle.tide_core.specs.Entered.{with_open}
-use Rattle.tide_core.specs.FrozenWave.{is_born_in_cycle}
+use Rattle.tide_core.specs.FrozenWave.{is_born_in_cycle, is_of_visit}
 use Rattle.tide_cycle.specs.GreyWords.{IsShared}
-use Rattle.tide_layout.specs.declared.region.Region.TheVariants as region
 use Rattle.tide_machine.proofs.freezes.Freezing.{total_none}
 use Rattle.tide_machine.proofs.steps.ArraysKept.{arrays_read}
 use Rattle.tide_machine.proofs.steps.BareTables.{TablesAreBare-lawful}
 use Rattle.tide_machine.proofs.steps.Colouring.{count_where-le}
-use Rattle.tide_machine.proofs.steps.Growing
 use Rattle.tide_machine.proofs.steps.Lists.{nothing_in}
 use Rattle.tide_machine.proofs.steps.SweepsKept.{swept_kept, told_kept}
-use Rattle.tide_machine.specs.Duties.{OwesColour, IsCalm}
+use Rattle.tide_machine.specs.Duties.{OwesColour}
 use Rattle.tide_machine.specs.Frozen.{FrozenMachine, FrozenWith, MayOpen}
 use Rattle.tide_machine.specs.Owed.{owed_word}
 use Rattle.tide_machine.specs.RunningWave.{RunningWave}
@@ -33,11 +30,12 @@ use Rattle.tide_machine.specs.points.Seen.{IsKnown, WhoLeftIsInactive, ParkedIsE
 use Rattle.tide_machine.specs.points.Stops.{StopsAreTold}
 use Rattle.tide_machine.specs.points.Sweeps.{Sweeps}
 use Rattle.tide_machine.specs.points.Witness.{IsLeft, in_word}
-use Rattle.tide_model.proofs.OldLaws.{is_full-kept}
+use Rattle.tide_model.proofs.OldLaws.{is_full-push, is_old-push, is_spared-push, spared_retained-push}
 use Rattle.tide_model.proofs.Cycles.{graph_in_span}
 use Rattle.tide_model.proofs.DeadLaws.{WasTaken-before, WasTaken-push}
 use Rattle.tide_model.proofs.Histories.{IsLawful-push, state_after-push, moment_after_last-le}
 use Rattle.tide_model.proofs.SinceLaws.{count-push, since-none}
+use Rattle.tide_model.specs.Old.{is_full, is_old, is_spared}
 use Rattle.tide_model.specs.Cycle.{cycle_span, HasDead}
 use Rattle.tide_model.specs.Graph.{IsLink, in_slot, in_property, IsRoot, IsTriple, AreTwins, IsWithin, graph_of}
 use Rattle.tide_model.specs.History.{is_open, plain, state_after, is_begin, is_call_of, moment_after_last}
@@ -56,6 +54,8 @@ use Rattle.tide_words.specs.heap.Heap.{Heap, write}
 use Rattle.tide_words.specs.heap.Reading.{ReadsAs}
 use Rattle.tide_words.specs.marking.Colours.{is_black, is_grey, is_marking}
 use Rattle.tide_words.specs.marking.Marking.{times_in}
+use Rattle.tide_layout.specs.declared.region.Region.TheVariants as region
+use Rattle.tide_machine.proofs.steps.Growing
 
 module _ (layout : Layout) (shapes : ShapeLists) (heap : Heap) (part : ℕ → View) (before : List Event) (run : ℕ)
     (wave : FrozenWith layout shapes heap before 0) (known : IsKnown before part) (empty : ParkedIsEmpty part)
@@ -102,8 +102,14 @@ module _ (layout : Layout) (shapes : ShapeLists) (heap : Heap) (part : ℕ → V
     where
       by : (b : Bool) → is_grey heap cell ≡ b → b ≡ true
       by true is = refl
-      by false isnt = (let once = wave.marking.held.each_once marks cell within in
+      by false isnt = (let once = wave.marking.held.each_once cell within in
           let none = ap {B = ℕ} (λ (b : Bool). if b then 1 else 0) isnt in absurd (omega (arith, once, none, shared)))
+
+  old_same : (cell : ℕ) → is_old layout log cell ≡ is_old layout before cell
+  old_same = is_old-push layout before (plain (Open number run)) refl
+
+  full_same : is_full log ≡ is_full before
+  full_same = is_full-push layout before (plain (Open number run)) refl refl
 
   born_same : (cell : ℕ) → is_born_in_cycle log cell ≡ is_born_in_cycle before cell
   born_same = Growing.born-same layout before (plain (Open number run)) refl (λ cell. refl)
@@ -163,28 +169,30 @@ module _ (layout : Layout) (shapes : ShapeLists) (heap : Heap) (part : ℕ → V
           (empty.full p (parked p)) is);
     };
     held = record {
-      held = λ marks cell within.
-          let once = wave.marking.held.each_once marks cell within in
+      held = λ cell within.
+          let once = wave.marking.held.each_once cell within in
           let none = total_none (λ p. holds cell (part p)) parties (λ p. holds_none cell p) in
           let no_list : times_in [] cell ≡ 0 = refl in
           omega (arith, once, none, no_list);
     };
     rests = record {
-      words = λ idle block within. (let n = wave.marking.held.no_words idle block within in
-          record { shared = n.shared; mutator = n.mutator; race = n.race });
       held = λ idle p. empty.held p (parked p);
       scans = λ idle p. empty.scan p (parked p);
-      duties = λ idle p. subst IsCalm (sym (empty.duty p (parked p))) tt;
     };
     black = record {
-      excused = λ marks source place cell link black white.
-          (let is = wave.marking.black marks source cell black
+      excused = λ source place cell link black white.
+          (let is = wave.marking.black source cell black
           (linked source cell place (subst (λ (t : State). LinkAt t source place cell) same_state link)) in
           absurd (cc));
     };
-    full = λ marks. is_full-kept before (plain (Open number run)) refl ∙ wave.full marks;
+    old = record {
+      old = λ when cell within is. wave.old.old (λ marks. sym full_same ∙ when marks) cell within (sym (old_same cell) ∙ is);
+      rests = λ idle cell within is. old_same cell ∙ wave.old.rests idle cell within is;
+      counts = wave.old.counts;
+      soon = wave.old.soon;
+    };
     retained = record {
-      marked = λ marks cell within is. retained-push layout before (plain (Open number run)) refl cell
+      marked = λ marks cell within is. spared_retained-push layout before (plain (Open number run)) refl refl cell
           (wave.retained marks cell within is);
       scanned = λ p scan is. no_scan p scan is;
       buffered = λ p cell scan is. no_scan p scan is;
@@ -220,6 +228,7 @@ module _ (layout : Layout) (shapes : ShapeLists) (heap : Heap) (part : ℕ → V
       born = λ marks cell within is. inl (wave.born marks cell within (sym (born_same cell) ∙ is));
       owed = λ marks p cell owes. absurd (subst (λ (d : Duty). OwesColour d cell) (empty.duty p (parked p)) owes);
       alive = λ p cell owes. absurd (subst (λ (d : Duty). OwesColour d cell) (empty.duty p (parked p)) owes);
+      white = λ p cell owes. absurd (subst (λ (d : Duty). OwesColour d cell) (empty.duty p (parked p)) owes);
       owner = λ cell. 0;
       once = λ p cell owes. absurd (subst (λ (d : Duty). OwesColour d cell) (empty.duty p (parked p)) owes);
     };
@@ -227,9 +236,11 @@ module _ (layout : Layout) (shapes : ShapeLists) (heap : Heap) (part : ℕ → V
       counted = λ marks.
           let was = wave.counted marks in
           let same = entered_same in
-          let few = count_where-le (λ c. is_black heap c && not (is_born_in_cycle log c)) (λ c.
-          is_black heap c && not (is_born_in_cycle before c)) (cell_count layout)
-          (λ c both. subst (λ (b : Bool). (is_black heap c && not b) ≡ true) (born_same c) both) in
+          let few = count_where-le (λ c. is_black heap c && is_of_visit layout log c) (λ c.
+          is_black heap c && is_of_visit layout before c) (cell_count layout)
+          (λ c both. subst (λ (b : Bool). (is_black heap c && (not b && not (is_spared layout before c))) ≡ true) (born_same c)
+          (subst (λ (b : Bool). (is_black heap c && (not (is_born_in_cycle log c) && not b)) ≡ true)
+          (is_spared-push layout before (plain (Open number run)) refl refl c) both)) in
           omega (arith, was, same, few);
     };
     waits = λ marks visitors none. for_first marks visitors (may marks visitors).1;

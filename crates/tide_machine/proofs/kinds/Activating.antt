@@ -1,9 +1,8 @@
 -- A participant that holds a ticket of the open part begins.
 use Rattle.std.proofs.Common.{ℕ, ◌⊎◌, ◌≡◌, ◌<◌, ◌≤◌, refl, sym, ◌∙◌, ap, subst, arith, Bool, true, false, [], inl, inr, Some}
-use Rattle.std.proofs.lemmas.Bool.{cases_Bool, cases_eq, eq-eqb, eqb-true}
+use Rattle.std.proofs.lemmas.Bool.{cases_eq, eq-eqb}
 use Rattle.std.specs.Prelude.{Contains, if◌then◌else◌}
 use Rattle.tide_layout.specs.declared.region.Region.{Region}
-use Rattle.tide_layout.specs.declared.region.Region.TheVariants as region
 use Rattle.tide_machine.proofs.steps.Frames.{calls_view, stops_view, each_put}
 use Rattle.tide_machine.proofs.steps.Lists.{nothing_in}
 use Rattle.tide_machine.proofs.steps.Steps.{any_step}
@@ -28,11 +27,13 @@ use Rattle.tide_model.specs.Layout.{Layout, block_of_cell}
 use Rattle.tide_model.specs.Numbers.{put_at}
 use Rattle.tide_model.specs.Refused.{ShapeLists}
 use Rattle.tide_words.specs.marking.Colours.{is_marking, running_cycle}
+use Rattle.tide_words.specs.marking.Marked.{base_cycle}
+use Rattle.tide_layout.specs.declared.region.Region.TheVariants as region
 
 module _ (layout : Layout) (shapes : ShapeLists) (w : World) (me : ℕ) (inside : me < parties)
     (wave : RunningWave layout shapes w) (parked : (w.part me).runs ≡ false)
     (of_part : (w.part me).ticket ≡ w.heap region.Period 0) (marks_are : (w.part me).marks ≡ is_marking w.heap)
-    (cycle_is : (w.part me).cycle ≡ running_cycle w.heap)
+    (cycle_is : (w.part me).cycle ≡ running_cycle w.heap) (base_is : (w.part me).least ≡ base_cycle w.heap)
     (born visits races : ℕ) (fresh : ((w.part me).begun ≡ w.heap region.Period 0 → visits ≡ (w.part me).visits)) where
   abbrev later : View
   later = record (w.part me) {
@@ -72,6 +73,7 @@ module _ (layout : Layout) (shapes : ShapeLists) (w : World) (me : ℕ) (inside 
   activate first_or_again = any_step layout shapes w.heap w.part w.log me wave w.heap later record {
     inside = inside;
     phase = refl;
+    base = refl;
     period = refl;
     calls = calls_view layout w.heap w.heap w.part me later refl (λ p. refl) wave.calls;
     stops = stops_view layout w.heap w.heap w.part me later refl (λ p. refl) wave.stops;
@@ -82,7 +84,7 @@ module _ (layout : Layout) (shapes : ShapeLists) (w : World) (me : ℕ) (inside 
     knows = λ at index word is. absurd (nothing_in (owed_word at index word) is);
     knows_still = λ p at index word apart is. wave.kept.known p at index word is;
     finds = λ block moment word is. absurd (let below = is.1 in omega (arith, below));
-    told = λ _. (marks_are, cycle_is, of_part);
+    told = λ _. (marks_are, cycle_is, of_part, base_is);
     begins = omega (arith, of_part);
     left = refl;
     waits = left_kept layout w.heap w.heap w.part me later refl refl (λ _ c in_c is. is) (λ c is. is)
@@ -93,13 +95,8 @@ module _ (layout : Layout) (shapes : ShapeLists) (w : World) (me : ℕ) (inside 
         (λ p at index word un. refl) refl refl refl refl wave.sweeps;
     empties = λ is. absurd (cc);
     colours = wave.colours;
-    balance = λ _ c in_c few. refl;
-    rests = λ idle. (
-      wave.rests.words idle,
-      wave.rests.held idle me,
-      wave.rests.scans idle me,
-      wave.rests.duties idle me,
-    );
+    balance = λ c in_c few. refl;
+    rests = λ idle. (wave.rests.held idle me, wave.rests.scans idle me);
     at_hand = λ c at. wave.hands.cells me c (elim at [
       | held is ↦ held is
       | scanned scan is e ↦
@@ -112,13 +109,13 @@ module _ (layout : Layout) (shapes : ShapeLists) (w : World) (me : ℕ) (inside 
     growths = λ p apart. wave.growths.knows p;
     scans = λ p scan apart is. wave.scans.knows p scan is;
     truer = λ p scan apart is holds. holds;
-    black = λ marks source place target link black white. inr (black, white, λ e. inl e);
-    stays = λ _ c is. is;
-    recoloured = λ _ c in_c. inl refl;
+    black = λ source place target link black white. inr (refl, white, λ e. inl e);
+    stays = λ c is. is;
+    recoloured = λ _ c. inl refl;
     aims = λ scan target is. none_scans scan is;
-    marked = λ _ c in_c is. inl is;
+    marked = λ c in_c is. inl is;
     born = λ _ c owes. inl owes;
-    owes = λ c owes. (owes, λ marks. (wave.born.owed marks me c owes).white);
+    owes = λ c owes. (owes, wave.born.white me c owes);
     counted = λ _. (let more = counts first_or_again in omega (arith, more));
     beyond = λ marks source n target link past.
         let (p, g) = wave.grows.beyond marks source n target link past in
@@ -221,17 +218,18 @@ activated v = elim (cases_eq v.begun v.ticket) [
 pub begin : (layout : Layout) (shapes : ShapeLists) (w : World) (me : ℕ) → me < parties → RunningWave layout shapes w →
     (w.part me).runs ≡ false → (w.part me).ticket ≡ w.heap region.Period 0 →
     (w.part me).marks ≡ is_marking w.heap → (w.part me).cycle ≡ running_cycle w.heap →
+    (w.part me).least ≡ base_cycle w.heap →
     RunningWave layout shapes (record {
       heap = w.heap;
       part = put_at w.part me (begun_view (w.part me));
       log =
           w.log;
     })
-begin layout shapes w me inside wave parked of_part marks_are cycle_is =
+begin layout shapes w me inside wave parked of_part marks_are cycle_is base_is =
     let a = activated (w.part me) in
     subst (λ (v : View). RunningWave layout shapes (record { heap = w.heap; part = put_at w.part me v; log = w.log }))
     (sym a.is)
-    (activate layout shapes w me inside wave parked of_part marks_are cycle_is a.born a.visits a.races (λ again.
+    (activate layout shapes w me inside wave parked of_part marks_are cycle_is base_is a.born a.visits a.races (λ again.
     a.same (again ∙ sym of_part)) (elim a.first_or_again [
       | inl none ↦ inl none
       | inr again ↦

@@ -6,9 +6,8 @@ use Rattle.tide_call.specs.CallWords.{CallWords}
 use Rattle.tide_layout.specs.Limits.{IsWithinLimits}
 use Rattle.tide_layout.specs.Slots.{index_of_element}
 use Rattle.tide_layout.specs.declared.region.Region.{Region}
-use Rattle.tide_layout.specs.declared.region.Region.TheVariants as region
 use Rattle.tide_machine.proofs.WordLaws.{cell_word_is}
-use Rattle.tide_machine.proofs.steps.Barriers.{pushes_barrier, colour_barrier, calm_barrier, owes_barrier}
+use Rattle.tide_machine.proofs.steps.Barriers.{pushes_barrier, colour_barrier, owes_barrier}
 use Rattle.tide_machine.proofs.steps.CallReadings.{call_reads}
 use Rattle.tide_machine.proofs.steps.CellCalls.{ShowsCell, cell_call, named_after, words_after, later}
 use Rattle.tide_machine.proofs.steps.Claimed.{unowed, count_is, array_is}
@@ -17,7 +16,6 @@ use Rattle.tide_machine.proofs.steps.Lists.{nothing_in}
 use Rattle.tide_machine.proofs.steps.Owning.{own_alone}
 use Rattle.tide_machine.proofs.steps.StandingArrays.{array_settled, bare_settled}
 use Rattle.tide_machine.proofs.steps.SettledNow.{own_now}
-use Rattle.tide_machine.specs.Duties.{OwesBarrier}
 use Rattle.tide_machine.specs.Kind.{StoreStructure}
 use Rattle.tide_machine.specs.Machine.{stepped}
 use Rattle.tide_machine.specs.May.{MayCall, barrier_for}
@@ -51,6 +49,8 @@ use Rattle.tide_words.proofs.heap_laws.HeapLaws.{write-same, write-other_index}
 use Rattle.tide_words.specs.forms.ValueWord.{val_word}
 use Rattle.tide_words.specs.heap.Heap.{Heap, write}
 use Rattle.tide_words.specs.heap.Reading.{ReadsAs}
+use Rattle.tide_machine.specs.Duties.{StillOwes}
+use Rattle.tide_layout.specs.declared.region.Region.TheVariants as region
 
 module _ (layout : Layout) (shapes : ShapeLists) (limits : IsWithinLimits layout)
     (empty_shape : slice_get shapes 0 ≡ Some []) (w : World) (me : ℕ) (inside : me < parties)
@@ -81,7 +81,7 @@ module _ (layout : Layout) (shapes : ShapeLists) (limits : IsWithinLimits layout
   new = write w.heap region.Structure cell word
 
   abbrev next_duty : Duty
-  next_duty = barrier_for (w.part me).marks cell (val_word added)
+  next_duty = barrier_for cell (val_word added)
 
   may : MayCall layout shapes w me (Add src key val) Done None
   may = adds.may
@@ -237,14 +237,11 @@ module _ (layout : Layout) (shapes : ShapeLists) (limits : IsWithinLimits layout
         me region.Structure region.Structure cell cell own (own_structure cell adds.claimed) refl refl);
     status = refl;
     array = refl;
-    pushes_none = λ c. pushes_barrier ((w.part me).marks && is_cell_word (val_word added)) cell c;
-    calm = λ rests. calm_barrier (w.part me).marks (is_cell_word (val_word added)) cell
-        ((wave.numbers.told me may.runner.runs).0 ∙ rests);
-    no_colour = λ c owes. colour_barrier ((w.part me).marks && is_cell_word (val_word added)) cell c owes;
-    links = λ marks x at target link. elim (link_after x at target link) [
-      | inl fresh ↦ inl (subst (OwesBarrier next_duty) (sym fresh.0) (owes_barrier (w.part me).marks
-          (is_cell_word (val_word added)) cell ((wave.numbers.told me may.runner.runs).0 ∙ marks)
-          (cell_word_is (val_word added) target (ap val_word fresh.1))))
+    pushes_none = λ c. pushes_barrier (is_cell_word (val_word added)) cell c;
+    no_colour = λ c owes. colour_barrier (is_cell_word (val_word added)) cell c owes;
+    links = λ x at target link. elim (link_after x at target link) [
+      | inl fresh ↦ inl (subst (StillOwes new next_duty) (sym fresh.0) (owes_barrier new
+          (is_cell_word (val_word added)) cell (cell_word_is (val_word added) target (ap val_word fresh.1))))
       | inr before ↦ inr before
     ];
     beyond = λ marks x n target link past. elim (cases_eq x cell) [

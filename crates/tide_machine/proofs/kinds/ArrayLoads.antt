@@ -3,10 +3,8 @@ use Rattle.std.proofs.Common.{ℕ, ◌≡◌, ◌≢◌, ◌+◌, ◌*◌, ◌<�
 use Rattle.std.proofs.lemmas.Bool.{cases_eq}
 use Rattle.std.specs.Prelude.{Contains}
 use Rattle.tide_layout.specs.Slots.{index_of_element}
-use Rattle.tide_layout.specs.declared.region.Region.TheVariants as region
 use Rattle.tide_machine.proofs.kinds.VisitorLoads.{and_cell_before, and_cell_here, and_cell_was, among_more}
 use Rattle.tide_machine.proofs.steps.Rereading.{scan_step, with_scan}
-use Rattle.tide_machine.specs.Duties.{OwesBarrier}
 use Rattle.tide_machine.specs.RunningWave.{RunningWave}
 use Rattle.tide_machine.specs.Scanning.{IsTrue, IsUnread, Place, slot, property, and_cell_of}
 use Rattle.tide_machine.specs.Words.{count_of}
@@ -29,11 +27,13 @@ use Rattle.tide_model.specs.declared.entry.Event.{Event}
 use Rattle.tide_model.specs.declared.val.Val.TheVariants.{Cell}
 use Rattle.tide_words.proofs.form_laws.FormLaws.{same_from_val_word}
 use Rattle.tide_words.specs.forms.ValueWord.{val_word}
-use Rattle.tide_words.specs.marking.Colours.{is_marking, IsMarked}
+use Rattle.tide_words.specs.marking.Colours.{is_marking, IsStamped}
+use Rattle.tide_machine.specs.Duties.{StillOwes}
+use Rattle.tide_layout.specs.declared.region.Region.TheVariants as region
 
 module _ (layout : Layout) (shapes : ShapeLists) (w : World) (me : ℕ) (inside : me < parties)
     (wave : RunningWave layout shapes w) (runs : (w.part me).runs ≡ true)
-    (marks : is_marking w.heap ≡ true) (no_barrier : (cell : ℕ) → OwesBarrier (w.part me).duty cell → ⊥) (scan : Scan)
+    (marks : is_marking w.heap ≡ true) (no_barrier : (cell : ℕ) → StillOwes w.heap (w.part me).duty cell → ⊥) (scan : Scan)
     (scans : (w.part me).scan ≡ Some scan) (not_yet : scan.agreed ≡ false) where
   abbrev now : State
   now = state_after layout w.log
@@ -94,7 +94,7 @@ module _ (layout : Layout) (shapes : ShapeLists) (w : World) (me : ℕ) (inside 
           with_array.array ≡ Some (array + 1)) (λ e. e) s is has in
           let w_is : w.heap region.Array scan.cell ≡ array + 1 = cc in
           elim (stands array w_is).own [ inl mine ↦ inl mine.0 | inr replaced ↦ inr replaced ];
-      scanned = of_some with_array (λ s. IsMarked w.heap s.cell × ScanKnows layout w.heap now s ×
+      scanned = of_some with_array (λ s. IsStamped w.heap s.cell × ScanKnows layout w.heap now s ×
           ((c : ℕ) → Contains s.buffer c → IsTrue s (w.heap region.Structure s.cell) →
           (cycle_span layout w.log).link s.cell c)) (
             wave.retained.scanned me scan scans,
@@ -174,7 +174,7 @@ module _ (layout : Layout) (shapes : ShapeLists) (w : World) (me : ℕ) (inside 
       ];
       arrays = λ a s is has. wave.hands.arrays me a scan scans
           (of_some with_element (λ s. s.array ≡ Some (a + 1) → scan.array ≡ Some (a + 1)) (λ e. e) s is has);
-      scanned = of_some with_element (λ s. IsMarked w.heap s.cell × ScanKnows layout w.heap now s ×
+      scanned = of_some with_element (λ s. IsStamped w.heap s.cell × ScanKnows layout w.heap now s ×
           ((cell : ℕ) → Contains s.buffer cell → IsTrue s (w.heap region.Structure s.cell) →
           (cycle_span layout w.log).link s.cell cell)) (
             wave.retained.scanned me scan scans,

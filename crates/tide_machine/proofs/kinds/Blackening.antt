@@ -2,10 +2,8 @@
 use Rattle.std.proofs.Common.{ℕ, zero, suc, ◌≡◌, ◌≢◌, ◌+◌, ◌<◌, ◌≤◌, ◌⊎◌, ◌==◌, refl, sym, ◌∙◌, ap, subst, arith, Bool, true, false, List, [], ◌∷◌, inl, inr, Option, Some, None}
 use Rattle.std.proofs.lemmas.Bool.{cases_eq, eq-eqb, ne_eqb, eqb-true, and_parts, and_from}
 use Rattle.std.proofs.lemmas.List.Elements.{Contains-append_cases, Contains-append_left, Contains-append_right}
-use Rattle.std.specs.Prelude.{Contains, if◌then◌else◌, ◌&&◌, not, length}
-use Rattle.tide_core.specs.FrozenWave.{is_born_in_cycle}
+use Rattle.std.specs.Prelude.{Contains, if◌then◌else◌, ◌&&◌, length}
 use Rattle.tide_layout.specs.Slots.{total_below}
-use Rattle.tide_layout.specs.declared.region.Region.TheVariants as region
 use Rattle.tide_machine.proofs.steps.Colouring.{unread_write, colours_coloured, recoloured_one}
 use Rattle.tide_machine.proofs.steps.Frames.{calls_view, stops_view, put_here}
 use Rattle.tide_machine.proofs.steps.Lists.{nothing_in}
@@ -18,6 +16,7 @@ use Rattle.tide_machine.specs.declared.view.Scan.{Scan}
 use Rattle.tide_machine.specs.declared.view.View.{View}
 use Rattle.tide_machine.specs.points.Links.{ScanExcuses, LinkAt}
 use Rattle.tide_machine.specs.points.Marks.{counted_in}
+use Rattle.tide_core.specs.FrozenWave.{is_of_visit}
 use Rattle.tide_machine.specs.points.Scans.{IsAtHand, held, scanned, buffered, ScanKnows}
 use Rattle.tide_machine.specs.points.Witness.{IsVisitor, GreyIsLeft}
 use Rattle.tide_model.specs.Cycle.{cycle_span}
@@ -28,11 +27,14 @@ use Rattle.tide_model.specs.References.{IsLive}
 use Rattle.tide_model.specs.Refused.{ShapeLists, is_table}
 use Rattle.tide_model.specs.State.{live, spent, is_free}
 use Rattle.tide_words.proofs.heap_laws.ReadingLaws.{live_within}
-use Rattle.tide_words.proofs.marking_laws.ColourLaws.{is_black-made, is_grey-other, is_black-other, is_marked-other, black_is_not_grey, black_is_marked, grey_is_marked}
+use Rattle.tide_words.proofs.marking_laws.ColourLaws.{is_black-made, is_grey-other, is_black-other, is_marked-other, black_is_not_grey, black_is_marked, grey_is_marked, coloured-same, coloured-other}
 use Rattle.tide_words.specs.declared.forms.colours.Colour.TheVariants.{Black}
-use Rattle.tide_words.specs.forms.ColourWord.{colour_word}
-use Rattle.tide_words.specs.marking.Colours.{coloured, is_marking, running_cycle, is_grey, is_black, IsGrey, IsMarked}
+use Rattle.tide_words.specs.forms.ColourWord.{colour_word, colour_cycle}
+use Rattle.tide_words.specs.marking.Colours.{Counts, coloured, is_marking, running_cycle, is_grey, is_black, IsGrey, IsMarked, IsStamped}
 use Rattle.tide_words.specs.marking.Marked.{is_marked}
+use Rattle.tide_words.proofs.form_laws.FormLaws.{colour_cycle-of}
+use Rattle.tide_machine.proofs.steps.Barriers.{still_owes}
+use Rattle.tide_layout.specs.declared.region.Region.TheVariants as region
 
 take_out-was : (cell other : ℕ) (cells : List ℕ) → Contains (take_out cell cells) other → Contains cells other
 take_out-was cell other [] at = at
@@ -104,7 +106,7 @@ module _ (layout : Layout) (shapes : ShapeLists) (w : World) (me : ℕ) (inside 
       by_test : (b : Bool) → is_grey w.heap cell ≡ b → b ≡ true
       by_test true is = refl
       by_test false isnt =
-          let once = wave.held.held marks cell within in
+          let once = wave.held.held cell within in
           let none = ap {B = ℕ} (λ (b : Bool). if b then 1 else 0) isnt in
           let some = times_in-some (w.part me).held cell has in
           let mine = one_holder (λ p. holds cell (w.part p)) me parties inside in
@@ -115,7 +117,7 @@ module _ (layout : Layout) (shapes : ShapeLists) (w : World) (me : ℕ) (inside 
   black_else other apart = is_black-other w.heap cell other Black apart
 
   made_marked : IsMarked (coloured w.heap cell Black) cell
-  made_marked = black_is_marked (coloured w.heap cell Black) cell (is_black-made w.heap cell)
+  made_marked = black_is_marked (coloured w.heap cell Black) cell (is_black-made w.heap cell (wave.old.counts marks))
 
   same_marked : (other : ℕ) → is_marked (coloured w.heap cell Black) other ≡ is_marked w.heap other
   same_marked other = elim (cases_eq other cell) [
@@ -184,6 +186,7 @@ module _ (layout : Layout) (shapes : ShapeLists) (w : World) (me : ℕ) (inside 
     growth = refl;
     marks = refl;
     cycle = refl;
+    least = refl;
     begun = refl;
     left = refl;
     sweeping = refl;
@@ -197,7 +200,7 @@ module _ (layout : Layout) (shapes : ShapeLists) (w : World) (me : ℕ) (inside 
     ran = runs;
     runs = runs;
     colours = colours_coloured layout w.heap cell Black (omega arith) wave.colours;
-    balance = λ _ other in_other few.
+    balance = λ other in_other few.
         let less = times_in-take_out cell other (w.part me).held has in
         elim (cases_eq other cell) [
           | inl same ↦
@@ -205,7 +208,7 @@ module _ (layout : Layout) (shapes : ShapeLists) (w : World) (me : ℕ) (inside 
               let grey = ap {B = ℕ} (λ (b : Bool). if b then 1 else 0) (ap (is_grey w.heap) same ∙ was_grey) in
               let not_grey = ap {B = ℕ} (λ (b : Bool). if b then 1 else 0)
               (ap (is_grey (coloured w.heap cell Black)) same ∙
-              black_is_not_grey (coloured w.heap cell Black) cell (is_black-made w.heap cell)) in
+              black_is_not_grey (coloured w.heap cell Black) cell (is_black-made w.heap cell (wave.old.counts marks))) in
               omega (arith, less, one, grey, not_grey)
           | inr apart ↦
               let no_one = ap {B = ℕ} (λ (b : Bool). if b then 1 else 0) (ne_eqb cell other (λ e. apart (sym e))) in
@@ -217,37 +220,37 @@ module _ (layout : Layout) (shapes : ShapeLists) (w : World) (me : ℕ) (inside 
     arrays = λ array scan is. of_next (λ s. s.array ≡ Some (array + 1) →
         ((state_after layout w.log).arrays array ≡ live) ⊎ ((state_after layout w.log).arrays array ≡ spent)) (λ none.
         absurd (cc)) scan is;
-    scanned = of_next (λ s. IsMarked (coloured w.heap cell Black) s.cell ×
+    scanned = of_next (λ s. IsStamped (coloured w.heap cell Black) s.cell ×
         ScanKnows layout w.heap (state_after layout w.log) s × ((c : ℕ) → Contains s.buffer c →
         IsTrue s (w.heap region.Structure s.cell) → (cycle_span layout w.log).link s.cell c))
-        (made_marked, fresh, λ c at holds. absurd (nothing_in c at));
-    black = λ _ source place target link black white. elim (cases_eq source cell) [
+        ((made_marked, ap colour_cycle (coloured-same w.heap cell Black) ∙ colour_cycle-of (running_cycle w.heap) Black), fresh, λ c at holds. absurd (nothing_in c at));
+    black = λ source place target link black white. elim (cases_eq source cell) [
       | inl same ↦ inl (inr (subst (λ (c : ℕ). ScanExcuses w.heap c place target next) (sym same)
           (answers place target (subst (λ (c : ℕ). LinkAt (state_after layout w.log) c place target) same link))))
       | inr apart ↦ inr (
-        sym (black_else source apart) ∙ black,
+        coloured-other w.heap cell source Black apart,
         sym (same_marked target) ∙ white,
         λ e. inl (elim e [
-          | inl owes ↦ inl owes
+          | inl owes ↦ inl (still_owes w.heap (coloured w.heap cell Black) (w.part me).duty source (coloured-other w.heap cell source Black apart) owes)
           | inr old ↦ absurd (subst (ScanExcuses w.heap source place target) no_scan old)
         ]),
       )
     ];
     grows = λ c g. record { grows = g.grows; owes = g.owes };
-    stays = λ _ other is. same_marked other ∙ is;
-    recoloured = λ _ other in_other. recoloured_one w.heap cell other Black made_marked;
+    stays = λ other is. same_marked other ∙ is;
+    recoloured = λ _ other. recoloured_one w.heap cell other Black made_marked;
     aims = λ scan target is. of_next (λ s. s.target ≡ Some target → (target.cell < cell_count layout) ×
         ((w.heap region.Colour target.cell ≡ target.word) ⊎ IsMarked w.heap target.cell)) (λ none.
         absurd (cc)) scan is;
-    marked = λ _ other in_other is. inl (sym (same_marked other) ∙ is);
+    marked = λ other in_other is. inl (sym (same_marked other) ∙ is);
     born = λ _ other owes. inl owes;
-    owes = λ other owes. (owes, λ _. same_marked other ∙ (wave.born.owed marks me other owes).white);
+    owes = λ other owes. (owes, same_marked other ∙ wave.born.white me other owes);
     counted = λ _. (let few = count_where-one_more
-        (λ c. is_black (coloured w.heap cell Black) c && not (is_born_in_cycle w.log c))
-        (λ c. is_black w.heap c && not (is_born_in_cycle w.log c)) cell (cell_count layout)
+        (λ c. is_black (coloured w.heap cell Black) c && is_of_visit layout w.log c)
+        (λ c. is_black w.heap c && is_of_visit layout w.log c) cell (cell_count layout)
         (λ other apart both. let parts = and_parts (is_black (coloured w.heap cell Black) other)
-        (not (is_born_in_cycle w.log other)) both in
-        and_from (is_black w.heap other) (not (is_born_in_cycle w.log other)) (sym (black_else other apart) ∙ parts.0)
+        (is_of_visit layout w.log other) both in
+        and_from (is_black w.heap other) (is_of_visit layout w.log other) (sym (black_else other apart) ∙ parts.0)
         parts.1) in omega (arith, few));
   }
     where

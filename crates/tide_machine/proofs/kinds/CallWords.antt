@@ -1,7 +1,6 @@
 -- A mutator stores its call word, which tells all of its calls: the wave is kept.
 use Rattle.std.proofs.Common.{ℕ, ◌≡◌, ◌<◌, refl, ◌∙◌, arith, inl, inr, None}
 use Rattle.std.specs.Prelude.{◌%◌, ◌^◌, length}
-use Rattle.tide_layout.specs.declared.region.Region.TheVariants as region
 use Rattle.tide_machine.proofs.steps.Colouring.{unread_write}
 use Rattle.tide_machine.proofs.steps.Frames.{stops_view}
 use Rattle.tide_machine.proofs.steps.Quiet.{quiet_step}
@@ -18,6 +17,7 @@ use Rattle.tide_model.specs.Layout.{Layout}
 use Rattle.tide_model.specs.Refused.{ShapeLists}
 use Rattle.tide_words.proofs.heap_laws.HeapLaws.{write-same, write-other_index}
 use Rattle.tide_words.specs.heap.Heap.{Heap, write}
+use Rattle.tide_layout.specs.declared.region.Region.TheVariants as region
 
 pub store_call_word : (layout : Layout) (shapes : ShapeLists) (w : World) (me : ℕ) → me < parties →
     RunningWave layout shapes w →
@@ -36,6 +36,7 @@ store_call_word layout shapes w me inside wave word may =
       growth = refl;
       marks = refl;
       cycle = refl;
+      least = refl;
       begun = refl;
       period = refl;
       left = refl;
@@ -53,19 +54,8 @@ store_call_word layout shapes w me inside wave word may =
       ran = may.0.runs;
       runs = may.0.runs;
       colours = wave.colours;
-      balance = λ _ c in_c few. refl;
-      rests = λ idle. (
-        λ block within.
-            (let n = wave.rests.words idle block within in record {
-              shared = n.shared;
-              mutator = n.mutator;
-              race =
-                  n.race;
-            }),
-        wave.rests.held idle me,
-        wave.rests.scans idle me,
-        wave.rests.duties idle me,
-      );
+      balance = λ c in_c few. refl;
+      rests = λ idle. (wave.rests.held idle me, wave.rests.scans idle me);
       at_hand = λ c at. wave.hands.cells me c (elim at [
         | held is ↦ held is
         | scanned scan is e ↦
@@ -79,14 +69,14 @@ store_call_word layout shapes w me inside wave word may =
         λ c at holds.
             wave.retained.buffered me c scan is at holds,
       );
-      black = λ marks source place target link black white. inr (black, white, λ e. inl e);
+      black = λ source place target link black white. inr (refl, white, λ e. inl e);
       grows = λ c g. record { grows = g.grows; owes = g.owes };
-      stays = λ _ c is. is;
-      recoloured = λ _ c in_c. inl refl;
+      stays = λ c is. is;
+      recoloured = λ _ c. inl refl;
       aims = λ scan target is. wave.targets.right me scan target is;
-      marked = λ _ c in_c is. inl is;
+      marked = λ c in_c is. inl is;
       born = λ _ c owes. inl owes;
-      owes = λ c owes. (owes, λ marks. (wave.born.owed marks me c owes).white);
+      owes = λ c owes. (owes, wave.born.white me c owes);
       counted = λ _. omega arith;
     }
   where

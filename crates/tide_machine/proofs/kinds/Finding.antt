@@ -33,6 +33,7 @@ finds layout shapes heap part log me inside wave runs word = quiet_step layout s
   growth = refl;
   marks = refl;
   cycle = refl;
+  least = refl;
   begun = refl;
   period = refl;
   left = refl;
@@ -47,13 +48,8 @@ finds layout shapes heap part log me inside wave runs word = quiet_step layout s
   ran = runs;
   runs = runs;
   colours = wave.colours;
-  balance = λ _ c in_c few. refl;
-  rests = λ idle. (
-    wave.rests.words idle,
-    wave.rests.held idle me,
-    wave.rests.scans idle me,
-    wave.rests.duties idle me,
-  );
+  balance = λ c in_c few. refl;
+  rests = λ idle. (wave.rests.held idle me, wave.rests.scans idle me);
   at_hand = λ c at. wave.hands.cells me c (elim at [
     | held is ↦ held is
     | scanned scan is e ↦ scanned scan is e
@@ -65,14 +61,14 @@ finds layout shapes heap part log me inside wave runs word = quiet_step layout s
     wave.scans.knows me scan is,
     λ c at holds. wave.retained.buffered me c scan is at holds,
   );
-  black = λ marks source place target link black white. inr (black, white, λ e. inl e);
+  black = λ source place target link black white. inr (refl, white, λ e. inl e);
   grows = λ c g. record { grows = g.grows; owes = g.owes };
-  stays = λ _ c is. is;
-  recoloured = λ _ c in_c. inl refl;
+  stays = λ c is. is;
+  recoloured = λ _ c. inl refl;
   aims = λ scan target is. wave.targets.right me scan target is;
-  marked = λ _ c in_c is. inl is;
+  marked = λ c in_c is. inl is;
   born = λ _ c owes. inl owes;
-  owes = λ c owes. (owes, λ marks. (wave.born.owed marks me c owes).white);
+  owes = λ c owes. (owes, wave.born.white me c owes);
   counted = λ _. omega arith;
 }
 

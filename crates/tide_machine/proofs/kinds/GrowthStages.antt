@@ -4,7 +4,6 @@ use Rattle.std.proofs.lemmas.Bool.{cases_eq}
 use Rattle.std.specs.Prelude.{Contains, not}
 use Rattle.tide_layout.specs.Slots.{HasElement, index_of_element}
 use Rattle.tide_layout.specs.declared.region.Region.{Region}
-use Rattle.tide_layout.specs.declared.region.Region.TheVariants as region
 use Rattle.tide_machine.proofs.WordLaws.{nuked_word_reads}
 use Rattle.tide_machine.proofs.steps.Frames.{calls_view, stops_view}
 use Rattle.tide_machine.proofs.steps.GrowthsKept.{growth_kept}
@@ -16,7 +15,7 @@ use Rattle.tide_machine.proofs.steps.SweepsKept.{swept_kept, sweeps_kept}
 use Rattle.tide_machine.proofs.steps.Waiting.{left_quiet}
 use Rattle.tide_machine.proofs.steps.SettledNow.{own_now}
 use Rattle.tide_machine.proofs.steps.Unsettled.{unsettled_write}
-use Rattle.tide_machine.specs.Duties.{GrowsAndOwes, GrowsOn, OwesBarrier, nuked_growth, stored_growth}
+use Rattle.tide_machine.specs.Duties.{GrowsAndOwes, GrowsOn, nuked_growth, stored_growth, StillOwes}
 use Rattle.tide_machine.specs.Kind.{Nuke, StoreArray, StoreStructure}
 use Rattle.tide_machine.specs.Machine.{stepped}
 use Rattle.tide_machine.specs.Owed.{Owes, owed_word, is_at, without_word, IsOwnWord, own_register, own_structure, own_array, own_pair, own_element}
@@ -25,7 +24,6 @@ use Rattle.tide_machine.specs.Scanning.{IsTrue, IsStill, Place, property}
 use Rattle.tide_machine.specs.Words.{count_of, is_nuked, nuked_word}
 use Rattle.tide_machine.specs.World.{World, parties}
 use Rattle.tide_machine.specs.declared.view.Growth.{Growth}
-use Rattle.tide_machine.specs.declared.view.Growth.TheVariants as growth
 use Rattle.tide_machine.specs.declared.view.Owed.{Owed}
 use Rattle.tide_machine.specs.declared.view.Scan.{Scan}
 use Rattle.tide_machine.specs.declared.view.View.{View}
@@ -49,6 +47,8 @@ use Rattle.tide_words.proofs.heap_laws.ReadingLaws.{live_within}
 use Rattle.tide_words.specs.forms.ValueWord.{val_word}
 use Rattle.tide_words.specs.heap.Heap.{Heap, write}
 use Rattle.tide_words.specs.marking.Colours.{is_marking}
+use Rattle.tide_layout.specs.declared.region.Region.TheVariants as region
+use Rattle.tide_machine.specs.declared.view.Growth.TheVariants as growth
 
 module _ (layout : Layout) (shapes : ShapeLists) (w : World) (me : ℕ) (inside : me < parties)
     (wave : RunningWave layout shapes w) (runs : (w.part me).runs ≡ true) where
@@ -246,6 +246,7 @@ module _ (layout : Layout) (shapes : ShapeLists) (w : World) (me : ℕ) (inside 
       structure_step = any_step layout shapes w.heap w.part w.log me wave new (later stage owed) record {
         inside = inside;
         phase = refl;
+        base = refl;
         period = refl;
         words = s.words;
         who = refl;
@@ -275,14 +276,8 @@ module _ (layout : Layout) (shapes : ShapeLists) (w : World) (me : ℕ) (inside 
         knows_still = λ p at index word apart is. own_else p at index apart (wave.kept.owns p at index word is) ∙
             wave.kept.known p at index word is;
         colours = wave.colours;
-        balance = λ _ c in_c few. refl;
-        rests = λ idle. (
-          (λ block in_block. let none = wave.rests.words idle block in_block in
-              record { shared = none.shared; mutator = none.mutator; race = none.race }),
-          wave.rests.held idle me,
-          wave.rests.scans idle me,
-          wave.rests.duties idle me,
-        );
+        balance = λ c in_c few. refl;
+        rests = λ idle. (wave.rests.held idle me, wave.rests.scans idle me);
         at_hand = λ c at. wave.hands.cells me c (elim at [
           | held is ↦ held is
           | scanned scan is e ↦ scanned scan is e
@@ -296,14 +291,14 @@ module _ (layout : Layout) (shapes : ShapeLists) (w : World) (me : ℕ) (inside 
         );
         scans = λ p scan apart is. knows_after p scan is;
         truer = λ p scan apart is holds. truer_before p scan is holds;
-        black = λ marks source place target link black white.
-            inr (black, white, λ e. inl (same_excuse source place target e));
-        stays = λ _ c is. is;
-        recoloured = λ _ c in_c. inl refl;
+        black = λ source place target link black white.
+            inr (refl, white, λ e. inl (same_excuse source place target e));
+        stays = λ c is. is;
+        recoloured = λ _ c. inl refl;
         aims = λ scan target is. wave.targets.right me scan target is;
-        marked = λ marks c in_c is. inl is;
+        marked = λ c in_c is. inl is;
         born = λ _ c owes. inl owes;
-        owes = λ c owes. (owes, λ marks. (wave.born.owed marks me c owes).white);
+        owes = λ c owes. (owes, wave.born.white me c owes);
         counted = λ marks. omega arith;
         beyond = λ marks source n target link past.
             let more = count_grows source in
@@ -510,6 +505,7 @@ module _ (layout : Layout) (shapes : ShapeLists) (w : World) (me : ℕ) (inside 
     store_it = any_step layout shapes w.heap w.part w.log me wave stored stored_view record {
       inside = inside;
       phase = refl;
+      base = refl;
       period = refl;
       words = words_paid layout shapes w.heap w.part me state wave.words region.Array cell stored_view
           (λ r i x at. from_none (owed_word r i x) at) refl (array + 1) k.1 refl;
@@ -552,14 +548,8 @@ module _ (layout : Layout) (shapes : ShapeLists) (w : World) (me : ℕ) (inside 
       knows_still = λ p at index word apart is. own_stays p at index apart (wave.kept.owns p at index word is) ∙
           wave.kept.known p at index word is;
       colours = wave.colours;
-      balance = λ _ c in_c few. refl;
-      rests = λ idle. (
-        (λ block in_block. let none = wave.rests.words idle block in_block in
-            record { shared = none.shared; mutator = none.mutator; race = none.race }),
-        wave.rests.held idle me,
-        wave.rests.scans idle me,
-        wave.rests.duties idle me,
-      );
+      balance = λ c in_c few. refl;
+      rests = λ idle. (wave.rests.held idle me, wave.rests.scans idle me);
       at_hand = λ c at. wave.hands.cells me c (elim at [
         | held is ↦ held is
         | scanned scan is e ↦ scanned scan is e
@@ -573,14 +563,14 @@ module _ (layout : Layout) (shapes : ShapeLists) (w : World) (me : ℕ) (inside 
       );
       scans = λ p scan apart is. scan_after scan (wave.scans.knows p scan is);
       truer = λ p scan apart is holds. holds;
-      black = λ marks source place target link black white.
-          inr (black, white, λ e. inl (same_excuse source place target e));
-      stays = λ _ c is. is;
-      recoloured = λ _ c in_c. inl refl;
+      black = λ source place target link black white.
+          inr (refl, white, λ e. inl (same_excuse source place target e));
+      stays = λ c is. is;
+      recoloured = λ _ c. inl refl;
       aims = λ scan target is. wave.targets.right me scan target is;
-      marked = λ _ c in_c is. inl is;
+      marked = λ c in_c is. inl is;
       born = λ _ c owes. inl owes;
-      owes = λ c owes. (owes, λ marks. (wave.born.owed marks me c owes).white);
+      owes = λ c owes. (owes, wave.born.white me c owes);
       counted = λ _. omega arith;
       beyond = λ marks source n target link past.
           let (p, g) = wave.grows.beyond marks source n target link past in
@@ -595,8 +585,8 @@ module _ (layout : Layout) (shapes : ShapeLists) (w : World) (me : ℕ) (inside 
             Excuses stored source place target stored_view
         same_excuse source place target e = of_scan (w.part me).scan e
           where
-            of_scan : (scan : Option Scan) → OwesBarrier (w.part me).duty source ⊎
-                ScanExcuses w.heap source place target scan → OwesBarrier (w.part me).duty source ⊎
+            of_scan : (scan : Option Scan) → StillOwes w.heap (w.part me).duty source ⊎
+                ScanExcuses w.heap source place target scan → StillOwes w.heap (w.part me).duty source ⊎
                 ScanExcuses stored source place target scan
             of_scan scan (inl b) = inl b
             of_scan None (inr x) = inr x

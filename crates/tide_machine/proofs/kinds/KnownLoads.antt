@@ -94,6 +94,7 @@ module _ (layout : Layout) (shapes : ShapeLists) (w : World) (me : ℕ) (inside 
     knows_it = any_step layout shapes w.heap w.part w.log me wave w.heap later record {
       inside = inside;
       phase = refl;
+      base = refl;
       period = refl;
       words = words_after;
       who = refl;
@@ -127,13 +128,8 @@ module _ (layout : Layout) (shapes : ShapeLists) (w : World) (me : ℕ) (inside 
           (λ c a mine is. is) (λ c x o. o) (λ c x o. o) (λ i x o. o) (w.part me).growth (wave.growths.knows me);
       growths = λ p apart. wave.growths.knows p;
       colours = wave.colours;
-      balance = λ _ c in_c few. refl;
-      rests = λ idle. (
-        wave.rests.words idle,
-        wave.rests.held idle me,
-        wave.rests.scans idle me,
-        wave.rests.duties idle me,
-      );
+      balance = λ c in_c few. refl;
+      rests = λ idle. (wave.rests.held idle me, wave.rests.scans idle me);
       at_hand = λ c at. wave.hands.cells me c (elim at [
         | held is ↦ held is
         | scanned scan is e ↦ scanned scan is e
@@ -147,14 +143,14 @@ module _ (layout : Layout) (shapes : ShapeLists) (w : World) (me : ℕ) (inside 
       );
       scans = λ p scan apart is. wave.scans.knows p scan is;
       truer = λ p scan apart is holds. holds;
-      black = λ marks source place target link black white.
-          inr (black, white, λ e. inl (elim e [ inl owes ↦ inl owes | inr answers ↦ inr answers ]));
-      stays = λ _ c is. is;
-      recoloured = λ _ c in_c. inl refl;
+      black = λ source place target link black white.
+          inr (refl, white, λ e. inl (elim e [ inl owes ↦ inl owes | inr answers ↦ inr answers ]));
+      stays = λ c is. is;
+      recoloured = λ _ c. inl refl;
       aims = λ scan target is. wave.targets.right me scan target is;
-      marked = λ _ c in_c is. inl is;
+      marked = λ c in_c is. inl is;
       born = λ _ c owes. inl owes;
-      owes = λ c owes. (owes, λ marks. (wave.born.owed marks me c owes).white);
+      owes = λ c owes. (owes, wave.born.white me c owes);
       counted = λ _. omega arith;
       beyond = λ marks source n target link past.
           let (p, g) = wave.grows.beyond marks source n target link past in

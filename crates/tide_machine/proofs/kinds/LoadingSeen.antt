@@ -6,7 +6,6 @@ use Rattle.tide_call.proofs.reading_laws.RootReading.{Reading-register}
 use Rattle.tide_layout.proofs.Places.{tag-injective}
 use Rattle.tide_layout.specs.Region.{tag, index_of_register}
 use Rattle.tide_layout.specs.declared.region.Region.{Region}
-use Rattle.tide_layout.specs.declared.region.Region.TheVariants as region
 use Rattle.tide_machine.proofs.steps.ArraysKept.{arrays_kept}
 use Rattle.tide_machine.proofs.steps.Calls.{OfState, call_step}
 use Rattle.tide_machine.proofs.steps.Frames.{calls_view, put_here, each_put}
@@ -15,15 +14,13 @@ use Rattle.tide_machine.proofs.steps.Owning.{own_alone}
 use Rattle.tide_machine.proofs.steps.Registers.{register_after}
 use Rattle.tide_machine.proofs.steps.ScansKept.{scan_kept}
 use Rattle.tide_machine.proofs.steps.Unsettled.{given_put, unsettles_put}
-use Rattle.tide_machine.specs.Duties.{OwesColour, IsCalm}
+use Rattle.tide_machine.specs.Duties.{OwesColour}
 use Rattle.tide_machine.specs.Entries.{call_of}
 use Rattle.tide_machine.specs.Owed.{Owes, IsOwnWord, own_register, own_structure, own_array, own_pair, own_element, owed_word}
 use Rattle.tide_machine.specs.RunningWave.{RunningWave}
 use Rattle.tide_machine.specs.Scanning.{Place, slot, property}
 use Rattle.tide_machine.specs.World.{World, parties, pushes}
 use Rattle.tide_machine.specs.declared.view.Duty.{Duty}
-use Rattle.tide_machine.specs.declared.view.Duty.TheVariants as duty
-use Rattle.tide_machine.specs.declared.view.Growth.TheVariants as growth
 use Rattle.tide_machine.specs.declared.view.Owed.{Owed}
 use Rattle.tide_machine.specs.declared.view.View.{View}
 use Rattle.tide_machine.specs.points.Births.{IsHidden}
@@ -48,6 +45,9 @@ use Rattle.tide_model.specs.declared.val.Val.TheVariants.{Cell}
 use Rattle.tide_words.proofs.heap_laws.HeapLaws.{write-same}
 use Rattle.tide_words.specs.forms.ValueWord.{val_word, HasU32}
 use Rattle.tide_words.specs.heap.Heap.{Heap, write}
+use Rattle.tide_layout.specs.declared.region.Region.TheVariants as region
+use Rattle.tide_machine.specs.declared.view.Duty.TheVariants as duty
+use Rattle.tide_machine.specs.declared.view.Growth.TheVariants as growth
 
 -- what stands in a list of one word
 one_owed : (x y : Owed) → Contains (x ∷ []) y → x ≡ y
@@ -182,7 +182,7 @@ module _ (layout : Layout) (shapes : ShapeLists) (w : World) (me : ℕ) (inside 
     scans = λ p scan is. scan_kept layout w.heap w.heap state after
         (λ c. refl) (λ c. refl) (λ i. refl) (λ c is_live. is_live) scan
         (wave.scans.knows p scan is);
-    links = λ marks x place target link black white. inr (link_before x place target link);
+    links = λ x place target link black white. inr (link_before x place target link);
     beyond = λ marks x n target link past. inr (link, past);
     awaited = λ c owes. absurd (no_colour c owes);
     growth = subst (GrowthKnows w.heap after me later) (sym grows_not) tt;
@@ -230,6 +230,7 @@ module _ (layout : Layout) (shapes : ShapeLists) (w : World) (me : ℕ) (inside 
     mine = refl;
     marks = refl;
     cycle = refl;
+    least = refl;
     begun = refl;
     visits = refl;
     stopped = refl;
@@ -247,13 +248,13 @@ module _ (layout : Layout) (shapes : ShapeLists) (w : World) (me : ℕ) (inside 
     known = refl;
     full = refl;
     pushes_none = λ c. (ap (λ (d : Duty). pushes d c) idle, ap (λ (d : Duty). pushes d c) idle);
-    calm = λ rests. subst IsCalm (sym idle) tt;
     grows = λ c g. record { grows = g.grows; owes = g.owes };
     barrier = λ c owes. owes;
     kept = λ p at index x apart is. wave.kept.known p at index x is;
     truer = λ p scan is holds. holds;
     born_before = λ c owes. no_colour c owes;
     born = λ c born. absurd (cc);
+    white = λ c owes. absurd (no_colour c owes);
     awaits = λ marks c owes. absurd (no_colour c owes);
     owner = wave.born.owner;
     once = λ c owes. absurd (no_colour c owes);

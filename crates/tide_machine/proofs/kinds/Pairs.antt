@@ -5,7 +5,6 @@ use Rattle.tide_call.specs.CallWords.{CallWords, IsPlaceFor, HasPairAt}
 use Rattle.tide_core.specs.FrozenWave.{is_birth_of}
 use Rattle.tide_layout.specs.Limits.{IsWithinLimits}
 use Rattle.tide_layout.specs.Slots.{HasSlot, index_of_slot}
-use Rattle.tide_layout.specs.declared.region.Region.TheVariants as region
 use Rattle.tide_machine.proofs.kinds.LoadingSeen.{load_seen}
 use Rattle.tide_machine.proofs.kinds.SeenCalls.{seen_granted}
 use Rattle.tide_machine.proofs.steps.CallReadings.{call_reads}
@@ -15,7 +14,7 @@ use Rattle.tide_machine.proofs.steps.Loads.{load_same}
 use Rattle.tide_machine.proofs.steps.Owning.{own_alone}
 use Rattle.tide_machine.proofs.steps.SameLinks.{SameLinks, same_links, same_arrays, all_same}
 use Rattle.tide_machine.proofs.steps.SettledNow.{own_now}
-use Rattle.tide_machine.specs.Duties.{IsCalm, OwesColour}
+use Rattle.tide_machine.specs.Duties.{OwesColour}
 use Rattle.tide_machine.specs.Kind.{LoadPair, StorePair}
 use Rattle.tide_machine.specs.Machine.{stepped}
 use Rattle.tide_machine.specs.May.{MayCall}
@@ -49,6 +48,7 @@ use Rattle.tide_words.specs.forms.PairWord.{pair_word}
 use Rattle.tide_words.specs.forms.ValueWord.{HasU32}
 use Rattle.tide_words.specs.heap.Heap.{write}
 use Rattle.tide_words.specs.heap.Reading.{ReadsAs, IsPairOf, slot_word}
+use Rattle.tide_layout.specs.declared.region.Region.TheVariants as region
 
 module _ (layout : Layout) (shapes : ShapeLists) (limits : IsWithinLimits layout)
     (empty_shape : slice_get shapes 0 ≡ Some []) (w : World) (me : ℕ) (inside : me < parties)
@@ -120,9 +120,8 @@ module _ (layout : Layout) (shapes : ShapeLists) (limits : IsWithinLimits layout
           status = refl;
           array = refl;
           pushes_none = λ c. ap (λ (d : Duty). pushes d c) may.between.duty;
-          calm = λ rests. subst IsCalm (sym may.between.duty) tt;
           no_colour = λ c owes. subst (λ (d : Duty). OwesColour d c) may.between.duty owes;
-          links = λ marks x at target link. inr (same_links state table paired same_pairs x at target link);
+          links = λ x at target link. inr (same_links state table paired same_pairs x at target link);
           beyond = λ marks x k target link past. (
             same_links state table paired same_pairs x (property k) target link,
             past,

@@ -4,7 +4,6 @@ use Rattle.std.proofs.lemmas.Bool.{cases_Bool, cases_eq, eqb-true, and_parts}
 use Rattle.std.specs.Prelude.{if◌then◌else◌, ◌&&◌, not}
 use Rattle.tide_layout.specs.Region.{tag, index_of_register}
 use Rattle.tide_layout.specs.declared.region.Region.{Region}
-use Rattle.tide_layout.specs.declared.region.Region.TheVariants as region
 use Rattle.tide_machine.proofs.steps.ArraysKept.{arrays_kept}
 use Rattle.tide_machine.proofs.steps.Frames.{calls_view, stops_view}
 use Rattle.tide_machine.proofs.steps.GrowthsKept.{growth_kept}
@@ -17,7 +16,7 @@ use Rattle.tide_machine.proofs.steps.SweepsKept.{swept_kept, sweeps_kept}
 use Rattle.tide_machine.proofs.steps.Waiting.{left_quiet}
 use Rattle.tide_machine.proofs.steps.SettledNow.{register_now}
 use Rattle.tide_machine.proofs.steps.Unsettled.{unsettled_write}
-use Rattle.tide_machine.specs.Duties.{GrowsAndOwes, OwesBarrier}
+use Rattle.tide_machine.specs.Duties.{GrowsAndOwes, StillOwes}
 use Rattle.tide_machine.specs.Owed.{is_at, Owes, IsOwnWord, owed_word, without_word}
 use Rattle.tide_machine.specs.RunningWave.{RunningWave}
 use Rattle.tide_machine.specs.Scanning.{Place}
@@ -34,6 +33,7 @@ use Rattle.tide_model.specs.Numbers.{put_at}
 use Rattle.tide_model.specs.Refused.{ShapeLists}
 use Rattle.tide_model.specs.State.{State}
 use Rattle.tide_words.specs.heap.Heap.{Heap, write}
+use Rattle.tide_layout.specs.declared.region.Region.TheVariants as region
 
 module _ (layout : Layout) (shapes : ShapeLists) (w : World) (me : ℕ) (inside : me < parties)
     (wave : RunningWave layout shapes w) (runs : (w.part me).runs ≡ true)
@@ -77,6 +77,7 @@ module _ (layout : Layout) (shapes : ShapeLists) (w : World) (me : ℕ) (inside 
   pay_register = any_step layout shapes w.heap w.part w.log me wave new later record {
     inside = inside;
     phase = refl;
+    base = refl;
     words = words_paid layout shapes w.heap w.part me state wave.words region.Registers idx later (λ r i x at.
         from_none (owed_word r i x) at) refl word owes_it refl;
     who = refl;
@@ -109,14 +110,8 @@ module _ (layout : Layout) (shapes : ShapeLists) (w : World) (me : ℕ) (inside 
     knows_still = λ p at index x apart is. alone p at index apart (wave.kept.owns p at index x is) ∙
         wave.kept.known p at index x is;
     colours = wave.colours;
-    balance = λ _ c in_c few. refl;
-    rests = λ idle. (
-      (λ block in_block. let none = wave.rests.words idle block in_block in
-          record { shared = none.shared; mutator = none.mutator; race = none.race }),
-      wave.rests.held idle me,
-      wave.rests.scans idle me,
-      wave.rests.duties idle me,
-    );
+    balance = λ c in_c few. refl;
+    rests = λ idle. (wave.rests.held idle me, wave.rests.scans idle me);
     at_hand = λ c at. wave.hands.cells me c (elim at [
       | held is ↦ held is
       | scanned scan is e ↦
@@ -134,14 +129,14 @@ module _ (layout : Layout) (shapes : ShapeLists) (w : World) (me : ℕ) (inside 
         is_live) scan
         (wave.scans.knows p scan is);
     truer = λ p scan apart is holds. holds;
-    black = λ marks source place target link black white.
-        inr (black, white, λ e. inl (same_excuse source place target e));
-    stays = λ _ c is. is;
-    recoloured = λ _ c in_c. inl refl;
+    black = λ source place target link black white.
+        inr (refl, white, λ e. inl (same_excuse source place target e));
+    stays = λ c is. is;
+    recoloured = λ _ c. inl refl;
     aims = λ scan target is. wave.targets.right me scan target is;
-    marked = λ _ c in_c is. inl is;
+    marked = λ c in_c is. inl is;
     born = λ _ c owes. inl owes;
-    owes = λ c owes. (owes, λ marks. (wave.born.owed marks me c owes).white);
+    owes = λ c owes. (owes, wave.born.white me c owes);
     counted = λ _. omega arith;
     beyond = λ marks source n target link past.
         let (p, g) = wave.grows.beyond marks source n target link past in
@@ -156,8 +151,8 @@ module _ (layout : Layout) (shapes : ShapeLists) (w : World) (me : ℕ) (inside 
           Excuses new source place target later
       same_excuse source place target e = of_scan (w.part me).scan e
         where
-          of_scan : (scan : Option Scan) → OwesBarrier (w.part me).duty source ⊎
-              ScanExcuses w.heap source place target scan → OwesBarrier (w.part me).duty source ⊎
+          of_scan : (scan : Option Scan) → StillOwes w.heap (w.part me).duty source ⊎
+              ScanExcuses w.heap source place target scan → StillOwes w.heap (w.part me).duty source ⊎
               ScanExcuses new source place target scan
           of_scan scan (inl b) = inl b
           of_scan None (inr x) = inr x

@@ -4,7 +4,6 @@ use Rattle.std.proofs.lemmas.Bool.{cases_eq, eq-eqb, ne_eqb, and_from, eqb-true}
 use Rattle.std.proofs.lemmas.Nat.Bits.{bit_at_or, bit_at-lt}
 use Rattle.std.specs.Int.{bit_at}
 use Rattle.std.specs.Prelude.{Contains, if◌then◌else◌, ◌&&◌, not, filter, bit_or, max}
-use Rattle.tide_layout.specs.declared.region.Region.TheVariants as region
 use Rattle.tide_machine.proofs.kinds.Scanning.{times_in-first}
 use Rattle.tide_machine.proofs.steps.Colouring.{unread_write}
 use Rattle.tide_machine.proofs.steps.Frames.{calls_view, stops_view}
@@ -23,6 +22,7 @@ use Rattle.tide_model.specs.Refused.{ShapeLists}
 use Rattle.tide_words.specs.heap.Heap.{Heap, write}
 use Rattle.tide_words.specs.marking.Colours.{is_marking, is_grey}
 use Rattle.tide_words.specs.marking.Marking.{times_in}
+use Rattle.tide_layout.specs.declared.region.Region.TheVariants as region
 
 -- a cell that passes stands as often after a test as before, and one that doesn't, not at all
 times_in-filter : (test : ℕ → Bool) (cells : List ℕ) (cell : ℕ) →
@@ -143,6 +143,7 @@ module _ (layout : Layout) (shapes : ShapeLists) (w : World) (me : ℕ) (inside 
     marks = refl;
     cycle =
         refl;
+    least = refl;
     begun = refl;
     period = refl;
     left = refl;
@@ -159,7 +160,7 @@ module _ (layout : Layout) (shapes : ShapeLists) (w : World) (me : ℕ) (inside 
     ran = runs;
     runs = runs;
     colours = wave.colours;
-    balance = λ _ cell within few.
+    balance = λ cell within few.
         let now = bit_now cell in
         let left = times_in-filter stays (w.part me).held cell in
         let most = one_at_most (is_grey w.heap cell) in
@@ -210,15 +211,15 @@ module _ (layout : Layout) (shapes : ShapeLists) (w : World) (me : ℕ) (inside 
       λ cell at.
           wave.retained.buffered me cell scan is at,
     );
-    black = λ _ source place cell link black white.
-        inr (black, white, λ e. inl (elim e [ inl owes ↦ inl owes | inr answers ↦ inr answers ]));
+    black = λ source place cell link black white.
+        inr (refl, white, λ e. inl (elim e [ inl owes ↦ inl owes | inr answers ↦ inr answers ]));
     grows = λ c g. record { grows = g.grows; owes = g.owes };
-    stays = λ _ cell is. is;
-    recoloured = λ _ cell in_cell. inl refl;
+    stays = λ cell is. is;
+    recoloured = λ _ cell. inl refl;
     aims = λ scan target. wave.targets.right me scan target;
-    marked = λ _ cell in_cell is. inl is;
+    marked = λ cell in_cell is. inl is;
     born = λ _ cell owes. inl owes;
-    owes = λ cell owes. (owes, λ _. (wave.born.owed marks me cell owes).white);
+    owes = λ cell owes. (owes, wave.born.white me cell owes);
     counted = λ _. omega arith;
   }
     where

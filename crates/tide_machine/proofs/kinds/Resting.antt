@@ -3,7 +3,6 @@ use Rattle.std.proofs.Common.{ℕ, ◌⊎◌, ◌≡◌, ◌<◌, ◌≤◌, ◌
 use Rattle.std.proofs.lemmas.Bool.{cases_eq}
 use Rattle.std.specs.Prelude.{Contains, filter, if◌then◌else◌}
 use Rattle.tide_layout.specs.declared.region.Region.{Region}
-use Rattle.tide_layout.specs.declared.region.Region.TheVariants as region
 use Rattle.tide_machine.proofs.steps.Colouring.{unread_write}
 use Rattle.tide_machine.proofs.steps.Frames.{calls_view, stops_view, each_put, put_here}
 use Rattle.tide_machine.proofs.steps.Lists.{from_none, nothing_in}
@@ -40,6 +39,7 @@ use Rattle.tide_model.specs.declared.entry.Event.{Event}
 use Rattle.tide_words.proofs.heap_laws.HeapLaws.{write-same, write-other_index}
 use Rattle.tide_words.specs.heap.Heap.{Heap, write}
 use Rattle.tide_words.specs.marking.Colours.{running_cycle}
+use Rattle.tide_layout.specs.declared.region.Region.TheVariants as region
 
 module _ (layout : Layout) (shapes : ShapeLists) (heap : Heap) (part : ℕ → View) (log : List Event) (me : ℕ)
     (inside : me < parties)
@@ -47,7 +47,7 @@ module _ (layout : Layout) (shapes : ShapeLists) (heap : Heap) (part : ℕ → V
   none_scans : {X : Type 0} (scan : Scan) → (part me).scan ≡ Some scan → X
   none_scans scan is = (let none = rests.scan in absurd (cc))
 
-  module _ (seen earlier said : List Event) (period ticket run cycle : ℕ) (marks : Bool) (heard : (seen ≡ (part me).seen) ⊎
+  module _ (seen earlier said : List Event) (period ticket run cycle least : ℕ) (marks : Bool) (heard : (seen ≡ (part me).seen) ⊎
       (IsPrefix seen log × (filter (λ event. is_call_of me event.entry) seen ≡ (part me).mine))) where
     abbrev later : View
     later = record (part me) {
@@ -58,6 +58,7 @@ module _ (layout : Layout) (shapes : ShapeLists) (heap : Heap) (part : ℕ → V
       run = run;
       marks = marks;
       cycle = cycle;
+      least = least;
       earlier = earlier;
       told = said;
       known = [];
@@ -123,6 +124,7 @@ module _ (layout : Layout) (shapes : ShapeLists) (heap : Heap) (part : ℕ → V
     rest_step = any_step layout shapes heap part log me wave heap later record {
       inside = inside;
       phase = refl;
+      base = refl;
       period = refl;
       calls = calls_view layout heap heap part me later refl (λ p. refl) wave.calls;
       stops = stops_view layout heap heap part me later refl (λ p. refl) wave.stops;
@@ -155,13 +157,8 @@ module _ (layout : Layout) (shapes : ShapeLists) (heap : Heap) (part : ℕ → V
         refl,
       );
       colours = wave.colours;
-      balance = λ _ c in_c few. refl;
-      rests = λ idle. (
-        wave.rests.words idle,
-        wave.rests.held idle me,
-        wave.rests.scans idle me,
-        wave.rests.duties idle me,
-      );
+      balance = λ c in_c few. refl;
+      rests = λ idle. (wave.rests.held idle me, wave.rests.scans idle me);
       at_hand = λ c at. wave.hands.cells me c (elim at [
         | held is ↦ held is
         | scanned scan is e ↦
@@ -174,13 +171,13 @@ module _ (layout : Layout) (shapes : ShapeLists) (heap : Heap) (part : ℕ → V
       growths = λ p apart. wave.growths.knows p;
       scans = λ p scan apart is. wave.scans.knows p scan is;
       truer = λ p scan apart is holds. holds;
-      black = λ marks source place target link black white. inr (black, white, λ e. inl e);
-      stays = λ _ c is. is;
-      recoloured = λ _ c in_c. inl refl;
+      black = λ source place target link black white. inr (refl, white, λ e. inl e);
+      stays = λ c is. is;
+      recoloured = λ _ c. inl refl;
       aims = λ scan target is. none_scans scan is;
-      marked = λ _ c in_c is. inl is;
+      marked = λ c in_c is. inl is;
       born = λ _ c owes. inl owes;
-      owes = λ c owes. (owes, λ marks. (wave.born.owed marks me c owes).white);
+      owes = λ c owes. (owes, wave.born.white me c owes);
       counted = λ _. omega arith;
       beyond = λ marks source n target link past.
           let (p, g) = wave.grows.beyond marks source n target link past in
@@ -220,6 +217,7 @@ module _ (layout : Layout) (shapes : ShapeLists) (heap : Heap) (part : ℕ → V
       growth = refl;
       marks = refl;
       cycle = refl;
+      least = refl;
       begun = refl;
       period = refl;
       left = refl;
@@ -234,18 +232,8 @@ module _ (layout : Layout) (shapes : ShapeLists) (heap : Heap) (part : ℕ → V
       ran = runs;
       runs = runs;
       colours = wave.colours;
-      balance = λ _ c in_c few. refl;
-      rests = λ idle. (
-        λ block within.
-            (let n = wave.rests.words idle block within in record {
-              shared = n.shared;
-              mutator = n.mutator;
-              race = n.race;
-            }),
-        wave.rests.held idle me,
-        wave.rests.scans idle me,
-        wave.rests.duties idle me,
-      );
+      balance = λ c in_c few. refl;
+      rests = λ idle. (wave.rests.held idle me, wave.rests.scans idle me);
       at_hand = λ c at. wave.hands.cells me c (elim at [
         | held is ↦ held is
         | scanned scan is e ↦ scanned scan is e
@@ -253,14 +241,14 @@ module _ (layout : Layout) (shapes : ShapeLists) (heap : Heap) (part : ℕ → V
       ]);
       arrays = λ a scan is. none_scans scan is;
       scanned = λ scan is. none_scans scan is;
-      black = λ marks source place target link black white. inr (black, white, λ e. inl e);
+      black = λ source place target link black white. inr (refl, white, λ e. inl e);
       grows = λ c g. record { grows = g.grows; owes = g.owes };
-      stays = λ _ c is. is;
-      recoloured = λ _ c in_c. inl refl;
+      stays = λ c is. is;
+      recoloured = λ _ c. inl refl;
       aims = λ scan target is. none_scans scan is;
-      marked = λ _ c in_c is. inl is;
+      marked = λ c in_c is. inl is;
       born = λ _ c owes. inl owes;
-      owes = λ c owes. (owes, λ marks. (wave.born.owed marks me c owes).white);
+      owes = λ c owes. (owes, wave.born.white me c owes);
       counted = λ _. omega arith;
     }
 
@@ -303,7 +291,7 @@ stop layout shapes heap part log me inside party wave runs rests word =
       };
     } in
     let after = rest_step layout shapes (write heap region.Stopped (index_of_stopped layout me) word) now log me inside
-    once (subst Rests (sym same) rests_so) v.seen v.earlier v.told v.period v.ticket v.run v.cycle v.marks (inl refl) in
+    once (subst Rests (sym same) rests_so) v.seen v.earlier v.told v.period v.ticket v.run v.cycle v.least v.marks (inl refl) in
     subst (λ (q : ℕ → View). RunningWave layout shapes (record {
       heap = write heap region.Stopped (index_of_stopped layout me) word;
       part = q;

@@ -1,12 +1,10 @@
 -- The steps of a scan keep the wave.
 use Rattle.std.proofs.Common.{ℕ, ◌≡◌, ◌≢◌, ◌+◌, ◌<◌, ◌⊎◌, ◌==◌, refl, sym, ◌∙◌, ap, subst, arith, Bool, true, false, List, [], ◌∷◌, ◌++◌, inl, inr, Option, Some, None}
-use Rattle.std.proofs.lemmas.Bool.{cases_eq, eq-eqb, ne_eqb, and_parts, and_from}
+use Rattle.std.proofs.lemmas.Bool.{cases_eq, eq-eqb, ne_eqb}
 use Rattle.std.proofs.lemmas.List.Elements.{filter-append, Contains-append_cases, Contains-append_left, Contains-append_right}
 use Rattle.std.proofs.lemmas.List.Sums.{sum_by-append}
-use Rattle.std.specs.Prelude.{Contains, if◌then◌else◌, ◌&&◌, not}
-use Rattle.tide_core.specs.FrozenWave.{is_born_in_cycle}
-use Rattle.tide_layout.specs.declared.region.Region.TheVariants as region
-use Rattle.tide_machine.proofs.steps.Colouring.{unread_write, colours_coloured, black_before_grey, marked_after_grey, count_where-le, recoloured_one, grey_after_grey}
+use Rattle.std.specs.Prelude.{Contains, if◌then◌else◌, not}
+use Rattle.tide_machine.proofs.steps.Colouring.{unread_write, colours_coloured, black_before_grey, marked_after_grey, recoloured_one, grey_after_grey, blackened_le}
 use Rattle.tide_machine.proofs.steps.Frames.{calls_view, stops_view}
 use Rattle.tide_machine.proofs.steps.Lists.{in_one}
 use Rattle.tide_machine.proofs.steps.Quiet.{quiet_step}
@@ -22,7 +20,7 @@ use Rattle.tide_machine.specs.points.Links.{ScanExcuses}
 use Rattle.tide_machine.specs.points.Scans.{IsAtHand, held, scanned, buffered, ScanKnows}
 use Rattle.tide_machine.specs.points.Witness.{IsLeftFor, in_word, in_hand}
 use Rattle.tide_model.specs.Cycle.{cycle_span}
-use Rattle.tide_model.specs.Graph.{by_link, IsRetained, no_cell}
+use Rattle.tide_model.specs.Graph.{by_link, IsRetained}
 use Rattle.tide_model.specs.History.{state_after}
 use Rattle.tide_model.specs.Layout.{Layout, cell_count}
 use Rattle.tide_model.specs.Numbers.{put_at}
@@ -30,12 +28,15 @@ use Rattle.tide_model.specs.References.{IsLive}
 use Rattle.tide_model.specs.Refused.{ShapeLists}
 use Rattle.tide_model.specs.State.{live, spent}
 use Rattle.tide_words.proofs.heap_laws.ReadingLaws.{live_within}
-use Rattle.tide_words.proofs.marking_laws.ColourLaws.{is_grey-made, is_grey-other, is_marked-other, grey_is_marked, unmarked_is_neither}
+use Rattle.tide_words.proofs.marking_laws.ColourLaws.{is_grey-made, is_grey-other, is_marked-other, grey_is_marked, unmarked_is_neither, coloured-other}
 use Rattle.tide_words.specs.declared.forms.colours.Colour.TheVariants.{Grey}
-use Rattle.tide_words.specs.forms.ColourWord.{colour_word}
-use Rattle.tide_words.specs.marking.Colours.{coloured, is_marking, running_cycle, is_grey, is_black, IsMarked}
+use Rattle.tide_words.specs.forms.ColourWord.{colour_word, colour_cycle}
+use Rattle.tide_words.specs.marking.Colours.{Counts, coloured, is_marking, running_cycle, is_grey, IsMarked, IsStamped}
 use Rattle.tide_words.specs.marking.Marked.{is_marked}
 use Rattle.tide_words.specs.marking.Marking.{times_in}
+use Rattle.tide_model.specs.Old.{IsSpared}
+use Rattle.tide_machine.proofs.steps.Barriers.{still_owes}
+use Rattle.tide_layout.specs.declared.region.Region.TheVariants as region
 
 -- another cell than the one that is left out stays, and none comes
 leave_out-one : (cell x : ℕ) (cells : List ℕ) →
@@ -104,6 +105,9 @@ with_scan v cells scan = record v { held = cells; scan = scan }
 module _ (layout : Layout) (shapes : ShapeLists) (w : World) (me : ℕ) (inside : me < parties)
     (wave : RunningWave layout shapes w) (runs : (w.part me).runs ≡ true)
     (marks : is_marking w.heap ≡ true) where
+  counts : Counts w.heap
+  counts = wave.old.counts marks
+
   module _ (scan : Scan) (scans : (w.part me).scan ≡ Some scan) (agreed : scan.agreed ≡ true) (cell : ℕ)
       (has : Contains scan.buffer cell) where
     abbrev shorter : Scan
@@ -176,6 +180,7 @@ module _ (layout : Layout) (shapes : ShapeLists) (w : World) (me : ℕ) (inside 
           marks = refl;
           cycle =
               refl;
+          least = refl;
           begun = refl;
           period = refl;
           left = refl;
@@ -185,7 +190,7 @@ module _ (layout : Layout) (shapes : ShapeLists) (w : World) (me : ℕ) (inside 
           swept = λ block. refl;
           waits = left_kept layout w.heap (coloured w.heap cell Grey) w.part me
               (with_scan (w.part me) (cell ∷ (w.part me).held) (still_open shorter)) refl refl
-              (λ _ other in_other is. grey_after_grey w.heap cell other is) (λ c is. is) (λ is_one none. none) one_more
+              (λ _ other in_other is. grey_after_grey w.heap cell other counts is) (λ c is. is) (λ is_one none. none) one_more
               wave.waits;
           calls = calls_view layout w.heap (coloured w.heap cell Grey) w.part me
               (with_scan (w.part me) (cell ∷ (w.part me).held) (still_open shorter)) refl (λ p. refl) wave.calls;
@@ -194,14 +199,14 @@ module _ (layout : Layout) (shapes : ShapeLists) (w : World) (me : ℕ) (inside 
           ran = runs;
           runs = runs;
           colours = colours_coloured layout w.heap cell Grey (omega arith) wave.colours;
-          balance = λ _ other in_other few. elim (cases_eq other cell) [
+          balance = λ other in_other few. elim (cases_eq other cell) [
             | inl same ↦
                 let one = ap {B = ℕ} (λ (b : Bool). if b then 1 else 0) (eq-eqb cell other (sym same)) in
                 let not_grey = ap {B = ℕ} (λ (b : Bool). if b then 1 else 0) (ap (is_grey w.heap) same ∙
                 (unmarked_is_neither w.heap cell white).1) in
                 let grey = ap {B = ℕ} (λ (b : Bool). if b then 1 else 0)
                 (ap (is_grey (coloured w.heap cell Grey)) same ∙
-                is_grey-made w.heap cell) in
+                is_grey-made w.heap cell counts) in
                 let more = times_in-first (w.part me).held cell other in
                 omega (arith, one, not_grey, grey, more)
             | inr apart ↦
@@ -216,41 +221,42 @@ module _ (layout : Layout) (shapes : ShapeLists) (w : World) (me : ℕ) (inside 
               of_shorter (λ s. s.array ≡ Some (array + 1) → ((state_after layout w.log).arrays array ≡ live) ⊎
               ((state_after layout w.log).arrays array ≡ spent)) (wave.hands.arrays me array scan scans) other is
               has_it;
-          scanned = λ other is. of_shorter (λ s. IsMarked (coloured w.heap cell Grey) s.cell ×
+          scanned = λ other is. of_shorter (λ s. IsStamped (coloured w.heap cell Grey) s.cell ×
               ScanKnows layout w.heap (state_after layout w.log) s ×
               ((c : ℕ) → Contains s.buffer c → IsTrue s (w.heap region.Structure s.cell) →
               (cycle_span layout w.log).link s.cell c)) (
-                marked_after_grey w.heap cell scan.cell (wave.retained.scanned me scan scans),
+                stamped_after scan.cell (wave.retained.scanned me scan scans),
                 knows,
                 λ c at holds.
                     wave.retained.buffered me c scan scans (leave_out-was cell c scan.buffer at) holds,
               ) other is;
-          black = λ _ source place target link black_now white_now.
-              let before = black_before_grey w.heap cell source black_now in
+          black = λ source place target link black_now white_now.
+              let before = black_before_grey w.heap cell source counts black_now in
               let apart : target ≢ cell = λ same.
               (let grey = subst (λ (c : ℕ). is_marked (coloured w.heap cell Grey) c ≡ false) same white_now in let is =
-              grey_is_marked (coloured w.heap cell Grey) cell (is_grey-made w.heap cell) in absurd (cc)) in
+              grey_is_marked (coloured w.heap cell Grey) cell (is_grey-made w.heap cell counts) in absurd (cc)) in
               inr (
-                before.1,
+                coloured-other w.heap cell source Grey before.0,
                 sym (is_marked-other w.heap cell target Grey apart) ∙ white_now,
                 λ excuse.
                     inl (elim excuse [
-                      | inl owes ↦ inl owes
+                      | inl owes ↦ inl (still_owes w.heap (coloured w.heap cell Grey) (w.part me).duty source (coloured-other w.heap cell source Grey before.0) owes)
                       | inr answers ↦
                           inr (excuse_still source place target apart answers)
                     ]),
               );
           grows = λ c g. record { grows = g.grows; owes = g.owes };
-          stays = λ _ other. marked_after_grey w.heap cell other;
-          recoloured = λ _ other in_other.
+          stays = λ other. marked_after_grey w.heap cell other counts;
+          recoloured = λ _ other.
               recoloured_one w.heap cell other Grey
-              (grey_is_marked (coloured w.heap cell Grey) cell (is_grey-made w.heap cell));
+              (grey_is_marked (coloured w.heap cell Grey) cell (is_grey-made w.heap cell counts));
           aims = λ other target is aims. of_shorter (λ s. s.target ≡ Some target → (target.cell < cell_count layout) ×
               ((w.heap region.Colour target.cell ≡ target.word) ⊎ IsMarked w.heap target.cell)) (λ none.
               absurd (cc)) other is aims;
-          marked = λ _ other in_other now. elim (cases_eq other cell) [
+          marked = λ other in_other now. elim (cases_eq other cell) [
             | inl same ↦ inr (
-              subst (λ (c : ℕ). IsRetained (cycle_span layout w.log) no_cell c) (sym same) kept,
+              marks,
+              subst (λ (c : ℕ). IsRetained (cycle_span layout w.log) (IsSpared layout w.log) c) (sym same) kept,
               λ p elsewhere owes. (wave.born.owed marks p other owes).alone scan.cell
                   (subst (λ (c : ℕ). (cycle_span layout w.log).link scan.cell c) (sym same)
                   (wave.retained.buffered me cell scan scans has truly)),
@@ -258,14 +264,9 @@ module _ (layout : Layout) (shapes : ShapeLists) (w : World) (me : ℕ) (inside 
             | inr apart ↦ inl (sym (is_marked-other w.heap cell other Grey apart) ∙ now)
           ];
           born = λ _ other owes. inl owes;
-          owes = λ other owes. (owes, λ _. not_now other owes);
-          counted = λ _. (let few = count_where-le (λ c.
-              is_black (coloured w.heap cell Grey) c && not (is_born_in_cycle w.log c)) (λ c.
-              is_black w.heap c && not (is_born_in_cycle w.log c)) (cell_count layout)
-              (λ other both. let parts = and_parts (is_black (coloured w.heap cell Grey) other)
-              (not (is_born_in_cycle w.log other)) both in
-              and_from (is_black w.heap other) (not (is_born_in_cycle w.log other))
-              (black_before_grey w.heap cell other parts.0).1 parts.1) in omega (arith, few));
+          owes = λ other owes. (owes, not_now other owes);
+          counted = λ _. (let few = blackened_le layout w.heap (coloured w.heap cell Grey) w.log
+              (λ other black so. (black_before_grey w.heap cell other counts black).1) in omega (arith, few));
         }
       where
         one_more : (other : ℕ) → IsLeftFor w.heap (w.part me) other → IsLeftFor (coloured w.heap cell Grey)
@@ -274,11 +275,17 @@ module _ (layout : Layout) (shapes : ShapeLists) (w : World) (me : ℕ) (inside 
         one_more other (in_hand is lacks) =
             in_hand (Contains-append_right (cell ∷ []) (w.part me).held other is) lacks
 
-        kept : IsRetained (cycle_span layout w.log) no_cell cell
+        stamped_after : (other : ℕ) → IsStamped w.heap other → IsStamped (coloured w.heap cell Grey) other
+        stamped_after other was = elim (recoloured_one w.heap cell other Grey (grey_is_marked (coloured w.heap cell Grey) cell (is_grey-made w.heap cell counts))) [
+          | inl same ↦ (marked_after_grey w.heap cell other counts was.0, ap colour_cycle same ∙ was.1)
+          | inr now ↦ now
+        ]
+
+        kept : IsRetained (cycle_span layout w.log) (IsSpared layout w.log) cell
         kept = by_link scan.cell cell
             (wave.retained.marked marks scan.cell
             (live_within layout shapes wave.words.settled (state_after layout w.log) scan.cell wave.words.reads
-            (wave.hands.cells me scan.cell (scanned scan scans refl))) (wave.retained.scanned me scan scans))
+            (wave.hands.cells me scan.cell (scanned scan scans refl))) (wave.retained.scanned me scan scans).0)
             (wave.retained.buffered me cell scan scans has truly)
 
         not_now : (other : ℕ) → OwesColour (w.part me).duty other → is_marked (coloured w.heap cell Grey) other ≡ false
@@ -326,6 +333,7 @@ module _ (layout : Layout) (shapes : ShapeLists) (w : World) (me : ℕ) (inside 
           marks = refl;
           cycle =
               refl;
+          least = refl;
           begun = refl;
           period = refl;
           left = refl;
@@ -347,14 +355,14 @@ module _ (layout : Layout) (shapes : ShapeLists) (w : World) (me : ℕ) (inside 
           ran = runs;
           runs = runs;
           colours = wave.colours;
-          balance = λ _ other in_other few. refl;
+          balance = λ other in_other few. refl;
           rests = λ idle. absurd (cc);
           at_hand = λ other at. left_at_hand other at;
           arrays = λ array other is has_it.
               of_shorter (λ s. s.array ≡ Some (array + 1) → ((state_after layout w.log).arrays array ≡ live) ⊎
               ((state_after layout w.log).arrays array ≡ spent)) (wave.hands.arrays me array scan scans) other is
               has_it;
-          scanned = λ other is. of_shorter (λ s. IsMarked w.heap s.cell ×
+          scanned = λ other is. of_shorter (λ s. IsStamped w.heap s.cell ×
               ScanKnows layout w.heap (state_after layout w.log) s ×
               ((c : ℕ) → Contains s.buffer c → IsTrue s (w.heap region.Structure s.cell) →
               (cycle_span layout w.log).link s.cell c)) (
@@ -363,11 +371,11 @@ module _ (layout : Layout) (shapes : ShapeLists) (w : World) (me : ℕ) (inside 
                 λ c at holds.
                     wave.retained.buffered me c scan scans (leave_out-was cell c scan.buffer at) holds,
               ) other is;
-          black = λ _ source place target link black_now white_now.
+          black = λ source place target link black_now white_now.
               let apart : target ≢ cell = λ same.
               (let white = subst (λ (c : ℕ). is_marked w.heap c ≡ false) same white_now in absurd (cc)) in
               inr (
-                black_now,
+                refl,
                 white_now,
                 λ excuse.
                     inl (elim excuse [
@@ -377,14 +385,14 @@ module _ (layout : Layout) (shapes : ShapeLists) (w : World) (me : ℕ) (inside 
                     ]),
               );
           grows = λ c g. record { grows = g.grows; owes = g.owes };
-          stays = λ _ other is. is;
-          recoloured = λ _ other in_other. inl refl;
+          stays = λ other is. is;
+          recoloured = λ _ other. inl refl;
           aims = λ other target is aims. of_shorter (λ s. s.target ≡ Some target → (target.cell < cell_count layout) ×
               ((w.heap region.Colour target.cell ≡ target.word) ⊎ IsMarked w.heap target.cell)) (λ none.
               absurd (cc)) other is aims;
-          marked = λ _ other in_other is. inl is;
+          marked = λ other in_other is. inl is;
           born = λ _ other owes. inl owes;
-          owes = λ other owes. (owes, λ _. (wave.born.owed marks me other owes).white);
+          owes = λ other owes. (owes, wave.born.white me other owes);
           counted = λ _. omega arith;
         }
       where

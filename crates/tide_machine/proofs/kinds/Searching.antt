@@ -6,7 +6,6 @@ use Rattle.std.specs.Int.{bit_at}
 use Rattle.std.specs.Prelude.{Contains, if◌then◌else◌, ◌&&◌}
 use Rattle.tide_layout.specs.Region.{tag}
 use Rattle.tide_layout.specs.declared.region.Region.{Region}
-use Rattle.tide_layout.specs.declared.region.Region.TheVariants as region
 use Rattle.tide_machine.proofs.steps.ArraysKept.{arrays_kept}
 use Rattle.tide_machine.proofs.steps.Frames.{calls_view, stops_view, each_put}
 use Rattle.tide_machine.proofs.steps.GrowthsKept.{growth_kept}
@@ -42,6 +41,7 @@ use Rattle.tide_words.proofs.heap_laws.HeapLaws.{write-same, write-other_index}
 use Rattle.tide_words.proofs.heap_laws.Parts.{RootsRead-same, SameRoots-write}
 use Rattle.tide_words.specs.heap.Heap.{Heap, write}
 use Rattle.tide_words.specs.heap.Reading.{IsNamedAmong, ReadsAs, status_by}
+use Rattle.tide_layout.specs.declared.region.Region.TheVariants as region
 
 -- nothing is free whose bit is clear
 not_free_by : (word dead_word k : ℕ) (otherwise : Status) → bit_at word k ≡ 0 → is_free otherwise ≡ false →
@@ -197,6 +197,7 @@ module _ (layout : Layout) (shapes : ShapeLists) (w : World) (me : ℕ) (inside 
     looks = any_step layout shapes w.heap w.part w.log me wave after later record {
       inside = inside;
       phase = refl;
+      base = refl;
       period = refl;
       words = words_after;
       who = refl;
@@ -230,14 +231,8 @@ module _ (layout : Layout) (shapes : ShapeLists) (w : World) (me : ℕ) (inside 
       knows_still = λ p at index x apart is. not_free w.heap p at index (wave.kept.owns p at index x is) ∙
           wave.kept.known p at index x is;
       colours = wave.colours;
-      balance = λ _ c in_c few. refl;
-      rests = λ idle. (
-        (λ b in_block. let none = wave.rests.words idle b in_block in
-            record { shared = none.shared; mutator = none.mutator; race = none.race }),
-        wave.rests.held idle me,
-        wave.rests.scans idle me,
-        wave.rests.duties idle me,
-      );
+      balance = λ c in_c few. refl;
+      rests = λ idle. (wave.rests.held idle me, wave.rests.scans idle me);
       at_hand = λ c at. wave.hands.cells me c (elim at [
         | held is ↦ held is
         | scanned scan is e ↦
@@ -255,14 +250,14 @@ module _ (layout : Layout) (shapes : ShapeLists) (w : World) (me : ℕ) (inside 
           (λ c is_live. is_live) scan
           (wave.scans.knows p scan is);
       truer = λ p scan apart is holds. holds;
-      black = λ marks source place target link black white.
-          inr (black, white, λ e. inl (excuse_same source place target e));
-      stays = λ _ c is. is;
-      recoloured = λ _ c in_c. inl refl;
+      black = λ source place target link black white.
+          inr (refl, white, λ e. inl (excuse_same source place target e));
+      stays = λ c is. is;
+      recoloured = λ _ c. inl refl;
       aims = λ scan target is. wave.targets.right me scan target is;
-      marked = λ _ c in_c is. inl is;
+      marked = λ c in_c is. inl is;
       born = λ _ c owes. inl owes;
-      owes = λ c owes. (owes, λ marks. (wave.born.owed marks me c owes).white);
+      owes = λ c owes. (owes, wave.born.white me c owes);
       counted = λ _. omega arith;
       beyond = λ marks source n target link past.
           let (p, g) = wave.grows.beyond marks source n target link past in

@@ -4,7 +4,6 @@ use Rattle.std.proofs.lemmas.Bool.{cases_Bool}
 use Rattle.std.specs.Int.{bit_at}
 use Rattle.std.specs.Prelude.{if◌then◌else◌, slice_get, ◌==◌}
 use Rattle.tide_layout.specs.Limits.{IsWithinLimits}
-use Rattle.tide_layout.specs.declared.region.Region.TheVariants as region
 use Rattle.tide_machine.proofs.kinds.BornColours.{born_black, born_white}
 use Rattle.tide_machine.proofs.kinds.Regreying.{regrey, push_bit, load_colour}
 use Rattle.tide_machine.proofs.kinds.Searches.{load_free, lost}
@@ -12,13 +11,11 @@ use Rattle.tide_machine.proofs.kinds.SeenCalls.{load_link}
 use Rattle.tide_machine.proofs.kinds.StoringLinks.{store_link}
 use Rattle.tide_machine.proofs.kinds.Takes.{take}
 use Rattle.tide_machine.proofs.steps.Loads.{load_nothing}
-use Rattle.tide_machine.specs.Duties.{GrowsOn, OwesBarrier}
 use Rattle.tide_machine.specs.Groups.{is_of_second_group}
 use Rattle.tide_machine.specs.Kind.{Kind, LoadLink, StoreLink, LoadColour, Regrey, PushBit, StoreBorn, LoadFree, TakeFree}
 use Rattle.tide_machine.specs.Machine.{IsAllowed, stepped}
 use Rattle.tide_machine.specs.RunningWave.{RunningWave}
 use Rattle.tide_machine.specs.World.{World, parties}
-use Rattle.tide_machine.specs.declared.view.Duty.{Duty}
 use Rattle.tide_machine.specs.kinds.LoadColour.{MayLoadColour}
 use Rattle.tide_machine.specs.kinds.PushBit.{MayPushBit}
 use Rattle.tide_machine.specs.kinds.Regrey.{MayRegrey}
@@ -29,8 +26,10 @@ use Rattle.tide_model.specs.Refused.{ShapeLists}
 use Rattle.tide_model.specs.declared.op.Op.{Op}
 use Rattle.tide_model.specs.declared.op.Op.TheVariants.{Put}
 use Rattle.tide_words.specs.declared.forms.colours.Colour.TheVariants.{Black, White}
-use Rattle.tide_words.specs.forms.ColourWord.{colour_word}
+use Rattle.tide_words.specs.marking.Marked.{base_cycle}
+use Rattle.tide_words.specs.forms.ColourWord.{is_black_in, colour_word}
 use Rattle.tide_words.specs.marking.Colours.{running_cycle, is_marking}
+use Rattle.tide_layout.specs.declared.region.Region.TheVariants as region
 
 -- a slot is stored by Put
 pub put : (layout : Layout) (shapes : ShapeLists) (w : World) (me : ℕ) → me < parties → RunningWave layout shapes w →
@@ -44,37 +43,27 @@ put layout shapes w me inside wave cell n word (Put src m val) (here, fits, sour
     (subst (λ (k : ℕ). k < slots_of (class_of layout cell)) (sym here) fits))
 put layout shapes w me inside wave cell n word _ none = absurd none
 
--- where a barrier is owed on a cell, that cell's growth is over
-grown : (growth_on : ℕ → Type 0) (d : Duty) (cell : ℕ) → ((other : ℕ) → OwesBarrier d other → cell ≡ other) →
-    (growth_on cell → ⊥) →
-    (other : ℕ) → growth_on other → OwesBarrier d other → ⊥
-grown growth_on d cell only none other grows owes = none (subst growth_on (sym (only other owes)) grows)
-
 pub colour_loaded : (layout : Layout) (shapes : ShapeLists) (w : World) (me : ℕ) → me < parties →
     RunningWave layout shapes w →
     (cell : ℕ) → MayLoadColour layout w me cell →
     RunningWave layout shapes (stepped layout shapes w me (LoadColour cell))
 colour_loaded layout shapes w me inside wave cell may =
-    load_colour layout shapes w me inside wave may.runner.runs
-    (grown (GrowsOn (w.part me).growth) (w.part me).duty cell (λ other owes.
-    subst (λ (d : Duty). OwesBarrier d other) may.owed owes) may.grown) cell may.owed
+    load_colour layout shapes w me inside wave may.runner.runs cell may.owed may.grown
 
 pub regreyed_or_left : (layout : Layout) (shapes : ShapeLists) (w : World) (me : ℕ) → me < parties →
     RunningWave layout shapes w →
-    (cell cycle : ℕ) → MayRegrey layout w me cell cycle →
-    RunningWave layout shapes (stepped layout shapes w me (Regrey cell cycle))
-regreyed_or_left layout shapes w me inside wave cell cycle may =
-    subst (λ (c : ℕ). RunningWave layout shapes (stepped layout shapes w me (Regrey cell c))) (sym may.in_cycle)
-    (regrey layout shapes w me inside wave may.runner.runs
-    (grown (GrowsOn (w.part me).growth) (w.part me).duty cell (λ other owes.
-    subst (λ (d : Duty). OwesBarrier d other) may.owed owes) may.grown) cell may.word may.owed may.within)
+    (cell old cycle : ℕ) → MayRegrey layout w me cell old cycle →
+    RunningWave layout shapes (stepped layout shapes w me (Regrey cell old cycle))
+regreyed_or_left layout shapes w me inside wave cell old cycle may =
+    subst (λ (c : ℕ). RunningWave layout shapes (stepped layout shapes w me (Regrey cell old c))) (sym may.in_cycle)
+    (regrey layout shapes w me inside wave may.runner.runs cell old may.owed may.within
+    (subst (λ (b : ℕ). is_black_in b old ≡ true) (wave.numbers.told me may.runner.runs).3 may.black))
 
 pub bit_pushed_once : (layout : Layout) (shapes : ShapeLists) (w : World) (me : ℕ) → me < parties →
     RunningWave layout shapes w →
     (cell : ℕ) → MayPushBit layout w me cell → RunningWave layout shapes (stepped layout shapes w me (PushBit cell))
 bit_pushed_once layout shapes w me inside wave cell may =
-    push_bit layout shapes w me inside wave may.runner.runs
-    (λ other grows owes. subst (λ (d : Duty). OwesBarrier d other) may.owed owes) cell may.owed
+    push_bit layout shapes w me inside wave may.runner.runs cell may.owed
 
 -- a new cell is coloured black while a cycle marks, and else white
 pub born_coloured : (layout : Layout) (shapes : ShapeLists) (w : World) (me : ℕ) → me < parties →
@@ -88,7 +77,7 @@ born_coloured layout shapes w me inside wave cell word may =
     (by (is_marking w.heap) refl)
   where
     told : ((w.part me).marks ≡ is_marking w.heap) × ((w.part me).cycle ≡ running_cycle w.heap) ×
-        ((w.part me).begun ≡ w.heap region.Period 0)
+        ((w.part me).begun ≡ w.heap region.Period 0) × ((w.part me).least ≡ base_cycle w.heap)
     told = wave.numbers.told me may.runner.runs
 
     by : (marks : Bool) → is_marking w.heap ≡ marks →
@@ -111,8 +100,8 @@ second_group layout shapes limits empty_shape w me inside wave (StoreLink cell n
     put layout shapes w me inside wave cell n word o may
 second_group layout shapes limits empty_shape w me inside wave (LoadColour cell) is may =
     colour_loaded layout shapes w me inside wave cell may
-second_group layout shapes limits empty_shape w me inside wave (Regrey cell cycle) is may =
-    regreyed_or_left layout shapes w me inside wave cell cycle may
+second_group layout shapes limits empty_shape w me inside wave (Regrey cell old cycle) is may =
+    regreyed_or_left layout shapes w me inside wave cell old cycle may
 second_group layout shapes limits empty_shape w me inside wave (PushBit cell) is may =
     bit_pushed_once layout shapes w me inside wave cell may
 second_group layout shapes limits empty_shape w me inside wave (LoadFree block None) is may =

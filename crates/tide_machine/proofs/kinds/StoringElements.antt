@@ -7,7 +7,6 @@ use Rattle.tide_layout.proofs.SlotPlaces.{index_of_element-alone}
 use Rattle.tide_layout.specs.Region.{tag}
 use Rattle.tide_layout.specs.Slots.{HasElement, index_of_element}
 use Rattle.tide_layout.specs.declared.region.Region.{Region}
-use Rattle.tide_layout.specs.declared.region.Region.TheVariants as region
 use Rattle.tide_machine.proofs.steps.Frames.{calls_view, stops_view}
 use Rattle.tide_machine.proofs.steps.GrowthsKept.{growth_kept}
 use Rattle.tide_machine.proofs.steps.Lists.{nothing_in, in_one}
@@ -17,7 +16,7 @@ use Rattle.tide_machine.proofs.steps.Steps.{any_step}
 use Rattle.tide_machine.proofs.steps.SweepsKept.{swept_kept, sweeps_kept}
 use Rattle.tide_machine.proofs.steps.Waiting.{left_quiet}
 use Rattle.tide_machine.proofs.steps.Unsettled.{given_put, own_settled, unsettled_write, unsettles_put}
-use Rattle.tide_machine.specs.Duties.{GrowsAndOwes, OwesBarrier}
+use Rattle.tide_machine.specs.Duties.{GrowsAndOwes, StillOwes}
 use Rattle.tide_machine.specs.Kind.{StoreElement}
 use Rattle.tide_machine.specs.Machine.{stepped}
 use Rattle.tide_machine.specs.Owed.{Owes, owed_word, is_at, without_word, IsOwnWord, own_element}
@@ -50,6 +49,7 @@ use Rattle.tide_words.proofs.heap_laws.ReadingLaws.{live_within}
 use Rattle.tide_words.specs.forms.ValueWord.{val_word}
 use Rattle.tide_words.specs.heap.Heap.{Heap, write}
 use Rattle.tide_words.specs.heap.Reading.{ReadsAs}
+use Rattle.tide_layout.specs.declared.region.Region.TheVariants as region
 
 module _ (layout : Layout) (shapes : ShapeLists) (w : World) (me : ℕ) (inside : me < parties)
     (wave : RunningWave layout shapes w) (runs : (w.part me).runs ≡ true) (cell array place word : ℕ)
@@ -163,6 +163,7 @@ module _ (layout : Layout) (shapes : ShapeLists) (w : World) (me : ℕ) (inside 
     store_element = any_step layout shapes w.heap w.part w.log me wave new later record {
       inside = inside;
       phase = refl;
+      base = refl;
       period = refl;
       words = words;
       who = refl;
@@ -205,14 +206,8 @@ module _ (layout : Layout) (shapes : ShapeLists) (w : World) (me : ℕ) (inside 
       knows_still = λ p at index x apart is. ap (λ (b : Bool). if b then word else w.heap at index)
           (alone p at index apart (wave.kept.owns p at index x is)) ∙ wave.kept.known p at index x is;
       colours = wave.colours;
-      balance = λ _ c in_c few. refl;
-      rests = λ idle. (
-        (λ block in_block. let none = wave.rests.words idle block in_block in
-            record { shared = none.shared; mutator = none.mutator; race = none.race }),
-        wave.rests.held idle me,
-        wave.rests.scans idle me,
-        wave.rests.duties idle me,
-      );
+      balance = λ c in_c few. refl;
+      rests = λ idle. (wave.rests.held idle me, wave.rests.scans idle me);
       at_hand = λ c at. wave.hands.cells me c (elim at [
         | held is ↦ held is
         | scanned scan is e ↦ scanned scan is e
@@ -226,13 +221,13 @@ module _ (layout : Layout) (shapes : ShapeLists) (w : World) (me : ℕ) (inside 
       );
       scans = λ p scan apart is. knows_after scan (wave.scans.knows p scan is);
       truer = λ p scan apart is holds. holds;
-      black = λ marks source at target link black white. inr (black, white, λ e. inl (same_excuse source at target e));
-      stays = λ _ c is. is;
-      recoloured = λ _ c in_c. inl refl;
+      black = λ source at target link black white. inr (refl, white, λ e. inl (same_excuse source at target e));
+      stays = λ c is. is;
+      recoloured = λ _ c. inl refl;
       aims = λ scan target is. wave.targets.right me scan target is;
-      marked = λ _ c in_c is. inl is;
+      marked = λ c in_c is. inl is;
       born = λ _ c owes. inl owes;
-      owes = λ c owes. (owes, λ marks. (wave.born.owed marks me c owes).white);
+      owes = λ c owes. (owes, wave.born.white me c owes);
       counted = λ _. omega arith;
       beyond = λ marks source n target link past.
           let (p, g) = wave.grows.beyond marks source n target link past in
@@ -256,8 +251,8 @@ module _ (layout : Layout) (shapes : ShapeLists) (w : World) (me : ℕ) (inside 
             Excuses new source at target later
         same_excuse source at target e = of_scan (w.part me).scan e
           where
-            of_scan : (scan : Option Scan) → OwesBarrier (w.part me).duty source ⊎
-                ScanExcuses w.heap source at target scan → OwesBarrier (w.part me).duty source ⊎
+            of_scan : (scan : Option Scan) → StillOwes w.heap (w.part me).duty source ⊎
+                ScanExcuses w.heap source at target scan → StillOwes w.heap (w.part me).duty source ⊎
                 ScanExcuses new source at target scan
             of_scan scan (inl b) = inl b
             of_scan None (inr x) = inr x

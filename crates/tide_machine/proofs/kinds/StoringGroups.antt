@@ -4,12 +4,11 @@ use Rattle.std.specs.Prelude.{slice_get}
 use Rattle.tide_layout.specs.Limits.{IsWithinLimits}
 use Rattle.tide_layout.specs.Region.{tag}
 use Rattle.tide_layout.specs.declared.region.Region.{Region}
-use Rattle.tide_layout.specs.declared.region.Region.TheVariants as region
 use Rattle.tide_machine.proofs.steps.CallReadings.{call_reads}
 use Rattle.tide_machine.proofs.steps.CellCalls.{cell_call}
 use Rattle.tide_machine.proofs.steps.SameLinks.{SameLinks, same_links, same_arrays, all_same}
 use Rattle.tide_machine.proofs.steps.SettledNow.{group_now}
-use Rattle.tide_machine.specs.Duties.{IsCalm, OwesColour}
+use Rattle.tide_machine.specs.Duties.{OwesColour}
 use Rattle.tide_machine.specs.Kind.{StoreGroup}
 use Rattle.tide_machine.specs.Machine.{stepped}
 use Rattle.tide_machine.specs.May.{MayCall}
@@ -32,6 +31,7 @@ use Rattle.tide_model.specs.declared.val.Val.{Val}
 use Rattle.tide_model.specs.declared.val.Val.TheVariants.{Cell}
 use Rattle.tide_words.specs.heap.Heap.{write}
 use Rattle.tide_words.specs.heap.Reading.{ReadsAs}
+use Rattle.tide_layout.specs.declared.region.Region.TheVariants as region
 
 module _ (layout : Layout) (shapes : ShapeLists) (limits : IsWithinLimits layout)
     (empty_shape : slice_get shapes 0 ≡ Some []) (w : World) (me : ℕ) (inside : me < parties)
@@ -78,9 +78,8 @@ module _ (layout : Layout) (shapes : ShapeLists) (limits : IsWithinLimits layout
           status = refl;
           array = refl;
           pushes_none = λ c. ap (λ (d : Duty). pushes d c) may.between.duty;
-          calm = λ rests. subst IsCalm (sym may.between.duty) tt;
           no_colour = λ c owes. subst (λ (d : Duty). OwesColour d c) may.between.duty owes;
-          links = λ marks x place target link. inr (same_links state cell grouped same_group x place target link);
+          links = λ x place target link. inr (same_links state cell grouped same_group x place target link);
           beyond = λ marks x k target link past. (
             same_links state cell grouped same_group x (property k) target link,
             past,

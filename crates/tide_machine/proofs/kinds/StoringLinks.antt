@@ -1,6 +1,6 @@
 -- The store of a slot keeps the wave.
 use Rattle.std.proofs.Common.{ℕ, ◌≡◌, ◌≢◌, ◌<◌, ◌⊎◌, ◌==◌, refl, sym, ◌∙◌, ap, subst, arith, Bool, true, List, [], ◌∷◌, ◌++◌, inl, inr, Option, Some, None, length}
-use Rattle.std.proofs.lemmas.Bool.{cases_Bool, cases_eq, eq-eqb, ne_eqb}
+use Rattle.std.proofs.lemmas.Bool.{cases_eq, eq-eqb, ne_eqb}
 use Rattle.std.specs.Prelude.{Contains, if◌then◌else◌, ◌&&◌, not}
 use Rattle.tide_call.proofs.reading_laws.SlotReading.{Reading-slot}
 use Rattle.tide_layout.proofs.Places.{tag-injective}
@@ -8,19 +8,17 @@ use Rattle.tide_layout.proofs.SlotPlaces.{index_of_slot-alone}
 use Rattle.tide_layout.specs.Region.{tag}
 use Rattle.tide_layout.specs.Slots.{index_of_slot}
 use Rattle.tide_layout.specs.declared.region.Region.{Region}
-use Rattle.tide_layout.specs.declared.region.Region.TheVariants as region
 use Rattle.tide_machine.proofs.WordLaws.{cell_word_is}
 use Rattle.tide_machine.proofs.steps.ArraysKept.{arrays_kept}
-use Rattle.tide_machine.proofs.steps.Barriers.{pushes_barrier, colour_barrier, calm_barrier, owes_barrier}
+use Rattle.tide_machine.proofs.steps.Barriers.{pushes_barrier, colour_barrier, owes_barrier}
 use Rattle.tide_machine.proofs.steps.Calls.{OfState, call_step, is_uncalled}
 use Rattle.tide_machine.proofs.steps.Frames.{each_put, calls_view}
 use Rattle.tide_machine.proofs.steps.GrowthsKept.{growth_kept}
 use Rattle.tide_machine.proofs.steps.Lists.{nothing_in}
 use Rattle.tide_machine.proofs.steps.ScansKept.{scan_kept}
-use Rattle.tide_machine.proofs.steps.SlotCells
 use Rattle.tide_machine.proofs.steps.Unsettled.{given_put, live_is_not_dead, unsettled_write, unsettles_put}
 use Rattle.tide_machine.proofs.steps.SettledNow.{slot_now}
-use Rattle.tide_machine.specs.Duties.{OwesBarrier, OwesColour}
+use Rattle.tide_machine.specs.Duties.{OwesColour, AwaitsLoad, StillOwes}
 use Rattle.tide_machine.specs.Entries.{call_of}
 use Rattle.tide_machine.specs.Kind.{StoreLink}
 use Rattle.tide_machine.specs.Machine.{stepped}
@@ -30,8 +28,6 @@ use Rattle.tide_machine.specs.RunningWave.{RunningWave}
 use Rattle.tide_machine.specs.Scanning.{Place, slot, property}
 use Rattle.tide_machine.specs.Words.{is_cell_word}
 use Rattle.tide_machine.specs.World.{World, parties, pushes}
-use Rattle.tide_machine.specs.declared.view.Duty.TheVariants as duty
-use Rattle.tide_machine.specs.declared.view.Growth.TheVariants as growth
 use Rattle.tide_machine.specs.declared.view.Owed.{Owed}
 use Rattle.tide_machine.specs.declared.view.View.{View}
 use Rattle.tide_machine.specs.points.Growths.{GrowthKnows}
@@ -56,6 +52,10 @@ use Rattle.tide_words.proofs.heap_laws.ReadingLaws.{live_within, HasSlot-class}
 use Rattle.tide_words.specs.forms.ValueWord.{val_word, HasU32}
 use Rattle.tide_words.specs.heap.Heap.{Heap, write}
 use Rattle.tide_words.specs.heap.Reading.{ReadsAs}
+use Rattle.tide_layout.specs.declared.region.Region.TheVariants as region
+use Rattle.tide_machine.proofs.steps.SlotCells
+use Rattle.tide_machine.specs.declared.view.Duty.TheVariants as duty
+use Rattle.tide_machine.specs.declared.view.Growth.TheVariants as growth
 
 module _ (layout : Layout) (shapes : ShapeLists) (w : World) (me : ℕ) (inside : me < parties)
     (wave : RunningWave layout shapes w) (runs : (w.part me).runs ≡ true)
@@ -78,7 +78,7 @@ module _ (layout : Layout) (shapes : ShapeLists) (w : World) (me : ℕ) (inside 
   abbrev later : View
   later = record (w.part me) {
     owed = [];
-    duty = barrier_for (w.part me).marks cell word;
+    duty = barrier_for cell word;
     known = [];
     full = [];
     seen = w.log ++ call_of me (Put src slot_number val) Done None ∷ [];
@@ -223,14 +223,13 @@ module _ (layout : Layout) (shapes : ShapeLists) (w : World) (me : ℕ) (inside 
     scans = λ p scan is. scan_kept layout w.heap new state (put_slot state (Cell cell) slot_number value)
         (λ c. refl) (λ c. refl) (λ i. refl) (λ c is_live. (as_before c).status ∙ is_live) scan
         (wave.scans.knows p scan is);
-    links = λ marks x place target link black white. elim (link_after x place target link) [
-      | inl fresh ↦ inl (subst (OwesBarrier later.duty) (sym fresh.0)
-          (owes_barrier (w.part me).marks (is_cell_word word) cell ((wave.numbers.told me runs).0 ∙ marks)
-          (cell_word_is word target (stored ∙ ap val_word fresh.2))))
+    links = λ x place target link black white. elim (link_after x place target link) [
+      | inl fresh ↦ inl (subst (StillOwes new later.duty) (sym fresh.0)
+          (owes_barrier new (is_cell_word word) cell (cell_word_is word target (stored ∙ ap val_word fresh.2))))
       | inr before ↦ inr before
     ];
     beyond = λ marks x n target link past. inr (same_property x n target link, past);
-    awaited = λ c owes. absurd (colour_barrier ((w.part me).marks && is_cell_word word) cell c owes);
+    awaited = λ c owes. absurd (colour_barrier (is_cell_word word) cell c owes);
     growth = subst (GrowthKnows new (put_slot state (Cell cell) slot_number value) me later) (sym grows_not) tt;
     growths = λ p apart. growth_kept w.heap new state (put_slot state (Cell cell) slot_number value) p (w.part p)
         (w.part p)
@@ -287,6 +286,7 @@ module _ (layout : Layout) (shapes : ShapeLists) (w : World) (me : ℕ) (inside 
         mine = refl;
         marks = refl;
         cycle = refl;
+        least = refl;
         begun = refl;
         visits = refl;
         stopped = refl;
@@ -305,18 +305,18 @@ module _ (layout : Layout) (shapes : ShapeLists) (w : World) (me : ℕ) (inside 
         scan = refl;
         known = refl;
         full = refl;
-        pushes_none = λ c. (ap (λ d. pushes d c) idle, pushes_barrier ((w.part me).marks && is_cell_word word) cell c);
-        calm = λ rests. calm_barrier (w.part me).marks (is_cell_word word) cell ((wave.numbers.told me runs).0 ∙ rests);
-        grows = λ c g. absurd (subst (λ d. OwesBarrier d c) idle g.owes);
-        barrier = λ c owes. absurd (subst (λ d. OwesBarrier d c) idle owes);
+        pushes_none = λ c. (ap (λ d. pushes d c) idle, pushes_barrier (is_cell_word word) cell c);
+        grows = λ c g. absurd (subst (λ d. AwaitsLoad d c) idle g.owes);
+        barrier = λ c owes. absurd (subst (λ d. StillOwes w.heap d c) idle owes);
         kept = λ p at index other apart is. own_else w.heap p at index (wave.kept.owns p at index other is) ∙
             wave.kept.known p at index other is;
         truer = λ p scan is holds. holds;
         born_before = λ c owes. subst (λ d. OwesColour d c) idle owes;
         born = λ c born. absurd (cc);
-        awaits = λ marks c owes. absurd (colour_barrier ((w.part me).marks && is_cell_word word) cell c owes);
+        white = λ c owes. absurd (colour_barrier (is_cell_word word) cell c owes);
+        awaits = λ marks c owes. absurd (colour_barrier (is_cell_word word) cell c owes);
         owner = wave.born.owner;
-        once = λ c owes. absurd (colour_barrier ((w.part me).marks && is_cell_word word) cell c owes);
+        once = λ c owes. absurd (colour_barrier (is_cell_word word) cell c owes);
         once_others = λ p c apart. wave.born.once p c;
         state = subst (λ (x : Val). OfState layout shapes w.heap w.part w.log me wave (Put src slot_number val) Done None
             new later (put_slot state x slot_number value)) (sym source) state_after_store;

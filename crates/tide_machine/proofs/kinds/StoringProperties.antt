@@ -6,9 +6,8 @@ use Rattle.tide_layout.proofs.SlotPlaces.{index_of_element-alone}
 use Rattle.tide_layout.specs.Limits.{IsWithinLimits}
 use Rattle.tide_layout.specs.Slots.{HasElement, index_of_element}
 use Rattle.tide_layout.specs.declared.region.Region.{Region}
-use Rattle.tide_layout.specs.declared.region.Region.TheVariants as region
 use Rattle.tide_machine.proofs.WordLaws.{cell_word_is}
-use Rattle.tide_machine.proofs.steps.Barriers.{pushes_barrier, colour_barrier, calm_barrier, owes_barrier}
+use Rattle.tide_machine.proofs.steps.Barriers.{pushes_barrier, colour_barrier, owes_barrier}
 use Rattle.tide_machine.proofs.steps.CallReadings.{call_reads}
 use Rattle.tide_machine.proofs.steps.CellCalls.{ShowsCell, cell_call, named_after, words_after, later}
 use Rattle.tide_machine.proofs.steps.Claimed.{unowed, count_is, array_is}
@@ -16,7 +15,6 @@ use Rattle.tide_machine.proofs.steps.Lists.{nothing_in}
 use Rattle.tide_machine.proofs.steps.Owning.{own_alone}
 use Rattle.tide_machine.proofs.steps.StandingArrays.{array_settled}
 use Rattle.tide_machine.proofs.steps.SettledNow.{own_now}
-use Rattle.tide_machine.specs.Duties.{OwesBarrier}
 use Rattle.tide_machine.specs.Kind.{StoreElement}
 use Rattle.tide_machine.specs.Machine.{stepped}
 use Rattle.tide_machine.specs.May.{MayCall, barrier_for}
@@ -48,6 +46,8 @@ use Rattle.tide_words.proofs.heap_laws.HeapLaws.{write-same, write-other_index}
 use Rattle.tide_words.specs.forms.ValueWord.{val_word}
 use Rattle.tide_words.specs.heap.Heap.{Heap, write}
 use Rattle.tide_words.specs.heap.Reading.{ReadsAs}
+use Rattle.tide_machine.specs.Duties.{StillOwes}
+use Rattle.tide_layout.specs.declared.region.Region.TheVariants as region
 
 module _ (layout : Layout) (shapes : ShapeLists) (limits : IsWithinLimits layout)
     (empty_shape : slice_get shapes 0 ≡ Some []) (w : World) (me : ℕ) (inside : me < parties)
@@ -82,7 +82,7 @@ module _ (layout : Layout) (shapes : ShapeLists) (limits : IsWithinLimits layout
   new = write w.heap region.Elements idx word
 
   abbrev next_duty : Rattle.tide_machine.specs.declared.view.Duty.Duty
-  next_duty = barrier_for (w.part me).marks cell word
+  next_duty = barrier_for cell word
 
   status_same : (x : ℕ) → (after.cells x).status ≡ (state.cells x).status
   status_same = put_at_elim (λ x (h : CellState). h.status ≡ (state.cells x).status) state.cells cell set refl (λ x
@@ -148,13 +148,11 @@ module _ (layout : Layout) (shapes : ShapeLists) (limits : IsWithinLimits layout
         me region.Elements region.Elements idx idx own (own_element cell array place claimed its_array has) refl refl);
     status = refl;
     array = refl;
-    pushes_none = λ c. pushes_barrier ((w.part me).marks && is_cell_word word) cell c;
-    calm = λ rests. calm_barrier (w.part me).marks (is_cell_word word) cell
-        ((wave.numbers.told me may.runner.runs).0 ∙ rests);
-    no_colour = λ c owes. colour_barrier ((w.part me).marks && is_cell_word word) cell c owes;
-    links = λ marks x at target link. elim (link_after x at target link) [
-      | inl fresh ↦ inl (subst (OwesBarrier next_duty) (sym fresh.0) (owes_barrier (w.part me).marks (is_cell_word word)
-          cell ((wave.numbers.told me may.runner.runs).0 ∙ marks) (cell_word_is word target (ap val_word fresh.1))))
+    pushes_none = λ c. pushes_barrier (is_cell_word word) cell c;
+    no_colour = λ c owes. colour_barrier (is_cell_word word) cell c owes;
+    links = λ x at target link. elim (link_after x at target link) [
+      | inl fresh ↦ inl (subst (StillOwes new next_duty) (sym fresh.0) (owes_barrier new (is_cell_word word)
+          cell (cell_word_is word target (ap val_word fresh.1))))
       | inr before ↦ inr before
     ];
     beyond = λ marks x n target link past. elim (link_after x (property n) target link) [
@@ -267,7 +265,7 @@ module _ (layout : Layout) (shapes : ShapeLists) (limits : IsWithinLimits layout
       val))))
   set_kept = subst (λ (c : ℕ). RunningWave layout shapes (record {
     heap = new;
-    part = put_at w.part me (record next_view { duty = barrier_for (w.part me).marks c word });
+    part = put_at w.part me (record next_view { duty = barrier_for c word });
     log = next_view.seen;
   })) (sym (ap cell_named source))
       (cell_call layout shapes w me inside wave may.runner.runs may.between.duty may.between.owed may.between.growth

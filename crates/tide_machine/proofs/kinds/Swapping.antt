@@ -8,11 +8,9 @@ use Rattle.std.specs.Int.{bit_at}
 use Rattle.std.specs.Prelude.{Contains, if◌then◌else◌, ◌&&◌, not, length, is_some}
 use Rattle.tide_layout.specs.Region.{cell_block_count}
 use Rattle.tide_layout.specs.declared.region.Region.{Region}
-use Rattle.tide_layout.specs.declared.region.Region.TheVariants as region
-use Rattle.tide_machine.proofs.freezes.Freezing.{retained_is_live}
 use Rattle.tide_machine.proofs.steps.CellsOfWords.{times_in-append, times_in-cells, in_by_times}
-use Rattle.tide_machine.proofs.steps.Colouring.{unread_write, count_where-le}
-use Rattle.tide_machine.proofs.steps.Frames.{calls_view, stops_view}
+use Rattle.tide_machine.proofs.steps.Colouring.{unread_write, blackened_le}
+use Rattle.tide_machine.proofs.steps.Frames.{calls_view, stops_view, put_here, put_else}
 use Rattle.tide_machine.proofs.steps.Lists.{nothing_in, in_one}
 use Rattle.tide_machine.proofs.steps.Loads.{load_same}
 use Rattle.tide_machine.proofs.steps.Quiet.{quiet_step}
@@ -34,13 +32,18 @@ use Rattle.tide_model.specs.Layout.{Layout, cell_count, block_of_cell}
 use Rattle.tide_model.specs.Numbers.{put_at}
 use Rattle.tide_model.specs.References.{IsLive}
 use Rattle.tide_model.specs.Refused.{ShapeLists}
-use Rattle.tide_machine.proofs.steps.Frames.{put_here, put_else}
 use Rattle.tide_machine.specs.May.{RunsAsVisitor}
 use Rattle.tide_words.proofs.heap_laws.Frames.{is_read}
 use Rattle.tide_words.proofs.marking_laws.ColourLaws.{grey_is_marked}
 use Rattle.tide_words.specs.heap.Heap.{Heap, write}
-use Rattle.tide_words.specs.marking.Colours.{is_marking, is_grey, IsGrey, running_cycle}
+use Rattle.tide_words.specs.marking.Colours.{is_marking, is_grey, IsGrey, running_cycle, is_black}
 use Rattle.tide_words.specs.marking.Marking.{times_in, bits_of, NoLaterColours}
+use Rattle.tide_machine.proofs.steps.MarkedLives.{marked_is_live}
+use Rattle.tide_machine.proofs.steps.Barriers.{still_owes}
+use Rattle.tide_words.specs.forms.ColourWord.{colour_cycle}
+use Rattle.tide_machine.proofs.steps.SameColours.{is_black-same, is_grey-same, is_marked-same}
+use Rattle.tide_words.specs.marking.Marked.{base_cycle, is_marked}
+use Rattle.tide_layout.specs.declared.region.Region.TheVariants as region
 
 -- the word of a grey region is 0 now, and what it had is in the list
 module _ (layout : Layout) (shapes : ShapeLists) (w : World) (me : ℕ) (inside : me < parties)
@@ -55,14 +58,13 @@ module _ (layout : Layout) (shapes : ShapeLists) (w : World) (me : ℕ) (inside 
       elim (cases_eq (block_of_cell cell) block) [
         | inl same ↦
             let within : cell < cell_count layout = omega (arith, same, in_layout) in
-            let once = wave.held.held marks cell within in
+            let once = wave.held.held cell within in
             let here = ap (λ (b : Bool). if b then bit_at read (cell % 64) else 0)
             (eq-eqb (block_of_cell cell) block same) in
             let few = bit_at-lt read (cell % 64) in
             let bits = held_by same (omega (arith, some, where_is, here, few)) in
             let grey = by_test (is_grey w.heap cell) refl once bits in
-            retained_is_live layout w.heap w.log wave.span marks cell
-            (wave.retained.marked marks cell within (grey_is_marked w.heap cell grey))
+            marked_is_live layout shapes w wave cell within (grey_is_marked w.heap cell grey)
         | inr apart ↦ (let none = ap (λ (b : Bool). if b then bit_at read (cell % 64) else 0)
             (ne_eqb (block_of_cell cell) block apart) in absurd (omega (arith, some, where_is, none)))
       ]
@@ -90,29 +92,17 @@ module _ (layout : Layout) (shapes : ShapeLists) (w : World) (me : ℕ) (inside 
     phase : new region.Phase 0 ≡ w.heap region.Phase 0
     phase = words region.Phase 0 refl
 
-    abbrev phase_and_colour : ℕ → ℕ → Heap
-    phase_and_colour p c region.Phase i = p
-    phase_and_colour p c _ i = c
-
-    -- what is said of a cell's colour is as it was
-    colour_same : (test : Heap → ℕ → Bool) (cell : ℕ) →
-        test new cell ≡ test (phase_and_colour (new region.Phase 0) (new region.Colour cell)) cell →
-        test w.heap cell ≡ test (phase_and_colour (w.heap region.Phase 0) (w.heap region.Colour cell)) cell →
-        test new cell ≡ test w.heap cell
-    colour_same test cell one other = one
-        ∙ ap (λ (p : ℕ). test (phase_and_colour p (new region.Colour cell)) cell) phase
-        ∙ ap (λ (c : ℕ). test (phase_and_colour (w.heap region.Phase 0) c) cell) (colour cell) ∙ sym other
+    base : base_cycle new ≡ base_cycle w.heap
+    base = words region.Base 0 refl
 
     same_grey : (cell : ℕ) → is_grey new cell ≡ is_grey w.heap cell
-    same_grey cell = colour_same is_grey cell refl refl
+    same_grey cell = is_grey-same w.heap new cell base (colour cell)
 
-    same_black : (cell : ℕ) → Rattle.tide_words.specs.marking.Colours.is_black new cell
-        ≡ Rattle.tide_words.specs.marking.Colours.is_black w.heap cell
-    same_black cell = colour_same Rattle.tide_words.specs.marking.Colours.is_black cell refl refl
+    same_black : (cell : ℕ) → is_black new cell ≡ is_black w.heap cell
+    same_black cell = is_black-same w.heap new cell base (colour cell)
 
-    same_marked : (cell : ℕ) → Rattle.tide_words.specs.marking.Marked.is_marked new cell
-        ≡ Rattle.tide_words.specs.marking.Marked.is_marked w.heap cell
-    same_marked cell = colour_same Rattle.tide_words.specs.marking.Marked.is_marked cell refl refl
+    same_marked : (cell : ℕ) → is_marked new cell ≡ is_marked w.heap cell
+    same_marked cell = is_marked-same w.heap new cell base (colour cell)
 
     colours_after : NoLaterColours layout new
     colours_after cell within =
@@ -185,6 +175,7 @@ module _ (layout : Layout) (shapes : ShapeLists) (w : World) (me : ℕ) (inside 
       growth = refl;
       marks = refl;
       cycle = refl;
+      least = refl;
       begun = refl;
       left = refl;
       sweeping = refl;
@@ -198,7 +189,7 @@ module _ (layout : Layout) (shapes : ShapeLists) (w : World) (me : ℕ) (inside 
       ran = runs;
       runs = runs;
       colours = colours_after;
-      balance = λ _ cell within few.
+      balance = λ cell within few.
           let m = moved cell in
           let more = times_in-append (w.part me).held (cells_in block read) cell in
           let grey = ap {B = ℕ} (λ (b : Bool). if b then 1 else 0) (same_grey cell) in
@@ -207,30 +198,23 @@ module _ (layout : Layout) (shapes : ShapeLists) (w : World) (me : ℕ) (inside 
       at_hand = λ cell at. hands cell at;
       arrays = λ array scan is. wave.hands.arrays me array scan is;
       scanned = λ scan is. (
-        same_marked scan.cell ∙ wave.retained.scanned me scan is,
+        (same_marked scan.cell ∙ (wave.retained.scanned me scan is).0, ap colour_cycle (colour scan.cell) ∙ (wave.retained.scanned me scan is).1 ∙ ap (λ (word : ℕ). running_cycle (λ at index. word)) (sym (words region.Phase 0 refl))),
         wave.scans.knows me scan is,
         λ cell at. wave.retained.buffered me cell scan is at,
       );
-      black = λ _ source place cell link black white. inr (
-        sym (same_black source) ∙ black,
+      black = λ source place cell link black white. inr (
+        colour source,
         sym (same_marked cell) ∙ white,
-        λ e. inl (elim e [ inl owes ↦ inl owes | inr answers ↦ inr answers ]),
+        λ e. inl (elim e [ inl owes ↦ inl (still_owes w.heap new (w.part me).duty source (colour source) owes) | inr answers ↦ inr answers ]),
       );
       grows = λ c g. record { grows = g.grows; owes = g.owes };
-      stays = λ _ cell is. same_marked cell ∙ is;
-      recoloured = λ _ cell in_cell. inl (colour cell);
+      stays = λ cell is. same_marked cell ∙ is;
+      recoloured = λ _ cell. inl (colour cell);
       aims = λ scan target. wave.targets.right me scan target;
-      marked = λ _ cell in_cell is. inl (sym (same_marked cell) ∙ is);
+      marked = λ cell in_cell is. inl (sym (same_marked cell) ∙ is);
       born = λ _ cell owes. inl owes;
-      owes = λ cell owes. (owes, λ _. same_marked cell ∙ (wave.born.owed marks me cell owes).white);
-      counted = λ _. (let few = count_where-le
-          (λ c. Rattle.tide_words.specs.marking.Colours.is_black new c
-          && not (Rattle.tide_core.specs.FrozenWave.is_born_in_cycle w.log c))
-          (λ c. Rattle.tide_words.specs.marking.Colours.is_black w.heap c
-          && not (Rattle.tide_core.specs.FrozenWave.is_born_in_cycle w.log c)) (cell_count layout)
-          (λ c both. subst (λ (b : Bool). (b && not (Rattle.tide_core.specs.FrozenWave.is_born_in_cycle w.log c)) ≡
-          true)
-          (same_black c) both) in omega (arith, few));
+      owes = λ cell owes. (owes, same_marked cell ∙ wave.born.white me cell owes);
+      counted = λ _. (let few = blackened_le layout w.heap new w.log (λ c black so. sym (same_black c) ∙ black) in omega (arith, few));
     }
       where
         hands : (cell : ℕ) → IsAtHand later cell → IsLive (state_after layout w.log) cell
@@ -290,6 +274,7 @@ module _ (layout : Layout) (shapes : ShapeLists) (w : World) (me : ℕ) (inside 
       growth = refl;
       marks = refl;
       cycle = refl;
+      least = refl;
       begun = refl;
       left = refl;
       sweeping = refl;
@@ -304,7 +289,7 @@ module _ (layout : Layout) (shapes : ShapeLists) (w : World) (me : ℕ) (inside 
       ran = runs;
       runs = runs;
       colours = wave.colours;
-      balance = λ _ cell within few. refl;
+      balance = λ cell within few. refl;
       rests = λ idle. absurd (cc);
       at_hand = λ cell at. wave.hands.cells me cell (elim at [
         | held is ↦ held is
@@ -317,15 +302,15 @@ module _ (layout : Layout) (shapes : ShapeLists) (w : World) (me : ℕ) (inside 
         wave.scans.knows me scan is,
         λ cell at. wave.retained.buffered me cell scan is at,
       );
-      black = λ _ source place cell link black white.
-          inr (black, white, λ e. inl (elim e [ inl owes ↦ inl owes | inr answers ↦ inr answers ]));
+      black = λ source place cell link black white.
+          inr (refl, white, λ e. inl (elim e [ inl owes ↦ inl owes | inr answers ↦ inr answers ]));
       grows = λ c g. record { grows = g.grows; owes = g.owes };
-      stays = λ _ cell is. is;
-      recoloured = λ _ cell in_cell. inl refl;
+      stays = λ cell is. is;
+      recoloured = λ _ cell. inl refl;
       aims = λ scan target. wave.targets.right me scan target;
-      marked = λ _ cell in_cell is. inl is;
+      marked = λ cell in_cell is. inl is;
       born = λ _ cell owes. inl owes;
-      owes = λ cell owes. (owes, λ _. (wave.born.owed marks me cell owes).white);
+      owes = λ cell owes. (owes, wave.born.white me cell owes);
       counted = λ _. omega arith;
     }
 

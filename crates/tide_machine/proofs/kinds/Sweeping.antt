@@ -166,6 +166,7 @@ module _ (layout : Layout) (shapes : ShapeLists) (w : World) (me : ℕ) (inside 
 
     left_not_zeroed : (r : Region) → is_left r ≡ true → is_zeroed_region r ≡ false
     left_not_zeroed region.Phase is = refl
+    left_not_zeroed region.Base is = refl
     left_not_zeroed region.Period is = refl
     left_not_zeroed region.Call is = refl
     left_not_zeroed region.Stopped is = refl
@@ -323,7 +324,7 @@ module _ (layout : Layout) (shapes : ShapeLists) (w : World) (me : ℕ) (inside 
         spent_stays false = refl
 
     given_now : RunningWave layout shapes (stepped layout shapes w me (GiveBits s_g.block s_g.dead))
-    given_now = idle_entry layout shapes w me inside wave may.runner.runs idle_g event stands_now refl (λ who. refl) refl refl new_g
+    given_now = idle_entry layout shapes w me inside wave may.runner.runs idle_g event stands_now refl (λ who. refl) refl refl refl new_g
         (in_sweep (w.part me).sweeping (λ s_g. record s_g { given = true })) (w.part me).saw (w.part me).cleared record {
           same = λ r i left. write-other_region w.heap region.Free r s_g.block i (bit_or (w.heap region.Free s_g.block) s_g.dead)
               (ne_eqb (tag r) (tag region.Free) (λ same. let one = tag-injective r region.Free same in
@@ -337,6 +338,7 @@ module _ (layout : Layout) (shapes : ShapeLists) (w : World) (me : ℕ) (inside 
           active = λ p. ap (λ (t : State). t.active p) becomes_g;
           claims = λ p. ap (λ (t : State). t.claims p) becomes_g;
           cells = λ cell alive. ap (λ (t : State). t.cells cell) becomes_g ∙ same_cell cell alive;
+          lived = λ cell alive. was_live cell (subst (λ (t : State). IsLive t cell) becomes_g alive);
           refs = RefsAreLive-event layout shapes w.log event wave.refs stands_now;
           arrays = subst (ArraysStand layout new_g) (sym becomes_g) (record {
             stand = stand_g;
@@ -434,7 +436,7 @@ module _ (layout : Layout) (shapes : ShapeLists) (w : World) (me : ℕ) (inside 
       log = added w.log (if b then Some (plain (Taken block)) else None);
     })
     by true is = idle_entry layout shapes w me inside wave may.runner.runs idle_c (plain (Taken block)) (may.stands same) refl
-        (λ who. refl) refl refl new_c (Some (record { block = block; dead = saw_word (w.part me).saw; given = false; zeroed = [] }))
+        (λ who. refl) refl refl refl new_c (Some (record { block = block; dead = saw_word (w.part me).saw; given = false; zeroed = [] }))
         (w.part me).saw (record { block = block; moment = length w.log + 1 } ∷ (w.part me).cleared) record {
           same = λ r i left. write-other_region w.heap region.Swept r block i cycle
               (ne_eqb (tag r) (tag region.Swept) (λ one. let at = tag-injective r region.Swept one in
@@ -451,6 +453,7 @@ module _ (layout : Layout) (shapes : ShapeLists) (w : World) (me : ℕ) (inside 
           active = λ p. ap (λ (t : State). t.active p) becomes_c;
           claims = λ p. ap (λ (t : State). t.claims p) becomes_c;
           cells = λ cell alive. ap (λ (t : State). t.cells cell) becomes_c;
+          lived = λ cell alive. subst (λ (t : State). IsLive t cell) becomes_c alive;
           refs = subst RefsAreLive (sym becomes_c) wave.refs;
           arrays = subst (ArraysStand layout new_c) (sym becomes_c) (arrays_kept layout w.heap new_c state state (λ c. refl) (λ c. refl)
               (λ i. refl) (λ array. refl) (λ c array alive is. (alive, refl, refl, refl)) (λ c alive none. inl alive) wave.arrays);

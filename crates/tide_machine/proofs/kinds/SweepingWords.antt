@@ -326,6 +326,7 @@ module _ (layout : Layout) (shapes : ShapeLists) (heap : Heap) (part : ℕ → V
         not_zeroed_region region.Elements a = a
         not_zeroed_region region.Period a = a
         not_zeroed_region region.Phase a = a
+        not_zeroed_region region.Base a = a
         not_zeroed_region region.Active a = a
         not_zeroed_region region.Call a = a
         not_zeroed_region region.Stopped a = a

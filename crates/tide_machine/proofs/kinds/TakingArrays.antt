@@ -1,6 +1,6 @@
 -- The take of an array's free bit, at which a cell's growth begins, keeps the wave.
 use Rattle.std.proofs.Common.{ℕ, suc, ◌≡◌, ◌≢◌, ◌+◌, ◌%◌, ◌<◌, ◌≤◌, ◌⊎◌, ◌==◌, refl, sym, ◌∙◌, ap, subst, arith, Bool, true, false, List, [], ◌∷◌, ◌++◌, inl, inr, length, length-append, Option, Some, None}
-use Rattle.std.proofs.lemmas.Bool.{cases_eq, eqb-true, ne_eqb}
+use Rattle.std.proofs.lemmas.Bool.{cases_eq, ne_eqb}
 use Rattle.std.specs.Int.{bit_at}
 use Rattle.std.specs.Prelude.{Contains, if◌then◌else◌, ◌&&◌, not, slice_get, bit_and}
 use Rattle.tide_block.proofs.BitLaws.{without_bit-is}
@@ -13,10 +13,9 @@ use Rattle.tide_layout.specs.Limits.{IsWithinLimits}
 use Rattle.tide_layout.specs.Region.{tag}
 use Rattle.tide_layout.specs.Slots.{HasElement, index_of_element}
 use Rattle.tide_layout.specs.declared.region.Region.{Region}
-use Rattle.tide_layout.specs.declared.region.Region.TheVariants as region
 use Rattle.tide_machine.proofs.WordLaws.{cell_word_is}
 use Rattle.tide_machine.proofs.kinds.Takes.{free_is_unowed}
-use Rattle.tide_machine.proofs.steps.Barriers.{pushes_barrier, colour_barrier, calm_barrier, owes_barrier}
+use Rattle.tide_machine.proofs.steps.Barriers.{pushes_barrier, colour_barrier, owes_barrier, awaits_barrier}
 use Rattle.tide_machine.proofs.steps.CallReadings.{call_reads}
 use Rattle.tide_machine.proofs.steps.Calls.{OfState, call_step, is_uncalled}
 use Rattle.tide_machine.proofs.steps.Claimed.{count_is}
@@ -27,7 +26,7 @@ use Rattle.tide_machine.proofs.steps.Lists.{nothing_in}
 use Rattle.tide_machine.proofs.steps.Owning.{own_alone}
 use Rattle.tide_machine.proofs.steps.SettledNow.{free_now}
 use Rattle.tide_machine.proofs.steps.Unsettled.{given_put, own_is_not_dead, unsettled_write, unsettles_put}
-use Rattle.tide_machine.specs.Duties.{OwesBarrier, OwesColour, GrowsAndOwes}
+use Rattle.tide_machine.specs.Duties.{OwesColour, GrowsAndOwes, AwaitsLoad, StillOwes}
 use Rattle.tide_machine.specs.Entries.{call_of, added}
 use Rattle.tide_machine.specs.Kind.{TakeArray}
 use Rattle.tide_machine.specs.Machine.{stepped}
@@ -39,7 +38,6 @@ use Rattle.tide_machine.specs.Views.{with_entry}
 use Rattle.tide_machine.specs.Words.{is_cell_word, is_nuked, count_of, cell_named, all_but}
 use Rattle.tide_machine.specs.World.{World, parties, pushes}
 use Rattle.tide_machine.specs.declared.view.Duty.{Duty}
-use Rattle.tide_machine.specs.declared.view.Growth.TheVariants as growth
 use Rattle.tide_machine.specs.declared.view.Owed.{Owed}
 use Rattle.tide_machine.specs.declared.view.View.{View}
 use Rattle.tide_machine.specs.kinds.LoadFree.{looked_view}
@@ -70,7 +68,8 @@ use Rattle.tide_words.specs.forms.Reference.{array_word}
 use Rattle.tide_words.specs.forms.ValueWord.{val_word}
 use Rattle.tide_words.specs.heap.Heap.{Heap, write}
 use Rattle.tide_words.specs.heap.Reading.{ReadsAs}
-use Rattle.tide_words.specs.marking.Colours.{is_marking}
+use Rattle.tide_layout.specs.declared.region.Region.TheVariants as region
+use Rattle.tide_machine.specs.declared.view.Growth.TheVariants as growth
 
 -- a call that took an array met no refusal
 took_granted : (layout : Layout) (state : State) (who : ℕ) (op : Op) (array : ℕ) (refused : Option Refusal) →
@@ -242,7 +241,7 @@ module _ (layout : Layout) (shapes : ShapeLists) (limits : IsWithinLimits layout
   later = record (w.part me) {
     owed = owed;
     growth = growth.Filling cell array old next;
-    duty = barrier_for (w.part me).marks cell (val_word value);
+    duty = barrier_for cell (val_word value);
     known = [];
     full = [];
     seen = w.log ++ call_of me (Add src key val) Done (Some array) ∷ [];
@@ -370,9 +369,11 @@ module _ (layout : Layout) (shapes : ShapeLists) (limits : IsWithinLimits layout
       (λ j apart below e. inr (is_live, (let m = one_more in omega (arith, m, below, apart)), e)) i below)
       (λ x apart is_live below e. inr (is_live, below, e)) x (sym (status_same x) ∙ is_live) below is
 
-  owes_now : is_marking w.heap ≡ true → (target : ℕ) → value ≡ Cell target → OwesBarrier later.duty cell
-  owes_now marks target is = owes_barrier (w.part me).marks (is_cell_word (val_word value)) cell
-      ((wave.numbers.told me may.runner.runs).0 ∙ marks) (cell_word_is (val_word value) target (ap val_word is))
+  owes_now : (target : ℕ) → value ≡ Cell target → StillOwes new later.duty cell
+  owes_now target is = owes_barrier new (is_cell_word (val_word value)) cell (cell_word_is (val_word value) target (ap val_word is))
+
+  awaits_now : (target : ℕ) → value ≡ Cell target → AwaitsLoad later.duty cell
+  awaits_now target is = awaits_barrier (is_cell_word (val_word value)) cell (cell_word_is (val_word value) target (ap val_word is))
 
   -- what becomes of an array: the taken one is live, the cell's old one spent, and no other changes
   array_cases : (a : ℕ) → ((a ≡ array) × (after.arrays a ≡ live))
@@ -512,16 +513,16 @@ module _ (layout : Layout) (shapes : ShapeLists) (limits : IsWithinLimits layout
       agreed = k.agreed;
       names_live = λ first a at c x y below names. status_same c ∙ k.names_live first a at c x y below names;
     };
-    links = λ marks x at target link black white. elim (link_later x at target link) [
-      | inl fresh ↦ inl (subst (OwesBarrier later.duty) (sym fresh.0) (owes_now marks target fresh.1))
+    links = λ x at target link black white. elim (link_later x at target link) [
+      | inl fresh ↦ inl (subst (StillOwes new later.duty) (sym fresh.0) (owes_now target fresh.1))
       | inr before ↦ inr before
     ];
     beyond = λ marks x i target link past. elim (link_later x (property i) target link) [
       | inl fresh ↦ inl (subst (GrowsAndOwes later) (sym fresh.0)
-          (record { grows = refl; owes = owes_now marks target fresh.1 }))
+          (record { grows = refl; owes = awaits_now target fresh.1 }))
       | inr before ↦ inr (before, past)
     ];
-    awaited = λ c owes. absurd (colour_barrier ((w.part me).marks && is_cell_word (val_word value)) cell c owes);
+    awaited = λ c owes. absurd (colour_barrier (is_cell_word (val_word value)) cell c owes);
     growth = (
       record {
         claimed = t.claimed;
@@ -585,6 +586,7 @@ module _ (layout : Layout) (shapes : ShapeLists) (limits : IsWithinLimits layout
     mine = refl;
     marks = refl;
     cycle = refl;
+    least = refl;
     begun = refl;
     visits = refl;
     stopped = refl;
@@ -603,20 +605,19 @@ module _ (layout : Layout) (shapes : ShapeLists) (limits : IsWithinLimits layout
     full = refl;
     pushes_none = λ c. (
       ap (λ (d : Duty). pushes d c) may.between.duty,
-      pushes_barrier ((w.part me).marks && is_cell_word (val_word value)) cell c,
+      pushes_barrier (is_cell_word (val_word value)) cell c,
     );
-    calm = λ rests. calm_barrier (w.part me).marks (is_cell_word (val_word value)) cell
-        ((wave.numbers.told me may.runner.runs).0 ∙ rests);
-    grows = λ c g. absurd (subst (λ (d : Duty). OwesBarrier d c) may.between.duty g.owes);
-    barrier = λ c owes. absurd (subst (λ (d : Duty). OwesBarrier d c) may.between.duty owes);
+    grows = λ c g. absurd (subst (λ (d : Duty). AwaitsLoad d c) may.between.duty g.owes);
+    barrier = λ c owes. absurd (subst (λ (d : Duty). StillOwes w.heap d c) may.between.duty owes);
     kept = λ p at index x apart is. free_else w.heap p at index (wave.kept.owns p at index x is) ∙
         wave.kept.known p at index x is;
     truer = λ p scan is holds. holds;
     born_before = λ c owes. subst (λ (d : Duty). OwesColour d c) may.between.duty owes;
     born = λ c born. absurd (cc);
-    awaits = λ marks c owes. absurd (colour_barrier ((w.part me).marks && is_cell_word (val_word value)) cell c owes);
+    white = λ c owes. absurd (colour_barrier (is_cell_word (val_word value)) cell c owes);
+    awaits = λ marks c owes. absurd (colour_barrier (is_cell_word (val_word value)) cell c owes);
     owner = wave.born.owner;
-    once = λ c owes. absurd (colour_barrier ((w.part me).marks && is_cell_word (val_word value)) cell c owes);
+    once = λ c owes. absurd (colour_barrier (is_cell_word (val_word value)) cell c owes);
     once_others = λ p c apart. wave.born.once p c;
     state = subst (OfState layout shapes w.heap w.part w.log me wave (Add src key val) Done (Some array) new later)
         (sym becomes) of_state;

@@ -7,9 +7,7 @@ use Rattle.tide_call.proofs.reading_laws.RootReading.{Reading-register}
 use Rattle.tide_layout.proofs.Places.{tag-injective}
 use Rattle.tide_layout.specs.Region.{tag, index_of_register}
 use Rattle.tide_layout.specs.declared.region.Region.{Region}
-use Rattle.tide_layout.specs.declared.region.Region.TheVariants as region
 use Rattle.tide_machine.proofs.steps.ArraysKept.{arrays_kept}
-use Rattle.tide_machine.proofs.steps.Births
 use Rattle.tide_machine.proofs.steps.Calls.{OfState, call_step, is_uncalled}
 use Rattle.tide_machine.proofs.steps.Frames.{calls_view, put_here, each_put}
 use Rattle.tide_machine.proofs.steps.GrowthsKept.{growth_kept}
@@ -19,7 +17,7 @@ use Rattle.tide_machine.proofs.steps.Registers.{register_after}
 use Rattle.tide_machine.proofs.steps.ScansKept.{scan_kept}
 use Rattle.tide_machine.proofs.steps.SettledNow.{array_now, free_now, structure_now}
 use Rattle.tide_machine.proofs.steps.Unsettled.{given_put, unsettled_write, unsettles_put}
-use Rattle.tide_machine.specs.Duties.{OwesBarrier, OwesColour}
+use Rattle.tide_machine.specs.Duties.{OwesColour, AwaitsLoad, StillOwes}
 use Rattle.tide_machine.specs.Entries.{call_of}
 use Rattle.tide_machine.specs.Owed.{Owes, IsOwnWord, own_register, own_structure, own_array, own_pair, own_element, owed_word}
 use Rattle.tide_machine.specs.RunningWave.{RunningWave}
@@ -27,8 +25,6 @@ use Rattle.tide_machine.specs.Scanning.{Place, property}
 use Rattle.tide_machine.specs.Words.{cell_named, count_of}
 use Rattle.tide_machine.specs.World.{World, parties, pushes}
 use Rattle.tide_machine.specs.declared.view.Duty.{Duty}
-use Rattle.tide_machine.specs.declared.view.Duty.TheVariants as duty
-use Rattle.tide_machine.specs.declared.view.Growth.TheVariants as growth
 use Rattle.tide_machine.specs.declared.view.Owed.{Owed}
 use Rattle.tide_machine.specs.declared.view.View.{View}
 use Rattle.tide_machine.specs.points.Births.{AwaitsColour}
@@ -53,6 +49,11 @@ use Rattle.tide_words.proofs.heap_laws.HeapLaws.{write-same, write-other_region}
 use Rattle.tide_words.specs.forms.ValueWord.{val_word}
 use Rattle.tide_words.specs.heap.Heap.{Heap, write}
 use Rattle.tide_words.specs.heap.Written.{IsBitPut}
+use Rattle.tide_words.specs.marking.Marked.{is_marked}
+use Rattle.tide_layout.specs.declared.region.Region.TheVariants as region
+use Rattle.tide_machine.proofs.steps.Births
+use Rattle.tide_machine.specs.declared.view.Duty.TheVariants as duty
+use Rattle.tide_machine.specs.declared.view.Growth.TheVariants as growth
 
 module _ (layout : Layout) (shapes : ShapeLists) (w : World) (me : ℕ) (inside : me < parties)
     (wave : RunningWave layout shapes w) (runs : (w.part me).runs ≡ true)
@@ -219,7 +220,7 @@ module _ (layout : Layout) (shapes : ShapeLists) (w : World) (me : ℕ) (inside 
     scans = λ p scan is. scan_kept layout w.heap new state after
         (λ c. refl) (λ c. refl) (λ i. refl) still scan
         (wave.scans.knows p scan is);
-    links = λ marks x place target link black white. inr (link_before x place target link).1;
+    links = λ x place target link black white. inr (link_before x place target link).1;
     beyond = λ marks x n target link past. inr ((link_before x (property n) target link).1, past);
     awaited = λ c owes. subst (IsLive after) owes
         (ap (λ (x : CellState). x.status)
@@ -323,6 +324,7 @@ module _ (layout : Layout) (shapes : ShapeLists) (w : World) (me : ℕ) (inside 
     mine = refl;
     marks = refl;
     cycle = refl;
+    least = refl;
     begun = refl;
     visits = refl;
     stopped = refl;
@@ -341,14 +343,15 @@ module _ (layout : Layout) (shapes : ShapeLists) (w : World) (me : ℕ) (inside 
     known = refl;
     full = refl;
     pushes_none = λ c. (ap (λ (d : Duty). pushes d c) idle, refl);
-    calm = λ rests. tt;
-    grows = λ c g. absurd (subst (λ (d : Duty). OwesBarrier d c) idle g.owes);
-    barrier = λ c owes. absurd (subst (λ (d : Duty). OwesBarrier d c) idle owes);
+    grows = λ c g. absurd (subst (λ (d : Duty). AwaitsLoad d c) idle g.owes);
+    barrier = λ c owes. absurd (subst (λ (d : Duty). StillOwes w.heap d c) idle owes);
     kept = λ p at index x apart is. free_else w.heap p at index (wave.kept.owns p at index x is) ∙
         wave.kept.known p at index x is;
     truer = λ p scan is holds. holds;
     born_before = λ c owes. subst (λ (d : Duty). OwesColour d c) idle owes;
     born = λ c born. eqb-true cell c born;
+    white = λ c owes. subst (λ (x : ℕ). is_marked w.heap x ≡ false) owes
+        (Births.white layout shapes w wave me op dst cell bears was_free within stands.is_active);
     awaits = λ marks c owes. subst (AwaitsColour layout new (w.log ++ call_of me op (Born cell) None ∷ []) me) owes
         (Births.awaits_birth layout shapes w wave me op dst cell bears was_free within stands.is_active marks new refl);
     owner = put_at wave.born.owner cell me;

@@ -1,29 +1,29 @@
 -- A raced cell is made grey again, and its scan is over.
 use Rattle.std.proofs.Common.{ℕ, ◌≡◌, ◌+◌, ◌<◌, refl, sym, ◌∙◌, ap, subst, arith, Bool, true, false, inl, inr, Some, None}
-use Rattle.std.proofs.lemmas.Bool.{cases_eq, eq-eqb, ne_eqb, and_parts, and_from}
-use Rattle.std.specs.Prelude.{if◌then◌else◌, ◌&&◌, not}
-use Rattle.tide_core.specs.FrozenWave.{is_born_in_cycle}
-use Rattle.tide_layout.specs.declared.region.Region.TheVariants as region
-use Rattle.tide_machine.proofs.steps.Colouring.{unread_write, colours_coloured, black_before_grey, marked_after_grey, marked_before_grey, count_where-le, recoloured_one, grey_after_grey}
+use Rattle.std.proofs.lemmas.Bool.{cases_eq, eq-eqb, ne_eqb}
+use Rattle.std.specs.Prelude.{if◌then◌else◌}
+use Rattle.tide_machine.proofs.steps.Colouring.{unread_write, colours_coloured, black_before_grey, marked_after_grey, marked_before_grey, recoloured_one, grey_after_grey, blackened_le, stamped_black}
 use Rattle.tide_machine.proofs.steps.Frames.{calls_view, stops_view}
 use Rattle.tide_machine.proofs.steps.Quiet.{quiet_step}
 use Rattle.tide_machine.proofs.steps.Waiting.{left_quiet}
-use Rattle.tide_machine.specs.Duties.{OwesBarrier, OwesColour}
+use Rattle.tide_machine.specs.Duties.{OwesColour, AwaitsLoad, StillOwes}
 use Rattle.tide_machine.specs.RunningWave.{RunningWave}
 use Rattle.tide_machine.specs.World.{World, parties, pushes}
 use Rattle.tide_machine.specs.declared.view.Duty.{Duty}
-use Rattle.tide_machine.specs.declared.view.Duty.TheVariants as duty
 use Rattle.tide_machine.specs.declared.view.Scan.{Scan}
 use Rattle.tide_machine.specs.declared.view.View.{View}
 use Rattle.tide_machine.specs.points.Links.{ScanExcuses}
 use Rattle.tide_machine.specs.points.Scans.{held, scanned, buffered}
-use Rattle.tide_model.specs.Layout.{Layout, cell_count}
+use Rattle.tide_model.specs.Layout.{Layout}
 use Rattle.tide_model.specs.Numbers.{put_at}
 use Rattle.tide_model.specs.Refused.{ShapeLists}
-use Rattle.tide_words.proofs.marking_laws.ColourLaws.{is_grey-made, is_grey-other, black_is_not_grey, black_is_marked, grey_is_marked}
-use Rattle.tide_words.specs.declared.forms.colours.Colour.TheVariants.{Grey}
+use Rattle.tide_words.proofs.marking_laws.ColourLaws.{is_grey-made, is_grey-other, black_is_not_grey, black_is_marked, grey_is_marked, coloured-other}
+use Rattle.tide_words.specs.declared.forms.colours.Colour.TheVariants.{Grey, Black}
 use Rattle.tide_words.specs.forms.ColourWord.{colour_word}
-use Rattle.tide_words.specs.marking.Colours.{coloured, is_marking, running_cycle, is_grey, is_black, IsBlack}
+use Rattle.tide_words.specs.marking.Colours.{Counts, coloured, is_marking, running_cycle, is_grey, is_black, IsBlack}
+use Rattle.tide_words.specs.marking.Marked.{base_cycle}
+use Rattle.tide_layout.specs.declared.region.Region.TheVariants as region
+use Rattle.tide_machine.specs.declared.view.Duty.TheVariants as duty
 
 module _ (layout : Layout) (shapes : ShapeLists) (w : World) (me : ℕ) (inside : me < parties)
     (wave : RunningWave layout shapes w) (runs : (w.part me).runs ≡ true) (marks : is_marking w.heap ≡ true)
@@ -37,6 +37,9 @@ module _ (layout : Layout) (shapes : ShapeLists) (w : World) (me : ℕ) (inside 
 
   no_scan : {X : Type 0} (other : Scan) → later.scan ≡ Some other → X
   no_scan other is = absurd (cc)
+
+  counts : Counts w.heap
+  counts = wave.old.counts marks
 
   -- the cell is black still
   pub un_blacken : IsBlack w.heap cell →
@@ -59,6 +62,7 @@ module _ (layout : Layout) (shapes : ShapeLists) (w : World) (me : ℕ) (inside 
     marks = refl;
     cycle =
         refl;
+    least = refl;
     begun = refl;
     period = refl;
     left = refl;
@@ -67,7 +71,7 @@ module _ (layout : Layout) (shapes : ShapeLists) (w : World) (me : ℕ) (inside 
     cleared = refl;
     swept = λ block. refl;
     waits = left_quiet layout w.heap (coloured w.heap cell Grey) w.part me later refl refl
-        (λ _ other in_other is. grey_after_grey w.heap cell other is) (λ c is. is) refl refl refl refl wave.waits;
+        (λ _ other in_other is. grey_after_grey w.heap cell other counts is) (λ c is. is) refl refl refl refl wave.waits;
     calls =
         calls_view layout w.heap (coloured w.heap cell Grey) w.part me later refl (λ p. refl) wave.calls;
     stops =
@@ -75,7 +79,7 @@ module _ (layout : Layout) (shapes : ShapeLists) (w : World) (me : ℕ) (inside 
     ran = runs;
     runs = runs;
     colours = colours_coloured layout w.heap cell Grey (omega arith) wave.colours;
-    balance = λ _ other in_other few.
+    balance = λ other in_other few.
         let none = ap (λ (d : Duty). pushes d other) idle in
         elim (cases_eq other cell) [
           | inl same ↦
@@ -83,7 +87,7 @@ module _ (layout : Layout) (shapes : ShapeLists) (w : World) (me : ℕ) (inside 
               let not_grey = ap {B = ℕ} (λ (b : Bool). if b then 1 else 0) (ap (is_grey w.heap) same ∙
               black_is_not_grey w.heap cell black_now) in
               let grey = ap {B = ℕ} (λ (b : Bool). if b then 1 else 0) (ap (is_grey (coloured w.heap cell Grey)) same ∙
-              is_grey-made w.heap cell) in
+              is_grey-made w.heap cell counts) in
               omega (arith, none, one, not_grey, grey)
           | inr apart ↦
               let no_one = ap {B = ℕ} (λ (b : Bool). if b then 1 else 0) (ne_eqb cell other (λ e. apart (sym e))) in
@@ -99,34 +103,29 @@ module _ (layout : Layout) (shapes : ShapeLists) (w : World) (me : ℕ) (inside 
     ]);
     arrays = λ array s is. no_scan s is;
     scanned = λ s is. no_scan s is;
-    black = λ _ source place target link black white.
-        let before = black_before_grey w.heap cell source black in
+    black = λ source place target link black white.
+        let before = black_before_grey w.heap cell source counts black in
         inr (
-          before.1,
-          sym (marked_before_grey w.heap cell target (black_is_marked w.heap cell black_now)) ∙ white,
+          coloured-other w.heap cell source Grey before.0,
+          sym (marked_before_grey w.heap cell target counts (black_is_marked w.heap cell black_now)) ∙ white,
           λ e.
               elim e [
-                | inl owes ↦ absurd (subst (λ (d : Duty). OwesBarrier d source) idle owes)
+                | inl owes ↦ absurd (subst (λ (d : Duty). StillOwes w.heap d source) idle owes)
                 | inr answers ↦ absurd (before.0 (sym (subst (ScanExcuses w.heap source place target) scans answers).0))
               ],
         );
-    grows = λ c g. absurd (subst (λ (d : Duty). OwesBarrier d c) idle g.owes);
-    stays = λ _ other. marked_after_grey w.heap cell other;
-    recoloured = λ _ other in_other.
+    grows = λ c g. absurd (subst (λ (d : Duty). AwaitsLoad d c) idle g.owes);
+    stays = λ other. marked_after_grey w.heap cell other counts;
+    recoloured = λ _ other.
         recoloured_one w.heap cell other Grey
-        (grey_is_marked (coloured w.heap cell Grey) cell (is_grey-made w.heap cell));
+        (grey_is_marked (coloured w.heap cell Grey) cell (is_grey-made w.heap cell counts));
     aims = λ s target is. no_scan s is;
-    marked = λ _ other in_other now.
-        inl (sym (marked_before_grey w.heap cell other (black_is_marked w.heap cell black_now)) ∙ now);
+    marked = λ other in_other now.
+        inl (sym (marked_before_grey w.heap cell other counts (black_is_marked w.heap cell black_now)) ∙ now);
     born = λ _ other owes. absurd (subst (λ (d : Duty). OwesColour d other) idle owes);
     owes = λ other owes. absurd owes;
-    counted = λ _. (let few = count_where-le (λ c.
-        is_black (coloured w.heap cell Grey) c && not (is_born_in_cycle w.log c)) (λ c.
-        is_black w.heap c && not (is_born_in_cycle w.log c)) (cell_count layout)
-        (λ other both. let parts = and_parts (is_black (coloured w.heap cell Grey) other)
-        (not (is_born_in_cycle w.log other)) both in
-        and_from (is_black w.heap other) (not (is_born_in_cycle w.log other))
-        (black_before_grey w.heap cell other parts.0).1 parts.1) in omega (arith, few));
+    counted = λ _. (let few = blackened_le layout w.heap (coloured w.heap cell Grey) w.log
+        (λ other black so. (black_before_grey w.heap cell other counts black).1) in omega (arith, few));
   }
 
   abbrev done : View
@@ -151,6 +150,7 @@ module _ (layout : Layout) (shapes : ShapeLists) (w : World) (me : ℕ) (inside 
     marks = refl;
     cycle =
         refl;
+    least = refl;
     begun = refl;
     period = refl;
     left = refl;
@@ -168,7 +168,7 @@ module _ (layout : Layout) (shapes : ShapeLists) (w : World) (me : ℕ) (inside 
     ran = runs;
     runs = runs;
     colours = wave.colours;
-    balance = λ _ other in_other few. refl;
+    balance = λ other in_other few. refl;
     rests = λ rest. absurd (cc);
     at_hand = λ other at. wave.hands.cells me other (elim at [
       | held is ↦ held is
@@ -178,8 +178,8 @@ module _ (layout : Layout) (shapes : ShapeLists) (w : World) (me : ℕ) (inside 
     ]);
     arrays = λ array s is. done_no_scan s is;
     scanned = λ s is. done_no_scan s is;
-    black = λ _ source place target link black white. inr (
-      black,
+    black = λ source place target link black white. inr (
+      refl,
       white,
       λ e. inl (elim e [
         | inl owes ↦ inl owes
@@ -188,11 +188,16 @@ module _ (layout : Layout) (shapes : ShapeLists) (w : World) (me : ℕ) (inside 
       ]),
     );
     grows = λ c g. record { grows = g.grows; owes = g.owes };
-    stays = λ _ other is. is;
-    recoloured = λ _ other in_other. inl refl;
+    stays = λ other is. is;
+    recoloured = λ _ other. inl refl;
     aims = λ s target is. done_no_scan s is;
-    marked = λ _ other in_other is. inl is;
+    marked = λ other in_other is. inl is;
     born = λ _ other owes. inl owes;
-    owes = λ other owes. (owes, λ _. (wave.born.owed marks me other owes).white);
+    owes = λ other owes. (owes, wave.born.white me other owes);
     counted = λ _. omega arith;
   }
+
+  -- a scanned cell that is black has the black word of the running cycle, so the exchange of that word finds it
+  pub raced_word : IsBlack w.heap cell → w.heap region.Colour cell ≡ colour_word (running_cycle w.heap) Black
+  raced_word black_now =
+      stamped_black (base_cycle w.heap) (running_cycle w.heap) (w.heap region.Colour cell) black_now (wave.retained.scanned me scan scans).1

@@ -7,11 +7,9 @@ use Rattle.tide_layout.proofs.SlotPlaces.{index_of_slot-alone}
 use Rattle.tide_layout.specs.Region.{tag}
 use Rattle.tide_layout.specs.Slots.{index_of_slot}
 use Rattle.tide_layout.specs.declared.region.Region.{Region}
-use Rattle.tide_layout.specs.declared.region.Region.TheVariants as region
 use Rattle.tide_machine.proofs.steps.Lists.{in_one}
 use Rattle.tide_machine.proofs.steps.Rereading.{scan_step, with_scan}
 use Rattle.tide_machine.proofs.steps.SettledNow.{slot_now}
-use Rattle.tide_machine.specs.Duties.{OwesBarrier}
 use Rattle.tide_machine.specs.Owed.{IsOwnWord, own_register, own_structure, own_array, own_pair, own_element}
 use Rattle.tide_machine.specs.RunningWave.{RunningWave}
 use Rattle.tide_machine.specs.Scanning.{IsTrue, IsStill, IsUnread, Place, slot, property, and_cell_of}
@@ -36,7 +34,9 @@ use Rattle.tide_model.specs.declared.val.Val.TheVariants.{Cell}
 use Rattle.tide_words.proofs.form_laws.FormLaws.{same_from_val_word}
 use Rattle.tide_words.proofs.heap_laws.ReadingLaws.{live_within, HasSlot-class}
 use Rattle.tide_words.specs.forms.ValueWord.{val_word}
-use Rattle.tide_words.specs.marking.Colours.{is_marking, IsMarked}
+use Rattle.tide_words.specs.marking.Colours.{is_marking, IsMarked, IsStamped}
+use Rattle.tide_machine.specs.Duties.{StillOwes}
+use Rattle.tide_layout.specs.declared.region.Region.TheVariants as region
 
 -- the cell of a word that was read, and those from before
 pub and_cell_before : (word : ℕ) (cells : List ℕ) (c : ℕ) → Contains cells c → Contains (and_cell_of word cells) c
@@ -72,7 +72,7 @@ among_more n k xs apart isnt = ap (λ (b : Bool). b || is_among xs k) (ne_eqb k 
 
 module _ (layout : Layout) (shapes : ShapeLists) (w : World) (me : ℕ) (inside : me < parties)
     (wave : RunningWave layout shapes w) (runs : (w.part me).runs ≡ true)
-    (marks : is_marking w.heap ≡ true) (no_barrier : (cell : ℕ) → OwesBarrier (w.part me).duty cell → ⊥) (scan : Scan)
+    (marks : is_marking w.heap ≡ true) (no_barrier : (cell : ℕ) → StillOwes w.heap (w.part me).duty cell → ⊥) (scan : Scan)
     (scans : (w.part me).scan ≡ Some scan) where
   abbrev state : State
   state = state_after layout w.log
@@ -137,7 +137,7 @@ module _ (layout : Layout) (shapes : ShapeLists) (w : World) (me : ℕ) (inside 
           ]);
       arrays = λ array s is has. wave.hands.arrays me array scan scans
           (of_some with_first (λ s. s.array ≡ Some (array + 1) → scan.array ≡ Some (array + 1)) (λ e. e) s is has);
-      scanned = of_some with_first (λ s. IsMarked w.heap s.cell × ScanKnows layout w.heap state s ×
+      scanned = of_some with_first (λ s. IsStamped w.heap s.cell × ScanKnows layout w.heap state s ×
           ((cell : ℕ) → Contains s.buffer cell → IsTrue s (w.heap region.Structure s.cell) →
           (cycle_span layout w.log).link s.cell cell)) (
             wave.retained.scanned me scan scans,
@@ -225,7 +225,7 @@ module _ (layout : Layout) (shapes : ShapeLists) (w : World) (me : ℕ) (inside 
       ];
       arrays = λ array s is has. wave.hands.arrays me array scan scans
           (of_some with_slot (λ s. s.array ≡ Some (array + 1) → scan.array ≡ Some (array + 1)) (λ e. e) s is has);
-      scanned = of_some with_slot (λ s. IsMarked w.heap s.cell × ScanKnows layout w.heap state s ×
+      scanned = of_some with_slot (λ s. IsStamped w.heap s.cell × ScanKnows layout w.heap state s ×
           ((cell : ℕ) → Contains s.buffer cell → IsTrue s (w.heap region.Structure s.cell) →
           (cycle_span layout w.log).link s.cell cell)) (
             wave.retained.scanned me scan scans,
@@ -280,7 +280,7 @@ module _ (layout : Layout) (shapes : ShapeLists) (w : World) (me : ℕ) (inside 
           ]);
       arrays = λ array s is it. wave.hands.arrays me array scan scans
           (of_some with_target (λ s. s.array ≡ Some (array + 1) → scan.array ≡ Some (array + 1)) (λ e. e) s is it);
-      scanned = of_some with_target (λ s. IsMarked w.heap s.cell × ScanKnows layout w.heap state s ×
+      scanned = of_some with_target (λ s. IsStamped w.heap s.cell × ScanKnows layout w.heap state s ×
           ((c : ℕ) → Contains s.buffer c → IsTrue s (w.heap region.Structure s.cell) →
           (cycle_span layout w.log).link s.cell c)) (
             wave.retained.scanned me scan scans,

@@ -3,19 +3,16 @@ use Rattle.std.proofs.Common.{ℕ, ◌≡◌, ◌+◌, ◌*◌, ◌%◌, ◌<◌
 use Rattle.std.proofs.lemmas.Bool.{eqb-true, eqb-false}
 use Rattle.std.specs.Prelude.{Contains, if◌then◌else◌}
 use Rattle.tide_layout.specs.Slots.{index_of_slot, index_of_element}
-use Rattle.tide_layout.specs.declared.region.Region.TheVariants as region
 use Rattle.tide_machine.proofs.kinds.ArrayLoads.{load_array, load_element}
 use Rattle.tide_machine.proofs.kinds.Blackening.{blacken}
 use Rattle.tide_machine.proofs.kinds.Publishing.{publish}
 use Rattle.tide_machine.proofs.kinds.Regreying.{push_race}
 use Rattle.tide_machine.proofs.kinds.Scanning.{lost_mark, mark_finds_other, marked_one}
 use Rattle.tide_machine.proofs.kinds.Swapping.{swap_grey}
-use Rattle.tide_machine.proofs.kinds.UnBlackening.{un_blacken, un_blacken_finds_grey}
+use Rattle.tide_machine.proofs.kinds.UnBlackening.{un_blacken, un_blacken_finds_grey, raced_word}
 use Rattle.tide_machine.proofs.kinds.VisitorLoads.{load_structure, load_slot, load_target}
-use Rattle.tide_machine.proofs.steps.Colouring.{black_tells}
 use Rattle.tide_machine.proofs.steps.Loads.{load_same}
 use Rattle.tide_machine.proofs.steps.Rereading.{agrees, differs}
-use Rattle.tide_machine.specs.Duties.{OwesBarrier}
 use Rattle.tide_machine.specs.Groups.{is_of_visits}
 use Rattle.tide_machine.specs.Kind.{Kind, LoadStructure, LoadSlot, LoadAgain, LoadTarget, Mark, UnBlacken, PushRace, Publish, SwapGrey, Blacken, LoadArray, LoadElementOf}
 use Rattle.tide_machine.specs.Machine.{IsAllowed, stepped}
@@ -25,7 +22,6 @@ use Rattle.tide_machine.specs.Scanning.{in_scan, still_open, read_again, leave_o
 use Rattle.tide_machine.specs.Words.{is_nuked}
 use Rattle.tide_machine.specs.World.{World, parties}
 use Rattle.tide_machine.specs.declared.view.Duty.{Duty}
-use Rattle.tide_machine.specs.declared.view.Duty.TheVariants as duty
 use Rattle.tide_machine.specs.declared.view.Scan.{Scan}
 use Rattle.tide_machine.specs.kinds.Blacken.{MayBlacken}
 use Rattle.tide_machine.specs.kinds.LoadAgain.{MayLoadAgain}
@@ -37,16 +33,19 @@ use Rattle.tide_machine.specs.kinds.Mark.{MayMark}
 use Rattle.tide_machine.specs.kinds.Publish.{MayPublish}
 use Rattle.tide_machine.specs.kinds.PushRace.{MayPushRace}
 use Rattle.tide_machine.specs.kinds.UnBlacken.{MayUnBlacken}
-use Rattle.tide_machine.specs.points.Scans.{scanned}
-use Rattle.tide_model.specs.History.{state_after}
-use Rattle.tide_model.specs.Layout.{Layout, class_of, slots_of, cell_count, block_of_cell}
+use Rattle.tide_model.specs.Layout.{Layout, class_of, slots_of, block_of_cell}
 use Rattle.tide_model.specs.Numbers.{put_at, is_among}
 use Rattle.tide_model.specs.Refused.{ShapeLists}
-use Rattle.tide_words.proofs.heap_laws.ReadingLaws.{live_within}
-use Rattle.tide_words.specs.declared.forms.colours.Colour.TheVariants.{Grey}
-use Rattle.tide_words.specs.forms.ColourWord.{colour_word, is_marked_in}
+use Rattle.tide_words.specs.declared.forms.colours.Colour.TheVariants.{Grey, Black}
+use Rattle.tide_words.specs.forms.ColourWord.{is_black_in, colour_word, is_marked_in, colour_state}
 use Rattle.tide_words.specs.heap.Heap.{write}
 use Rattle.tide_words.specs.marking.Colours.{is_marking, running_cycle, is_black}
+use Rattle.tide_machine.specs.Duties.{StillOwes}
+use Rattle.tide_words.specs.declared.forms.colours.Colour.{Colour}
+use Rattle.tide_words.proofs.marking_laws.ColourLaws.{colour_of-later}
+use Rattle.tide_words.specs.marking.Marked.{base_cycle}
+use Rattle.tide_layout.specs.declared.region.Region.TheVariants as region
+use Rattle.tide_machine.specs.declared.view.Duty.TheVariants as duty
 
 module _ (layout : Layout) (shapes : ShapeLists) (w : World) (me : ℕ) (inside : me < parties)
     (wave : RunningWave layout shapes w) where
@@ -54,8 +53,8 @@ module _ (layout : Layout) (shapes : ShapeLists) (w : World) (me : ℕ) (inside 
   marks_for : RunsAsVisitor layout w me → is_marking w.heap ≡ true
   marks_for runner = sym (wave.numbers.told me runner.runs).0 ∙ runner.marks
 
-  no_barrier : RunsAsVisitor layout w me → (cell : ℕ) → OwesBarrier (w.part me).duty cell → ⊥
-  no_barrier runner cell owes = subst (λ (d : Duty). OwesBarrier d cell) runner.idle owes
+  no_barrier : RunsAsVisitor layout w me → (cell : ℕ) → StillOwes w.heap (w.part me).duty cell → ⊥
+  no_barrier runner cell owes = subst (λ (d : Duty). StillOwes w.heap d cell) runner.idle owes
 
   -- what becomes of the view whose scan this is
   in_view : (scan : Scan) → (w.part me).scan ≡ Some scan → (at : _) (index : ℕ) (change : Scan → Option Scan) →
@@ -161,8 +160,7 @@ module _ (layout : Layout) (shapes : ShapeLists) (w : World) (me : ℕ) (inside 
   -- the bit of a raced cell
   pub race_pushed : (cell : ℕ) → MayPushRace w me cell →
       RunningWave layout shapes (stepped layout shapes w me (PushRace cell))
-  race_pushed cell may = push_race layout shapes w me inside wave may.runs
-      (λ other grows owes. subst (λ (d : Duty). OwesBarrier d other) may.owed owes) cell may.owed
+  race_pushed cell may = push_race layout shapes w me inside wave may.runs cell may.owed
 
   pub published : (block mask : ℕ) → MayPublish layout w me block mask →
       RunningWave layout shapes (stepped layout shapes w me (Publish block mask))
@@ -181,50 +179,46 @@ module _ (layout : Layout) (shapes : ShapeLists) (w : World) (me : ℕ) (inside 
       (sym (may.in_cycle ∙ (wave.numbers.told me may.runner.runs).1))
       (subst (λ (c : ℕ). RunningWave layout shapes (stepped layout shapes w me (UnBlacken c (running_cycle w.heap))))
       may.of_cell
-      (subst (λ (b : Bool). RunningWave layout shapes (record {
-        heap = write w.heap region.Colour may.scan.cell
-            (if b then colour_word (running_cycle w.heap) Grey else w.heap region.Colour may.scan.cell);
-        part = put_at w.part me (record (w.part me) {
-          scan = None;
-          races = (w.part me).races + 1;
-          duty =
-              if b then duty.PushRace may.scan.cell else (w.part me).duty;
-        });
-        log = w.log;
-      })) (sym (black_tells (running_cycle w.heap) (w.heap region.Colour may.scan.cell)
-      (wave.colours may.scan.cell within))) (by (is_black w.heap may.scan.cell) refl)))
+      (by (w.heap region.Colour may.scan.cell == colour_word (running_cycle w.heap) Black) refl))
     where
-      within : may.scan.cell < cell_count layout
-      within = live_within layout shapes wave.words.settled (state_after layout w.log) may.scan.cell wave.words.reads
-          (wave.hands.cells me may.scan.cell (scanned may.scan may.is refl))
+      not_black : (w.heap region.Colour may.scan.cell == colour_word (running_cycle w.heap) Black) ≡ false →
+          (b : Bool) → is_black w.heap may.scan.cell ≡ b → is_black w.heap may.scan.cell ≡ false
+      not_black other true black = absurd (eqb-false (w.heap region.Colour may.scan.cell)
+          (colour_word (running_cycle w.heap) Black) other (raced_word layout shapes w me inside wave
+          may.runner.runs (marks_for may.runner) may.runner.idle may.scan may.is may.raced black))
+      not_black other false isnt = isnt
 
-      by : (b : Bool) → is_black w.heap may.scan.cell ≡ b → RunningWave layout shapes (record {
-        heap = write w.heap region.Colour may.scan.cell
-            (if b then colour_word (running_cycle w.heap) Grey else w.heap region.Colour may.scan.cell);
-        part = put_at w.part me (record (w.part me) {
-          scan = None;
-          races = (w.part me).races + 1;
-          duty =
-              if b then duty.PushRace may.scan.cell else (w.part me).duty;
-        });
-        log = w.log;
-      })
-      by true black = un_blacken layout shapes w me inside wave may.runner.runs (marks_for may.runner) may.runner.idle
-          may.scan may.is may.raced black
-      by false isnt = load_same layout shapes w.heap region.Colour may.scan.cell _ w.log
+      by : (b : Bool) → (w.heap region.Colour may.scan.cell == colour_word (running_cycle w.heap) Black) ≡ b →
+          RunningWave layout shapes (record {
+            heap = write w.heap region.Colour may.scan.cell
+                (if b then colour_word (running_cycle w.heap) Grey else w.heap region.Colour may.scan.cell);
+            part = put_at w.part me (record (w.part me) {
+              scan = None;
+              races = (w.part me).races + 1;
+              duty =
+                  if b then duty.PushRace may.scan.cell else (w.part me).duty;
+            });
+            log = w.log;
+          })
+      by true same = un_blacken layout shapes w me inside wave may.runner.runs (marks_for may.runner) may.runner.idle
+          may.scan may.is may.raced
+          (ap (is_black_in (base_cycle w.heap)) (eqb-true (w.heap region.Colour may.scan.cell)
+          (colour_word (running_cycle w.heap) Black) same) ∙ ap {B = Bool} (λ (colour : Colour). colour_state colour == 0)
+          (colour_of-later (base_cycle w.heap) (running_cycle w.heap) Black (wave.old.counts (marks_for may.runner))))
+      by false other = load_same layout shapes w.heap region.Colour may.scan.cell _ w.log
           (un_blacken_finds_grey layout shapes w me inside wave may.runner.runs (marks_for may.runner) may.runner.idle
-          may.scan may.is may.raced isnt)
+          may.scan may.is may.raced (not_black other (is_black w.heap may.scan.cell) refl))
 
   -- a cell that was read and is marked leaves the buffer; else it is the scan's target
   pub target_loaded : (cell : ℕ) → MayLoadTarget layout w me cell →
       RunningWave layout shapes (stepped layout shapes w me (LoadTarget cell))
   target_loaded cell may =
-      in_view may.scan may.is region.Colour cell (λ s. if is_marked_in (w.part me).cycle (w.heap region.Colour cell)
+      in_view may.scan may.is region.Colour cell (λ s. if is_marked_in (w.part me).least (w.heap region.Colour cell)
       then still_open (record s { buffer = leave_out cell s.buffer; target = None })
       else Some record s { target = Some record { cell = cell; word = w.heap region.Colour cell } })
-      (by (is_marked_in (w.part me).cycle (w.heap region.Colour cell)) refl)
+      (by (is_marked_in (w.part me).least (w.heap region.Colour cell)) refl)
     where
-      by : (b : Bool) → is_marked_in (w.part me).cycle (w.heap region.Colour cell) ≡ b →
+      by : (b : Bool) → is_marked_in (w.part me).least (w.heap region.Colour cell) ≡ b →
           RunningWave layout shapes (record {
             heap = w.heap;
             part = put_at w.part me (record (w.part me) {
@@ -235,7 +229,7 @@ module _ (layout : Layout) (shapes : ShapeLists) (w : World) (me : ℕ) (inside 
           })
       by true is = lost_mark layout shapes w me inside wave may.runner.runs (marks_for may.runner) may.scan may.is
           may.agreed cell may.has
-          (subst (λ (c : ℕ). is_marked_in c (w.heap region.Colour cell) ≡ true) (wave.numbers.told me may.runner.runs).1
+          (subst (λ (c : ℕ). is_marked_in c (w.heap region.Colour cell) ≡ true) (wave.numbers.told me may.runner.runs).3
           is)
       by false is = load_target layout shapes w me inside wave may.runner.runs (marks_for may.runner)
           (no_barrier may.runner) may.scan may.is cell may.has
@@ -281,8 +275,8 @@ module _ (layout : Layout) (shapes : ShapeLists) (w : World) (me : ℕ) (inside 
           })) (sym same_cycle)
           (marked_one layout shapes w me inside wave may.runner.runs (marks_for may.runner) may.scan may.is may.agreed
           cell may.has
-          (subst (λ (c : ℕ). is_marked_in c read ≡ false) same_cycle (ap (is_marked_in cycle) (eqb-true read old same) ∙
-          may.white)))
+          (ap (is_marked_in (base_cycle w.heap)) (eqb-true read old same)
+          ∙ subst (λ (c : ℕ). is_marked_in c old ≡ false) (wave.numbers.told me may.runner.runs).3 may.white))
       by false other = load_same layout shapes w.heap region.Colour cell _ w.log
           (mark_finds_other layout shapes w me inside wave may.runner.runs (marks_for may.runner) may.scan may.is
           may.agreed cell may.has

@@ -1,7 +1,7 @@
 -- Steps near to allowed ones, which are not allowed.
 use Rattle.std.proofs.Common.{ap, arith, Some, None, ℕ, ◌≡◌, ◌∙◌, sym, refl, true, [], ◌∷◌}
 use Rattle.tide_layout.specs.declared.region.Region.TheVariants as region
-use Rattle.tide_machine.proofs.rows.BusyRow.{busy, taken, linked}
+use Rattle.tide_machine.proofs.rows.BusyRow.{busy, loaded, taken, linked}
 use Rattle.tide_machine.proofs.steps.Lists.{in_one, nothing_in, is_in_one}
 use Rattle.tide_machine.specs.Frozen.{newcomer}
 use Rattle.tide_machine.specs.Kind.{StoreRegister, StoreStopped, Regrey, StoreBorn, StoreCall, StoreStrong, Blacken, LoadClaim, LoadArray, LoadAgain, Mark, UnBlacken, Publish, Nuke, StoreArray, StoreStructure}
@@ -9,6 +9,8 @@ use Rattle.tide_machine.specs.Machine.{IsAllowed}
 use Rattle.tide_machine.specs.Owed.{owed_word}
 use Rattle.tide_machine.specs.Scanning.{scan_of}
 use Rattle.tide_machine.specs.World.{World}
+use Rattle.tide_machine.specs.declared.view.Duty.{Duty}
+use Rattle.tide_machine.specs.declared.view.Duty.TheVariants as duty
 use Rattle.tide_machine.specs.declared.view.Growth.TheVariants as growth
 use Rattle.tide_machine.specs.declared.view.Owed.{Owed}
 use Rattle.tide_machine.specs.declared.view.Scan.{Scan}
@@ -46,8 +48,21 @@ roomy-claim : IsAllowed small no_shapes busy 0 (LoadClaim 0 (Some (Claim 0))) �
 roomy-claim may = (let full = may.1 in absurd (omega (arith, full)))
 
 -- a cell made grey before its colour was loaded
-early-regrey : IsAllowed small no_shapes linked 0 (Regrey 0 1) → ⊥
+early-regrey : IsAllowed small no_shapes linked 0 (Regrey 0 4 1) → ⊥
 early-regrey may = (let owed = may.owed in absurd (cc))
+
+-- or over a word that isn't that of a black cell
+white-regrey : IsAllowed small no_shapes (record loaded { part = put_at newcomer 0 (record (loaded.part 0) { duty = duty.Regrey 0 5 }) }) 0
+    (Regrey 0 5 1) → ⊥
+white-regrey may = (let black = may.black in absurd (cc))
+
+-- or over another than the one that was loaded
+other-regrey : IsAllowed small no_shapes loaded 0 (Regrey 0 8 1) → ⊥
+other-regrey may = (let owed = may.owed in absurd (omega (arith, ap owed_word_of owed)))
+  where
+    owed_word_of : Duty → ℕ
+    owed_word_of (duty.Regrey cell word) = word
+    owed_word_of _ = 0
 
 -- a new cell that is coloured white while a cycle marks
 white-born : IsAllowed small no_shapes taken 0 (StoreBorn 0 5) → ⊥
@@ -62,7 +77,7 @@ abbrev with_view : ℕ → View → World
 with_view who v = record busy { part = put_at newcomer who v }
 
 abbrev visitor : View
-visitor = record (newcomer 16) { runs = true; marks = true; cycle = 1; begun = 1; ticket = 1; run = 16 }
+visitor = record (newcomer 16) { runs = true; marks = true; cycle = 1; least = 1; begun = 1; ticket = 1; run = 16 }
 
 -- a cell made black that isn't held
 blacken-unheld : IsAllowed small no_shapes (with_view 16 visitor) 16 (Blacken 0 1) → ⊥

@@ -1,9 +1,12 @@
 -- A world that isn't idle: while a cycle marks a mutator takes a cell, links it, makes it grey by its barrier, and
 -- links it again. The wave holds there, with a grey cell in a grey word and a barrier that is owed.
-use Rattle.std.proofs.Common.{ap, ◌∙◌, false, inl, ℕ, zero, suc, ◌≡◌, ◌≤◌, refl, arith, true, [], ◌∷◌, Some, None}
+use Rattle.std.proofs.Common.{ap, ◌∙◌, Bool, false, inl, ℕ, zero, suc, ◌≡◌, ◌≤◌, refl, arith, true, [], ◌∷◌, Some, None}
+use Rattle.std.specs.Prelude.{◌==◌}
 use Rattle.tide_core.specs.Entered.{HasBegun, with_begin, with_open}
 use Rattle.tide_cycle.proofs.BeginLaws
-use Rattle.tide_cycle.specs.Frames.{LeftByBegin}
+use Rattle.tide_cycle.specs.Frames.{LeftByBegin, is_begun_region}
+use Rattle.tide_layout.specs.Region.{tag}
+use Rattle.tide_layout.specs.declared.region.Region.{Region}
 use Rattle.tide_layout.specs.Limits.{IsWithinLimits}
 use Rattle.tide_layout.specs.declared.region.Region.TheVariants as region
 use Rattle.tide_machine.proofs.Scheduling.{all_schedules}
@@ -56,25 +59,32 @@ limits = record {
     few (suc (suc (suc (suc (suc (suc (suc (suc (suc zero))))))))) = omega arith
     few (suc (suc (suc (suc (suc (suc (suc (suc (suc (suc n)))))))))) = omega arith
 
+-- a region that no beginning changes is another than the phase's
+pub no_phase : (full : Bool) (at : Region) → is_begun_region full at ≡ false → (tag at == tag region.Phase) ≡ false
+no_phase full region.Phase is = absurd (cc)
+no_phase full _ is = refl
+
 -- a cycle begins before any part
 abbrev begun : World
-begun = record first_world { heap = write empty_heap region.Phase 0 3; log = with_begin [] }
+begun = record first_world { heap = write empty_heap region.Phase 0 3; log = with_begin [] true }
 
-begins_first : HasBegun small empty_heap (write empty_heap region.Phase 0 3)
+begins_first : HasBegun small true empty_heap (write empty_heap region.Phase 0 3)
 begins_first = record {
   others = same;
+  base = refl;
   cycle = omega arith;
-  unmarked = BeginLaws.begun-unmarked small empty_heap (write empty_heap region.Phase 0 3) same refl;
-  marking = λ shapes state. BeginLaws.Marking-begun small empty_heap (write empty_heap region.Phase 0 3) same refl
-      shapes state refl (omega arith);
+  marks = refl;
+  unmarked = BeginLaws.begun-unmarked small true empty_heap (write empty_heap region.Phase 0 3) same refl refl;
+  marking = λ shapes state. BeginLaws.Marking-begun small true empty_heap (write empty_heap region.Phase 0 3) same refl refl
+      (λ _ block below. record { shared = refl; mutator = refl; race = refl }) shapes state (omega arith);
 }
   where
-    same : LeftByBegin small empty_heap (write empty_heap region.Phase 0 3)
-    same at apart index within = write-other_region empty_heap region.Phase at 0 index 3 apart
+    same : LeftByBegin small true empty_heap (write empty_heap region.Phase 0 3)
+    same at kept index within = write-other_region empty_heap region.Phase at 0 index 3 (no_phase true at kept)
 
 came_begun : Comes small no_shapes has_law (frozen 0) begun
-came_begun = enters first_world 0 0 (write empty_heap region.Phase 0 3) (with_begin []) at_first
-    (begins (write empty_heap region.Phase 0 3) refl (IsSwept-tested small [] refl) begins_first)
+came_begun = enters first_world 0 0 (write empty_heap region.Phase 0 3) (with_begin [] true) at_first
+    (begins true (write empty_heap region.Phase 0 3) refl (IsSwept-tested small [] refl) begins_first)
 
 -- a part of 16 calls is opened
 abbrev pub opened : World
@@ -85,7 +95,7 @@ came_opened = opens begun 16 came_begun (λ marks none. absurd (omega (arith, no
 
 -- its ticket
 abbrev ticket : Ticket
-ticket = record { seen = opened.log; told = opened.log; period = 1; run = 16; marks = true; cycle = 1 }
+ticket = record { seen = opened.log; told = opened.log; period = 1; run = 16; marks = true; cycle = 1; base = 1 }
 
 abbrev joined : World
 joined = stepped small no_shapes opened 0 (Join ticket)
@@ -97,6 +107,7 @@ came_joined = steps opened 0 (Join ticket) came_opened (omega arith) refl record
   period = refl;
   marks = refl;
   cycle = refl;
+  based = refl;
   told = prefix_refl opened.log;
   longer = record { rest = opened.log; joins = refl };
   own = refl;
@@ -113,6 +124,7 @@ came_activated = steps joined 0 Activate came_joined (omega arith) refl record {
   of_part = refl;
   marks = refl;
   cycle = refl;
+  based = refl;
 }
 
 -- a cell is taken while the cycle marks
@@ -191,7 +203,7 @@ came_linked = steps told 0 (StoreLink 0 0 2 (Some (Put 0 0 0))) came_told (omega
 )
 
 -- which finds the cell black, makes it grey, and sets its bit
-abbrev loaded : World
+abbrev pub loaded : World
 loaded = stepped small no_shapes linked 0 (LoadColour 0)
 
 came_loaded : Comes small no_shapes has_law running loaded
@@ -202,13 +214,13 @@ came_loaded = steps linked 0 (LoadColour 0) came_linked (omega arith) refl recor
 }
 
 abbrev regreyed : World
-regreyed = stepped small no_shapes loaded 0 (Regrey 0 1)
+regreyed = stepped small no_shapes loaded 0 (Regrey 0 4 1)
 
 came_regreyed : Comes small no_shapes has_law running regreyed
-came_regreyed = steps loaded 0 (Regrey 0 1) came_loaded (omega arith) refl record {
+came_regreyed = steps loaded 0 (Regrey 0 4 1) came_loaded (omega arith) refl record {
   runner = record { is_mutator = omega arith; runs = refl };
-  word = 4;
   owed = refl;
+  black = refl;
   within = omega arith;
   in_cycle = refl;
   grown = λ none. none;
@@ -321,7 +333,7 @@ nobody_runs (suc p) = ap (λ (v : View). v.runs) (
     other told_again (StoreLink 0 1 2 (Some (Put 0 1 0))) ∙
     other pushed (StoreCall 2 None) ∙
     other regreyed (PushBit 0) ∙
-    other loaded (Regrey 0 1) ∙
+    other loaded (Regrey 0 4 1) ∙
     other linked (LoadColour 0) ∙
     other told (StoreLink 0 0 2 (Some (Put 0 0 0))) ∙
     other coloured_black (StoreCall 1 None) ∙

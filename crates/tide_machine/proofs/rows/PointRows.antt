@@ -2,7 +2,8 @@
 use Rattle.std.proofs.Common.{ℕ, refl, arith, true, false, List, [], ◌∷◌, Some, inl, inr}
 use Rattle.tide_layout.specs.declared.region.Region.TheVariants as region
 use Rattle.tide_machine.proofs.Scheduling.{all_schedules}
-use Rattle.tide_machine.proofs.freezes.Freezing.{retained_is_live}
+use Rattle.tide_core.specs.FrozenWave.{OldIsMarked}
+use Rattle.tide_machine.proofs.steps.MarkedLives.{retained_is_live}
 use Rattle.tide_machine.proofs.rows.BusyRow.{busy, opened, came_opened, limits}
 use Rattle.tide_machine.proofs.steps.Lists.{is_in_one, nothing_in}
 use Rattle.tide_machine.specs.Frozen.{newcomer}
@@ -27,7 +28,7 @@ use Rattle.tide_model.specs.History.{plain, state_after}
 use Rattle.tide_model.specs.Numbers.{put_at}
 use Rattle.tide_model.specs.Refused.{no_shapes}
 use Rattle.tide_model.specs.Rows.{small}
-use Rattle.tide_model.specs.declared.entry.Entry.TheVariants.{Begin, Open, Call}
+use Rattle.tide_model.specs.declared.entry.Entry.TheVariants.{Begin, End, Open, Call}
 use Rattle.tide_model.specs.declared.entry.Event.{Event}
 use Rattle.tide_model.specs.declared.op.Op.TheVariants.{Alloc, Put}
 use Rattle.tide_model.specs.declared.op.Reply.TheVariants.{Born, Done}
@@ -107,15 +108,15 @@ kept-changed point =
 
 -- a grey cell has its bit in two grey words
 held-twice : RunningGreyIsHeld small (write busy.heap region.GreyShared 0 1) busy.part → ⊥
-held-twice point = (let once = point.held refl 0 (omega arith) in absurd (omega (arith, once)))
+held-twice point = (let once = point.held 0 (omega arith) in absurd (omega (arith, once)))
 
 -- or in none
 held-by_none : RunningGreyIsHeld small (write busy.heap region.GreyMutator 0 0) newcomer → ⊥
-held-by_none point = (let once = point.held refl 0 (omega arith) in absurd (omega (arith, once)))
+held-by_none point = (let once = point.held 0 (omega arith) in absurd (omega (arith, once)))
 
--- no cycle marks, and a bit is left in a grey word
-rests-bit : RestsWhereIdle small (write busy.heap region.Phase 0 2) newcomer → ⊥
-rests-bit point = (let none = (point.words refl 0 (omega arith)).mutator in absurd (omega (arith, none)))
+-- no cycle marks, and a visitor holds a cell
+rests-holding : RestsWhereIdle (write busy.heap region.Phase 0 2) (alone (record (newcomer 0) { held = 0 ∷ [] })) → ⊥
+rests-holding point = (let none = point.held refl 0 in absurd (cc))
 
 -- a visitor holds a cell that is free
 hands-free : HandsAreLive small (alone (record (newcomer 0) { held = 5 ∷ [] })) busy.log → ⊥
@@ -154,7 +155,7 @@ one_black = write (write empty_heap region.Phase 0 3) region.Colour 0 4
 
 -- nobody owes the barrier
 black-unexcused : RunningBlackPointsToMarked small one_black newcomer linked_late → ⊥
-black-unexcused point = elim (point.excused refl 0 (slot 0) 1 (refl, refl) refl refl).excuse [
+black-unexcused point = elim (point.excused 0 (slot 0) 1 (refl, refl) refl refl).excuse [
   | inl owes ↦
       owes
   | inr scans ↦ scans
@@ -168,9 +169,25 @@ counted-less point = (let few = point.counted refl in absurd (omega (arith, few)
 retained-never : RunningMarkedIsRetained small (write opened.heap region.Colour 5 4) newcomer opened.log → ⊥
 retained-never point =
     let wave = all_schedules small no_shapes limits refl running opened came_opened in
-    let alive = retained_is_live small opened.heap opened.log wave.span refl 5 (point.marked refl 5 (omega arith) refl)
-    in
+    let alive = retained_is_live small no_shapes opened.heap opened.log wave.lawful wave.span refl 5
+    (point.marked refl 5 (omega arith) refl) in
     absurd (cc)
+
+-- a cell was born, and lives when a cycle ends: it is old
+abbrev grown_old : List Event
+grown_old = plain (Call 0 (Alloc 0 0) (Born 0)) ∷ plain (Begin 1 true) ∷ plain (End 1 []) ∷ []
+
+-- but it isn't marked
+old-unmarked : OldIsMarked small empty_heap grown_old → ⊥
+old-unmarked point = (let marked = point.old (λ marks. absurd (cc)) 0 (omega arith) refl in absurd (cc))
+
+-- no cycle marks, and a young cell is marked
+old-young_marked : OldIsMarked small (write empty_heap region.Colour 0 4) (plain (Call 0 (Alloc 0 0) (Born 0)) ∷ []) → ⊥
+old-young_marked point = (let old = point.rests refl 0 (omega arith) refl in absurd (cc))
+
+-- colours count from a cycle on that hasn't begun
+old-later_base : OldIsMarked small (write (write empty_heap region.Phase 0 3) region.Base 0 2) (plain (Begin 1 true) ∷ []) → ⊥
+old-later_base point = (let counts = point.counts refl in absurd (omega (arith, counts)))
 
 -- a cell was born in the cycle, it is white, and nobody owes its colour
 abbrev born_white : List Event

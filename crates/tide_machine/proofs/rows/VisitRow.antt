@@ -14,12 +14,12 @@ use Rattle.tide_layout.specs.Limits.{IsWithinLimits}
 use Rattle.tide_layout.specs.Slots.{index_of_slot, words_before_cell}
 use Rattle.tide_layout.specs.declared.region.Region.TheVariants as region
 use Rattle.tide_machine.proofs.Scheduling.{all_schedules}
-use Rattle.tide_machine.proofs.rows.BusyRow.{limits}
+use Rattle.tide_machine.proofs.rows.BusyRow.{limits, no_phase}
 use Rattle.tide_machine.proofs.steps.Frames.{put_else}
 use Rattle.tide_machine.proofs.steps.Lists.{is_in_one}
 use Rattle.tide_machine.specs.Frozen.{first_world}
 use Rattle.tide_machine.specs.Groups.{has_law}
-use Rattle.tide_machine.specs.Kind.{Ticket, Join, Activate, TakeFree, StoreRegister, StoreBorn, StoreCall, StoreLink, StoreStopped, SwapGrey, Blacken, LoadStructure, LoadArray, LoadSlot, LoadAgain, LoadTarget, Mark, Publish, Kind}
+use Rattle.tide_machine.specs.Kind.{Ticket, Join, Activate, TakeFree, StoreRegister, StoreBorn, StoreCall, StoreLink, LoadColour, StoreStopped, SwapGrey, Blacken, LoadStructure, LoadArray, LoadSlot, LoadAgain, LoadTarget, Mark, Publish, Kind}
 use Rattle.tide_machine.specs.Machine.{stepped, IsAllowed}
 use Rattle.tide_machine.specs.RunningWave.{RunningWave}
 use Rattle.tide_machine.specs.Schedule.{Comes, running, frozen, at_first, steps, enters, opens, begins, pauses, freezes}
@@ -86,6 +86,7 @@ joined = stepped visited no_shapes opened 0 (Join record {
   run = 16;
   marks = false;
   cycle = 0;
+  base = 1;
 })
 
 came_joined : Runs joined
@@ -96,12 +97,14 @@ came_joined = steps opened 0 (Join record {
   run = 16;
   marks = false;
   cycle = 0;
+  base = 1;
 }) came_opened (omega arith) refl record {
   rests = refl;
   later = omega arith;
   period = refl;
   marks = refl;
   cycle = refl;
+  based = refl;
   told = prefix_refl opened.log;
   longer = record { rest = opened.log; joins = refl };
   own = refl;
@@ -118,6 +121,7 @@ came_activated = steps joined 0 Activate came_joined (omega arith) refl record {
   of_part = refl;
   marks = refl;
   cycle = refl;
+  based = refl;
 }
 
 -- two cells are born, and are white
@@ -244,11 +248,22 @@ came_linked = steps told_too 0 (StoreLink 0 0 6 (Some (Put 0 0 1))) came_told_to
   },
 )
 
+-- its barrier finds it white
+abbrev looked : World
+looked = stepped visited no_shapes linked 0 (LoadColour 0)
+
+came_looked : Runs looked
+came_looked = steps linked 0 (LoadColour 0) came_linked (omega arith) refl record {
+  runner = record { is_mutator = omega arith; runs = refl };
+  owed = refl;
+  grown = λ none. none;
+}
+
 abbrev told_all : World
-told_all = stepped visited no_shapes linked 0 (StoreCall 3 None)
+told_all = stepped visited no_shapes looked 0 (StoreCall 3 None)
 
 came_told_all : Runs told_all
-came_told_all = steps linked 0 (StoreCall 3 None) came_linked (omega arith) refl (
+came_told_all = steps looked 0 (StoreCall 3 None) came_looked (omega arith) refl (
   record { is_mutator = omega arith; runs = refl },
   refl,
 )
@@ -273,7 +288,8 @@ nobody_runs : (p : ℕ) → (stopped.part p).runs ≡ false
 nobody_runs zero = refl
 nobody_runs (suc p) = ap (λ (v : View). v.runs) (
     other told_all (StoreStopped 1) ∙
-    other linked (StoreCall 3 None) ∙
+    other looked (StoreCall 3 None) ∙
+    other linked (LoadColour 0) ∙
     other told_too (StoreLink 0 0 6 (Some (Put 0 0 1))) ∙
     other white_too (StoreCall 2 None) ∙
     other registered_too (StoreBorn 1 1) ∙
@@ -291,6 +307,7 @@ nobody_runs (suc p) = ap (λ (v : View). v.runs) (
       run = 16;
       marks = false;
       cycle = 0;
+      base = 1;
     }))
   where
     other : (w : World) (kind : Kind) → (stepped visited no_shapes w 0 kind).part (suc p) ≡ w.part (suc p)
@@ -300,23 +317,25 @@ abbrev before : Heap
 before = stopped.heap
 
 abbrev begun : World
-begun = record stopped { heap = write before region.Phase 0 3; log = with_begin stopped.log }
+begun = record stopped { heap = write before region.Phase 0 3; log = with_begin stopped.log true }
 
-begins_here : HasBegun visited before begun.heap
+begins_here : HasBegun visited true before begun.heap
 begins_here = record {
   others = same;
+  base = refl;
   cycle = refl;
-  unmarked = BeginLaws.begun-unmarked visited before begun.heap same refl;
-  marking = λ shapes state. BeginLaws.Marking-begun visited before begun.heap same refl shapes state refl
-      (omega arith);
+  marks = refl;
+  unmarked = BeginLaws.begun-unmarked visited true before begun.heap same refl refl;
+  marking = λ shapes state. BeginLaws.Marking-begun visited true before begun.heap same refl refl
+      (λ _ block below. record { shared = refl; mutator = refl; race = refl }) shapes state (omega arith);
 }
   where
-    same : LeftByBegin visited before begun.heap
-    same at apart index within = write-other_region before region.Phase at 0 index 3 apart
+    same : LeftByBegin visited true before begun.heap
+    same at kept index within = write-other_region before region.Phase at 0 index 3 (no_phase true at kept)
 
 came_begun : Comes visited no_shapes has_law (frozen 0) begun
 came_begun = enters stopped 0 0 begun.heap begun.log (freezes stopped came_stopped nobody_runs)
-    (begins begun.heap refl (IsSwept-tested visited stopped.log refl) begins_here)
+    (begins true begun.heap refl (IsSwept-tested visited stopped.log refl) begins_here)
 
 -- a pause makes the first cell grey, with its bit in the shared word
 abbrev old : Heap
@@ -364,7 +383,7 @@ pauses_here = record {
       write-other_region greyed region.GreyShared at 0 index 1
       (tags-apart (λ r. not (is_grey_region r)) region.GreyShared at refl (ap not no_grey))
       ∙ write-other_region old region.Colour at 0 index 6 apart;
-  stays_marked = λ cell within marked. stays_marked old 0 cell marked;
+  stays_marked = λ cell within marked. stays_marked old 0 cell (omega arith) marked;
   stays_black = λ cell within black. same_black cell ∙ black;
   blackened = ap (λ (n : ℕ). n) (count_where-same (is_black paused.heap) (is_black old) 128 (λ n below. same_black n))
       ∙ omega arith;
@@ -384,7 +403,7 @@ pauses_here = record {
     ]
 
 came_paused : Comes visited no_shapes has_law (frozen 0) paused
-came_paused = enters begun 0 0 paused.heap paused.log came_begun (pauses paused.heap 0 pauses_here)
+came_paused = enters begun 0 0 paused.heap paused.log came_begun (pauses paused.heap 0 refl pauses_here)
 
 -- the next part is opened, with a grey cell for the visitor, which begins
 abbrev opened_again : World
@@ -394,7 +413,7 @@ came_opened_again : Runs opened_again
 came_opened_again = opens paused 16 came_paused (λ marks some. (omega arith, (0, omega arith, refl)))
 
 abbrev ticket : Ticket
-ticket = record { seen = opened_again.log; told = opened_again.log; period = 2; run = 16; marks = true; cycle = 1 }
+ticket = record { seen = opened_again.log; told = opened_again.log; period = 2; run = 16; marks = true; cycle = 1; base = 1 }
 
 abbrev visitor_joined : World
 visitor_joined = stepped visited no_shapes opened_again 16 (Join ticket)
@@ -406,6 +425,7 @@ came_visitor_joined = steps opened_again 16 (Join ticket) came_opened_again (ome
   period = refl;
   marks = refl;
   cycle = refl;
+  based = refl;
   told = prefix_refl opened_again.log;
   longer = record { rest = opened_again.log; joins = refl };
   own = refl;
@@ -422,6 +442,7 @@ came_visitor_begun = steps visitor_joined 16 Activate came_visitor_joined (omega
   of_part = refl;
   marks = refl;
   cycle = refl;
+  based = refl;
 }
 
 -- it takes the grey word, and makes the cell black

@@ -2,8 +2,6 @@
 use Rattle.std.proofs.Common.{ℕ, ◌≡◌, ◌≢◌, ◌<◌, refl, sym, ◌∙◌, ap, subst, arith, Bool, true, false, List, [], ◌∷◌, ◌++◌, inl, inr, None, length}
 use Rattle.std.proofs.lemmas.Bool.{cases_Bool, cases_eq, eq-eqb, ne_eqb}
 use Rattle.std.specs.Prelude.{if◌then◌else◌}
-use Rattle.tide_machine.proofs.freezes.Freezing.{retained_is_live}
-use Rattle.tide_machine.proofs.steps.Growing
 use Rattle.tide_machine.specs.Entries.{call_of}
 use Rattle.tide_machine.specs.RunningWave.{RunningWave}
 use Rattle.tide_machine.specs.Scanning.{Place, slot, property}
@@ -27,6 +25,8 @@ use Rattle.tide_model.specs.declared.val.Val.TheVariants.{Cell}
 use Rattle.tide_words.specs.heap.Heap.{Heap}
 use Rattle.tide_words.specs.marking.Colours.{is_marking}
 use Rattle.tide_words.specs.marking.Marked.{is_marked}
+use Rattle.tide_machine.proofs.steps.MarkedLives.{marked_is_live}
+use Rattle.tide_machine.proofs.steps.Growing
 
 module _ (layout : Layout) (shapes : ShapeLists) (w : World) (wave : RunningWave layout shapes w) (me : ℕ) (op : Op)
     (dst cell : ℕ)
@@ -46,10 +46,10 @@ module _ (layout : Layout) (shapes : ShapeLists) (w : World) (wave : RunningWave
   pub not_live : IsLive before cell → ⊥
   not_live alive = absurd (cc)
 
-  white : is_marking w.heap ≡ true → is_marked w.heap cell ≡ false
-  white marks = elim (cases_Bool (is_marked w.heap cell)) [
-    | inl is ↦ absurd (not_live (retained_is_live layout w.heap w.log wave.span marks cell
-        (wave.retained.marked marks cell within is)))
+  -- a free cell isn't marked, whether a cycle marks or not
+  pub white : is_marked w.heap cell ≡ false
+  white = elim (cases_Bool (is_marked w.heap cell)) [
+    | inl is ↦ absurd (not_live (marked_is_live layout shapes w wave cell within is))
     | inr isnt ↦ isnt
   ]
 
@@ -118,7 +118,7 @@ module _ (layout : Layout) (shapes : ShapeLists) (w : World) (wave : RunningWave
   awaits_birth marks heap same = record {
     is_new = Growing.born_here layout w.log (call_of me op (Born cell) None) refl cell (eq-eqb cell cell refl);
     alive = subst (λ (t : State). IsLive t cell) (sym is_after) (ap (λ (c : CellState). c.status) cell_here);
-    white = same ∙ white marks;
+    white = same ∙ white;
     kept = is_root cell ((graph_in_span layout log (moment_after_last (λ event. is_begin event.entry) log)
         (moment_after_last-le (λ event. is_begin event.entry) log)).roots cell
         (subst (λ (t : State). IsRoot t cell) (sym is_after) (in_register me dst active own_register)));

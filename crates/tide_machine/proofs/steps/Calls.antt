@@ -2,28 +2,23 @@
 use Rattle.std.proofs.Common.{ℕ, ◌≡◌, ◌≢◌, ◌+◌, ◌<◌, ◌≤◌, ◌⊎◌, ◌==◌, refl, sym, ◌∙◌, ap, subst, arith, Bool, true, false, List, [], ◌∷◌, ◌++◌, inl, inr, Option, Some, None, length}
 use Rattle.std.proofs.lemmas.Bool.{cases_Bool, cases_eq, and_parts, and_from}
 use Rattle.std.specs.Prelude.{Contains, if◌then◌else◌, ◌&&◌, not}
-use Rattle.tide_core.proofs.PointLaws.{retained-push}
-use Rattle.tide_core.specs.FrozenWave.{is_birth_of, is_born_in_cycle}
+use Rattle.tide_core.specs.FrozenWave.{is_birth_of, is_born_in_cycle, is_of_visit}
 use Rattle.tide_layout.specs.declared.region.Region.{Region}
-use Rattle.tide_layout.specs.declared.region.Region.TheVariants as region
 use Rattle.tide_machine.proofs.steps.BareTables.{TablesAreBare-lawful}
 use Rattle.tide_machine.proofs.steps.Colouring.{count_where-le}
 use Rattle.tide_machine.proofs.steps.Frames.{each_put, put_here, put_else, total_below-put, held_view, stops_view}
-use Rattle.tide_machine.proofs.steps.Growing
 use Rattle.tide_machine.proofs.steps.Lists.{nothing_in}
 use Rattle.tide_machine.proofs.steps.SweepsKept.{swept_kept, sweeps_called}
 use Rattle.tide_machine.proofs.steps.Waiting.{left_quiet}
 use Rattle.tide_machine.specs.Looked.{FreeIsShown}
-use Rattle.tide_machine.specs.Duties.{IsCalm, OwesBarrier, GrowsAndOwes, OwesColour}
+use Rattle.tide_machine.specs.Duties.{GrowsAndOwes, OwesColour, StillOwes}
 use Rattle.tide_machine.specs.Entries.{call_of}
 use Rattle.tide_machine.specs.Owed.{IsOwnWord, owed_word, Unsettles}
 use Rattle.tide_machine.specs.RunningWave.{RunningWave}
 use Rattle.tide_machine.specs.Scanning.{IsTrue, Place, slot, property}
 use Rattle.tide_machine.specs.Words.{count_of}
 use Rattle.tide_machine.specs.World.{total, parties, pushes}
-use Rattle.tide_machine.specs.declared.view.Duty.TheVariants as duty
 use Rattle.tide_machine.specs.declared.view.Found.{Found}
-use Rattle.tide_machine.specs.declared.view.Growth.TheVariants as growth
 use Rattle.tide_machine.specs.declared.view.Owed.{Owed}
 use Rattle.tide_machine.specs.declared.view.Scan.{Scan}
 use Rattle.tide_machine.specs.declared.view.View.{View}
@@ -35,12 +30,12 @@ use Rattle.tide_machine.specs.points.Marks.{counted_in}
 use Rattle.tide_machine.specs.points.Scans.{IsAtHand, held, scanned, buffered, ScanKnows}
 use Rattle.tide_machine.specs.points.Seen.{CallsAreTold, WhoLeftIsInactive}
 use Rattle.tide_machine.specs.points.SettledWords.{RunningWordsRead}
-use Rattle.tide_model.proofs.OldLaws.{is_full-kept}
+use Rattle.tide_model.proofs.OldLaws.{is_full-push, is_old-push, is_spared-push, spared_retained-push}
 use Rattle.tide_model.proofs.Histories.{IsLawful-push, state_after-push}
 use Rattle.tide_model.proofs.ReferenceLaws.{put_at_elim}
 use Rattle.tide_model.specs.Applied.{after_call}
 use Rattle.tide_model.specs.Cycle.{cycle_span, HasDead}
-use Rattle.tide_model.specs.Graph.{IsRetained, no_cell, IsRoot, IsLink, in_register, claimed, in_handle, in_slot, in_property}
+use Rattle.tide_model.specs.Graph.{IsRetained, IsRoot, IsLink, in_register, claimed, in_handle, in_slot, in_property}
 use Rattle.tide_model.specs.History.{state_after, state_at, is_call_of}
 use Rattle.tide_model.specs.Lawful.{Stands}
 use Rattle.tide_model.specs.Layout.{Layout, cell_count, block_of_cell}
@@ -57,13 +52,22 @@ use Rattle.tide_model.specs.declared.op.Reply.{Reply}
 use Rattle.tide_words.proofs.heap_laws.Frames.{is_read}
 use Rattle.tide_words.proofs.marking_laws.MarkingLaws.{link_ends}
 use Rattle.tide_words.specs.heap.Heap.{Heap}
-use Rattle.tide_words.specs.marking.Colours.{is_marking, running_cycle, is_grey, is_black, IsBlack, IsMarked}
-use Rattle.tide_words.specs.marking.Marked.{is_marked}
+use Rattle.tide_words.specs.marking.Colours.{is_marking, running_cycle, is_grey, is_black, IsBlack, IsMarked, IsStamped}
+use Rattle.tide_words.specs.marking.Marked.{is_marked, base_cycle}
 use Rattle.tide_words.specs.marking.Marking.{bits_of, times_in}
+use Rattle.tide_model.specs.Old.{IsSpared, is_full, is_old, is_spared}
+use Rattle.tide_machine.proofs.steps.Barriers.{still_owes}
+use Rattle.tide_machine.proofs.steps.SameColours.{bits_same, is_black-same, is_grey-same, is_marked-same}
+use Rattle.tide_words.specs.forms.ColourWord.{colour_cycle}
+use Rattle.tide_layout.specs.declared.region.Region.TheVariants as region
+use Rattle.tide_machine.proofs.steps.Growing
+use Rattle.tide_machine.specs.declared.view.Duty.TheVariants as duty
+use Rattle.tide_machine.specs.declared.view.Growth.TheVariants as growth
 
 -- the regions that no call writes
 abbrev pub is_uncalled : Region → Bool
 is_uncalled region.Phase = true
+is_uncalled region.Base = true
 is_uncalled region.Stopped = true
 is_uncalled region.Colour = true
 is_uncalled region.GreyShared = true
@@ -95,9 +99,9 @@ module _ (layout : Layout) (shapes : ShapeLists) (old : Heap) (part : ℕ → Vi
         (t.arrays array ≡ spent)
     pub scans : (p : ℕ) (scan : Scan) → (part p).scan ≡ Some scan → ScanKnows layout new t scan
     -- a link of the state after it is one from before, or the caller owes its barrier
-    pub links : is_marking old ≡ true → (source : ℕ) (place : Place) (cell : ℕ) → LinkAt t source place cell →
+    pub links : (source : ℕ) (place : Place) (cell : ℕ) → LinkAt t source place cell →
         IsBlack old source → is_marked old cell ≡ false →
-        OwesBarrier w.duty source ⊎ LinkAt before source place cell
+        StillOwes new w.duty source ⊎ LinkAt before source place cell
     -- what another has just taken stays unknown
     pub beyond : is_marking old ≡ true → (source n cell : ℕ) → LinkAt t source (property n) cell →
         count_of (new region.Structure source) ≤ n →
@@ -124,6 +128,7 @@ module _ (layout : Layout) (shapes : ShapeLists) (old : Heap) (part : ℕ → Vi
     pub mine : w.mine ≡ (part me).mine ++ call_of me op reply took ∷ []
     pub marks : w.marks ≡ (part me).marks
     pub cycle : w.cycle ≡ (part me).cycle
+    pub least : w.least ≡ (part me).least
     pub begun : w.begun ≡ (part me).begun
     pub visits : w.visits ≡ (part me).visits
     pub stopped : w.stopped ≡ (part me).stopped
@@ -144,9 +149,8 @@ module _ (layout : Layout) (shapes : ShapeLists) (old : Heap) (part : ℕ → Vi
     pub full : w.full ≡ []
     -- the view owed no push before, and owes none now
     pub pushes_none : (cell : ℕ) → (pushes (part me).duty cell ≡ 0) × (pushes w.duty cell ≡ 0)
-    pub calm : is_marking old ≡ false → IsCalm w.duty
     pub grows : (cell : ℕ) → GrowsAndOwes (part me) cell → GrowsAndOwes w cell
-    pub barrier : (source : ℕ) → OwesBarrier (part me).duty source → OwesBarrier w.duty source
+    pub barrier : (source : ℕ) → StillOwes old (part me).duty source → StillOwes new w.duty source
     pub kept : (p : ℕ) (at : Region) (index word : ℕ) → p ≢ me → Contains (part p).known (owed_word at index word) →
         new at index ≡ word
     pub truer : (p : ℕ) (scan : Scan) → (part p).scan ≡ Some scan → IsTrue scan (new region.Structure scan.cell) →
@@ -154,6 +158,7 @@ module _ (layout : Layout) (shapes : ShapeLists) (old : Heap) (part : ℕ → Vi
     -- what was born
     pub born_before : (cell : ℕ) → OwesColour (part me).duty cell → ⊥
     pub born : (cell : ℕ) → is_birth_of cell (Call me op reply) ≡ true → OwesColour w.duty cell
+    pub white : (cell : ℕ) → OwesColour w.duty cell → is_marked old cell ≡ false
     pub awaits : is_marking old ≡ true → (cell : ℕ) → OwesColour w.duty cell → AwaitsColour layout new longer me cell
     pub owner : ℕ → ℕ
     pub once : (cell : ℕ) → OwesColour w.duty cell → owner cell ≡ me
@@ -173,35 +178,31 @@ module _ (layout : Layout) (shapes : ShapeLists) (old : Heap) (part : ℕ → Vi
     running : running_cycle new ≡ running_cycle old
     running = ap (λ (word : ℕ). running_cycle (λ at index. word)) phase
 
-    abbrev phase_and_colour : ℕ → ℕ → Heap
-    phase_and_colour p c region.Phase i = p
-    phase_and_colour p c _ i = c
+    base : base_cycle new ≡ base_cycle old
+    base = s.uncalled region.Base 0 refl
 
     same_black : (cell : ℕ) → is_black new cell ≡ is_black old cell
-    same_black cell = ap (λ (p : ℕ). is_black (phase_and_colour p (new region.Colour cell)) cell) phase ∙
-        ap (λ (c : ℕ). is_black (phase_and_colour (old region.Phase 0) c) cell) (s.uncalled region.Colour cell refl)
+    same_black cell = is_black-same old new cell base (s.uncalled region.Colour cell refl)
 
     same_grey : (cell : ℕ) → is_grey new cell ≡ is_grey old cell
-    same_grey cell = ap (λ (p : ℕ). is_grey (phase_and_colour p (new region.Colour cell)) cell) phase ∙
-        ap (λ (c : ℕ). is_grey (phase_and_colour (old region.Phase 0) c) cell) (s.uncalled region.Colour cell refl)
+    same_grey cell = is_grey-same old new cell base (s.uncalled region.Colour cell refl)
 
     same_marked : (cell : ℕ) → is_marked new cell ≡ is_marked old cell
-    same_marked cell = ap (λ (p : ℕ). is_marked (phase_and_colour p (new region.Colour cell)) cell) phase ∙
-        ap (λ (c : ℕ). is_marked (phase_and_colour (old region.Phase 0) c) cell) (s.uncalled region.Colour cell refl)
+    same_marked cell = is_marked-same old new cell base (s.uncalled region.Colour cell refl)
+
+    old_same : (cell : ℕ) → is_old layout longer cell ≡ is_old layout log cell
+    old_same = is_old-push layout log (call_of me op reply took) refl
+
+    full_same : is_full longer ≡ is_full log
+    full_same = is_full-push layout log (call_of me op reply took) refl refl
 
     same_bits : (cell : ℕ) → bits_of new cell ≡ bits_of old cell
-    same_bits cell =
-        let shared = ap (λ (word : ℕ). Rattle.std.specs.Int.bit_at word (Rattle.std.specs.Prelude.◌%◌ cell 64))
-        (s.uncalled region.GreyShared (block_of_cell cell) refl) in
-        let mutator = ap (λ (word : ℕ). Rattle.std.specs.Int.bit_at word (Rattle.std.specs.Prelude.◌%◌ cell 64))
-        (s.uncalled region.GreyMutator (block_of_cell cell) refl) in
-        let race = ap (λ (word : ℕ). Rattle.std.specs.Int.bit_at word (Rattle.std.specs.Prelude.◌%◌ cell 64))
-        (s.uncalled region.GreyRace (block_of_cell cell) refl) in
-        omega (arith, shared, mutator, race)
+    same_bits cell = bits_same old new cell (s.uncalled region.GreyShared (block_of_cell cell) refl)
+        (s.uncalled region.GreyMutator (block_of_cell cell) refl) (s.uncalled region.GreyRace (block_of_cell cell) refl)
 
-    retained_longer : (cell : ℕ) → IsRetained (cycle_span layout log) no_cell cell →
-        IsRetained (cycle_span layout longer) no_cell cell
-    retained_longer = retained-push layout log (call_of me op reply took) refl
+    retained_longer : (cell : ℕ) → IsRetained (cycle_span layout log) (IsSpared layout log) cell →
+        IsRetained (cycle_span layout longer) (IsSpared layout longer) cell
+    retained_longer = spared_retained-push layout log (call_of me op reply took) refl refl
 
     -- a view's excuse stands after the call
     scan_excuses : (p source : ℕ) (place : Place) (cell : ℕ) (scan : Option Scan) → (part p).scan ≡ scan →
@@ -232,7 +233,11 @@ module _ (layout : Layout) (shapes : ShapeLists) (old : Heap) (part : ℕ → Vi
     other_excuses : (p source : ℕ) (place : Place) (cell : ℕ) → p ≢ me → Excuses old source place cell (part p) →
         IsExcused new (put_at part me w) source place cell
     other_excuses p source place cell apart (inl owes) =
-        record { by = p; excuse = subst (Excuses new source place cell) (sym (put_else part me p w apart)) (inl owes) }
+        record {
+          by = p;
+          excuse = subst (Excuses new source place cell) (sym (put_else part me p w apart))
+              (inl (still_owes old new (part p).duty source (s.uncalled region.Colour source refl) owes));
+        }
     other_excuses p source place cell apart (inr scans) =
         record {
           by = p;
@@ -279,13 +284,15 @@ module _ (layout : Layout) (shapes : ShapeLists) (old : Heap) (part : ℕ → Vi
             sym (Growing.begin_count-push layout log (call_of me op reply took) refl);
         periods = s.period ∙ wave.numbers.periods ∙ sym (Growing.open_count-call log me op reply took);
         told = each_put (λ p u. u.runs ≡ true → (u.marks ≡ is_marking new) × (u.cycle ≡ running_cycle new) ×
-            (u.begun ≡ new region.Period 0)) part me w
+            (u.begun ≡ new region.Period 0) × (u.least ≡ base_cycle new)) part me w
             (λ is. let t = wave.numbers.told me s.runs in (
               s.marks ∙ t.0 ∙ sym marking,
               s.cycle ∙ t.1 ∙ sym running,
               s.begun ∙ t.2 ∙ sym s.period,
+              s.least ∙ t.3 ∙ sym base,
             ))
-            (λ p is. let t = wave.numbers.told p is in (t.0 ∙ sym marking, t.1 ∙ sym running, t.2 ∙ sym s.period));
+            (λ p is. let t = wave.numbers.told p is in
+            (t.0 ∙ sym marking, t.1 ∙ sym running, t.2 ∙ sym s.period, t.3 ∙ sym base));
         begun = each_put (λ p u. u.begun ≤ new region.Period 0) part me w
             (let b = wave.numbers.begun me in let same = s.begun in let e = s.period in omega (arith, b, same, e))
             (λ p. let b = wave.numbers.begun p in let e = s.period in omega (arith, b, e));
@@ -324,44 +331,38 @@ module _ (layout : Layout) (shapes : ShapeLists) (old : Heap) (part : ℕ → Vi
                   (sym (Growing.state_at-push layout log (call_of me op reply took) moment was.1)) was.2,
             ));
       };
-      held = held_view layout old new part me w s.inside marking
-          (λ marks cell within few. let bits = same_bits cell in let none = s.pushes_none cell in let grey =
+      held = held_view layout old new part me w s.inside
+          (λ cell within few. let bits = same_bits cell in let none = s.pushes_none cell in let grey =
           ap {B = ℕ} (λ (b : Bool). if b then 1 else 0) (same_grey cell) in let stack =
           ap (λ (l : List ℕ). times_in l cell) s.held in omega (arith, bits, none.0, none.1, grey, stack))
           wave.held;
       rests = record {
-        words = λ idle block within. let none = wave.rests.words (sym marking ∙ idle) block within in record {
-          shared = s.uncalled region.GreyShared block refl ∙ none.shared;
-          mutator = s.uncalled region.GreyMutator block refl ∙ none.mutator;
-          race = s.uncalled region.GreyRace block refl ∙ none.race;
-        };
         held = λ idle. each_put (λ p u. u.held ≡ []) part me w (s.held ∙ wave.rests.held (sym marking ∙ idle) me)
             (wave.rests.held (sym marking ∙ idle));
         scans = λ idle. each_put (λ p u. u.scan ≡ None) part me w (s.scan ∙ wave.rests.scans (sym marking ∙ idle) me)
             (wave.rests.scans (sym marking ∙ idle));
-        duties = λ idle. each_put (λ p u. IsCalm u.duty) part me w (s.calm (sym marking ∙ idle))
-            (wave.rests.duties (sym marking ∙ idle));
       };
       black = record {
-        excused = λ marks source place cell link black white.
+        excused = λ source place cell link black white.
             let was_black = sym (same_black source) ∙ black in
             let was_white = sym (same_marked cell) ∙ white in
-            elim (now_of.links (sym marking ∙ marks) source place cell link was_black was_white) [
+            elim (now_of.links source place cell link was_black was_white) [
               | inl owes ↦ record {
                 by = me;
                 excuse = subst (Excuses new source place cell) (sym (put_here part me w))
                     (inl owes);
               }
               | inr link_before ↦ excused source place cell
-                  (wave.black.excused (sym marking ∙ marks) source place cell link_before was_black was_white)
+                  (wave.black.excused source place cell link_before was_black was_white)
             ];
       };
-      full = λ marks. is_full-kept log (call_of me op reply took) refl ∙ wave.full (sym marking ∙ marks);
       retained = record {
         marked = λ marks cell within is.
             retained_longer cell (wave.retained.marked (sym marking ∙ marks) cell within (sym (same_marked cell) ∙ is));
-        scanned = scans_of (λ scan. IsMarked new scan.cell) (λ p scan is. same_marked scan.cell ∙
-            wave.retained.scanned p scan is);
+        scanned = scans_of (λ scan. IsStamped new scan.cell) (λ p scan is. let was = wave.retained.scanned p scan is in (
+          same_marked scan.cell ∙ was.0,
+          ap colour_cycle (s.uncalled region.Colour scan.cell refl) ∙ was.1 ∙ sym running,
+        ));
         buffered = λ p cell scan is. scans_of (λ scan. Contains scan.buffer cell →
             IsTrue scan (new region.Structure scan.cell) → (cycle_span layout longer).link scan.cell cell)
             (λ p scan is at holds. (Growing.cycle_span-push layout log (call_of me op reply took) refl).links scan.cell
@@ -390,6 +391,12 @@ module _ (layout : Layout) (shapes : ShapeLists) (old : Heap) (part : ℕ → Vi
               | inr now ↦ (now.one_is_live, now.other_is_live)
             ];
       };
+      old = record {
+        old = λ when cell within is. same_marked cell ∙ wave.old.old (λ marks. sym full_same ∙ when (marking ∙ marks)) cell within (sym (old_same cell) ∙ is);
+        rests = λ idle cell within is. old_same cell ∙ wave.old.rests (sym marking ∙ idle) cell within (sym (same_marked cell) ∙ is);
+        counts = λ marks. (let c = wave.old.counts (sym marking ∙ marks) in let b = base in let r = running in omega (arith, c, b, r));
+        soon = (let c = wave.old.soon in let b = base in let r = running in omega (arith, c, b, r));
+      };
       born = born_after;
       counted = record {
         counted = λ marks.
@@ -400,8 +407,8 @@ module _ (layout : Layout) (shapes : ShapeLists) (old : Heap) (part : ℕ → Vi
             ap {B = ℕ} (λ (n : ℕ). if (part me).begun == old region.Period 0 then n else 0) s.visits in
             let period = ap (λ (n : ℕ). total (counted_in n) (put_at part me w)) s.period in
             let more = Growing.visits-push layout log (call_of me op reply took) refl in
-            let few = count_where-le (λ c. is_black new c && not (is_born_in_cycle longer c)) (λ c.
-            is_black old c && not (is_born_in_cycle log c)) (cell_count layout) (λ c. fewer c) in
+            let few = count_where-le (λ c. is_black new c && is_of_visit layout longer c) (λ c.
+            is_black old c && is_of_visit layout log c) (cell_count layout) (λ c. fewer c) in
             omega (arith, was, sums, same, more, few, period);
       };
       waits = left_quiet layout old new part me w phase s.period (λ _ cell in_cell is. same_grey cell ∙ is)
@@ -483,11 +490,14 @@ module _ (layout : Layout) (shapes : ShapeLists) (old : Heap) (part : ℕ → Vi
         root_live cell (claimed who at) = now_of.refs.claimed who cell at
         root_live cell (in_handle handle is) = now_of.refs.in_strong handle cell is
 
-        fewer : (c : ℕ) → (is_black new c && not (is_born_in_cycle longer c)) ≡ true →
-            (is_black old c && not (is_born_in_cycle log c)) ≡ true
+        fewer : (c : ℕ) → (is_black new c && is_of_visit layout longer c) ≡ true →
+            (is_black old c && is_of_visit layout log c) ≡ true
         fewer c both =
-            let parts = and_parts (is_black new c) (not (is_born_in_cycle longer c)) both in
-            and_from (is_black old c) (not (is_born_in_cycle log c)) (sym (same_black c) ∙ parts.0) (not_born parts.1)
+            let parts = and_parts (is_black new c) (is_of_visit layout longer c) both in
+            let late = and_parts (not (is_born_in_cycle longer c)) (not (is_spared layout longer c)) parts.1 in
+            and_from (is_black old c) (is_of_visit layout log c) (sym (same_black c) ∙ parts.0)
+            (and_from (not (is_born_in_cycle log c)) (not (is_spared layout log c)) (not_born late.0)
+            (ap not (sym (is_spared-push layout log (call_of me op reply took) refl refl c)) ∙ late.1))
           where
             not_born : not (is_born_in_cycle longer c) ≡ true → not (is_born_in_cycle log c) ≡ true
             not_born is = elim (cases_Bool (is_born_in_cycle log c)) [
@@ -515,6 +525,9 @@ module _ (layout : Layout) (shapes : ShapeLists) (old : Heap) (part : ℕ → Vi
               (λ p apart cell owes. other_awaits p cell apart (wave.born.owed (sym marking ∙ marks) p cell owes));
           alive = each_put (λ p u. (cell : ℕ) → OwesColour u.duty cell → IsLive after cell) part me w now_of.awaited
               (λ p cell owes. now_of.alive cell (wave.born.alive p cell owes));
+          white = put_at_elim (λ p u. (cell : ℕ) → OwesColour u.duty cell → is_marked new cell ≡ false) part me w
+              (λ cell owes. same_marked cell ∙ s.white cell owes)
+              (λ p apart cell owes. same_marked cell ∙ wave.born.white p cell owes);
           owner = s.owner;
           once = put_at_elim (λ p u. (cell : ℕ) → OwesColour u.duty cell → s.owner cell ≡ p) part me w s.once
               (λ p apart cell. s.once_others p cell apart);

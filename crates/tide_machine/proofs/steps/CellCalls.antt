@@ -5,14 +5,13 @@ use Rattle.std.specs.Prelude.{Contains, if◌then◌else◌, ◌&&◌, not}
 use Rattle.tide_core.specs.FrozenWave.{is_birth_of}
 use Rattle.tide_layout.specs.Region.{tag}
 use Rattle.tide_layout.specs.declared.region.Region.{Region}
-use Rattle.tide_layout.specs.declared.region.Region.TheVariants as region
 use Rattle.tide_machine.proofs.steps.Calls.{OfState, call_step, is_uncalled}
 use Rattle.tide_machine.proofs.steps.Frames.{each_put, calls_view}
 use Rattle.tide_machine.proofs.steps.GrowthsKept.{growth_kept}
 use Rattle.tide_machine.proofs.steps.Lists.{nothing_in}
 use Rattle.tide_machine.proofs.steps.SweepsKept.{named_kept}
 use Rattle.tide_machine.proofs.steps.Unsettled.{given_put, unsettled_write, unsettles_put}
-use Rattle.tide_machine.specs.Duties.{IsCalm, OwesBarrier, OwesColour}
+use Rattle.tide_machine.specs.Duties.{OwesColour, AwaitsLoad, StillOwes}
 use Rattle.tide_machine.specs.Entries.{call_of}
 use Rattle.tide_machine.specs.Owed.{owed_word, Owes, IsOwnWord, own_register, own_structure, own_array, own_pair, own_element, Unsettles}
 use Rattle.tide_machine.specs.RunningWave.{RunningWave}
@@ -20,8 +19,6 @@ use Rattle.tide_machine.specs.Scanning.{IsTrue, Place, property}
 use Rattle.tide_machine.specs.Words.{count_of}
 use Rattle.tide_machine.specs.World.{World, parties, pushes}
 use Rattle.tide_machine.specs.declared.view.Duty.{Duty}
-use Rattle.tide_machine.specs.declared.view.Duty.TheVariants as duty
-use Rattle.tide_machine.specs.declared.view.Growth.TheVariants as growth
 use Rattle.tide_machine.specs.declared.view.Owed.{Owed}
 use Rattle.tide_machine.specs.declared.view.Scan.{Scan}
 use Rattle.tide_machine.specs.declared.view.View.{View}
@@ -51,6 +48,9 @@ use Rattle.tide_words.proofs.heap_laws.HeapLaws.{write-other_region}
 use Rattle.tide_words.specs.heap.Heap.{Heap, write}
 use Rattle.tide_words.specs.heap.Reading.{ReadsAs}
 use Rattle.tide_words.specs.marking.Colours.{is_marking}
+use Rattle.tide_layout.specs.declared.region.Region.TheVariants as region
+use Rattle.tide_machine.specs.declared.view.Duty.TheVariants as duty
+use Rattle.tide_machine.specs.declared.view.Growth.TheVariants as growth
 
 module _ (layout : Layout) (shapes : ShapeLists) (w : World) (me : ℕ) (inside : me < parties)
     (wave : RunningWave layout shapes w) (runs : (w.part me).runs ≡ true)
@@ -93,10 +93,9 @@ module _ (layout : Layout) (shapes : ShapeLists) (w : World) (me : ℕ) (inside 
     pub status : cell_after.status ≡ (state.cells cell).status
     pub array : cell_after.array ≡ (state.cells cell).array
     pub pushes_none : (c : ℕ) → pushes next c ≡ 0
-    pub calm : is_marking w.heap ≡ false → IsCalm next
     pub no_colour : (c : ℕ) → OwesColour next c → ⊥
-    pub links : is_marking w.heap ≡ true → (x : ℕ) (place : Place) (target : ℕ) → LinkAt after x place target →
-        OwesBarrier next x ⊎ LinkAt state x place target
+    pub links : (x : ℕ) (place : Place) (target : ℕ) → LinkAt after x place target →
+        StillOwes new next x ⊎ LinkAt state x place target
     pub beyond : is_marking w.heap ≡ true → (x n target : ℕ) → LinkAt after x (property n) target →
         count_of (new region.Structure x) ≤ n →
         LinkAt state x (property n) target × (count_of (w.heap region.Structure x) ≤ n)
@@ -191,7 +190,7 @@ module _ (layout : Layout) (shapes : ShapeLists) (w : World) (me : ℕ) (inside 
       alive = λ x is. status_same x ∙ is;
       arrays = λ array is. is;
       scans = λ p scan is. s.scans p scan is (wave.scans.knows p scan is);
-      links = λ marks x place target link black white. s.links marks x place target link;
+      links = λ x place target link black white. s.links x place target link;
       beyond = λ marks x n target link past. inr (s.beyond marks x n target link past);
       awaited = λ c owes. absurd (s.no_colour c owes);
       growth = subst (GrowthKnows new after me later) (sym grows_not) tt;
@@ -238,6 +237,7 @@ module _ (layout : Layout) (shapes : ShapeLists) (w : World) (me : ℕ) (inside 
       mine = refl;
       marks = refl;
       cycle = refl;
+      least = refl;
       begun = refl;
       visits = refl;
       stopped = refl;
@@ -256,14 +256,14 @@ module _ (layout : Layout) (shapes : ShapeLists) (w : World) (me : ℕ) (inside 
       calls = calls_view layout w.heap new w.part me later refl (λ p.
           write-other_region w.heap there region.Call idx p word s.no_call) wave.calls;
       pushes_none = λ c. (ap (λ (d : Duty). pushes d c) idle, s.pushes_none c);
-      calm = s.calm;
-      grows = λ c g. absurd (subst (λ (d : Duty). OwesBarrier d c) idle g.owes);
-      barrier = λ c owes. absurd (subst (λ (d : Duty). OwesBarrier d c) idle owes);
+      grows = λ c g. absurd (subst (λ (d : Duty). AwaitsLoad d c) idle g.owes);
+      barrier = λ c owes. absurd (subst (λ (d : Duty). StillOwes w.heap d c) idle owes);
       kept = λ p at index x apart is. own_same w.heap p at index apart (wave.kept.owns p at index x is) ∙
           wave.kept.known p at index x is;
       truer = s.truer;
       born_before = λ c owes. subst (λ (d : Duty). OwesColour d c) idle owes;
       born = λ c born. (let isnt = bears_nothing c in absurd (cc));
+      white = λ c owes. absurd (s.no_colour c owes);
       awaits = λ marks c owes. absurd (s.no_colour c owes);
       owner = wave.born.owner;
       once = λ c owes. absurd (s.no_colour c owes);

@@ -1,14 +1,11 @@
 -- A step that changes the duty of its view alone, beside words that the reading doesn't look at.
-use Rattle.std.proofs.Common.{ℕ, ◌≡◌, ◌+◌, ◌<◌, ◌≤◌, ◌⊎◌, refl, sym, ◌∙◌, arith, true, false, inl, inr, Some, List}
-use Rattle.std.specs.Prelude.{if◌then◌else◌, ◌&&◌, not}
-use Rattle.tide_core.specs.FrozenWave.{is_born_in_cycle}
-use Rattle.tide_layout.specs.Region.{cell_block_count}
+use Rattle.std.proofs.Common.{ℕ, ◌≡◌, ◌+◌, ◌<◌, ◌≤◌, ◌⊎◌, refl, sym, ◌∙◌, arith, true, false, inl, inr, Some, List, ap}
+use Rattle.std.specs.Prelude.{if◌then◌else◌}
 use Rattle.tide_layout.specs.declared.region.Region.{Region}
-use Rattle.tide_layout.specs.declared.region.Region.TheVariants as region
 use Rattle.tide_machine.proofs.steps.Frames.{calls_view, stops_view}
 use Rattle.tide_machine.proofs.steps.Quiet.{quiet_step}
 use Rattle.tide_machine.proofs.steps.Waiting.{SharedBit, left_quiet}
-use Rattle.tide_machine.specs.Duties.{IsCalm, OwesBarrier, GrowsOn, OwesColour}
+use Rattle.tide_machine.specs.Duties.{GrowsOn, OwesColour, AwaitsLoad, StillOwes}
 use Rattle.tide_machine.specs.RunningWave.{RunningWave}
 use Rattle.tide_machine.specs.Scanning.{Place}
 use Rattle.tide_machine.specs.World.{parties, pushes}
@@ -19,14 +16,17 @@ use Rattle.tide_machine.specs.points.Links.{LinkAt}
 use Rattle.tide_machine.specs.points.Scans.{held, scanned, buffered}
 use Rattle.tide_model.specs.History.{state_after}
 use Rattle.tide_model.specs.Layout.{Layout, cell_count}
-use Rattle.tide_model.specs.Numbers.{put_at, count_where}
+use Rattle.tide_model.specs.Numbers.{put_at}
 use Rattle.tide_model.specs.Refused.{ShapeLists}
 use Rattle.tide_model.specs.declared.entry.Event.{Event}
 use Rattle.tide_words.proofs.heap_laws.Frames.{is_read}
 use Rattle.tide_words.specs.heap.Heap.{Heap}
-use Rattle.tide_words.specs.marking.Colours.{is_marking, is_grey, is_black, IsBlack, IsGrey, IsMarked}
+use Rattle.tide_words.specs.marking.Colours.{is_marking, is_grey, IsBlack, IsGrey, IsMarked, running_cycle, IsStamped}
 use Rattle.tide_words.specs.marking.Marked.{is_marked}
-use Rattle.tide_words.specs.marking.Marking.{bits_of, HasNoGreys, NoLaterColours}
+use Rattle.tide_words.specs.marking.Marking.{bits_of, NoLaterColours}
+use Rattle.tide_core.specs.FrozenWave.{blackened_count}
+use Rattle.tide_words.specs.forms.ColourWord.{colour_cycle}
+use Rattle.tide_layout.specs.declared.region.Region.TheVariants as region
 
 -- the view with another duty
 abbrev pub with_duty : View → Duty → View
@@ -46,30 +46,25 @@ module _ (layout : Layout) (shapes : ShapeLists) (old : Heap) (part : ℕ → Vi
     pub greys : is_marking old ≡ true → (cell : ℕ) → cell < cell_count layout → IsGrey old cell → IsGrey new cell
     pub shared : (cell : ℕ) → SharedBit old cell → SharedBit new cell
     pub colours : NoLaterColours layout new
-    pub balance : is_marking old ≡ true → (cell : ℕ) → cell < cell_count layout →
+    pub balance : (cell : ℕ) → cell < cell_count layout →
         bits_of old cell + pushes (part me).duty cell ≤ (if is_grey old cell then 1 else 0) →
         bits_of new cell + pushes d cell + (if is_grey old cell then 1 else 0) ≡ bits_of old cell + pushes
         (part me).duty cell + (if is_grey new cell then 1 else 0)
-    pub rests : is_marking old ≡ false → ((block : ℕ) → block < cell_block_count layout → HasNoGreys new block) ×
-        IsCalm d
-    pub black : is_marking old ≡ true → (source : ℕ) (place : Place) (cell : ℕ) →
+    pub black : (source : ℕ) (place : Place) (cell : ℕ) →
         LinkAt (state_after layout log) source place cell → IsBlack new source → is_marked new cell ≡ false →
-        OwesBarrier d source ⊎ (IsBlack old source × (is_marked old cell ≡ false) ×
-        (OwesBarrier (part me).duty source → OwesBarrier d source))
+        StillOwes new d source ⊎ ((new region.Colour source ≡ old region.Colour source) × (is_marked old cell ≡ false) ×
+        (StillOwes old (part me).duty source → StillOwes new d source))
     -- a barrier that a growth owes is owed still
-    pub grows : (cell : ℕ) → GrowsOn (part me).growth cell → OwesBarrier (part me).duty cell → OwesBarrier d cell
-    pub stays : is_marking old ≡ true → (cell : ℕ) → IsMarked old cell → IsMarked new cell
-    pub recoloured : is_marking old ≡ true → (cell : ℕ) → cell < cell_count layout →
-        (new region.Colour cell ≡ old region.Colour cell) ⊎ IsMarked new cell
-    pub marked : is_marking old ≡ true → (cell : ℕ) → cell < cell_count layout → IsMarked new cell → IsMarked old cell ⊎
-        OwesColour (part me).duty cell
+    pub grows : (cell : ℕ) → GrowsOn (part me).growth cell → AwaitsLoad (part me).duty cell → AwaitsLoad d cell
+    pub stays : (cell : ℕ) → IsMarked old cell → IsMarked new cell
+    pub recoloured : is_marking old ≡ true → (cell : ℕ) →
+        (new region.Colour cell ≡ old region.Colour cell) ⊎ IsStamped new cell
+    pub marked : (cell : ℕ) → cell < cell_count layout → IsMarked new cell → IsMarked old cell ⊎
+        ((is_marking old ≡ true) × OwesColour (part me).duty cell)
     pub born : is_marking old ≡ true → (cell : ℕ) → OwesColour (part me).duty cell → OwesColour d cell ⊎
         IsMarked new cell
-    pub owes : (cell : ℕ) → OwesColour d cell → OwesColour (part me).duty cell ×
-        (is_marking old ≡ true → is_marked new cell ≡ false)
-    pub counted : is_marking old ≡ true → count_where (λ cell. is_black new cell && not (is_born_in_cycle log cell))
-        (cell_count layout)
-        ≤ count_where (λ cell. is_black old cell && not (is_born_in_cycle log cell)) (cell_count layout)
+    pub owes : (cell : ℕ) → OwesColour d cell → OwesColour (part me).duty cell × (is_marked new cell ≡ false)
+    pub counted : is_marking old ≡ true → blackened_count layout new log ≤ blackened_count layout old log
 
   pub duty_step : (new : Heap) (d : Duty) → ShowsDuty new d →
       RunningWave layout shapes (record { heap = new; part = put_at part me (with_duty (part me) d); log = log })
@@ -85,6 +80,7 @@ module _ (layout : Layout) (shapes : ShapeLists) (old : Heap) (part : ℕ → Vi
     growth = refl;
     marks = refl;
     cycle = refl;
+    least = refl;
     begun = refl;
     period = s.period;
     left = refl;
@@ -99,9 +95,9 @@ module _ (layout : Layout) (shapes : ShapeLists) (old : Heap) (part : ℕ → Vi
     ran = s.runs;
     runs = s.runs;
     colours = s.colours;
-    balance = λ marks cell within few. (let even = s.balance marks cell within (omega (arith, few)) in
+    balance = λ cell within few. (let even = s.balance cell within (omega (arith, few)) in
         omega (arith, even));
-    rests = λ idle. ((s.rests idle).0, wave.rests.held idle me, wave.rests.scans idle me, (s.rests idle).1);
+    rests = λ idle. (wave.rests.held idle me, wave.rests.scans idle me);
     at_hand = λ cell at. wave.hands.cells me cell (elim at [
       | held is ↦ held is
       | scanned scan is at ↦ scanned scan is at
@@ -109,11 +105,11 @@ module _ (layout : Layout) (shapes : ShapeLists) (old : Heap) (part : ℕ → Vi
     ]);
     arrays = λ array scan. wave.hands.arrays me array scan;
     scanned = λ scan is. (
-      s.stays (marks_by scan is) scan.cell (wave.retained.scanned me scan is),
+      stamped (marks_by scan is) scan.cell (wave.retained.scanned me scan is),
       wave.scans.knows me scan is,
       λ cell at. wave.retained.buffered me cell scan is at,
     );
-    black = λ marks source place cell link black white. elim (s.black marks source place cell link black white) [
+    black = λ source place cell link black white. elim (s.black source place cell link black white) [
       | inl owes ↦ inl (inl owes)
       | inr before ↦ inr (
         before.0,
@@ -126,12 +122,13 @@ module _ (layout : Layout) (shapes : ShapeLists) (old : Heap) (part : ℕ → Vi
     stays = s.stays;
     recoloured = s.recoloured;
     aims = λ scan target. wave.targets.right me scan target;
-    marked = λ marks cell within is. elim (s.marked marks cell within is) [
+    marked = λ cell within is. elim (s.marked cell within is) [
       | inl before ↦ inl before
       | inr owes ↦ inr (
-        (wave.born.owed marks me cell owes).kept,
+        owes.0,
+        (wave.born.owed owes.0 me cell owes.1).kept,
         λ p other also.
-            other (sym (wave.born.once p cell also) ∙ wave.born.once me cell owes),
+            other (sym (wave.born.once p cell also) ∙ wave.born.once me cell owes.1),
       )
     ];
     born = s.born;
@@ -139,6 +136,16 @@ module _ (layout : Layout) (shapes : ShapeLists) (old : Heap) (part : ℕ → Vi
     counted = λ marks. (let few = s.counted marks in omega (arith, few));
   }
     where
+      running : running_cycle new ≡ running_cycle old
+      running = ap (λ (word : ℕ). running_cycle (λ at index. word)) (s.words region.Phase 0 refl)
+
+      -- what was marked in the cycle is so still
+      stamped : is_marking old ≡ true → (cell : ℕ) → IsStamped old cell → IsStamped new cell
+      stamped marks cell was = elim (s.recoloured marks cell) [
+        | inl same ↦ (s.stays cell was.0, ap colour_cycle same ∙ was.1 ∙ sym running)
+        | inr now ↦ now
+      ]
+
       marks_by : (scan : Scan) → (part me).scan ≡ Some scan → is_marking old ≡ true
       marks_by scan is = elim (Rattle.std.proofs.lemmas.Bool.cases_Bool (is_marking old)) [
         | inl marks ↦

@@ -1,9 +1,8 @@
 -- One law for each point of the wave: what a change of one view has to show for the point to survive it.
-use Rattle.std.proofs.Common.{ℕ, zero, suc, ◌≡◌, ◌≢◌, ◌+◌, ◌<◌, ◌≤◌, ◌⊎◌, refl, sym, ◌∙◌, ap, subst, arith, Bool, true, List, inl, inr}
+use Rattle.std.proofs.Common.{ℕ, zero, suc, ◌≡◌, ◌≢◌, ◌+◌, ◌<◌, ◌≤◌, ◌⊎◌, refl, sym, ◌∙◌, ap, subst, arith, Bool, List, inl, inr}
 use Rattle.std.proofs.lemmas.Bool.{eq-eqb, ne_eqb, cases_eq}
 use Rattle.std.specs.Prelude.{if◌then◌else◌, filter, ◌%◌, ◌^◌}
 use Rattle.tide_layout.specs.Slots.{total_below}
-use Rattle.tide_layout.specs.declared.region.Region.TheVariants as region
 use Rattle.tide_machine.specs.Kind.{index_of_stopped}
 use Rattle.tide_machine.specs.World.{IsParty, holds, parties}
 use Rattle.tide_machine.specs.declared.view.View.{View}
@@ -17,8 +16,9 @@ use Rattle.tide_model.specs.Numbers.{put_at}
 use Rattle.tide_model.specs.Prefix.{IsPrefix}
 use Rattle.tide_model.specs.declared.entry.Event.{Event}
 use Rattle.tide_words.specs.heap.Heap.{Heap}
-use Rattle.tide_words.specs.marking.Colours.{is_marking, is_grey}
+use Rattle.tide_words.specs.marking.Colours.{is_grey}
 use Rattle.tide_words.specs.marking.Marking.{bits_of}
+use Rattle.tide_layout.specs.declared.region.Region.TheVariants as region
 
 -- what held of the stepping view's old value, or is shown of its new one, and held of all others, holds of all
 pub each_put : (Q : ℕ → View → Type 0) (part : ℕ → View) (me : ℕ) (w : View) → Q me w → ((p : ℕ) → Q p (part p)) →
@@ -89,18 +89,17 @@ known_view log part me w who seen mine known = record {
 
 -- each grey cell keeps its one holder
 pub held_view : (layout : Layout) (old new : Heap) (part : ℕ → View) (me : ℕ) (w : View) → me < parties →
-    is_marking new ≡ is_marking old →
-    (is_marking old ≡ true → (cell : ℕ) → cell < cell_count layout →
+    ((cell : ℕ) → cell < cell_count layout →
     bits_of old cell + holds cell (part me) ≤ (if is_grey old cell then 1 else 0) →
     bits_of new cell + holds cell w + (if is_grey old cell then 1 else 0) ≡ bits_of old cell + holds cell (part me) +
     (if is_grey new cell then 1 else 0)) →
     RunningGreyIsHeld layout old part → RunningGreyIsHeld layout new (put_at part me w)
-held_view layout old new part me w inside phase balance held = record {
-  held = λ marks cell within.
-      let once = held.held (sym phase ∙ marks) cell within in
+held_view layout old new part me w inside balance held = record {
+  held = λ cell within.
+      let once = held.held cell within in
       let sums = total_below-put (holds cell) part me w parties inside in
       let one = total_below-one (λ p. holds cell (part p)) me parties inside in
-      let even = balance (sym phase ∙ marks) cell within (omega (arith, once, one)) in
+      let even = balance cell within (omega (arith, once, one)) in
       omega (arith, once, sums, even);
 }
 

@@ -3,52 +3,61 @@ use Rattle.std.proofs.Common.{ℕ, suc, ◌≡◌, ◌<◌, ◌≤◌, refl, sym
 use Rattle.std.proofs.lemmas.List.Elements.{Contains-append_cases, filter-append}
 use Rattle.std.specs.Prelude.{Contains, filter, if◌then◌else◌, not, ◌||◌}
 use Rattle.tide_layout.specs.declared.region.Region.{Region}
-use Rattle.tide_layout.specs.declared.region.Region.TheVariants as region
 use Rattle.tide_machine.proofs.steps.BareTables.{TablesAreBare-lawful}
-use Rattle.tide_machine.proofs.steps.Frames.{calls_view, each_put, stops_view}
-use Rattle.tide_machine.proofs.steps.Growing
+use Rattle.tide_machine.proofs.steps.Barriers.{still_owes}
+use Rattle.tide_machine.proofs.steps.Frames.{calls_view, each_put, held_view, stops_view}
 use Rattle.tide_machine.proofs.steps.GrowthsKept.{growth_kept}
 use Rattle.tide_machine.proofs.steps.IdleSteps.{is_left}
 use Rattle.tide_machine.proofs.steps.Lists.{in_one}
-use Rattle.tide_machine.specs.Duties.{IsCalm, OwesColour}
+use Rattle.tide_machine.proofs.steps.SameColours.{bits_same, is_black-same, is_grey-same, is_marked-same}
+use Rattle.tide_machine.specs.Duties.{OwesColour, StillOwes}
 use Rattle.tide_machine.specs.Looked.{FreeIsShown}
 use Rattle.tide_machine.specs.Owed.{IsOwnWord, owed_word, own_array, own_element, own_pair, own_register, own_structure}
 use Rattle.tide_machine.specs.RunningWave.{RunningWave}
+use Rattle.tide_machine.specs.Scanning.{Place, slot, property}
 use Rattle.tide_machine.specs.World.{World, parties}
 use Rattle.tide_machine.specs.declared.view.Cleared.{Cleared}
-use Rattle.tide_machine.specs.declared.view.Duty.TheVariants as duty
-use Rattle.tide_machine.specs.declared.view.Growth.TheVariants as growth
 use Rattle.tide_machine.specs.declared.view.Saw.{Saw}
 use Rattle.tide_machine.specs.declared.view.Scan.{Scan}
 use Rattle.tide_machine.specs.declared.view.Sweeping.{Sweeping}
 use Rattle.tide_machine.specs.declared.view.View.{View}
 use Rattle.tide_machine.specs.points.Arrays.{ArraysStand}
 use Rattle.tide_machine.specs.points.Growths.{GrowthKnows}
+use Rattle.tide_machine.specs.points.Links.{Excuses, IsExcused, LinkAt, ScanExcuses}
 use Rattle.tide_machine.specs.points.Scans.{IsAtHand, held, scanned, buffered}
 use Rattle.tide_machine.specs.points.SettledWords.{RunningWordsRead}
 use Rattle.tide_machine.specs.points.Sweeps.{SweepsAreRight, SweptAreBelow}
 use Rattle.tide_model.proofs.Histories.{IsLawful-push}
+use Rattle.tide_model.proofs.OldLaws.{is_old-push}
 use Rattle.tide_model.proofs.SinceLaws.{count-push, since-push}
 use Rattle.tide_model.proofs.Windows.{window_start-push}
 use Rattle.tide_model.specs.History.{is_begin, is_call_of, is_open, state_after, state_at}
 use Rattle.tide_model.specs.Lawful.{Stands}
-use Rattle.tide_model.specs.Layout.{Layout}
+use Rattle.tide_model.specs.Layout.{Layout, block_of_cell}
 use Rattle.tide_model.specs.Numbers.{put_at}
+use Rattle.tide_model.specs.Old.{is_old}
 use Rattle.tide_model.specs.Prefix.{IsPrefix, prefix_push, prefix_refl, prefix_trans}
 use Rattle.tide_model.specs.References.{IsLive, RefsAreLive}
 use Rattle.tide_model.specs.Refused.{ShapeLists}
 use Rattle.tide_model.specs.Room.{window_start}
-use Rattle.tide_model.specs.Since.{is_of_part, since}
-use Rattle.tide_model.specs.State.{State}
+use Rattle.tide_model.specs.Since.{is_end, is_of_part, since}
+use Rattle.tide_model.specs.State.{CellState, State}
 use Rattle.tide_model.specs.declared.entry.Event.{Event}
+use Rattle.tide_model.specs.declared.val.Val.TheVariants.{Cell}
 use Rattle.tide_words.specs.heap.Heap.{Heap}
-use Rattle.tide_words.specs.marking.Colours.{is_marking, running_cycle}
+use Rattle.tide_words.specs.marking.Colours.{is_black, is_grey, is_marking, running_cycle}
+use Rattle.tide_words.specs.marking.Marked.{base_cycle, is_marked}
+use Rattle.tide_words.specs.marking.Marking.{bits_of}
+use Rattle.tide_layout.specs.declared.region.Region.TheVariants as region
+use Rattle.tide_machine.proofs.steps.Growing
+use Rattle.tide_machine.specs.declared.view.Duty.TheVariants as duty
+use Rattle.tide_machine.specs.declared.view.Growth.TheVariants as growth
 
 module _ (layout : Layout) (shapes : ShapeLists) (w : World) (me : ℕ) (inside : me < parties)
     (wave : RunningWave layout shapes w) (runs : (w.part me).runs ≡ true) (idle : is_marking w.heap ≡ false)
     (event : Event) (stands : Stands layout shapes w.log event) (of_part : is_of_part event.entry ≡ true)
     (no_call : (who : ℕ) → is_call_of who event.entry ≡ false) (no_open : is_open event.entry ≡ false)
-    (no_begin : is_begin event.entry ≡ false)
+    (no_begin : is_begin event.entry ≡ false) (no_end : is_end event.entry ≡ false)
     (new : Heap) (sweeping : Option Sweeping) (saw : Option Saw) (cleared : List Cleared) where
   abbrev state : State
   state = state_after layout w.log
@@ -72,6 +81,7 @@ module _ (layout : Layout) (shapes : ShapeLists) (w : World) (me : ℕ) (inside 
     pub active : (p : ℕ) → after.active p ≡ state.active p
     pub claims : (p : ℕ) → after.claims p ≡ state.claims p
     pub cells : (cell : ℕ) → IsLive state cell → after.cells cell ≡ state.cells cell
+    pub lived : (cell : ℕ) → IsLive after cell → IsLive state cell
     pub refs : RefsAreLive after
     pub arrays : ArraysStand layout new after
     pub swept : SweptAreBelow layout new
@@ -92,6 +102,53 @@ module _ (layout : Layout) (shapes : ShapeLists) (w : World) (me : ℕ) (inside 
 
     running : running_cycle new ≡ running_cycle w.heap
     running = ap (λ (p : ℕ). running_cycle (λ at index. p)) phase
+
+    base : base_cycle new ≡ base_cycle w.heap
+    base = s.same region.Base 0 refl
+
+    -- no cell has another colour, and the same ones are old
+    same_marked : (cell : ℕ) → is_marked new cell ≡ is_marked w.heap cell
+    same_marked cell = is_marked-same w.heap new cell base (s.same region.Colour cell refl)
+
+    same_black : (cell : ℕ) → is_black new cell ≡ is_black w.heap cell
+    same_black cell = is_black-same w.heap new cell base (s.same region.Colour cell refl)
+
+    same_grey : (cell : ℕ) → is_grey new cell ≡ is_grey w.heap cell
+    same_grey cell = is_grey-same w.heap new cell base (s.same region.Colour cell refl)
+
+    same_bits : (cell : ℕ) → bits_of new cell ≡ bits_of w.heap cell
+    same_bits cell = bits_same w.heap new cell (s.same region.GreyShared (block_of_cell cell) refl)
+        (s.same region.GreyMutator (block_of_cell cell) refl) (s.same region.GreyRace (block_of_cell cell) refl)
+
+    old_same : (cell : ℕ) → is_old layout longer cell ≡ is_old layout w.log cell
+    old_same = is_old-push layout w.log event no_end
+
+    -- a link of the state after it is one from before, and its excuse is so still
+    link_before : (source : ℕ) (place : Place) (cell : ℕ) → LinkAt after source place cell → LinkAt state source place cell
+    link_before source (slot n) cell link = let lived = s.lived source link.0 in
+        (lived, subst (λ (c : CellState). c.slots n ≡ Cell cell) (s.cells source lived) link.1)
+    link_before source (property n) cell link = let lived = s.lived source link.0 in
+        let same = s.cells source lived in
+        (lived, subst (λ (c : CellState). n < length c.keys) same link.1, subst (λ (c : CellState). c.properties n ≡ Cell cell) same link.2)
+
+    excuse_now : (p source : ℕ) (place : Place) (cell : ℕ) → Excuses w.heap source place cell (w.part p) →
+        StillOwes new (w.part p).duty source
+    excuse_now p source place cell (inl owes) = still_owes w.heap new (w.part p).duty source (s.same region.Colour source refl) owes
+    excuse_now p source place cell (inr scans) =
+        absurd (subst (ScanExcuses w.heap source place cell) (wave.rests.scans idle p) scans)
+
+    excused_now : (source : ℕ) (place : Place) (cell : ℕ) → IsExcused w.heap w.part source place cell →
+        IsExcused new (put_at w.part me entry_view) source place cell
+    excused_now source place cell e = record {
+      by = e.by;
+      excuse = inl (each_put (λ p u. StillOwes new (w.part p).duty source → StillOwes new u.duty source) w.part me entry_view
+          (λ owes. owes) (λ p owes. owes) e.by (excuse_now e.by source place cell e.excuse));
+    }
+
+    told_now : (p : ℕ) → (w.part p).runs ≡ true → ((w.part p).marks ≡ is_marking new) × ((w.part p).cycle ≡ running_cycle new) ×
+        ((w.part p).begun ≡ new region.Period 0) × ((w.part p).least ≡ base_cycle new)
+    told_now p is = let t = wave.numbers.told p is in
+        (t.0 ∙ sym marking, t.1 ∙ sym running, t.2 ∙ sym (s.same region.Period 0 refl), t.3 ∙ sym base)
 
     now_not : {X : Type 0} → is_marking new ≡ true → X
     now_not marks = marks_not (sym marking ∙ marks)
@@ -146,9 +203,7 @@ module _ (layout : Layout) (shapes : ShapeLists) (w : World) (me : ℕ) (inside 
             let none = ap {B = ℕ} (λ (b : Bool). if b then 1 else 0) no_open in
             let was = wave.numbers.periods in let p = s.same region.Period 0 refl in omega (arith, counted, none, was, p));
         told = each_put (λ p u. u.runs ≡ true → (u.marks ≡ is_marking new) × (u.cycle ≡ running_cycle new) ×
-            (u.begun ≡ new region.Period 0)) w.part me entry_view
-            (λ is. let t = wave.numbers.told me is in (t.0 ∙ sym marking, t.1 ∙ sym running, t.2 ∙ sym (s.same region.Period 0 refl)))
-            (λ p is. let t = wave.numbers.told p is in (t.0 ∙ sym marking, t.1 ∙ sym running, t.2 ∙ sym (s.same region.Period 0 refl)));
+            (u.begun ≡ new region.Period 0) × (u.least ≡ base_cycle new)) w.part me entry_view (told_now me) told_now;
         begun = each_put (λ p u. u.begun ≤ new region.Period 0) w.part me entry_view
             (let b = wave.numbers.begun me in let e = s.same region.Period 0 refl in omega (arith, b, e))
             (λ p. let b = wave.numbers.begun p in let e = s.same region.Period 0 refl in omega (arith, b, e));
@@ -183,20 +238,17 @@ module _ (layout : Layout) (shapes : ShapeLists) (w : World) (me : ℕ) (inside 
             ]))) (λ p cell at. absurd (nothing_at_hand p cell at));
         arrays = λ p array scan is. absurd (none_scans p scan is);
       };
-      held = record { held = λ marks. now_not marks };
+      held = held_view layout w.heap new w.part me entry_view inside (λ cell within few. (let bits = same_bits cell in let grey =
+          ap {B = ℕ} (λ (b : Bool). if b then 1 else 0) (same_grey cell) in omega (arith, bits, grey))) wave.held;
       rests = record {
-        words = λ rests block within. let n = wave.rests.words idle block within in record {
-          shared = s.same region.GreyShared block refl ∙ n.shared;
-          mutator = s.same region.GreyMutator block refl ∙ n.mutator;
-          race = s.same region.GreyRace block refl ∙ n.race;
-        };
         held = λ rests. each_put (λ p u. u.held ≡ []) w.part me entry_view (wave.rests.held idle me) (wave.rests.held idle);
         scans = λ rests. each_put (λ p u. u.scan ≡ None) w.part me entry_view (wave.rests.scans idle me) (wave.rests.scans idle);
-        duties = λ rests. each_put (λ p u. IsCalm u.duty) w.part me entry_view (wave.rests.duties idle me)
-            (wave.rests.duties idle);
       };
-      black = record { excused = λ marks. now_not marks };
-      full = λ marks. now_not marks;
+      black = record {
+        excused = λ source place cell link black white. excused_now source place cell
+            (wave.black.excused source place cell (link_before source place cell link) (sym (same_black source) ∙ black)
+            (sym (same_marked cell) ∙ white));
+      };
       retained = record {
         marked = λ marks. now_not marks;
         scanned = λ p scan is. absurd (none_scans p scan is);
@@ -208,9 +260,17 @@ module _ (layout : Layout) (shapes : ShapeLists) (w : World) (me : ℕ) (inside 
         triples = λ marks. now_not marks;
         twins = λ marks. now_not marks;
       };
+      old = record {
+        old = λ when cell within is. same_marked cell ∙ wave.old.old (λ marks. marks_not marks) cell within (sym (old_same cell) ∙ is);
+        rests = λ rests cell within is. old_same cell ∙ wave.old.rests idle cell within (sym (same_marked cell) ∙ is);
+        counts = λ marks. now_not marks;
+        soon = (let soon = wave.old.soon in omega (arith, soon, base, running));
+      };
       born = record {
         born = λ marks. now_not marks;
         owed = λ marks. now_not marks;
+        white = each_put (λ p u. (cell : ℕ) → OwesColour u.duty cell → is_marked new cell ≡ false) w.part me entry_view
+            (λ cell owes. same_marked cell ∙ wave.born.white me cell owes) (λ p cell owes. same_marked cell ∙ wave.born.white p cell owes);
         alive = each_put (λ p u. (cell : ℕ) → OwesColour u.duty cell → IsLive after cell) w.part me entry_view
             (λ cell owes. still_live cell (wave.born.alive me cell owes)) (λ p cell owes. still_live cell (wave.born.alive p cell owes));
         owner = wave.born.owner;

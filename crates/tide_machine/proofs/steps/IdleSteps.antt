@@ -1,11 +1,13 @@
--- A step that makes no entry, where no cycle marks: all that is said of a cycle says nothing.
-use Rattle.std.proofs.Common.{ℕ, ◌≡◌, ◌<◌, refl, sym, ◌∙◌, ap, arith, Bool, true, false, List, inl, Option, Some}
-use Rattle.std.specs.Prelude.{Contains}
+-- A step that makes no entry, where no cycle marks: what is said of a cycle says nothing, and colours stay.
+use Rattle.std.proofs.Common.{ℕ, ◌≡◌, ◌<◌, refl, sym, ◌∙◌, ap, subst, arith, Bool, true, false, List, inl, inr, Option, Some}
+use Rattle.std.specs.Prelude.{Contains, if◌then◌else◌}
 use Rattle.tide_layout.specs.declared.region.Region.{Region}
-use Rattle.tide_layout.specs.declared.region.Region.TheVariants as region
 use Rattle.tide_machine.proofs.steps.Frames.{calls_view, stops_view}
 use Rattle.tide_machine.proofs.steps.GrowthsKept.{growth_kept}
+use Rattle.tide_machine.proofs.steps.Barriers.{still_owes}
+use Rattle.tide_machine.proofs.steps.SameColours.{bits_same, is_grey-same, is_marked-same}
 use Rattle.tide_machine.proofs.steps.Steps.{any_step}
+use Rattle.tide_machine.specs.Scanning.{Place}
 use Rattle.tide_machine.specs.Owed.{owed_word}
 use Rattle.tide_machine.specs.RunningWave.{RunningWave}
 use Rattle.tide_machine.specs.World.{World, parties}
@@ -16,20 +18,25 @@ use Rattle.tide_machine.specs.declared.view.Sweeping.{Sweeping}
 use Rattle.tide_machine.specs.declared.view.View.{View}
 use Rattle.tide_machine.specs.points.Arrays.{ArraysStand}
 use Rattle.tide_machine.specs.points.Growths.{GrowthKnows}
+use Rattle.tide_machine.specs.points.Links.{ScanExcuses}
 use Rattle.tide_machine.specs.points.Scans.{held, scanned, buffered}
 use Rattle.tide_machine.specs.points.SettledWords.{RunningWordsRead}
 use Rattle.tide_machine.specs.points.Sweeps.{SweepsAreRight, SweptAreBelow}
 use Rattle.tide_model.specs.History.{state_after}
-use Rattle.tide_model.specs.Layout.{Layout}
+use Rattle.tide_model.specs.Layout.{Layout, block_of_cell}
 use Rattle.tide_model.specs.Numbers.{put_at}
 use Rattle.tide_model.specs.Refused.{ShapeLists}
 use Rattle.tide_model.specs.State.{State}
 use Rattle.tide_words.specs.heap.Heap.{Heap}
-use Rattle.tide_words.specs.marking.Colours.{is_marking, running_cycle}
+use Rattle.tide_words.specs.marking.Colours.{is_grey, is_marking, running_cycle}
+use Rattle.tide_words.specs.marking.Marked.{is_marked}
+use Rattle.tide_words.specs.marking.Marking.{bits_of}
+use Rattle.tide_layout.specs.declared.region.Region.TheVariants as region
 
 -- the regions that no step of a sweep writes and that aren't read
 abbrev pub is_left : Region → Bool
 is_left region.Phase = true
+is_left region.Base = true
 is_left region.Period = true
 is_left region.Call = true
 is_left region.Stopped = true
@@ -64,11 +71,26 @@ module _ (layout : Layout) (shapes : ShapeLists) (w : World) (me : ℕ) (inside 
   scans_not : {X : Type 0} (p : ℕ) (scan : Scan) → (w.part p).scan ≡ Some scan → X
   scans_not p scan is = absurd (let none = wave.rests.scans idle p in let both = sym none ∙ is in cc)
 
+  excuse_not : (source : ℕ) (place : Place) (cell : ℕ) → ScanExcuses w.heap source place cell (w.part me).scan → ⊥
+  excuse_not source place cell scans =
+      subst (ScanExcuses w.heap source place cell) (wave.rests.scans idle me) scans
+
   module _ (s : ShowsIdle) where
+    same_marked : (cell : ℕ) → is_marked new cell ≡ is_marked w.heap cell
+    same_marked cell = is_marked-same w.heap new cell (s.same region.Base 0 refl) (s.same region.Colour cell refl)
+
+    same_grey : (cell : ℕ) → is_grey new cell ≡ is_grey w.heap cell
+    same_grey cell = is_grey-same w.heap new cell (s.same region.Base 0 refl) (s.same region.Colour cell refl)
+
+    same_bits : (cell : ℕ) → bits_of new cell ≡ bits_of w.heap cell
+    same_bits cell = bits_same w.heap new cell (s.same region.GreyShared (block_of_cell cell) refl)
+        (s.same region.GreyMutator (block_of_cell cell) refl) (s.same region.GreyRace (block_of_cell cell) refl)
+
     pub idle_step : RunningWave layout shapes (record { heap = new; part = put_at w.part me idle_view; log = w.log })
     idle_step = any_step layout shapes w.heap w.part w.log me wave new idle_view record {
       inside = inside;
       phase = s.same region.Phase 0 refl;
+      base = s.same region.Base 0 refl;
       period = s.same region.Period 0 refl;
       words = s.words;
       who = refl;
@@ -86,17 +108,9 @@ module _ (layout : Layout) (shapes : ShapeLists) (w : World) (me : ℕ) (inside 
       colours = λ cell within. (let c = s.same region.Colour cell refl in let few = wave.colours cell within in
           let running : running_cycle new ≡ running_cycle w.heap = ap (λ (p : ℕ). running_cycle (λ at index. p)) (s.same region.Phase 0 refl) in
           omega (arith, c, few, running));
-      balance = λ marks. marks_not marks;
-      rests = λ rests. (
-        (λ block within. let n = wave.rests.words rests block within in record {
-          shared = s.same region.GreyShared block refl ∙ n.shared;
-          mutator = s.same region.GreyMutator block refl ∙ n.mutator;
-          race = s.same region.GreyRace block refl ∙ n.race;
-        }),
-        wave.rests.held rests me,
-        wave.rests.scans rests me,
-        wave.rests.duties rests me,
-      );
+      balance = λ cell within few. (let bits = same_bits cell in let grey =
+          ap {B = ℕ} (λ (b : Bool). if b then 1 else 0) (same_grey cell) in omega (arith, bits, grey));
+      rests = λ rests. (wave.rests.held rests me, wave.rests.scans rests me);
       at_hand = λ cell at. wave.hands.cells me cell (elim at [
         | held is ↦ held is
         | scanned scan is e ↦ scanned scan is e
@@ -113,13 +127,21 @@ module _ (layout : Layout) (shapes : ShapeLists) (w : World) (me : ℕ) (inside 
       growths = λ p apart. s.growths p;
       scans = λ p scan apart is. scans_not p scan is;
       truer = λ p scan apart is. scans_not p scan is;
-      black = λ marks. marks_not marks;
+      -- no cell has another colour
+      black = λ source place cell link black white. inr (
+        s.same region.Colour source refl,
+        sym (same_marked cell) ∙ white,
+        λ e. inl (elim e [
+          | inl owes ↦ inl (still_owes w.heap new (w.part me).duty source (s.same region.Colour source refl) owes)
+          | inr scans ↦ absurd (excuse_not source place cell scans)
+        ]),
+      );
       beyond = λ marks. marks_not marks;
-      stays = λ marks. marks_not marks;
+      stays = λ cell is. same_marked cell ∙ is;
       recoloured = λ marks. marks_not marks;
       aims = λ scan target is. scans_not me scan is;
-      marked = λ marks. marks_not marks;
+      marked = λ cell within is. inl (sym (same_marked cell) ∙ is);
       born = λ marks. marks_not marks;
-      owes = λ cell owes. (owes, λ marks. marks_not marks);
+      owes = λ cell owes. (owes, same_marked cell ∙ wave.born.white me cell owes);
       counted = λ marks. marks_not marks;
     }

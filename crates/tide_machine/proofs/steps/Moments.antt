@@ -36,15 +36,15 @@ use Rattle.tide_sweep.specs.Zeroed.{IsDeadWord}
 pub works_of : (layout : Layout) (shapes : ShapeLists) (w : World) (me : ℕ) → RunningWave layout shapes w →
     WorksOn layout (w.part me) w.heap (state_after layout w.log)
 works_of layout shapes w me wave = record {
-  phase = λ runs. (let told = wave.numbers.told me runs in (told.0, told.1));
+  phase = λ runs. (let told = wave.numbers.told me runs in (told.0, told.1, told.3));
   part = λ runs. sym (wave.numbers.told me runs).2;
   calls = λ mutator. ap (w.heap region.Call) (wave.known.who me)
       ∙ wave.calls me (subst (λ (p : ℕ). p < layout.mutators) (wave.known.who me) mutator);
   stop = λ party. ap (λ (p : ℕ). w.heap region.Stopped (index_of_stopped layout p)) (wave.known.who me)
       ∙ wave.stops me (subst (IsParty layout) (wave.known.who me) party);
   hands = wave.hands.cells me;
-  greys = λ inside marks cell within.
-      let once = wave.held.held marks cell within in
+  greys = λ inside cell within.
+      let once = wave.held.held cell within in
       let one = total_below-one (λ p. holds cell (w.part p)) me parties
       (let who = wave.known.who me in omega (arith, inside, who)) in
       omega (arith, once, one);

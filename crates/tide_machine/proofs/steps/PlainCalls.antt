@@ -5,12 +5,11 @@ use Rattle.std.proofs.lemmas.Bool.{cases_Bool}
 use Rattle.std.specs.Prelude.{Contains, not}
 use Rattle.tide_core.specs.FrozenWave.{is_birth_of}
 use Rattle.tide_layout.specs.declared.region.Region.{Region}
-use Rattle.tide_layout.specs.declared.region.Region.TheVariants as region
 use Rattle.tide_machine.proofs.steps.ArraysKept.{arrays_kept}
 use Rattle.tide_machine.proofs.steps.Calls.{OfState, call_step, is_uncalled}
 use Rattle.tide_machine.proofs.steps.GrowthsKept.{growth_kept}
 use Rattle.tide_machine.proofs.steps.ScansKept.{scan_kept}
-use Rattle.tide_machine.specs.Duties.{OwesColour, IsCalm}
+use Rattle.tide_machine.specs.Duties.{OwesColour, StillOwes}
 use Rattle.tide_machine.specs.Entries.{call_of}
 use Rattle.tide_machine.specs.Owed.{IsOwnWord, own_register, own_structure, own_array, own_pair, own_element, owed_word, Unsettles}
 use Rattle.tide_machine.specs.RunningWave.{RunningWave}
@@ -18,8 +17,6 @@ use Rattle.tide_machine.specs.Scanning.{Place, slot, property, IsStill}
 use Rattle.tide_machine.specs.Words.{count_of}
 use Rattle.tide_machine.specs.World.{World, parties, pushes}
 use Rattle.tide_machine.specs.declared.view.Duty.{Duty}
-use Rattle.tide_machine.specs.declared.view.Duty.TheVariants as duty
-use Rattle.tide_machine.specs.declared.view.Growth.TheVariants as growth
 use Rattle.tide_machine.specs.declared.view.Owed.{Owed}
 use Rattle.tide_machine.specs.declared.view.View.{View}
 use Rattle.tide_machine.specs.points.Births.{IsHidden}
@@ -43,6 +40,9 @@ use Rattle.tide_model.specs.declared.op.Reply.{Reply}
 use Rattle.tide_model.specs.declared.val.Val.{Val}
 use Rattle.tide_model.specs.declared.val.Val.TheVariants.{Cell}
 use Rattle.tide_words.specs.heap.Heap.{Heap}
+use Rattle.tide_layout.specs.declared.region.Region.TheVariants as region
+use Rattle.tide_machine.specs.declared.view.Duty.TheVariants as duty
+use Rattle.tide_machine.specs.declared.view.Growth.TheVariants as growth
 
 -- the regions that such a call writes
 abbrev pub is_changed : Region → Bool
@@ -133,7 +133,7 @@ module _ (layout : Layout) (shapes : ShapeLists) (w : World) (me : ℕ) (inside 
       scans = λ p scan is. scan_kept layout w.heap new state after
           structure (λ c. s.same region.Array c refl) (λ i. s.same region.Elements i refl) (λ c is_live. is_live) scan
           (wave.scans.knows p scan is);
-      links = λ marks x place target link black white. inr (link_before x place target link);
+      links = λ x place target link black white. inr (link_before x place target link);
       beyond = λ marks x n target link past. inr (link, subst (λ (word : ℕ). count_of word ≤ n) (structure x) past);
       awaited = λ c owes. absurd (no_colour c owes);
       growth = subst (GrowthKnows new after me (later owed)) (sym grows_not) tt;
@@ -177,6 +177,7 @@ module _ (layout : Layout) (shapes : ShapeLists) (w : World) (me : ℕ) (inside 
       mine = refl;
       marks = refl;
       cycle = refl;
+      least = refl;
       begun = refl;
       visits = refl;
       stopped = refl;
@@ -194,9 +195,8 @@ module _ (layout : Layout) (shapes : ShapeLists) (w : World) (me : ℕ) (inside 
       known = refl;
       full = refl;
       pushes_none = λ c. (ap (λ (d : Duty). pushes d c) idle, ap (λ (d : Duty). pushes d c) idle);
-      calm = λ rests. subst IsCalm (sym idle) tt;
       grows = λ c g. record { grows = g.grows; owes = g.owes };
-      barrier = λ c owes. owes;
+      barrier = λ c owes. absurd (subst (λ (d : Duty). StillOwes w.heap d c) idle owes);
       kept = s.kept;
       truer = λ p scan is holds. (
         holds.0,
@@ -208,6 +208,7 @@ module _ (layout : Layout) (shapes : ShapeLists) (w : World) (me : ℕ) (inside 
       );
       born_before = λ c owes. no_colour c owes;
       born = λ c born. (let isnt = bears_nothing c in absurd (cc));
+      white = λ c owes. absurd (no_colour c owes);
       awaits = λ marks c owes. absurd (no_colour c owes);
       owner = wave.born.owner;
       once = λ c owes. absurd (no_colour c owes);

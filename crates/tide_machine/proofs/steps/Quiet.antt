@@ -1,11 +1,7 @@
 -- A step that makes no entry and changes no word that the reading looks at keeps the wave.
 use Rattle.std.proofs.Common.{ℕ, ◌≡◌, ◌≢◌, ◌+◌, ◌<◌, ◌≤◌, ◌⊎◌, refl, sym, ◌∙◌, ap, subst, arith, Bool, true, false, List, [], inl, inr, Option, Some, None}
-use Rattle.std.proofs.lemmas.Bool.{cases_Bool}
-use Rattle.std.specs.Prelude.{Contains, if◌then◌else◌, ◌&&◌, not}
-use Rattle.tide_core.specs.FrozenWave.{is_born_in_cycle}
-use Rattle.tide_layout.specs.Region.{cell_block_count}
+use Rattle.std.specs.Prelude.{Contains, if◌then◌else◌}
 use Rattle.tide_layout.specs.declared.region.Region.{Region}
-use Rattle.tide_layout.specs.declared.region.Region.TheVariants as region
 use Rattle.tide_machine.proofs.steps.ArraysKept.{arrays_kept}
 use Rattle.tide_machine.proofs.steps.Frames.{each_put}
 use Rattle.tide_machine.proofs.steps.GrowthsKept.{growth_kept}
@@ -13,7 +9,7 @@ use Rattle.tide_machine.proofs.steps.ScansKept.{scan_kept}
 use Rattle.tide_machine.proofs.steps.Steps.{any_step}
 use Rattle.tide_machine.proofs.steps.Unsettled.{given_put, unsettled_read, unsettles_put}
 use Rattle.tide_machine.proofs.steps.SweepsKept.{swept_kept, sweeps_kept}
-use Rattle.tide_machine.specs.Duties.{IsCalm, OwesBarrier, GrowsAndOwes, OwesColour}
+use Rattle.tide_machine.specs.Duties.{GrowsAndOwes, OwesColour, AwaitsLoad, StillOwes}
 use Rattle.tide_machine.specs.Owed.{owed_word, Owes, IsOwnWord}
 use Rattle.tide_machine.specs.RunningWave.{RunningWave}
 use Rattle.tide_machine.specs.Scanning.{IsTrue, Place}
@@ -27,6 +23,7 @@ use Rattle.tide_machine.specs.declared.view.View.{View}
 use Rattle.tide_machine.specs.points.Growths.{GrowthKnows}
 use Rattle.tide_machine.specs.points.Links.{Excuses, ScanExcuses, LinkAt}
 use Rattle.tide_machine.specs.points.Marks.{counted_in}
+use Rattle.tide_core.specs.FrozenWave.{blackened_count}
 use Rattle.tide_machine.specs.points.Scans.{IsAtHand, ScanKnows}
 use Rattle.tide_machine.specs.points.Seen.{CallsAreTold}
 use Rattle.tide_machine.specs.points.SettledWords.{RunningWordsRead}
@@ -34,19 +31,25 @@ use Rattle.tide_machine.specs.points.Stops.{StopsAreTold}
 use Rattle.tide_machine.specs.points.Witness.{GreyIsLeft}
 use Rattle.tide_model.proofs.ReferenceLaws.{put_at_elim}
 use Rattle.tide_model.specs.Cycle.{cycle_span}
-use Rattle.tide_model.specs.Graph.{IsRetained, no_cell}
+use Rattle.tide_model.specs.Graph.{IsRetained}
 use Rattle.tide_model.specs.History.{state_after}
 use Rattle.tide_model.specs.Layout.{Layout, cell_count}
-use Rattle.tide_model.specs.Numbers.{put_at, count_where}
+use Rattle.tide_model.specs.Numbers.{put_at}
 use Rattle.tide_model.specs.References.{IsLive}
 use Rattle.tide_model.specs.Refused.{ShapeLists}
 use Rattle.tide_model.specs.State.{live, spent}
 use Rattle.tide_model.specs.declared.entry.Event.{Event}
 use Rattle.tide_words.proofs.heap_laws.Frames.{is_read}
 use Rattle.tide_words.specs.heap.Heap.{Heap}
-use Rattle.tide_words.specs.marking.Colours.{is_marking, is_grey, is_black, IsBlack, IsMarked}
+use Rattle.tide_words.specs.marking.Colours.{is_marking, is_grey, IsBlack, IsMarked, IsStamped}
 use Rattle.tide_words.specs.marking.Marked.{is_marked}
-use Rattle.tide_words.specs.marking.Marking.{bits_of, HasNoGreys, NoLaterColours}
+use Rattle.tide_words.specs.marking.Marking.{bits_of, NoLaterColours}
+use Rattle.tide_model.specs.Old.{IsSpared}
+use Rattle.tide_layout.specs.declared.region.Region.TheVariants as region
+
+-- the view answers for the link after the step: it owes the barrier still, or its scan answers for it, as before
+abbrev pub Answers : Heap → Heap → ℕ → Place → ℕ → View → Type 0
+Answers old new source place cell u = StillOwes new u.duty source ⊎ ScanExcuses old source place cell u.scan
 
 abbrev found : ℕ → ℕ → ℕ → Found
 found block moment word = record { block = block; moment = moment; word = word }
@@ -68,6 +71,7 @@ module _ (layout : Layout) (shapes : ShapeLists) (old : Heap) (part : ℕ → Vi
     pub growth : w.growth ≡ (part me).growth
     pub marks : w.marks ≡ (part me).marks
     pub cycle : w.cycle ≡ (part me).cycle
+    pub least : w.least ≡ (part me).least
     pub begun : w.begun ≡ (part me).begun
     pub left : w.left ≡ (part me).left
     pub sweeping : w.sweeping ≡ (part me).sweeping
@@ -82,58 +86,55 @@ module _ (layout : Layout) (shapes : ShapeLists) (old : Heap) (part : ℕ → Vi
     pub stops : StopsAreTold layout new (put_at part me w)
     -- colours and holders
     pub colours : NoLaterColours layout new
-    pub balance : is_marking old ≡ true → (cell : ℕ) → cell < cell_count layout →
+    pub balance : (cell : ℕ) → cell < cell_count layout →
         bits_of old cell + holds cell (part me) ≤ (if is_grey old cell then 1 else 0) →
         bits_of new cell + holds cell w + (if is_grey old cell then 1 else 0) ≡ bits_of old cell + holds cell
         (part me) + (if is_grey new cell then 1 else 0)
-    pub rests : is_marking old ≡ false → ((block : ℕ) → block < cell_block_count layout → HasNoGreys new block) ×
-        (w.held ≡ []) × (w.scan ≡ None) × IsCalm w.duty
+    pub rests : is_marking old ≡ false → (w.held ≡ []) × (w.scan ≡ None)
     -- the scan and what it holds
     pub at_hand : (cell : ℕ) → IsAtHand w cell → IsLive (state_after layout log) cell
     pub arrays : (array : ℕ) (scan : Scan) → w.scan ≡ Some scan → scan.array ≡ Some (array + 1) →
         ((state_after layout log).arrays array ≡ live) ⊎ ((state_after layout log).arrays array ≡ spent)
-    pub scanned : (scan : Scan) → w.scan ≡ Some scan → IsMarked new scan.cell ×
+    pub scanned : (scan : Scan) → w.scan ≡ Some scan → IsStamped new scan.cell ×
         ScanKnows layout old (state_after layout log) scan
         × ((cell : ℕ) → Contains scan.buffer cell → IsTrue scan (old region.Structure scan.cell) →
         (cycle_span layout log).link scan.cell cell)
     -- black, marked, born
-    pub black : is_marking old ≡ true → (source : ℕ) (place : Place) (cell : ℕ) →
+    pub black : (source : ℕ) (place : Place) (cell : ℕ) →
         LinkAt (state_after layout log) source place cell → IsBlack new source → is_marked new cell ≡ false →
-        Excuses old source place cell w ⊎ (IsBlack old source × (is_marked old cell ≡ false) ×
-        (Excuses old source place cell (part me) → Excuses old source place cell w ⊎
-        ((p : ℕ) × (p ≢ me) × OwesBarrier (part p).duty source)))
+        Answers old new source place cell w ⊎
+        ((new region.Colour source ≡ old region.Colour source) × (is_marked old cell ≡ false) ×
+        (Excuses old source place cell (part me) → Answers old new source place cell w ⊎
+        ((p : ℕ) × (p ≢ me) × AwaitsLoad (part p).duty source)))
     pub grows : (cell : ℕ) → GrowsAndOwes (part me) cell → GrowsAndOwes w cell
-    pub stays : is_marking old ≡ true → (cell : ℕ) → IsMarked old cell → IsMarked new cell
-    -- a colour word that changes, changes to that of a marked cell
-    pub recoloured : is_marking old ≡ true → (cell : ℕ) → cell < cell_count layout →
-        (new region.Colour cell ≡ old region.Colour cell) ⊎ IsMarked new cell
+    pub stays : (cell : ℕ) → IsMarked old cell → IsMarked new cell
+    -- while a cycle marks, a colour word that changes, changes to that of a cell marked in it
+    pub recoloured : is_marking old ≡ true → (cell : ℕ) →
+        (new region.Colour cell ≡ old region.Colour cell) ⊎ IsStamped new cell
     pub aims : (scan : Scan) (target : Target) → w.scan ≡ Some scan → scan.target ≡ Some target →
         (target.cell < cell_count layout) × ((old region.Colour target.cell ≡ target.word) ⊎ IsMarked old target.cell)
-    pub marked : is_marking old ≡ true → (cell : ℕ) → cell < cell_count layout → IsMarked new cell → IsMarked old cell
-        ⊎ (IsRetained (cycle_span layout log) no_cell cell × ((p : ℕ) → p ≢ me → OwesColour (part p).duty cell → ⊥))
+    pub marked : (cell : ℕ) → cell < cell_count layout → IsMarked new cell → IsMarked old cell
+        ⊎ ((is_marking old ≡ true) × IsRetained (cycle_span layout log) (IsSpared layout log) cell ×
+        ((p : ℕ) → p ≢ me → OwesColour (part p).duty cell → ⊥))
     pub born : is_marking old ≡ true → (cell : ℕ) → OwesColour (part me).duty cell → OwesColour w.duty cell ⊎
         IsMarked new cell
-    pub owes : (cell : ℕ) → OwesColour w.duty cell → OwesColour (part me).duty cell ×
-        (is_marking old ≡ true → is_marked new cell ≡ false)
-    pub counted : is_marking old ≡ true → count_where (λ cell. is_black new cell && not (is_born_in_cycle log cell))
-        (cell_count layout) + (part me).visits
-        ≤ count_where (λ cell. is_black old cell && not (is_born_in_cycle log cell)) (cell_count layout) + w.visits
+    pub owes : (cell : ℕ) → OwesColour w.duty cell → OwesColour (part me).duty cell × (is_marked new cell ≡ false)
+    pub counted : is_marking old ≡ true → blackened_count layout new log + (part me).visits
+        ≤ blackened_count layout old log + w.visits
 
   module _ (new : Heap) (w : View) (s : Shows new w) where
     structure : (cell : ℕ) → new region.Structure cell ≡ old region.Structure cell
     structure cell = s.words region.Structure cell refl
 
-    -- the excuses of a view don't depend on the words that changed
-    excuses_same : (source : ℕ) (place : Place) (cell : ℕ) (u : View) → Excuses old source place cell u →
+    -- what a scan answers for doesn't depend on the words that changed
+    excuses_same : (source : ℕ) (place : Place) (cell : ℕ) (u : View) → Answers old new source place cell u →
         Excuses new source place cell u
-    excuses_same source place cell u e = subst (λ (word : ℕ). Excuses (λ at index. word) source place cell u)
-        (sym (structure source)) (from_word u.scan e)
+    excuses_same source place cell u (inl b) = inl b
+    excuses_same source place cell u (inr x) = inr (of_scan u.scan x)
       where
-        from_word : (scan : Option Scan) → OwesBarrier u.duty source ⊎ ScanExcuses old source place cell scan →
-            OwesBarrier u.duty source ⊎ ScanExcuses (λ at index. old region.Structure source) source place cell scan
-        from_word scan (inl b) = inl b
-        from_word None (inr x) = inr x
-        from_word (Some scan) (inr x) = inr x
+        of_scan : (scan : Option Scan) → ScanExcuses old source place cell scan → ScanExcuses new source place cell scan
+        of_scan None e = e
+        of_scan (Some scan) e = (e.0, λ holds. e.1 (subst (IsTrue scan) (structure source) holds))
 
     knows_same : (scan : Scan) → ScanKnows layout old (state_after layout log) scan →
         ScanKnows layout new (state_after layout log) scan
@@ -195,6 +196,7 @@ module _ (layout : Layout) (shapes : ShapeLists) (old : Heap) (part : ℕ → Vi
     quiet_step = any_step layout shapes old part log me wave new w record {
       inside = s.inside;
       phase = s.words region.Phase 0 refl;
+      base = s.words region.Base 0 refl;
       words = words_after;
       who = s.who;
       seen = inl s.seen;
@@ -213,7 +215,7 @@ module _ (layout : Layout) (shapes : ShapeLists) (old : Heap) (part : ℕ → Vi
           (λ block. s.words region.Dead block refl) (λ p at index word is. s.words at index
           (unsettled_read layout old (part p) at index word (wave.sweeps.named.stands p) is)) s.sweeping s.saw s.cleared
           s.left wave.sweeps;
-      told = λ is. (let t = wave.numbers.told me s.ran in (s.marks ∙ t.0, s.cycle ∙ t.1, s.begun ∙ t.2));
+      told = λ is. (let t = wave.numbers.told me s.ran in (s.marks ∙ t.0, s.cycle ∙ t.1, s.begun ∙ t.2, s.least ∙ t.3));
       calls = s.calls;
       stops = s.stops;
       empties = λ is. (let runs = s.runs in absurd (cc));
@@ -236,7 +238,7 @@ module _ (layout : Layout) (shapes : ShapeLists) (old : Heap) (part : ℕ → Vi
           (t.0, knows_same scan t.1, λ cell at holds. t.2 cell at (true_same scan holds));
       scans = λ p scan apart is. knows_same scan (wave.scans.knows p scan is);
       truer = λ p scan apart is. true_same scan;
-      black = λ marks source place cell link black white. elim (s.black marks source place cell link black white) [
+      black = λ source place cell link black white. elim (s.black source place cell link black white) [
         | inl mine ↦ inl (excuses_same source place cell w mine)
         | inr before ↦ inr (
           before.0,

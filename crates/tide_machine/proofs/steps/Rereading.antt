@@ -2,12 +2,10 @@
 use Rattle.std.proofs.Common.{ℕ, ◌≡◌, ◌≢◌, ◌+◌, ◌<◌, ◌≤◌, ◌⊎◌, refl, sym, ap, subst, arith, true, false, inl, inr, Option, Some}
 use Rattle.std.proofs.lemmas.Bool.{cases_lt}
 use Rattle.std.specs.Prelude.{Contains}
-use Rattle.tide_layout.specs.declared.region.Region.TheVariants as region
 use Rattle.tide_machine.proofs.kinds.Scanning.{still_open-is, still_open-holds}
 use Rattle.tide_machine.proofs.steps.Frames.{calls_view, stops_view}
 use Rattle.tide_machine.proofs.steps.Quiet.{quiet_step}
 use Rattle.tide_machine.proofs.steps.Waiting.{left_quiet}
-use Rattle.tide_machine.specs.Duties.{OwesBarrier}
 use Rattle.tide_machine.specs.RunningWave.{RunningWave}
 use Rattle.tide_machine.specs.Scanning.{IsTrue, IsStill, IsUnread, Place, slot, property, still_open}
 use Rattle.tide_machine.specs.Words.{count_of, is_nuked}
@@ -25,29 +23,32 @@ use Rattle.tide_model.specs.References.{IsLive}
 use Rattle.tide_model.specs.Refused.{ShapeLists}
 use Rattle.tide_model.specs.State.{live, spent, is_free}
 use Rattle.tide_words.proofs.heap_laws.ReadingLaws.{live_within}
-use Rattle.tide_words.specs.marking.Colours.{is_marking, IsMarked}
+use Rattle.tide_words.specs.marking.Colours.{is_marking, IsMarked, IsStamped}
 use Rattle.tide_words.specs.marking.Marked.{is_marked}
+use Rattle.tide_machine.specs.Duties.{AwaitsLoad, StillOwes}
+use Rattle.tide_machine.proofs.steps.Barriers.{awaits_owes}
+use Rattle.tide_layout.specs.declared.region.Region.TheVariants as region
 
 abbrev pub with_scan : View → Option Scan → View
 with_scan v scan = record v { scan = scan }
 
 module _ (layout : Layout) (shapes : ShapeLists) (w : World) (me : ℕ) (inside : me < parties)
     (wave : RunningWave layout shapes w) (runs : (w.part me).runs ≡ true)
-    (marks : is_marking w.heap ≡ true) (no_barrier : (cell : ℕ) → OwesBarrier (w.part me).duty cell → ⊥) where
+    (marks : is_marking w.heap ≡ true) (no_barrier : (cell : ℕ) → StillOwes w.heap (w.part me).duty cell → ⊥) where
   -- a step of a scan that only its scan notices
   pub record ShowsScan (after : Option Scan) : Type 0 where
     pub at_hand : (cell : ℕ) (s : Scan) → after ≡ Some s → (s.cell ≡ cell) ⊎ Contains s.buffer cell →
         IsLive (state_after layout w.log) cell
     pub arrays : (array : ℕ) (s : Scan) → after ≡ Some s → s.array ≡ Some (array + 1) →
         ((state_after layout w.log).arrays array ≡ live) ⊎ ((state_after layout w.log).arrays array ≡ spent)
-    pub scanned : (s : Scan) → after ≡ Some s → IsMarked w.heap s.cell ×
+    pub scanned : (s : Scan) → after ≡ Some s → IsStamped w.heap s.cell ×
         ScanKnows layout w.heap (state_after layout w.log) s
         × ((cell : ℕ) → Contains s.buffer cell → IsTrue s (w.heap region.Structure s.cell) →
         (cycle_span layout w.log).link s.cell cell)
     pub excuses : (source : ℕ) (place : Place) (cell : ℕ) → LinkAt (state_after layout w.log) source place cell →
         is_marked w.heap cell ≡ false →
         ScanExcuses w.heap source place cell (w.part me).scan → ScanExcuses w.heap source place cell after ⊎
-        ((p : ℕ) × (p ≢ me) × OwesBarrier (w.part p).duty source)
+        ((p : ℕ) × (p ≢ me) × AwaitsLoad (w.part p).duty source)
     pub aims : (s : Scan) (target : Target) → after ≡ Some s → s.target ≡ Some target →
         (target.cell < cell_count layout) × ((w.heap region.Colour target.cell ≡ target.word) ⊎
         IsMarked w.heap target.cell)
@@ -72,6 +73,7 @@ module _ (layout : Layout) (shapes : ShapeLists) (w : World) (me : ℕ) (inside 
     marks = refl;
     cycle =
         refl;
+    least = refl;
     begun = refl;
     period = refl;
     left = refl;
@@ -88,14 +90,14 @@ module _ (layout : Layout) (shapes : ShapeLists) (w : World) (me : ℕ) (inside 
     ran = runs;
     runs = runs;
     colours = wave.colours;
-    balance = λ _ cell within few. refl;
+    balance = λ cell within few. refl;
     rests = λ idle. absurd (cc);
     at_hand = λ cell at. at_hand_after cell at;
     arrays = s.arrays;
     scanned = s.scanned;
-    black = λ _ source place cell link black white.
+    black = λ source place cell link black white.
         inr (
-          black,
+          refl,
           white,
           λ excuse. elim excuse [
             | inl owes ↦ absurd (no_barrier source owes)
@@ -104,12 +106,12 @@ module _ (layout : Layout) (shapes : ShapeLists) (w : World) (me : ℕ) (inside 
           ],
         );
     grows = λ c g. record { grows = g.grows; owes = g.owes };
-    stays = λ _ cell is. is;
-    recoloured = λ _ cell in_cell. inl refl;
+    stays = λ cell is. is;
+    recoloured = λ _ cell. inl refl;
     aims = s.aims;
-    marked = λ _ cell in_cell is. inl is;
+    marked = λ cell in_cell is. inl is;
     born = λ _ cell owes. inl owes;
-    owes = λ cell owes. (owes, λ _. (wave.born.owed marks me cell owes).white);
+    owes = λ cell owes. (owes, wave.born.white me cell owes);
     counted = λ _. omega arith;
   }
     where
@@ -130,7 +132,7 @@ module _ (layout : Layout) (shapes : ShapeLists) (w : World) (me : ℕ) (inside 
 
     -- a place of a link of the cell was read, or the link is of a growth that owes the barrier
     no_place : (place : Place) (cell : ℕ) → LinkAt (state_after layout w.log) scan.cell place cell → read ≡ first →
-        IsUnread scan place → (p : ℕ) × (p ≢ me) × OwesBarrier (w.part p).duty scan.cell
+        IsUnread scan place → (p : ℕ) × (p ≢ me) × AwaitsLoad (w.part p).duty scan.cell
     no_place (slot n) cell (is_live, is) same unread = elim (cases_lt n (slots_of (class_of layout scan.cell))) [
       | inl below ↦ (let was = all_slots n below in absurd (cc))
       | inr past ↦ (let none = ((wave.words.reads.parts.cells scan.cell
@@ -142,7 +144,7 @@ module _ (layout : Layout) (shapes : ShapeLists) (w : World) (me : ℕ) (inside 
       | inr past ↦
           let (p, g) = wave.grows.beyond marks scan.cell n cell link
           (subst (λ (word : ℕ). count_of word ≤ n) (sym same) past) in
-          (p, (λ e. no_barrier scan.cell (subst (λ (q : ℕ). OwesBarrier (w.part q).duty scan.cell) e g.owes)), g.owes)
+          (p, (λ e. no_barrier scan.cell (awaits_owes w.heap (w.part me).duty scan.cell (subst (λ (q : ℕ). AwaitsLoad (w.part q).duty scan.cell) e g.owes))), g.owes)
     ]
 
     abbrev agreed_scan : Scan
@@ -168,7 +170,7 @@ module _ (layout : Layout) (shapes : ShapeLists) (w : World) (me : ℕ) (inside 
           ]);
       arrays = λ array s is has. wave.hands.arrays me array scan scans (of_agreed (λ s. s.array ≡ Some (array + 1) →
           scan.array ≡ Some (array + 1)) (λ e. e) s is has);
-      scanned = of_agreed (λ s. IsMarked w.heap s.cell × ScanKnows layout w.heap (state_after layout w.log) s ×
+      scanned = of_agreed (λ s. IsStamped w.heap s.cell × ScanKnows layout w.heap (state_after layout w.log) s ×
           ((cell : ℕ) → Contains s.buffer cell → IsTrue s (w.heap region.Structure s.cell) →
           (cycle_span layout w.log).link s.cell cell)) (
             wave.retained.scanned me scan scans,
@@ -181,7 +183,7 @@ module _ (layout : Layout) (shapes : ShapeLists) (w : World) (me : ℕ) (inside 
           elim (old.1 (subst (λ (c : ℕ). IsTrue scan (w.heap region.Structure c)) old.0 truly)) [
             | inl unread ↦ inr (let o = no_place place cell
                 (subst (λ (c : ℕ). LinkAt (state_after layout w.log) c place cell) (sym old.0) link) same unread.1 in
-                (o.0, o.1, subst (OwesBarrier (w.part o.0).duty) old.0 o.2))
+                (o.0, o.1, subst (AwaitsLoad (w.part o.0).duty) old.0 o.2))
             | inr at ↦ inl (subst (ScanExcuses w.heap source place cell) (sym (still_open-holds agreed_scan cell at))
                 (old.0, λ holds. inr at))
           ];
@@ -219,7 +221,7 @@ module _ (layout : Layout) (shapes : ShapeLists) (w : World) (me : ℕ) (inside 
           ]);
       arrays = λ array s is has. wave.hands.arrays me array scan scans
           (of_raced (λ s. s.array ≡ Some (array + 1) → scan.array ≡ Some (array + 1)) (λ e. e) s is has);
-      scanned = of_raced (λ s. IsMarked w.heap s.cell × ScanKnows layout w.heap (state_after layout w.log) s ×
+      scanned = of_raced (λ s. IsStamped w.heap s.cell × ScanKnows layout w.heap (state_after layout w.log) s ×
           ((cell : ℕ) → Contains s.buffer cell → IsTrue s (w.heap region.Structure s.cell) →
           (cycle_span layout w.log).link s.cell cell))
           (wave.retained.scanned me scan scans, knows, λ cell at holds. (let no_more = holds.0 in absurd (cc)));

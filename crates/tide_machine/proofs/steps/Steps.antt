@@ -1,22 +1,17 @@
 -- A step that makes no entry keeps the wave. What it shows of words and scans is said of each other view apart.
-use Rattle.std.proofs.Common.{ℕ, ◌≡◌, ◌≢◌, ◌+◌, ◌<◌, ◌≤◌, ◌⊎◌, refl, sym, ◌∙◌, ap, subst, arith, true, false, List, [], inl, inr, Option, Some, None, length}
+use Rattle.std.proofs.Common.{ℕ, ◌≡◌, ◌≢◌, ◌+◌, ◌<◌, ◌≤◌, ◌⊎◌, refl, sym, ◌∙◌, ap, subst, arith, true, false, List, [], inl, inr, Option, Some, None, length, true≢false}
 use Rattle.std.proofs.lemmas.Bool.{cases_Bool}
-use Rattle.std.specs.Prelude.{Contains, filter, if◌then◌else◌, ◌&&◌, not}
-use Rattle.tide_core.specs.FrozenWave.{is_born_in_cycle}
-use Rattle.tide_layout.specs.Region.{cell_block_count}
+use Rattle.std.specs.Prelude.{Contains, filter, if◌then◌else◌, not}
 use Rattle.tide_layout.specs.declared.region.Region.{Region}
-use Rattle.tide_layout.specs.declared.region.Region.TheVariants as region
 use Rattle.tide_machine.proofs.steps.Frames.{each_put, put_here, put_else, total_below-put, known_view, held_view}
 use Rattle.tide_machine.specs.Looked.{FreeIsShown}
-use Rattle.tide_machine.specs.Duties.{IsCalm, OwesBarrier, GrowsAndOwes, OwesColour}
+use Rattle.tide_machine.specs.Duties.{GrowsAndOwes, OwesColour, AwaitsLoad}
 use Rattle.tide_machine.specs.Owed.{owed_word, IsOwnWord}
 use Rattle.tide_machine.specs.RunningWave.{RunningWave}
 use Rattle.tide_machine.specs.Scanning.{IsTrue, Place, property}
 use Rattle.tide_machine.specs.Words.{count_of}
 use Rattle.tide_machine.specs.World.{total, holds, parties}
-use Rattle.tide_machine.specs.declared.view.Duty.TheVariants as duty
 use Rattle.tide_machine.specs.declared.view.Found.{Found}
-use Rattle.tide_machine.specs.declared.view.Growth.TheVariants as growth
 use Rattle.tide_machine.specs.declared.view.Scan.{Scan}
 use Rattle.tide_machine.specs.declared.view.Target.{Target}
 use Rattle.tide_machine.specs.declared.view.View.{View}
@@ -25,6 +20,7 @@ use Rattle.tide_machine.specs.points.Births.{RunningBornIsMarked, AwaitsColour}
 use Rattle.tide_machine.specs.points.Growths.{GrowthKnows}
 use Rattle.tide_machine.specs.points.Links.{IsExcused, Excuses, ScanExcuses, LinkAt}
 use Rattle.tide_machine.specs.points.Marks.{counted_in}
+use Rattle.tide_core.specs.FrozenWave.{blackened_count}
 use Rattle.tide_machine.specs.points.Scans.{IsAtHand, ScanKnows}
 use Rattle.tide_machine.specs.points.Seen.{CallsAreTold}
 use Rattle.tide_machine.specs.points.SettledWords.{RunningWordsRead}
@@ -33,10 +29,10 @@ use Rattle.tide_machine.specs.points.Sweeps.{SweptAreBelow, SweepsAreRight}
 use Rattle.tide_machine.specs.points.Witness.{GreyIsLeft}
 use Rattle.tide_model.proofs.ReferenceLaws.{put_at_elim}
 use Rattle.tide_model.specs.Cycle.{cycle_span}
-use Rattle.tide_model.specs.Graph.{IsRetained, no_cell}
+use Rattle.tide_model.specs.Graph.{IsRetained}
 use Rattle.tide_model.specs.History.{state_after, is_call_of, state_at}
 use Rattle.tide_model.specs.Layout.{Layout, cell_count}
-use Rattle.tide_model.specs.Numbers.{put_at, count_where}
+use Rattle.tide_model.specs.Numbers.{put_at}
 use Rattle.tide_model.specs.Prefix.{IsPrefix}
 use Rattle.tide_model.specs.References.{IsLive}
 use Rattle.tide_model.specs.Refused.{ShapeLists}
@@ -46,9 +42,16 @@ use Rattle.tide_model.specs.declared.entry.Event.{Event}
 use Rattle.tide_words.proofs.heap_laws.Frames.{is_read}
 use Rattle.tide_words.proofs.heap_laws.ReadingLaws.{live_within}
 use Rattle.tide_words.specs.heap.Heap.{Heap}
-use Rattle.tide_words.specs.marking.Colours.{is_marking, running_cycle, is_grey, is_black, IsBlack, IsMarked}
-use Rattle.tide_words.specs.marking.Marked.{is_marked}
-use Rattle.tide_words.specs.marking.Marking.{bits_of, HasNoGreys, NoLaterColours}
+use Rattle.tide_words.specs.marking.Colours.{is_marking, running_cycle, is_grey, IsBlack, IsMarked, IsStamped}
+use Rattle.tide_words.specs.marking.Marked.{is_marked, base_cycle}
+use Rattle.tide_words.specs.marking.Marking.{bits_of, NoLaterColours}
+use Rattle.tide_model.specs.Old.{IsSpared}
+use Rattle.tide_machine.proofs.steps.SameColours.{is_black-same}
+use Rattle.tide_machine.proofs.steps.Barriers.{still_owes, awaits_owes}
+use Rattle.tide_words.specs.forms.ColourWord.{colour_cycle}
+use Rattle.tide_layout.specs.declared.region.Region.TheVariants as region
+use Rattle.tide_machine.specs.declared.view.Duty.TheVariants as duty
+use Rattle.tide_machine.specs.declared.view.Growth.TheVariants as growth
 
 abbrev found : ℕ → ℕ → ℕ → Found
 found block moment word = record { block = block; moment = moment; word = word }
@@ -59,6 +62,7 @@ module _ (layout : Layout) (shapes : ShapeLists) (old : Heap) (part : ℕ → Vi
   pub record ShowsStep (new : Heap) (w : View) : Type 0 where
     pub inside : me < parties
     pub phase : new region.Phase 0 ≡ old region.Phase 0
+    pub base : new region.Base 0 ≡ old region.Base 0
     pub period : new region.Period 0 ≡ old region.Period 0
     pub words : RunningWordsRead layout shapes new (put_at part me w) (state_after layout log)
     -- what the view keeps
@@ -73,7 +77,7 @@ module _ (layout : Layout) (shapes : ShapeLists) (old : Heap) (part : ℕ → Vi
     pub finds : (block moment word : ℕ) → Contains w.full (found block moment word) → (window_start me log ≤ moment) ×
         (moment ≤ length log) × FreeIsShown layout (state_at layout log moment) block word
     pub told : w.runs ≡ true → (w.marks ≡ is_marking old) × (w.cycle ≡ running_cycle old) ×
-        (w.begun ≡ old region.Period 0)
+        (w.begun ≡ old region.Period 0) × (w.least ≡ base_cycle old)
     pub begins : w.begun ≤ old region.Period 0
     pub left : w.left ≡ (part me).left
     pub calls : CallsAreTold layout new (put_at part me w)
@@ -84,17 +88,16 @@ module _ (layout : Layout) (shapes : ShapeLists) (old : Heap) (part : ℕ → Vi
         × (w.saw ≡ None) × (w.cleared ≡ [])
     -- colours and holders
     pub colours : NoLaterColours layout new
-    pub balance : is_marking old ≡ true → (cell : ℕ) → cell < cell_count layout →
+    pub balance : (cell : ℕ) → cell < cell_count layout →
         bits_of old cell + holds cell (part me) ≤ (if is_grey old cell then 1 else 0) →
         bits_of new cell + holds cell w + (if is_grey old cell then 1 else 0) ≡ bits_of old cell + holds cell
         (part me) + (if is_grey new cell then 1 else 0)
-    pub rests : is_marking old ≡ false → ((block : ℕ) → block < cell_block_count layout → HasNoGreys new block) ×
-        (w.held ≡ []) × (w.scan ≡ None) × IsCalm w.duty
+    pub rests : is_marking old ≡ false → (w.held ≡ []) × (w.scan ≡ None)
     -- the scan and what it holds
     pub at_hand : (cell : ℕ) → IsAtHand w cell → IsLive (state_after layout log) cell
     pub arrays : (array : ℕ) (scan : Scan) → w.scan ≡ Some scan → scan.array ≡ Some (array + 1) →
         ((state_after layout log).arrays array ≡ live) ⊎ ((state_after layout log).arrays array ≡ spent)
-    pub scanned : (scan : Scan) → w.scan ≡ Some scan → IsMarked new scan.cell ×
+    pub scanned : (scan : Scan) → w.scan ≡ Some scan → IsStamped new scan.cell ×
         ScanKnows layout new (state_after layout log) scan
         × ((cell : ℕ) → Contains scan.buffer cell → IsTrue scan (new region.Structure scan.cell) →
         (cycle_span layout log).link scan.cell cell)
@@ -112,43 +115,47 @@ module _ (layout : Layout) (shapes : ShapeLists) (old : Heap) (part : ℕ → Vi
     pub truer : (p : ℕ) (scan : Scan) → p ≢ me → (part p).scan ≡ Some scan →
         IsTrue scan (new region.Structure scan.cell) → IsTrue scan (old region.Structure scan.cell)
     -- black, marked, born
-    pub black : is_marking old ≡ true → (source : ℕ) (place : Place) (cell : ℕ) →
+    -- a black cell is a new one, or its word is as it was
+    pub black : (source : ℕ) (place : Place) (cell : ℕ) →
         LinkAt (state_after layout log) source place cell → IsBlack new source → is_marked new cell ≡ false →
-        Excuses new source place cell w ⊎ (IsBlack old source × (is_marked old cell ≡ false) ×
+        Excuses new source place cell w ⊎ ((new region.Colour source ≡ old region.Colour source) × (is_marked old cell ≡ false) ×
         (Excuses old source place cell (part me) → Excuses new source place cell w ⊎
-        ((p : ℕ) × (p ≢ me) × OwesBarrier (part p).duty source)))
+        ((p : ℕ) × (p ≢ me) × AwaitsLoad (part p).duty source)))
     pub beyond : is_marking old ≡ true → (source n cell : ℕ) →
         LinkAt (state_after layout log) source (property n) cell → count_of (new region.Structure source) ≤ n →
         GrowsAndOwes w source ⊎ ((p : ℕ) × (p ≢ me) × GrowsAndOwes (part p) source)
-    pub stays : is_marking old ≡ true → (cell : ℕ) → IsMarked old cell → IsMarked new cell
-    -- a colour word that changes, changes to that of a marked cell
-    pub recoloured : is_marking old ≡ true → (cell : ℕ) → cell < cell_count layout →
-        (new region.Colour cell ≡ old region.Colour cell) ⊎ IsMarked new cell
+    pub stays : (cell : ℕ) → IsMarked old cell → IsMarked new cell
+    -- while a cycle marks, a colour word that changes, changes to that of a cell marked in it
+    pub recoloured : is_marking old ≡ true → (cell : ℕ) →
+        (new region.Colour cell ≡ old region.Colour cell) ⊎ IsStamped new cell
     pub aims : (scan : Scan) (target : Target) → w.scan ≡ Some scan → scan.target ≡ Some target →
         (target.cell < cell_count layout) × ((old region.Colour target.cell ≡ target.word) ⊎ IsMarked old target.cell)
-    pub marked : is_marking old ≡ true → (cell : ℕ) → cell < cell_count layout → IsMarked new cell → IsMarked old cell
-        ⊎ (IsRetained (cycle_span layout log) no_cell cell × ((p : ℕ) → p ≢ me → OwesColour (part p).duty cell → ⊥))
+    -- between cycles none is marked that wasn't
+    pub marked : (cell : ℕ) → cell < cell_count layout → IsMarked new cell → IsMarked old cell
+        ⊎ ((is_marking old ≡ true) × IsRetained (cycle_span layout log) (IsSpared layout log) cell ×
+        ((p : ℕ) → p ≢ me → OwesColour (part p).duty cell → ⊥))
     pub born : is_marking old ≡ true → (cell : ℕ) → OwesColour (part me).duty cell → OwesColour w.duty cell ⊎
         IsMarked new cell
-    pub owes : (cell : ℕ) → OwesColour w.duty cell → OwesColour (part me).duty cell ×
-        (is_marking old ≡ true → is_marked new cell ≡ false)
-    pub counted : is_marking old ≡ true → count_where (λ cell. is_black new cell && not (is_born_in_cycle log cell))
-        (cell_count layout) + counted_in (old region.Period 0) (part me)
-        ≤ count_where (λ cell. is_black old cell && not (is_born_in_cycle log cell)) (cell_count layout) + counted_in
-        (old region.Period 0) w
+    pub owes : (cell : ℕ) → OwesColour w.duty cell → OwesColour (part me).duty cell × (is_marked new cell ≡ false)
+    pub counted : is_marking old ≡ true → blackened_count layout new log + counted_in (old region.Period 0) (part me)
+        ≤ blackened_count layout old log + counted_in (old region.Period 0) w
 
   module _ (new : Heap) (w : View) (s : ShowsStep new w) where
     marking : is_marking new ≡ is_marking old
     marking = ap (λ (word : ℕ). is_marking (λ at index. word)) s.phase
 
+    base : base_cycle new ≡ base_cycle old
+    base = s.base
+
     running : running_cycle new ≡ running_cycle old
     running = ap (λ (word : ℕ). running_cycle (λ at index. word)) s.phase
 
     -- what another view's scan answers for, it answers for still
-    other_excuses : (p source : ℕ) (place : Place) (cell : ℕ) → p ≢ me → Excuses old source place cell (part p) →
+    other_excuses : (p source : ℕ) (place : Place) (cell : ℕ) → p ≢ me →
+        new region.Colour source ≡ old region.Colour source → Excuses old source place cell (part p) →
         Excuses new source place cell (part p)
-    other_excuses p source place cell apart (inl owes) = inl owes
-    other_excuses p source place cell apart (inr answers) = inr (of_scan (part p).scan refl answers)
+    other_excuses p source place cell apart colour (inl owes) = inl (still_owes old new (part p).duty source colour owes)
+    other_excuses p source place cell apart colour (inr answers) = inr (of_scan (part p).scan refl answers)
       where
         of_scan : (scan : Option Scan) → (part p).scan ≡ scan → ScanExcuses old source place cell scan →
             ScanExcuses new source place cell scan
@@ -168,29 +175,29 @@ module _ (layout : Layout) (shapes : ShapeLists) (old : Heap) (part : ℕ → Vi
           subst (Excuses new source place cell) (sym (put_here part me w)) e;
     }
 
-    black_after : is_marking new ≡ true → (source : ℕ) (place : Place) (cell : ℕ) →
+    black_after : (source : ℕ) (place : Place) (cell : ℕ) →
         LinkAt (state_after layout log) source place cell → IsBlack new source → is_marked new cell ≡ false →
         IsExcused new (put_at part me w) source place cell
-    black_after marks source place cell link black white =
-        elim (s.black (sym marking ∙ marks) source place cell link black white) [
+    black_after source place cell link black white =
+        elim (s.black source place cell link black white) [
           | inl mine ↦ excused source place cell mine
-          | inr before ↦ other before (wave.black.excused (sym marking ∙ marks) source place cell link before.0
-              before.1)
+          | inr before ↦ other before (wave.black.excused source place cell link
+              (sym (is_black-same old new source base before.0) ∙ black) before.1)
         ]
       where
-        turned : Excuses new source place cell w ⊎ ((p : ℕ) × (p ≢ me) × OwesBarrier (part p).duty source) →
+        turned : Excuses new source place cell w ⊎ ((p : ℕ) × (p ≢ me) × AwaitsLoad (part p).duty source) →
             IsExcused new (put_at part me w) source place cell
         turned (inl e) = excused source place cell e
         turned (inr (p, apart, owes)) =
             record {
               by = p;
               excuse = subst (Excuses new source place cell) (sym (put_else part me p w apart))
-                  (inl owes);
+                  (inl (awaits_owes new (part p).duty source owes));
             }
 
-        other : IsBlack old source × (is_marked old cell ≡ false) ×
+        other : (new region.Colour source ≡ old region.Colour source) × (is_marked old cell ≡ false) ×
             (Excuses old source place cell (part me) → Excuses new source place cell w ⊎
-            ((p : ℕ) × (p ≢ me) × OwesBarrier (part p).duty source)) → IsExcused old part source place cell →
+            ((p : ℕ) × (p ≢ me) × AwaitsLoad (part p).duty source)) → IsExcused old part source place cell →
             IsExcused new (put_at part me w) source place cell
         other before ex = elim (Rattle.std.proofs.lemmas.Bool.cases_eq ex.by me) [
           | inl same ↦ turned (before.2 (subst (λ (p : ℕ). Excuses old source place cell (part p)) same ex.excuse))
@@ -198,7 +205,7 @@ module _ (layout : Layout) (shapes : ShapeLists) (old : Heap) (part : ℕ → Vi
             by = ex.by;
             excuse =
                 subst (Excuses new source place cell) (sym (put_else part me ex.by w apart))
-                (other_excuses ex.by source place cell apart ex.excuse);
+                (other_excuses ex.by source place cell apart before.0 ex.excuse);
           }
         ]
 
@@ -214,9 +221,10 @@ module _ (layout : Layout) (shapes : ShapeLists) (old : Heap) (part : ℕ → Vi
         cycles = running ∙ wave.numbers.cycles;
         periods = s.period ∙ wave.numbers.periods;
         told = each_put (λ p u. u.runs ≡ true → (u.marks ≡ is_marking new) × (u.cycle ≡ running_cycle new) ×
-            (u.begun ≡ new region.Period 0)) part me w
-            (λ is. let t = s.told is in (t.0 ∙ sym marking, t.1 ∙ sym running, t.2 ∙ sym s.period))
-            (λ p is. let t = wave.numbers.told p is in (t.0 ∙ sym marking, t.1 ∙ sym running, t.2 ∙ sym s.period));
+            (u.begun ≡ new region.Period 0) × (u.least ≡ base_cycle new)) part me w
+            (λ is. let t = s.told is in (t.0 ∙ sym marking, t.1 ∙ sym running, t.2 ∙ sym s.period, t.3 ∙ sym base))
+            (λ p is. let t = wave.numbers.told p is in
+            (t.0 ∙ sym marking, t.1 ∙ sym running, t.2 ∙ sym s.period, t.3 ∙ sym base));
         begun = each_put (λ p u. u.begun ≤ new region.Period 0) part me w
             (let b = s.begins in let e = s.period in omega (arith, b, e))
             (λ p. let b = wave.numbers.begun p in let e = s.period in omega (arith, b, e));
@@ -246,26 +254,22 @@ module _ (layout : Layout) (shapes : ShapeLists) (old : Heap) (part : ℕ → Vi
             FreeIsShown layout (state_at layout log moment) block word) part me w
             s.finds wave.kept.full;
       };
-      held = held_view layout old new part me w s.inside marking s.balance wave.held;
+      held = held_view layout old new part me w s.inside s.balance wave.held;
       rests = record {
-        words = λ idle block within. (s.rests (sym marking ∙ idle)).0 block within;
-        held = λ idle. each_put (λ p u. u.held ≡ []) part me w (s.rests (sym marking ∙ idle)).1
+        held = λ idle. each_put (λ p u. u.held ≡ []) part me w (s.rests (sym marking ∙ idle)).0
             (wave.rests.held (sym marking ∙ idle));
-        scans = λ idle. each_put (λ p u. u.scan ≡ None) part me w (s.rests (sym marking ∙ idle)).2
+        scans = λ idle. each_put (λ p u. u.scan ≡ None) part me w (s.rests (sym marking ∙ idle)).1
             (wave.rests.scans (sym marking ∙ idle));
-        duties = λ idle. each_put (λ p u. IsCalm u.duty) part me w (s.rests (sym marking ∙ idle)).3
-            (wave.rests.duties (sym marking ∙ idle));
       };
       black = record { excused = black_after };
-      full = λ marks. wave.full (sym marking ∙ marks);
       retained = record {
-        marked = λ marks cell within is. elim (s.marked (sym marking ∙ marks) cell within is) [
+        marked = λ marks cell within is. elim (s.marked cell within is) [
           | inl before ↦ wave.retained.marked (sym marking ∙ marks) cell within before
-          | inr now ↦ now.0
+          | inr now ↦ now.1
         ];
-        scanned = each_put (λ p u. (scan : Scan) → u.scan ≡ Some scan → IsMarked new scan.cell) part me w
+        scanned = each_put (λ p u. (scan : Scan) → u.scan ≡ Some scan → IsStamped new scan.cell) part me w
             (λ scan is. (s.scanned scan is).0) (λ p scan is.
-            s.stays (marks_by p scan is) scan.cell (wave.retained.scanned p scan is));
+            stamped (marks_by p scan is) scan.cell (wave.retained.scanned p scan is));
         buffered = λ p cell scan is. put_at_elim (λ p u. (cell : ℕ) (scan : Scan) → u.scan ≡ Some scan →
             Contains scan.buffer cell → IsTrue scan (new region.Structure scan.cell) →
             (cycle_span layout log).link scan.cell cell) part me w
@@ -278,6 +282,15 @@ module _ (layout : Layout) (shapes : ShapeLists) (old : Heap) (part : ℕ → Vi
         links = λ marks. wave.span.links (sym marking ∙ marks);
         triples = λ marks. wave.span.triples (sym marking ∙ marks);
         twins = λ marks. wave.span.twins (sym marking ∙ marks);
+      };
+      old = record {
+        old = λ when cell within is. s.stays cell (wave.old.old (λ marks. when (marking ∙ marks)) cell within is);
+        rests = λ idle cell within is. elim (s.marked cell within is) [
+          | inl before ↦ wave.old.rests (sym marking ∙ idle) cell within before
+          | inr now ↦ (let marks = now.0 in absurd (true≢false (sym marks ∙ sym marking ∙ idle)))
+        ];
+        counts = λ marks. (let c = wave.old.counts (sym marking ∙ marks) in let b = base in let r = running in omega (arith, c, b, r));
+        soon = (let c = wave.old.soon in let b = base in let r = running in omega (arith, c, b, r));
       };
       born = born_after;
       counted = record {
@@ -353,31 +366,41 @@ module _ (layout : Layout) (shapes : ShapeLists) (old : Heap) (part : ℕ → Vi
         marks_of_mine scan is = elim (cases_Bool (is_marking old)) [
           | inl marks ↦ marks
           | inr idle ↦
-              (let none = (s.rests idle).2 in absurd (cc))
+              (let none = (s.rests idle).1 in absurd (cc))
+        ]
+
+        -- what was marked in the cycle is so still
+        stamped : is_marking old ≡ true → (cell : ℕ) → IsStamped old cell → IsStamped new cell
+        stamped marks cell was = elim (s.recoloured marks cell) [
+          | inl same ↦ (s.stays cell was.0, ap colour_cycle same ∙ was.1 ∙ sym running)
+          | inr now ↦ now
         ]
 
         still_right : is_marking old ≡ true → (target : Target) → (target.cell < cell_count layout) ×
             ((old region.Colour target.cell ≡ target.word) ⊎ IsMarked old target.cell) →
             (target.cell < cell_count layout) ×
             ((new region.Colour target.cell ≡ target.word) ⊎ IsMarked new target.cell)
-        still_right marks target (within, inr is) = (within, inr (s.stays marks target.cell is))
+        still_right marks target (within, inr is) = (within, inr (s.stays target.cell is))
         still_right marks target (within, inl is) =
-            (within, elim (s.recoloured marks target.cell within) [ inl same ↦ inl (same ∙ is) | inr now ↦ inr now ])
+            (within, elim (s.recoloured marks target.cell) [ inl same ↦ inl (same ∙ is) | inr now ↦ inr now.0 ])
 
         born_after : RunningBornIsMarked layout new (put_at part me w) log
         born_after = record {
           born = λ marks cell within since. elim (wave.born.born (sym marking ∙ marks) cell within since) [
-            | inl is ↦ inl (s.stays (sym marking ∙ marks) cell is)
+            | inl is ↦ inl (s.stays cell is)
             | inr owes ↦ carried (sym marking ∙ marks) cell owes.0 owes.1
           ];
           owed = λ marks. put_at_elim (λ p u. (cell : ℕ) → OwesColour u.duty cell → AwaitsColour layout new log p cell)
               part me w
               (λ cell owes. let before = wave.born.owed (sym marking ∙ marks) me cell (s.owes cell owes).0 in
-              awaits me cell before ((s.owes cell owes).1 (sym marking ∙ marks)))
+              awaits me cell before (s.owes cell owes).1)
               (λ p other cell owes. let before = wave.born.owed (sym marking ∙ marks) p cell owes in
-              awaits p cell before (white (sym marking ∙ marks) p cell other owes before.alive before.white));
+              awaits p cell before (white p cell other owes before.alive before.white));
           alive = each_put (λ p u. (cell : ℕ) → OwesColour u.duty cell → IsLive (state_after layout log) cell) part me w
               (λ cell owes. wave.born.alive me cell (s.owes cell owes).0) wave.born.alive;
+          white = put_at_elim (λ p u. (cell : ℕ) → OwesColour u.duty cell → is_marked new cell ≡ false) part me w
+              (λ cell owes. (s.owes cell owes).1)
+              (λ p other cell owes. white p cell other owes (wave.born.alive p cell owes) (wave.born.white p cell owes));
           owner = wave.born.owner;
           once = each_put (λ p u. (cell : ℕ) → OwesColour u.duty cell → wave.born.owner cell ≡ p) part me w
               (λ cell owes. wave.born.once me cell (s.owes cell owes).0) wave.born.once;
@@ -395,14 +418,14 @@ module _ (layout : Layout) (shapes : ShapeLists) (old : Heap) (part : ℕ → Vi
               hidden = a.hidden;
             }
 
-            white : is_marking old ≡ true → (p cell : ℕ) → p ≢ me → OwesColour (part p).duty cell →
+            white : (p cell : ℕ) → p ≢ me → OwesColour (part p).duty cell →
                 IsLive (state_after layout log) cell → is_marked old cell ≡ false → is_marked new cell ≡ false
-            white marks p cell other owes alive was = elim (cases_Bool (is_marked new cell)) [
-              | inl is ↦ elim (s.marked marks cell
+            white p cell other owes alive was = elim (cases_Bool (is_marked new cell)) [
+              | inl is ↦ elim (s.marked cell
                   (live_within layout shapes wave.words.settled (state_after layout log) cell wave.words.reads alive)
                   is) [
                     | inl before ↦ absurd (cc)
-                    | inr now ↦ absurd (now.1 p other owes)
+                    | inr now ↦ absurd (now.2 p other owes)
                   ]
               | inr isnt ↦ isnt
             ]

@@ -75,6 +75,7 @@ dead_word_region layout block bits region.Slots index isnt is = absurd (cc)
 dead_word_region layout block bits region.Elements index isnt is = absurd (cc)
 dead_word_region layout block bits region.Period index isnt is = is
 dead_word_region layout block bits region.Phase index isnt is = is
+dead_word_region layout block bits region.Base index isnt is = is
 dead_word_region layout block bits region.Active index isnt is = is
 dead_word_region layout block bits region.Call index isnt is = is
 dead_word_region layout block bits region.Stopped index isnt is = is
@@ -100,6 +101,7 @@ dead_word_read layout block bits region.Slots index is = refl
 dead_word_read layout block bits region.Elements index is = refl
 dead_word_read layout block bits region.Period index is = absurd is
 dead_word_read layout block bits region.Phase index is = absurd is
+dead_word_read layout block bits region.Base index is = absurd is
 dead_word_read layout block bits region.Active index is = absurd is
 dead_word_read layout block bits region.Call index is = absurd is
 dead_word_read layout block bits region.Stopped index is = absurd is
@@ -229,6 +231,7 @@ module _ (layout : Layout) (shapes : ShapeLists) (heap : Heap) (part : ℕ → V
       (array, k, has, at, array_is_dead p s is waits array has.array_within in_block)
   dead_of_word p s is waits region.Period index w = absurd w
   dead_of_word p s is waits region.Phase index w = absurd w
+  dead_of_word p s is waits region.Base index w = absurd w
   dead_of_word p s is waits region.Active index w = absurd w
   dead_of_word p s is waits region.Call index w = absurd w
   dead_of_word p s is waits region.Stopped index w = absurd w

@@ -2,13 +2,11 @@
 -- taken.
 use Rattle.std.specs.Prelude.{ℕ, ◌≡◌, ◌≤◌, ◌<◌, ◌∷◌, [], if◌then◌else◌, length, ◌⊎◌, Contains, Option, None, Some, true}
 use Rattle.tide_layout.specs.Slots.{index_of_element, HasElement}
-use Rattle.tide_layout.specs.declared.region.Region.TheVariants as region
 use Rattle.tide_machine.specs.Duties.{is_growing}
 use Rattle.tide_machine.specs.May.{RunsAsMutator, MayCall, called, barrier_for}
 use Rattle.tide_machine.specs.Owed.{Owes, owed_word, without_word, owed_register, filled_register}
 use Rattle.tide_machine.specs.Words.{value_of, cell_named, count_of}
 use Rattle.tide_machine.specs.World.{World}
-use Rattle.tide_machine.specs.declared.view.Growth.TheVariants as growth
 use Rattle.tide_machine.specs.declared.view.View.{View}
 use Rattle.tide_model.specs.Applied.{place_of}
 use Rattle.tide_model.specs.History.{state_after}
@@ -21,6 +19,8 @@ use Rattle.tide_model.specs.declared.op.Reply.TheVariants.{Done, Seen}
 use Rattle.tide_model.specs.declared.val.Val.TheVariants.{Cell}
 use Rattle.tide_words.specs.forms.Reference.{array_word}
 use Rattle.tide_words.specs.forms.ValueWord.{val_word}
+use Rattle.tide_layout.specs.declared.region.Region.TheVariants as region
+use Rattle.tide_machine.specs.declared.view.Growth.TheVariants as growth
 
 -- an element's word is known, but for one that a growth copies; or GetProp saw its value
 abbrev pub element_view : Layout → ℕ → ℕ → ℕ → ℕ → Option Op → View → View
@@ -38,7 +38,7 @@ stored_element_view layout state me array place word None v = record v {
       ∷ without_word region.Elements (index_of_element layout array place) v.known;
 }
 stored_element_view layout state me array place word (Some (SetProp src key val)) v = record (called [] v) {
-  duty = barrier_for v.marks (cell_named (state.registers me src)) word;
+  duty = barrier_for (cell_named (state.registers me src)) word;
 }
 stored_element_view layout state me array place word (Some _) v = v
 

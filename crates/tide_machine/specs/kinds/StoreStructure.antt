@@ -3,11 +3,9 @@
 use Rattle.std.specs.Prelude.{ℕ, ◌≡◌, ◌+◌, ◌∷◌, ◌++◌, [], length, Contains, Option, None, Some}
 use Rattle.tide_call.specs.ShapeWord.{whole_word, IsShapeWord}
 use Rattle.tide_layout.specs.Slots.{index_of_element}
-use Rattle.tide_layout.specs.declared.region.Region.TheVariants as region
 use Rattle.tide_machine.specs.May.{RunsAsMutator, MayCall, called, barrier_for}
 use Rattle.tide_machine.specs.Owed.{Knows, owed_word, without_word}
 use Rattle.tide_machine.specs.World.{World}
-use Rattle.tide_machine.specs.declared.view.Growth.TheVariants as growth
 use Rattle.tide_machine.specs.declared.view.View.{View}
 use Rattle.tide_model.specs.History.{state_after}
 use Rattle.tide_model.specs.Layout.{Layout}
@@ -18,13 +16,15 @@ use Rattle.tide_model.specs.declared.op.Op.TheVariants.{Add}
 use Rattle.tide_model.specs.declared.op.Reply.TheVariants.{Done}
 use Rattle.tide_model.specs.declared.val.Val.TheVariants.{Cell}
 use Rattle.tide_words.specs.forms.ValueWord.{val_word}
+use Rattle.tide_layout.specs.declared.region.Region.TheVariants as region
+use Rattle.tide_machine.specs.declared.view.Growth.TheVariants as growth
 
 -- the growth is over, or Add made a link whose barrier is owed
 abbrev pub structured_view : State → ℕ → ℕ → Option Op → View → View
 structured_view state me cell None v =
     record v { growth = growth.Nothing; owed = without_word region.Structure cell v.owed; known = [] }
 structured_view state me cell (Some (Add src key val)) v =
-    record (called [] v) { duty = barrier_for v.marks cell (val_word (state.registers me val)) }
+    record (called [] v) { duty = barrier_for cell (val_word (state.registers me val)) }
 structured_view state me cell (Some _) v = v
 
 -- the structure's word is known

@@ -4,12 +4,10 @@ use Rattle.std.specs.Int.{bit_at}
 use Rattle.std.specs.Prelude.{ℕ, ◌≡◌, ◌+◌, ◌*◌, ◌-◌, ◌<◌, ◌≤◌, ◌∷◌, ◌++◌, [], suc, Contains, List, length, ◌==◌, if◌then◌else◌, Option, None, Some}
 use Rattle.tide_call.specs.ShapeWord.{IsShapeWord, whole_word}
 use Rattle.tide_layout.specs.Region.{cell_block_count}
-use Rattle.tide_layout.specs.declared.region.Region.TheVariants as region
 use Rattle.tide_machine.specs.May.{RunsAsMutator, MayCall, barrier_for}
 use Rattle.tide_machine.specs.Owed.{owed_word, owed_elements, Knows}
 use Rattle.tide_machine.specs.Words.{cell_named}
 use Rattle.tide_machine.specs.World.{World}
-use Rattle.tide_machine.specs.declared.view.Growth.TheVariants as growth
 use Rattle.tide_machine.specs.declared.view.View.{View}
 use Rattle.tide_machine.specs.kinds.LoadFree.{looked_view}
 use Rattle.tide_model.specs.History.{state_after}
@@ -24,6 +22,8 @@ use Rattle.tide_model.specs.declared.val.Val.{Val}
 use Rattle.tide_model.specs.declared.val.Val.TheVariants.{Cell}
 use Rattle.tide_words.specs.forms.Reference.{array_word}
 use Rattle.tide_words.specs.forms.ValueWord.{val_word}
+use Rattle.tide_layout.specs.declared.region.Region.TheVariants as region
+use Rattle.tide_machine.specs.declared.view.Growth.TheVariants as growth
 
 -- the array of a block of arrays that has this bit
 abbrev pub array_at : Layout → ℕ → ℕ → ℕ
@@ -40,7 +40,7 @@ grown_view layout state cell array value old next v = record v {
   owed = owed_word region.Structure cell next ∷ owed_word region.Array cell (array_word (Some array))
       ∷ owed_elements layout (properties_with state cell value) array (suc (length (state.cells cell).keys));
   growth = growth.Filling cell array old next;
-  duty = barrier_for v.marks cell (val_word value);
+  duty = barrier_for cell (val_word value);
   known = [];
   full = [];
 }

@@ -6,7 +6,7 @@ use Rattle.tide_machine.specs.Scanning.{Place}
 use Rattle.tide_machine.specs.declared.view.View.{View}
 use Rattle.tide_machine.specs.points.Links.{LinkAt}
 use Rattle.tide_model.specs.Cycle.{cycle_span}
-use Rattle.tide_model.specs.Graph.{IsRetained, no_cell}
+use Rattle.tide_model.specs.Graph.{IsRetained}
 use Rattle.tide_model.specs.History.{state_after}
 use Rattle.tide_model.specs.Layout.{Layout, cell_count}
 use Rattle.tide_model.specs.References.{IsLive}
@@ -16,6 +16,7 @@ use Rattle.tide_model.specs.declared.val.Val.TheVariants.{Cell}
 use Rattle.tide_words.specs.heap.Heap.{Heap}
 use Rattle.tide_words.specs.marking.Colours.{is_marking, IsMarked}
 use Rattle.tide_words.specs.marking.Marked.{is_marked}
+use Rattle.tide_model.specs.Old.{IsSpared}
 
 -- nothing but registers of this mutator names the cell, and it holds nothing
 pub record IsHidden (state : State) (p cell : ℕ) : Type 0 where
@@ -33,7 +34,7 @@ pub record AwaitsColour (layout : Layout) (heap : Heap) (log : List Event) (p ce
   pub is_new : is_born_in_cycle log cell ≡ true
   pub alive : IsLive (state_after layout log) cell
   pub white : is_marked heap cell ≡ false
-  pub kept : IsRetained (cycle_span layout log) no_cell cell
+  pub kept : IsRetained (cycle_span layout log) (IsSpared layout log) cell
   pub alone : (source : ℕ) → (cycle_span layout log).link source cell → ⊥
   pub hidden : IsHidden (state_after layout log) p cell
 
@@ -43,5 +44,7 @@ pub record RunningBornIsMarked (layout : Layout) (heap : Heap) (part : ℕ → V
       IsMarked heap cell ⊎ ((p : ℕ) × OwesColour (part p).duty cell)
   pub owed : is_marking heap ≡ true → (p cell : ℕ) → OwesColour (part p).duty cell → AwaitsColour layout heap log p cell
   pub alive : (p cell : ℕ) → OwesColour (part p).duty cell → IsLive (state_after layout log) cell
+  -- also where no cycle marks it isn't marked, since it was free
+  pub white : (p cell : ℕ) → OwesColour (part p).duty cell → is_marked heap cell ≡ false
   pub owner : ℕ → ℕ
   pub once : (p cell : ℕ) → OwesColour (part p).duty cell → owner cell ≡ p

@@ -1,7 +1,5 @@
 -- The point on links from black cells to unmarked ones, and who answers for them.
-use Rattle.std.specs.Prelude.{ℕ, ◌≡◌, ◌<◌, true, false, List, length, ◌⊎◌, Option, None, Some, Contains}
-use Rattle.tide_layout.specs.declared.region.Region.TheVariants as region
-use Rattle.tide_machine.specs.Duties.{OwesBarrier}
+use Rattle.std.specs.Prelude.{ℕ, ◌≡◌, ◌<◌, false, List, length, ◌⊎◌, Option, None, Some, Contains}
 use Rattle.tide_machine.specs.Scanning.{Place, slot, property, IsUnread, IsTrue}
 use Rattle.tide_machine.specs.declared.view.Scan.{Scan}
 use Rattle.tide_machine.specs.declared.view.View.{View}
@@ -12,8 +10,10 @@ use Rattle.tide_model.specs.State.{State}
 use Rattle.tide_model.specs.declared.entry.Event.{Event}
 use Rattle.tide_model.specs.declared.val.Val.TheVariants.{Cell}
 use Rattle.tide_words.specs.heap.Heap.{Heap}
-use Rattle.tide_words.specs.marking.Colours.{is_marking, IsBlack}
+use Rattle.tide_words.specs.marking.Colours.{IsBlack}
 use Rattle.tide_words.specs.marking.Marked.{is_marked}
+use Rattle.tide_machine.specs.Duties.{StillOwes}
+use Rattle.tide_layout.specs.declared.region.Region.TheVariants as region
 
 -- a live cell holds the other at this place
 abbrev pub LinkAt : State → ℕ → Place → ℕ → Type 0
@@ -29,18 +29,18 @@ ScanExcuses heap source place cell (Some scan) =
     (scan.cell ≡ source) × (IsTrue scan (heap region.Structure source) →
     ((scan.agreed ≡ false) × IsUnread scan place) ⊎ Contains scan.buffer cell)
 
--- the view answers for a link from a black cell to an unmarked one: it owes the barrier on the source, or scans it
+-- the view answers for a link from a black cell to an unmarked one: it owes the barrier on the source still, or scans it
 abbrev pub Excuses : Heap → ℕ → Place → ℕ → View → Type 0
-Excuses heap source place cell v = OwesBarrier v.duty source ⊎ ScanExcuses heap source place cell v.scan
+Excuses heap source place cell v = StillOwes heap v.duty source ⊎ ScanExcuses heap source place cell v.scan
 
 -- some participant does
 pub record IsExcused (heap : Heap) (part : ℕ → View) (source : ℕ) (place : Place) (cell : ℕ) : Type 0 where
   pub by : ℕ
   pub excuse : Excuses heap source place cell (part by)
 
--- a link from a black cell to an unmarked one stands only while someone answers for it
+-- a link from a black cell to an unmarked one stands only while someone answers for it, also where no cycle marks
 pub record RunningBlackPointsToMarked (layout : Layout) (heap : Heap) (part : ℕ → View) (log : List Event)
     : Type 0 where
-  pub excused : is_marking heap ≡ true → (source : ℕ) (place : Place) (cell : ℕ) →
+  pub excused : (source : ℕ) (place : Place) (cell : ℕ) →
       LinkAt (state_after layout log) source place cell → IsBlack heap source → is_marked heap cell ≡ false →
       IsExcused heap part source place cell
