@@ -14,6 +14,7 @@ pub fn region_of(name: &str) -> Option<Region> {
     let region = match name {
         "period" => Region::Period,
         "phase" => Region::Phase,
+        "base" => Region::Base,
         "active" => Region::Active,
         "call" => Region::Call,
         "stopped" => Region::Stopped,

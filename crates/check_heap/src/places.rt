@@ -12,7 +12,7 @@ fn size(layout: &Layout, region: Region) -> u32
 {
     let mutators = u32::from(layout.mutators());
     match region {
-        Region::Period | Region::Phase => 1,
+        Region::Period | Region::Phase | Region::Base => 1,
         Region::Active | Region::Call => mutators,
         Region::Stopped => mutators + u32::from(layout.visitors()),
         Region::Registers => mutators * u32::from(layout.registers()),

@@ -40,7 +40,7 @@ fn begin_over<W: Words>(words: &mut W, layout: &Layout) -> bool
     if marks || cycle >= LAST_CYCLE {
         return false;
     }
-    begin(words, layout);
+    begin(words, layout, true);
     true
 }
 

@@ -3,7 +3,7 @@ use Rattle.std.proofs.Common.{ℕ, ◌≡◌, ◌+◌, ◌<◌, refl, sym, ◌�
 use Rattle.check_visits.specs.Parts.{IsAtFreeze}
 use Rattle.tide_core.proofs.EntryLaws.{StandsBegin-next}
 use Rattle.tide_core.specs.Entered.{with_begin, HasBegun, HasPaused}
-use Rattle.tide_core.specs.FrozenWave.{FrozenWave}
+use Rattle.tide_core.specs.StaysBlack.{StaysBlack}
 use Rattle.tide_freeze.proofs.FrozenLaws.{MayEnter-by, newly_counted}
 use Rattle.tide_freeze.specs.Entering.{MayEnter, TellsVisits, with_entry}
 use Rattle.tide_heap.specs.Turns.{frozen_with, visits_entered, Freezes}
@@ -23,7 +23,8 @@ use Rattle.tide_model.specs.declared.entry.Event.{Event}
 use Rattle.std.specs.Prelude.{Contains}
 use Rattle.tide_machine.specs.World.{first_visitor}
 use Rattle.tide_table.proofs.Visits.{unentered-entered}
-use Rattle.tide_table.specs.Shown.{bare, was_black_in}
+use Rattle.tide_table.specs.Blacks.{was_black_in}
+use Rattle.tide_table.specs.Shown.{bare}
 use Rattle.tide_table.specs.VisitsTold.{unentered}
 use Rattle.tide_words.specs.heap.Heap.{SameIn, heap_of}
 use Rattle.tide_words.specs.marking.Colours.{is_black, is_marking, running_cycle}
@@ -63,10 +64,11 @@ nothing_told layout shapes v w freezes counted none =
 
 -- below, v is the collector's view before a pause, u after it, and x once the pause is entered
 module _ (layout : Layout) (shapes : ShapeLists) (v : View) (freeze : IsAtFreeze layout shapes v) (words : List ℕ) (count : ℕ)
+    (marks : is_marking (heap_of layout v.words) ≡ true)
     (paused : HasPaused layout (heap_of layout v.words) (heap_of layout words) count) where
   then : FrozenWith layout shapes (heap_of layout words) (v.seen ++ plain (Pause count) ∷ []) 0
   then = FrozenWith-entered layout shapes (heap_of layout v.words) (heap_of layout words) v.seen
-      (v.seen ++ plain (Pause count) ∷ []) 0 0 freeze.wave (pauses (heap_of layout words) count paused)
+      (v.seen ++ plain (Pause count) ∷ []) 0 0 freeze.wave (pauses (heap_of layout words) count marks paused)
 
   pub may_enter : MayEnter layout shapes (heap_of layout words) v.seen (Pause count)
   may_enter = MayEnter-by layout shapes (heap_of layout words) v.seen (Pause count) refl
@@ -78,6 +80,10 @@ module _ (layout : Layout) (shapes : ShapeLists) (v : View) (freeze : IsAtFreeze
       paused.stays_black in
       let blackened = paused.blackened in
       omega (arith, counted, blackened))
+
+  pub keeps_black : StaysBlack layout (was_black_in layout v) (heap_of layout words)
+  keeps_black = subst (λ (were : ℕ → Bool). StaysBlack layout were (heap_of layout words)) (sym freeze.blacks)
+      paused.stays_black
 
   pub paused_there : (x : View) → length words ≡ word_count layout → bare x ≡ bare v → x.words ≡ words →
       x.seen ≡ with_entry v.seen (Pause count) → was_black_in layout x ≡ is_black (heap_of layout x.words) →
@@ -98,13 +104,13 @@ module _ (layout : Layout) (shapes : ShapeLists) (v : View) (freeze : IsAtFreeze
 -- below, v is the collector's view before the first cycle began, and x once that is entered
 module _ (layout : Layout) (shapes : ShapeLists) (v : View) (freeze : IsAtFreeze layout shapes v) (words : List ℕ)
     (idle : is_marking (heap_of layout v.words) ≡ false) (first : running_cycle (heap_of layout v.words) ≡ 0)
-    (begun : HasBegun layout (heap_of layout v.words) (heap_of layout words)) where
+    (begun : HasBegun layout true (heap_of layout v.words) (heap_of layout words)) where
   clean : IsSwept layout v.seen
   clean = swept_at_first layout shapes v.seen freeze.wave.lawful (sym freeze.wave.cycle ∙ first)
 
-  after : FrozenWith layout shapes (heap_of layout words) (with_begin v.seen) 0
-  after = FrozenWith-entered layout shapes (heap_of layout v.words) (heap_of layout words) v.seen (with_begin v.seen) 0 0
-      freeze.wave (begins (heap_of layout words) idle clean begun)
+  after : FrozenWith layout shapes (heap_of layout words) (with_begin v.seen true) 0
+  after = FrozenWith-entered layout shapes (heap_of layout v.words) (heap_of layout words) v.seen
+      (with_begin v.seen true) 0 0 freeze.wave (begins true (heap_of layout words) idle clean begun)
 
   pub may_begin : MayEnter layout shapes (heap_of layout words) v.seen (Begin (begin_count v.seen + 1) true)
   may_begin = MayEnter-by layout shapes (heap_of layout words) v.seen (Begin (begin_count v.seen + 1) true) (
@@ -112,10 +118,10 @@ module _ (layout : Layout) (shapes : ShapeLists) (v : View) (freeze : IsAtFreeze
     StandsBegin-next layout shapes (heap_of layout v.words) v.seen
         (FrozenWave-of layout shapes (heap_of layout v.words) v.seen freeze.wave) idle clean,
   )
-      (FrozenWave-of layout shapes (heap_of layout words) (with_begin v.seen) after)
+      (FrozenWave-of layout shapes (heap_of layout words) (with_begin v.seen true) after)
 
   pub begun_there : (x : View) → length words ≡ word_count layout → bare x ≡ bare v → x.words ≡ words →
-      x.seen ≡ with_begin v.seen → was_black_in layout x ≡ is_black (heap_of layout x.words) →
+      x.seen ≡ with_begin v.seen true → was_black_in layout x ≡ is_black (heap_of layout x.words) →
       SameIn layout Stopped (heap_of layout v.words) (heap_of layout words) → IsAtFreeze layout shapes x
   begun_there x long same words_are seen blacks left = record {
     frozen = ap (λ (y : View). y.frozen) same ∙ freeze.frozen;

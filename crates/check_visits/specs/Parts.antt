@@ -7,7 +7,7 @@ use Rattle.tide_machine.specs.May.{Rests}
 use Rattle.tide_machine.specs.declared.view.View.{View}
 use Rattle.tide_model.specs.Layout.{Layout}
 use Rattle.tide_model.specs.Refused.{ShapeLists}
-use Rattle.tide_table.specs.Shown.{was_black_in}
+use Rattle.tide_table.specs.Blacks.{was_black_in}
 use Rattle.tide_table.specs.VisitsTold.{unentered}
 use Rattle.tide_words.specs.heap.Heap.{SameIn, heap_of}
 use Rattle.tide_words.specs.marking.Colours.{is_black}

@@ -41,6 +41,7 @@ pub record Turns (layout : Layout) (v u : View) : Type 0 where
   pub ticket : u.ticket ≡ v.ticket
   pub marks : u.marks ≡ v.marks
   pub cycle : u.cycle ≡ v.cycle
+  pub least : u.least ≡ v.least
   pub run : u.run ≡ v.run
   pub runs : u.runs ≡ true → v.period < v.ticket
   pub still : v.who < layout.mutators → v.visits ≡ 0 → u.visits ≡ 0
@@ -61,6 +62,7 @@ turned_ok layout cv v u ok later stays t = let p = t.period in let q = t.ticket 
   told = λ e. (let h = ok.told (sym q ∙ e) in record {
     marks = t.marks ∙ h.marks;
     cycle = t.cycle ∙ h.cycle;
+    least = t.least ∙ h.least;
     run = t.run ∙ h.run;
   });
   still = λ below. t.still below (ok.still below);
@@ -148,10 +150,18 @@ no_phase heap at index word apart = write-other_region heap at region.Phase inde
     other : (n : ℕ) → (n == 1) ≡ false → (1 == n) ≡ false
     other n e = grind (arith, nat_tests)
 
--- a participant's step leaves the words of the period and of the phase
+no_base : (heap : Heap) (at : Region) (index word : ℕ) → (tag at == 2) ≡ false →
+    write heap at index word region.Base 0 ≡ heap region.Base 0
+no_base heap at index word apart = write-other_region heap at region.Base index 0 word (other (tag at) apart)
+  where
+    other : (n : ℕ) → (n == 2) ≡ false → (2 == n) ≡ false
+    other n e = grind (arith, nat_tests)
+
+-- a participant's step leaves the words of the period, of the phase and of the base
 pub record Leaves (at : Region) : Type 0 where
   pub period : (tag at == 0) ≡ false
   pub phase : (tag at == 1) ≡ false
+  pub base : (tag at == 2) ≡ false
 
 -- a step that keeps the wave wherever this view makes it, as functions of the history before it and of the word found
 abbrev pub Law : Layout → ShapeLists → Region → ℕ → Act → (List Event → ℕ → View) →
@@ -226,6 +236,7 @@ allows layout shapes slots id me at index act after event word Tells is act_now 
                   (sym (no_phase h at index (acted act r) leaves.phase));
               cycle = run.cycle ∙ ap (λ (x : ℕ). running_cycle (λ at index. x))
                   (sym (no_phase h at index (acted act r) leaves.phase));
+              based = run.based ∙ sym (no_base h at index (acted act r) leaves.base);
               some_run = run.some_run;
             };
       },

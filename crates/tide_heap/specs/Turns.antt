@@ -22,6 +22,7 @@ use Rattle.tide_model.specs.declared.entry.Event.{Event}
 use Rattle.tide_heap.specs.Parties.{In, IsParty, longer, up_to}
 use Rattle.tide_words.specs.heap.Heap.{heap_of}
 use Rattle.tide_words.specs.marking.Colours.{is_marking, running_cycle}
+use Rattle.tide_words.specs.marking.Marked.{base_cycle}
 
 -- The collector's first view. The heap starts frozen, with words that are all 0, as if all had stopped in part 0.
 abbrev pub first_view : Layout → View
@@ -44,6 +45,7 @@ ticket_for seen u =
       run = u.run;
       marks = u.marks;
       cycle = u.cycle;
+      base = u.least;
     }
 
 -- a participant hears a ticket
@@ -120,6 +122,7 @@ opened layout run v = record v {
   run = run;
   marks = is_marking (heap_of layout v.words);
   cycle = running_cycle (heap_of layout v.words);
+  least = base_cycle (heap_of layout v.words);
   notes = [];
   ledger = 0;
   births = 0;

@@ -180,7 +180,7 @@ module _ (layout : Layout) (shapes : ShapeLists) (v : View) (op : Op) (cell slot
       )
 
   pub put_by : (u : View) → FollowsSome layout shapes (StoreLink cell slot (val_word value) (Some op)) v u →
-      HasMade layout shapes op (plan.StoreSlot cell slot value) Done v u [] (barrier_for v.marks cell (val_word value))
+      HasMade layout shapes op (plan.StoreSlot cell slot value) Done v u [] (barrier_for cell (val_word value))
   put_by u f = record {
     made = made_by layout shapes op (plan.StoreSlot cell slot value) Done None v u (linked_view cell (val_word value) v) f.1.log
         region.Slots place f.0 calling f.1.moment f.1.lawful f.1.own f.1.view
@@ -196,8 +196,6 @@ module _ (layout : Layout) (shapes : ShapeLists) (v : View) (op : Op) (cell slot
 
   pub put_with : (word : ℕ) → word ≡ val_word value → (u : View) →
       FollowsSome layout shapes (StoreLink cell slot word (Some op)) v u →
-      HasMade layout shapes op (plan.StoreSlot cell slot value) Done v u [] (barrier_for u.marks cell (val_word value))
+      HasMade layout shapes op (plan.StoreSlot cell slot value) Done v u [] (barrier_for cell (val_word value))
   put_with word is u f =
-      let h = subst (λ (x : ℕ). FollowsSome layout shapes (StoreLink cell slot x (Some op)) v u) is f in
-      subst (λ (m : Bool). HasMade layout shapes op (plan.StoreSlot cell slot value) Done v u []
-      (barrier_for m cell (val_word value))) (sym (ap (λ (x : View). x.marks) h.1.view)) (put_by u h)
+      put_by u (subst (λ (x : ℕ). FollowsSome layout shapes (StoreLink cell slot x (Some op)) v u) is f)

@@ -59,7 +59,7 @@ pub record HasTaken (layout : Layout) (shapes : ShapeLists) (op : Op) (growth : 
     : Type 0 where
   pub made : IsMade layout shapes op (plan_of growth) Done v (shown (grown_out u))
   pub stage : u.growth ≡ growing.Filling growth.addition.cell taken growth.old growth.next
-  pub duty : u.duty ≡ barrier_for v.marks growth.addition.cell (val_word growth.value)
+  pub duty : u.duty ≡ barrier_for growth.addition.cell (val_word growth.value)
   pub has : HasElement layout taken growth.addition.count
   pub properties : ℕ → Val
   pub owed : u.owed ≡ owed_word region.Structure growth.addition.cell growth.next

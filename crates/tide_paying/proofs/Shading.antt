@@ -1,7 +1,7 @@
 -- The barrier of a cell in which a reference was stored, step by step.
 use Rattle.std.proofs.Common.{ℕ, ◌≡◌, ◌<◌, sym, ◌∙◌, ap, subst, Bool, true, false, []}
 use Rattle.std.proofs.lemmas.Bool.{eq-eqb, ne_eqb}
-use Rattle.std.specs.Prelude.{◌&&◌, if◌then◌else◌}
+use Rattle.std.specs.Prelude.{if◌then◌else◌}
 use Rattle.tide_call.specs.declared.plan.Plan.{Plan}
 use Rattle.tide_machine.specs.Duties.{GrowsOn}
 use Rattle.tide_machine.specs.Kind.{LoadColour, PushBit, Regrey, StoreBorn}
@@ -22,7 +22,7 @@ use Rattle.tide_paying.specs.Made.{HasMade, IsMade, Shown, shown}
 use Rattle.tide_paying.specs.Shading.{Owing, HasShaded}
 use Rattle.tide_steps.specs.Follows.{Follows, MayStep}
 use Rattle.tide_words.specs.declared.forms.colours.Colour.TheVariants.{Black, White}
-use Rattle.tide_words.specs.forms.ColourWord.{colour_word}
+use Rattle.tide_words.specs.forms.ColourWord.{colour_word, is_black_in}
 
 module _ (layout : Layout) (shapes : ShapeLists) (v : View) (cell : ℕ) where
   runs_there : (d : Duty) → Owing layout v d → (w : World) → w.part v.who ≡ v → RunsAsMutator layout w v.who
@@ -39,12 +39,12 @@ module _ (layout : Layout) (shapes : ShapeLists) (v : View) (cell : ℕ) where
     grown = grows_none (duty.Barrier cell) owing w is;
   }
 
-  pub may_regrey : (word cycle : ℕ) → Owing layout v (duty.Regrey cell word) → cell < cell_count layout → cycle ≡ v.cycle →
-      MayStep layout shapes v (Regrey cell cycle)
-  may_regrey word cycle owing within same w running is = record {
+  pub may_regrey : (word cycle : ℕ) → Owing layout v (duty.Regrey cell word) → is_black_in v.least word ≡ true →
+      cell < cell_count layout → cycle ≡ v.cycle → MayStep layout shapes v (Regrey cell word cycle)
+  may_regrey word cycle owing black within same w running is = record {
     runner = runs_there (duty.Regrey cell word) owing w is;
-    word = word;
     owed = ap (λ (x : View). x.duty) is ∙ owing.duty;
+    black = ap (λ (x : View). is_black_in x.least word) is ∙ black;
     within = within;
     in_cycle = same ∙ sym (ap (λ (x : View). x.cycle) is);
     grown = grows_none (duty.Regrey cell word) owing w is;
@@ -57,12 +57,19 @@ module _ (layout : Layout) (shapes : ShapeLists) (v : View) (cell : ℕ) where
   }
 
 -- what each step leaves
-module _ (layout : Layout) (shapes : ShapeLists) (v u : View) (cell read black : ℕ) where
-  pub looked_black : (f : Follows layout shapes (LoadColour cell) v read u) → black ≡ colour_word v.cycle Black →
-      read ≡ black → u.duty ≡ duty.Regrey cell read
-  looked_black f is same = ap (λ (x : View). x.duty) f.view
-      ∙ ap (λ (b : Bool). if b then duty.Regrey cell read else duty.Nothing)
-      (eq-eqb read (colour_word v.cycle Black) (same ∙ is))
+module _ (layout : Layout) (shapes : ShapeLists) (v u : View) (cell read : ℕ)
+    (f : Follows layout shapes (LoadColour cell) v read u) where
+  pub looked_black : is_black_in v.least read ≡ true → u.duty ≡ duty.Regrey cell read
+  looked_black is = ap (λ (x : View). x.duty) f.view
+      ∙ ap (λ (b : Bool). if b then duty.Regrey cell read else duty.Nothing) is
+
+  -- one that didn't find its cell black owes nothing more
+  pub looked_shaded : is_black_in v.least read ≡ false → HasShaded v u
+  looked_shaded isnt = record {
+    shown = ap shown f.view;
+    owed = ap (λ (x : View). x.owed) f.view;
+    duty = ap (λ (x : View). x.duty) f.view ∙ ap (λ (b : Bool). if b then duty.Regrey cell read else duty.Nothing) isnt;
+  }
 
 -- what a mutator owes after a step that leaves what a call shows
 pub owing_after : (layout : Layout) (v u : View) (before after : Duty) → Owing layout v before → shown u ≡ shown v →
@@ -75,41 +82,35 @@ owing_after layout v u before after owing same duty = record {
 }
 
 -- a barrier that looked and found its cell black
-module _ (layout : Layout) (shapes : ShapeLists) (v u : View) (cell read cycle black : ℕ)
+module _ (layout : Layout) (shapes : ShapeLists) (v u : View) (cell read cycle : ℕ)
     (owing : Owing layout v (duty.Barrier cell)) (f : Follows layout shapes (LoadColour cell) v read u)
-    (same_cycle : cycle ≡ u.cycle) (is_black : black ≡ colour_word cycle Black) where
-  looked_shown : shown u ≡ shown v
-  looked_shown = ap shown f.view
+    (same_cycle : cycle ≡ v.cycle) (black : is_black_in v.least read ≡ true) where
+  pub cycle_still : cycle ≡ u.cycle
+  cycle_still = same_cycle ∙ sym (ap (λ (x : View). x.cycle) f.view)
 
-  cycle_then : cycle ≡ v.cycle
-  cycle_then = same_cycle ∙ ap (λ (s : Shown). s.kept.cycle) looked_shown
+  pub looked_owing : Owing layout u (duty.Regrey cell read)
+  looked_owing = owing_after layout v u (duty.Barrier cell) (duty.Regrey cell read) owing (ap shown f.view)
+      (looked_black layout shapes v u cell read f black)
 
-  black_then : black ≡ colour_word v.cycle Black
-  black_then = is_black ∙ ap (λ (n : ℕ). colour_word n Black) cycle_then
-
-  pub looked_owing : read ≡ black → Owing layout u (duty.Regrey cell read)
-  looked_owing is = owing_after layout v u (duty.Barrier cell) (duty.Regrey cell read) owing looked_shown
-      (looked_black layout shapes v u cell read black f black_then is)
-
-  pub may_regrey_it : read ≡ black → cell < cell_count layout → MayStep layout shapes u (Regrey cell cycle)
-  may_regrey_it is within = may_regrey layout shapes u cell read cycle (looked_owing is) within same_cycle
+  pub may_regrey_it : cell < cell_count layout → MayStep layout shapes u (Regrey cell read cycle)
+  may_regrey_it within = may_regrey layout shapes u cell read cycle looked_owing
+      (ap (λ (x : View). is_black_in x.least read) f.view ∙ black) within cycle_still
 
 -- a barrier that found its cell black still, and made it grey
-module _ (layout : Layout) (shapes : ShapeLists) (v u : View) (cell read cycle black word : ℕ)
-    (owing : Owing layout v (duty.Regrey cell word)) (f : Follows layout shapes (Regrey cell cycle) v read u)
-    (is_black : black ≡ colour_word cycle Black) where
-  pub regreyed_owing : read ≡ black → Owing layout u (duty.Push cell)
+module _ (layout : Layout) (shapes : ShapeLists) (v u : View) (cell read cycle word : ℕ)
+    (owing : Owing layout v (duty.Regrey cell word)) (f : Follows layout shapes (Regrey cell word cycle) v read u) where
+  pub regreyed_owing : read ≡ word → Owing layout u (duty.Push cell)
   regreyed_owing is = owing_after layout v u (duty.Regrey cell word) (duty.Push cell) owing (ap shown f.view)
       (ap (λ (x : View). x.duty) f.view ∙ ap (λ (b : Bool). if b then duty.Push cell else duty.Nothing)
-      (eq-eqb read (colour_word cycle Black) (is ∙ is_black)))
+      (eq-eqb read word is))
 
   -- one that didn't find it so owes no bit
-  pub regreyed_shaded : (read ≡ black → ⊥) → HasShaded v u
+  pub regreyed_shaded : (read ≡ word → ⊥) → HasShaded v u
   regreyed_shaded other = record {
     shown = ap shown f.view;
     owed = ap (λ (x : View). x.owed) f.view;
     duty = ap (λ (x : View). x.duty) f.view ∙ ap (λ (b : Bool). if b then duty.Push cell else duty.Nothing)
-        (ne_eqb read (colour_word cycle Black) (λ same. other (same ∙ sym is_black)));
+        (ne_eqb read word other);
   }
 
 -- a barrier of two steps
@@ -127,18 +128,14 @@ may_colour layout shapes v cell word owing same w running is = record {
 }
 
 -- what a store in a cell left: its barrier is owed
-module _ (layout : Layout) (v : View) (cell word : ℕ) (owing : Owing layout v (barrier_for v.marks cell word)) where
-  pub owes_barrier : v.marks ≡ true → is_cell_word word ≡ true → Owing layout v (duty.Barrier cell)
-  owes_barrier marks is = record {
+module _ (layout : Layout) (v : View) (cell word : ℕ) (owing : Owing layout v (barrier_for cell word)) where
+  pub owes_barrier : is_cell_word word ≡ true → Owing layout v (duty.Barrier cell)
+  owes_barrier is = record {
     is_mutator = owing.is_mutator;
     runs = owing.runs;
     growth = owing.growth;
-    duty = owing.duty ∙ ap (λ (b : Bool). if b then duty.Barrier cell else duty.Nothing) (both v.marks marks);
+    duty = owing.duty ∙ ap (λ (b : Bool). if b then duty.Barrier cell else duty.Nothing) is;
   }
-    where
-      both : (m : Bool) → m ≡ true → (m && is_cell_word word) ≡ true
-      both true is_true = is
-      both false is_true = absurd (cc)
 
 -- a call that owes a barrier, and what it is once that is paid
 module _ (layout : Layout) (shapes : ShapeLists) (op : Op) (does : Plan) (reply : Reply) (v u : View) where

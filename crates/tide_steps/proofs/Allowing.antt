@@ -73,26 +73,27 @@ visited_by : (layout : Layout) (shapes : ShapeLists) (kind : Kind) → is_visit 
 visited_by layout shapes (Blacken cell cycle) visit w me may = may.runner.is_visitor
 visited_by layout shapes _ visit w me may = absurd (cc)
 
--- no word of the period or of the phase is one of what is dead in a block
+-- no word of the period, of the phase or of the base is one of what is dead in a block
 dead_words : (layout : Layout) (at : Region) (index block bits : ℕ) → IsDeadWord layout block bits at index → Leaves at
 dead_words layout region.Period index block bits word = absurd word
 dead_words layout region.Phase index block bits word = absurd word
-dead_words layout _ index block bits word = record { period = refl; phase = refl }
+dead_words layout region.Base index block bits word = absurd word
+dead_words layout _ index block bits word = record { period = refl; phase = refl; base = refl }
 
--- a work leaves the words of the period and of the phase
+-- a work leaves the words of the period, of the phase and of the base
 left_words : (layout : Layout) (shapes : ShapeLists) (kind : Kind) → is_work kind ≡ true → (w : World) (me : ℕ) →
     IsAllowed layout shapes w me kind → Leaves (region_of kind)
 left_words layout shapes (SwapGrey grey block) works w me may =
     elim may.is_grey [
-      | inl is ↦ subst Leaves (sym is) record { period = refl; phase = refl }
-      | inr is ↦ subst Leaves (sym is) record { period = refl; phase = refl }
+      | inl is ↦ subst Leaves (sym is) record { period = refl; phase = refl; base = refl }
+      | inr is ↦ subst Leaves (sym is) record { period = refl; phase = refl; base = refl }
     ]
 left_words layout shapes Split works w me may = absurd (cc)
 left_words layout shapes (Join ticket) works w me may = absurd (cc)
 left_words layout shapes Activate works w me may = absurd (cc)
 left_words layout shapes (ZeroWord at index) works w me may =
     dead_words layout at index may.block may.sweeps.sweeping.dead may.word
-left_words layout shapes _ works w me may = record { period = refl; phase = refl }
+left_words layout shapes _ works w me may = record { period = refl; phase = refl; base = refl }
 
 -- the word that a step found is nothing that the wave looks at
 wave_found : (kind : Kind) (layout : Layout) (shapes : ShapeLists) (heap : Heap) (part : ℕ → View) (log : List Event)
@@ -153,6 +154,7 @@ module _ (layout : Layout) (shapes : ShapeLists) (v : View) (kind : Kind) where
           ticket = ap (λ (x : Core). x.ticket) c;
           marks = ap (λ (x : Core). x.marks) c;
           cycle = ap (λ (x : Core). x.cycle) c;
+          least = ap (λ (x : Core). x.least) c;
           run = ap (λ (x : Core). x.run) c;
           runs = λ _. later;
           still = λ below none. ap (λ (x : Core). x.visits) c ∙ still_by (is_visit kind) refl below none;

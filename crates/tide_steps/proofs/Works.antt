@@ -43,6 +43,7 @@ pub record Core : Type 0 where
   pub run : ℕ
   pub marks : Bool
   pub cycle : ℕ
+  pub least : ℕ
   pub earlier : List Event
   pub told : List Event
   pub runs : Bool
@@ -62,6 +63,7 @@ core v = record {
   run = v.run;
   marks = v.marks;
   cycle = v.cycle;
+  least = v.least;
   earlier = v.earlier;
   told = v.told;
   runs = v.runs;
@@ -187,7 +189,7 @@ core_kept layout shapes log me (LoadLink cell slot None) read v is = refl
 core_kept layout shapes log me (LoadLink cell slot (Some op)) read v is = refl
 core_kept layout shapes log me (StoreLink cell slot word made) read v is = refl
 core_kept layout shapes log me (LoadColour cell) read v is = refl
-core_kept layout shapes log me (Regrey cell cycle) read v is = refl
+core_kept layout shapes log me (Regrey cell old cycle) read v is = refl
 core_kept layout shapes log me (PushBit cell) read v is = refl
 core_kept layout shapes log me (LoadFree block made) read v is = searched log block made read v
 core_kept layout shapes log me (TakeFree block k None) read v is = refl

@@ -31,6 +31,7 @@ impl Pass {
         self.numbers.run = ticket.run;
         self.numbers.marking = ticket.marking;
         self.numbers.cycle = ticket.cycle;
+        self.numbers.base = ticket.base;
         let seat = ticket.seat;
         heap.table.shared.join_seat::<Hears>(&mut self.seat, seat);
     }
@@ -48,7 +49,7 @@ impl Pass {
         ensures told { IsPrefix self.old.seat.me.0.told self.new.seat.me.0.seen }
     {
         // The word has the number that its ticket tells: the next part is opened after a freeze, which waits for this
-        // participant's note. Phase and cycle are those of the ticket till then (`NumbersRead`: `told`,
+        // participant's note. Phase, cycle and base are those of the ticket till then (`NumbersRead`: `told`,
         // tide_machine/specs/points/Seen.antt).
         let period = heap.table.shared.load::<Begins>(&mut self.seat, 0);
         if self.numbers.begun != self.numbers.part {

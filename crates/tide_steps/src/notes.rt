@@ -19,8 +19,8 @@ pub struct Note {
     ghost done_is: { done ≡ seat.me.0.done },
 }
 
-/// What a participant begins a part with: the number of the part, how many calls each mutator has in it, and whether a
-/// cycle marks, and which.
+/// What a participant begins a part with: the number of the part, how many calls each mutator has in it, whether a cycle
+/// marks, and which, and from which cycle on colours count.
 #[derive(Drop)]
 pub struct Ticket {
     pub(crate) seat: Seat<(), View>,
@@ -28,12 +28,14 @@ pub struct Ticket {
     pub(crate) run: u32,
     pub(crate) marking: bool,
     pub(crate) cycle: u64,
+    pub(crate) base: u64,
     ghost kind: { seat.me.0.role ≡ role.Ticket },
     ghost slotless: { seat.me.1 ≡ [] },
     ghost period_is: { period ≡ seat.me.0.period },
     ghost run_is: { run ≡ seat.me.0.run },
     ghost marking_is: { marking ≡ seat.me.0.marks },
     ghost cycle_is: { cycle ≡ seat.me.0.cycle },
+    ghost base_is: { base ≡ seat.me.0.least },
     ghost few_cycles: { cycle < 2 ^ 62 },
 }
 
@@ -65,13 +67,21 @@ impl Note {
 
 impl Ticket {
     /// The ticket with this seat and its numbers.
-    pub fn new(seat: Seat<(), View>, period: u32, run: u32, marking: bool, cycle: u64) -> Ticket
+    pub fn new(
+        seat: Seat<(), View>,
+        period: u32,
+        run: u32,
+        marking: bool,
+        cycle: u64,
+        base: u64,
+    ) -> Ticket
         requires kind { seat.me.0.role ≡ role.Ticket }
         requires slotless { seat.me.1 ≡ [] }
         requires period { period ≡ seat.me.0.period }
         requires run { run ≡ seat.me.0.run }
         requires marking { marking ≡ seat.me.0.marks }
         requires cycle { cycle ≡ seat.me.0.cycle }
+        requires base { base ≡ seat.me.0.least }
         requires few_cycles { cycle < 2 ^ 62 }
         ensures { result.seat ≡ seat }
     {
@@ -81,6 +91,7 @@ impl Ticket {
             run,
             marking,
             cycle,
+            base,
         }
     }
 
@@ -110,5 +121,12 @@ impl Ticket {
         ensures { result ≡ self.now.seat.me.0.cycle }
     {
         self.cycle
+    }
+
+    /// The cycle from which on colours count: the last full one that began, or 1 before the first.
+    pub fn base(&self) -> u64
+        ensures { result ≡ self.now.seat.me.0.least }
+    {
+        self.base
     }
 }

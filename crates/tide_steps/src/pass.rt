@@ -17,6 +17,8 @@ pub struct Numbers {
     pub run: u32,
     pub marking: bool,
     pub cycle: u64,
+    /// The cycle from which on colours count, as that ticket said.
+    pub base: u64,
     /// The number of the part in which it first began last.
     pub begun: u32,
     /// How many cells were born to it in that part, and how many it made black.
@@ -47,6 +49,7 @@ impl Pass {
             run: 0,
             marking: false,
             cycle: 0,
+            base: 0,
             begun: 0,
             born: 0,
             visits: 0,

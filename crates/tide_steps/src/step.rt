@@ -20,7 +20,7 @@ pub(crate) enum Step {
     LoadLink(u32, u8, Made),
     StoreLink(u32, u8, u64, Made),
     LoadColour(u32),
-    Regrey(u32, u64),
+    Regrey(u32, u64, u64),
     PushBit(u32),
     LoadFree(u32, Made),
     TakeFree(u32, u32, Made),

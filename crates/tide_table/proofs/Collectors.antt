@@ -267,6 +267,7 @@ module _ (layout : Layout) (shapes : ShapeLists) (words : List ℕ) (views : Lis
               period = refl;
               marks = refl;
               cycle = refl;
+              least = refl;
               run = refl;
               seen = prefix_refl v.seen;
               ledger = ledger_of;
@@ -325,6 +326,7 @@ module _ (layout : Layout) (shapes : ShapeLists) (words : List ℕ) (views : Lis
         period = refl;
         marks = refl;
         cycle = refl;
+        least = refl;
         run = refl;
         seen = prefix_refl v.seen;
         ledger = ledger_of;
@@ -372,6 +374,7 @@ module _ (layout : Layout) (shapes : ShapeLists) (words : List ℕ) (views : Lis
         period = refl;
         marks = refl;
         cycle = refl;
+        least = refl;
         run = refl;
         seen = prefix_push v.seen event;
         ledger = ledger_of;
@@ -504,6 +507,7 @@ module _ (layout : Layout) (shapes : ShapeLists) (words : List ℕ) (views : Lis
         period = refl;
         marks = refl;
         cycle = refl;
+        based = refl;
         some_run = λ marks visitors. (may marks visitors).0;
       }
     where
@@ -540,6 +544,7 @@ module _ (layout : Layout) (shapes : ShapeLists) (words : List ℕ) (views : Lis
         period = refl;
         marks = refl;
         cycle = refl;
+        least = refl;
         run = refl;
         seen = long.one;
         ledger = (let t = ledger_of in
@@ -603,6 +608,7 @@ module _ (layout : Layout) (shapes : ShapeLists) (words : List ℕ) (views : Lis
         period = run.period;
         marks = run.marks;
         cycle = run.cycle;
+        based = run.based;
         some_run = run.some_run;
       })
     where
@@ -624,6 +630,7 @@ module _ (layout : Layout) (shapes : ShapeLists) (words : List ℕ) (views : Lis
     told = λ _. record {
       marks = ap (λ (x : View). x.marks) (own layout shapes words views log me v k there is);
       cycle = ap (λ (x : View). x.cycle) (own layout shapes words views log me v k there is);
+      least = ap (λ (x : View). x.least) (own layout shapes words views log me v k there is);
       run = ap (λ (x : View). x.run) (own layout shapes words views log me v k there is);
     };
   }

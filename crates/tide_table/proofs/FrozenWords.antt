@@ -1,9 +1,9 @@
 -- The wave at a freeze speaks of the words of the layout alone.
 use Rattle.std.proofs.Common.{ℕ, ◌≡◌, ◌≤◌, sym, ◌∙◌, ap, arith, Bool, true, List, []}
 use Rattle.std.specs.Prelude.{◌&&◌, not}
-use Rattle.tide_core.specs.FrozenWave.{is_born_in_cycle}
+use Rattle.tide_core.specs.FrozenWave.{is_of_visit}
 use Rattle.tide_layout.specs.declared.region.Region.{Region}
-use Rattle.tide_layout.specs.declared.region.Region.TheVariants.{Phase, Period, Colour, Call, Swept}
+use Rattle.tide_layout.specs.declared.region.Region.TheVariants.{Base, Phase, Period, Colour, Call, Swept}
 use Rattle.tide_machine.proofs.steps.SweepsKept.{swept_kept, told_kept, is_taken}
 use Rattle.tide_machine.specs.Frozen.{FrozenWith}
 use Rattle.tide_model.proofs.NumberLaws.{count_where-same}
@@ -11,7 +11,7 @@ use Rattle.tide_model.specs.History.{state_after}
 use Rattle.tide_model.specs.Layout.{Layout, cell_count}
 use Rattle.tide_model.specs.Refused.{ShapeLists}
 use Rattle.tide_model.specs.declared.entry.Event.{Event}
-use Rattle.tide_words.proofs.marking_laws.ColourLaws.{is_marking-same, running_cycle-same, is_marked-same, is_black-same}
+use Rattle.tide_words.proofs.marking_laws.ColourLaws.{Counts-same, is_marking-same, running_cycle-same, is_marked-same, is_black-same}
 use Rattle.tide_words.proofs.marking_laws.MarkingLaws.{Marking-same}
 use Rattle.tide_words.specs.heap.Heap.{Heap, SameIn, Reads, heap_of}
 use Rattle.tide_words.specs.marking.Colours.{is_marking, is_black}
@@ -32,17 +32,25 @@ FrozenWith-same layout shapes old new history unentered same wave = record {
   cycle = running_cycle-same layout old new (same Phase) ∙ wave.cycle;
   period = same Period 0 (omega arith) ∙ wave.period;
   calls = λ who within. same Call who within ∙ wave.calls who within;
-  full = λ marks. wave.full (before marks);
+  old = record {
+    old = λ when cell within is. is_marked-same layout old new cell (same Base) (same Colour) within
+        ∙ wave.old.old (λ marks. when (is_marking-same layout old new (same Phase) ∙ marks)) cell within is;
+    rests = λ idle cell within marked. wave.old.rests (sym (is_marking-same layout old new (same Phase)) ∙ idle) cell within
+        (sym (is_marked-same layout old new cell (same Base) (same Colour) within) ∙ marked);
+    counts = λ marks. Counts-same layout old new (same Phase) (same Base) (wave.old.counts (before marks));
+    soon = (let soon = wave.old.soon in let base = same Base 0 (omega arith) in let cycle = running_cycle-same layout old new (same Phase) in
+        omega (arith, soon, base, cycle));
+  };
   retained = λ marks cell within marked. wave.retained (before marks) cell within
-      (sym (is_marked-same layout old new cell (same Phase) (same Colour) within) ∙ marked);
+      (sym (is_marked-same layout old new cell (same Base) (same Colour) within) ∙ marked);
   born = λ marks cell within born.
-      is_marked-same layout old new cell (same Phase) (same Colour) within ∙ wave.born (before marks) cell within born;
+      is_marked-same layout old new cell (same Base) (same Colour) within ∙ wave.born (before marks) cell within born;
   counted = λ marks.
       let few = wave.counted (before marks) in
-      let count = count_where-same (λ cell. is_black new cell && not (is_born_in_cycle history cell))
-      (λ cell. is_black old cell && not (is_born_in_cycle history cell)) (cell_count layout)
-      (λ cell within. ap (λ (black : Bool). black && not (is_born_in_cycle history cell))
-      (is_black-same layout old new cell (same Phase) (same Colour) within)) in
+      let count = count_where-same (λ cell. is_black new cell && is_of_visit layout history cell)
+      (λ cell. is_black old cell && is_of_visit layout history cell) (cell_count layout)
+      (λ cell within. ap (λ (black : Bool). black && is_of_visit layout history cell)
+      (is_black-same layout old new cell (same Base) (same Colour) within)) in
       omega (arith, few, count);
   swept = swept_kept layout old new (same Phase 0 (omega arith)) (same Swept) wave.swept;
   clean = λ block within taken has. wave.clean block within
@@ -72,7 +80,7 @@ FrozenWith-more layout shapes heap history few more fewer wave = record {
   cycle = wave.cycle;
   period = wave.period;
   calls = wave.calls;
-  full = wave.full;
+  old = wave.old;
   retained = wave.retained;
   born = wave.born;
   counted = λ marks. (let c = wave.counted marks in omega (arith, c, fewer));

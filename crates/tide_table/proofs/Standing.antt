@@ -46,7 +46,8 @@ use Rattle.tide_sched.specs.Paces.{last_run}
 use Rattle.tide_table.proofs.Openings.{leads_to_opening}
 use Rattle.tide_table.proofs.Spans.{marks_read, span_entered, span_none, span_of}
 use Rattle.tide_table.specs.Started.{IsStarted}
-use Rattle.tide_table.specs.Shown.{bare, was_black_in}
+use Rattle.tide_table.specs.Blacks.{BlacksStay, was_black_in}
+use Rattle.tide_table.specs.Shown.{bare}
 use Rattle.tide_table.proofs.Visits.{HasEntered, all_entered-blacks, all_entered-has}
 use Rattle.tide_table.specs.Standing.{HasCollected, HasEnteredVisits, LeavesRest, MayEnterVisits, RunsPart, StandsStill}
 use Rattle.tide_table.specs.VisitsTold.{AreTold, all_entered, unentered, visits_told}
@@ -131,6 +132,10 @@ StandsStill-froze layout shapes v w runs counts f = subst (StandsStill layout sh
   stopped = λ index below. refl;
   blacks = λ opened. refl;
 })
+
+-- what was black in words that stood still is so
+pub blacks_stay : (layout : Layout) (shapes : ShapeLists) (v : View) → StandsStill layout shapes v → BlacksStay layout v
+blacks_stay layout shapes v still some cell within was = ap (λ (black : ℕ → Bool). black cell) (still.blacks some) ∙ was
 
 -- the heap stands still at the start
 pub StandsStill-started : (layout : Layout) (shapes : ShapeLists) (v : View) → IsStarted layout shapes v →

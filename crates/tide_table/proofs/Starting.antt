@@ -5,7 +5,7 @@ use Rattle.atomic_table.specs.Seated.{TableId}
 use Rattle.tide_layout.proofs.Places.{place_in-below}
 use Rattle.tide_layout.specs.Region.{size_of, word_count, place_in, block_count}
 use Rattle.tide_layout.specs.declared.region.Region.{Region}
-use Rattle.tide_layout.specs.declared.region.Region.TheVariants.{Active, Free, Stopped}
+use Rattle.tide_layout.specs.declared.region.Region.TheVariants.{Active, Base, Free, Stopped}
 use Rattle.tide_machine.proofs.freezes.Entering.{FrozenWave-of}
 use Rattle.tide_machine.proofs.freezes.Freezing.{FrozenMachine-first}
 use Rattle.tide_machine.specs.Frozen.{newcomer, FrozenWith}
@@ -52,17 +52,21 @@ filled_more layout region word count v w u long within h is = record {
 }
 
 -- the words of the empty heap meet the wave before anything happened
-pub started : (layout : Layout) (shapes : ShapeLists) (one two v : View) → HasFilled layout Active 1 layout.mutators (first_view layout) one →
+pub started : (layout : Layout) (shapes : ShapeLists) (zero one two v : View) → HasFilled layout Base 1 1 (first_view layout) zero →
+    HasFilled layout Active 1 layout.mutators zero one →
     HasFilled layout Free 18446744073709551615 (block_count layout) one two → is_but_next two v → IsStarted layout shapes v
-started layout shapes one two v active free next =
+started layout shapes zero one two v base active free next =
+    let words_zero : zero.words ≡ base.words = ap (λ (x : View). x.words) base.view in
     let words_one : one.words ≡ active.words = ap (λ (x : View). x.words) active.view in
-    let reads : Reads layout free.words empty_heap = Reads-empty layout (first_view layout).words one.words free.words refl
-    (subst (λ (ws : List ℕ). IsFilledTo layout Active 1 layout.mutators (first_view layout).words ws) (sym words_one)
-    active.filled) free.filled in
+    let reads : Reads layout free.words empty_heap = Reads-empty layout (first_view layout).words zero.words one.words free.words refl
+    (subst (λ (ws : List ℕ). IsFilledTo layout Base 1 1 (first_view layout).words ws) (sym words_zero) base.filled)
+    (subst (λ (ws : List ℕ). IsFilledTo layout Active 1 layout.mutators zero.words ws) (sym words_one) active.filled)
+    free.filled in
     let at_first : FrozenWith layout shapes (heap_of layout free.words) [] 0 =
     FrozenWith-read layout shapes free.words empty_heap [] 0 reads (FrozenMachine-first layout shapes).wave in
     subst (IsStarted layout shapes)
-    (sym (next.1 ∙ ap (λ (x : View). record x { next = next.0 }) (free.view ∙ ap (λ (x : View). record x { words = free.words }) active.view)))
+    (sym (next.1 ∙ ap (λ (x : View). record x { next = next.0 }) (free.view
+    ∙ ap (λ (x : View). record x { words = free.words }) (active.view ∙ ap (λ (x : View). record x { words = active.words }) base.view))))
     record {
       frozen = refl;
       period = refl;
@@ -75,4 +79,5 @@ started layout shapes one two v active free next =
       swept = at_first.swept;
       told = at_first.swept_told;
       stopped = λ index within. reads.each Stopped index within ∙ sym (zero_word layout Stopped index within);
+      blacks = λ some. absurd (omega (arith, some));
     }

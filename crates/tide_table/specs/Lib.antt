@@ -1,3 +1,4 @@
+pub mod Blacks
 pub mod Openings
 pub mod Plays
 pub mod Shown

@@ -1,13 +1,11 @@
 -- What a frozen heap shows besides its words.
-use Rattle.std.specs.Prelude.{ℕ, Bool, List, []}
+use Rattle.std.specs.Prelude.{ℕ, List, []}
 use Rattle.std.specs.Borrow.{MutBor, GName}
 use Rattle.atomic_table.specs.Seated.{TableId}
 use Rattle.tide_machine.specs.declared.view.View.{View}
 use Rattle.tide_model.specs.Layout.{Layout}
 use Rattle.tide_model.specs.Refused.{ShapeLists}
 use Rattle.tide_model.specs.declared.entry.Event.{Event}
-use Rattle.tide_words.specs.heap.Heap.{heap_of}
-use Rattle.tide_words.specs.marking.Colours.{is_black}
 use Rattle.tide_table.specs.declared.collector.Collector.{Collector}
 
 -- whose it is: which borrow of the collector, which seat of which table, the collector's view but for what words and
@@ -46,7 +44,3 @@ besides collector layout shapes = record {
   seen = collector.now.seat.me.0.seen;
   base = collector.now.seat.me.0.base;
 }
-
--- the cells that were black at the last entry, or where the freeze began
-abbrev pub was_black_in : Layout → View → ℕ → Bool
-was_black_in layout v = is_black (heap_of layout v.base)

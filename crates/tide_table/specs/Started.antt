@@ -11,6 +11,7 @@ use Rattle.tide_machine.specs.points.Sweeps.{SweptAreBelow, SweptAreTold}
 use Rattle.tide_model.specs.Layout.{Layout}
 use Rattle.tide_model.specs.Refused.{ShapeLists}
 use Rattle.tide_steps.specs.declared.pass.Pass.{Pass}
+use Rattle.tide_table.specs.Blacks.{BlacksStay}
 use Rattle.tide_words.specs.heap.Filled.{IsFilledTo}
 use Rattle.tide_words.specs.heap.Heap.{SameIn, heap_of}
 
@@ -43,3 +44,4 @@ pub record IsStarted (layout : Layout) (shapes : ShapeLists) (v : View) : Type 0
   pub swept : SweptAreBelow layout (heap_of layout v.words)
   pub told : SweptAreTold layout (heap_of layout v.words) []
   pub stopped : SameIn layout Stopped (heap_of layout v.stood) (heap_of layout v.words)
+  pub blacks : BlacksStay layout v

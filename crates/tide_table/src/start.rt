@@ -53,9 +53,11 @@ impl<S: ShapeTable + Drop> Start<S> {
             run: 0,
             marking: false,
             cycle: 0,
+            base: 0,
             born: 0,
             visits: [0; 8],
         };
+        collector.fill(&heap, Region::Base, 1, 1);
         collector.fill(&heap, Region::Active, mutators, 1);
         let blocks = heap.layout().block_count();
         collector.fill(&heap, Region::Free, blocks, u64::MAX);

@@ -4,6 +4,7 @@ ghost use Rattle.tide_model.specs.History.{is_call_of, is_open, state_after};
 ghost use Rattle.tide_model.specs.Lawful.{Stands};
 ghost use Rattle.tide_machine.specs.World.{first_visitor};
 ghost use Rattle.tide_heap.specs.Turns.{visits_entered, visits_over};
+ghost use Rattle.tide_table.specs.Blacks.{BlacksStay};
 ghost use Rattle.tide_words.specs.heap.Heap.{heap_of};
 ghost use Rattle.tide_words.specs.heap.Reading.{ReadsAs};
 
@@ -42,6 +43,7 @@ impl<'a, S: HeapShapes> Frozen<'a, S> {
         requires reads { ReadsAs self.old.heap.now.key.layout (S.lists self.old.heap.now.key.shapes)
             (heap_of self.old.heap.now.key.layout self.old.collector.now.seat.me.0.words)
             (state_after self.old.heap.now.key.layout self.old.collector.now.seat.me.0.seen) }
+        requires blacks { BlacksStay self.old.heap.now.key.layout self.old.collector.now.seat.me.0 }
         ensures same { (self.new.collector.ghost_name ≡ self.old.collector.ghost_name)
             × (self.new.heap.now ≡ self.old.heap.now) }
         ensures entered { self.new.collector.now.seat.me.0

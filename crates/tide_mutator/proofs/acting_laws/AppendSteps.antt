@@ -184,10 +184,10 @@ module _ (layout : Layout) (shapes : ShapeLists) (v : View) (op : Op) (addition 
         }
 
     abbrev added_view : View
-    added_view = record (called [] v) { duty = barrier_for v.marks addition.cell (val_word value) }
+    added_view = record (called [] v) { duty = barrier_for addition.cell (val_word value) }
 
     added : (u : View) → FollowsSome layout shapes (StoreStructure addition.cell whole (Some op)) v u →
-        HasMade layout shapes op does Done v u [] (barrier_for v.marks addition.cell (val_word value))
+        HasMade layout shapes op does Done v u [] (barrier_for addition.cell (val_word value))
     added u f =
         let here = append_here f.1.log region.Structure addition.cell f.0 f.1.moment in
         let state = state_after layout f.1.log in
@@ -196,7 +196,7 @@ module _ (layout : Layout) (shapes : ShapeLists) (v : View) (op : Op) (addition 
         f.1.view ∙ ap (λ (o : Op). record (with_entry f.1.log (Some event)
         (structured_view state v.who addition.cell (Some o) v)) { found = f.0 }) here.same
         ∙ ap (λ (x : Val). record (with_entry f.1.log (Some event)
-        (record (called [] v) { duty = barrier_for v.marks addition.cell (val_word x) })) { found = f.0 })
+        (record (called [] v) { duty = barrier_for addition.cell (val_word x) })) { found = f.0 })
         (sym here.is_value) in record {
           made = made_by layout shapes op does Done None v u added_view f.1.log region.Structure addition.cell f.0
               calling f.1.moment f.1.lawful f.1.own view
@@ -303,10 +303,10 @@ module _ (layout : Layout) (shapes : ShapeLists) (v : View) (op : Op) (addition 
     pub added_by : (after : View) →
         FollowsSome layout shapes (StoreStructure addition.cell structure (Some op)) u after →
         HasMade layout shapes op (plan.Append addition array value) Done v after []
-        (barrier_for v.marks addition.cell (val_word value))
+        (barrier_for addition.cell (val_word value))
     added_by after g =
         let made = subst (λ (x : View). HasMade layout shapes op (plan.Append addition array value) Done x after []
-        (barrier_for x.marks addition.cell (val_word value))) is_stored
+        (barrier_for addition.cell (val_word value))) is_stored
         (added layout shapes u op addition array value has calling_still planned_still knows_it after
         (subst (λ (x : ℕ). FollowsSome layout shapes (StoreStructure addition.cell x (Some op)) u after) same g)) in
         record {

@@ -236,11 +236,11 @@ module _ (layout : Layout) (shapes : ShapeLists) (v : View) (op : Op) (array pla
           }
 
       abbrev written_view : View
-      written_view = record (called [] v) { duty = barrier_for v.marks cell (val_word value) }
+      written_view = record (called [] v) { duty = barrier_for cell (val_word value) }
 
       wrote : (u : View) → FollowsSome layout shapes (StoreElement array place (val_word value) (Some op)) v u →
           HasMade layout shapes op (plan.StoreElement cell array place value) Done v u []
-          (barrier_for v.marks cell (val_word value))
+          (barrier_for cell (val_word value))
       wrote u f =
           let here = write_here f.1.log f.0 f.1.moment in
           let state = state_after layout f.1.log in
@@ -249,7 +249,7 @@ module _ (layout : Layout) (shapes : ShapeLists) (v : View) (op : Op) (array pla
           f.1.view ∙ ap (λ (o : Op). record (with_entry f.1.log (Some event)
           (stored_element_view layout state v.who array place (val_word value) (Some o) v)) { found = f.0 }) here.same
           ∙ ap (λ (x : Val). record (with_entry f.1.log (Some event)
-          (record (called [] v) { duty = barrier_for v.marks (cell_named x) (val_word value) })) { found = f.0 })
+          (record (called [] v) { duty = barrier_for (cell_named x) (val_word value) })) { found = f.0 })
           here.of.source in record {
             made = made_by layout shapes op (plan.StoreElement cell array place value) Done None v u written_view f.1.log
                 region.Elements at f.0 calling f.1.moment f.1.lawful f.1.own view
@@ -266,9 +266,6 @@ module _ (layout : Layout) (shapes : ShapeLists) (v : View) (op : Op) (array pla
 
         pub put_property_by : (u : View) → FollowsSome layout shapes (StoreElement array place word (Some op)) v u →
             HasMade layout shapes op (plan.StoreElement cell array place value) Done v u []
-            (barrier_for u.marks cell (val_word value))
+            (barrier_for cell (val_word value))
         put_property_by u f =
-            let h = subst (λ (x : ℕ). FollowsSome layout shapes (StoreElement array place x (Some op)) v u) is f in
-            let made = wrote u h in
-            subst (λ (marks : Bool). HasMade layout shapes op (plan.StoreElement cell array place value) Done v u []
-            (barrier_for marks cell (val_word value))) (sym (ap (λ (k : Kept). k.marks) made.made.kept)) made
+            wrote u (subst (λ (x : ℕ). FollowsSome layout shapes (StoreElement array place x (Some op)) v u) is f)

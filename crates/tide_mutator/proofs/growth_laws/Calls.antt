@@ -69,7 +69,7 @@ pub taken_before : (layout : Layout) (shapes : ShapeLists) (op : Op) (growth : G
 taken_before layout shapes op growth v u w taken h t = record {
   made = made_looked v u h layout op shapes (plan_of growth) Done (shown (grown_out w)) t.made;
   stage = t.stage;
-  duty = t.duty ∙ ap (λ (x : View). barrier_for x.marks growth.addition.cell (val_word growth.value)) h.is;
+  duty = t.duty;
   has = t.has;
   properties = t.properties;
   owed = t.owed;
@@ -121,15 +121,12 @@ module _ (layout : Layout) (shapes : ShapeLists) (op : Op) (growth : Growth) (v 
   -- once it has replaced the array, the call has its entry and owes the barrier alone
   module _ (w : View) (r : HasReplaced u w) where
     pub made_replaced : HasMade layout shapes op (plan_of growth) Done v w []
-        (barrier_for v.marks growth.addition.cell (val_word growth.value))
+        (barrier_for growth.addition.cell (val_word growth.value))
     made_replaced = record {
       made = subst (λ (s : Shown). IsMade layout shapes op (plan_of growth) Done v s) (sym r.shown) t.made;
       owed = r.owed;
       duty = r.duty ∙ t.duty;
     }
 
-    pub owing_replaced : Owing layout w (barrier_for w.marks growth.addition.cell (val_word growth.value))
-    owing_replaced =
-        subst (λ (marks : Bool). Owing layout w (barrier_for marks growth.addition.cell (val_word growth.value)))
-        (sym (ap (λ (k : Kept). k.marks) made_replaced.made.kept))
-        (owing_made layout shapes op (plan_of growth) Done v w _ calling made_replaced)
+    pub owing_replaced : Owing layout w (barrier_for growth.addition.cell (val_word growth.value))
+    owing_replaced = owing_made layout shapes op (plan_of growth) Done v w _ calling made_replaced

@@ -26,5 +26,6 @@ open-requires g c =
           (λ block within taken. IsSwept-none layout block);
       stopped = s.stopped;
       entered = ap unentered s.visited;
+      blacks = s.blacks;
       may = λ marks visitors. absurd (let clash : false ≡ true = marks-same layout shapes heap [] s.wave ∙ marks in cc);
     }

@@ -48,9 +48,11 @@ enter_begin-requires-clause-may g c =
     let f = c.begin.new.words in
     let u = f.collector.now.seat.me.0 in
     let rest = c.begin.ensures.same_rest in
-    let begun : HasBegun layout (heap_of layout v.words) (heap_of layout u.words) = record {
+    let begun : HasBegun layout true (heap_of layout v.words) (heap_of layout u.words) = record {
       others = c.begin.ensures.others;
+      base = c.begin.ensures.base;
       cycle = c.begin.ensures.cycle;
+      marks = c.begin.ensures.marks;
       unmarked = c.begin.ensures.unmarked;
       marking = c.begin.ensures.marking;
     } in
@@ -64,6 +66,9 @@ enter_begin-requires-clause-may g c =
     (subst (λ (s : ShapeLists). MayEnter layout s (heap_of layout u.words) v.seen (Begin (begin_count v.seen + 1) true))
     (sym (ap (λ (r : Besides). r.whose.shapes) rest ∙ k.ensures.shapes))
     (may_begin layout shapes v freeze u.words idle first begun)))
+
+pub enter_begin-requires-clause-stays_black : goal.enter_begin-requires-clause-stays_black
+enter_begin-requires-clause-stays_black g c = λ eden. absurd (cc)
 
 pub returns-clause-freeze : goal.returns-clause-freeze
 returns-clause-freeze g c =
@@ -80,9 +85,11 @@ returns-clause-freeze g c =
     let f = c.begin.new.words in
     let u = f.collector.now.seat.me.0 in
     let rest = c.begin.ensures.same_rest in
-    let begun : HasBegun layout (heap_of layout v.words) (heap_of layout u.words) = record {
+    let begun : HasBegun layout true (heap_of layout v.words) (heap_of layout u.words) = record {
       others = c.begin.ensures.others;
+      base = c.begin.ensures.base;
       cycle = c.begin.ensures.cycle;
+      marks = c.begin.ensures.marks;
       unmarked = c.begin.ensures.unmarked;
       marking = c.begin.ensures.marking;
     } in
@@ -98,7 +105,7 @@ returns-clause-freeze g c =
     ∙ ap (λ (h : List Event). with_entry h (Begin (k.result.0 + 1) true)) (ap (λ (r : Besides). r.seen) rest)
     ∙ ap (λ (n : ℕ). with_entry v.seen (Begin n true)) (sym number))
     (sym (ap (λ (l : Layout). is_black (heap_of l x.base)) there) ∙ c.enter_begin.ensures.blacks)
-    (LeavesParticipants-begun layout (heap_of layout v.words) (heap_of layout u.words) begun.others).stopped
+    (LeavesParticipants-begun layout true (heap_of layout v.words) (heap_of layout u.words) begun.others).stopped
 
 pub returns-clause-marks : goal.returns-clause-marks
 returns-clause-marks g c =
@@ -112,9 +119,11 @@ returns-clause-marks g c =
     let f = c.begin.new.words in
     let u = f.collector.now.seat.me.0 in
     let rest = c.begin.ensures.same_rest in
-    let begun : HasBegun layout (heap_of layout v.words) (heap_of layout u.words) = record {
+    let begun : HasBegun layout true (heap_of layout v.words) (heap_of layout u.words) = record {
       others = c.begin.ensures.others;
+      base = c.begin.ensures.base;
       cycle = c.begin.ensures.cycle;
+      marks = c.begin.ensures.marks;
       unmarked = c.begin.ensures.unmarked;
       marking = c.begin.ensures.marking;
     } in

@@ -1,4 +1,5 @@
 -- What a pause left is what the opening asks.
+use Rattle.std.proofs.Common.{ℕ, Bool, sym, ◌∙◌, ap}
 use Rattle.tide_machine.proofs.freezes.Entering.{FrozenWave-of}
 use Rattle.tide_words.specs.heap.Heap.{heap_of}
 use Rattle.check_visits.proofs.freezing.open_next.Goals as goal
@@ -21,6 +22,10 @@ open-requires-clause-told g c = c.requires.freeze.wave.swept_told
 
 pub open-requires-clause-stopped : goal.open-requires-clause-stopped
 open-requires-clause-stopped g c = c.requires.freeze.stopped
+
+pub open-requires-clause-blacks : goal.open-requires-clause-blacks
+open-requires-clause-blacks g c = λ some cell within was.
+    ap (λ (black : ℕ → Bool). black cell) (sym c.requires.freeze.blacks) ∙ was
 
 pub open-requires-clause-may : goal.open-requires-clause-may
 open-requires-clause-may g c = λ marks visitors. (c.requires.some, c.requires.shared)

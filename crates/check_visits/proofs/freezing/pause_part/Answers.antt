@@ -8,6 +8,7 @@ use Rattle.tide_machine.specs.declared.view.View.{View}
 use Rattle.tide_model.specs.History.{state_after}
 use Rattle.tide_model.specs.Layout.{Layout, cell_count}
 use Rattle.tide_model.specs.Refused.{ShapeLists}
+use Rattle.tide_table.specs.Blacks.{BlacksStay}
 use Rattle.tide_table.specs.Shown.{bare}
 use Rattle.tide_words.specs.heap.Heap.{heap_of}
 use Rattle.tide_words.specs.heap.Reading.{ReadsAs}
@@ -34,6 +35,14 @@ enter_visits-requires-clause-reads g c =
     (sym listed)
     (subst (λ (x : View). ReadsAs h.key.layout shapes (heap_of h.key.layout x.words) (state_after h.key.layout x.seen))
     (sym k.ensures.frozen.view) k.ensures.frozen.wave.marking.reads))
+
+pub enter_visits-requires-clause-blacks : goal.enter_visits-requires-clause-blacks
+enter_visits-requires-clause-blacks g c =
+    let h = c.args.heap.now in
+    let k = c.freeze-frozen in
+    let there : k.result.heap.now.key.layout ≡ h.key.layout = ap (λ x. x.key.layout) k.ensures.heap in
+    subst (λ (l : Layout). BlacksStay l k.result.collector.now.seat.me.0) (sym there)
+    (subst (BlacksStay h.key.layout) (sym k.ensures.frozen.view) (λ some cell within was. was))
 
 pub pause_within-solved-requires-clause-freeze : goal.pause_within-solved-requires-clause-freeze
 pause_within-solved-requires-clause-freeze g c =

@@ -50,9 +50,7 @@ shade_for-requires-clause-owing g c = λ κs outlives.
     c.requires.room.element c.requires.calling c.requires.planned c.val_word.result c.val_word.ensures
     c.store_element.new.self.seat.me.0 (one.0, one.1.follows) c.shape_word.result c.shape_word.ensures u
     (other.0, other.1.follows) in
-    subst (λ (marks : Bool). Owing h.key.layout u (barrier_for marks c.args.addition.cell (val_word c.args.value)))
-    (sym (ap (λ (k : Kept). k.marks) made.made.kept))
-    (owing_made h.key.layout shapes c.args.op does Done v u _ c.requires.calling made)
+    owing_made h.key.layout shapes c.args.op does Done v u _ c.requires.calling made
 
 pub store_call-requires-clause-mutator : goal.store_call-requires-clause-mutator
 store_call-requires-clause-mutator g c =

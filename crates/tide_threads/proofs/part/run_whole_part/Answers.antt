@@ -16,7 +16,7 @@ use Rattle.tide_model.specs.declared.entry.Event.{Event}
 use Rattle.tide_report.specs.Ends.{TellsEnds}
 use Rattle.tide_shape.specs.Lists.{lists_of}
 use Rattle.tide_steps.specs.declared.notes.Note.{Note}
-use Rattle.tide_table.proofs.Standing.{no_ends}
+use Rattle.tide_table.proofs.Standing.{blacks_stay, no_ends}
 use Rattle.tide_threads.proofs.Acting.{callers_at, note_among}
 use Rattle.tide_threads.proofs.Shares.{AllIn-turns, AllStandBy-frozen, RanPartBy-frozen}
 use Rattle.tide_threads.proofs.Standing.{MayEnterVisits-part, RunsPart-taken, seen_part}
@@ -47,6 +47,7 @@ open-requires g c =
       stopped = s.stopped;
       may = c.requires.opens.may;
       entered = c.requires.opens.entered;
+      blacks = blacks_stay layout shapes v s;
     }
 
 pub play_part-requires-clause-own : goal.play_part-requires-clause-own

@@ -1,7 +1,7 @@
 -- Why a new heap meets the rule.
 use Rattle.std.proofs.Common.{◌≡◌, ℕ, List, subst, ◌∙◌, ap, replicate}
 use Rattle.tide_layout.specs.Region.{block_count}
-use Rattle.tide_layout.specs.declared.region.Region.TheVariants.{Active, Free}
+use Rattle.tide_layout.specs.declared.region.Region.TheVariants.{Active, Base, Free}
 use Rattle.tide_machine.specs.declared.view.View.{View}
 use Rattle.tide_table.proofs.Starting.{next_trans, started}
 use Rattle.tide_table.proofs.Tabled.{opens_at}
@@ -26,15 +26,17 @@ pub returns-clause-started : goal.returns-clause-started
 returns-clause-started g c =
     let layout = c.args.layout in
     let seat = c.in-Ok-of_words.seat in
-    let one = c.fill.new.self.seat.me.0 in
-    let two = c.fill-2.new.self.seat.me.0 in
+    let zero = c.fill.new.self.seat.me.0 in
+    let one = c.fill-2.new.self.seat.me.0 in
+    let two = c.fill-3.new.self.seat.me.0 in
     let made = c.in-Ok-of_words.ensures.4 in
     let first : seat.me.0 ≡ first_view layout = ap (λ (m : View × List (ℕ × Unit {0})). m.0) made in
     let mutators : c.from-mutators.result ≡ layout.mutators = cc in
-    started layout (g.S.ShapeTable.lists c.args.shapes) one two c.seat_all-2.new.self.seat.me.0
-    (subst (λ (x : View × ℕ). HasFilled layout Active 1 x.1 x.0 one) (λ i. (first i, mutators i)) c.fill.ensures.filled)
+    started layout (g.S.ShapeTable.lists c.args.shapes) zero one two c.seat_all-2.new.self.seat.me.0
+    (subst (λ (x : View). HasFilled layout Base 1 1 x zero) first c.fill.ensures.filled)
+    (subst (λ (n : ℕ). HasFilled layout Active 1 n zero one) mutators c.fill-2.ensures.filled)
     (subst (λ (n : ℕ). HasFilled layout Free 18446744073709551615 n one two)
     (c.block_count-blocks.ensures.count ∙ ap block_count c.layout.ensures)
-    c.fill-2.ensures.filled)
+    c.fill-3.ensures.filled)
     (next_trans two c.seat_all.new.self.seat.me.0 c.seat_all-2.new.self.seat.me.0 c.seat_all.ensures.seated.0
     c.seat_all-2.ensures.seated.0)
