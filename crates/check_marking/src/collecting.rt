@@ -39,16 +39,16 @@ impl Room {
     }
 }
 
-/// Begins a cycle where none marks, and answers whether it did.
-pub fn begin_in(heap: &mut Heap) -> bool
-    ensures begun { result ≡ true → HasBegun heap.old.layout (heap_of heap.old.layout heap.old.words)
+/// Begins a cycle where none marks, a full one or an Eden one, and answers whether it did.
+pub fn begin_in(heap: &mut Heap, full: bool) -> bool
+    ensures begun { result ≡ true → HasBegun heap.old.layout full (heap_of heap.old.layout heap.old.words)
         (heap_of heap.old.layout heap.new.words) }
 {
     let (cycle, marks) = word_phase(heap.words.load(heap.layout.place(Region::Phase, 0)));
     if marks || cycle >= LAST_CYCLE {
         return false;
     }
-    begin(&mut heap.words, &heap.layout);
+    begin(&mut heap.words, &heap.layout, full);
     true
 }
 
@@ -104,14 +104,16 @@ pub fn sweep_all(alloc: Global, heap: &mut Heap) -> Result<Vec<u32>, AllocError>
     Ok(blocks)
 }
 
-/// Runs a whole cycle, whose pauses have this budget and of which the last one converges. Answers whether it did.
+/// Runs a whole cycle, a full one or an Eden one, whose pauses have this budget and of which the last one converges.
+/// Answers whether it did.
 pub fn collect(
     alloc: Global,
     heap: &mut Heap,
     room: &mut Room,
+    full: bool,
     budget: u32,
 ) -> Result<bool, AllocError> {
-    if !begin_in(heap) {
+    if !begin_in(heap, full) {
         return Ok(false);
     }
     let mut solved = pause_in(heap, &mut room.list, budget);

@@ -2,10 +2,10 @@
 //!
 //! The lines of a row: `layout ..`, and the facts of `Heap::say`, which may come between cycles too. Then
 //!
-//! - `begin`; `pause BUDGET` is answered with `converged` or `more` and the number of visits, `end` with how many cells
-//!   it freed, and `sweep` with the blocks in which something was dead;
+//! - `begin` begins a full cycle, and `begin eden` an Eden one; `pause BUDGET` is answered with `converged` or `more` and
+//!   the number of visits, `end` with how many cells it freed, and `sweep` with the blocks in which something was dead;
 //! - `cycle BUDGET` does all of that, with pauses of this budget until one converges, and is answered with what it
-//!   `kept` and the cells that it `freed`;
+//!   `kept` and the cells that it `freed`; `eden BUDGET` does the same in an Eden cycle;
 //! - `report` tells that of all cycles, and `shared` the cells that have their bit in a shared grey word;
 //! - `REGION NUMBER`, `slot CELL.SLOT` and `pair TABLE.PLACE` are answered with what is there.
 ghost use Rattle.std.specs.Prelude.{◌+◌, ◌≤◌, length};
@@ -75,16 +75,16 @@ fn answer_within(
     what: &str,
     budget: u32,
 ) -> Result<Option<String>, AllocError> {
-    if what == "cycle" {
-        return if collect(alloc, heap, room, budget)? {
-            last_text(alloc, &room.report)
-        } else {
-            Ok(None)
+    if what == "pause" {
+        return match pause_in(heap, &mut room.list, budget) {
+            Some(solved) => answered(solved_text(alloc, solved)),
+            None => Ok(None),
         };
     }
-    match pause_in(heap, &mut room.list, budget) {
-        Some(solved) => answered(solved_text(alloc, solved)),
-        None => Ok(None),
+    if collect(alloc, heap, room, what == "cycle", budget)? {
+        last_text(alloc, &room.report)
+    } else {
+        Ok(None)
     }
 }
 
@@ -96,7 +96,7 @@ fn answer_step(
     what: &str,
 ) -> Result<Option<String>, AllocError> {
     match what {
-        "begin" => nothing_if(alloc, begin_in(heap)),
+        "begin" => nothing_if(alloc, begin_in(heap, true)),
         "end" => match end_in(heap, &mut room.report) {
             Some(freed) => answered(number_text(alloc, u64::from(freed))),
             None => Ok(None),
@@ -122,7 +122,8 @@ impl Answers for Cycles {
         }
         match (&mut self.heap, words) {
             (Some(heap), [what]) => answer_step(alloc, heap, &mut self.room, what),
-            (Some(heap), [what @ ("pause" | "cycle"), budget]) => match number(budget) {
+            (Some(heap), ["begin", "eden"]) => nothing_if(alloc, begin_in(heap, false)),
+            (Some(heap), [what @ ("pause" | "cycle" | "eden"), budget]) => match number(budget) {
                 Some(budget) => answer_within(alloc, heap, &mut self.room, what, budget),
                 None => Ok(None),
             },
