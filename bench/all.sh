@@ -41,6 +41,7 @@ table operations python3 bench/operations.py
 table mutators python3 bench/mutators.py
 table allocations python3 bench/allocations.py
 table pauses python3 bench/pauses.py
+table eden python3 bench/eden.py
 table squares python3 bench/squares.py
 table visitors python3 bench/visitors.py crates/riptide/out/riptide 5
 table peers python3 bench/peers/peers.py

@@ -10,7 +10,8 @@ some way through the freezes, in which all of this holds:
 - each reply is the one of a plain store from which just the cells went that the text says, and in which a block is swept by
   the operation that finds nothing free in it, by the freeze that next begins a cycle before it does, and by a must;
 - a cycle frees nothing that is retained where it ends, keeps nothing that was held by nothing while it ran, and what it
-  keeps holds nothing that it frees;
+  keeps holds nothing that it frees; an Eden cycle, which begins in no must and whose number is no multiple of four, keeps
+  all that lived at the last end, as if that were held;
 - what it kept and freed adds up, and so do the live cells at the end;
 - it begins where the schedule says, and ends at the latest where the schedule says.
 
@@ -67,6 +68,11 @@ def closed(roots, links, pairs, members):
         kept |= more
 
 
+def is_full_cycle(number, must):
+    """Whether the cycle of this number is a full one where it begins in such a freeze."""
+    return must or number % 4 == 0
+
+
 class Run:
     """A run as far as it was followed."""
 
@@ -76,7 +82,7 @@ class Run:
         self.count = len(work["mutators"])
         self.done, self.retry, self.told = [0] * self.count, [False] * self.count, [0] * self.count
         self.ended = 0
-        self.span = None
+        self.span, self.spared = None, set()
         self.in_cycle = self.since_end = 0
 
     def shares(self):
@@ -123,9 +129,10 @@ class Run:
                     break
         return must or not any(self.store.active)
 
-    def begin(self):
+    def begin(self, must):
         self.store.sweep_all()
         self.span = held(self.store)
+        self.spared = set() if is_full_cycle(self.ended + 1, must) else self.store.old
         self.in_cycle = 0
 
     def end(self):
@@ -139,9 +146,12 @@ class Run:
         left = set(store.cells) - gone
         if len(left) != kept:
             raise Wrong("kept and freed don't add up")
+        if gone & self.spared:
+            raise Wrong("an Eden cycle frees an old cell")
         if closed(*held(store)) & gone:
             raise Wrong("a retained cell is freed")
-        if not left <= closed(*self.span):
+        roots, *others = self.span
+        if not left <= closed(roots | self.spared, *others):
             raise Wrong("a cell is kept that nothing held")
         _, links, pairs, members = held(store)
         if closed(left, links, pairs, members) & gone:
@@ -172,7 +182,7 @@ def freezes(run, must):
         is_due = run.span is None and 0 < trigger <= run.since_end
         if must or is_due:
             way = copy.deepcopy(way)
-            way.begin()
+            way.begin(must)
             for ended in pauses(way, must):
                 if must:
                     ended.store.sweep_all()

@@ -140,15 +140,17 @@ class Made(judge.Run):
         """A pause, after which the cycle may end: it keeps what is retained, and some of what was while it ran."""
         live, now = set(self.store.cells), judge.held(self.store)
         luck = self.draw.choice([0, 0.5, 1])
-        more = {cell for cell in judge.closed(*self.span) & live if self.draw.random() < luck}
+        span = judge.closed(self.span[0] | self.spared, *self.span[1:])
+        more = self.spared | {cell for cell in span & live if self.draw.random() < luck}
         kept = judge.closed(now[0] | more, *now[1:])
         stopped = self.shares()[0]
-        if has_to_end or len(kept) <= self.black + stopped + self.in_cycle and self.draw.random() < 0.5:
+        most = self.black + stopped + self.in_cycle + len(self.spared)
+        if has_to_end or len(kept) <= most and self.draw.random() < 0.5:
             freed = sorted(live - kept)
             self.store.free(set(freed))
             line = f"cycle {len(self.cycles) + 1} kept {len(kept)} freed {len(freed)}"
             self.cycles.append(line + ":" * bool(freed) + "".join(f" #{cell}" for cell in freed))
-            self.span, self.since_end = None, 0
+            self.ended, self.span, self.since_end = self.ended + 1, None, 0
         self.black += stopped
 
     def text(self):
@@ -157,7 +159,7 @@ class Made(judge.Run):
             if self.span is not None:
                 self.pause(must or self.shares()[1] == 0)
             if must or self.span is None and 0 < self.work["trigger"] <= self.since_end:
-                self.begin()
+                self.begin(must)
                 self.black = 0
                 self.pause(must)
                 if must:
@@ -262,10 +264,15 @@ def changed(text, draw):
     return "".join(line + "\n" for line in lines)
 
 
+def drawn(seed):
+    """A workload and its document: of each five an aging one."""
+    return judge_threads.aging(seed) if seed % 5 == 4 else judge_threads.mixed(seed)
+
+
 def tiny(seed):
     """A short workload in which mutators meet often, and its document."""
     draw = random.Random(f"tiny {seed}")
-    work, _ = judge_threads.mixed(seed)
+    work, _ = drawn(seed)
     work["mutators"] = [ops[:draw.choice([3, 5, 8])] for ops in work["mutators"][:draw.choice([2, 2, 3])]]
     for ops in work["mutators"]:
         ops[:0] = [("alloc", 0, draw.choice([0, 1])), ("strong", 0, 0), ("sget", 0, 0), ("claim", 0)][:draw.randint(0, 4)]
@@ -359,6 +366,69 @@ NEAR = {
     "there is room": (True, "blocks = [1, 0, 0, 0, 0]", "blocks = [1, 1, 0, 0, 0]"),
 }
 
+# The first three of these cycles are Eden cycles. The second keeps #0, which is old and nothing holds, and the new #1, which
+# that one holds; the third frees a new cell, and the fourth, a full one, all three that are left.
+EDEN = """registers = 2
+blocks = [1, 0, 0, 0, 0]
+period = 4
+headroom = 100
+trigger = 1
+
+[[mutator]]
+ops = [
+  "alloc r0 0", "set r1 1", "set r1 2", "set r1 3", "alloc r1 0", "put r0 0 r1", "drop r1", "drop r0",
+  "set r1 1", "set r1 2", "set r1 3", "set r1 4", "alloc r1 0", "drop r1", "set r1 1",
+  "alloc r1 0", "drop r1", "set r1 1", "set r1 2",
+]
+"""
+
+EDEN_TEXT = """mutator 0
+alloc r0 0 = #0
+set r1 1 = ok
+set r1 2 = ok
+set r1 3 = ok
+alloc r1 0 = #1
+put r0 0 r1 = ok
+drop r1 = ok
+drop r0 = ok
+set r1 1 = ok
+set r1 2 = ok
+set r1 3 = ok
+set r1 4 = ok
+alloc r1 0 = #2
+drop r1 = ok
+set r1 1 = ok
+alloc r1 0 = #3
+drop r1 = ok
+set r1 1 = ok
+set r1 2 = ok
+retire = ok
+cycle 1 kept 1 freed 0
+cycle 2 kept 2 freed 0
+cycle 3 kept 2 freed 1: #2
+cycle 4 kept 0 freed 3: #0 #1 #3
+cycle 5 kept 0 freed 0
+live 0
+"""
+
+# as above
+EDEN_NEAR = {
+    "an Eden cycle frees an old cell": (True, "cycle 3 kept 2 freed 1: #2\ncycle 4 kept 0 freed 3: #0 #1 #3",
+                                        "cycle 3 kept 1 freed 2: #1 #2\ncycle 4 kept 0 freed 2: #0 #3"),
+    "an Eden cycle frees what an old cell holds": (
+        False, "cycle 2 kept 2 freed 0\ncycle 3 kept 2 freed 1: #2\ncycle 4 kept 0 freed 3: #0 #1 #3",
+        "cycle 2 kept 1 freed 1: #1\ncycle 3 kept 1 freed 1: #2\ncycle 4 kept 0 freed 2: #0 #3"),
+    "an Eden cycle keeps a new cell that nothing held": (
+        False, "cycle 3 kept 2 freed 1: #2\ncycle 4 kept 0 freed 3: #0 #1 #3",
+        "cycle 3 kept 3 freed 0\ncycle 4 kept 0 freed 4: #0 #1 #2 #3"),
+    "an Eden cycle keeps more than it may have marked": (
+        True, "cycle 3 kept 2 freed 1: #2\ncycle 4 kept 0 freed 3: #0 #1 #3\ncycle 5 kept 0 freed 0",
+        "cycle 3 kept 4 freed 0\ncycle 4 kept 0 freed 4: #0 #1 #2 #3\ncycle 5 kept 0 freed 0"),
+    "a full cycle keeps an old cell that nothing held": (
+        False, "cycle 4 kept 0 freed 3: #0 #1 #3\ncycle 5 kept 0 freed 0",
+        "cycle 4 kept 2 freed 1: #3\ncycle 5 kept 0 freed 2: #0 #1"),
+}
+
 
 def filled(births, period):
     """A workload in which a mutator makes so many cells of a class of 64 and another is refused, and its text."""
@@ -405,12 +475,13 @@ def written():
         work = judge_threads.read_workload(document)
         return judge_threads.accepts(work, text, facts=True), judge_threads.accepts(work, text)
 
-    if judged(WORKLOAD, TEXT) != (True, True):
-        fail("the written text isn't accepted", WORKLOAD, TEXT)
-    for what, (by_facts, old, new) in NEAR.items():
-        document, text = WORKLOAD.replace(old, new), TEXT.replace(old, new)
-        if (document, text) == (WORKLOAD, TEXT) or judged(document, text) != (not by_facts, False):
-            fail(f"where {what}: {judged(document, text)}", document, text)
+    for workload, right, near in ((WORKLOAD, TEXT, NEAR), (EDEN, EDEN_TEXT, EDEN_NEAR)):
+        if judged(workload, right) != (True, True):
+            fail("the written text isn't accepted", workload, right)
+        for what, (by_facts, old, new) in near.items():
+            document, text = workload.replace(old, new), right.replace(old, new)
+            if (document, text) == (workload, right) or judged(document, text) != (not by_facts, False):
+                fail(f"where {what}: {judged(document, text)}", document, text)
     for births, period, expected in ((64, 128, True), (63, 128, False), (64, 32, False)):
         if judged(*filled(births, period))[1] != expected:
             fail(f"a refusal for room after {births} births in parts of {period} calls", *filled(births, period))
@@ -427,7 +498,7 @@ def made_up(seeds):
     """Judges texts of runs that are made up."""
     spent, calls, undecided = [], 0, 0
     for seed in seeds:
-        work, document = judge_threads.mixed(seed)
+        work, document = drawn(seed)
         text = Made(work, random.Random(f"made {seed}")).text()
         begun = time.process_time()
         said = judge_threads.accepts(work, text)
