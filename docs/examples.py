@@ -8,7 +8,7 @@
 - A table with the columns Operation, Printed and Why has one row for each call of the workload that the link before it
   names, in order.
 - A printed call, as `drop r2 = ok`, and a printed count, as `live 1`, is a line of some workload's text.
-- The blocks of docs/READING-A-RUN.md are the texts of two workloads, in order.
+- The blocks of docs/READING-A-RUN.md are the texts of three workloads, in order.
 - In docs/WHY.md a block of text says what bench/why.py prints of that page's workload with the lines that it begins with,
   or of what the command behind its `$` prints; and each line that WORKLOAD.md tells of a refused file is in one of them.
   That the lines with which it ends mend it, bench/why_test.py tests.
@@ -202,7 +202,8 @@ def paths_differ():
 
 def main():
     differ = 0
-    walk = walk_differs("docs/READING-A-RUN.md", "page_with_listeners", "raced_transition_is_deferred")
+    runs = ("page_with_listeners", "raced_transition_is_deferred", "eden_keeps_old_garbage")
+    walk = walk_differs("docs/READING-A-RUN.md", *runs)
     for message in (*paths_differ(), *walk, *mistakes_differ("docs/WHY.md"), *forms_differ("docs/WORKLOAD.md")):
         differ = 1
         print(message)
