@@ -38,13 +38,14 @@ pub record CallsIn (owns : OwnHeaps) (caller : Caller) (heap : Heap) (state : St
   pub reads : ReadsAs caller.layout caller.shapes heap state
   pub is_caller : IsCallerOf caller state
 
--- it may now: some heap has its own words, and each heap that has them reads as a state in which it may call
+-- The caller may call now: some heap has its own words, and each heap that has them reads as a state in which it may
+-- call.
 pub record MayCallNow (owns : OwnHeaps) (caller : Caller) : Type 0 where
   pub heap : Heap
   pub owned : owns caller.layout caller.who heap
   pub each : (other : Heap) → owns caller.layout caller.who other → (state : State) × CallsIn owns caller other state
 
--- it holds wherever the caller may call
+-- this holds of each heap and state in which the caller may call
 abbrev pub Always : OwnHeaps → Caller → (Heap → State → Type 0) → Type 0
 Always owns caller holds = (heap : Heap) (state : State) → CallsIn owns caller heap state → holds heap state
 

@@ -54,7 +54,7 @@ CallsReadBack =
     CallWords layout shapes old state who op reply took new →
     ReadsAs layout shapes old state → ReadsAs layout shapes new (after_call state who op reply took)
 
--- so it is in a lawful history: the words read as the state after the call
+-- where a call stands behind a lawful history and its words were written, they read as the state after it
 abbrev pub HistoriesReadBack : Type 0
 HistoriesReadBack =
     (layout : Layout) (shapes : ShapeLists) (old new : Heap) (before : List Event) (who : ℕ) (op : Op) (reply : Reply)
@@ -73,7 +73,8 @@ pub record IsClaimTold (layout : Layout) (shapes : ShapeLists) (heap : Heap) (st
   pub free : heap ClaimRegion cell ≡ claim_word None →
       refusal_of layout shapes state who (Claim src) ≡ refuse_if (nat_le claims_most (length (state.claims who))) ClaimsFull
 
--- so it is where the words read as the state, in which no two mutators claim a cell
+-- where the words read as a state in which no two mutators claim a cell, the claim word of a cell in a register tells
+-- what refuses a claim of it
 abbrev pub ClaimsAreTold : Type 0
 ClaimsAreTold =
     (layout : Layout) (shapes : ShapeLists) (heap : Heap) (state : State) (who src cell : ℕ) →

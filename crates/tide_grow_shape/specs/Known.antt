@@ -2,6 +2,6 @@
 use Rattle.tide_grow_shape.specs.Grown.{Fact}
 use Rattle.tide_grow_shape.specs.declared.known.KnownShape.{KnownShape}
 
--- its number and its keys
+-- what is known of a shape: its number and its keys
 abbrev pub fact_of : KnownShape → Fact
 fact_of known = record { shape = known.shape; keys = known.keys.items }

@@ -13,7 +13,7 @@ use Rattle.tide_model.specs.declared.entry.Event.{Event}
 abbrev pub births_in : ℕ → View → ℕ
 births_in period v = if v.begun == period then v.born else 0
 
--- those of the views whose numbers are in a list, each counted once
+-- the births of the views whose numbers are in a list, each counted once, that began in the part with this number
 abbrev pub told_births : ℕ → (ℕ → View) → List ℕ → ℕ
 told_births period part notes = total_below (λ i. if is_among notes i then births_in period (part i) else 0) parties
 

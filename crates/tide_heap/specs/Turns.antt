@@ -88,33 +88,33 @@ noted v u = record v {
   noted_calls = calls_of u ∷ v.noted_calls;
 }
 
--- it freezes, with the words as they are then
+-- the collector freezes the heap, with the words as they are then
 abbrev pub frozen_with : List ℕ → View → View
 frozen_with words v = record v { frozen = true; words = words; base = words; stood = words }
 
--- it stores a word while frozen
+-- the collector stores a word while the heap is frozen
 abbrev pub restored : ℕ → ℕ → View → View
 restored at word v = record v { words = slice_set v.words at word }
 
--- it makes an entry of its own
+-- the collector makes an entry of its own
 abbrev pub entered_with : Event → View → View
 entered_with event v = record v { seen = v.seen ++ event ∷ []; base = v.words }
 
--- it makes an entry with which nothing is left to enter of this participant's visits
+-- the collector makes an entry with which nothing is left to enter of this participant's visits
 abbrev pub visits_over : ℕ → Event → View → View
 visits_over who event v = record (entered_with event v) {
   visited = filter (λ told. not (told.who == who)) v.visited;
 }
 
--- it enters the visits that the note of this visitor told, which the entry counts from 0
+-- the collector enters the visits that the note of this visitor told, which the entry counts from 0
 abbrev pub visits_entered : ℕ → ℕ → View → View
 visits_entered visitor visits = visits_over (first_visitor + visitor) (plain (Visits visitor visits))
 
--- it opens the next part
+-- the entry with which the collector opens the next part
 abbrev pub open_entry : ℕ → View → Event
 open_entry run v = plain (Open (v.period + 1) run)
 
--- it has opened it, and keeps what notes told of the calls of those who have left for good
+-- the collector has opened the next part, and keeps what notes told of the calls of those who have left for good
 abbrev pub opened : Layout → ℕ → View → View
 opened layout run v = record v {
   frozen = false;

@@ -32,7 +32,7 @@ abbrev pub IsTakenFor : Layout → State → ℕ → Option ℕ → Type 0
 IsTakenFor layout state cell (Some array) = (is_array_full (state.cells cell) ≡ true) × IsFreeArrayOf layout state (next_array_class state cell) array
 IsTakenFor layout state cell None = is_array_full (state.cells cell) ≡ false
 
--- it holds of the cell that a value names, and there is one
+-- the value names a cell, of which this holds
 abbrev pub AtCell : Val → (ℕ → Type 0) → Type 0
 AtCell (Cell cell) holds = holds cell
 AtCell Empty holds = ⊥

@@ -70,7 +70,7 @@ slot_refusal layout (Int n) register slot = Some (NotCell register)
 abbrev pub holders_of : Layout → State → ℕ → List ℕ
 holders_of layout state cell = numbers_where (λ who. is_among (state.claims who) cell) layout.mutators
 
--- that one of some mutators holds the cell
+-- the refusal of a cell that others hold: that the first of these mutators holds it; none where there is none
 abbrev pub held_by : List ℕ → Option Refusal
 held_by [] = None
 held_by (who ∷ others) = Some (Held who)

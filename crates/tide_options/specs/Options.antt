@@ -45,6 +45,6 @@ options_in rows = if is_too_much rows then None else Some (record {
 unfoldable pub reads_options : List Text → Option Options
 reads_options words = if is_empty (fault_of command words) then options_in (matches_of command words) else None
 
--- the same of the words as they are handed over
+-- the options that command words ask for, as they are handed over
 abbrev pub asked_by : {A : Type 0} → List (String A) → Option Options
 asked_by words = reads_options (map string_bytes words)

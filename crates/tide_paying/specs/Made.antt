@@ -59,7 +59,7 @@ pub record HasMade (layout : Layout) (shapes : ShapeLists) (op : Op) (does : Pla
   pub owed : u.owed ≡ debts
   pub duty : u.duty ≡ due
 
--- It owes nothing more, and its call word tells it.
+-- The call owes nothing more, and its call word tells it.
 pub record HasDone (layout : Layout) (shapes : ShapeLists) (op : Op) (does : Plan) (reply : Reply)
     (v u : View) : Type 0 where
   pub made : IsMade layout shapes op does reply v (shown u)

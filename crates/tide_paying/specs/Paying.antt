@@ -14,7 +14,8 @@ pub record OwesRegister (layout : Layout) (v : View) (dst : ℕ) (value : Val) :
   pub owed : v.owed ≡ owed_register layout v.who (Some dst) value
   pub duty : v.duty ≡ Nothing
 
--- it owes nothing more, its call word tells all its calls, and of its view nothing else changed that a call shows
+-- The mutator owes nothing more, its call word tells all its calls, and of its view nothing else changed that a call
+-- shows.
 pub record HasPaid (v u : View) : Type 0 where
   pub shown : shown u ≡ shown v
   pub owed : u.owed ≡ []

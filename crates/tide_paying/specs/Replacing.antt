@@ -27,7 +27,7 @@ pub record IsGrowing (layout : Layout) (v u : View) (at : Stage) (debts : List O
   pub owed : u.owed ≡ debts
   pub duty : u.duty ≡ v.duty
 
--- It still fills the array that it took: of the first elements it owes these words, and the array's and the
+-- The mutator still fills the array that it took: of the first elements it owes these words, and the array's and the
 -- structure's.
 pub record OwesGrowth (layout : Layout) (v u : View) (growth : Growth) (taken : ℕ) (words : List ℕ) (left : ℕ)
     : Type 0 where

@@ -14,7 +14,7 @@ pub record Owing (layout : Layout) (v : View) (due : Duty) : Type 0 where
   pub growth : v.growth ≡ Nothing
   pub duty : v.duty ≡ due
 
--- it owes that no more, and of its view nothing else changed that a call shows
+-- the mutator owes its barrier no more, and of its view nothing else changed that a call shows
 pub record HasShaded (v u : View) : Type 0 where
   pub shown : shown u ≡ shown v
   pub owed : u.owed ≡ v.owed

@@ -10,7 +10,7 @@ abbrev pub left_by : Bool → Bool → Bool → ℕ → ℕ → ℕ
 left_by retired within retry more claims =
     if retired then 0 else (if within then (2 * more - (if retry then 1 else 0)) + 9 else claims + 1)
 
--- the same, by how far a mutator is in its operations
+-- what is left to a mutator, by how far it is in its operations and how many cells it claims
 abbrev pub left_at : List Op → Standing → ℕ → ℕ
 left_at ops standing claims =
     left_by standing.retired (nat_lt standing.done (length ops)) standing.retry (length ops - standing.done) claims

@@ -5,7 +5,7 @@ use Rattle.tide_model.specs.declared.op.Refusal.TheVariants.{NotCell}
 use Rattle.tide_model.specs.declared.val.Val.{Val}
 use Rattle.tide_model.specs.declared.val.Val.TheVariants.{Empty, Int, Cell}
 
--- that the register holds no cell, where it holds none
+-- the refusal of a register that holds no cell
 abbrev pub not_cell : Val → ℕ → Option Refusal
 not_cell (Cell cell) register = None
 not_cell Empty register = Some (NotCell register)

@@ -21,7 +21,7 @@ use Rattle.tide_work.specs.Work.{Work}
 unfoldable pub document_of : List ℕ → Option Members
 document_of bytes = if is_utf8 bytes then parse_document bytes else None
 
--- that document, or the refusal of bytes that are none
+-- the document that bytes are, or the refusal of bytes that are none
 abbrev pub document_or : List ℕ → Result Members Fault
 document_or bytes = ok_or (document_of bytes) NotToml
 

@@ -73,11 +73,11 @@ pub record IsPrintedOf (asked : Option Options) (ran : Ran) (text : List ℕ) : 
   pub are : AreLinesOf (asks_for_snapshot asked) ran lines
   pub is : text ≡ printed_of asked ran ++ lines
 
--- it was printed whole
+-- all that the run prints was printed
 abbrev pub Prints : Option Options → Option (List ℕ) → Option (List ℕ) → Ran → Type 0
 Prints asked old new ran = (text : List ℕ) × IsPrintedOf asked ran text × Appends old new text
 
--- a first part of it was printed
+-- a first part of what the run prints was printed
 abbrev pub PrintsPart : Option Options → Option (List ℕ) → Option (List ℕ) → Ran → Type 0
 PrintsPart asked old new ran = (text : List ℕ) × IsPrintedOf asked ran text × AppendsPart old new text
 

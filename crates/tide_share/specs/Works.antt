@@ -7,7 +7,7 @@ use Rattle.tide_model.specs.Layout.{Layout}
 use Rattle.tide_mutator.specs.Viewed.{seat_of, table_of, view_of}
 use Rattle.tide_mutator.specs.declared.mutator.Mutator.{Mutator}
 
--- it has begun, and has left for good or hasn't
+-- a mutator that has begun, and has left for good or hasn't
 pub record IsWorking (layout : Layout) (v : View) (left : Bool) : Type 0 where
   pub is_mutator : v.who < layout.mutators
   pub runs : v.runs ≡ true

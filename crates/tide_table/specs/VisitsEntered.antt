@@ -9,7 +9,7 @@ use Rattle.tide_model.specs.declared.entry.Entry.TheVariants.{Visits}
 use Rattle.tide_model.specs.declared.entry.Event.{Event}
 use Rattle.tide_words.specs.heap.Heap.{Heap}
 
--- so many visits fewer are left to enter after their entry
+-- where a visitor's visits are entered, so many fewer are left to enter
 abbrev pub EntriesCountVisits : Type 0
 EntriesCountVisits =
     (layout : Layout) (shapes : ShapeLists) (heap : Heap) (history : List Event) (who visits left : ℕ) →

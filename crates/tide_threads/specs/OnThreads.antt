@@ -22,7 +22,7 @@ setting_in o = record { layout = o.heap.key.layout; shapes = lists_of o.heap.key
 abbrev pub recorded_in : OnThreads → Recorded
 recorded_in o = recorded_at (setting_in o) o.collector.seat.me.0.seen
 
--- its mutators, each by its own calls
+-- the mutators of a heap on threads, each by its own calls
 abbrev pub callers_on : OnThreads → List Caller
 callers_on o = callers_in o.participants.items
 

@@ -49,7 +49,7 @@ abbrev pub WorkerStandsBy : TableId → Layout → View → ℕ → Worker → T
 WorkerStandsBy id layout collector at (Mutator x) = MutatorStandsBy id layout collector at x
 WorkerStandsBy id layout collector at (Visitor x) = VisitorStandsBy id layout collector at x
 
--- so does a participant, which has neither a ticket nor a note then
+-- a participant stands by where whoever acts for it does, and it has neither a ticket nor a note
 pub record StandsBy (id : TableId) (layout : Layout) (collector : View) (at : ℕ) (x : Participant) : Type 0 where
   pub worker : WorkerStandsBy id layout collector at x.worker
   pub no_ticket : x.ticket ≡ None
@@ -90,7 +90,7 @@ pub record MayBeginShare (id : TableId) (layout : Layout) (shapes : ShapeLists) 
   pub knows : IsCallerWithin (record { layout = layout; shapes = shapes }) ticket.seat.me.0.seen (view_of x.mutator).mine
       x.caller
 
--- so may whoever acts
+-- whoever acts, a mutator or a visitor, may begin its part with this ticket
 abbrev pub MayBeginPart : TableId → Layout → ShapeLists → Ticket → Worker → Type 0
 MayBeginPart id layout shapes ticket (Mutator x) = MayBeginShare id layout shapes ticket x
 MayBeginPart id layout shapes ticket (Visitor x) = MayBeginVisits id layout ticket x
@@ -182,7 +182,7 @@ abbrev pub stopped_at : Option (CachePadded Participant) → Bool
 stopped_at (Some padded) = ended_by (padded_value padded).outcome
 stopped_at None = false
 
--- so the participant at this place of a list
+-- whether the participant at this place of a list stopped before its share was over
 abbrev pub stopped_in : List (CachePadded Participant) → ℕ → Bool
 stopped_in participants who = stopped_at (slice_get participants who)
 

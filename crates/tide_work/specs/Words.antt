@@ -25,12 +25,12 @@ abbrev pub one_word : List (List ℕ) → Option (List ℕ)
 one_word (only ∷ []) = Some only
 one_word _ = None
 
--- these words, where there are two
+-- the two words of a list that has just two
 abbrev pub two_words : List (List ℕ) → Option (List ℕ × List ℕ)
 two_words (first ∷ second ∷ []) = Some (first, second)
 two_words _ = None
 
--- these words, where there are three
+-- the three words of a list that has just three
 abbrev pub three_words : List (List ℕ) → Option (List ℕ × List ℕ × List ℕ)
 three_words (first ∷ second ∷ third ∷ []) = Some (first, second, third)
 three_words _ = None

@@ -61,7 +61,7 @@ pub record DropsPair (layout : Layout) (shapes : ShapeLists) (w : World) (me tab
     pub has_pair : HasPairAt layout w.heap table place cell
     pub may : MayCall layout shapes w me (PairDel src key) Done None
 
--- it is stored by PairSet and PairDel
+-- a pair is stored by PairSet and PairDel
 abbrev pub MayStorePair : Layout → ShapeLists → World → ℕ → ℕ → ℕ → ℕ → Option Op → Type 0
 MayStorePair layout shapes w me table place word (Some (PairSet src key val)) =
     SetsPair layout shapes w me table place word src key val

@@ -83,7 +83,7 @@ pub record SetsProperty (layout : Layout) (shapes : ShapeLists) (w : World) (me 
   pub is_word : word ≡ val_word ((state_after layout w.log).registers me val)
   pub may : MayCall layout shapes w me (SetProp src key val) Done None
 
--- it is loaded, and GetProp sees it
+-- an element is loaded, and GetProp sees it
 abbrev pub MayLoadElement : Layout → ShapeLists → World → ℕ → ℕ → ℕ → ℕ → Option Op → Type 0
 MayLoadElement layout shapes w me array place read None =
     RunsAsMutator layout w me
