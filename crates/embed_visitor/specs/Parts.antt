@@ -10,11 +10,11 @@ pub record IsIdle (who part : ℕ) (v : View) : Type 0 where
   pub begun : v.begun ≡ part
   pub period : v.period ≡ part
 
--- it stands after a part before the one with this number
+-- the participant stands after a part before the one with this number
 abbrev pub IsIdleBefore : ℕ → ℕ → View → Type 0
 IsIdleBefore who part v = (last : ℕ) × IsIdle who last v × (last < part)
 
--- it runs in the part with this number, in which it began
+-- the participant runs in the part with this number, in which it began
 pub record IsInPart (who part : ℕ) (v : View) : Type 0 where
   pub is : v.who ≡ who
   pub runs : v.runs ≡ true

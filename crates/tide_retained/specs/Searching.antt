@@ -55,19 +55,19 @@ with_cell place search cell = record search {
   order = search.order ++ cell ∷ [];
 }
 
--- the same, unless the cell was found before or is none of the cells
+-- the search in which a cell was entered so, unless it was found before or is none of the cells
 abbrev pub entered : Found → Search → ℕ → Search
 entered place search cell = if is_new search cell then with_cell place search cell else search
 
--- the same for some cells
+-- the search in which some cells were entered so, one after another
 abbrev pub all_entered : Found → Search → List ℕ → Search
 all_entered place search cells = fold (entered place) search cells
 
--- the same for the value of a pair whose key is known to be retained
+-- the search in which the cell in the value of a pair was entered so, where its key is known to be retained
 abbrev pub pair_entered : Found → Search → Keyed → Search
 pair_entered place search pair = if is_known search pair.key then all_entered place search (cell_in pair.value) else search
 
--- the same for some pairs
+-- the search in which the cells in the values of some pairs were entered so
 abbrev pub pairs_entered : Found → Search → List Keyed → Search
 pairs_entered place search pairs = fold (pair_entered place) search pairs
 
