@@ -119,7 +119,7 @@ colour_of-same cycle Black = grind (arith, nat_tests)
 colour_of-same cycle White = grind (arith, nat_tests)
 colour_of-same cycle Grey = grind (arith, nat_tests)
 
--- a word of an older cycle is white, whatever its state is
+-- a word of a cycle before that is white, whatever its state is
 pub colour_of-older : (word cycle : ℕ) → word < 4 * cycle → colour_of word cycle ≡ White
 colour_of-older word cycle older = grind (arith, nat_tests)
 
