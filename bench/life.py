@@ -42,7 +42,7 @@ def number(x, y, shown, colour):
 def cell():
     shapes = [text(40, 88, "A cell", 18, "start", weight="bold")]
     shapes += state(40, 180, 170, 100, FREE, "free", "its Free bit is set,", "its words 0, but its colour")
-    shapes += state(330, 105, 350, 335, LIVE, "live", "neither bit is set")
+    shapes += state(330, 105, 350, 335, LIVE, "live", "neither bit is set", "2 and 3: in a freeze, or by a visitor in a part")
     shapes += state(800, 180, 160, 100, DEAD, "dead", "its Dead bit is set,", "nothing leads to it")
     for place, name in enumerate(MARKS):
         shapes += mark(395 + 110 * place, 240, name)
