@@ -14,8 +14,10 @@ since each is whose number is a multiple of four: so the last column is more tha
 columns are the two freezes of an Eden cycle together, those of a full one, those of all 16, what all would take if each took
 what a full one does, and the ratio of the last two.
 
-In the second table a put stores a cell in a slot, 60,000 times in one part in which no cycle marks: in a cell that is new, and
-in one that is old, since a cycle kept it. What the same workload takes without the puts is taken off.
+In the second table a put stores a cell in a slot where no cycle marks. In the first two columns it does so 60,000 times in one
+part, always in the same cell: in one that is new, and so white; and in one that is old, since a cycle kept it, and so grey from
+the first put on. In the last column it stores in 5,120 old cells, once in each, which is black until then; a cycle makes them
+black again, and so four times. What the same workload takes without the puts is taken off.
 """
 import os
 import re
@@ -26,7 +28,7 @@ import tempfile
 
 from mutators import HERE, made_shim
 
-OLD, NEW, CYCLES, PERIOD, PUTS = 5120, 512, 16, 1536, 60000
+OLD, NEW, CYCLES, PERIOD, PUTS, WALKS = 5120, 512, 16, 1536, 60000, 4
 HEAD = """registers = 4
 strong = 1
 blocks = [64, 64, 64, 64, 0]
@@ -54,6 +56,12 @@ def cycles():
         new = chain("r1", PERIOD // 3 + PERIOD // 4, number)
         ops += ["drop r1"] + new[:PERIOD + PERIOD * 3 // 4 - 1]
     return ops
+
+
+def walks(puts):
+    """The operations that go along the chain of old cells after a cycle, and put in each; without the puts, for comparison."""
+    step = ["put r1 1 r1"] * puts + ["get r1 r1 0"]
+    return chain("r0", OLD) + (["collect", "move r1 r0"] + step * OLD) * WALKS
 
 
 def write(path, head, ops):
@@ -87,10 +95,10 @@ def pauses(program, bare, path, shim):
     return statistics.median(eden), statistics.median(full), sum(mine)
 
 
-def put(program, bare, path, shim):
-    """The nanoseconds of a put."""
+def put(program, bare, path, puts, shim):
+    """The nanoseconds of a put, of which the second workload has so many more."""
     took = [sum(run(program, each, shim)[1]) for each in (bare, path)]
-    return 1e3 * (took[1] - took[0]) / PUTS
+    return 1e3 * (took[1] - took[0]) / puts
 
 
 def main():
@@ -98,14 +106,15 @@ def main():
     programs = sys.argv[2:] or [os.path.join(HERE, "..", "crates", "riptide", "out", "riptide")]
     with tempfile.TemporaryDirectory() as room:
         shim = made_shim(room)
-        paths = [os.path.join(room, name) for name in ("bare", "full", "new", "new_puts", "old", "old_puts")]
+        paths = [os.path.join(room, name) for name in ("bare", "full", "new", "new_puts", "old", "old_puts", "walks", "walk_puts")]
         triggered = f"period = {PERIOD}\nheadroom = 1\ntrigger = {NEW}\n"
         whole = "period = 65536\nheadroom = 1\n"
         new, old, puts = ["alloc r0 0"], ["alloc r0 0", "collect"], ["put r0 1 r0"] * PUTS
-        for path, head, ops in zip(paths, [triggered] * 2 + [whole] * 4, [
-                set_up(), set_up() + cycles(), new, new + puts, old, old + puts]):
+        for path, head, ops in zip(paths, [triggered] * 2 + [whole] * 6, [
+                set_up(), set_up() + cycles(), new, new + puts, old, old + puts, walks(0), walks(1)]):
             write(path, head, ops)
-        rows = [[(pauses(program, *paths[:2], shim), put(program, *paths[2:4], shim), put(program, *paths[4:], shim))
+        rows = [[(pauses(program, *paths[:2], shim), put(program, *paths[2:4], PUTS, shim),
+                  put(program, *paths[4:6], PUTS, shim), put(program, *paths[6:], OLD * WALKS, shim))
                  for program in programs] for _ in range(times)]
         print("| Program | An Eden cycle's freezes, µs | A full one's, µs | All of 16, µs | Were all full, µs | Ratio |")
         print("|---|---|---|---|---|---|")
@@ -113,10 +122,10 @@ def main():
             eden, full, all_of = (statistics.median(column) for column in zip(*(each[0] for each in mine)))
             ratio = all_of / CYCLES / full
             print(f"| {program} | {eden:.0f} | {full:.0f} | {all_of:.0f} | {CYCLES * full:.0f} | {ratio:.2f} |")
-        print("\n| Program | A put in a new cell, ns | In an old one, ns |\n|---|---|---|")
+        print("\n| Program | A put in a new cell, ns | In an old, grey one, ns | In an old, black one, ns |\n|---|---|---|---|")
         for program, mine in zip(programs, zip(*rows)):
-            new, old = (statistics.median(each[kind] for each in mine) for kind in (1, 2))
-            print(f"| {program} | {new:.1f} | {old:.1f} |")
+            new, grey, black = (statistics.median(each[kind] for each in mine) for kind in (1, 2, 3))
+            print(f"| {program} | {new:.1f} | {grey:.1f} | {black:.1f} |")
 
 
 if __name__ == "__main__":
