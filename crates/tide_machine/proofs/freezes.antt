@@ -4,3 +4,4 @@ pub mod Entering
 pub mod OpeningParts
 pub mod Progress
 pub mod RestingSweeps
+pub mod FrozenBlacks
