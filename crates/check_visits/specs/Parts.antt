@@ -25,8 +25,9 @@ pub record IsNoteOf (visitor part : ℕ) (note : View) : Type 0 where
   pub period : note.period ≡ part
   pub begun : note.begun ≡ part
 
--- The collector's view at a freeze, whose words are those of its history: no cell is black that wasn't at the last entry,
--- no visit is left to enter, and who stopped when stands as it did when all had stopped.
+-- The collector's view at a freeze, whose words are those of its history: the cells that are black now are those that were
+-- at the last entry, or where the freeze began, no visit is left to enter, and who stopped when stands as it did when all
+-- had stopped.
 pub record IsAtFreeze (layout : Layout) (shapes : ShapeLists) (v : View) : Type 0 where
   pub frozen : v.frozen ≡ true
   pub blacks : was_black_in layout v ≡ is_black (heap_of layout v.words)

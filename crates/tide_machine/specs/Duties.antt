@@ -13,8 +13,8 @@ abbrev pub AwaitsLoad : Duty → ℕ → Type 0
 AwaitsLoad (duty.Barrier c) cell = c ≡ cell
 AwaitsLoad _ cell = ⊥
 
--- the barrier on the cell is owed and will make it grey: its colour isn't loaded yet, or its word is still the one that was
--- loaded
+-- the barrier on the cell is owed, and makes it grey if it is black: its colour isn't loaded yet, or its word is still
+-- the one that was loaded
 abbrev pub StillOwes : Heap → Duty → ℕ → Type 0
 StillOwes heap (duty.Barrier c) cell = c ≡ cell
 StillOwes heap (duty.Regrey c word) cell = (c ≡ cell) × (heap Colour cell ≡ word)

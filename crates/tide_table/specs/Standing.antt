@@ -32,8 +32,8 @@ pub record RunsPart (layout : Layout) (v : View) : Type 0 where
   pub ends : Each (EndsInTime layout) v.start
 
 -- The heap stands still: its words meet the wave at a freeze, with the visits that notes told and that aren't entered yet.
--- Once a part was opened the black cells are those of its last entry. Cycles ended in time, and who stopped when is as it
--- was at the freeze.
+-- Once a part was opened, the cells that are black now are those that were at the last entry, or where the freeze began.
+-- Cycles ended in time, and who stopped when is as it was at the freeze.
 pub record StandsStill (layout : Layout) (shapes : ShapeLists) (v : View) : Type 0 where
   pub limits : IsWithinLimits layout
   pub frozen : v.frozen ≡ true

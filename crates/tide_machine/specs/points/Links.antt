@@ -33,7 +33,7 @@ ScanExcuses heap source place cell (Some scan) =
 abbrev pub Excuses : Heap → ℕ → Place → ℕ → View → Type 0
 Excuses heap source place cell v = StillOwes heap v.duty source ⊎ ScanExcuses heap source place cell v.scan
 
--- some participant does
+-- some participant answers for the link
 pub record IsExcused (heap : Heap) (part : ℕ → View) (source : ℕ) (place : Place) (cell : ℕ) : Type 0 where
   pub by : ℕ
   pub excuse : Excuses heap source place cell (part by)
