@@ -14,7 +14,7 @@ use Rattle.tide_model.specs.Cycle.{StandsBegin, StandsEnd, StaysLive, begin_coun
 use Rattle.tide_model.specs.Lawful.{IsLawful}
 use Rattle.tide_model.specs.Layout.{IsBlockOf}
 use Rattle.tide_model.specs.Numbers.{is_among}
-use Rattle.tide_model.specs.Old.{IsOld, IsSpared, is_full, is_old, spared_count}
+use Rattle.tide_model.specs.Old.{IsOld, IsSpared, is_full, is_old, last_full, spared_count}
 use Rattle.tide_model.specs.Periods.{EndsInTime}
 use Rattle.tide_model.specs.References.{IsLive}
 use Rattle.tide_model.specs.Refused.{no_shapes}
@@ -68,6 +68,12 @@ pub kinds_of_cycles :
     × (spared_count small one_old ≡ 1) × (spared_count small in_eden ≡ 1) × (spared_count small in_full ≡ 0)
     × (spared_count small in_fourth_eden ≡ 2) × (spared_count small in_fourth_full ≡ 0)
 kinds_of_cycles = (refl, refl, refl, refl, refl, refl, refl, refl, refl, refl)
+
+-- which full cycle began last: none, the second, or the fourth, which stays the last one while an Eden cycle follows
+last_full_cycles :
+    (last_full [] ≡ 1) × (last_full one_old ≡ 1) × (last_full in_full ≡ 2) × (last_full in_fourth_eden ≡ 1)
+    × (last_full in_fourth_full ≡ 4) × (last_full (in_fourth_full ++ plain (End 4 []) ∷ plain (Begin 5 false) ∷ []) ≡ 4)
+last_full_cycles = (refl, refl, refl, refl, refl, refl)
 
 -- cell 0 is old in both, and cell 1 once an end has kept it
 pub old_cells :
