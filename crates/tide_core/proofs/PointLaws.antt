@@ -15,13 +15,13 @@ use Rattle.tide_model.specs.Old.{IsSpared, is_spared}
 use Rattle.tide_model.specs.Since.{is_end, since, visits_in}
 use Rattle.tide_model.proofs.CountLaws.{count_where-wider}
 use Rattle.tide_model.proofs.NumberLaws.{count_where-same}
-use Rattle.tide_model.proofs.OldLaws.{is_full-push, is_old-push, is_spared-push}
+use Rattle.tide_model.proofs.OldLaws.{is_full-push, is_old-push, is_spared-push, last_full-kept}
 use Rattle.tide_model.proofs.SinceLaws.{since-push, visits_since-push}
 use Rattle.tide_model.proofs.Spans.{graph_in_cycle_span}
 use Rattle.tide_words.specs.heap.Heap.{Heap, SameIn}
 use Rattle.tide_words.specs.marking.Colours.{IsBlack, IsMarked, IsMarkedWithin, black_count, is_black, is_marking}
-use Rattle.tide_words.proofs.marking_laws.ColourLaws.{Counts-same, is_black-same, is_marked-same, is_marking-same, running_cycle-same}
-use Rattle.tide_words.proofs.marking_laws.MarkingLaws.{Marking-same, soon_kept}
+use Rattle.tide_words.proofs.marking_laws.ColourLaws.{is_black-same, is_marked-same, is_marking-same, running_cycle-same}
+use Rattle.tide_words.proofs.marking_laws.MarkingLaws.{Marking-same}
 use Rattle.tide_solver.specs.Traced.{IsReached}
 use Rattle.tide_core.specs.FrozenWave.{BlackIsCounted, BornIsMarked, FrozenWave, MarkedIsRetained, OldIsMarked, is_birth_of, is_born_in_cycle, is_of_visit}
 
@@ -90,8 +90,7 @@ OldIsMarked-push layout old new history event visits quiet phase base grow marks
       cell within (sym (is_old-push layout history event quiet.no_end cell) ∙ is));
   rests = λ rests cell within marked. is_old-push layout history event quiet.no_end cell
       ∙ was.rests (sym marking ∙ rests) cell within (marks_none (sym marking ∙ rests) cell within marked);
-  counts = λ marks. Counts-same layout old new phase base (was.counts (sym marking ∙ marks));
-  soon = soon_kept layout old new phase base was.soon;
+  base = base 0 (omega arith) ∙ was.base ∙ sym (last_full-kept history event quiet.goes_on);
 }
   where
     marking : is_marking new ≡ is_marking old
@@ -132,8 +131,7 @@ FrozenWave-same layout shapes old new history same wave = record {
         ∙ wave.old.old (λ marks. eden (marking ∙ marks)) cell within is;
     rests = λ rests cell within marked. wave.old.rests (sym marking ∙ rests) cell within
         (sym (is_marked-same layout old new cell (same Base) (same Colour) within) ∙ marked);
-    counts = λ marks. Counts-same layout old new (same Phase) (same Base) (wave.old.counts (before marks));
-    soon = soon_kept layout old new (same Phase) (same Base) wave.old.soon;
+    base = same Base 0 (omega arith) ∙ wave.old.base;
   };
   retained = λ marks cell within marked. wave.retained (before marks) cell within
       (sym (is_marked-same layout old new cell (same Base) (same Colour) within) ∙ marked);

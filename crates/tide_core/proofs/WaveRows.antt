@@ -18,7 +18,7 @@ use Rattle.tide_model.specs.History.{is_begin, plain, state_at}
 use Rattle.tide_model.specs.Applied.{after_call}
 use Rattle.tide_model.specs.Lawful.{IsLawful}
 use Rattle.tide_model.specs.Numbers.{put_at}
-use Rattle.tide_model.specs.Old.{IsSpared, is_full}
+use Rattle.tide_model.specs.Old.{IsSpared, is_full, last_full}
 use Rattle.tide_model.specs.References.{RefsAreLive}
 use Rattle.tide_model.specs.Refused.{no_shapes}
 use Rattle.tide_model.specs.Since.{visits_since}
@@ -35,7 +35,7 @@ use Rattle.tide_words.specs.heap.EmptyHeap.{empty_heap}
 use Rattle.tide_words.specs.heap.Heap.{Heap, write}
 use Rattle.tide_words.specs.heap.Reading.{CellReads, IsValueOf, ReadsAs, cell_status, status_by}
 use Rattle.tide_words.specs.marking.Colours.{IsMarked, coloured, is_marking}
-use Rattle.tide_words.specs.marking.Marked.{is_marked}
+use Rattle.tide_words.specs.marking.Marked.{base_cycle, is_marked}
 use Rattle.tide_words.specs.marking.Marking.{Marking}
 use Rattle.tide_words.proofs.form_laws.FormLaws.{same_cell_from_val_word}
 use Rattle.tide_words.proofs.heap_laws.EmptyReading.{nothing_in}
@@ -202,12 +202,12 @@ marked_is_first cell marked = elim (cases_eq cell 0) [
 ]
 
 -- in a full cycle no old cell has to be marked
-old_in_full : (history : List Event) → is_full history ≡ true → OldIsMarked small visited history
-old_in_full history full = record {
+old_in_full : (history : List Event) → is_full history ≡ true → base_cycle visited ≡ last_full history →
+    OldIsMarked small visited history
+old_in_full history full base = record {
   old = λ eden. absurd (true≢false (sym full ∙ eden refl));
   rests = λ rests. absurd (true≢false rests);
-  counts = λ marks. omega arith;
-  soon = omega arith;
+  base = base;
 }
 
 -- the visit is counted: the heap has the wave
@@ -217,7 +217,7 @@ visited_cell_has_wave = record {
   cycle = refl;
   period = refl;
   calls = λ who within. (let first : who ≡ 0 = omega (arith, within) in subst (λ (n : ℕ). visited CallRegion n ≡ call_count n born_before % 2 ^ 64) (sym first) refl);
-  old = old_in_full born_before refl;
+  old = old_in_full born_before refl refl;
   retained = λ marks cell within marked. subst (IsRetained (cycle_span small born_before) (IsSpared small born_before))
       (sym (marked_is_first cell marked))
       (is_root 0 (2, omega arith, omega arith, in_register 0 0 refl refl));
@@ -232,7 +232,7 @@ born_cell_has_wave = record {
   cycle = refl;
   period = refl;
   calls = λ who within. (let first : who ≡ 0 = omega (arith, within) in subst (λ (n : ℕ). visited CallRegion n ≡ call_count n born_after % 2 ^ 64) (sym first) refl);
-  old = old_in_full born_after refl;
+  old = old_in_full born_after refl refl;
   retained = λ marks cell within marked. subst (IsRetained (cycle_span small born_after) (IsSpared small born_after))
       (sym (marked_is_first cell marked))
       (is_root 0 (2, omega arith, omega arith, in_register 0 0 refl refl));
@@ -327,6 +327,15 @@ cycle_untold wave = (let one = wave.cycle in omega (arith, one))
 -- and so does a part
 part_untold : FrozenWave small no_shapes (write empty_heap Period 0 1) [] → ⊥
 part_untold wave = (let one = wave.period in omega (arith, one))
+
+-- so does a base that is later than the last full cycle, where none was full: marks of the first cycle would be lost
+later_base : (heap : Heap) → base_cycle heap ≡ 2 → FrozenWave small no_shapes heap (plain (Begin 1 false) ∷ []) → ⊥
+later_base heap is wave = (let base = wave.old.base in absurd (omega (arith, is, base)))
+
+-- and one that a full cycle left as it was: marks of the cycle before it would count
+earlier_base : (heap : Heap) → base_cycle heap ≡ 1 → FrozenWave small no_shapes heap
+    (plain (Begin 1 false) ∷ plain (Pause 0) ∷ plain (End 1 []) ∷ plain (Begin 2 true) ∷ []) → ⊥
+earlier_base heap is wave = (let base = wave.old.base in absurd (omega (arith, is, base)))
 
 -- the cell is dropped before the cycle begins
 abbrev dropped : List Event

@@ -38,6 +38,7 @@ pub mod CellCalls
 pub mod Paying
 pub mod Loads
 pub mod Births
+pub mod BaseBounds
 pub mod MarkedLives
 pub mod Rereading
 pub mod OwnState

@@ -1,6 +1,6 @@
 -- The wave at a freeze speaks of the words of the layout alone.
 use Rattle.std.proofs.Common.{ℕ, ◌≡◌, ◌≤◌, sym, ◌∙◌, ap, arith, Bool, true, List, []}
-use Rattle.std.specs.Prelude.{◌&&◌, not}
+use Rattle.std.specs.Prelude.{◌&&◌}
 use Rattle.tide_core.specs.FrozenWave.{is_of_visit}
 use Rattle.tide_layout.specs.declared.region.Region.{Region}
 use Rattle.tide_layout.specs.declared.region.Region.TheVariants.{Base, Phase, Period, Colour, Call, Swept}
@@ -11,7 +11,7 @@ use Rattle.tide_model.specs.History.{state_after}
 use Rattle.tide_model.specs.Layout.{Layout, cell_count}
 use Rattle.tide_model.specs.Refused.{ShapeLists}
 use Rattle.tide_model.specs.declared.entry.Event.{Event}
-use Rattle.tide_words.proofs.marking_laws.ColourLaws.{Counts-same, is_marking-same, running_cycle-same, is_marked-same, is_black-same}
+use Rattle.tide_words.proofs.marking_laws.ColourLaws.{is_marking-same, running_cycle-same, is_marked-same, is_black-same}
 use Rattle.tide_words.proofs.marking_laws.MarkingLaws.{Marking-same}
 use Rattle.tide_words.specs.heap.Heap.{Heap, SameIn, Reads, heap_of}
 use Rattle.tide_words.specs.marking.Colours.{is_marking, is_black}
@@ -37,9 +37,7 @@ FrozenWith-same layout shapes old new history unentered same wave = record {
         ∙ wave.old.old (λ marks. when (is_marking-same layout old new (same Phase) ∙ marks)) cell within is;
     rests = λ idle cell within marked. wave.old.rests (sym (is_marking-same layout old new (same Phase)) ∙ idle) cell within
         (sym (is_marked-same layout old new cell (same Base) (same Colour) within) ∙ marked);
-    counts = λ marks. Counts-same layout old new (same Phase) (same Base) (wave.old.counts (before marks));
-    soon = (let soon = wave.old.soon in let base = same Base 0 (omega arith) in let cycle = running_cycle-same layout old new (same Phase) in
-        omega (arith, soon, base, cycle));
+    base = same Base 0 (omega arith) ∙ wave.old.base;
   };
   retained = λ marks cell within marked. wave.retained (before marks) cell within
       (sym (is_marked-same layout old new cell (same Base) (same Colour) within) ∙ marked);

@@ -32,6 +32,7 @@ use Rattle.tide_model.specs.declared.entry.Event.{Event}
 use Rattle.tide_words.proofs.heap_laws.Frames.{ReadsAs-same}
 use Rattle.tide_words.proofs.marking_laws.EmptyMarking.{Marking-empty}
 use Rattle.tide_words.specs.marking.Colours.{IsBlack, IsMarked}
+use Rattle.tide_machine.proofs.steps.BaseBounds.{base_is_soon, colours_count}
 use Rattle.tide_machine.proofs.steps.MarkedLives.{marked_is_live}
 use Rattle.tide_words.specs.marking.Marked.{is_marked}
 use Rattle.tide_words.specs.marking.Marking.{times_in}
@@ -57,8 +58,7 @@ FrozenMachine-first layout shapes = record {
     old = record {
       old = λ when cell within is. absurd (cc);
       rests = λ idle cell within is. absurd (cc);
-      counts = λ marks. absurd (cc);
-      soon = omega arith;
+      base = refl;
     };
     retained = λ marks. absurd (cc);
     born = λ marks. absurd (cc);
@@ -152,8 +152,8 @@ module _ (layout : Layout) (shapes : ShapeLists) (w : World) (wave : RunningWave
       references = wave.refs;
       few_cycles = wave.few_cycles;
       colours = wave.colours;
-      counts = wave.old.counts;
-      soon = wave.old.soon;
+      counts = colours_count layout shapes w wave;
+      soon = base_is_soon layout shapes w wave;
       held = record {
         each_once = λ cell within.
             let once = wave.held.held cell within in

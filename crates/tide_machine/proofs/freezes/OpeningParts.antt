@@ -30,7 +30,7 @@ use Rattle.tide_machine.specs.points.Seen.{IsKnown, WhoLeftIsInactive, ParkedIsE
 use Rattle.tide_machine.specs.points.Stops.{StopsAreTold}
 use Rattle.tide_machine.specs.points.Sweeps.{Sweeps}
 use Rattle.tide_machine.specs.points.Witness.{IsLeft, in_word}
-use Rattle.tide_model.proofs.OldLaws.{is_full-push, is_old-push, is_spared-push, spared_retained-push}
+use Rattle.tide_model.proofs.OldLaws.{is_full-push, is_old-push, is_spared-push, last_full-kept, spared_retained-push}
 use Rattle.tide_model.proofs.Cycles.{graph_in_span}
 use Rattle.tide_model.proofs.DeadLaws.{WasTaken-before, WasTaken-push}
 use Rattle.tide_model.proofs.Histories.{IsLawful-push, state_after-push, moment_after_last-le}
@@ -188,8 +188,7 @@ module _ (layout : Layout) (shapes : ShapeLists) (heap : Heap) (part : ℕ → V
     old = record {
       old = λ when cell within is. wave.old.old (λ marks. sym full_same ∙ when marks) cell within (sym (old_same cell) ∙ is);
       rests = λ idle cell within is. old_same cell ∙ wave.old.rests idle cell within is;
-      counts = wave.old.counts;
-      soon = wave.old.soon;
+      base = wave.old.base ∙ sym (last_full-kept before (plain (Open number run)) refl);
     };
     retained = record {
       marked = λ marks cell within is. spared_retained-push layout before (plain (Open number run)) refl refl cell

@@ -4,6 +4,7 @@ use Rattle.std.proofs.lemmas.Bool.{cases_eq, eq-eqb, ne_eqb, eqb-true, and_parts
 use Rattle.std.proofs.lemmas.List.Elements.{Contains-append_cases, Contains-append_left, Contains-append_right}
 use Rattle.std.specs.Prelude.{Contains, if◌then◌else◌, ◌&&◌, length}
 use Rattle.tide_layout.specs.Slots.{total_below}
+use Rattle.tide_machine.proofs.steps.BaseBounds.{colours_count}
 use Rattle.tide_machine.proofs.steps.Colouring.{unread_write, colours_coloured, recoloured_one}
 use Rattle.tide_machine.proofs.steps.Frames.{calls_view, stops_view, put_here}
 use Rattle.tide_machine.proofs.steps.Lists.{nothing_in}
@@ -30,7 +31,7 @@ use Rattle.tide_words.proofs.heap_laws.ReadingLaws.{live_within}
 use Rattle.tide_words.proofs.marking_laws.ColourLaws.{is_black-made, is_grey-other, is_black-other, is_marked-other, black_is_not_grey, black_is_marked, grey_is_marked, coloured-same, coloured-other}
 use Rattle.tide_words.specs.declared.forms.colours.Colour.TheVariants.{Black}
 use Rattle.tide_words.specs.forms.ColourWord.{colour_word, colour_cycle}
-use Rattle.tide_words.specs.marking.Colours.{Counts, coloured, is_marking, running_cycle, is_grey, is_black, IsGrey, IsMarked, IsStamped}
+use Rattle.tide_words.specs.marking.Colours.{coloured, is_marking, running_cycle, is_grey, is_black, IsBlack, IsGrey, IsMarked, IsStamped}
 use Rattle.tide_words.specs.marking.Marked.{is_marked}
 use Rattle.tide_words.proofs.form_laws.FormLaws.{colour_cycle-of}
 use Rattle.tide_machine.proofs.steps.Barriers.{still_owes}
@@ -116,8 +117,11 @@ module _ (layout : Layout) (shapes : ShapeLists) (w : World) (me : ℕ) (inside 
   black_else : (other : ℕ) → other ≢ cell → is_black (coloured w.heap cell Black) other ≡ is_black w.heap other
   black_else other apart = is_black-other w.heap cell other Black apart
 
+  made_black : IsBlack (coloured w.heap cell Black) cell
+  made_black = is_black-made w.heap cell (colours_count layout shapes w wave marks)
+
   made_marked : IsMarked (coloured w.heap cell Black) cell
-  made_marked = black_is_marked (coloured w.heap cell Black) cell (is_black-made w.heap cell (wave.old.counts marks))
+  made_marked = black_is_marked (coloured w.heap cell Black) cell made_black
 
   same_marked : (other : ℕ) → is_marked (coloured w.heap cell Black) other ≡ is_marked w.heap other
   same_marked other = elim (cases_eq other cell) [
@@ -208,7 +212,7 @@ module _ (layout : Layout) (shapes : ShapeLists) (w : World) (me : ℕ) (inside 
               let grey = ap {B = ℕ} (λ (b : Bool). if b then 1 else 0) (ap (is_grey w.heap) same ∙ was_grey) in
               let not_grey = ap {B = ℕ} (λ (b : Bool). if b then 1 else 0)
               (ap (is_grey (coloured w.heap cell Black)) same ∙
-              black_is_not_grey (coloured w.heap cell Black) cell (is_black-made w.heap cell (wave.old.counts marks))) in
+              black_is_not_grey (coloured w.heap cell Black) cell made_black) in
               omega (arith, less, one, grey, not_grey)
           | inr apart ↦
               let no_one = ap {B = ℕ} (λ (b : Bool). if b then 1 else 0) (ne_eqb cell other (λ e. apart (sym e))) in

@@ -3,6 +3,7 @@ use Rattle.std.proofs.Common.{ℕ, ◌≡◌, ◌<◌, refl, sym, ◌∙◌, ap,
 use Rattle.std.proofs.lemmas.Bool.{cases_eq}
 use Rattle.std.specs.Prelude.{if◌then◌else◌, ◌&&◌, not}
 use Rattle.tide_core.specs.FrozenWave.{is_born_in_cycle, is_of_visit}
+use Rattle.tide_machine.proofs.steps.BaseBounds.{colours_count}
 use Rattle.tide_machine.proofs.steps.Colouring.{unread_write, colours_coloured, recoloured_one, blackened_le}
 use Rattle.tide_machine.proofs.steps.Duties.{with_duty, duty_step}
 use Rattle.tide_machine.specs.Duties.{OwesColour, AwaitsLoad, StillOwes}
@@ -102,7 +103,7 @@ module _ (layout : Layout) (shapes : ShapeLists) (w : World) (me : ℕ) (inside 
       a = wave.born.owed marks me cell mine
 
       counts : Counts w.heap
-      counts = wave.old.counts marks
+      counts = colours_count layout shapes w wave marks
 
       -- a grey cell is another: the one that is born wasn't marked
       still_grey : (other : ℕ) → IsGrey w.heap other → IsGrey (coloured w.heap cell Black) other

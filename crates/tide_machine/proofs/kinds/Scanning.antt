@@ -4,6 +4,7 @@ use Rattle.std.proofs.lemmas.Bool.{cases_eq, eq-eqb, ne_eqb}
 use Rattle.std.proofs.lemmas.List.Elements.{filter-append, Contains-append_cases, Contains-append_left, Contains-append_right}
 use Rattle.std.proofs.lemmas.List.Sums.{sum_by-append}
 use Rattle.std.specs.Prelude.{Contains, if◌then◌else◌, not}
+use Rattle.tide_machine.proofs.steps.BaseBounds.{colours_count}
 use Rattle.tide_machine.proofs.steps.Colouring.{unread_write, colours_coloured, black_before_grey, marked_after_grey, recoloured_one, grey_after_grey, blackened_le}
 use Rattle.tide_machine.proofs.steps.Frames.{calls_view, stops_view}
 use Rattle.tide_machine.proofs.steps.Lists.{in_one}
@@ -106,7 +107,7 @@ module _ (layout : Layout) (shapes : ShapeLists) (w : World) (me : ℕ) (inside 
     (wave : RunningWave layout shapes w) (runs : (w.part me).runs ≡ true)
     (marks : is_marking w.heap ≡ true) where
   counts : Counts w.heap
-  counts = wave.old.counts marks
+  counts = colours_count layout shapes w wave marks
 
   module _ (scan : Scan) (scans : (w.part me).scan ≡ Some scan) (agreed : scan.agreed ≡ true) (cell : ℕ)
       (has : Contains scan.buffer cell) where

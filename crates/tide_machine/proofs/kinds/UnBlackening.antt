@@ -2,6 +2,7 @@
 use Rattle.std.proofs.Common.{ℕ, ◌≡◌, ◌+◌, ◌<◌, refl, sym, ◌∙◌, ap, subst, arith, Bool, true, false, inl, inr, Some, None}
 use Rattle.std.proofs.lemmas.Bool.{cases_eq, eq-eqb, ne_eqb}
 use Rattle.std.specs.Prelude.{if◌then◌else◌}
+use Rattle.tide_machine.proofs.steps.BaseBounds.{colours_count}
 use Rattle.tide_machine.proofs.steps.Colouring.{unread_write, colours_coloured, black_before_grey, marked_after_grey, marked_before_grey, recoloured_one, grey_after_grey, blackened_le, stamped_black}
 use Rattle.tide_machine.proofs.steps.Frames.{calls_view, stops_view}
 use Rattle.tide_machine.proofs.steps.Quiet.{quiet_step}
@@ -39,7 +40,7 @@ module _ (layout : Layout) (shapes : ShapeLists) (w : World) (me : ℕ) (inside 
   no_scan other is = absurd (cc)
 
   counts : Counts w.heap
-  counts = wave.old.counts marks
+  counts = colours_count layout shapes w wave marks
 
   -- the cell is black still
   pub un_blacken : IsBlack w.heap cell →

@@ -11,6 +11,7 @@ use Rattle.tide_machine.proofs.kinds.Scanning.{lost_mark, mark_finds_other, mark
 use Rattle.tide_machine.proofs.kinds.Swapping.{swap_grey}
 use Rattle.tide_machine.proofs.kinds.UnBlackening.{un_blacken, un_blacken_finds_grey, raced_word}
 use Rattle.tide_machine.proofs.kinds.VisitorLoads.{load_structure, load_slot, load_target}
+use Rattle.tide_machine.proofs.steps.BaseBounds.{colours_count}
 use Rattle.tide_machine.proofs.steps.Loads.{load_same}
 use Rattle.tide_machine.proofs.steps.Rereading.{agrees, differs}
 use Rattle.tide_machine.specs.Groups.{is_of_visits}
@@ -204,7 +205,8 @@ module _ (layout : Layout) (shapes : ShapeLists) (w : World) (me : ℕ) (inside 
           may.scan may.is may.raced
           (ap (is_black_in (base_cycle w.heap)) (eqb-true (w.heap region.Colour may.scan.cell)
           (colour_word (running_cycle w.heap) Black) same) ∙ ap {B = Bool} (λ (colour : Colour). colour_state colour == 0)
-          (colour_of-later (base_cycle w.heap) (running_cycle w.heap) Black (wave.old.counts (marks_for may.runner))))
+          (colour_of-later (base_cycle w.heap) (running_cycle w.heap) Black
+          (colours_count layout shapes w wave (marks_for may.runner))))
       by false other = load_same layout shapes w.heap region.Colour may.scan.cell _ w.log
           (un_blacken_finds_grey layout shapes w me inside wave may.runner.runs (marks_for may.runner) may.runner.idle
           may.scan may.is may.raced (not_black other (is_black w.heap may.scan.cell) refl))

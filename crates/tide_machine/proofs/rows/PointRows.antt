@@ -187,7 +187,17 @@ old-young_marked point = (let old = point.rests refl 0 (omega arith) refl in abs
 
 -- colours count from a cycle on that hasn't begun
 old-later_base : OldIsMarked small (write (write empty_heap region.Phase 0 3) region.Base 0 2) (plain (Begin 1 true) ∷ []) → ⊥
-old-later_base point = (let counts = point.counts refl in absurd (omega (arith, counts)))
+old-later_base point = (let base = point.base in absurd (omega (arith, base)))
+
+-- they count from a cycle on that was an Eden one
+old-eden_base : OldIsMarked small (write (write empty_heap region.Phase 0 5) region.Base 0 2)
+    (plain (Begin 1 true) ∷ plain (End 1 []) ∷ plain (Begin 2 false) ∷ []) → ⊥
+old-eden_base point = (let base = point.base in absurd (omega (arith, base)))
+
+-- a full cycle began, and colours of the one before it count
+old-earlier_base : OldIsMarked small (write empty_heap region.Phase 0 5)
+    (plain (Begin 1 true) ∷ plain (End 1 []) ∷ plain (Begin 2 true) ∷ []) → ⊥
+old-earlier_base point = (let base = point.base in absurd (omega (arith, base)))
 
 -- a cell was born in the cycle, it is white, and nobody owes its colour
 abbrev born_white : List Event

@@ -30,7 +30,7 @@ use Rattle.tide_machine.specs.points.Marks.{counted_in}
 use Rattle.tide_machine.specs.points.Scans.{IsAtHand, held, scanned, buffered, ScanKnows}
 use Rattle.tide_machine.specs.points.Seen.{CallsAreTold, WhoLeftIsInactive}
 use Rattle.tide_machine.specs.points.SettledWords.{RunningWordsRead}
-use Rattle.tide_model.proofs.OldLaws.{is_full-push, is_old-push, is_spared-push, spared_retained-push}
+use Rattle.tide_model.proofs.OldLaws.{is_full-push, is_old-push, is_spared-push, last_full-kept, spared_retained-push}
 use Rattle.tide_model.proofs.Histories.{IsLawful-push, state_after-push}
 use Rattle.tide_model.proofs.ReferenceLaws.{put_at_elim}
 use Rattle.tide_model.specs.Applied.{after_call}
@@ -394,8 +394,7 @@ module _ (layout : Layout) (shapes : ShapeLists) (old : Heap) (part : ℕ → Vi
       old = record {
         old = λ when cell within is. same_marked cell ∙ wave.old.old (λ marks. sym full_same ∙ when (marking ∙ marks)) cell within (sym (old_same cell) ∙ is);
         rests = λ idle cell within is. old_same cell ∙ wave.old.rests (sym marking ∙ idle) cell within (sym (same_marked cell) ∙ is);
-        counts = λ marks. (let c = wave.old.counts (sym marking ∙ marks) in let b = base in let r = running in omega (arith, c, b, r));
-        soon = (let c = wave.old.soon in let b = base in let r = running in omega (arith, c, b, r));
+        base = base ∙ wave.old.base ∙ sym (last_full-kept log (call_of me op reply took) refl);
       };
       born = born_after;
       counted = record {

@@ -28,7 +28,7 @@ use Rattle.tide_machine.specs.points.Scans.{IsAtHand, held, scanned, buffered}
 use Rattle.tide_machine.specs.points.SettledWords.{RunningWordsRead}
 use Rattle.tide_machine.specs.points.Sweeps.{SweepsAreRight, SweptAreBelow}
 use Rattle.tide_model.proofs.Histories.{IsLawful-push}
-use Rattle.tide_model.proofs.OldLaws.{is_old-push}
+use Rattle.tide_model.proofs.OldLaws.{is_old-push, last_full-kept}
 use Rattle.tide_model.proofs.SinceLaws.{count-push, since-push}
 use Rattle.tide_model.proofs.Windows.{window_start-push}
 use Rattle.tide_model.specs.History.{is_begin, is_call_of, is_open, state_after, state_at}
@@ -263,8 +263,7 @@ module _ (layout : Layout) (shapes : ShapeLists) (w : World) (me : ℕ) (inside 
       old = record {
         old = λ when cell within is. same_marked cell ∙ wave.old.old (λ marks. marks_not marks) cell within (sym (old_same cell) ∙ is);
         rests = λ rests cell within is. old_same cell ∙ wave.old.rests idle cell within (sym (same_marked cell) ∙ is);
-        counts = λ marks. now_not marks;
-        soon = (let soon = wave.old.soon in omega (arith, soon, base, running));
+        base = base ∙ wave.old.base ∙ sym (last_full-kept w.log event no_begin);
       };
       born = record {
         born = λ marks. now_not marks;

@@ -289,8 +289,7 @@ module _ (layout : Layout) (shapes : ShapeLists) (old : Heap) (part : ℕ → Vi
           | inl before ↦ wave.old.rests (sym marking ∙ idle) cell within before
           | inr now ↦ (let marks = now.0 in absurd (true≢false (sym marks ∙ sym marking ∙ idle)))
         ];
-        counts = λ marks. (let c = wave.old.counts (sym marking ∙ marks) in let b = base in let r = running in omega (arith, c, b, r));
-        soon = (let c = wave.old.soon in let b = base in let r = running in omega (arith, c, b, r));
+        base = base ∙ wave.old.base;
       };
       born = born_after;
       counted = record {
