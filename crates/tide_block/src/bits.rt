@@ -1,6 +1,6 @@
 //! The bits of a word: which are set, and a word with one of them or all the other way. They know no block.
 ghost use Rattle.std.specs.Int.{bit_at};
-ghost use Rattle.std.specs.Prelude.{◌≡◌, ◌-◌, ◌<◌, ◌≤◌, ◌==◌, ◌↔◌, ℕ, IsNone, IfSome};
+ghost use Rattle.std.specs.Prelude.{◌≡◌, ◌≢◌, ◌-◌, ◌<◌, ◌≤◌, ◌==◌, ◌↔◌, ℕ, IsNone, IfSome};
 ghost use Rattle.tide_block.specs.Bits.{IsClearFrom, IsLowestFrom, IsWithBit};
 
 /// The lowest set bit, from 0 to 63. `None` comes exactly for 0.
@@ -47,6 +47,14 @@ pub fn without_bit(word: u64, bit: u32) -> u64
     ensures { IsWithBit word result bit 0 }
 {
     word & !(1 << bit)
+}
+
+/// The word without its lowest set bit. It needs no look at which bit that is, so that the next one is known sooner.
+pub fn without_lowest(word: u64) -> u64
+    requires { word ≢ 0 }
+    ensures { (bit : ℕ) → IsLowestFrom word 0 bit → IsWithBit word result bit 0 }
+{
+    word & (word - 1)
 }
 
 /// The word in which just those bits are set that are clear in this one.

@@ -1,7 +1,8 @@
 //! Where the cells and arrays of a store lie: classes, blocks of 64, and the bits of a block's words.
 //!
-//! A block's words have one bit for each of its 64 cells or arrays. `lowest` and `after` walk the set bits of a
-//! word, and four more calls ask for one bit, or give the word with bits the other way. The other calls go from an
+//! A block's words have one bit for each of its 64 cells or arrays. `lowest`, `after` and
+//! `without_lowest` walk the set bits of a word, and four more calls ask for one bit, or give the word with bits the
+//! other way. The other calls go from an
 //! id to its class, its block and its bit, and from a class to its first block and its first id, in the order that a
 //! `Layout` of `tide_layout` gives. `proofs/` has the laws that tie these together, for the crates above.
 #![tactic(auto)]
@@ -9,7 +10,7 @@
 mod bits;
 mod classes;
 
-pub use bits::{after, complement, has_bit, lowest, with_bit, without_bit};
+pub use bits::{after, complement, has_bit, lowest, with_bit, without_bit, without_lowest};
 pub use classes::{
     bit_of, block_of_array, block_of_cell, class_of, class_of_array, first_array_of,
     first_block_of, first_of,
