@@ -1,3 +1,4 @@
 -- The laws of the word forms.
+pub mod ColourBits
 pub mod FormLaws
 mod FormRows

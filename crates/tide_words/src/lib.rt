@@ -6,10 +6,12 @@
 //! stands on `tide_model`, `tide_layout` and `tide_block`.
 #![tactic(auto)]
 
+mod block_bits;
 mod forms;
 mod heap;
 mod marking;
 
+pub use block_bits::{live_bits, marked_bits};
 pub use forms::{
     Colour, MAX_CELLS, Structure, array_word, claim_word, colour, colour_cycle, colour_word,
     is_marked_in, pair_word, phase_word, structure_word, val_word, word_array, word_claim,
