@@ -7,6 +7,7 @@ use Rattle.std.specs.Prelude.{Contains, if◌then◌else◌, ◌&&◌, not, filt
 use Rattle.tide_machine.proofs.kinds.Scanning.{times_in-first}
 use Rattle.tide_machine.proofs.steps.Colouring.{unread_write}
 use Rattle.tide_machine.proofs.steps.Frames.{calls_view, stops_view}
+use Rattle.tide_machine.proofs.steps.GreyBits.{one_at_most}
 use Rattle.tide_machine.proofs.steps.Paying.{filter_was, in_filter}
 use Rattle.tide_machine.proofs.steps.Quiet.{quiet_step}
 use Rattle.tide_machine.proofs.steps.Stacks.{times_in-some}
@@ -123,10 +124,6 @@ module _ (layout : Layout) (shapes : ShapeLists) (w : World) (me : ℕ) (inside 
         (bit_at mask (cell % 64)) else bit_at (w.heap region.GreyShared (block_of_cell cell)) (cell % 64))
         (ne_eqb (block_of_cell cell) block apart))
   ]
-
-  one_at_most : (b : Bool) → ◌≤◌ (if b then 1 else 0) 1
-  one_at_most true = omega arith
-  one_at_most false = omega arith
 
   pub publish : RunningWave layout shapes (record { heap = new; part = put_at w.part me later; log = w.log })
   publish = quiet_step layout shapes w.heap w.part w.log me wave new later record {

@@ -1,11 +1,10 @@
 -- The barrier's load and exchange, and the bit that it sets, keep the wave, whether a cycle marks or not.
-use Rattle.std.proofs.Common.{ℕ, ◌≡◌, ◌<◌, ◌≤◌, ◌==◌, refl, sym, ◌∙◌, ap, subst, arith, Bool, true, false, inl, inr, true≢false}
-use Rattle.std.proofs.lemmas.Bool.{cases_eq, eq-eqb, eqb-true, ne_eqb, cases_Bool, eqb-false}
-use Rattle.std.specs.Int.{bit_at}
-use Rattle.std.specs.Prelude.{if◌then◌else◌, bit_or, ◌%◌}
+use Rattle.std.proofs.Common.{ℕ, ◌≡◌, ◌+◌, ◌<◌, ◌≤◌, ◌==◌, refl, sym, ◌∙◌, ap, subst, arith, Bool, true, false, inl, inr, true≢false}
+use Rattle.std.proofs.lemmas.Bool.{cases_eq, eq-eqb, eqb-true, ne_eqb, eqb-false}
+use Rattle.std.specs.Prelude.{if◌then◌else◌, bit_or}
 use Rattle.tide_machine.proofs.steps.Colouring.{counts_where_black, unread_write, write_same, colours_coloured, black_before_grey, marked_after_grey, marked_before_grey, recoloured_one, grey_after_grey, blackened_le}
 use Rattle.tide_machine.proofs.steps.Duties.{with_duty, duty_step}
-use Rattle.tide_machine.proofs.steps.GreyBits.{bit_pushed}
+use Rattle.tide_machine.proofs.steps.GreyBits.{bit_counted, one_at_most}
 use Rattle.tide_machine.specs.Duties.{GrowsOn, OwesColour, AwaitsLoad, StillOwes}
 use Rattle.tide_machine.specs.Kind.{Regrey, PushBit, PushRace, LoadColour}
 use Rattle.tide_machine.specs.Machine.{stepped}
@@ -22,12 +21,9 @@ use Rattle.tide_words.specs.forms.ColourWord.{is_black_in, colour_word}
 use Rattle.tide_words.specs.heap.Heap.{Heap, write}
 use Rattle.tide_words.specs.marking.Colours.{Counts, coloured, running_cycle, is_grey, is_black, IsBlack}
 use Rattle.tide_words.specs.marking.Marked.{base_cycle}
+use Rattle.tide_words.specs.marking.Marking.{bits_of}
 use Rattle.tide_layout.specs.declared.region.Region.TheVariants as region
 use Rattle.tide_machine.specs.declared.view.Duty.TheVariants as duty
-
-one_at_most : (b : Bool) → ◌≤◌ (if b then 1 else 0) 1
-one_at_most true = omega arith
-one_at_most false = omega arith
 
 module _ (layout : Layout) (shapes : ShapeLists) (w : World) (me : ℕ) (inside : me < parties)
     (wave : RunningWave layout shapes w) (runs : (w.part me).runs ≡ true) where
@@ -170,16 +166,36 @@ module _ (layout : Layout) (shapes : ShapeLists) (w : World) (me : ℕ) (inside 
           })) (sym (write_same w.heap region.Colour cell))
           (left cell word is was)
 
-  -- the bit of a cell whose push is owed
-  pub push_bit : (cell : ℕ) → (w.part me).duty ≡ duty.Push cell →
-      RunningWave layout shapes (stepped layout shapes w me (PushBit cell))
-  push_bit cell is = duty_step layout shapes w.heap w.part w.log me wave
-      (write w.heap region.GreyMutator (block_of_cell cell) (bit_or (w.heap region.GreyMutator (block_of_cell cell))
-      (bit_of cell))) duty.Nothing record {
+  -- the heap with other words where a bit of the cell may be pushed: in that of mutators and in that of races
+  abbrev with_bits : ℕ → ℕ → ℕ → Heap
+  with_bits cell mutators races = write (write w.heap region.GreyMutator (block_of_cell cell) mutators) region.GreyRace
+      (block_of_cell cell) races
+
+  -- a view that owes a push alone, owes nothing once the cell's bit is set in the word of mutators or in that of races
+  owed_bit_pushed : (owed : Duty) (new : Heap) (cell mutators races : ℕ) → (w.part me).duty ≡ owed →
+      ((other : ℕ) → (pushes owed other ≡ (if cell == other then 1 else 0)) × (StillOwes w.heap owed other → ⊥) ×
+      (AwaitsLoad owed other → ⊥) × (OwesColour owed other → ⊥)) →
+      with_bits cell mutators races ≡ new →
+      ((other : ℕ) → bits_of w.heap other + (if cell == other then 1 else 0) ≤ 1 →
+      bits_of new other ≡ bits_of w.heap other + (if cell == other then 1 else 0)) →
+      RunningWave layout shapes (record {
+        heap = new;
+        part = put_at w.part me (with_duty (w.part me) duty.Nothing);
+        log = w.log;
+      })
+  owed_bit_pushed owed new cell mutators races is alone written bits = subst (λ (h : Heap).
+      RunningWave layout shapes (record {
+        heap = h;
+        part = put_at w.part me (with_duty (w.part me) duty.Nothing);
+        log = w.log;
+      })) written (duty_step layout shapes w.heap w.part w.log me wave (with_bits cell mutators races) duty.Nothing
+      record {
         inside = inside;
         runs = runs;
-        words = λ at index. unread_write w.heap region.GreyMutator (block_of_cell cell)
-            (bit_or (w.heap region.GreyMutator (block_of_cell cell)) (bit_of cell)) refl at index;
+        words = λ at index read.
+            unread_write (write w.heap region.GreyMutator (block_of_cell cell) mutators) region.GreyRace
+            (block_of_cell cell) races refl at index read
+            ∙ unread_write w.heap region.GreyMutator (block_of_cell cell) mutators refl at index read;
         period = refl;
         call_words = λ p. refl;
         stop_words = λ index. refl;
@@ -188,67 +204,45 @@ module _ (layout : Layout) (shapes : ShapeLists) (w : World) (me : ℕ) (inside 
         shared = λ c is. is;
         colours = wave.colours;
         balance = λ other in_other few.
-            let one = ap (λ (d : Duty). pushes d other) is in
-            let bit = bit_pushed (w.heap region.GreyMutator) cell other in
-            elim (cases_Bool (cell == other)) [
-              | inl same ↦ (let a = ap {B = ℕ} (λ (b : Bool). if b then 1 else 0) same in let c =
-                  ap {B = ℕ} (λ (b : Bool). if b then 1 else bit_at (w.heap region.GreyMutator (block_of_cell other))
-                  (other % 64)) same in let most = one_at_most (is_grey w.heap other) in
-                  omega (arith, one, bit, a, c, few, most))
-              | inr apart ↦ (let a = ap {B = ℕ} (λ (b : Bool). if b then 1 else 0) apart in let c =
-                  ap {B = ℕ} (λ (b : Bool). if b then 1 else bit_at (w.heap region.GreyMutator (block_of_cell other))
-                  (other % 64)) apart in omega (arith, one, bit, a, c))
-            ];
+            let one = ap (λ (d : Duty). pushes d other) is ∙ (alone other).0 in
+            let most = one_at_most (is_grey w.heap other) in
+            let more = ap (λ (h : Heap). bits_of h other) written ∙ bits other (omega (arith, one, few, most)) in
+            omega (arith, one, more);
         black = λ source place target link black clear.
-            inr (refl, clear, λ owes. absurd (was_barrier (duty.Push cell) source is owes));
-        grows = λ other g owes. absurd (was_awaited (duty.Push cell) other is owes);
+            inr (refl, clear, λ owes. absurd ((alone source).1 (was_barrier owed source is owes)));
+        grows = λ other g owes. absurd ((alone other).2 (was_awaited owed other is owes));
         stays = λ other is. is;
         recoloured = λ _ other. inl refl;
         marked = λ other in_other is. inl is;
-        born = λ _ other owes. absurd (was_born (duty.Push cell) other is owes);
+        born = λ _ other owes. absurd ((alone other).3 (was_born owed other is owes));
         owes = λ other owes. absurd owes;
         counted = λ marks. omega arith;
-      }
+      })
+
+  -- the bit of a cell whose push is owed
+  pub push_bit : (cell : ℕ) → (w.part me).duty ≡ duty.Push cell →
+      RunningWave layout shapes (stepped layout shapes w me (PushBit cell))
+  push_bit cell is =
+      let word = bit_or (w.heap region.GreyMutator (block_of_cell cell)) (bit_of cell) in
+      let new : Heap = write w.heap region.GreyMutator (block_of_cell cell) word in
+      owed_bit_pushed (duty.Push cell) new cell word (w.heap region.GreyRace (block_of_cell cell)) is
+      (λ other. (refl, λ owes. owes, λ owes. owes, λ owes. owes))
+      (write_same new region.GreyRace (block_of_cell cell))
+      (λ other few. (let more = bit_counted (w.heap region.GreyMutator) cell other (omega (arith, few)) in
+      omega (arith, more)))
 
   -- the bit of a raced cell whose push is owed
   pub push_race : (cell : ℕ) → (w.part me).duty ≡ duty.PushRace cell →
       RunningWave layout shapes (stepped layout shapes w me (PushRace cell))
-  push_race cell is = duty_step layout shapes w.heap w.part w.log me wave
-      (write w.heap region.GreyRace (block_of_cell cell) (bit_or (w.heap region.GreyRace (block_of_cell cell))
-      (bit_of cell))) duty.Nothing record {
-        inside = inside;
-        runs = runs;
-        words = λ at index. unread_write w.heap region.GreyRace (block_of_cell cell)
-            (bit_or (w.heap region.GreyRace (block_of_cell cell)) (bit_of cell)) refl at index;
-        period = refl;
-        call_words = λ p. refl;
-        stop_words = λ index. refl;
-        swept = λ block. refl;
-        greys = λ _ other in_other is. is;
-        shared = λ c is. is;
-        colours = wave.colours;
-        balance = λ other in_other few.
-            let one = ap (λ (d : Duty). pushes d other) is in
-            let bit = bit_pushed (w.heap region.GreyRace) cell other in
-            elim (cases_Bool (cell == other)) [
-              | inl same ↦ (let a = ap {B = ℕ} (λ (b : Bool). if b then 1 else 0) same in let c =
-                  ap {B = ℕ} (λ (b : Bool). if b then 1 else bit_at (w.heap region.GreyRace (block_of_cell other))
-                  (other % 64)) same in let most = one_at_most (is_grey w.heap other) in
-                  omega (arith, one, bit, a, c, few, most))
-              | inr apart ↦ (let a = ap {B = ℕ} (λ (b : Bool). if b then 1 else 0) apart in let c =
-                  ap {B = ℕ} (λ (b : Bool). if b then 1 else bit_at (w.heap region.GreyRace (block_of_cell other))
-                  (other % 64)) apart in omega (arith, one, bit, a, c))
-            ];
-        black = λ source place target link black clear.
-            inr (refl, clear, λ owes. absurd (was_barrier (duty.PushRace cell) source is owes));
-        grows = λ other g owes. absurd (was_awaited (duty.PushRace cell) other is owes);
-        stays = λ other is. is;
-        recoloured = λ _ other. inl refl;
-        marked = λ other in_other is. inl is;
-        born = λ _ other owes. absurd (was_born (duty.PushRace cell) other is owes);
-        owes = λ other owes. absurd owes;
-        counted = λ marks. omega arith;
-      }
+  push_race cell is =
+      let word = bit_or (w.heap region.GreyRace (block_of_cell cell)) (bit_of cell) in
+      owed_bit_pushed (duty.PushRace cell) (write w.heap region.GreyRace (block_of_cell cell) word) cell
+      (w.heap region.GreyMutator (block_of_cell cell)) word is
+      (λ other. (refl, λ owes. owes, λ owes. owes, λ owes. owes))
+      (ap (λ (h : Heap). write h region.GreyRace (block_of_cell cell) word)
+      (write_same w.heap region.GreyMutator (block_of_cell cell)))
+      (λ other few. (let more = bit_counted (w.heap region.GreyRace) cell other (omega (arith, few)) in
+      omega (arith, more)))
 
   -- the barrier looks at the colour of the cell, once the growth that made it is over
   pub load_colour : (cell : ℕ) → (w.part me).duty ≡ duty.Barrier cell → (GrowsOn (w.part me).growth cell → ⊥) →
