@@ -1,5 +1,5 @@
 -- A visitor begins a part, and rests again once it stopped.
-use Rattle.std.proofs.Common.{ℕ, ◌≡◌, ◌+◌, ◌<◌, ◌≤◌, refl, sym, ◌∙◌, ap, subst, arith, Bool, true, false, List, [], length, None, inr}
+use Rattle.std.proofs.Common.{◌≡◌, ◌<◌, refl, sym, ◌∙◌, ap, subst, arith, Bool, true, false, [], length, inr}
 use Rattle.std.proofs.lemmas.Bool.{ne_eqb}
 use Rattle.std.specs.Prelude.{◌==◌, if◌then◌else◌}
 use Rattle.check_visits.specs.Parts.{IsNoteOf, IsParked}
@@ -7,7 +7,6 @@ use Rattle.check_visits.specs.Visiting.{unvisited, HasOneBlock, IsWaiting}
 use Rattle.tide_heap.specs.Turns.{heard_view, note_of}
 use Rattle.tide_machine.specs.May.{Rests}
 use Rattle.tide_machine.specs.World.{IsParty}
-use Rattle.tide_machine.specs.declared.view.Growth.TheVariants.{Nothing}
 use Rattle.tide_machine.specs.declared.view.View.{View}
 use Rattle.tide_machine.specs.kinds.Activate.{begun_view}
 use Rattle.tide_machine.specs.kinds.Split.{split_view}
@@ -73,34 +72,41 @@ has_begun v t u parked who later marks same =
       left = parked.stays;
     }
 
--- below, u is its view when it had begun, and x when it stops
-module _ (v t u x : View) (begun : HasBegun v t u) (waits : IsWaiting x) (rest : unvisited x ≡ unvisited u) where
+-- it has looked for the last time: u is its view when it had begun, and x when it stops
+pub record HasLooked (v t u x : View) : Type 0 where
+  pub begun : HasBegun v t u
+  pub waits : IsWaiting x
+  pub rest : unvisited x ≡ unvisited u
+
+module _ {v t u x : View} (looked : HasLooked v t u x) where
   pub rests_then : Rests x
   rests_then = record {
-    held = waits.held;
-    scan = waits.scan;
+    held = looked.waits.held;
+    scan = looked.waits.scan;
     between = record {
-      owed = ap (λ (y : View). y.owed) rest ∙ begun.rests.between.owed;
-      duty = waits.visiting.duty;
-      growth = ap (λ (y : View). y.growth) rest ∙ begun.rests.between.growth;
-      sweeping = ap (λ (y : View). y.sweeping) rest ∙ begun.rests.between.sweeping;
-      calls = ap (λ (y : View). y.calls) rest ∙ begun.rests.between.calls ∙ sym (ap (λ (y : View). length y.mine) rest);
+      owed = ap (λ (y : View). y.owed) looked.rest ∙ looked.begun.rests.between.owed;
+      duty = looked.waits.visiting.duty;
+      growth = ap (λ (y : View). y.growth) looked.rest ∙ looked.begun.rests.between.growth;
+      sweeping = ap (λ (y : View). y.sweeping) looked.rest ∙ looked.begun.rests.between.sweeping;
+      calls = ap (λ (y : View). y.calls) looked.rest ∙ looked.begun.rests.between.calls
+          ∙ sym (ap (λ (y : View). length y.mine) looked.rest);
     };
   }
 
   pub of_part : x.begun ≡ x.ticket
-  of_part = ap (λ (y : View). y.begun) rest ∙ begun.begun ∙ sym (ap (λ (y : View). y.ticket) rest ∙ begun.ticket)
+  of_part = ap (λ (y : View). y.begun) looked.rest ∙ looked.begun.begun
+      ∙ sym (ap (λ (y : View). y.ticket) looked.rest ∙ looked.begun.ticket)
 
   pub once : v.period < t.period → x.period < x.ticket
   once later =
-      let period = ap (λ (y : View). y.period) rest ∙ begun.period in
-      let ticket = ap (λ (y : View). y.ticket) rest ∙ begun.ticket in
+      let period = ap (λ (y : View). y.period) looked.rest ∙ looked.begun.period in
+      let ticket = ap (λ (y : View). y.ticket) looked.rest ∙ looked.begun.ticket in
       omega (arith, later, period, ticket)
 
   pub party : (layout : Layout) → HasOneBlock layout → IsParty layout x.who
   party layout small = inr (
-    (let who = waits.visiting.who in omega (arith, who)),
-    (let who = waits.visiting.who in let one = small.visitors in omega (arith, who, one)),
+    (let who = looked.waits.visiting.who in omega (arith, who)),
+    (let who = looked.waits.visiting.who in let one = small.visitors in omega (arith, who, one)),
   )
 
   pub parked_then : (y : View) → y ≡ split_view (stopped_view x) → IsParked y
@@ -109,7 +115,7 @@ module _ (v t u x : View) (begun : HasBegun v t u) (waits : IsWaiting x) (rest :
       let began = of_part in
       subst IsParked (sym same) record {
         runs = refl;
-        stays = ap (λ (z : View). z.left) rest ∙ begun.left;
+        stays = ap (λ (z : View). z.left) looked.rest ∙ looked.begun.left;
         rests = record {
           held = is.held;
           scan = is.scan;
@@ -125,14 +131,14 @@ module _ (v t u x : View) (begun : HasBegun v t u) (waits : IsWaiting x) (rest :
       }
 
   pub who_then : (y : View) → y ≡ split_view (stopped_view x) → y.who ≡ 16
-  who_then y same = ap (λ (z : View). z.who) same ∙ waits.visiting.who
+  who_then y same = ap (λ (z : View). z.who) same ∙ looked.waits.visiting.who
 
   pub period_then : (y : View) → y ≡ split_view (stopped_view x) → y.period ≡ t.period
-  period_then y same = ap (λ (z : View). z.period) same ∙ ap (λ (z : View). z.ticket) rest ∙ begun.ticket
+  period_then y same = ap (λ (z : View). z.period) same ∙ ap (λ (z : View). z.ticket) looked.rest ∙ looked.begun.ticket
 
   pub note_then : (y : View) (done : Bool) → y ≡ note_of done (stopped_view x) → IsNoteOf 16 t.period y
   note_then y done same = record {
-    who = ap (λ (z : View). z.who) same ∙ waits.visiting.who;
-    period = ap (λ (z : View). z.period) same ∙ ap (λ (z : View). z.ticket) rest ∙ begun.ticket;
-    begun = ap (λ (z : View). z.begun) same ∙ ap (λ (z : View). z.begun) rest ∙ begun.begun;
+    who = ap (λ (z : View). z.who) same ∙ looked.waits.visiting.who;
+    period = ap (λ (z : View). z.period) same ∙ ap (λ (z : View). z.ticket) looked.rest ∙ looked.begun.ticket;
+    begun = ap (λ (z : View). z.begun) same ∙ ap (λ (z : View). z.begun) looked.rest ∙ looked.begun.begun;
   }

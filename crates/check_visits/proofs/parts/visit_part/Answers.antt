@@ -1,9 +1,28 @@
 -- Why it may visit, look and stop, and that it stands between two parts again.
-use Rattle.std.proofs.Common.{◌≡◌, ◌<◌, ◌∙◌, ap, arith}
-use Rattle.std.specs.Prelude.{◌||◌, ◌+◌, ◌^◌}
-use Rattle.check_visits.proofs.Resting.{has_begun, note_then, of_part, once, parked_then, party, period_then, rests_then, who_then}
+use Rattle.std.proofs.Common.{◌∙◌, arith}
+use Rattle.std.specs.Prelude.{◌||◌}
+use Rattle.check_visits.proofs.Resting.{has_begun, note_then, of_part, once, parked_then, party, period_then, rests_then, who_then, HasBegun, HasLooked}
 use Rattle.tide_heap.specs.Done.{done_by_numbers}
+use Rattle.check_visits.proofs.parts.visit_part.Given as given
 use Rattle.check_visits.proofs.parts.visit_part.Goals as goal
+use Rattle.check_visits.proofs.parts.visit_part.Goals.{After-begin, After-look_again-is_whole}
+
+-- it has begun the part of its ticket
+begun : (g : given.Over) (c : After-begin g) →
+    HasBegun c.args.pass.now.seat.me.0 c.args.ticket.seat.me.0 c.begin.new.self.seat.me.0
+begun g c = has_begun c.args.pass.now.seat.me.0 c.args.ticket.seat.me.0 c.begin.new.self.seat.me.0 c.requires.parked
+    c.requires.visitor c.requires.later c.requires.marks c.begin.ensures.begun
+
+-- it has visited, and looked for the last time
+looked : (g : given.Over) (c : After-look_again-is_whole g) →
+    HasLooked c.args.pass.now.seat.me.0 c.args.ticket.seat.me.0 c.begin.new.self.seat.me.0
+    c.look_again-is_whole.new.pass.seat.me.0
+looked g c = record {
+  begun = has_begun c.args.pass.now.seat.me.0 c.args.ticket.seat.me.0 c.begin.new.self.seat.me.0 c.requires.parked
+      c.requires.visitor c.requires.later c.requires.marks c.begin.ensures.begun;
+  waits = c.look_again-is_whole.ensures.waits;
+  rest = c.look_again-is_whole.ensures.rest ∙ c.visit_one-visited.ensures.visited.rest;
+}
 
 pub begin-requires-clause-parked : goal.begin-requires-clause-parked
 begin-requires-clause-parked g c =
@@ -15,20 +34,11 @@ begin-requires-clause-stays g c =
 
 pub visit_one-visited-requires-clause-waits : goal.visit_one-visited-requires-clause-waits
 visit_one-visited-requires-clause-waits g c =
-    let v = c.args.pass.now.seat.me.0 in
-    let t = c.args.ticket.seat.me.0 in
-    let u = c.begin.new.self.seat.me.0 in
-    let begun = has_begun v t u c.requires.parked c.requires.visitor c.requires.later c.requires.marks c.begin.ensures.begun in
-    begun.waits
+    (begun g (goal.at.visit_one-visited-requires-clause-waits g c).After-begin).waits
 
 pub visit_one-visited-requires-clause-few : goal.visit_one-visited-requires-clause-few
 visit_one-visited-requires-clause-few g c =
-    let v = c.args.pass.now.seat.me.0 in
-    let t = c.args.ticket.seat.me.0 in
-    let u = c.begin.new.self.seat.me.0 in
-    let begun = has_begun v t u c.requires.parked c.requires.visitor c.requires.later c.requires.marks c.begin.ensures.begun in
-    let none = begun.visits in
-    omega (arith, none)
+    (let none = (begun g (goal.at.visit_one-visited-requires-clause-few g c).After-begin).visits in omega (arith, none))
 
 pub look_again-is_whole-requires-clause-waits : goal.look_again-is_whole-requires-clause-waits
 look_again-is_whole-requires-clause-waits g c =
@@ -36,14 +46,8 @@ look_again-is_whole-requires-clause-waits g c =
 
 pub stop-note-requires-clause-party : goal.stop-note-requires-clause-party
 stop-note-requires-clause-party g c =
-    let v = c.args.pass.now.seat.me.0 in
-    let t = c.args.ticket.seat.me.0 in
-    let u = c.begin.new.self.seat.me.0 in
-    let begun = has_begun v t u c.requires.parked c.requires.visitor c.requires.later c.requires.marks c.begin.ensures.begun in
-    let x = c.look_again-is_whole.new.pass.seat.me.0 in
-    let waits = c.look_again-is_whole.ensures.waits in
-    let rest = c.look_again-is_whole.ensures.rest ∙ c.visit_one-visited.ensures.visited.rest in
-    party v t u x begun waits rest c.args.heap.now.key.layout c.requires.small
+    party (looked g (goal.at.stop-note-requires-clause-party g c).After-look_again-is_whole) c.args.heap.now.key.layout
+    c.requires.small
 
 pub stop-note-requires-clause-runs : goal.stop-note-requires-clause-runs
 stop-note-requires-clause-runs g c =
@@ -51,36 +55,15 @@ stop-note-requires-clause-runs g c =
 
 pub stop-note-requires-clause-rests : goal.stop-note-requires-clause-rests
 stop-note-requires-clause-rests g c =
-    let v = c.args.pass.now.seat.me.0 in
-    let t = c.args.ticket.seat.me.0 in
-    let u = c.begin.new.self.seat.me.0 in
-    let begun = has_begun v t u c.requires.parked c.requires.visitor c.requires.later c.requires.marks c.begin.ensures.begun in
-    let x = c.look_again-is_whole.new.pass.seat.me.0 in
-    let waits = c.look_again-is_whole.ensures.waits in
-    let rest = c.look_again-is_whole.ensures.rest ∙ c.visit_one-visited.ensures.visited.rest in
-    rests_then v t u x begun waits rest
+    rests_then (looked g (goal.at.stop-note-requires-clause-rests g c).After-look_again-is_whole)
 
 pub stop-note-requires-clause-began : goal.stop-note-requires-clause-began
 stop-note-requires-clause-began g c =
-    let v = c.args.pass.now.seat.me.0 in
-    let t = c.args.ticket.seat.me.0 in
-    let u = c.begin.new.self.seat.me.0 in
-    let begun = has_begun v t u c.requires.parked c.requires.visitor c.requires.later c.requires.marks c.begin.ensures.begun in
-    let x = c.look_again-is_whole.new.pass.seat.me.0 in
-    let waits = c.look_again-is_whole.ensures.waits in
-    let rest = c.look_again-is_whole.ensures.rest ∙ c.visit_one-visited.ensures.visited.rest in
-    of_part v t u x begun waits rest
+    of_part (looked g (goal.at.stop-note-requires-clause-began g c).After-look_again-is_whole)
 
 pub stop-note-requires-clause-once : goal.stop-note-requires-clause-once
 stop-note-requires-clause-once g c =
-    let v = c.args.pass.now.seat.me.0 in
-    let t = c.args.ticket.seat.me.0 in
-    let u = c.begin.new.self.seat.me.0 in
-    let begun = has_begun v t u c.requires.parked c.requires.visitor c.requires.later c.requires.marks c.begin.ensures.begun in
-    let x = c.look_again-is_whole.new.pass.seat.me.0 in
-    let waits = c.look_again-is_whole.ensures.waits in
-    let rest = c.look_again-is_whole.ensures.rest ∙ c.visit_one-visited.ensures.visited.rest in
-    once v t u x begun waits rest c.requires.later
+    once (looked g (goal.at.stop-note-requires-clause-once g c).After-look_again-is_whole) c.requires.later
 
 pub stop-note-requires-clause-round : goal.stop-note-requires-clause-round
 stop-note-requires-clause-round g c =
@@ -88,45 +71,22 @@ stop-note-requires-clause-round g c =
 
 pub returns-clause-who : goal.returns-clause-who
 returns-clause-who g c =
-    let v = c.args.pass.now.seat.me.0 in
-    let t = c.args.ticket.seat.me.0 in
-    let u = c.begin.new.self.seat.me.0 in
-    let begun = has_begun v t u c.requires.parked c.requires.visitor c.requires.later c.requires.marks c.begin.ensures.begun in
-    let x = c.look_again-is_whole.new.pass.seat.me.0 in
-    let waits = c.look_again-is_whole.ensures.waits in
-    let rest = c.look_again-is_whole.ensures.rest ∙ c.visit_one-visited.ensures.visited.rest in
-    who_then v t u x begun waits rest c.stop-note.new.self.seat.me.0 c.stop-note.ensures.stopped
+    who_then (looked g (goal.at.returns-clause-who g c).After-look_again-is_whole)
+    c.stop-note.new.self.seat.me.0 c.stop-note.ensures.stopped
 
 pub returns-clause-parked : goal.returns-clause-parked
 returns-clause-parked g c =
-    let v = c.args.pass.now.seat.me.0 in
-    let t = c.args.ticket.seat.me.0 in
-    let u = c.begin.new.self.seat.me.0 in
-    let begun = has_begun v t u c.requires.parked c.requires.visitor c.requires.later c.requires.marks c.begin.ensures.begun in
-    let x = c.look_again-is_whole.new.pass.seat.me.0 in
-    let waits = c.look_again-is_whole.ensures.waits in
-    let rest = c.look_again-is_whole.ensures.rest ∙ c.visit_one-visited.ensures.visited.rest in
-    parked_then v t u x begun waits rest c.stop-note.new.self.seat.me.0 c.stop-note.ensures.stopped
+    parked_then (looked g (goal.at.returns-clause-parked g c).After-look_again-is_whole)
+    c.stop-note.new.self.seat.me.0 c.stop-note.ensures.stopped
 
 pub returns-clause-period : goal.returns-clause-period
 returns-clause-period g c =
-    let v = c.args.pass.now.seat.me.0 in
-    let t = c.args.ticket.seat.me.0 in
-    let u = c.begin.new.self.seat.me.0 in
-    let begun = has_begun v t u c.requires.parked c.requires.visitor c.requires.later c.requires.marks c.begin.ensures.begun in
-    let x = c.look_again-is_whole.new.pass.seat.me.0 in
-    let waits = c.look_again-is_whole.ensures.waits in
-    let rest = c.look_again-is_whole.ensures.rest ∙ c.visit_one-visited.ensures.visited.rest in
-    period_then v t u x begun waits rest c.stop-note.new.self.seat.me.0 c.stop-note.ensures.stopped
+    period_then (looked g (goal.at.returns-clause-period g c).After-look_again-is_whole)
+    c.stop-note.new.self.seat.me.0 c.stop-note.ensures.stopped
 
 pub returns-clause-note : goal.returns-clause-note
 returns-clause-note g c =
-    let v = c.args.pass.now.seat.me.0 in
-    let t = c.args.ticket.seat.me.0 in
-    let u = c.begin.new.self.seat.me.0 in
-    let begun = has_begun v t u c.requires.parked c.requires.visitor c.requires.later c.requires.marks c.begin.ensures.begun in
-    let x = c.look_again-is_whole.new.pass.seat.me.0 in
-    let waits = c.look_again-is_whole.ensures.waits in
-    let rest = c.look_again-is_whole.ensures.rest ∙ c.visit_one-visited.ensures.visited.rest in
-    note_then v t u x begun waits rest c.stop-note.result.seat.me.0 (done_by_numbers x || c.look_again-is_whole.result)
+    note_then (looked g (goal.at.returns-clause-note g c).After-look_again-is_whole)
+    c.stop-note.result.seat.me.0
+    (done_by_numbers c.look_again-is_whole.new.pass.seat.me.0 || c.look_again-is_whole.result)
     c.stop-note.ensures.note.1
