@@ -27,7 +27,8 @@ pub use working::{Worked, work};
 /// four cells of the chain, and emptied the weak handle to the fifth one.
 fn is_kept(seen: Seen) -> bool {
     let emptied = matches!(seen.weak, Some(Reply::Seen(Val::Empty)));
-    seen.visits > 0 && seen.kept == Some(4) && emptied
+    let is_first = seen.cycle == 1 && seen.base == 1;
+    is_first && seen.visits > 0 && seen.kept == Some(4) && emptied
 }
 
 /// A mutator links four cells and lets a fifth one go, a cycle begins, and a visitor marks what its first pause left, beside

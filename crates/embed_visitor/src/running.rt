@@ -64,6 +64,9 @@ const LOOKS: [Op; 1] = [Op::WeakGet { dst: 1, at: 0 }];
 /// What was seen of a cycle that marked beside the mutator.
 #[derive(Clone, Copy)]
 pub struct Seen {
+    /// The number of the cycle that marked in the second part, and from which cycle on colours counted there.
+    pub cycle: u64,
+    pub base: u64,
     /// How many cells the visitor made black in the second part.
     pub visits: u32,
     /// How many the cycle kept that ended after it, if one did.
@@ -76,6 +79,9 @@ pub struct Seen {
 #[derive(Drop)]
 pub struct PartDone {
     pub shared: Shared,
+    /// The number of the last cycle that had begun, and from which cycle on colours count, as the tickets said.
+    pub cycle: u64,
+    pub base: u64,
     /// How many visits the visitor's note tells.
     pub visits: u32,
     /// What the mutator's last call was answered, if it made one.
@@ -98,6 +104,7 @@ impl Shared {
         } = self;
         let first = collector.ticket(&heap);
         let second = collector.ticket(&heap);
+        let (cycle, base) = (first.cycle(), first.base());
         let (worked, visited) = work_and_visit(rt, &heap, mutator, first, ops, visitor, second);
         let visits = visited.note.numbers().visits;
         collector.take(&heap, worked.note);
@@ -111,6 +118,8 @@ impl Shared {
         };
         PartDone {
             shared,
+            cycle,
+            base,
             visits,
             last: worked.last,
         }
@@ -127,6 +136,7 @@ pub fn run_cycle<R: Threads + Sync>(rt: &R, mut shared: Shared) -> Option<Seen>
     linked.shared.next()?;
     let mut stored = linked.shared.run_part(rt, &STORES);
     stored.shared.next()?;
+    let (cycle, base) = (stored.cycle, stored.base);
     let visits = stored.visits;
     let kept = stored
         .shared
@@ -137,6 +147,8 @@ pub fn run_cycle<R: Threads + Sync>(rt: &R, mut shared: Shared) -> Option<Seen>
         .map(|line| line.kept);
     let looked = stored.shared.run_part(rt, &LOOKS);
     Some(Seen {
+        cycle,
+        base,
         visits,
         kept,
         weak: looked.last,

@@ -49,7 +49,7 @@ pub data Kind : Type 0 where
   LoadLink : ℕ → ℕ → Option Op → Kind
   StoreLink : ℕ → ℕ → ℕ → Option Op → Kind
   LoadColour : ℕ → Kind
-  Regrey : ℕ → ℕ → ℕ → Kind
+  Regrey : (cell old cycle : ℕ) → Kind
   PushBit : ℕ → Kind
   LoadFree : ℕ → Option Op → Kind
   TakeFree : ℕ → ℕ → Option Op → Kind
@@ -71,16 +71,16 @@ pub data Kind : Type 0 where
   StoreStructure : ℕ → ℕ → Option Op → Kind
   -- a visitor's scan of a cell
   SwapGrey : Region → ℕ → Kind
-  Blacken : ℕ → ℕ → Kind
+  Blacken : (cell cycle : ℕ) → Kind
   LoadStructure : ℕ → Kind
   LoadArray : ℕ → Kind
   LoadSlot : ℕ → ℕ → Kind
   LoadElementOf : ℕ → ℕ → Kind
   LoadAgain : ℕ → Kind
   LoadTarget : ℕ → Kind
-  Mark : ℕ → ℕ → ℕ → Kind
+  Mark : (cell old cycle : ℕ) → Kind
   -- a raced cell, and cells that are given back
-  UnBlacken : ℕ → ℕ → Kind
+  UnBlacken : (cell cycle : ℕ) → Kind
   PushRace : ℕ → Kind
   Publish : ℕ → ℕ → Kind
   -- sweeping

@@ -27,6 +27,7 @@ pub record Kept : Type 0 where
   pub run : ℕ
   pub marks : Bool
   pub cycle : ℕ
+  pub least : ℕ
   pub runs : Bool
   pub begun : ℕ
   pub visits : ℕ
@@ -44,6 +45,7 @@ kept v = record {
   run = v.run;
   marks = v.marks;
   cycle = v.cycle;
+  least = v.least;
   runs = v.runs;
   begun = v.begun;
   visits = v.visits;
