@@ -1,6 +1,7 @@
 //! Rows, each of which is a trial (`trial.rt`).
 //!
-//! They are done here and not by `check_rows`, since what a run may start threads with isn't handed to a trait's method.
+//! They are done here and not by `check_rows`, since what a run may start threads with isn't handed to a trait's
+//! method.
 
 use crate::trial::Trial;
 use check_heap::{parts_of, tell_answer, words_of};

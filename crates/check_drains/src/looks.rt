@@ -1,5 +1,5 @@
-//! Words that a row has looked at while its second part runs, each when a participant comes to a point. A look changes nothing
-//! and holds nobody.
+//! Words that a row has looked at while its second part runs, each when a participant comes to a point. A look changes
+//! nothing and holds nobody.
 
 use crate::seen::Word;
 use check_heap::{Holds, Point, text};

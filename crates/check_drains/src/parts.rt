@@ -50,8 +50,8 @@ fn drain_each<S: HeapShapes, T: Turnstile>(
     Ok(drains)
 }
 
-/// The visitor's part. The races that it met are asked for once it has stopped. Then it meets the turnstile once more, at its
-/// call 1, which no drain is: so another can be held until it has stopped.
+/// The visitor's part. The races that it met are asked for once it has stopped. Then it meets the turnstile once more,
+/// at its call 1, which no drain is: so another can be held until it has stopped.
 pub fn visit<S: HeapShapes, T: Turnstile>(
     alloc: Global,
     heap: &Heap<S>,

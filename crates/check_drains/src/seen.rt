@@ -67,8 +67,8 @@ impl Word {
         }
     }
 
-    /// The text of what it was found to be: of a structure and an array what they tell, of a colour which one it is in a
-    /// cycle, and of any other word its value.
+    /// The text of what it was found to be: of a structure and an array what they tell, of a colour which one it is in
+    /// a cycle, and of any other word its value.
     pub fn found_text(self, alloc: Global, word: u64, cycle: u64) -> Result<String, AllocError> {
         match self {
             Word::Of(Region::Structure, _) => match word_structure(word) {

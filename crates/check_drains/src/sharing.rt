@@ -47,8 +47,8 @@ fn run_first<R: Threads + Sync>(rt: &R, mut shared: Shared, plan: &Plan, run: u3
     Some(shared)
 }
 
-/// A heap whose second part is open, in which a mutator has so many calls, and in which a cycle marks. `None` where the paths
-/// aren't some of shapes, the mutator is to have no calls, or the cycle's first pause leaves nothing grey.
+/// A heap whose second part is open, in which a mutator has so many calls, and in which a cycle marks. `None` where the
+/// paths aren't some of shapes, the mutator is to have no calls, or the cycle's first pause leaves nothing grey.
 pub fn share<R: Threads + Sync>(
     rt: &R,
     alloc: Global,

@@ -1,21 +1,23 @@
 //! A cycle that a visitor marks beside a mutator, which is told and asked one line after another.
 //!
 //! The lines of a row: `path KEYS` declares the path of these keys, numbers from 0; `before OPERATION` is a call of the
-//! mutator while no cycle marks, in the texts of a workload, with `k` and its number for a key. `begin BUDGET` says how many
-//! cells the pause makes black with which the cycle begins. `beside OPERATION` is a call of the part after it, in which
-//! `drain BUDGET` is a drain of the visitor; `hold POINT until POINT` holds one until the other has come to a point, as the
-//! README of `check_heap` says; the visitor's number is 16, and it is at `call 1` once it has stopped. `look POINT WORD` looks
-//! at a word when one comes to a point for the first time, as `look 0 nuked 2 structure 2` or `look 0 linked 1 slot 1.0`. Then
+//! mutator while no cycle marks, in the texts of a workload, with `k` and its number for a key. `begin BUDGET` says how
+//! many cells the pause makes black with which the cycle begins. `beside OPERATION` is a call of the part after it, in
+//! which `drain BUDGET` is a drain of the visitor; `hold POINT until POINT` holds one until the other has come to a
+//! point, as the README of `check_heap` says; the visitor's number is 16, and it is at `call 1` once it has stopped.
+//! `look POINT WORD` looks at a word when one comes to a point for the first time, as `look 0 nuked 2 structure 2` or
+//! `look 0 linked 1 slot 1.0`. Then
 //!
-//! - `apart CALLS` and `together CALLS` run all this, with so many calls of that part: one after the other, the mutator first,
-//!   or in two threads. They are answered with how each drain ended, and how many visits there were then;
-//! - `note` is answered with the visits that the visitor's note tells, whether it tells that the part is done, and how many
-//!   races the visitor told; `held` with the numbers of the holds that were kept, from 0;
+//! - `apart CALLS` and `together CALLS` run all this, with so many calls of that part: one after the other, the mutator
+//!   first, or in two threads. They are answered with how each drain ended, and how many visits there were then;
+//! - `note` is answered with the visits that the visitor's note tells, whether it tells that the part is done, and how
+//!   many races the visitor told; `held` with the numbers of the holds that were kept, from 0;
 //! - `seen NUMBER` is answered with what that look found, from 0, or `not met`;
-//! - `colour CELL` is answered with the colour of a cell once both have stopped, `cells REGION` with the cells whose bits are
-//!   set in a region that has a word for each block, and any other word as `check_heap` names it with what it is then;
-//! - `pause BUDGET` pauses over a copy of the words, as the freeze does that follows, and is answered with how that ended. The
-//!   words that are asked for behind it are those after it.
+//! - `colour CELL` is answered with the colour of a cell once both have stopped, `cells REGION` with the cells whose
+//!   bits are set in a region that has a word for each block, and any other word as `check_heap` names it with what it
+//!   is then;
+//! - `pause BUDGET` pauses over a copy of the words, as the freeze does that follows, and is answered with how that
+//!   ended. The words that are asked for behind it are those after it.
 
 use crate::copying::{cells_in, colour_in, cycle_in, pause_copy};
 use crate::parts::Drain;

@@ -1,13 +1,13 @@
-//! Sources and sinks alone: those in memory, which give and take so many bytes a call and fail where they are told to, and
-//! those over readers and writers.
+//! Sources and sinks alone: those in memory, which give and take so many bytes a call and fail where they are told to,
+//! and those over readers and writers.
 //!
-//! The lines of a row: `source TEXT STEP FAILS` and `sink ROOM STEP FAILS` make them, `source of BYTES x STEP` one that is
-//! so long. Then
+//! The lines of a row: `source TEXT STEP FAILS` and `sink ROOM STEP FAILS` make them, `source of BYTES x STEP` one that
+//! is so long. Then
 //!
-//! - `read SIZE` is answered with how many bytes came, and with what a buffer of so many `-` is then, `read up to LIMIT`
-//!   with what came and `count up to LIMIT` with how much;
-//! - `write TEXT` is answered with how many bytes were taken, `write all TEXT` with whether all were, and `held` with all
-//!   that the sink took; a call that fails is answered `failed`;
+//! - `read SIZE` is answered with how many bytes came, and with what a buffer of so many `-` is then,
+//!   `read up to LIMIT` with what came and `count up to LIMIT` with how much;
+//! - `write TEXT` is answered with how many bytes were taken, `write all TEXT` with whether all were, and `held` with
+//!   all that the sink took; a call that fails is answered `failed`;
 //! - what `real.rt` answers.
 
 use crate::real::on_real_end;

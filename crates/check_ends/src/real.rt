@@ -1,8 +1,8 @@
 //! Sources and sinks over readers and writers of std: bytes in memory, and ones that fail.
 //!
-//! The lines: `real read TEXT` is answered with what a source over this text gives, `real write A B` with what a writer got
-//! that A and then B were written to; `read broken`, `write broken TEXT` and `write nowhere TEXT` are over a reader that
-//! fails, a writer that can't be flushed, and one without room.
+//! The lines: `real read TEXT` is answered with what a source over this text gives, `real write A B` with what a writer
+//! got that A and then B were written to; `read broken`, `write broken TEXT` and `write nowhere TEXT` are over a reader
+//! that fails, a writer that can't be flushed, and one without room.
 
 use crate::ends::{text_of, write};
 use check_heap::{number_text, text};

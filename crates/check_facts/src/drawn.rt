@@ -1,7 +1,7 @@
 //! Workloads that are drawn: 16 mutators, each of which does some of the meetings of a file. It knows no store.
 //!
-//! The words of a file stand for pieces of a workload's document: `_` for a space, `|` for what parts two operations, `A`, `B`
-//! and `C` for registers, `K` for a class of cells, `S` and `W` for a strong and a weak handle.
+//! The words of a file stand for pieces of a workload's document: `_` for a space, `|` for what parts two operations,
+//! `A`, `B` and `C` for registers, `K` for a class of cells, `S` and `W` for a strong and a weak handle.
 ghost use Rattle.std.specs.Prelude.{◌<◌, ◌≤◌, length};
 
 use check_heap::{Draw, words_of};
@@ -127,8 +127,8 @@ fn push_mutator(
     document.extend_from_slice(b"\"]\n")
 }
 
-/// The document of the workload that is drawn for a seed: one word of each line of `settings`, and mutators that do some of
-/// the words of `meetings`.
+/// The document of the workload that is drawn for a seed: one word of each line of `settings`, and mutators that do
+/// some of the words of `meetings`.
 pub fn drawn(
     alloc: Global,
     settings: &str,

@@ -1,10 +1,11 @@
 //! What a run's text tells, and the three facts that hold of it in whatever order the mutators made their calls:
 //!
-//! - **What each mutator did.** Its calls are its script, in order, and each reply is one that may be given after its own calls
-//!   (`held.rt`).
+//! - **What each mutator did.** Its calls are its script, in order, and each reply is one that may be given after its
+//!   own calls (`held.rt`).
 //! - **What became of each cell.** It was freed as often as it was born, or once less, where it lives at the end.
-//! - **What the cycles tell.** They have their numbers, one after another, and the cells that each freed stand in rising order;
-//!   what each kept and freed is no less than what the one before it kept, and no fewer live at the end than the last one kept.
+//! - **What the cycles tell.** They have their numbers, one after another, and the cells that each freed stand in
+//!   rising order; what each kept and freed is no less than what the one before it kept, and no fewer live at the end
+//!   than the last one kept.
 //!
 //! They are weaker than that some order of the calls gives the text, and take no search for one.
 
@@ -14,8 +15,8 @@ use tide_model::{Op, Refusal, Reply};
 use tide_run::{Answered, CycleLine, Outcome};
 use tide_workload::Workload;
 
-/// What a run's text tells: each mutator's calls with their replies, a line for each cycle, the cells that they freed one after
-/// another, and how many cells live at the end.
+/// What a run's text tells: each mutator's calls with their replies, a line for each cycle, the cells that they freed
+/// one after another, and how many cells live at the end.
 #[derive(Drop)]
 pub struct Facts {
     pub calls: Vec<Vec<Answered>>,
@@ -55,8 +56,8 @@ fn is_full(reply: Reply) -> bool {
     }
 }
 
-/// Whether calls are a script, with replies that may be given: an operation that is refused for room is asked for once more,
-/// and after the last one the mutator gives up its claims and retires.
+/// Whether calls are a script, with replies that may be given: an operation that is refused for room is asked for once
+/// more, and after the last one the mutator gives up its claims and retires.
 fn is_script(alloc: Global, who: u32, ops: &[Op], calls: &[Answered]) -> Result<bool, AllocError> {
     let mut held = Held::new(alloc, who);
     let mut left = ops;

@@ -13,8 +13,8 @@ use tide_model::FreePass;
 use tide_run::{Outcome, run};
 use tide_workload::{Workload, read};
 
-/// Whether the facts don't hold of an outcome that is changed in this way. Where that leaves it as it was, there is nothing
-/// to refuse.
+/// Whether the facts don't hold of an outcome that is changed in this way. Where that leaves it as it was, there is
+/// nothing to refuse.
 fn is_refused(
     alloc: Global,
     load: &Workload,
@@ -110,8 +110,8 @@ fn tell_seed(alloc: Global, findings: &mut String, seed: u64) -> Result<(), Allo
     tell(findings, &["the facts aren't so of seed ", seed.as_str()])
 }
 
-/// Runs the workloads of so many seeds from this one, and tells those whose text isn't judged as expected. Each way to doctor
-/// a text has to be tried.
+/// Runs the workloads of so many seeds from this one, and tells those whose text isn't judged as expected. Each way to
+/// doctor a text has to be tried.
 fn are_runs_so<R: Threads + Sync>(
     rt: &R,
     alloc: Global,
@@ -132,8 +132,8 @@ fn are_runs_so<R: Threads + Sync>(
     Ok(all && counts.has_each_way())
 }
 
-/// Judges the texts of the workloads that are drawn from two texts, for so many seeds from this one, and tells what they had if
-/// it is asked to.
+/// Judges the texts of the workloads that are drawn from two texts, for so many seeds from this one, and tells what
+/// they had if it is asked to.
 pub fn check_facts<R: Threads + Sync>(
     rt: &R,
     alloc: Global,

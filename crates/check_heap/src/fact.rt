@@ -178,7 +178,8 @@ impl Heap {
         }
     }
 
-    /// The text of a word that is named by a slot, an element or its number in a region, or of the pair at `TABLE.PLACE`.
+    /// The text of a word that is named by a slot, an element or its number in a region, or of the pair at
+    /// `TABLE.PLACE`.
     pub fn word_text(
         &mut self,
         alloc: Global,

@@ -104,8 +104,8 @@ impl Heap {
         }
     }
 
-    /// Takes an array, gives it to a cell, and writes the shape and the number of properties, which are the same where the
-    /// shapes are those of one path.
+    /// Takes an array, gives it to a cell, and writes the shape and the number of properties, which are the same where
+    /// the shapes are those of one path.
     pub fn set_properties(&mut self, cell: u32, array: u32, count: u32) {
         if array < self.layout.arrays() {
             let block = block_of_array(&self.layout, array);

@@ -1,8 +1,9 @@
 //! A turnstile that holds mutators and visitors, so that a row fixes an interleaving. It changes nothing of a store.
 //!
-//! A hold keeps one participant at a point until another has come to another point, however long ago in the same run. It lasts
-//! at most `TURNS` turns. Then it is given up: from there on nobody is held in that run, and what the run is answered with says
-//! so, so that its row fails. A hold until its own point ends at once, and tells that the point was met.
+//! A hold keeps one participant at a point until another has come to another point, however long ago in the same run.
+//! It lasts at most `TURNS` turns. Then it is given up: from there on nobody is held in that run, and what the run is
+//! answered with says so, so that its row fails. A hold until its own point ends at once, and tells that the point was
+//! met.
 
 use crate::point::Point;
 use crate::texts::{joined, numbers_text};

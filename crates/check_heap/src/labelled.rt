@@ -34,7 +34,8 @@ impl Words for Labelled {
     }
 }
 
-/// The label beside the empty heap of a layout, after a call over its words that looked whether a cell is live: as it was.
+/// The label beside the empty heap of a layout, after a call over its words that looked whether a cell is live: as it
+/// was.
 fn label_beside(alloc: Global, layout: &Layout, label: u32, cell: u32) -> Option<u32>
     ensures label { IfSome result (λ left. left ≡ label) }
 {

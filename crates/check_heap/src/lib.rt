@@ -1,9 +1,9 @@
-//! What the libraries of checks share: the rows of a text, the text of layouts, numbers and replies, heaps in words that are
-//! written a fact at a time, and a turnstile that holds.
+//! What the libraries of checks share: the rows of a text, the text of layouts, numbers and replies, heaps in words
+//! that are written a fact at a time, and a turnstile that holds.
 //!
-//! A row is a name and lines, each of which is something to do, with the answer that is expected of it. What does them is an
-//! `Answers`; it never sees what is expected. What a check has to tell it puts at the end of a text, its `findings`. The library
-//! knows no check, and nothing of the system: the program reads the files and prints.
+//! A row is a name and lines, each of which is something to do, with the answer that is expected of it. What does them
+//! is an `Answers`; it never sees what is expected. What a check has to tell it puts at the end of a text, its
+//! `findings`. The library knows no check, and nothing of the system: the program reads the files and prints.
 #![tactic(auto)]
 
 mod draw;

@@ -5,8 +5,8 @@ ghost use Rattle.tide_layout.specs.Region.{size_of, word_count};
 use tide_block::{class_of, class_of_array};
 use tide_layout::{BLOCK_SIZE, Layout, Region, width};
 
-/// How many words a region has that one may write by their number in it; none of slots and of elements, which go by their
-/// cell or array.
+/// How many words a region has that one may write by their number in it; none of slots and of elements, which go by
+/// their cell or array.
 fn size(layout: &Layout, region: Region) -> u32
     ensures { result ≤ size_of layout.now region }
 {

@@ -42,8 +42,8 @@ impl Point {
         })
     }
 
-    /// The point that some words begin with, and the words behind it. It is `WHO PLACE WHAT`, or `WHO PLACE WHAT in call
-    /// CALL` where a participant comes to a place with that cell or block in several calls.
+    /// The point that some words begin with, and the words behind it. It is `WHO PLACE WHAT`, or
+    /// `WHO PLACE WHAT in call CALL` where a participant comes to a place with that cell or block in several calls.
     pub fn first_of<'a, 'b>(words: &'a [&'b str]) -> Option<(Point, &'a [&'b str])> {
         let [who, place, what, behind @ ..] = words else {
             return None;

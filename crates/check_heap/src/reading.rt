@@ -117,8 +117,8 @@ fn layout_with(cells: [u8; 5], arrays: [u8; 5], others: &[&str]) -> Option<Layou
     ))
 }
 
-/// The layout of words: five blocks of cells, `+`, five of arrays, and then how many `registers`, `strong` and `weak` handles,
-/// `mutators` and, if they are told, `visitors` there are: as `1 0 0 0 1 + 1 0 0 0 0 4 2 2 1`.
+/// The layout of words: five blocks of cells, `+`, five of arrays, and then how many `registers`, `strong` and `weak`
+/// handles, `mutators` and, if they are told, `visitors` there are: as `1 0 0 0 1 + 1 0 0 0 0 4 2 2 1`.
 pub fn layout_of(words: &[&str]) -> Option<Layout> {
     if words.len() < 15 || words.len() > 16 || words[5] != "+" {
         return None;

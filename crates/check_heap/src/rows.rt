@@ -9,8 +9,8 @@ pub trait Answers: Drop {
     /// Before the first line of a row.
     fn begin(alloc: Global) -> Result<Self, AllocError>;
 
-    /// Does what the words of a line say, and answers it, where there is something to answer. `None` where the words say
-    /// nothing that is known.
+    /// Does what the words of a line say, and answers it, where there is something to answer. `None` where the words
+    /// say nothing that is known.
     fn answer(&mut self, alloc: Global, words: &[&str]) -> Result<Option<String>, AllocError>;
 }
 
@@ -83,8 +83,9 @@ fn is_row_so<A: Answers>(
     are_lines_so(alloc, findings, &mut answers, name, lines)
 }
 
-/// Does each row of a text, and tells the lines that end otherwise than expected. A row is a line `=== NAME` and the lines
-/// below it, to the next; what stands before the first is done at the beginning of each. A text without rows is none.
+/// Does each row of a text, and tells the lines that end otherwise than expected. A row is a line `=== NAME` and the
+/// lines below it, to the next; what stands before the first is done at the beginning of each. A text without rows is
+/// none.
 pub fn check_rows<A: Answers>(
     alloc: Global,
     findings: &mut String,

@@ -1,5 +1,5 @@
-//! Texts that are put together. A library of checks uses these alone: each kind of formatting or parsing that a crate uses for
-//! the first time is costly to prove there.
+//! Texts that are put together. A library of checks uses these alone: each kind of formatting or parsing that a crate
+//! uses for the first time is costly to prove there.
 
 use std::alloc::{AllocError, Global};
 

@@ -3,14 +3,15 @@
 //! The lines of a row: `layout ..`, the facts of `Heap::say`, and `listed CELL`, which gives the one cell that the list
 //! holds before a run. Then
 //!
-//! - `run CONSTRAINT` is answered with how many cells it marked, and with the list afterwards: the given cell first. Each
-//!   list but the first has the room for notes of the one before, with what was left there; after `no room` none has any;
+//! - `run CONSTRAINT` is answered with how many cells it marked, and with the list afterwards: the given cell first.
+//!   Each list but the first has the room for notes of the one before, with what was left there; after `no room` none
+//!   has any;
 //! - `volatility CONSTRAINT`, `clear weak` and `clear pairs` do what they say;
 //! - `mark CELL` and `mark named WORD` are answered with whether the cell was marked, and the list;
-//! - `marked` is answered with the cells that are, `is_live CELL` with true or false, `length` with the number of words, and
-//!   `REGION NUMBER`, `slot CELL.SLOT` and `pair TABLE.PLACE` with what is there;
-//! - `label LABEL beside CELL` is answered with the label that is beside the words of an empty heap after a call looked at
-//!   the cell in them.
+//! - `marked` is answered with the cells that are, `is_live CELL` with true or false, `length` with the number of
+//!   words, and `REGION NUMBER`, `slot CELL.SLOT` and `pair TABLE.PLACE` with what is there;
+//! - `label LABEL beside CELL` is answered with the label that is beside the words of an empty heap after a call looked
+//!   at the cell in them.
 ghost use Rattle.std.specs.Prelude.{◌≡◌, ◌+◌, true, length, IfOk};
 ghost use Rattle.tide_model.specs.Layout.{cell_count};
 ghost use Rattle.tide_words.specs.marking.Colours.{is_marking};

@@ -16,8 +16,8 @@ enum Chain {
     Links,
     /// By a slot and by a group in turn, so that each round of the solver finds one cell.
     Turns,
-    /// As `Links`, and each table is held by a pair of the next table alone: they are gone through from the first on, so
-    /// that one pass over them would find one.
+    /// As `Links`, and each table is held by a pair of the next table alone: they are gone through from the first on,
+    /// so that one pass over them would find one.
     Tables,
     /// As `Tables`, but the last table holds the first, that one the last but one, and so on to the middle.
     Leaps,
@@ -66,8 +66,8 @@ fn table_at(chain: Chain, tables: u32, at: u32) -> u32
     }
 }
 
-/// Lets so many tables, of which this is the first, be held by a slot of a cell each, or each by a pair of the one before
-/// it in a chain, under the cell 0, and the first of these by a register.
+/// Lets so many tables, of which this is the first, be held by a slot of a cell each, or each by a pair of the one
+/// before it in a chain, under the cell 0, and the first of these by a register.
 fn hold_tables(heap: &mut Heap, chain: Chain, first: u32, tables: u32)
     requires few { first ≤ 16384 }
     requires more { tables ≤ 4096 }

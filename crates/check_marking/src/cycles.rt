@@ -2,8 +2,9 @@
 //!
 //! The lines of a row: `layout ..`, and the facts of `Heap::say`, which may come between cycles too. Then
 //!
-//! - `begin` begins a full cycle, and `begin eden` an Eden one; `pause BUDGET` is answered with `converged` or `more` and
-//!   the number of visits, `end` with how many cells it freed, and `sweep` with the blocks in which something was dead;
+//! - `begin` begins a full cycle, and `begin eden` an Eden one; `pause BUDGET` is answered with `converged` or `more`
+//!   and the number of visits, `end` with how many cells it freed, and `sweep` with the blocks in which something was
+//!   dead;
 //! - `cycle BUDGET` does all of that, with pauses of this budget until one converges, and is answered with what it
 //!   `kept` and the cells that it `freed`; `eden BUDGET` does the same in an Eden cycle;
 //! - `report` tells that of all cycles, and `shared` the cells that have their bit in a shared grey word;

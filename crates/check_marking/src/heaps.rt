@@ -1,7 +1,7 @@
 //! Heaps that are told by facts, and then marked.
 //!
-//! The lines of a row: `layout ..` and the facts of `Heap::say`; then `solve BUDGET` is answered with `converged` or `more`
-//! and the number of visits, and `black` and `grey` with the cells of that colour.
+//! The lines of a row: `layout ..` and the facts of `Heap::say`; then `solve BUDGET` is answered with `converged` or
+//! `more` and the number of visits, and `black` and `grey` with the cells of that colour.
 
 use crate::marking::Marking;
 use check_heap::{Answers, Heap, layout_of, number, number_between, numbers_text, text};

@@ -1,6 +1,7 @@
 //! What one run of a constraint over the largest layout takes: of `Groups` and of `Ephemerons`, over the same words.
 //!
-//! All cells are live, a fifth of them tables without pairs. The times go to the error output, since no two are the same.
+//! All cells are live, a fifth of them tables without pairs. The times go to the error output, since no two are the
+//! same.
 ghost use Rattle.std.specs.Prelude.{◌<◌, length};
 
 use crate::bench::{cycle_marks, list_of};
@@ -200,7 +201,8 @@ fn time_run<R: Clock, C: Constraint>(
     Ok(Some((count, start.elapsed(rt)?)))
 }
 
-/// The least time that a constraint took in so many runs, each of which marks so many cells, or `None` where one doesn't.
+/// The least time that a constraint took in so many runs, each of which marks so many cells, or `None` where one
+/// doesn't.
 fn least_time<R: Clock, C: Constraint>(
     rt: &R,
     alloc: Global,
@@ -220,7 +222,8 @@ fn least_time<R: Clock, C: Constraint>(
     Ok(Some(least))
 }
 
-/// The least times of so many runs of `Groups` and of `Ephemerons` over the same words, where each marks what it should.
+/// The least times of so many runs of `Groups` and of `Ephemerons` over the same words, where each marks what it
+/// should.
 fn least_times<R: Clock>(
     rt: &R,
     alloc: Global,

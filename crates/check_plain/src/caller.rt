@@ -42,8 +42,8 @@ impl Caller {
         &self.layout
     }
 
-    /// Makes a mutator's call, and tells what it is answered. Where the layout has no operands for it, where the mutator
-    /// has retired, or where it would retire with a claim, nothing is called.
+    /// Makes a mutator's call, and tells what it is answered. Where the layout has no operands for it, where the
+    /// mutator has retired, or where it would retire with a claim, nothing is called.
     pub fn call(&mut self, who: u32, op: Op) -> Option<Reply> {
         let is_active = who < u32::from(self.layout.mutators()) && self.store.is_active(who);
         if !is_active || !fits(&self.layout, op) {
@@ -55,8 +55,8 @@ impl Caller {
         Some(self.store.call(who, op))
     }
 
-    /// Frees the cells that nothing retains, and gives these in rising order. What the last collection kept retains too,
-    /// where this one isn't full.
+    /// Frees the cells that nothing retains, and gives these in rising order. What the last collection kept retains
+    /// too, where this one isn't full.
     pub fn collect(&mut self, alloc: Global, full: bool) -> Result<Vec<u32>, AllocError> {
         match self.store.collect(alloc, full) {
             Ok(freed) => Ok(freed),

@@ -1,9 +1,9 @@
 //! The shapes of declared paths, asked through what the store sees of them.
 //!
-//! The lines of a row: `path KEYS` declares one more path, and `shapes` is answered with `made`, or with the first path that
-//! names a key twice. Then `shape KEYS` is answered with the number of the shape that has these keys, `keys KEYS` with that
-//! shape's keys one by one, and `place KEY in KEYS` with the place of a key in it, each with `none` where there is none.
-//! `capacity COUNT` is answered with the capacity of the array that so many properties take.
+//! The lines of a row: `path KEYS` declares one more path, and `shapes` is answered with `made`, or with the first path
+//! that names a key twice. Then `shape KEYS` is answered with the number of the shape that has these keys, `keys KEYS`
+//! with that shape's keys one by one, and `place KEY in KEYS` with the place of a key in it, each with `none` where
+//! there is none. `capacity COUNT` is answered with the capacity of the array that so many properties take.
 ghost use Rattle.std.specs.Prelude.{◌≡◌, ◌<◌, length, IfSome};
 ghost use Rattle.tide_shape.specs.Lists.{lists_of};
 

@@ -1,10 +1,12 @@
 //! A plain store on trial, which is asked one line after another.
 //!
-//! The lines of a row: `path KEYS` and then `layout ..` make the empty store of a layout, whose shapes are those of the path.
-//! Then
+//! The lines of a row: `path KEYS` and then `layout ..` make the empty store of a layout, whose shapes are those of the
+//! path. Then
 //!
-//! - `mM OPERATION` is answered with the reply to mutator M, in the texts of a workload, with `k` and its number for a key;
-//! - `collect` is answered with the cells that a full collection frees, and `collect eden` with those that an Eden one frees;
+//! - `mM OPERATION` is answered with the reply to mutator M, in the texts of a workload, with `k` and its number for a
+//!   key;
+//! - `collect` is answered with the cells that a full collection frees, and `collect eden` with those that an Eden one
+//!   frees;
 //! - `free CLASS`, `claims MUTATOR`, `live`, `taken` and `swept BLOCK` with what the store tells.
 
 use crate::caller::Caller;

@@ -1,21 +1,22 @@
-//! A run whose source and sinks give and take ten bytes a call, and fail where they are told to, and whose participants are held
-//! where they are told to.
+//! A run whose source and sinks give and take ten bytes a call, and fail where they are told to, and whose participants
+//! are held where they are told to.
 //!
-//! The lines of a row: `workload NAME` or lines `document LINE` are what there is to read, `text NAME` what is to be printed
-//! where that isn't the workload's text (a NAME is one of the shelf, `shelf.rt`), `behind LINE` is one more line of that,
-//! `words WORDS` are those of the command line, which is `riptide` alone where none are given (`''` is the empty word);
-//! `pieces BYTES` says how many bytes are given and taken a call, `reads fail CALLS`, `prints fail CALLS` and
-//! `tells fail CALLS` which calls fail, from 0, and `room BYTES` how much may be printed. `hold POINT until POINT` holds a
-//! participant at a point until another has come to one, in each of the runs below it: what a point is stands in the README
-//! of `check_heap`. Then
+//! The lines of a row: `workload NAME` or lines `document LINE` are what there is to read, `text NAME` what is to be
+//! printed where that isn't the workload's text (a NAME is one of the shelf, `shelf.rt`), `behind LINE` is one more
+//! line of that, `words WORDS` are those of the command line, which is `riptide` alone where none are given (`''` is
+//! the empty word); `pieces BYTES` says how many bytes are given and taken a call, `reads fail CALLS`,
+//! `prints fail CALLS` and `tells fail CALLS` which calls fail, from 0, and `room BYTES` how much may be printed.
+//! `hold POINT until POINT` holds a participant at a point until another has come to one, in each of the runs below it:
+//! what a point is stands in the README of `check_heap`. Then
 //!
-//! - `run` is answered with the status, and with an outcome where there is one; `run short of room` with `write faults` where
-//!   each room less than the text needs ends with one, and with as many first bytes of the text;
-//! - `printed` is answered with how much of the workload's text was: `all`, `nothing` or so many first bytes, `told` with the
-//!   line on the error output, and `, cut off` where it has no end; `left` with how many bytes weren't read, or `all`;
+//! - `run` is answered with the status, and with an outcome where there is one; `run short of room` with `write faults`
+//!   where each room less than the text needs ends with one, and with as many first bytes of the text;
+//! - `printed` is answered with how much of the workload's text was: `all`, `nothing` or so many first bytes, `told`
+//!   with the line on the error output, and `, cut off` where it has no end; `left` with how many bytes weren't read,
+//!   or `all`;
 //! - `held` is answered with the numbers of the holds that were kept in the last run, from 0;
-//! - `plain` and `in threads` run the workload by `plain` and `run`, the second also `with N visitors`, and are answered with
-//!   its calls, its cycles, what lives then and how many races were met.
+//! - `plain` and `in threads` run the workload by `plain` and `run`, the second also `with N visitors`, and are
+//!   answered with its calls, its cycles, what lives then and how many races were met.
 //!
 //! A run in which a hold was given up is answered with that besides, so that no row that says nothing of it passes.
 
@@ -262,8 +263,8 @@ impl<'a> Trial<'a> {
         Ok(ended.is_write_fault(first))
     }
 
-    /// Runs the program with each room that is too small for its text, and answers with the first that doesn't end with the
-    /// line of a write fault and as many first bytes of the text, if one doesn't.
+    /// Runs the program with each room that is too small for its text, and answers with the first that doesn't end with
+    /// the line of a write fault and as many first bytes of the text, if one doesn't.
     fn run_short_of_room<R: Threads + Sync>(
         &self,
         rt: &R,

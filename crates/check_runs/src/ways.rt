@@ -1,6 +1,6 @@
 //! The workloads of a list, each run on the plain store and on a heap where both come to one thing: no cycle begins by
-//! itself, since none does on the plain store, and there is one mutator, so that no order of the threads' steps can change
-//! what it comes to. What the others print is compared, or judged, by `.ci/workloads`.
+//! itself, since none does on the plain store, and there is one mutator, so that no order of the threads' steps can
+//! change what it comes to. What the others print is compared, or judged, by `.ci/workloads`.
 
 use crate::outcomes::{in_threads, in_turn};
 use crate::shelf::Shelf;

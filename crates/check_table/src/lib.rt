@@ -1,8 +1,8 @@
 //! Parts, pauses and freezes over the table of words, on one thread, which tell what they answer.
 //!
-//! `Pair` is a small heap of two mutators with its passes and its books. Each of its calls leaves it as the next one wants it;
-//! the rows of `rows.rt` put them together, one part after the other, from the heap's start to its close. Between two parts the
-//! freeze code runs over the words.
+//! `Pair` is a small heap of two mutators with its passes and its books. Each of its calls leaves it as the next one
+//! wants it; the rows of `rows.rt` put them together, one part after the other, from the heap's start to its close.
+//! Between two parts the freeze code runs over the words.
 //!
 //! It knows no program: `checks` calls it for the lines of its input that begin with `table`:
 //!

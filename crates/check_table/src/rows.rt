@@ -19,7 +19,8 @@ pub struct Told {
     pub note: Numbers,
 }
 
-/// What both mutators told of their last part, and of one before it where they made calls there, and what their heap left.
+/// What both mutators told of their last part, and of one before it where they made calls there, and what their heap
+/// left.
 #[derive(Drop)]
 pub struct Ran {
     pub first: Option<[Told; 2]>,

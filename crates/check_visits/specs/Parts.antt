@@ -12,7 +12,8 @@ use Rattle.tide_table.specs.VisitsTold.{unentered}
 use Rattle.tide_words.specs.heap.Heap.{SameIn, heap_of}
 use Rattle.tide_words.specs.marking.Colours.{is_black}
 
--- the participant stands between two parts: it has handed out the note of the one in which it began last, and hasn't left
+-- the participant stands between two parts: it has handed out the note of the one in which it began last, and hasn't
+-- left
 pub record IsParked (v : View) : Type 0 where
   pub runs : v.runs ≡ false
   pub stays : v.left ≡ false
@@ -25,9 +26,9 @@ pub record IsNoteOf (visitor part : ℕ) (note : View) : Type 0 where
   pub period : note.period ≡ part
   pub begun : note.begun ≡ part
 
--- The collector's view at a freeze, whose words are those of its history: the cells that are black now are those that were
--- at the last entry, or where the freeze began, no visit is left to enter, and who stopped when stands as it did when all
--- had stopped.
+-- The collector's view at a freeze, whose words are those of its history: the cells that are black now are those that
+-- were at the last entry, or where the freeze began, no visit is left to enter, and who stopped when stands as it did
+-- when all had stopped.
 pub record IsAtFreeze (layout : Layout) (shapes : ShapeLists) (v : View) : Type 0 where
   pub frozen : v.frozen ≡ true
   pub blacks : was_black_in layout v ≡ is_black (heap_of layout v.words)

@@ -42,8 +42,8 @@ fn visit_part<S: HeapShapes>(heap: &Heap<S>, pass: &mut Pass, ticket: Ticket) ->
     }
 }
 
-/// What a visitor's part told: its visit, whether both grey words were 0 at its last look, how many visits its note told,
-/// and whether it has done its part.
+/// What a visitor's part told: its visit, whether both grey words were 0 at its last look, how many visits its note
+/// told, and whether it has done its part.
 #[derive(Clone, Copy)]
 pub struct Part {
     pub visited: Option<Visited>,

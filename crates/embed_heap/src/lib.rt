@@ -1,6 +1,8 @@
-//! A caller of one's own of the heap that threads share: two mutators run in two threads, and each reads again what it stored.
+//! A caller of one's own of the heap that threads share: two mutators run in two threads, and each reads again what it
+//! stored.
 //!
-//! It is a library that a program hands its runtime: `fn main(rt: HostRuntime)` calls `both_find_seven(&rt, rt.alloc())`.
+//! It is a library that a program hands its runtime: `fn main(rt: HostRuntime)` calls
+//! `both_find_seven(&rt, rt.alloc())`.
 #![tactic(auto)]
 
 mod pair;

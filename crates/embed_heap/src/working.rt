@@ -24,8 +24,8 @@ pub struct Worked {
     pub note: Note,
 }
 
-/// Begins a part, sets a register to 7, takes a cell, stores the number in its first slot and reads it again; lets go of
-/// the cell, retires, and stops. Two of its operations are tried, as one would be that came from outside: one that
+/// Begins a part, sets a register to 7, takes a cell, stores the number in its first slot and reads it again; lets go
+/// of the cell, retires, and stops. Two of its operations are tried, as one would be that came from outside: one that
 /// fits the layout, and one that doesn't.
 pub fn work<S: ShapeTable>(heap: &Heap<S>, mut mutator: Mutator, ticket: Ticket) -> Worked
     requires own { table_of mutator ≡ heap.now.table.shared.table_id }

@@ -23,8 +23,8 @@ pub record IsInPart (who part : ℕ) (v : View) : Type 0 where
   pub ticket : v.ticket ≡ part
   pub once : v.period < part
 
--- The note is this participant's, of the part whose ticket this is. It says that the part is done, and tells no more visits
--- than the ticket says, and none where no cycle marks.
+-- The note is this participant's, of the part whose ticket this is. It says that the part is done, and tells no more
+-- visits than the ticket says, and none where no cycle marks.
 pub record HasDoneItsPart (who : ℕ) (ticket note : View) : Type 0 where
   pub is : note.who ≡ who
   pub period : note.period ≡ ticket.period

@@ -26,8 +26,8 @@ pub record HasOpened (s : Shared) : Type 0 where
   pub mutator : IsIdleBefore 0 s.collector.seat.me.0.period (of_mutator.view_of s.mutator)
   pub visitor : IsIdleBefore 16 s.collector.seat.me.0.period (of_visitor.view_of s.visitor)
 
--- Both have stopped in the open part, and their notes are in, each of which says that the part is done. The visitor's tells
--- so many visits, no more than the part has calls, and none where no cycle marks.
+-- Both have stopped in the open part, and their notes are in, each of which says that the part is done. The visitor's
+-- tells so many visits, no more than the part has calls, and none where no cycle marks.
 pub record HaveStopped (s : Shared) : Type 0 where
   pub runs : RunsWith s.heap.key.layout s.books s.collector.seat.me.0
   pub notes : s.collector.seat.me.0.notes ≡ 16 ∷ 0 ∷ []

@@ -20,8 +20,8 @@ impl Shared {
         Some(())
     }
 
-    /// Freezes the part in which both have stopped, enters what the visitor's note told, does what the schedule asks for, and
-    /// opens the next part. `None` where memory is wanting, or no more part can be opened.
+    /// Freezes the part in which both have stopped, enters what the visitor's note told, does what the schedule asks
+    /// for, and opens the next part. `None` where memory is wanting, or no more part can be opened.
     pub fn next(&mut self) -> Option<()>
         requires stopped { HaveStopped self.old }
         ensures opened { IfSome result (λ _. HasOpened self.new) }

@@ -8,8 +8,8 @@ use std::marker::Sync;
 use std::thread::Threads;
 use tide_model::{Op, Reply};
 
-/// The mutator links four cells, each of which holds the one before it, and has the last one in two registers. To a fifth one
-/// only a weak handle leads then.
+/// The mutator links four cells, each of which holds the one before it, and has the last one in two registers. To a
+/// fifth one only a weak handle leads then.
 const LINKS: [Op; 13] = [
     Op::Alloc { dst: 0, class: 0 },
     Op::Alloc { dst: 1, class: 0 },
@@ -38,8 +38,8 @@ const LINKS: [Op; 13] = [
     Op::Drop { dst: 2 },
 ];
 
-/// It follows the chain from its last cell for two cells, and stores that one in the last one's second slot: so there is a
-/// second way to a cell that the visitor may just be marking.
+/// It follows the chain from its last cell for two cells, and stores that one in the last one's second slot: so there
+/// is a second way to a cell that the visitor may just be marking.
 const STORES: [Op; 3] = [
     Op::Get {
         dst: 1,
@@ -126,8 +126,8 @@ impl Shared {
     }
 }
 
-/// The mutator links a chain, a cycle begins, the visitor marks what its first pause left, beside the mutator, and the cycle
-/// ends.
+/// The mutator links a chain, a cycle begins, the visitor marks what its first pause left, beside the mutator, and the
+/// cycle ends.
 pub fn run_cycle<R: Threads + Sync>(rt: &R, mut shared: Shared) -> Option<Seen>
     requires started { HasStarted shared }
 {

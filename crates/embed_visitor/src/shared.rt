@@ -10,8 +10,8 @@ use tide_shape::Shapes;
 use tide_table::{Collector, Heap};
 use tide_visitor::Visitor;
 
-/// A heap that a mutator and a visitor share, its collector, and the books of its freezes. The visitor's stack has a place
-/// for each cell.
+/// A heap that a mutator and a visitor share, its collector, and the books of its freezes. The visitor's stack has a
+/// place for each cell.
 #[derive(Drop)]
 pub struct Shared {
     pub heap: Heap<Shapes>,

@@ -14,8 +14,8 @@ use tide_table::Start;
 use tide_visitor::Visitor;
 use tide_words::GreyList;
 
-/// A cycle begins once four cells were born, and each freeze makes two cells black at least, of the ten calls and visits of
-/// a period.
+/// A cycle begins once four cells were born, and each freeze makes two cells black at least, of the ten calls and
+/// visits of a period.
 const PACING: Pacing = Pacing {
     period: 10,
     headroom: 100,

@@ -20,8 +20,8 @@ pub struct Worked {
     pub note: Note,
 }
 
-/// Makes calls one after another, and answers what the last one was answered. One whose operands don't fit the heap is left
-/// out, and so is a retirement.
+/// Makes calls one after another, and answers what the last one was answered. One whose operands don't fit the heap is
+/// left out, and so is a retirement.
 fn call_each<S: ShapeTable, T: Turnstile>(
     heap: &Heap<S>,
     mutator: &mut Mutator,

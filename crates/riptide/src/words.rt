@@ -7,8 +7,8 @@ use std::alloc::{AllocError, Global};
 use std::env::Args;
 use std::io;
 
-/// The words of the command line, of which the first is the program's name. Where they aren't all text they are words that
-/// are refused.
+/// The words of the command line, of which the first is the program's name. Where they aren't all text they are words
+/// that are refused.
 pub fn words_of(alloc: Global, args: io::Result<Args>) -> Result<Vec<String>, AllocError>
     ensures given { IfOk args (λ given. IfOk result (λ words. words.items ≡ into_iter_items given)) }
     ensures refused { IsErr args → IfOk result (λ words. asked_by words.items ≡ None) }

@@ -42,8 +42,8 @@ pub fn answer<R: Threads + Sync, S: Source, K: Sink, E: Sink>(
         IsSomeAnd result.outcome (RanAsked (asked_by words.items) (S.left source.old) (S.left source.new))) }
     ensures no_outcome { result.status ≢ 0 → result.status ≢ 5 → result.outcome ≡ None }
 
-    // At 0 its text is printed whole, or its summary, with the lines of a snapshot behind it, and at 5 a first part of that;
-    // else nothing is.
+    // At 0 its text is printed whole, or its summary, with the lines of a snapshot behind it, and at 5 a first part of
+    // that; else nothing is.
     ensures printed { result.status ≡ 0 → IfOk words (λ words.
         IsSomeAnd result.outcome (Prints (asked_by words.items) (K.held out.old) (K.held out.new))) }
     ensures handed_on { result.status ≡ 0 → K.waiting out.new ≡ 0 }

@@ -1,4 +1,5 @@
--- Words of which the lowest set bit is seen at once: for each bit the word of it alone, and the word of it and all above.
+-- Words of which the lowest set bit is seen at once: for each bit the word of it alone, and the word of it and all
+-- above.
 use Rattle.std.proofs.Common.{ℕ, ◌≡◌, ◌≢◌, ◌+◌, ◌-◌, ◌^◌, ◌<◌, ◌≤◌, sym, subst, arith}
 use Rattle.std.proofs.lemmas.Nat.Bits.{bit_at-pow_other, bit_at-pow_same, bit_at-zero, bit_at_mask_below, bit_at_mask_inside, bit_at_ones}
 use Rattle.tide_block.specs.Bits.{IsClearFrom, IsLowestFrom}

@@ -36,7 +36,8 @@ pub record IsGrown (layout : Layout) (old new : Heap) (cell taken : ℕ) (from :
       element_word layout new taken place ≡ element_word layout old source place
   pub last : element_word layout new taken count ≡ val_word value
 
--- the first elements of one array, if there is one, were copied to another, of which other elements may have changed too
+-- the first elements of one array, if there is one, were copied to another, of which other elements may have changed
+-- too
 pub record AreCopied (layout : Layout) (old new : Heap) (from : Option ℕ) (taken count : ℕ) : Type 0 where
   pub others : (region : Region) → (tag region == tag Elements) ≡ false → SameIn layout region old new
   pub elements : (other place : ℕ) → HasElement layout other place → other ≢ taken →

@@ -26,8 +26,8 @@ use Rattle.tide_call.specs.declared.plan.Plan.{Plan}
 use Rattle.tide_call.specs.Plans.{IsPlan}
 use Rattle.tide_call.specs.PlanWords.{PlanWords}
 
--- the call stands in the state: an active mutator of the layout may make it and be answered so; the layout is within its
--- limits, the first shape is the empty one, and no two mutators claim a cell
+-- the call stands in the state: an active mutator of the layout may make it and be answered so; the layout is within
+-- its limits, the first shape is the empty one, and no two mutators claim a cell
 pub record StandsIn (layout : Layout) (shapes : ShapeLists) (state : State) (who : ℕ) (op : Op) (reply : Reply)
     (took : Option ℕ) : Type 0 where
   pub limits : IsWithinLimits layout
@@ -65,8 +65,8 @@ HistoriesReadBack =
     ReadsAs layout shapes old (state_after layout before) →
     ReadsAs layout shapes new (state_after layout (before ++ record { entry = Call who op reply; took = took } ∷ []))
 
--- the claim word of a cell in a register tells what refuses a claim of it: its holder's claim, or that the mutator's are
--- full
+-- the claim word of a cell in a register tells what refuses a claim of it: its holder's claim, or that the mutator's
+-- are full
 pub record IsClaimTold (layout : Layout) (shapes : ShapeLists) (heap : Heap) (state : State) (who src cell : ℕ) : Type 0 where
   pub held : (holder : ℕ) → heap ClaimRegion cell ≡ claim_word (Some holder) →
       refusal_of layout shapes state who (Claim src) ≡ Some (Held holder)

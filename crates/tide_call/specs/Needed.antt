@@ -26,8 +26,8 @@ pub record HasRoomFor (layout : Layout) (addition : Addition) (array : ℕ) : Ty
   pub few : addition.count < 64
   pub element : HasElement layout array addition.count
 
--- an array of the class has an element for the property that is added, and the cell's array, if it has one, is one of the
--- layout
+-- an array of the class has an element for the property that is added, and the cell's array, if it has one, is one of
+-- the layout
 pub record MayGrow (layout : Layout) (addition : Addition) (array : Option ℕ) (class : ℕ) : Type 0 where
   pub cell_within : addition.cell < cell_count layout
   pub few : addition.count < 64

@@ -33,8 +33,8 @@ impl<'a, S: ShapeTable> Caller<'a, S> {
         }
     }
 
-    /// What a call is to do whose mutator's registers and claims alone tell it: the first refusal that these tell, or what
-    /// it does then. It takes no memory.
+    /// What a call is to do whose mutator's registers and claims alone tell it: the first refusal that these tell, or
+    /// what it does then. It takes no memory.
     pub fn plan_by_registers<C, O: OwnRegisters<C>>(&self, own: &mut O, context: &C, op: Op) -> Plan
         requires fits { FitsLayout self.now.layout op }
         requires told { is_told_by_registers op ≡ true }

@@ -2,7 +2,8 @@
 use Rattle.std.specs.Prelude.{ℕ, ◌≡◌, ◌==◌, ◌<◌, ◌≤◌, List, [], ◌∷◌, ◌++◌, All, Contains, if◌then◌else◌, is_some, length, Option, None, Some}
 use Rattle.tide_shape.specs.ShapeTable.{HasNoKeyTwice}
 
--- what a contract sees of a table: what tells it from others, how many keys there are, and the highest number of a shape
+-- what a contract sees of a table: what tells it from others, how many keys there are, and the highest number of a
+-- shape
 pub record Table : Type 0 where
   pub name : List ℕ
   pub keys : ℕ
@@ -13,8 +14,8 @@ pub record Fact : Type 0 where
   pub shape : ℕ
   pub keys : List ℕ
 
--- what a contract sees of a grower: its table, the shapes that it knows, and the index of the item, if any, for which no
--- number was left when it was last refused for that
+-- what a contract sees of a grower: its table, the shapes that it knows, and the index of the item, if any, for which
+-- no number was left when it was last refused for that
 pub record Knowledge : Type 0 where
   pub table : Table
   pub known : List Fact
@@ -48,8 +49,8 @@ pub record Grown (growers : List Knowledge) : Type 0 where
 abbrev pub IsKnown : List Knowledge → ℕ → List ℕ → Type 0
 IsKnown growers shape keys = (grower : Knowledge) × Contains growers grower × Knows grower shape keys
 
--- what a grower knows by itself: the empty shape has no key, a shape has at most 64 keys and none twice, a list of keys has
--- one number, no number is above the highest of its table, and each key is one of its table
+-- what a grower knows by itself: the empty shape has no key, a shape has at most 64 keys and none twice, a list of keys
+-- has one number, no number is above the highest of its table, and each key is one of its table
 pub record IsKnowledge (grower : Knowledge) : Type 0 where
   pub empty : Knows grower 0 []
   pub none : (keys : List ℕ) → Knows grower 0 keys → keys ≡ []

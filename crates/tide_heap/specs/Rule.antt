@@ -1,5 +1,5 @@
--- The rule of the table of words, in its two modes: while a part runs, the words and views meet the wave of the machine;
--- while the heap is frozen, the collector has the words to itself.
+-- The rule of the table of words, in its two modes: while a part runs, the words and views meet the wave of the
+-- machine; while the heap is frozen, the collector has the words to itself.
 use Rattle.std.specs.Prelude.{ℕ, Contains, ◌≡◌, ◌↔◌, ◌+◌, ◌<◌, ◌≤◌, ◌⊎◌, true, false, List, [], ◌++◌, length, MatchBool, slice_get, Some}
 use mathlib.Core.Option.{some}
 use lib.ListN.{get_elem?}
@@ -74,8 +74,8 @@ pub record MemberOk (layout : Layout) (cv p : View) (i : ℕ) : Type 0 where
   pub done : In i cv.notes → cv.done ≡ true → HasDonePart layout p
 
 -- A note of the open part is of a participant that has stopped, and has seen all that it saw. It is the only one of its
--- participant, on the seat `only`, and hasn't been taken in. It says that its participant has done its part exactly where
--- that is so.
+-- participant, on the seat `only`, and hasn't been taken in. It says that its participant has done its part exactly
+-- where that is so.
 pub record NoteOk (layout : Layout) (cv p : View) (only k : ℕ) (u : View) : Type 0 where
   pub behind : u.period ≤ p.period
   pub now : u.period ≡ cv.period →
@@ -110,8 +110,8 @@ abbrev pub SpanStays : Layout → List Event → Type 0
 SpanStays layout log = (heap : Heap) → (is_marking heap ≡ true → marks_after layout log ≡ true) →
     SpanIsLive layout heap log
 
--- while frozen: the collector knows the words and the whole history, and all others have stopped. Of the wave nothing is
--- said.
+-- while frozen: the collector knows the words and the whole history, and all others have stopped. Of the wave nothing
+-- is said.
 pub record IsFrozen (layout : Layout) (shapes : ShapeLists) (words : List ℕ) (log : List Event) (cv : View)
     (part : ℕ → View) : Type 0 where
   pub words_are : words ≡ cv.words

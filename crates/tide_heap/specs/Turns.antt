@@ -52,7 +52,8 @@ ticket_for seen u =
 abbrev pub heard_view : View → View → View
 heard_view v u = joined_view (ticket_for v.seen u) v
 
--- what a note has: the view at the stop, of the part whose ticket was heard, and whether its participant has done its part
+-- what a note has: the view at the stop, of the part whose ticket was heard, and whether its participant has done its
+-- part
 abbrev pub note_of : Bool → View → View
 note_of done v = record v { role = Note; period = v.ticket; done = done }
 
@@ -137,8 +138,8 @@ opened layout run v = record v {
 }
 
 -- What a freeze tells the collector: the words, and that they meet the wave of the history that it has seen, with the
--- visits that the notes tell and that aren't entered yet. What came since the part was opened are calls, and blocks that
--- are taken, each of which is swept there; and in it so many cells were born as the notes tell.
+-- visits that the notes tell and that aren't entered yet. What came since the part was opened are calls, and blocks
+-- that are taken, each of which is swept there; and in it so many cells were born as the notes tell.
 pub record Freezes (layout : Layout) (shapes : ShapeLists) (v w : View) : Type 0 where
   pub limits : IsWithinLimits layout
   pub words : List ℕ

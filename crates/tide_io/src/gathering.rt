@@ -11,8 +11,8 @@ use std::marker::Model;
 /// How many bytes are gathered before they are handed on.
 pub const PIECE: usize = 32_768;
 
-/// A sink that gathers what it takes, and hands it on to another in pieces of `PIECE` bytes. What is left at the end goes
-/// there by `flush`, and is lost without it.
+/// A sink that gathers what it takes, and hands it on to another in pieces of `PIECE` bytes. What is left at the end
+/// goes there by `flush`, and is lost without it.
 #[derive(Drop)]
 pub struct Gathered<K: Sink> {
     out: K,

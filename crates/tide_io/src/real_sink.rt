@@ -10,8 +10,8 @@ use std::marker::Model;
 
 /// A sink over a writer of std, which is flushed after each write. It tells nothing of the bytes that it holds.
 ///
-/// A call that was interrupted is tried again, `MAX_TRIES` times in all. Each failure of the writer is counted, also one
-/// after which it went on.
+/// A call that was interrupted is tried again, `MAX_TRIES` times in all. Each failure of the writer is counted, also
+/// one after which it went on.
 ///
 /// A write that takes nothing is a fault. So is a failed flush, and the writer may then have passed on some of
 /// the bytes.

@@ -10,8 +10,8 @@ use std::marker::Model;
 
 /// A source over a reader of std, which tells nothing of the bytes that are left.
 ///
-/// A read that was interrupted is tried again, `MAX_TRIES` times in all. Each failure of the reader is counted, also one
-/// after which it went on.
+/// A read that was interrupted is tried again, `MAX_TRIES` times in all. Each failure of the reader is counted, also
+/// one after which it went on.
 #[derive(Drop)]
 pub struct RealSource<R: Read> {
     inner: R,

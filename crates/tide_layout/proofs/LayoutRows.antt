@@ -146,7 +146,8 @@ largest-places = let cells = largest-cells.1 in let arrays = largest-arrays.1 in
   omega (arith, cells, arrays),
 )
 
--- a participant's words are 17 places from the next one's: so is the first mutator's last register from the second's first
+-- a participant's words are 17 places from the next one's: so is the first mutator's last register from the second's
+-- first
 largest-owners : (place_in largest Active 15 ≡ 306) × (place_in largest Call 0 ≡ 339) × (place_in largest Call 1 ≡ 356)
     × (place_in largest Registers 15 ≡ 1066) × (place_in largest Registers 16 ≡ 1083) × (place_in largest Registers 255 ≡ 1546)
 unfolding place_in base_of

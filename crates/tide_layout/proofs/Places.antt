@@ -1,4 +1,5 @@
--- Each word has a place of its own: below the number of words, shared with no other, and apart from those of other owners.
+-- Each word has a place of its own: below the number of words, shared with no other, and apart from those of other
+-- owners.
 use Rattle.std.proofs.Common.{ℕ, zero, suc, ◌≡◌, ◌+◌, ◌*◌, ◌/◌, ◌<◌, ◌≤◌, refl, sym, ◌∙◌, ap, subst, arith, false, length, get_or, take, inl, inr, sum_by}
 use Rattle.std.proofs.lemmas.Bool.{and_from, and_left, and_right, cases_eq, cases_order, eq-eqb, eqb-false, ne_eqb}
 use Rattle.std.proofs.lemmas.List.{get_or-take, length-take, take-take}

@@ -84,8 +84,8 @@ owners_in layout Stopped = layout.mutators + layout.visitors
 owners_in layout Registers = layout.mutators
 owners_in layout _ = 0
 
--- how many words that say nothing lie behind the words of each participant in a region, and behind each region: 128 bytes,
--- which is two lines of a processor's cache
+-- how many words that say nothing lie behind the words of each participant in a region, and behind each region: 128
+-- bytes, which is two lines of a processor's cache
 abbrev pub gap : ℕ
 gap = 16
 

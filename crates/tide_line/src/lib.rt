@@ -1,7 +1,7 @@
 //! The lines of a run and of a fault, composed on the stack, piece by piece, as specs/ says.
 //!
-//! Each piece is put behind those before it, so that a line takes no memory and is written as one. It knows no sink and no
-//! document that a workload is read from.
+//! Each piece is put behind those before it, so that a line takes no memory and is written as one. It knows no sink and
+//! no document that a workload is read from.
 #![tactic(auto)]
 
 mod call;

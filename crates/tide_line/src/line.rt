@@ -8,8 +8,8 @@ use itoa::{Buffer, Integer};
 use std::marker::Model;
 use tide_work::Keys;
 
-/// How many bytes a line of a run or of a fault has at most: a fault has up to 60 behind `riptide: `, and an operation up
-/// to 40 before a reply of up to 24. The cells that a cycle freed are lines of their own here.
+/// How many bytes a line of a run or of a fault has at most: a fault has up to 60 behind `riptide: `, and an operation
+/// up to 40 before a reply of up to 24. The cells that a cycle freed are lines of their own here.
 pub const LONGEST_LINE: usize = 96;
 
 /// A bound on the bytes of a cell's id, and on those of a `u32`.
@@ -21,9 +21,9 @@ pub const LONGEST_REGISTER: usize = 5;
 /// A bound on the bytes of a property key after a space.
 pub const LONGEST_KEY: usize = 17;
 
-/// The bytes of a line, composed before they are written. Who composes it says how many there is room for, as all of the
-/// room is set to 0 where a line is begun: `LONGEST_LINE` in a run, and over two thousand where the values of all the
-/// properties that a cell may have are to stand in one line.
+/// The bytes of a line, composed before they are written. Who composes it says how many there is room for, as all of
+/// the room is set to 0 where a line is begun: `LONGEST_LINE` in a run, and over two thousand where the values of all
+/// the properties that a cell may have are to stand in one line.
 ///
 /// Each piece is put behind those before it, and the line is handed on for the next one.
 #[derive(Drop)]

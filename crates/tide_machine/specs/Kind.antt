@@ -15,9 +15,9 @@ use Rattle.tide_words.specs.forms.ColourWord.{colour_word}
 use Rattle.tide_words.specs.forms.Reference.{array_word, claim_word}
 use Rattle.tide_layout.specs.declared.region.Region.TheVariants as region
 
--- What a participant knows of the open part with a ticket: the history, as far as it knew it or the ticket told, what the
--- ticket told of it, the part's number and how many calls each mutator has in it, whether a cycle marks, and which, and from
--- which cycle on colours count.
+-- What a participant knows of the open part with a ticket: the history, as far as it knew it or the ticket told, what
+-- the ticket told of it, the part's number and how many calls each mutator has in it, whether a cycle marks, and which,
+-- and from which cycle on colours count.
 pub record Ticket : Type 0 where
   pub seen : List Event
   pub told : List Event

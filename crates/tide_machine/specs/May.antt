@@ -53,6 +53,7 @@ pub record Rests (v : View) : Type 0 where
 abbrev pub called : List Owed → View → View
 called owed v = record v { owed = owed; known = []; full = [] }
 
--- the barrier that is owed after a store of a word in a cell, where the word is a reference, whether a cycle marks or not
+-- the barrier that is owed after a store of a word in a cell, where the word is a reference, whether a cycle marks or
+-- not
 abbrev pub barrier_for : ℕ → ℕ → Duty
 barrier_for cell word = if is_cell_word word then duty.Barrier cell else duty.Nothing

@@ -37,9 +37,9 @@ use Rattle.tide_words.specs.marking.Colours.{is_marking, is_grey, running_cycle,
 use Rattle.tide_words.specs.marking.Marking.{bits_of}
 
 -- What these words, as they stood, say of a view, and of the cells and arrays that it works with. The view has the
--- phase, the base and the part from its ticket, its call word tells its calls, and its Stopped word its last stop. What it holds,
--- scans or has read is live; a grey cell has one holder, and where no cycle marks the view has none at hand. Its scan's
--- readings are right; and arrays say what the words of their cells tell.
+-- phase, the base and the part from its ticket, its call word tells its calls, and its Stopped word its last stop. What
+-- it holds, scans or has read is live; a grey cell has one holder, and where no cycle marks the view has none at hand.
+-- Its scan's readings are right; and arrays say what the words of their cells tell.
 pub record WorksOn (layout : Layout) (v : View) (words : Heap) (state : State) : Type 0 where
   pub phase : v.runs ≡ true → (v.marks ≡ is_marking words) × (v.cycle ≡ running_cycle words) × (v.least ≡ base_cycle words)
   pub part : v.runs ≡ true → words region.Period 0 ≡ v.begun

@@ -24,8 +24,8 @@ pub data Mode : Type 0 where
   running : Mode
   frozen : ℕ → Mode
 
--- What the collector may do with a frozen heap: it enters the visits of a note, begins a cycle, a full one or not, pauses
--- while one marks, ends it, and sweeps. What becomes of the words are the clauses of the calls that do it.
+-- What the collector may do with a frozen heap: it enters the visits of a note, begins a cycle, a full one or not,
+-- pauses while one marks, ends it, and sweeps. What becomes of the words are the clauses of the calls that do it.
 pub data Enters (layout : Layout) (shapes : ShapeLists) (old : Heap) (history : List Event) : ℕ → Heap → List Event →
     ℕ → Type 0 where
   visits : (who visits left : ℕ) →

@@ -27,8 +27,8 @@ pub record FirstRounds : Type 0 where
   -- five cells back
   pub sixth : round_ops 0 5 2553420073753464661 ≡ Alloc 6 0 ∷ Put 6 0 0 ∷ Move 0 6 ∷ Put 0 1 1 ∷ Get 8 0 0 ∷ []
 
--- the rounds that end a chain: the first chain of mutator 2 gets handle 128, and so does the 65th; the round after begins a
--- chain
+-- the rounds that end a chain: the first chain of mutator 2 gets handle 128, and so does the 65th; the round after
+-- begins a chain
 pub record ChainEnds : Type 0 where
   pub first : round_ops 2 49 14846000746125929875 ≡ Alloc 1 2 ∷ Put 1 0 0 ∷ Move 0 1 ∷ Put 0 1 7 ∷ StrongSet 128 0 ∷ []
   pub again : round_ops 2 3249 17253481597347017235 ≡ Alloc 2 2 ∷ Put 2 0 0 ∷ Move 0 2 ∷ Put 0 1 2 ∷ StrongSet 128 0 ∷ []

@@ -37,8 +37,8 @@ abbrev before_end : List Event
 before_end =
     linked ++ plain (Begin 1 true) ∷ plain (Call 0 (Drop 0) Done) ∷ plain (Call 0 (Drop 1) Done) ∷ plain (Pause 0) ∷ []
 
--- nothing retains cell 1 any more, and cell 0 was retained in the cycle, yet an end may not free the one and keep the other:
--- the weak handle would lead to cell 0, and that to cell 1
+-- nothing retains cell 1 any more, and cell 0 was retained in the cycle, yet an end may not free the one and keep the
+-- other: the weak handle would lead to cell 0, and that to cell 1
 pub held_cell_is_not_freed : StandsEnd small before_end 1 (1 ∷ []) → ⊥
 held_cell_is_not_freed ends = (ends.closed.links 0 1 (record { is_live = refl; not_freed = λ among. absurd (cc) }) (in_slot 0 refl refl)).not_freed refl
 

@@ -298,7 +298,8 @@ fourth_end_frees_both = frees_both in_fourth_full 4 fourth_are_left refl refl
 pub fourth_eden_frees_none : StandsEnd small in_fourth_eden 4 (0 ∷ 1 ∷ []) → ⊥
 fourth_eden_frees_none stands = stands.frees 1 refl (is_further 1 refl)
 
--- an Eden cycle that made one cell black may keep an old one beside it; one that made none black, or a full one, may not
+-- an Eden cycle that made one cell black may keep an old one beside it; one that made none black, or a full one, may
+-- not
 pub eden_end_in_time : EndsInTime small in_eden (plain (End 2 []))
 eden_end_in_time = EndsInTime-tested small in_eden (plain (End 2 [])) refl
 

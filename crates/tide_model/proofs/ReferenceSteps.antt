@@ -106,7 +106,8 @@ RefsAreLive-retire state who refs = record {
   arrays_are_own = refs.arrays_are_own;
 }
 
--- what a cell may hold, with these arrays, so that references stay to live cells: live cells, and a live array of its own
+-- what a cell may hold, with these arrays, so that references stay to live cells: live cells, and a live array of its
+-- own
 pub record HoldsLive (state : State) (cell : ℕ) (held : CellState) (arrays : ℕ → Status) : Type 0 where
   pub is_live : held.status ≡ live
   pub slots : (slot named : ℕ) → held.slots slot ≡ Cell named → IsLive state named

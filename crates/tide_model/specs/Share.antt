@@ -25,15 +25,15 @@ has_ended_from ended retry (call ∷ calls) = has_ended_from (ends_share retry c
 abbrev pub has_ended : Option Op → List (Op × Reply) → Bool
 has_ended retry calls = has_ended_from false retry calls
 
--- a call may follow those that the mutator made in this part: fewer than `run` were made, the last of them let it go on,
--- and an operation that was first refused for room is tried again
+-- a call may follow those that the mutator made in this part: fewer than `run` were made, the last of them let it go
+-- on, and an operation that was first refused for room is tried again
 pub record MayCall (run : ℕ) (retry : Option Op) (before : List (Op × Reply)) (call : Op × Reply) : Type 0 where
   pub left : length before < run
   pub goes_on : has_ended retry before ≡ false
   pub retries : (op : Op) → retry_after_all retry before ≡ Some op → call.0 ≡ op
 
--- A mutator's calls in a part. It makes `run` calls, and fewer only where it has retired, or where the last one ends its
--- share.
+-- A mutator's calls in a part. It makes `run` calls, and fewer only where it has retired, or where the last one ends
+-- its share.
 pub record IsShare (run : ℕ) (retry : Option Op) (is_active : Bool) (calls : List (Op × Reply)) : Type 0 where
   pub each : Each (MayCall run retry) calls
   pub fewer : length calls < run → (is_active ≡ false) ⊎ (has_ended retry calls ≡ true)

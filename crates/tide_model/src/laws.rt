@@ -12,8 +12,8 @@ ghost use Rattle.tide_model.specs.Laws.{
   RefusalsChangeNothing,
 };
 
-/// No register of an active mutator, no handle, and no slot, property or pair of a live cell names a cell that isn't live.
-/// Each claimed cell is live, and each live cell's array is live and its own.
+/// No register of an active mutator, no handle, and no slot, property or pair of a live cell names a cell that isn't
+/// live. Each claimed cell is live, and each live cell's array is live and its own.
 pub fn no_reference_dangles()
     ensures references { NoReferenceDangles }
 {}

@@ -1,4 +1,5 @@
-//! Mutators on threads: each makes its calls on one shared heap, step by step, and each call stands in one lawful history.
+//! Mutators on threads: each makes its calls on one shared heap, step by step, and each call stands in one lawful
+//! history.
 //!
 //! A `Mutator` (`mutator`, `calling`) has a pass of `tide_steps`, the cells that it claims, where its searches for
 //! something free go on, and the number of its calls. What a call is to do is decided by `tide_call` (`deciding`), over

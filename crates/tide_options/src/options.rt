@@ -58,8 +58,8 @@ fn is_set(matches: &ArgMatches, name: &str) -> bool
     matches.get_one::<bool>(name).unwrap_or(false)
 }
 
-/// The options that matches give. A plain run has no visitors, so it isn't asked for their number. A snapshot is of a heap
-/// that threads shared, and behind a text, so it isn't asked of a plain run nor of a generated workload.
+/// The options that matches give. A plain run has no visitors, so it isn't asked for their number. A snapshot is of a
+/// heap that threads shared, and behind a text, so it isn't asked of a plain run nor of a generated workload.
 fn options_in(matches: &ArgMatches) -> Option<Options>
     ensures { result ≡ options_in (rows_of (found_of matches.now)) }
 {

@@ -30,8 +30,8 @@ is_heap (Heap closed) = true
 abbrev pub ran_of : Layout → List (List ℕ) → Kept → Ran
 ran_of layout keys kept = record { layout = layout; keys = keys; history = history_of kept; is_heap = is_heap kept }
 
--- the calls are those of the mutators, who alone made any; each of them has a text, so many cells live after the history,
--- and the report tells its ends. Without visitors no race was met.
+-- the calls are those of the mutators, who alone made any; each of them has a text, so many cells live after the
+-- history, and the report tells its ends. Without visitors no race was met.
 pub record IsOutcome (layout : Layout) (keys : List (List ℕ)) (kept : Kept) (calls : List (List Answered))
     (live : ℕ) (report : Reported) (deferred : ℕ) : Type 0 where
   pub one_each : length calls ≡ layout.mutators
@@ -43,7 +43,8 @@ pub record IsOutcome (layout : Layout) (keys : List (List ℕ)) (kept : Kept) (c
   pub told : TellsEnds layout (history_of kept) report
   pub none_met : layout.visitors ≡ 0 → deferred ≡ 0
 
--- a run of a workload's scripts, with this trigger and so many visitors and on a store that the workload asks for, left this
+-- a run of a workload's scripts, with this trigger and so many visitors and on a store that the workload asks for, left
+-- this
 pub record HasLeft (work : Work) (trigger visitors : ℕ) (ran : Finished Kept) : Type 0 where
   pub within : All (All (IsOperation (limits_of work))) work.scripts
   pub has_run : HasRun (setting_of_work work visitors) (pace_of_work work trigger) work.scripts (history_of ran.kept) ran.report

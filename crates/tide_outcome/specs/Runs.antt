@@ -56,10 +56,10 @@ pub record AreScripts (work : Work) (scripts : List (List Op)) : Type 0 where
 abbrev pub pace_of_work : Work → ℕ → Pace
 pace_of_work work trigger = record { period = work.settings.period; headroom = work.settings.headroom; trigger = trigger }
 
--- A run of a workload with this trigger and so many visitors: its history is legal in the layout and with the shapes that
--- the workload asks for, its keys have the workload's names, and each mutator asked for all that it was to ask for. The
--- plain store can't mark across parts, so that its trigger is 0 and it has no visitors: no cycle begins by itself there.
--- The heap has the workload's trigger, and as many visitors as it is asked for.
+-- A run of a workload with this trigger and so many visitors: its history is legal in the layout and with the shapes
+-- that the workload asks for, its keys have the workload's names, and each mutator asked for all that it was to ask
+-- for. The plain store can't mark across parts, so that its trigger is 0 and it has no visitors: no cycle begins by
+-- itself there. The heap has the workload's trigger, and as many visitors as it is asked for.
 pub record IsRunOf (work : Work) (trigger visitors : ℕ) (ran : Ran) : Type 0 where
   pub layout : ran.layout ≡ layout_of_work work visitors
   pub keys : ran.keys ≡ work.keys

@@ -1,9 +1,9 @@
 //! Running a workload, and the outcome of that.
 //!
-//! `run`, on which `riptide` stands, runs one on a heap that its mutators and visitors share, each on a thread of its own.
-//! `run_with_snapshot` does the same, and takes a snapshot of what the heap holds at the end. `plain` runs one on the plain
-//! store, one mutator after another, and keeps the history itself. All take of the workload what `starting` does, and make
-//! an `Outcome` of what is left. It knows no sink and no word of a command line.
+//! `run`, on which `riptide` stands, runs one on a heap that its mutators and visitors share, each on a thread of its
+//! own. `run_with_snapshot` does the same, and takes a snapshot of what the heap holds at the end. `plain` runs one on
+//! the plain store, one mutator after another, and keeps the history itself. All take of the workload what `starting`
+//! does, and make an `Outcome` of what is left. It knows no sink and no word of a command line.
 #![tactic(auto)]
 
 mod finishing;

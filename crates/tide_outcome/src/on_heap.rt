@@ -17,8 +17,8 @@ use tide_periods::{Pacing, room_for};
 use tide_threads::{HeapRun, OnThreads, run_on_threads};
 use tide_workload::Workload;
 
-/// The heap that threads share, with a mutator for each of the workload's scripts and so many visitors, and its cycles paced
-/// so.
+/// The heap that threads share, with a mutator for each of the workload's scripts and so many visitors, and its cycles
+/// paced so.
 pub(crate) fn heap_for(
     alloc: Global,
     load: &Workload,
@@ -48,9 +48,9 @@ pub(crate) fn heap_for(
     Ok(on)
 }
 
-/// Runs a workload on one heap, with a thread for each mutator and each visitor in each part. A cycle marks while calls go
-/// on between its pauses, and begins by itself where the workload's trigger asks for it; there may be up to 8 visitors, who
-/// mark beside the calls.
+/// Runs a workload on one heap, with a thread for each mutator and each visitor in each part. A cycle marks while calls
+/// go on between its pauses, and begins by itself where the workload's trigger asks for it; there may be up to 8
+/// visitors, who mark beside the calls.
 pub fn run<R: Threads + Sync, T: Turnstile>(
     rt: &R,
     alloc: Global,

@@ -18,8 +18,8 @@ use Rattle.tide_periods.specs.Store.{Setting}
 abbrev pub with_open : List Event → ℕ → List Event
 with_open history run = history ++ plain (Open (open_count history + 1) run) ∷ []
 
--- A history was settled, and its next part was opened. Where what follows is of a part, each block that was taken in it was
--- swept, the whole is lawful, and each caller's mutator took part, the part was run by these callers.
+-- A history was settled, and its next part was opened. Where what follows is of a part, each block that was taken in it
+-- was swept, the whole is lawful, and each caller's mutator took part, the part was run by these callers.
 abbrev pub SharesMakePart : Type 0
 SharesMakePart = (setting : Setting) (run : ℕ) (history part : List Event) (old new : List Caller)
     (stopped : ℕ → Bool) → IsSettled (recorded_at setting history) → AreCallers (recorded_at setting history) old →

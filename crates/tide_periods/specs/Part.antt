@@ -32,8 +32,8 @@ pub record AreCallers (recorded : Recorded) (callers : List Caller) : Type 0 whe
   pub each : (who : ℕ) (caller : Caller) → slice_get callers who ≡ Some caller →
       (caller.who ≡ who) × IsCaller recorded caller
 
--- What a running part may have after a history: calls, and where no cycle marks also blocks that are taken and swept. Each
--- that is taken is swept in it.
+-- What a running part may have after a history: calls, and where no cycle marks also blocks that are taken and swept.
+-- Each that is taken is swept in it.
 pub record IsPartOf (layout : Layout) (before part : List Event) : Type 0 where
   pub entries : AllPass (λ event. is_of_part event.entry) part
   pub calls : marks_after layout before ≡ true → AllPass (λ event. is_call event.entry) part

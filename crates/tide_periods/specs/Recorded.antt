@@ -43,8 +43,8 @@ recorded_at setting history = record {
 abbrev pub TookNone : List Event → Type 0
 TookNone history = list_all (λ event. not (is_taken event.entry)) history ≡ true
 
--- The history is lawful, its cycles end in time, and it leaves the store as it is. A cycle may mark, and something may be
--- dead.
+-- The history is lawful, its cycles end in time, and it leaves the store as it is. A cycle may mark, and something may
+-- be dead.
 pub record IsSettled (recorded : Recorded) : Type 0 where
   pub lawful : IsLawful recorded.setting.layout recorded.setting.shapes recorded.history
   pub ends : Each (EndsInTime recorded.setting.layout) recorded.history
@@ -54,8 +54,9 @@ pub record IsSettled (recorded : Recorded) : Type 0 where
   pub few : (who : ℕ) → length (recorded.state.claims who) ≤ 8
   pub blocks : recorded.blocks ≡ blocks_in recorded.setting
 
--- What holds between two entries of a store that runs whole cycles alone, beside what is recorded: no cycle marks, nothing
--- is dead, since each freeze swept all, no block was taken in a part, and the report tells the ends of the history.
+-- What holds between two entries of a store that runs whole cycles alone, beside what is recorded: no cycle marks,
+-- nothing is dead, since each freeze swept all, no block was taken in a part, and the report tells the ends of the
+-- history.
 pub record StandsIdle (layout : Layout) (state : State) (history : List Event) (report : Reported) : Type 0 where
   pub rests : state.phase ≡ idle
   pub clean : (block : ℕ) → HasDead layout state block → ⊥

@@ -93,8 +93,8 @@ impl Caller {
     }
 }
 
-/// The most calls that a mutator with so many operations makes: each of them at most twice, as only the first refusal for
-/// room is tried again, then eight unclaims and one retirement.
+/// The most calls that a mutator with so many operations makes: each of them at most twice, as only the first refusal
+/// for room is tried again, then eight unclaims and one retirement.
 pub(crate) fn most_calls(operations: usize) -> usize
     ensures { operations ≤ 65536 → result ≡ most_calls_of operations }
 {

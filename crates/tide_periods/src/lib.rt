@@ -1,11 +1,11 @@
 //! A run of mutators in periods, over any store: running parts, and the freezes between them in which cycles run.
 //!
-//! It knows no workload and no text. What it is handed is a store with its mutators and the numbers of a period; what it
-//! gives back is what keeps the history, the report of its cycles, and each mutator's calls. `Parts` is what a run asks
-//! of a store: that it runs parts and freezes between them. `InTurn` is one in which mutators make their calls one after
-//! another, over any `Recorder`, which keeps the history of what was run on it. `Recording` is one over any `Store`, and
-//! the plain store is the first such. A `Caller` tells what a mutator asks next by its own calls alone, so that others may make
-//! theirs meanwhile; `laws` says what such shares make.
+//! It knows no workload and no text. What it is handed is a store with its mutators and the numbers of a period; what
+//! it gives back is what keeps the history, the report of its cycles, and each mutator's calls. `Parts` is what a run
+//! asks of a store: that it runs parts and freezes between them. `InTurn` is one in which mutators make their calls one
+//! after another, over any `Recorder`, which keeps the history of what was run on it. `Recording` is one over any
+//! `Store`, and the plain store is the first such. A `Caller` tells what a mutator asks next by its own calls alone, so
+//! that others may make theirs meanwhile; `laws` says what such shares make.
 #![tactic(auto)]
 
 mod answered;

@@ -1,7 +1,7 @@
 //! The room that a run of some scripts needs, so that it is made before the run begins. It knows no store.
 //!
-//! These are counts of a run, read off its scripts. What they are is proved. That this is room enough isn't: a list whose
-//! room is too small grows.
+//! These are counts of a run, read off its scripts. What they are is proved. That this is room enough isn't: a list
+//! whose room is too small grows.
 ghost use Rattle.std.specs.Prelude.{◌≡◌, ◌≤◌, ◌*◌, All, length, map};
 ghost use Rattle.tide_periods.specs.Room.{events_in, longest_in, operations_in};
 
@@ -11,8 +11,8 @@ use tide_model::Op;
 /// How many cycles may end in one freeze.
 const ENDS: usize = 2;
 
-/// How many entries a part has beside its calls and the sweeps: it is opened, two pauses are made, two cycles end, and one
-/// begins.
+/// How many entries a part has beside its calls and the sweeps: it is opened, two pauses are made, two cycles end, and
+/// one begins.
 const ENTRIES: usize = 6;
 
 /// What a run leaves at most.
@@ -28,8 +28,8 @@ pub struct Room {
 
 /// The room that a run of these scripts needs: at most 16, of at most 65,536 operations each.
 ///
-/// A mutator makes at most twice its operations and nine calls. The events are the calls of all mutators, and six for each
-/// call of the one that makes the most. The ends are twice that one's calls, and the births are the operations.
+/// A mutator makes at most twice its operations and nine calls. The events are the calls of all mutators, and six for
+/// each call of the one that makes the most. The ends are twice that one's calls, and the births are the operations.
 ///
 /// A mutator that isn't retired makes some call in each part, so there are no more parts than one mutator makes calls.
 /// Each operation bears at most one cell: one that was refused and is tried again bore none.

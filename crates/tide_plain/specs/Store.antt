@@ -8,8 +8,8 @@ use Rattle.tide_model.specs.Refused.{ShapeLists}
 use Rattle.tide_stored.specs.Contents.{state_of as state_of_contents}
 use Rattle.tide_stored.specs.Stored.{Stored}
 
--- a plain store: what it holds, the array that the last call took, and by number which blocks the last collection swept and
--- which cells it kept
+-- a plain store: what it holds, the array that the last call took, and by number which blocks the last collection swept
+-- and which cells it kept
 pub record Plain : Type 0 where
   pub contents : Stored
   pub taken : Option ℕ

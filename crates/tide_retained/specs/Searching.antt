@@ -96,8 +96,8 @@ pub data IsPlaced (contents : Contents) (found : List (Option Found)) (cell : �
   by_step : (before : Found) → found_in found place.parent ≡ Some before → place.distance ≡ before.distance + 1 → place.root ≡ before.root →
       IsStep (graph_held contents) place.parent cell → IsPlaced contents found cell place
 
--- What was found is what steps lead to from the roots, each cell once in the order; what is known to be retained is; and
--- of each cell whose twins were entered these were found.
+-- What was found is what steps lead to from the roots, each cell once in the order; what is known to be retained is;
+-- and of each cell whose twins were entered these were found.
 pub record IsSearch (contents : Contents) (search : Search) : Type 0 where
   pub sized : length search.retained ≡ length search.found
   pub wide : length contents.cells.items ≤ length search.found

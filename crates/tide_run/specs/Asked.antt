@@ -24,8 +24,8 @@ abbrev pub AsksToRead : Option Options → Type 0
 AsksToRead None = ⊥
 AsksToRead (Some options) = options.make ≡ None
 
--- the workload that is asked for: the generated one of a number, and then nothing is read, or the one that the bytes read
--- are
+-- the workload that is asked for: the generated one of a number, and then nothing is read, or the one that the bytes
+-- read are
 abbrev pub IsAskedFor : Option ℕ → Option (List ℕ) → Option (List ℕ) → Work → Type 0
 IsAskedFor (Some number) old new work = (work ≡ made number) × Keeps old new
 IsAskedFor None old new work = ReadWork old new work
@@ -66,8 +66,8 @@ abbrev pub AreLinesOf : Bool → Ran → List ℕ → Type 0
 AreLinesOf true ran lines = AreLines ran.layout ran.keys (state_after ran.layout ran.history) lines
 AreLinesOf false ran lines = lines ≡ []
 
--- The text is what is printed of a run that options asked for: its summary or its text, and then the line of each cell that
--- lives at its end, where a snapshot is asked for. Of the paths of the fewest steps to a cell any will do.
+-- The text is what is printed of a run that options asked for: its summary or its text, and then the line of each cell
+-- that lives at its end, where a snapshot is asked for. Of the paths of the fewest steps to a cell any will do.
 pub record IsPrintedOf (asked : Option Options) (ran : Ran) (text : List ℕ) : Type 0 where
   pub lines : List ℕ
   pub are : AreLinesOf (asks_for_snapshot asked) ran lines
@@ -81,8 +81,8 @@ Prints asked old new ran = (text : List ℕ) × IsPrintedOf asked ran text × Ap
 abbrev pub PrintsPart : Option Options → Option (List ℕ) → Option (List ℕ) → Ran → Type 0
 PrintsPart asked old new ran = (text : List ℕ) × IsPrintedOf asked ran text × AppendsPart old new text
 
--- what is shown of the last state of a run: a snapshot of it where one is asked for, whose properties have keys of these
--- shapes, and else nothing
+-- what is shown of the last state of a run: a snapshot of it where one is asked for, whose properties have keys of
+-- these shapes, and else nothing
 abbrev pub IsShownOf : Bool → ShapeLists → Ran → Option Contents → Type 0
 IsShownOf true shapes ran None = ⊥
 IsShownOf true shapes ran (Some snapshot) =

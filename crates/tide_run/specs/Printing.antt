@@ -21,8 +21,8 @@ abbrev pub AreShownLines : List (List ℕ) → Option Contents → List ℕ → 
 AreShownLines names (Some snapshot) lines = AreLinesIn snapshot names lines
 AreShownLines names None lines = lines ≡ []
 
--- the text is what is printed of a run: its summary where there are counts of it, and else its text, and behind it the lines
--- of a snapshot
+-- the text is what is printed of a run: its summary where there are counts of it, and else its text, and behind it the
+-- lines of a snapshot
 pub record IsPrintedWith (done : Printable) (text : List ℕ) : Type 0 where
   pub lines : List ℕ
   pub are : AreShownLines done.load.keys done.snapshot lines

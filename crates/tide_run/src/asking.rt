@@ -22,8 +22,8 @@ use tide_outcome::{Outcome, plain, run, run_with_snapshot};
 use tide_snapshot::Snapshot;
 use tide_workload::{Counts, Fault, MAX_BYTES, Workload, read};
 
-/// A run, and what is to be printed of it: the counts of its calls, or the text of them where there are no counts, and the
-/// lines of a snapshot where there is one.
+/// A run, and what is to be printed of it: the counts of its calls, or the text of them where there are no counts, and
+/// the lines of a snapshot where there is one.
 #[derive(Drop)]
 pub struct Printable {
     pub load: Workload,

@@ -11,8 +11,8 @@ keys_of shapes shape = slice_index_or shapes shape []
 abbrev pub HasNoKeyTwice : List ℕ → Type 0
 HasNoKeyTwice keys = AllPairs (λ earlier later. earlier ≢ later) keys
 
--- a table: its first shape is the empty one, and each shape has at most 64 keys and none twice; two numbers may have the
--- same keys
+-- a table: its first shape is the empty one, and each shape has at most 64 keys and none twice; two numbers may have
+-- the same keys
 pub record IsShapeTable (shapes : ShapeLists) : Type 0 where
   pub empty : slice_get shapes 0 ≡ Some []
   pub short : All (λ keys. length keys ≤ 64) shapes

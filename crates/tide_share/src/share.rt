@@ -1,4 +1,5 @@
-//! A mutator's share of a part: its caller is asked for each call, which is made and replied. It knows no other mutator.
+//! A mutator's share of a part: its caller is asked for each call, which is made and replied. It knows no other
+//! mutator.
 ghost use Rattle.std.specs.Prelude.{◌≡◌, ◌≤◌, ◌<◌, ◌+◌, [], IfOk, false};
 ghost use Rattle.tide_paying.specs.Standing.{claims_of};
 ghost use Rattle.tide_model.specs.Caller.{MakesCall};
@@ -35,8 +36,9 @@ fn make_call<T: Turnstile>(mutator: &mut Mutator, heap: &Heap<Shapes>, gate: &T,
     }
 }
 
-/// Makes a mutator's calls of a part: `run`, or fewer where it retires or stops. Answers whether it stopped. It waits for
-/// nobody but the turnstile, which each call meets at its places. Memory is wanted for the caller's list of calls alone.
+/// Makes a mutator's calls of a part: `run`, or fewer where it retires or stops. Answers whether it stopped. It waits
+/// for nobody but the turnstile, which each call meets at its places. Memory is wanted for the caller's list of calls
+/// alone.
 pub fn make_share<T: Turnstile>(
     mutator: &mut Mutator,
     heap: &Heap<Shapes>,

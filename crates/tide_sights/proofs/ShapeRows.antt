@@ -1,4 +1,5 @@
--- A table that was worked out by hand: the empty shape has the children 1, by key 5, and 2, by key 6, and 1 has the child 3, by key 6.
+-- A table that was worked out by hand: the empty shape has the children 1, by key 5, and 2, by key 6, and 1 has the
+-- child 3, by key 6.
 use native.Mathlib.Omega.{arith}
 use Rattle.std.proofs.Common.{ℕ, zero, suc, ◌≡◌, ◌≢◌, ◌<◌, cond, eqb, refl, sym, ◌∙◌, ap, subst, List, [], ◌∷◌, get_or}
 use Rattle.std.specs.Prelude.{Contains}

@@ -5,8 +5,8 @@ use Rattle.boxcar.specs.Table.{Where}
 use Rattle.tide_sights.specs.declared.cells.Cells.{Cells}
 use Rattle.tide_sights.specs.declared.cells.Item.{Item}
 
--- what tells a table from others: its cell for the first child of the empty shape, the highest number that a shape of it
--- may have, how many keys it has, and the cells that its items lie in
+-- what tells a table from others: its cell for the first child of the empty shape, the highest number that a shape of
+-- it may have, how many keys it has, and the cells that its items lie in
 abbrev pub name_of : Cells → List ℕ
 name_of cells = cells.first_child.id ∷ cells.last ∷ cells.keys ∷ map (λ bucket. bucket.id) cells.items.buckets
 

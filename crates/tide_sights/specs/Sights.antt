@@ -44,7 +44,8 @@ abbrev pub LeadsTo : List Edge → ℕ → ℕ → Spot → Type 0
 LeadsTo edges shape key spot =
     (more : List Edge) (child : ℕ) → Includes edges more → Finds more shape key spot child → Finds more shape key (first_of shape) child
 
--- why a walk came to no child: an item of the table stands where its number would be past the last one, or memory lacked
+-- why a walk came to no child: an item of the table stands where its number would be past the last one, or memory
+-- lacked
 abbrev pub IsUnmade : Cells → Unmade → Type 0
 IsUnmade cells (Many item) = Shown (name_of cells) item × (last_in (name_of cells) ≤ item.index)
 IsUnmade cells Memory = Unit {0}

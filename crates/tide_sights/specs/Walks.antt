@@ -28,7 +28,8 @@ pub data Finds (edges : List Edge) (parent key : ℕ) : Spot → ℕ → Type 0 
   there : {spot : Spot} {child : ℕ} (edge : Edge) → Contains edges edge → edge.spot ≡ spot → edge.key ≢ key →
       Finds edges parent key (next_of edge.child) child → Finds edges parent key spot child
 
--- the shape has these keys: the empty shape has none, and one that the walk over its parent's children finds has one more
+-- the shape has these keys: the empty shape has none, and one that the walk over its parent's children finds has one
+-- more
 pub data Lists (edges : List Edge) : ℕ → List ℕ → Type 0 where
   empty : {shape : ℕ} {keys : List ℕ} → shape ≡ 0 → keys ≡ [] → Lists edges shape keys
   longer : {shape : ℕ} {keys : List ℕ} (parent : ℕ) (front : List ℕ) (key : ℕ) → Lists edges parent front →

@@ -29,8 +29,8 @@ with_found (LoadRegister register) read v = v
 with_found LoadCall read v = v
 with_found _ read v = record v { found = read }
 
--- What a step of a kind tells, where the word was found: it took place after some history, of which the caller had seen a
--- beginning; the view is the one that the machine says, with the word; and what the machine was at that moment.
+-- What a step of a kind tells, where the word was found: it took place after some history, of which the caller had seen
+-- a beginning; the view is the one that the machine says, with the word; and what the machine was at that moment.
 pub record Follows (layout : Layout) (shapes : ShapeLists) (kind : Kind) (v : View) (read : ℕ) (u : View)
     : Type 0 where
   pub log : List Event

@@ -123,8 +123,8 @@ impl Pass {
         }
     }
 
-    /// Whether it has done its part: it is no visitor, no cycle marks, it made as many cells black as it was to run for, or
-    /// its round is whole, as `whole` says.
+    /// Whether it has done its part: it is no visitor, no cycle marks, it made as many cells black as it was to run
+    /// for, or its round is whole, as `whole` says.
     fn has_done(&self, whole: bool) -> bool
         ensures { result ≡ (done_by_numbers self.now.seat.me.0 || whole) }
     {

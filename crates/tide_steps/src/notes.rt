@@ -19,8 +19,8 @@ pub struct Note {
     ghost done_is: { done ≡ seat.me.0.done },
 }
 
-/// What a participant begins a part with: the number of the part, how many calls each mutator has in it, whether a cycle
-/// marks, and which, and from which cycle on colours count.
+/// What a participant begins a part with: the number of the part, how many calls each mutator has in it, whether a
+/// cycle marks, and which, and from which cycle on colours count.
 #[derive(Drop)]
 pub struct Ticket {
     pub(crate) seat: Seat<(), View>,
@@ -55,9 +55,9 @@ impl Note {
         self.numbers
     }
 
-    /// Whether the participant has done its part. Of a note of `Pass::split` or `Pass::stop` that is true exactly where the
-    /// participant is no visitor, its ticket doesn't mark, it made as many cells black as it was to run for, or it found
-    /// each grey word 0 since it last held a cell.
+    /// Whether the participant has done its part. Of a note of `Pass::split` or `Pass::stop` that is true exactly where
+    /// the participant is no visitor, its ticket doesn't mark, it made as many cells black as it was to run for, or it
+    /// found each grey word 0 since it last held a cell.
     pub fn done(&self) -> bool
         ensures { result ≡ self.now.seat.me.0.done }
     {

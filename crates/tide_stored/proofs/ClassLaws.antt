@@ -20,7 +20,8 @@ use Rattle.tide_statuses.specs.Statuses.{status_of}
 use Rattle.tide_stored.specs.Stored.{live_cell}
 use Rattle.tide_stored.specs.Contents.{state_of, stored_at, IsStored}
 
--- what a search through the numbers from `first` on and below `end` answers: the first that passes, or none where all fail
+-- what a search through the numbers from `first` on and below `end` answers: the first that passes, or none where all
+-- fail
 abbrev pub IsFirstFound : (ℕ → Type 0) → (ℕ → Type 0) → ℕ → ℕ → Option ℕ → Type 0
 IsFirstFound Passes Fails first end found =
     MatchOption found ((n : ℕ) → first ≤ n → n < end → Fails n) (λ i. (first ≤ i) × (i < end) × Passes i × ((n : ℕ) → first ≤ n → n < i → Fails n))

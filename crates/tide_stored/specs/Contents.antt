@@ -30,7 +30,8 @@ state_of contents = record {
 abbrev pub stored_at : Stored → ℕ → StoredCell
 stored_at contents cell = slice_index_or contents.cells cell blank_stored
 
--- the lists are as long as the layout says, each live cell's shape and array are there, and no key stands twice in a table
+-- the lists are as long as the layout says, each live cell's shape and array are there, and no key stands twice in a
+-- table
 pub record IsStored (contents : Stored) : Type 0 where
   pub limits : IsWithinLimits contents.layout
   pub table : IsShapeTable contents.shapes

@@ -227,8 +227,8 @@ module _ (layout : Layout) (shapes : ShapeLists) (words : List ℕ) (views : Lis
         is_done p visitor ((member p visitor).done (noted p visitor) done),
       )
 
-  -- all have stopped: the collector has the words to itself, and they meet the wave at a freeze with the history that it
-  -- has seen
+  -- all have stopped: the collector has the words to itself, and they meet the wave at a freeze with the history that
+  -- it has seen
   pub freeze_all : v.frozen ≡ false → AllIn → FrozenWith layout shapes (heap_of layout words) v.seen v.ledger
       × (length words ≡ word_count layout)
       × Tabled layout shapes words (set views me (frozen_with words v)) log

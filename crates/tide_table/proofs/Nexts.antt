@@ -83,7 +83,8 @@ RunsWith-noted layout books v note runs = record {
   are = runs.are;
 }
 
--- Below, v is the view while a part runs, u once it is frozen, w once the freeze code ran, and x once the next part is opened.
+-- Below, v is the view while a part runs, u once it is frozen, w once the freeze code ran, and x once the next part is
+-- opened.
 pub HasOpenedNext-by : (layout : Layout) (shapes : ShapeLists) (pace : Pace) (is_must : Bool) (run : ℕ)
     (old counted books : Books) (v u w x : View) → RunsWith layout old v → Freezes layout shapes v u →
     HasCollected layout shapes pace is_must u w run → WereKept layout u.seen w.seen counted books →

@@ -268,7 +268,8 @@ HasEnteredVisits-all layout shapes v w still told marks is wave none =
           (all_entered-blacks layout 0 layout.visitors v (still.blacks opened));
     }
 
--- Below, v is the collector's view of a heap that stands still, u with the visits entered, and w once the freeze code ran.
+-- Below, v is the collector's view of a heap that stands still, u with the visits entered, and w once the freeze code
+-- ran.
 module _ (layout : Layout) (shapes : ShapeLists) (v u : View) (still : StandsStill layout shapes v) (opened : 0 < v.period)
     (entered : HasEnteredVisits layout shapes v u) where
   long_then : length u.words ≡ word_count layout

@@ -277,8 +277,8 @@ opens_at layout shapes words limits empty_shape zeros = record {
   };
 }
 
--- What a table that a frozen collector closes leaves: its history is lawful, its words are the last, and who has left in
--- its view has retired in the history.
+-- What a table that a frozen collector closes leaves: its history is lawful, its words are the last, and who has left
+-- in its view has retired in the history.
 pub record Closes (layout : Layout) (shapes : ShapeLists) (v : View) (words : List ℕ) : Type 0 where
   pub lawful : IsLawful layout shapes v.seen
   pub words_are : words ≡ v.words

@@ -146,7 +146,8 @@ visits_left-over visitor from (suc count) visited later = λ i.
     visits_in ((told_by-others (first_visitor + visitor) (first_visitor + from) (λ e. omega (arith, e, later)) visited) i)
     + (visits_left-over visitor (from + 1) count visited (omega (arith, later))) i
 
--- Below, the visits of some visitors are left to enter: each has told and is done, and no more is left than what they told.
+-- Below, the visits of some visitors are left to enter: each has told and is done, and no more is left than what they
+-- told.
 pub record AreLeft (visitor count : ℕ) (visited : List Visited) : Type 0 where
   pub each : (i : ℕ) → i < count → (k : ℕ) × (told_by (first_visitor + (visitor + i)) visited
       ≡ Some (record { who = first_visitor + (visitor + i); visits = k; done = true }))

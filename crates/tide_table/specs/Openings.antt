@@ -15,7 +15,8 @@ use Rattle.tide_model.specs.declared.entry.Event.{Event}
 use Rattle.tide_words.specs.heap.Heap.{heap_of}
 
 -- The words that stand still after a history are such that a part of so many calls may be opened: they meet the wave of
--- the history, what is said of sweeps holds, and where a cycle marks there are calls and a shared grey cell for visitors.
+-- the history, what is said of sweeps holds, and where a cycle marks there are calls and a shared grey cell for
+-- visitors.
 pub record MayFollow (layout : Layout) (shapes : ShapeLists) (words : List ℕ) (history : List Event) (run : ℕ)
     : Type 0 where
   pub wave : FrozenWave layout shapes (heap_of layout words) history
@@ -24,8 +25,8 @@ pub record MayFollow (layout : Layout) (shapes : ShapeLists) (words : List ℕ) 
   pub clean : TakenAreClean layout (heap_of layout words) (state_after layout history)
   pub may : MayOpen layout (heap_of layout words) run
 
--- A freeze over words that met the wave when all had stopped leaves such words, for as many calls as the schedule has in
--- the next part.
+-- A freeze over words that met the wave when all had stopped leaves such words, for as many calls as the schedule has
+-- in the next part.
 abbrev pub FreezesLeadToOpenings : Type 0
 FreezesLeadToOpenings =
     (pace : Pace) (layout : Layout) (shapes : ShapeLists) (words words_now : List ℕ) (here after : List Event)

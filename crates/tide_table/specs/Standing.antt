@@ -23,17 +23,17 @@ use Rattle.tide_words.specs.heap.Heap.{SameIn, heap_of}
 use Rattle.tide_words.specs.marking.Colours.{is_black}
 use Rattle.tide_table.specs.VisitsTold.{AreTold, unentered}
 
--- While a part runs the view has the number and the run of the part that was opened last, and the cycles up to there ended
--- in time.
+-- While a part runs the view has the number and the run of the part that was opened last, and the cycles up to there
+-- ended in time.
 pub record RunsPart (layout : Layout) (v : View) : Type 0 where
   pub running : v.frozen ≡ false
   pub period : v.period ≡ open_count v.start
   pub run : v.run ≡ last_run v.start
   pub ends : Each (EndsInTime layout) v.start
 
--- The heap stands still: its words meet the wave at a freeze, with the visits that notes told and that aren't entered yet.
--- Once a part was opened, the cells that are black now are those that were at the last entry, or where the freeze began.
--- Cycles ended in time, and who stopped when is as it was at the freeze.
+-- The heap stands still: its words meet the wave at a freeze, with the visits that notes told and that aren't entered
+-- yet. Once a part was opened, the cells that are black now are those that were at the last entry, or where the freeze
+-- began. Cycles ended in time, and who stopped when is as it was at the freeze.
 pub record StandsStill (layout : Layout) (shapes : ShapeLists) (v : View) : Type 0 where
   pub limits : IsWithinLimits layout
   pub frozen : v.frozen ≡ true
@@ -55,16 +55,16 @@ pub record MayEnterVisits (layout : Layout) (v : View) : Type 0 where
 abbrev pub LeavesRest : View → View → Type 0
 LeavesRest v w = record w { seen = []; words = []; base = []; visited = [] } ≡ record v { seen = []; words = []; base = []; visited = [] }
 
--- a part runs, its number is one of 32 bits, fewer cycles began than parts were opened, and the books go with the history
--- up to its opening
+-- a part runs, its number is one of 32 bits, fewer cycles began than parts were opened, and the books go with the
+-- history up to its opening
 pub record RunsWith (layout : Layout) (books : Books) (v : View) : Type 0 where
   pub runs : RunsPart layout v
   pub few : begin_count v.start < v.period
   pub numbered : v.period < 2 ^ 32
   pub are : AreBooks layout v.start books
 
--- The view before the next part was opened, and right after it: no note is in that would say that a part isn't done, and
--- who had left for good is gone.
+-- The view before the next part was opened, and right after it: no note is in that would say that a part isn't done,
+-- and who had left for good is gone.
 pub record HasOpenedNext (layout : Layout) (books : Books) (v w : View) : Type 0 where
   pub runs : RunsWith layout books w
   pub period : w.period ≡ v.period + 1
@@ -73,15 +73,15 @@ pub record HasOpenedNext (layout : Layout) (books : Books) (v w : View) : Type 0
   pub done : w.done ≡ true
   pub gone : w.gone ≡ v.gone
 
--- A freeze after the part of `v` did what the schedule asks for, and the next part was opened with as many calls as that
--- leaves for it.
+-- A freeze after the part of `v` did what the schedule asks for, and the next part was opened with as many calls as
+-- that leaves for it.
 pub record HasFrozenNext (pace : Pace) (layout : Layout) (is_must : Bool) (v w : View) : Type 0 where
   pub frozen : List Event
   pub freezes : HasFrozenWhole pace layout (last_run v.seen) v.seen frozen is_must
   pub opened : w.start ≡ frozen ++ plain (Open w.period (next_run pace layout frozen)) ∷ []
 
--- What notes told of visits was entered, if a cycle marks, and nothing else happened: none is left to enter, and the words
--- meet the wave of the longer history.
+-- What notes told of visits was entered, if a cycle marks, and nothing else happened: none is left to enter, and the
+-- words meet the wave of the longer history.
 pub record HasEnteredVisits (layout : Layout) (shapes : ShapeLists) (v w : View) : Type 0 where
   pub visited : HasVisited layout v.run v.seen w.seen
   pub wave : FrozenWith layout shapes (heap_of layout w.words) w.seen 0

@@ -84,7 +84,8 @@ WorkedFaults =
     × (fault_line (BadOp 1 65535) ≡ codes "riptide: bad op 65535 of mutator 1\n")
     × (fault_line Memory ≡ codes "riptide: no memory\n")
 
--- the summary of a run of no call, of one of a call of each kind, and of the history of one mutator that asks for a cycle
+-- the summary of a run of no call, of one of a call of each kind, and of the history of one mutator that asks for a
+-- cycle
 abbrev pub WorkedSummaries : Type 0
 WorkedSummaries =
     (summary_text (counts_with 1 [] 0) ≡ codes "mutators 1 calls 0\nborn 0 ok 0 cell 0 int 0 empty 0 asked 0 refused 0\nlive 0\n")

@@ -8,8 +8,8 @@ use Rattle.tide_machine.specs.declared.view.NotedCalls.{NotedCalls}
 use Rattle.tide_machine.specs.declared.view.View.{View}
 use Rattle.tide_threads.specs.Acting.{noted_all}
 
--- Notes were taken in, from the first view of the collector to the second. It knows all that it knew of notes, and who has
--- left.
+-- Notes were taken in, from the first view of the collector to the second. It knows all that it knew of notes, and who
+-- has left.
 pub record TookNotes (v w : View) : Type 0 where
   pub frozen : w.frozen ≡ v.frozen
   pub period : w.period ≡ v.period

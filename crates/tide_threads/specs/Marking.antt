@@ -20,8 +20,8 @@ pub record MayBeginVisits (id : TableId) (layout : Layout) (ticket : Ticket) (x 
   pub period : (view_of x.visitor).period < ticket.seat.me.0.period
   pub room : cell_count layout ≤ stack_room_of x.visitor
 
--- A visitor did its part of a ticket with this view, and this is its note, which says so and how many cells it made black.
--- The races that it met are counted, as far as 64 bits count them.
+-- A visitor did its part of a ticket with this view, and this is its note, which says so and how many cells it made
+-- black. The races that it met are counted, as far as 64 bits count them.
 pub record HasMadeVisits (id : TableId) (ticket : View) (x y : CountingVisitor) (note : Note) : Type 0 where
   pub table : table_of y.visitor ≡ id
   pub room : stack_room_of y.visitor ≡ stack_room_of x.visitor

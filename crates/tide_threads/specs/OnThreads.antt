@@ -30,8 +30,8 @@ callers_on o = callers_in o.participants.items
 abbrev pub pace_on : OnThreads → Pace
 pace_on o = pace_of o.books.pacing
 
--- Between two parts the collector is of the heap, which stands still. The books go with its history, and the report tells
--- its ends. Each participant stands by, and no calls were handed over yet.
+-- Between two parts the collector is of the heap, which stands still. The books go with its history, and the report
+-- tells its ends. Each participant stands by, and no calls were handed over yet.
 pub record Stands (o : OnThreads) : Type 0 where
   pub of_heap : o.collector.seat.table_id ≡ o.heap.table.shared.table_id
   pub still : StandsStill o.heap.key.layout (lists_of o.heap.key.shapes) o.collector.seat.me.0

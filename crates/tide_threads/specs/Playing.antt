@@ -26,8 +26,8 @@ use Rattle.tide_threads.specs.declared.worker.Worker.{Worker}
 use Rattle.tide_threads.specs.declared.worker.Worker.TheVariants.{Mutator, Visitor}
 use Rattle.tide_visitor.specs.Viewed as visiting
 
--- Between two parts the mutator at this place of the participants is of this table and parked, and its caller is its own.
--- Mutators come first, in the order of their numbers.
+-- Between two parts the mutator at this place of the participants is of this table and parked, and its caller is its
+-- own. Mutators come first, in the order of their numbers.
 pub record MutatorStandsBy (id : TableId) (layout : Layout) (collector : View) (at : ℕ) (x : CallingMutator) : Type 0 where
   pub table : table_of x.mutator ≡ id
   pub is_mutator : at < layout.mutators
@@ -74,8 +74,8 @@ pub record WasHanded (id : TableId) (collector : View) (x y : Participant) : Typ
   pub left : has_left x.worker ≡ true → y.ticket ≡ x.ticket
   pub ticket : has_left x.worker ≡ false → (ticket : Ticket) × (y.ticket ≡ Some ticket) × IsTicketOf id collector ticket
 
--- A mutator may begin its part with this ticket: the ticket is of a later part than its last one, and its caller knows of
--- it what the ticket tells of the history.
+-- A mutator may begin its part with this ticket: the ticket is of a later part than its last one, and its caller knows
+-- of it what the ticket tells of the history.
 pub record MayBeginShare (id : TableId) (layout : Layout) (shapes : ShapeLists) (ticket : Ticket) (x : CallingMutator)
     : Type 0 where
   pub table : table_of x.mutator ≡ id
@@ -99,8 +99,8 @@ MayBeginPart id layout shapes ticket (Visitor x) = MayBeginVisits id layout tick
 abbrev pub MayPlay : TableId → Layout → ShapeLists → Participant → Type 0
 MayPlay id layout shapes x = (ticket : Ticket) → x.ticket ≡ Some ticket → MayBeginPart id layout shapes ticket x.worker
 
--- a mutator made its share of the part of a ticket with this view, and this is its note; and whether it stopped before its
--- share was over
+-- a mutator made its share of the part of a ticket with this view, and this is its note; and whether it stopped before
+-- its share was over
 pub record HasMadeShare (id : TableId) (layout : Layout) (shapes : ShapeLists) (ticket : View) (x y : CallingMutator)
     (note : Note) (ended : Bool) : Type 0 where
   pub table : table_of y.mutator ≡ id

@@ -1,11 +1,11 @@
 //! Runs on threads: in each part each mutator makes its calls, and each visitor marks, on a thread of its own, on one
 //! shared heap.
 //!
-//! A `Participant` is a mutator with what it asks for, or a visitor. In a part each begins with its ticket, makes its share
-//! of calls or of visits, and stops; the collector opens the part and hands tickets out before, and takes notes in and
-//! freezes after. `OnThreads` is a heap with its participants, which `run_on_threads` runs until all mutators have retired;
-//! `run_with_snapshot` takes a snapshot of it then.
-//! What a call does, and what a visit or a freeze marks, is decided by the crates below.
+//! A `Participant` is a mutator with what it asks for, or a visitor. In a part each begins with its ticket, makes its
+//! share of calls or of visits, and stops; the collector opens the part and hands tickets out before, and takes notes
+//! in and freezes after. `OnThreads` is a heap with its participants, which `run_on_threads` runs until all mutators
+//! have retired; `run_with_snapshot` takes a snapshot of it then. What a call does, and what a visit or a freeze marks,
+//! is decided by the crates below.
 #![tactic(auto)]
 
 mod calling;

@@ -22,8 +22,8 @@ pub struct CountingVisitor {
     pub(crate) deferred: u64,
 }
 
-/// Visits as many cells as a mutator has calls in the part, if a cycle marks. It ends before only where it holds none, and
-/// found no more.
+/// Visits as many cells as a mutator has calls in the part, if a cycle marks. It ends before only where it holds none,
+/// and found no more.
 fn visit_part<T: Turnstile>(
     visitor: &mut Visitor,
     heap: &Heap<Shapes>,

@@ -41,8 +41,8 @@ use tide_snapshot::Snapshot;
 use tide_table::{Closed, Collector, Heap, Pass, Start};
 use tide_words::GreyList;
 
-/// A heap on which mutators and visitors act on threads: the collector, a participant for each of them, and the books of its
-/// freezes.
+/// A heap on which mutators and visitors act on threads: the collector, a participant for each of them, and the books
+/// of its freezes.
 #[derive(Drop)]
 pub struct OnThreads {
     heap: Heap<Shapes>,
@@ -199,8 +199,8 @@ fn deferred_by(participants: &[CachePadded<Participant>]) -> u64
 }
 
 impl OnThreads {
-    /// An empty heap on which nothing was run yet, with a mutator for each script, the visitors of the layout, and this room
-    /// for what a run leaves. Its cycles are paced so.
+    /// An empty heap on which nothing was run yet, with a mutator for each script, the visitors of the layout, and this
+    /// room for what a run leaves. Its cycles are paced so.
     pub fn new(
         alloc: Global,
         layout: Layout,
@@ -279,7 +279,8 @@ impl OnThreads {
         have_retired(self.participants.as_slice())
     }
 
-    /// Freezes after a part, and does what the schedule asks for. Answers how many calls each mutator has in the next part.
+    /// Freezes after a part, and does what the schedule asks for. Answers how many calls each mutator has in the next
+    /// part.
     pub(crate) fn freeze(&mut self, is_must: bool) -> Result<u32, Memory>
         requires settled { IsSettled (recorded_in self.old) }
         requires stands { Stands self.old }
@@ -330,8 +331,8 @@ impl OnThreads {
         deferred_by(self.participants.as_slice())
     }
 
-    /// Closes a heap whose mutators have all retired: its history, the report of the cycles that ended, and each mutator's
-    /// calls.
+    /// Closes a heap whose mutators have all retired: its history, the report of the cycles that ended, and each
+    /// mutator's calls.
     pub(crate) fn finish(self) -> Result<(Closed, Report, Vec<Vec<Answered>>), Memory>
         requires stands { Stands self }
         requires retired { list_all (λ caller. caller.retired) (callers_on self) ≡ true }

@@ -110,8 +110,8 @@ pub(crate) fn close_run(on: OnThreads) -> Result<HeapRun, Memory>
     Ok(HeapRun { finished, deferred })
 }
 
-/// Runs the scripts of a heap's mutators, on which nothing was run yet: in each part each mutator makes its calls, and each
-/// visitor its visits, on a thread of its own.
+/// Runs the scripts of a heap's mutators, on which nothing was run yet: in each part each mutator makes its calls, and
+/// each visitor its visits, on a thread of its own.
 ///
 /// In the freeze after a part the cycle that marks goes on, and a whole one is run after a part in which a mutator
 /// asked for one, was first refused for room or, as the last, retired; else one begins where the trigger asks for it.

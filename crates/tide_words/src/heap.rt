@@ -1,5 +1,5 @@
-//! The words of a heap: any list of them, one list, how one of them changes, and which cells are live by them. They know
-//! no marking.
+//! The words of a heap: any list of them, one list, how one of them changes, and which cells are live by them. They
+//! know no marking.
 
 mod fields;
 mod live;

@@ -72,8 +72,8 @@ impl Workload {
         }
     }
 
-    /// The workload with these settings and operations, those of one mutator a list. It declares no path, so no operation
-    /// on properties is among them. It takes no memory, and refuses nothing.
+    /// The workload with these settings and operations, those of one mutator a list. It declares no path, so no
+    /// operation on properties is among them. It takes no memory, and refuses nothing.
     pub fn of(alloc: Global, settings: Settings, ops: Vec<Vec<Op>>) -> Workload
         requires limits { AreSettings settings }
         requires sized { IsSized (map (λ own. own.items) ops.items) }

@@ -1,8 +1,8 @@
 //! Workloads, under the one name that users say: what a workload is, reading one from bytes, and the text of its run.
 //!
 //! It has no code of its own. `read` takes bytes to a `Workload` or to the first fault in them, the `write_` functions
-//! print a run line by line or its summary, `texts_read_back` says that what is printed of an operation reads as that operation, and
-//! `write_fault_line` tells a fault. The words of their contracts are in specs/Words.antt.
+//! print a run line by line or its summary, `texts_read_back` says that what is printed of an operation reads as that
+//! operation, and `write_fault_line` tells a fault. The words of their contracts are in specs/Words.antt.
 #![tactic(auto)]
 
 pub use tide_reading::{MAX_BYTES, read};

@@ -7,7 +7,8 @@ use Rattle.tide_model.specs.Numbers.{count_where}
 use Rattle.tide_model.proofs.CountLaws.{count_where-none}
 use Rattle.tide_words.proofs.marking_laws.ConstraintLaws.{count_where-one_less}
 
--- Each taken place has a number that passes, each passing number has such a place, and no two places have the same number.
+-- Each taken place has a number that passes, each passing number has such a place, and no two places have the same
+-- number.
 pub record AreMatched (test : ℕ → Bool) (bound : ℕ) (taken : ℕ → Bool) (places : ℕ) (has : ℕ → ℕ → Type 0) : Type 0 where
   pub of_place : (place : ℕ) → place < places → taken place ≡ true → (n : ℕ) × has place n × (n < bound)
   pub passes : (place n : ℕ) → place < places → has place n → (test n ≡ true) × (taken place ≡ true)

@@ -98,8 +98,8 @@ module _ (layout : Layout) (shapes : ShapeLists) (w : World) (me : ℕ) (inside 
       counts : Counts w.heap
       counts = counts_where_black layout w.heap cell wave.colours within black
 
-  -- a cell whose word is another by now needs no barrier of this view: it was made grey since its colour was loaded, and
-  -- where it is black again, the one that made it so reads it anew
+  -- a cell whose word is another by now needs no barrier of this view: it was made grey since its colour was loaded,
+  -- and where it is black again, the one that made it so reads it anew
   pub left : (cell word : ℕ) → (w.part me).duty ≡ duty.Regrey cell word →
       (w.heap region.Colour cell == word) ≡ false →
       RunningWave layout shapes (record {

@@ -22,8 +22,8 @@ shown_full layout state block shown = record {
 module _ (layout : Layout) (log : List Event) (who class : ℕ) (full : List Found) (cleared : List Cleared)
     (finds : (block moment word : ℕ) → Contains full (record { block = block; moment = moment; word = word }) →
     (window_start who log ≤ moment) × (moment ≤ length log) × FreeIsShown layout (state_at layout log moment) block word) where
-  -- In a part in which no cycle marks the view has seen of each block one word that was 0, and the block was cleared by then:
-  -- nothing was dead there, or another had taken it.
+  -- In a part in which no cycle marks the view has seen of each block one word that was 0, and the block was cleared by
+  -- then: nothing was dead there, or another had taken it.
   pub full_at_rest : ((block moment : ℕ) → Contains cleared (record { block = block; moment = moment }) → (moment ≤ length log)
       × ((later : ℕ) → moment ≤ later → later ≤ length log → DeadIsTaken layout (take later log) block)) →
       ((block : ℕ) → IsBlockOf layout class block → (moment since : ℕ) × (since ≤ moment)

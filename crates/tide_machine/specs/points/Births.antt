@@ -38,7 +38,8 @@ pub record AwaitsColour (layout : Layout) (heap : Heap) (log : List Event) (p ce
   pub alone : (source : ℕ) → (cycle_span layout log).link source cell → ⊥
   pub hidden : IsHidden (state_after layout log) p cell
 
--- while a cycle marks, each cell born in it is marked, or its colour is owed by the one that took it, and by nobody else
+-- while a cycle marks, each cell born in it is marked, or its colour is owed by the one that took it, and by nobody
+-- else
 pub record RunningBornIsMarked (layout : Layout) (heap : Heap) (part : ℕ → View) (log : List Event) : Type 0 where
   pub born : is_marking heap ≡ true → (cell : ℕ) → cell < cell_count layout → is_born_in_cycle log cell ≡ true →
       IsMarked heap cell ⊎ ((p : ℕ) × OwesColour (part p).duty cell)

@@ -29,7 +29,8 @@ ScanExcuses heap source place cell (Some scan) =
     (scan.cell ≡ source) × (IsTrue scan (heap region.Structure source) →
     ((scan.agreed ≡ false) × IsUnread scan place) ⊎ Contains scan.buffer cell)
 
--- the view answers for a link from a black cell to an unmarked one: it owes the barrier on the source still, or scans it
+-- the view answers for a link from a black cell to an unmarked one: it owes the barrier on the source still, or scans
+-- it
 abbrev pub Excuses : Heap → ℕ → Place → ℕ → View → Type 0
 Excuses heap source place cell v = StillOwes heap v.duty source ⊎ ScanExcuses heap source place cell v.scan
 

@@ -17,8 +17,8 @@ use Rattle.tide_words.specs.marking.Colours.{is_marking, IsMarked, IsStamped}
 use Rattle.tide_model.specs.Old.{IsSpared}
 use Rattle.tide_layout.specs.declared.region.Region.TheVariants as region
 
--- what stood at some moment of the cycle that marks retains each marked cell, together with the old cells where it is an
--- Eden cycle; and so what a scan will mark
+-- what stood at some moment of the cycle that marks retains each marked cell, together with the old cells where it is
+-- an Eden cycle; and so what a scan will mark
 pub record RunningMarkedIsRetained (layout : Layout) (heap : Heap) (part : ℕ → View) (log : List Event) : Type 0 where
   pub marked : is_marking heap ≡ true → (cell : ℕ) → cell < cell_count layout → IsMarked heap cell →
       IsRetained (cycle_span layout log) (IsSpared layout log) cell
@@ -42,8 +42,8 @@ pub record SpanIsLive (layout : Layout) (heap : Heap) (log : List Event) : Type 
 abbrev pub counted_in : ℕ → View → ℕ
 counted_in period v = if v.begun == period then v.visits else 0
 
--- the black cells that weren't born in the cycle nor are spared by it are at most as many as visits were entered and are
--- counted by views
+-- the black cells that weren't born in the cycle nor are spared by it are at most as many as visits were entered and
+-- are counted by views
 pub record RunningBlackIsCounted (layout : Layout) (heap : Heap) (part : ℕ → View) (log : List Event) : Type 0 where
   pub counted : is_marking heap ≡ true →
       blackened_count layout heap log ≤ visits_since is_begin log + total (counted_in (heap region.Period 0)) part

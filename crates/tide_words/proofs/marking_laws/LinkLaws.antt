@@ -14,8 +14,8 @@ use Rattle.tide_words.proofs.heap_laws.ReadingLaws.{live_within}
 use Rattle.tide_words.proofs.marking_laws.ColourLaws.{Counts-same, HasColours-same, is_black-same, is_marked-same, is_marking-same, running_cycle-same}
 use Rattle.tide_words.proofs.marking_laws.MarkingLaws.{GreysAreHeld-colours, SameColours, link_ends, soon_kept}
 
--- Another state is read, whose references are live. It loses no live cell, and each link that is new is from a cell that
--- isn't black: marking is kept.
+-- Another state is read, whose references are live. It loses no live cell, and each link that is new is from a cell
+-- that isn't black: marking is kept.
 pub Marking-linked : (layout : Layout) (shapes : ShapeLists) (old new : Heap) (state after : State) (cells : List ℕ) →
     SameColours layout old new → ReadsAs layout shapes new after → RefsAreLive after →
     ((cell : ℕ) → IsLive state cell → IsLive after cell) →

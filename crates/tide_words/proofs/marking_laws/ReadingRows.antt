@@ -222,7 +222,8 @@ group_of_no_number state reads =
     let number = taken.group_number in
     omega (arith, group, number)
 
--- nor do words where a block's cells are free and dead at once, as any state: a free bit that is taken would give a dead cell
+-- nor do words where a block's cells are free and dead at once, as any state: a free bit that is taken would give a
+-- dead cell
 free_and_dead : (layout : Layout) (shapes : ShapeLists) (state : State) → 0 < block_count layout →
     ReadsAs layout shapes (write empty_heap Dead 0 (2 ^ 64 - 1)) state → ⊥
 free_and_dead layout shapes state some reads =

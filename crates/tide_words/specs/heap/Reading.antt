@@ -77,8 +77,8 @@ pub record IsTableOf (layout : Layout) (heap : Heap) (table : ℕ) (pairs : ℕ 
   pub once : (one other key : ℕ) (value another : Val) → HasSlot layout table one → HasSlot layout table other →
       IsPairOf key value (slot_word layout heap table one) → IsPairOf key another (slot_word layout heap table other) → one ≡ other
 
--- what the words say of a cell that isn't free: its keys, its array, its group, its slots and pairs; slots that its class
--- lacks are empty, a table has none, and other cells have no pairs
+-- what the words say of a cell that isn't free: its keys, its array, its group, its slots and pairs; slots that its
+-- class lacks are empty, a table has none, and other cells have no pairs
 pub record TakenReads (layout : Layout) (shapes : ShapeLists) (heap : Heap) (cell : ℕ) (held : CellState) : Type 0 where
   pub keys : IsStructureOf shapes held.keys (heap Structure cell)
   pub array : heap Array cell ≡ array_word held.array
@@ -150,8 +150,8 @@ abbrev pub PartsRead : Layout → ShapeLists → Heap → State → Type 0
 PartsRead layout shapes heap state = ArePartsRead layout shapes heap state.cells state.arrays state.claims
 
 -- The words read as the state. They leave open only what no operation and no cycle looks at: what a free cell held, the
--- properties of a dead cell, and those that have no key; and they leave open the order of each mutator's claims, and how
--- often a cell stands among them.
+-- properties of a dead cell, and those that have no key; and they leave open the order of each mutator's claims, and
+-- how often a cell stands among them.
 pub record ReadsAs (layout : Layout) (shapes : ShapeLists) (heap : Heap) (state : State) : Type 0 where
   pub roots : RootsRead layout heap state
   pub parts : PartsRead layout shapes heap state

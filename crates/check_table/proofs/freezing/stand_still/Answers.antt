@@ -1,4 +1,5 @@
--- What is known after the freeze is the history of the opening: the mutator, a newcomer, heard no other and made no visit.
+-- What is known after the freeze is the history of the opening: the mutator, a newcomer, heard no other and made no
+-- visit.
 use Rattle.std.proofs.Common.{ℕ, ◌≡◌, ◌+◌, sym, ◌∙◌, ap, subst, List, [], ◌∷◌, ◌++◌, length}
 use Rattle.std.specs.Prelude.{◌==◌, if◌then◌else◌, nat_lt}
 use Rattle.tide_machine.specs.Frozen.{FrozenWith}

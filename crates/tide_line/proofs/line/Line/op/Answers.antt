@@ -1,4 +1,5 @@
--- Piece by piece: what stands in the line is what stood there and the pieces so far, which the operation's text is at last.
+-- Piece by piece: what stands in the line is what stood there and the pieces so far, which the operation's text is at
+-- last.
 use Rattle.std.proofs.Common.{◌≡◌, ◌∙◌, ap, sym, List, ℕ}
 use Rattle.std.specs.Prelude.{◌++◌, codes}
 use Rattle.tide_model.specs.declared.op.Op.{Op}
