@@ -103,7 +103,7 @@ def put(program, bare, path, puts, shim):
 
 def main():
     times = int(sys.argv[1]) if len(sys.argv) > 1 else 21
-    programs = sys.argv[2:] or [os.path.join(HERE, "..", "crates", "riptide", "out", "riptide")]
+    programs = sys.argv[2:] or [os.path.relpath(os.path.join(HERE, "..", "crates", "riptide", "out", "riptide"))]
     with tempfile.TemporaryDirectory() as room:
         shim = made_shim(room)
         paths = [os.path.join(room, name) for name in ("bare", "full", "new", "new_puts", "old", "old_puts", "walks", "walk_puts")]
