@@ -36,7 +36,7 @@ def write(path, count):
 
 def main():
     times = int(sys.argv[1]) if len(sys.argv) > 1 else 21
-    programs = sys.argv[2:] or [os.path.join(HERE, "..", "crates", "riptide", "out", "riptide")]
+    programs = sys.argv[2:] or [os.path.relpath(os.path.join(HERE, "..", "crates", "riptide", "out", "riptide"))]
     with tempfile.TemporaryDirectory() as room:
         shim = made_shim(room)
         paths = [os.path.join(room, f"{count}.toml") for count in COUNTS]

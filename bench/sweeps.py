@@ -74,7 +74,7 @@ def made(program, shim):
 
 def main():
     times = int(sys.argv[1]) if len(sys.argv) > 1 else 21
-    programs = sys.argv[2:] or [os.path.join(HERE, "..", "crates", "riptide", "out", "riptide")]
+    programs = sys.argv[2:] or [os.path.relpath(os.path.join(HERE, "..", "crates", "riptide", "out", "riptide"))]
     with tempfile.TemporaryDirectory() as room:
         shim, path = os.path.join(room, "freezes.so"), os.path.join(room, "workload.toml")
         subprocess.run(["gcc", "-O2", "-shared", "-fPIC", "-o", shim, os.path.join(HERE, "freezes.c"), "-ldl"], check=True)
