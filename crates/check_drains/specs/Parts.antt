@@ -5,7 +5,7 @@ use Rattle.embed_visitor.specs.declared.shared.Shared.{Shared}
 use Rattle.tide_machine.specs.Visiting.{FitsIn}
 use Rattle.tide_machine.specs.declared.view.View.{View}
 use Rattle.tide_model.specs.Layout.{Layout, cell_count}
-use Rattle.tide_mutator.specs.Viewed as mutator
+use Rattle.tide_mutator.specs.calls.Viewed as mutator
 use Rattle.tide_visitor.specs.Viewed as visitor
 use Rattle.tide_visitor.specs.Visits.{IsVisitorOf}
 use Rattle.tide_visitor.specs.declared.visitor.Visitor.{Visitor}

@@ -4,7 +4,7 @@ ghost use Rattle.embed_visitor.specs.Parts.{HasDoneItsPart, IsIdleBefore};
 ghost use Rattle.std.specs.Prelude.{◌≡◌, ◌≤◌, true, false};
 ghost use Rattle.tide_heap.specs.Parties.{In};
 ghost use Rattle.tide_model.specs.Layout.{cell_count};
-ghost use Rattle.tide_mutator.specs.Viewed.{table_of as mutator_table_of, view_of as mutator_view_of};
+ghost use Rattle.tide_mutator.specs.calls.Viewed.{table_of as mutator_table_of, view_of as mutator_view_of};
 ghost use Rattle.tide_visitor.specs.Viewed.{stack_room_of, table_of, view_of};
 
 use crate::copying::copied;

@@ -1,7 +1,7 @@
 //! What one of the two mutators does in its thread: a part, from its ticket to its note.
 ghost use Rattle.embed_heap.specs.Working.{HasWorked, MayWork};
 ghost use Rattle.std.specs.Prelude.{◌≡◌};
-ghost use Rattle.tide_mutator.specs.Viewed.{table_of, view_of};
+ghost use Rattle.tide_mutator.specs.calls.Viewed.{table_of, view_of};
 
 use tide_model::{FreePass, Op, Reply};
 use tide_mutator::Mutator;

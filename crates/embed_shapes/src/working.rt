@@ -2,7 +2,7 @@
 ghost use Rattle.std.specs.Prelude.{◌≡◌, ◌<◌, IfOk, vec_len};
 ghost use Rattle.tide_grow_shape.specs.Lists.{settled_lists};
 ghost use Rattle.tide_machine.specs.Frozen.{newcomer};
-ghost use Rattle.tide_mutator.specs.Viewed.{table_of, view_of};
+ghost use Rattle.tide_mutator.specs.calls.Viewed.{table_of, view_of};
 ghost use Rattle.tide_table.specs.Started.{ArePasses, IsStarted};
 
 use std::alloc::Global;

@@ -12,7 +12,7 @@ use Rattle.tide_machine.specs.kinds.Activate.{begun_view}
 use Rattle.tide_machine.specs.kinds.Split.{split_view}
 use Rattle.tide_machine.specs.kinds.StoreStopped.{stopped_view}
 use Rattle.tide_model.specs.Layout.{Layout}
-use Rattle.tide_paying.specs.Calling.{Kept, kept}
+use Rattle.tide_mutator.specs.owed.Calling.{Kept, kept}
 use Rattle.tide_visitor.specs.Draining.{HasStopped}
 use Rattle.tide_visitor.specs.Visits.{visit_frame, IsVisitorOf}
 

@@ -4,7 +4,7 @@ use Rattle.embed_visitor.specs.Parts.{IsIdle, IsIdleBefore}
 use Rattle.embed_visitor.specs.declared.shared.Shared.{Shared}
 use Rattle.tide_freeze.specs.Books.{AreBooks}
 use Rattle.tide_machine.specs.Frozen.{newcomer}
-use Rattle.tide_mutator.specs.Viewed as of_mutator
+use Rattle.tide_mutator.specs.calls.Viewed as of_mutator
 use Rattle.tide_shape.specs.Lists.{lists_of}
 use Rattle.tide_table.specs.Standing.{RunsWith}
 use Rattle.tide_table.specs.Started.{IsStarted}

@@ -2,7 +2,7 @@
 ghost use Rattle.embed_visitor.specs.Parts.{HasDoneItsPart, IsIdle, IsIdleBefore};
 ghost use Rattle.std.specs.Prelude.{◌≡◌, ◌≤◌};
 ghost use Rattle.tide_model.specs.Layout.{cell_count};
-ghost use Rattle.tide_mutator.specs.Viewed as works;
+ghost use Rattle.tide_mutator.specs.calls.Viewed as works;
 ghost use Rattle.tide_visitor.specs.Viewed as visits;
 
 use crate::visiting::{Visited, visit};

@@ -1,7 +1,7 @@
 //! `Shared`: a heap that a mutator and a visitor share. It makes no step.
 ghost use Rattle.std.specs.Prelude.{◌≡◌, ◌≤◌};
 ghost use Rattle.tide_model.specs.Layout.{cell_count};
-ghost use Rattle.tide_mutator.specs.Viewed as works;
+ghost use Rattle.tide_mutator.specs.calls.Viewed as works;
 ghost use Rattle.tide_visitor.specs.Viewed as visits;
 
 use tide_freeze::Books;

@@ -1,8 +1,8 @@
 //! What the mutator does in its thread: a part, from its ticket to its note.
 ghost use Rattle.embed_visitor.specs.Parts.{HasDoneItsPart, IsIdle, IsIdleBefore};
 ghost use Rattle.std.specs.Prelude.{◌≡◌, ◌<◌, false, true};
-ghost use Rattle.tide_mutator.specs.Viewed.{table_of, view_of};
-ghost use Rattle.tide_paying.specs.Calling.{kept};
+ghost use Rattle.tide_mutator.specs.calls.Viewed.{table_of, view_of};
+ghost use Rattle.tide_mutator.specs.owed.Calling.{kept};
 
 use tide_model::{Op, Reply, Turnstile};
 use tide_mutator::Mutator;

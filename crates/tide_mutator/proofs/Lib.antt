@@ -1,9 +1,3 @@
-pub mod Ended
-pub mod OwnRegister
-pub mod OwnWords
-pub mod Planning
-pub mod Resting
-pub mod Taken
-pub mod Unread
-pub mod acting_laws
-pub mod growth_laws
+pub mod owed_laws
+pub mod cells_laws
+pub mod calls_laws

@@ -1,5 +1,3 @@
-pub mod Called
-pub mod Growing
-pub mod Owning
-pub mod Plans
-pub mod Viewed
+pub mod owed
+pub mod cells
+pub mod calls

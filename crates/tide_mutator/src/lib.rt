@@ -1,29 +1,20 @@
 //! Mutators on threads: each makes its calls on one shared heap, step by step, and each call stands in one lawful
 //! history.
 //!
-//! A `Mutator` (`mutator`, `calling`) has a pass of `tide_steps`, the cells that it claims, where its searches for
-//! something free go on, and the number of its calls. What a call is to do is decided by `tide_call` (`deciding`), over
-//! own words that it loads (`own`). `acting` hands the plan to the function that acts on it, and decides nothing. The
-//! calls on own registers, on groups and on properties are here (`registers`, `groups`, `properties`, `leaving`), and
-//! so is the addition of a property that needs a larger array (`growing`): what the cell's array holds is loaded
-//! (`copying`), and a free one is found and taken (`searching`). The calls that take, link, hold and claim cells are
-//! `tide_linking`'s.
+//! A `Mutator` has a pass of the heap, the cells that it claims, where its searches for something free go on, and the
+//! number of its calls. `owed` pays what a call owes once one of its steps made its entry: a register, a new cell's
+//! colour, a larger array, a barrier, the call word. `cells` has the calls that take, link, hold and claim cells, and
+//! the search that sweeps. `calls` decides what a call is to do, over own words that it loads, hands the plan to the
+//! function that acts on it, and has the calls on registers, groups and properties.
 //!
-//! One step makes a call's entry in the history; what the call owes then it pays, one word at a time, while others make
-//! theirs. It waits for nobody but the turnstile, has no lock, and takes no memory.
+//! It may touch words by the steps of a pass alone, and nothing of the collector. What runs mutators on threads, or
+//! embeds them, uses `Mutator`.
 #![tactic(auto)]
 
-mod acting;
-mod calling;
-mod copying;
-mod deciding;
-mod groups;
-mod growing;
-mod leaving;
-mod mutator;
-mod own;
-mod properties;
-mod registers;
-mod searching;
+mod owed;
+// over those above it
+mod cells;
+// over those above it
+mod calls;
 
-pub use mutator::Mutator;
+pub use calls::Mutator;

@@ -1,8 +1,8 @@
 -- A mutator's share grows by a call, by its views before it and after it.
 use Rattle.std.proofs.Common.{ℕ, ◌≡◌, ◌+◌, ◌<◌, ◌∙◌, sym, ap, subst, false, length}
 use Rattle.std.specs.Prelude.{not, ◌&&◌, ◌||◌}
-use Rattle.tide_paying.proofs.OwnClaims.{own_at}
-use Rattle.tide_paying.specs.Standing.{claims_of}
+use Rattle.tide_mutator.proofs.owed_laws.OwnClaims.{own_at}
+use Rattle.tide_mutator.specs.owed.Standing.{claims_of}
 use Rattle.tide_machine.specs.Own.{Own}
 use Rattle.tide_machine.specs.declared.view.View.{View}
 use Rattle.tide_model.specs.Caller.{MakesCall}

@@ -1,11 +1,11 @@
 -- A mutator while it makes its share of a part.
 use Rattle.std.specs.Prelude.{ℕ, ◌≡◌, ◌<◌, ◌-◌, ◌^◌, Bool, true, false}
 use Rattle.atomic_table.specs.Seated.{TableId}
-use Rattle.tide_paying.specs.Calling.{Kept, kept}
+use Rattle.tide_mutator.specs.owed.Calling.{Kept, kept}
 use Rattle.tide_machine.specs.declared.view.View.{View}
 use Rattle.tide_model.specs.Layout.{Layout}
-use Rattle.tide_mutator.specs.Viewed.{seat_of, table_of, view_of}
-use Rattle.tide_mutator.specs.declared.mutator.Mutator.{Mutator}
+use Rattle.tide_mutator.specs.calls.Viewed.{seat_of, table_of, view_of}
+use Rattle.tide_mutator.specs.declared.calls.mutator.Mutator.{Mutator}
 
 -- a mutator that has begun, and has left for good or hasn't
 pub record IsWorking (layout : Layout) (v : View) (left : Bool) : Type 0 where

@@ -1,12 +1,12 @@
 //! A mutator's share of a part: its caller is asked for each call, which is made and replied. It knows no other
 //! mutator.
 ghost use Rattle.std.specs.Prelude.{◌≡◌, ◌≤◌, ◌<◌, ◌+◌, [], IfOk, false};
-ghost use Rattle.tide_paying.specs.Standing.{claims_of};
+ghost use Rattle.tide_mutator.specs.owed.Standing.{claims_of};
 ghost use Rattle.tide_model.specs.Caller.{MakesCall};
 ghost use Rattle.tide_model.specs.Lawful.{FitsLayout};
 ghost use Rattle.tide_model.specs.Script.{is_retire};
 ghost use Rattle.tide_model.specs.declared.op.Op.TheVariants.{Retire};
-ghost use Rattle.tide_mutator.specs.Viewed.{table_of, view_of};
+ghost use Rattle.tide_mutator.specs.calls.Viewed.{table_of, view_of};
 ghost use Rattle.tide_periods.specs.Own.{IsCallerWithin, RanOwnShare};
 ghost use Rattle.tide_shape.specs.Lists.{lists_of};
 ghost use Rattle.tide_share.specs.Works.{room_of, same_of, IsWorking};

@@ -24,7 +24,7 @@ use Rattle.tide_model.specs.State.{State, empty_state}
 use Rattle.tide_model.specs.declared.entry.Entry.{Entry}
 use Rattle.tide_model.specs.declared.entry.Entry.TheVariants.{Begin, Call, End, Open, Pause, Sweep, Taken, Visits}
 use Rattle.tide_model.specs.declared.entry.Event.{Event}
-use Rattle.tide_mutator.specs.Viewed.{view_of}
+use Rattle.tide_mutator.specs.calls.Viewed.{view_of}
 use Rattle.tide_periods.specs.Periods.{RanFreeze}
 use Rattle.tide_periods.specs.Recorded.{IsSettled, recorded_at}
 use Rattle.tide_sched.specs.Paces.{last_run}

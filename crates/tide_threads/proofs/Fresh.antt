@@ -14,7 +14,7 @@ use Rattle.tide_model.specs.Layout.{Layout, cell_count}
 use Rattle.tide_model.specs.Refused.{ShapeLists}
 use Rattle.tide_model.specs.declared.entry.Event.{Event}
 use Rattle.tide_model.specs.declared.op.Op.{Op}
-use Rattle.tide_mutator.specs.Viewed.{view_of}
+use Rattle.tide_mutator.specs.calls.Viewed.{view_of}
 use Rattle.tide_periods.proofs.Starting.{IsSettled-nothing}
 use Rattle.tide_periods.specs.Asking.{AreNew, Standing}
 use Rattle.tide_periods.specs.Recorded.{IsSettled, recorded_at}

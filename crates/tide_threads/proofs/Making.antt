@@ -7,7 +7,7 @@ use Rattle.tide_machine.specs.declared.view.View.{View}
 use Rattle.tide_machine.specs.kinds.Activate.{begun_view}
 use Rattle.tide_machine.specs.kinds.Split.{split_view}
 use Rattle.tide_machine.specs.kinds.StoreStopped.{stopped_view}
-use Rattle.tide_paying.specs.Calling.{Kept, kept}
+use Rattle.tide_mutator.specs.owed.Calling.{Kept, kept}
 use Rattle.tide_threads.specs.Parked.{HasBegun, HasPlayed}
 
 -- the first beginning in a part

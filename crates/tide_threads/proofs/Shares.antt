@@ -21,7 +21,7 @@ use Rattle.tide_model.specs.Since.{is_of_part}
 use Rattle.tide_model.specs.declared.Memory.{Memory}
 use Rattle.tide_model.specs.declared.entry.Entry.TheVariants.{Open}
 use Rattle.tide_model.specs.declared.entry.Event.{Event}
-use Rattle.tide_mutator.specs.Viewed.{view_of}
+use Rattle.tide_mutator.specs.calls.Viewed.{view_of}
 use Rattle.tide_periods.specs.Laws.{SharesMakePart, with_open}
 use Rattle.tide_periods.specs.Own.{AllTookPart, RanOwnShare, TookPart}
 use Rattle.tide_periods.specs.Part.{AreCallers, RanPartBy}

@@ -19,7 +19,7 @@ use Rattle.tide_model.specs.Caller.{IsOwn}
 use Rattle.tide_model.specs.Refused.{ShapeLists}
 use Rattle.tide_model.specs.declared.Memory.{Memory}
 use Rattle.tide_model.specs.declared.entry.Event.{Event}
-use Rattle.tide_mutator.specs.Viewed.{view_of}
+use Rattle.tide_mutator.specs.calls.Viewed.{view_of}
 use Rattle.tide_periods.specs.Asking.{IsCallerAt}
 use Rattle.tide_periods.specs.declared.caller.Caller.{Caller}
 use Rattle.tide_steps.specs.declared.notes.Note.{Note}

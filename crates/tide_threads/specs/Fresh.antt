@@ -5,7 +5,7 @@ use Rattle.crossbeam_utils.specs.Padded.{padded_value}
 use Rattle.crossbeam_utils.specs.declared.cache_padded.CachePadded.{CachePadded}
 use Rattle.tide_machine.specs.Frozen.{newcomer}
 use Rattle.tide_machine.specs.World.{first_visitor}
-use Rattle.tide_mutator.specs.Viewed.{table_of, view_of}
+use Rattle.tide_mutator.specs.calls.Viewed.{table_of, view_of}
 use Rattle.tide_threads.specs.declared.calling.CallingMutator.{CallingMutator}
 use Rattle.tide_threads.specs.declared.marking.CountingVisitor.{CountingVisitor}
 use Rattle.tide_threads.specs.declared.participant.Participant.{Participant}

@@ -12,7 +12,7 @@ use Rattle.tide_model.specs.Numbers.{any_below}
 use Rattle.tide_model.specs.Refused.{ShapeLists}
 use Rattle.tide_model.specs.declared.entry.Event.{Event}
 use Rattle.tide_model.specs.declared.Memory.{Memory}
-use Rattle.tide_mutator.specs.Viewed.{table_of, view_of}
+use Rattle.tide_mutator.specs.calls.Viewed.{table_of, view_of}
 use Rattle.tide_periods.specs.Own.{IsCallerWithin, RanOwnShare}
 use Rattle.tide_steps.specs.declared.notes.Note.{Note}
 use Rattle.tide_steps.specs.declared.notes.Ticket.{Ticket}

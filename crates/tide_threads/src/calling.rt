@@ -2,7 +2,7 @@
 ghost use Rattle.std.specs.Prelude.{◌≡◌, ◌<◌, false, IfOk};
 ghost use Rattle.tide_machine.specs.Frozen.{newcomer};
 ghost use Rattle.tide_model.specs.Prefix.{IsPrefix};
-ghost use Rattle.tide_mutator.specs.Viewed.{table_of, view_of};
+ghost use Rattle.tide_mutator.specs.calls.Viewed.{table_of, view_of};
 ghost use Rattle.tide_shape.specs.Lists.{lists_of};
 ghost use Rattle.tide_threads.specs.Parked.{HasBegun};
 ghost use Rattle.tide_threads.specs.Playing.{HasMadeShare, MayBeginShare};

@@ -2,8 +2,8 @@
 use Rattle.std.proofs.Common.{ℕ, ◌<◌, ◌∙◌, sym, ap, subst, arith}
 use Rattle.embed_visitor.proofs.Parts.{has_begun, idle_then, in_part_kept, mutator_done}
 use Rattle.tide_machine.specs.declared.view.View.{View}
-use Rattle.tide_mutator.specs.Viewed.{view_of}
-use Rattle.tide_paying.specs.Calling.{Kept}
+use Rattle.tide_mutator.specs.calls.Viewed.{view_of}
+use Rattle.tide_mutator.specs.owed.Calling.{Kept}
 use Rattle.embed_visitor.proofs.working.work.Goals as goal
 
 pub begin-requires-clause-parked : goal.begin-requires-clause-parked

@@ -1,9 +1,9 @@
 -- Answers to the goals of share::make_share.
 use Rattle.std.proofs.Common.{◌+◌, ◌∙◌, refl, sym, ap, arith, subst}
-use Rattle.tide_paying.specs.Standing.{claims_of}
+use Rattle.tide_mutator.specs.owed.Standing.{claims_of}
 use Rattle.tide_model.proofs.CallLaws.{nothing_of_no_length}
 use Rattle.tide_model.specs.Lawful.{FitsLayout}
-use Rattle.tide_mutator.specs.Viewed.{view_of}
+use Rattle.tide_mutator.specs.calls.Viewed.{view_of}
 use Rattle.tide_periods.proofs.CallerLaws.{bare-next, fits-next}
 use Rattle.tide_periods.proofs.OwnShares.{IsSharingOwn-nothing, RanOwnShare-over, RanOwnShare-stops}
 use Rattle.tide_periods.proofs.PartLoops.{IsSharingOwn}

@@ -1,6 +1,6 @@
 -- What the loop of share::make_share keeps.
 use Rattle.std.proofs.Common.{◌≡◌, ◌+◌, ◌≤◌, false}
-use Rattle.tide_mutator.specs.Viewed.{table_of, view_of}
+use Rattle.tide_mutator.specs.calls.Viewed.{table_of, view_of}
 use Rattle.tide_periods.proofs.PartLoops.{IsSharingOwn}
 use Rattle.tide_shape.specs.Lists.{lists_of}
 use Rattle.tide_share.specs.Works.{room_of, same_of, IsWorking}

@@ -1,5 +1,5 @@
 -- Why a mutator may begin, and has begun.
-use Rattle.tide_mutator.specs.Viewed.{view_of}
+use Rattle.tide_mutator.specs.calls.Viewed.{view_of}
 use Rattle.tide_threads.proofs.Making.{HasBegun-by}
 use Rattle.tide_threads.proofs.calling.begin.Goals as goal
 

@@ -5,7 +5,7 @@ use Rattle.embed_visitor.specs.Parts.{IsIdle, IsIdleBefore}
 use Rattle.tide_heap.specs.Turns.{noted}
 use Rattle.tide_machine.specs.declared.view.Role.TheVariants.{Ticket}
 use Rattle.tide_machine.specs.declared.view.View.{View}
-use Rattle.tide_mutator.specs.Viewed as mutator
+use Rattle.tide_mutator.specs.calls.Viewed as mutator
 use Rattle.tide_visitor.specs.Viewed as visitor
 use Rattle.embed_visitor.proofs.shared.Shared.run_part.Goals as goal
 

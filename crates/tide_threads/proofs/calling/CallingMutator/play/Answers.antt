@@ -4,7 +4,7 @@ use Rattle.std.proofs.lemmas.Result.{err_from_is_err_and}
 use Rattle.tide_machine.specs.declared.view.View.{View}
 use Rattle.tide_model.specs.Prefix.{prefix_trans}
 use Rattle.tide_model.specs.declared.entry.Event.{Event}
-use Rattle.tide_mutator.specs.Viewed.{view_of}
+use Rattle.tide_mutator.specs.calls.Viewed.{view_of}
 use Rattle.tide_periods.specs.Own.{RanOwnShare}
 use Rattle.tide_periods.specs.Store.{Setting}
 use Rattle.tide_shape.specs.Lists.{lists_of}

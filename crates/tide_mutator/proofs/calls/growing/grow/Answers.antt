@@ -1,0 +1,258 @@
+-- Why each step of the growth's call may be made, and what the call leaves.
+use Rattle.std.proofs.Common.{ℕ, ◌∙◌, sym, arith, Option}
+use Rattle.std.proofs.lemmas.Grind.{get_or-set_at}
+use Rattle.std.proofs.lemmas.List.{get_or-set_other}
+use Rattle.tide_mutator.proofs.cells_laws.Looking.{counted_still as counted_looked, has_done_before as has_done_looked}
+use Rattle.tide_mutator.proofs.owed_laws.Shading.{made_shaded}
+use Rattle.tide_mutator.proofs.owed_laws.Telling.{done_by, may_tell, still_mutator, still_runs}
+use Rattle.tide_call.specs.declared.additions.Addition.{Addition}
+use Rattle.tide_mutator.proofs.calls_laws.growth_laws.Calls.{made_replaced, owes_first, owing_replaced, read_loaded, ready_first, ready_loaded}
+use Rattle.tide_mutator.proofs.calls_laws.growth_laws.Reading.{counted_still, has_done_before, knows_below, ready_looked}
+use Rattle.tide_mutator.proofs.calls_laws.growth_laws.Taking.{full_by, may_load_structure, may_tell_full}
+use Rattle.tide_mutator.specs.calls.Growing.{plan_of}
+use Rattle.tide_mutator.specs.declared.owed.growth.Growth.{Growth}
+use Rattle.tide_model.specs.declared.op.Refusal.TheVariants.{Full}
+use Rattle.tide_model.specs.declared.op.Reply.TheVariants.{Done, Refused}
+use Rattle.tide_model.specs.declared.val.Val.{Val}
+use Rattle.tide_mutator.proofs.calls.growing.grow.Goals as goal
+
+pub load_own_structure-old-requires-clause-may : goal.load_own_structure-old-requires-clause-may
+load_own_structure-old-requires-clause-may g c =
+    let h = c.args.heap.now in record {
+      own = c.requires.own;
+      runs = c.requires.calling.runs;
+      may = may_load_structure h.key.layout (g.S.HeapShapes.lists h.key.shapes) c.args.pass.now.seat.me.0 c.args.op
+          (record {
+            addition = c.args.addition;
+            array = c.args.array;
+            class = c.args.class;
+            value = c.args.value;
+            old = 0;
+            next = 0;
+          }) c.requires.calling c.requires.planned;
+    }
+
+pub load_elements-words-requires-clause-ready : goal.load_elements-words-requires-clause-ready
+load_elements-words-requires-clause-ready g c =
+    let h = c.args.heap.now in
+    ready_first h.key.layout (g.S.HeapShapes.lists h.key.shapes) c.args.pass.now.seat.me.0
+    c.load_own_structure-old.new.self.seat.me.0 c.args.op _ c.requires.calling c.requires.planned c.requires.may
+    c.shape_word-next.ensures c.load_own_structure-old.ensures.step.follows
+
+-- the growth that the call makes
+abbrev growth_of : Addition → Option ℕ → ℕ → Val → ℕ → ℕ → Growth
+growth_of addition array class value old next = record {
+  addition = addition;
+  array = array;
+  class = class;
+  value = value;
+  old = old;
+  next = next;
+}
+
+pub search-requires-clause-ready : goal.search-requires-clause-ready
+search-requires-clause-ready g c = λ κs outlives.
+    let h = c.args.heap.now in
+    let layout = h.key.layout in
+    let shapes = g.S.HeapShapes.lists h.key.shapes in
+    let v = c.args.pass.now.seat.me.0 in
+    let first = c.load_own_structure-old.new.self.seat.me.0 in
+    let loaded = c.load_elements-words.new.pass.seat.me.0 in
+    let growth = growth_of c.args.addition c.args.array c.args.class c.args.value c.load_own_structure-old.result
+    c.shape_word-next.result in
+    let ready = ready_loaded layout shapes v first loaded c.args.op growth c.requires.calling c.requires.planned
+    c.requires.may c.shape_word-next.ensures c.load_own_structure-old.ensures.step.follows
+    c.load_elements-words.ensures.read in
+    ready
+
+pub store_call-requires-clause-may : goal.store_call-requires-clause-may
+store_call-requires-clause-may g c =
+    let h = c.args.heap.now in
+    let layout = h.key.layout in
+    let shapes = g.S.HeapShapes.lists h.key.shapes in
+    let v = c.args.pass.now.seat.me.0 in
+    let first = c.load_own_structure-old.new.self.seat.me.0 in
+    let loaded = c.load_elements-words.new.pass.seat.me.0 in
+    let growth = growth_of c.args.addition c.args.array c.args.class c.args.value c.load_own_structure-old.result
+    c.shape_word-next.result in
+    let ready = ready_loaded layout shapes v first loaded c.args.op growth c.requires.calling c.requires.planned
+    c.requires.may c.shape_word-next.ensures c.load_own_structure-old.ensures.step.follows
+    c.load_elements-words.ensures.read in
+    let read = read_loaded layout shapes v first loaded c.args.op growth c.requires.calling c.requires.planned
+    c.requires.may c.shape_word-next.ensures c.load_own_structure-old.ensures.step.follows
+    c.load_elements-words.ensures.read in
+    let table = c.load_elements-words.ensures.same.0 ∙ c.load_own_structure-old.ensures.step.table ∙ c.requires.own in
+    let u = c.search.new.pass.seat.me.0 in
+    let looked = c.in_default.ensures.looked in
+    let still = ready_looked layout shapes loaded u c.args.op growth looked ready in record {
+      own = c.search.ensures.same.0 ∙ table;
+      runs = still.calling.runs;
+      may = may_tell_full layout shapes u c.args.op growth still c.in_default.ensures.searched c.args.calls
+          (counted_looked loaded u looked c.args.calls (counted_still v loaded read c.args.calls c.requires.counts));
+    }
+
+pub returns-in_default-clause-done : goal.returns-in_default-clause-done
+returns-in_default-clause-done g c =
+    let h = c.args.heap.now in
+    let layout = h.key.layout in
+    let shapes = g.S.HeapShapes.lists h.key.shapes in
+    let v = c.args.pass.now.seat.me.0 in
+    let first = c.load_own_structure-old.new.self.seat.me.0 in
+    let loaded = c.load_elements-words.new.pass.seat.me.0 in
+    let growth = growth_of c.args.addition c.args.array c.args.class c.args.value c.load_own_structure-old.result
+    c.shape_word-next.result in
+    let ready = ready_loaded layout shapes v first loaded c.args.op growth c.requires.calling c.requires.planned
+    c.requires.may c.shape_word-next.ensures c.load_own_structure-old.ensures.step.follows
+    c.load_elements-words.ensures.read in
+    let read = read_loaded layout shapes v first loaded c.args.op growth c.requires.calling c.requires.planned
+    c.requires.may c.shape_word-next.ensures c.load_own_structure-old.ensures.step.follows
+    c.load_elements-words.ensures.read in
+    let u = c.search.new.pass.seat.me.0 in
+    let looked = c.in_default.ensures.looked in
+    let still = ready_looked layout shapes loaded u c.args.op growth looked ready in
+    let tell = c.store_call.ensures.step in
+    let w = c.store_call.new.self.seat.me.0 in
+    has_done_before v loaded read layout c.args.op shapes (plan_of growth) (Refused (Full c.args.class)) w
+    (has_done_looked loaded u looked layout c.args.op shapes (plan_of growth) (Refused (Full c.args.class)) w
+    (full_by layout shapes u c.args.op growth still c.in_default.ensures.searched c.args.calls w (tell.0, tell.1.follows)))
+
+pub replace-requires-clause-small : goal.replace-requires-clause-small
+replace-requires-clause-small g c = λ κs outlives.
+    let h = c.args.heap.now in
+    let layout = h.key.layout in
+    let shapes = g.S.HeapShapes.lists h.key.shapes in
+    let v = c.args.pass.now.seat.me.0 in
+    let first = c.load_own_structure-old.new.self.seat.me.0 in
+    let loaded = c.load_elements-words.new.pass.seat.me.0 in
+    let growth = growth_of c.args.addition c.args.array c.args.class c.args.value c.load_own_structure-old.result
+    c.shape_word-next.result in
+    let ready = ready_loaded layout shapes v first loaded c.args.op growth c.requires.calling c.requires.planned
+    c.requires.may c.shape_word-next.ensures c.load_own_structure-old.ensures.step.follows
+    c.load_elements-words.ensures.read in
+    ready.small
+
+pub replace-requires-clause-holds : goal.replace-requires-clause-holds
+replace-requires-clause-holds g c = λ κs outlives. c.in-Some.ensures.taken.has
+
+pub replace-requires-clause-owes : goal.replace-requires-clause-owes
+replace-requires-clause-owes g c = λ κs outlives.
+    let h = c.args.heap.now in
+    let layout = h.key.layout in
+    let shapes = g.S.HeapShapes.lists h.key.shapes in
+    let v = c.args.pass.now.seat.me.0 in
+    let first = c.load_own_structure-old.new.self.seat.me.0 in
+    let loaded = c.load_elements-words.new.pass.seat.me.0 in
+    let growth = growth_of c.args.addition c.args.array c.args.class c.args.value c.load_own_structure-old.result
+    c.shape_word-next.result in
+    let ready = ready_loaded layout shapes v first loaded c.args.op growth c.requires.calling c.requires.planned
+    c.requires.may c.shape_word-next.ensures c.load_own_structure-old.ensures.step.follows
+    c.load_elements-words.ensures.read in
+    let words = c.load_elements-words.result in
+    let at = c.from.result in
+    let is_at = c.from.ensures in
+    let few = c.requires.may.few in
+    owes_first layout shapes c.args.op growth loaded c.search.new.pass.seat.me.0 c.in-Some.taken ready.calling
+    c.in-Some.ensures.taken _
+    (knows_below layout loaded c.args.array words _ c.args.addition.count
+    (λ place below. get_or-set_other words at place c.val_word.result 0
+    (λ same. absurd (omega (arith, same, is_at, below)))) c.load_elements-words.ensures.knows)
+    (get_or-set_at words at c.args.addition.count c.val_word.result 0 (sym is_at) (omega (arith, is_at, few))
+    ∙ c.val_word.ensures)
+
+pub shade_for-requires-clause-owing : goal.shade_for-requires-clause-owing
+shade_for-requires-clause-owing g c = λ κs outlives.
+    let h = c.args.heap.now in
+    let layout = h.key.layout in
+    let shapes = g.S.HeapShapes.lists h.key.shapes in
+    let v = c.args.pass.now.seat.me.0 in
+    let first = c.load_own_structure-old.new.self.seat.me.0 in
+    let loaded = c.load_elements-words.new.pass.seat.me.0 in
+    let growth = growth_of c.args.addition c.args.array c.args.class c.args.value c.load_own_structure-old.result
+    c.shape_word-next.result in
+    let ready = ready_loaded layout shapes v first loaded c.args.op growth c.requires.calling c.requires.planned
+    c.requires.may c.shape_word-next.ensures c.load_own_structure-old.ensures.step.follows
+    c.load_elements-words.ensures.read in
+    owing_replaced layout shapes c.args.op growth loaded c.search.new.pass.seat.me.0 c.in-Some.taken ready.calling
+    c.in-Some.ensures.taken c.replace.new.pass.seat.me.0 c.replace.ensures.replaced
+
+pub store_call-requires-2-clause-mutator : goal.store_call-requires-2-clause-mutator
+store_call-requires-2-clause-mutator g c =
+    let h = c.args.heap.now in
+    let layout = h.key.layout in
+    let shapes = g.S.HeapShapes.lists h.key.shapes in
+    let v = c.args.pass.now.seat.me.0 in
+    let first = c.load_own_structure-old.new.self.seat.me.0 in
+    let loaded = c.load_elements-words.new.pass.seat.me.0 in
+    let growth = growth_of c.args.addition c.args.array c.args.class c.args.value c.load_own_structure-old.result
+    c.shape_word-next.result in
+    let ready = ready_loaded layout shapes v first loaded c.args.op growth c.requires.calling c.requires.planned
+    c.requires.may c.shape_word-next.ensures c.load_own_structure-old.ensures.step.follows
+    c.load_elements-words.ensures.read in
+    let u = c.search.new.pass.seat.me.0 in
+    let w = c.replace.new.pass.seat.me.0 in
+    let now = c.shade_for.new.pass.seat.me.0 in
+    let made = made_replaced layout shapes c.args.op growth loaded u c.in-Some.taken ready.calling
+    c.in-Some.ensures.taken w c.replace.ensures.replaced in
+    let shaded = made_shaded layout shapes c.args.op (plan_of growth) Done loaded w now made.made
+    c.shade_for.ensures.shaded in
+    still_mutator layout shapes c.args.op (plan_of growth) Done loaded now ready.calling shaded
+
+pub store_call-requires-2-clause-may : goal.store_call-requires-2-clause-may
+store_call-requires-2-clause-may g c =
+    let h = c.args.heap.now in
+    let layout = h.key.layout in
+    let shapes = g.S.HeapShapes.lists h.key.shapes in
+    let v = c.args.pass.now.seat.me.0 in
+    let first = c.load_own_structure-old.new.self.seat.me.0 in
+    let loaded = c.load_elements-words.new.pass.seat.me.0 in
+    let growth = growth_of c.args.addition c.args.array c.args.class c.args.value c.load_own_structure-old.result
+    c.shape_word-next.result in
+    let ready = ready_loaded layout shapes v first loaded c.args.op growth c.requires.calling c.requires.planned
+    c.requires.may c.shape_word-next.ensures c.load_own_structure-old.ensures.step.follows
+    c.load_elements-words.ensures.read in
+    let read = read_loaded layout shapes v first loaded c.args.op growth c.requires.calling c.requires.planned
+    c.requires.may c.shape_word-next.ensures c.load_own_structure-old.ensures.step.follows
+    c.load_elements-words.ensures.read in
+    let table = c.load_elements-words.ensures.same.0 ∙ c.load_own_structure-old.ensures.step.table ∙ c.requires.own in
+    let u = c.search.new.pass.seat.me.0 in
+    let w = c.replace.new.pass.seat.me.0 in
+    let now = c.shade_for.new.pass.seat.me.0 in
+    let made = made_replaced layout shapes c.args.op growth loaded u c.in-Some.taken ready.calling
+    c.in-Some.ensures.taken w c.replace.ensures.replaced in
+    let shaded = made_shaded layout shapes c.args.op (plan_of growth) Done loaded w now made.made
+    c.shade_for.ensures.shaded in
+    record {
+      own = c.shade_for.ensures.same.0 ∙ c.replace.ensures.same.0 ∙ c.search.ensures.same.0 ∙ table;
+      runs = still_runs layout shapes c.args.op (plan_of growth) Done loaded now ready.calling shaded;
+      may = may_tell layout shapes c.args.op (plan_of growth) Done loaded now ready.calling shaded c.args.calls
+          (counted_still v loaded read c.args.calls c.requires.counts);
+    }
+
+pub returns-clause-done : goal.returns-clause-done
+returns-clause-done g c =
+    let h = c.args.heap.now in
+    let layout = h.key.layout in
+    let shapes = g.S.HeapShapes.lists h.key.shapes in
+    let v = c.args.pass.now.seat.me.0 in
+    let first = c.load_own_structure-old.new.self.seat.me.0 in
+    let loaded = c.load_elements-words.new.pass.seat.me.0 in
+    let growth = growth_of c.args.addition c.args.array c.args.class c.args.value c.load_own_structure-old.result
+    c.shape_word-next.result in
+    let ready = ready_loaded layout shapes v first loaded c.args.op growth c.requires.calling c.requires.planned
+    c.requires.may c.shape_word-next.ensures c.load_own_structure-old.ensures.step.follows
+    c.load_elements-words.ensures.read in
+    let read = read_loaded layout shapes v first loaded c.args.op growth c.requires.calling c.requires.planned
+    c.requires.may c.shape_word-next.ensures c.load_own_structure-old.ensures.step.follows
+    c.load_elements-words.ensures.read in
+    let u = c.search.new.pass.seat.me.0 in
+    let w = c.replace.new.pass.seat.me.0 in
+    let now = c.shade_for.new.pass.seat.me.0 in
+    let made = made_replaced layout shapes c.args.op growth loaded u c.in-Some.taken ready.calling
+    c.in-Some.ensures.taken w c.replace.ensures.replaced in
+    let shaded = made_shaded layout shapes c.args.op (plan_of growth) Done loaded w now made.made
+    c.shade_for.ensures.shaded in
+    let tell = c.store_call-2.ensures.step in
+    let last = c.store_call-2.new.self.seat.me.0 in
+    has_done_before v loaded read layout c.args.op shapes (plan_of growth) Done last
+    (done_by layout shapes c.args.op (plan_of growth) Done loaded now ready.calling shaded c.args.calls last
+    (tell.0, tell.1.follows) (c.shade_for.ensures.shaded.owed ∙ made.owed) c.shade_for.ensures.shaded.duty)

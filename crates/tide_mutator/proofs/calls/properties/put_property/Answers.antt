@@ -1,0 +1,80 @@
+-- Why the store of the element makes the call, which then pays the barrier.
+use Rattle.std.proofs.Common.{◌∙◌}
+use Rattle.tide_call.specs.declared.plan.Plan.TheVariants.{StoreElement}
+use Rattle.tide_model.specs.declared.op.Reply.TheVariants.{Done}
+use Rattle.tide_mutator.proofs.calls_laws.acting_laws.PropertySteps.{may_put_property, put_property_by}
+use Rattle.tide_mutator.proofs.owed_laws.Shading.{made_shaded, owing_made}
+use Rattle.tide_mutator.proofs.owed_laws.Telling.{done_by, may_tell, still_mutator, still_runs}
+use Rattle.tide_mutator.proofs.calls.properties.put_property.Goals as goal
+
+pub store_element-requires-clause-may : goal.store_element-requires-clause-may
+store_element-requires-clause-may g c =
+    let h = c.args.heap.now in record {
+      own = c.requires.own;
+      runs = c.requires.calling.runs;
+      may = may_put_property h.key.layout (g.S.HeapShapes.lists h.key.shapes) c.args.pass.now.seat.me.0 c.args.op
+          c.args.array c.args.place c.requires.within c.requires.calling c.args.cell c.args.value c.requires.planned
+          c.val_word.result c.val_word.ensures;
+    }
+
+pub shade_for-requires-clause-owing : goal.shade_for-requires-clause-owing
+shade_for-requires-clause-owing g c = λ κs outlives.
+    let h = c.args.heap.now in
+    let step = c.store_element.ensures.step in
+    let shapes = g.S.HeapShapes.lists h.key.shapes in
+    let v = c.args.pass.now.seat.me.0 in
+    let u = c.store_element.new.self.seat.me.0 in
+    let does = StoreElement c.args.cell c.args.array c.args.place c.args.value in
+    let made = put_property_by h.key.layout shapes v c.args.op c.args.array c.args.place c.requires.within
+    c.requires.calling c.args.cell c.args.value c.requires.planned c.val_word.result c.val_word.ensures u (step.0, step.1.follows) in
+    owing_made h.key.layout shapes c.args.op does Done v u _ c.requires.calling made
+
+pub store_call-requires-clause-mutator : goal.store_call-requires-clause-mutator
+store_call-requires-clause-mutator g c =
+    let h = c.args.heap.now in
+    let step = c.store_element.ensures.step in
+    let shapes = g.S.HeapShapes.lists h.key.shapes in
+    let v = c.args.pass.now.seat.me.0 in
+    let u = c.store_element.new.self.seat.me.0 in
+    let does = StoreElement c.args.cell c.args.array c.args.place c.args.value in
+    let made = put_property_by h.key.layout shapes v c.args.op c.args.array c.args.place c.requires.within
+    c.requires.calling c.args.cell c.args.value c.requires.planned c.val_word.result c.val_word.ensures u (step.0, step.1.follows) in
+    let after = made_shaded h.key.layout shapes c.args.op does Done v u c.shade_for.new.pass.seat.me.0 made.made
+    c.shade_for.ensures.shaded in
+    still_mutator h.key.layout shapes c.args.op does Done v c.shade_for.new.pass.seat.me.0 c.requires.calling after
+
+pub store_call-requires-clause-may : goal.store_call-requires-clause-may
+store_call-requires-clause-may g c =
+    let h = c.args.heap.now in
+    let step = c.store_element.ensures.step in
+    let shapes = g.S.HeapShapes.lists h.key.shapes in
+    let v = c.args.pass.now.seat.me.0 in
+    let u = c.store_element.new.self.seat.me.0 in
+    let does = StoreElement c.args.cell c.args.array c.args.place c.args.value in
+    let made = put_property_by h.key.layout shapes v c.args.op c.args.array c.args.place c.requires.within
+    c.requires.calling c.args.cell c.args.value c.requires.planned c.val_word.result c.val_word.ensures u (step.0, step.1.follows) in
+    let after = made_shaded h.key.layout shapes c.args.op does Done v u c.shade_for.new.pass.seat.me.0 made.made
+    c.shade_for.ensures.shaded in record {
+      own = c.shade_for.ensures.same.0 ∙ step.1.table ∙ c.requires.own;
+      runs = still_runs h.key.layout shapes c.args.op does Done v c.shade_for.new.pass.seat.me.0 c.requires.calling
+          after;
+      may = may_tell h.key.layout shapes c.args.op does Done v c.shade_for.new.pass.seat.me.0 c.requires.calling after
+          c.args.calls c.requires.counts;
+    }
+
+pub returns-clause-done : goal.returns-clause-done
+returns-clause-done g c =
+    let h = c.args.heap.now in
+    let tell = c.store_call.ensures.step in
+    let step = c.store_element.ensures.step in
+    let shapes = g.S.HeapShapes.lists h.key.shapes in
+    let v = c.args.pass.now.seat.me.0 in
+    let u = c.store_element.new.self.seat.me.0 in
+    let does = StoreElement c.args.cell c.args.array c.args.place c.args.value in
+    let made = put_property_by h.key.layout shapes v c.args.op c.args.array c.args.place c.requires.within
+    c.requires.calling c.args.cell c.args.value c.requires.planned c.val_word.result c.val_word.ensures u (step.0, step.1.follows) in
+    let after = made_shaded h.key.layout shapes c.args.op does Done v u c.shade_for.new.pass.seat.me.0 made.made
+    c.shade_for.ensures.shaded in
+    done_by h.key.layout shapes c.args.op does Done v c.shade_for.new.pass.seat.me.0 c.requires.calling after
+    c.args.calls c.store_call.new.self.seat.me.0 (tell.0, tell.1.follows)
+    (c.shade_for.ensures.shaded.owed ∙ made.owed) c.shade_for.ensures.shaded.duty

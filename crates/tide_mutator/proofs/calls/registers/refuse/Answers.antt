@@ -1,0 +1,19 @@
+-- Why the store of the call word makes the call.
+use Rattle.tide_mutator.proofs.owed_laws.Refusing.{may_refuse, refused_by}
+use Rattle.tide_mutator.proofs.calls.registers.refuse.Goals as goal
+
+pub store_call-requires-clause-may : goal.store_call-requires-clause-may
+store_call-requires-clause-may g c =
+    let h = c.args.heap.now in record {
+      own = c.requires.own;
+      runs = c.requires.calling.runs;
+      may = may_refuse h.key.layout (g.S.HeapShapes.lists h.key.shapes) c.args.pass.now.seat.me.0 c.args.op
+          c.requires.calling c.args.refusal c.args.calls c.requires.planned c.requires.counts;
+    }
+
+pub returns-clause-done : goal.returns-clause-done
+returns-clause-done g c =
+    let h = c.args.heap.now in
+    let tell = c.store_call.ensures.step in
+    refused_by h.key.layout (g.S.HeapShapes.lists h.key.shapes) c.args.pass.now.seat.me.0 c.args.op c.requires.calling
+    c.args.refusal c.args.calls c.store_call.new.self.seat.me.0 c.requires.planned (tell.0, tell.1.follows)

@@ -1,0 +1,9 @@
+pub mod Ended
+pub mod OwnRegister
+pub mod OwnWords
+pub mod Planning
+pub mod Resting
+pub mod Taken
+pub mod Unread
+pub mod acting_laws
+pub mod growth_laws

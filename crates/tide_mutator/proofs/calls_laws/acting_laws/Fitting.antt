@@ -1,0 +1,26 @@
+-- What acting on a plan needs of the words, where its mutator stands.
+use Rattle.std.proofs.Common.{◌<◌, List}
+use Rattle.tide_mutator.proofs.owed_laws.Standing.{calls_there}
+use Rattle.tide_mutator.specs.owed.Standing.{IsPlanned, StandsAt, caller_of}
+use Rattle.tide_call.specs.declared.plan.Plan.{Plan}
+use Rattle.tide_layout.specs.Limits.{IsWithinLimits}
+use Rattle.tide_machine.specs.declared.view.View.{View}
+use Rattle.tide_model.proofs.ClaimLaws.{ClaimsAreOwn-lawful}
+use Rattle.tide_model.specs.History.{state_after}
+use Rattle.tide_model.specs.Lawful.{FitsLayout}
+use Rattle.tide_model.specs.Layout.{Layout}
+use Rattle.tide_model.specs.Refused.{ShapeLists}
+use Rattle.tide_model.specs.declared.entry.Event.{Event}
+use Rattle.tide_model.specs.declared.op.Op.{Op}
+use Rattle.tide_call.proofs.plan_laws.PlansFit.{plans_fit}
+use Rattle.tide_call.specs.Needed.{FitsPlan}
+use Rattle.tide_words.specs.heap.Heap.{Heap}
+
+-- what acting needs it has where its mutator stands
+pub fits_there : (layout : Layout) (shapes : ShapeLists) (v : View) (op : Op) (does : Plan) (heap : Heap)
+    (log : List Event) → IsWithinLimits layout → FitsLayout layout op → v.who < layout.mutators →
+    StandsAt layout shapes v heap log → IsPlanned layout shapes v op does → FitsPlan layout heap does
+fits_there layout shapes v op does heap log limits fits below stands planned =
+    plans_fit (caller_of layout shapes v) heap (state_after layout log) op does limits fits
+    (calls_there layout shapes v heap log below stands) stands.active stands.refs
+    (ClaimsAreOwn-lawful layout shapes log stands.lawful) stands.reads (planned heap log stands)

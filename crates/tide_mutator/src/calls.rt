@@ -1,0 +1,28 @@
+//! Mutators on threads: each makes its calls on one shared heap, step by step, and each call stands in one lawful
+//! history.
+//!
+//! A `Mutator` (`mutator`, `calling`) has a pass of `tide_heap`, the cells that it claims, where its searches for
+//! something free go on, and the number of its calls. What a call is to do is decided by `tide_call` (`deciding`), over
+//! own words that it loads (`own`). `acting` hands the plan to the function that acts on it, and decides nothing. The
+//! calls on own registers, on groups and on properties are here (`registers`, `groups`, `properties`, `leaving`), and
+//! so is the addition of a property that needs a larger array (`growing`): what the cell's array holds is loaded
+//! (`copying`), and a free one is found and taken (`searching`). The calls that take, link, hold and claim cells are
+//! those of `cells`.
+//!
+//! One step makes a call's entry in the history; what the call owes then it pays, one word at a time, while others make
+//! theirs. It waits for nobody but the turnstile, has no lock, and takes no memory.
+
+mod acting;
+mod calling;
+mod copying;
+mod deciding;
+mod groups;
+mod growing;
+mod leaving;
+mod mutator;
+mod own;
+mod properties;
+mod registers;
+mod searching;
+
+pub use mutator::Mutator;

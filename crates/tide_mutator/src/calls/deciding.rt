@@ -1,0 +1,53 @@
+//! What a call is to do: its mutator's own words are loaded, and a plan is made. It acts on none.
+ghost use Rattle.std.specs.Prelude.{◌≡◌, ◌<◌, true, false, ℕ};
+ghost use Rattle.tide_call.specs.Plans.{is_told_by_registers};
+ghost use Rattle.tide_call.specs.declared.plan.Plan.TheVariants.{Take};
+ghost use Rattle.tide_layout.specs.Limits.{IsWithinLimits};
+ghost use Rattle.tide_machine.specs.May.{IsBetweenCalls};
+ghost use Rattle.tide_machine.specs.kinds.TakeFree.{TakesCell};
+ghost use Rattle.tide_model.specs.Caller.{IsOwn};
+ghost use Rattle.tide_model.specs.Lawful.{FitsLayout};
+ghost use Rattle.tide_mutator.specs.calls.Plans.{is_plain};
+ghost use Rattle.tide_mutator.specs.owed.Standing.{IsPlanned, claims_of};
+ghost use Rattle.tide_mutator.specs.calls.Owning.{unread};
+ghost use Rattle.tide_call.specs.Needed.{FitsPlan};
+ghost use Rattle.tide_words.specs.heap.Heap.{Heap as TheWords};
+
+use crate::calls::own::OwnPass;
+use tide_call::{Caller, Claims, Plan};
+use tide_model::Op;
+use tide_shape::ShapeTable;
+use tide_steps::Heap;
+
+/// Decides what a call of a mutator with these claims is to do. The first step of a call is a load of its call word: of
+/// any step its mutator knows that references are live, and that the words read as some state.
+pub(crate) fn decide<S: ShapeTable>(
+    own: &mut OwnPass,
+    heap: &Heap<S>,
+    claims: &Claims,
+    op: Op,
+) -> Plan
+    requires own { own.old.pass.seat.table_id ≡ heap.now.table.shared.table_id }
+    requires mutator { own.old.pass.seat.me.0.who < heap.now.key.layout.mutators }
+    requires runs { own.old.pass.seat.me.0.runs ≡ true }
+    requires stays { own.old.pass.seat.me.0.left ≡ false }
+    requires between { IsBetweenCalls own.old.pass.seat.me.0 }
+    requires fits { FitsLayout heap.now.key.layout op }
+    requires claims { claims.now ≡ claims_of own.old.pass.seat.me.0 }
+    ensures same { (own.new.pass.seat.table_id ≡ own.old.pass.seat.table_id)
+        × (own.new.pass.seat.id ≡ own.old.pass.seat.id)
+        × (unread own.new.pass.seat.me.0 ≡ unread own.old.pass.seat.me.0) }
+    ensures limits { IsWithinLimits heap.now.key.layout }
+    ensures own_calls { IsOwn own.old.pass.seat.me.0.who own.old.pass.seat.me.0.seen own.old.pass.seat.me.0.mine }
+    ensures planned { IsPlanned heap.now.key.layout (S.lists heap.now.key.shapes) own.new.pass.seat.me.0 op result }
+    ensures told { is_plain result ≡ true → is_told_by_registers op ≡ true }
+    ensures births { (dst class : ℕ) → result ≡ Take dst class → TakesCell op }
+    ensures fits { (words : TheWords) × FitsPlan heap.now.key.layout words result }
+{
+    own.pass.load_call(heap);
+    let who = own.pass.who();
+    let mutators = u32::from(heap.layout().mutators());
+    prove!(who < mutators);
+    let caller = Caller::new(who, heap.layout(), heap.shapes(), claims);
+    caller.plan_of(own, heap, op)
+}

@@ -1,0 +1,26 @@
+//! The call by which a mutator leaves for good.
+ghost use Rattle.std.specs.Prelude.{◌≡◌, ◌+◌, ◌%◌, ◌^◌, length, true};
+ghost use Rattle.tide_call.specs.Plans.{is_told_by_registers};
+ghost use Rattle.tide_call.specs.declared.plan.Plan.TheVariants.{Retire as Leave};
+ghost use Rattle.tide_mutator.specs.owed.Calling.{IsCalling};
+ghost use Rattle.tide_mutator.specs.owed.Made.{HasDone};
+ghost use Rattle.tide_mutator.specs.owed.Standing.{IsPlanned};
+
+use tide_model::{Op, Reply};
+use tide_steps::{Heap, HeapShapes, Pass};
+
+/// Makes its mutator inactive.
+pub(crate) fn leave<S: HeapShapes>(pass: &mut Pass, heap: &Heap<S>, op: Op, calls: u64) -> Reply
+    requires own { pass.old.seat.table_id ≡ heap.now.table.shared.table_id }
+    requires calling { IsCalling heap.now.key.layout pass.old.seat.me.0 op }
+    requires told { is_told_by_registers op ≡ true }
+    requires counts { calls ≡ (length pass.old.seat.me.0.mine + 1) % 2 ^ 64 }
+    requires planned { IsPlanned heap.now.key.layout (S.lists heap.now.key.shapes) pass.old.seat.me.0 op Leave }
+    ensures same { (pass.new.seat.table_id ≡ pass.old.seat.table_id) × (pass.new.seat.id ≡ pass.old.seat.id) }
+    ensures done { HasDone heap.now.key.layout (S.lists heap.now.key.shapes) op Leave result
+        pass.old.seat.me.0 pass.new.seat.me.0 }
+{
+    pass.retire(heap);
+    pass.store_call(heap, calls, None);
+    Reply::Done
+}
