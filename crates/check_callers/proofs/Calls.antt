@@ -21,7 +21,7 @@ use Rattle.tide_model.specs.declared.entry.Event.{Event}
 use Rattle.tide_model.specs.declared.op.Op.{Op}
 use Rattle.tide_model.specs.declared.op.Reply.TheVariants.{Done}
 use Rattle.tide_model.specs.declared.val.Val.TheVariants.{Empty, Int}
-use Rattle.tide_steps.specs.Follows.{FollowsSome, MayStep}
+use Rattle.tide_heap.specs.steps.Follows.{FollowsSome, MayStep}
 
 -- what is its own follows from its calls
 pub own_now : (layout : Layout) (shapes : ShapeLists) (v : View) (mine : List Event) → v.mine ≡ mine → (w : World) →

@@ -6,7 +6,7 @@ ghost use Rattle.tide_mutator.specs.calls.Viewed.{table_of, view_of};
 use tide_model::{FreePass, Op, Reply};
 use tide_mutator::Mutator;
 use tide_shape::ShapeTable;
-use tide_steps::{Heap, Note, Ticket};
+use tide_heap::{Heap, Note, Ticket};
 
 /// What a mutator was answered.
 #[derive(Clone, Copy)]

@@ -11,7 +11,7 @@ use tide_layout::Layout;
 use tide_model::{FreePass, Memory, Op, Reply};
 use tide_mutator::Mutator;
 use tide_shape::ShapeTable;
-use tide_steps::{Heap, Ticket};
+use tide_heap::{Heap, Ticket};
 use tide_table::{Collector, Pass, PeriodsSpent, Start};
 
 /// Takes a cell, claims it, and adds a property by the key 1, by the key 0, and by the key 1 again.

@@ -12,7 +12,7 @@ use std::thread::{Threads, join};
 use tide_model::{FreePass, Op};
 use tide_mutator::Mutator;
 use tide_shape::Shapes;
-use tide_steps::{Heap, Ticket};
+use tide_heap::{Heap, Ticket};
 use tide_visitor::Visitor;
 
 /// The mutator and the visitor make their parts side by side.

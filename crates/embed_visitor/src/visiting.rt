@@ -8,7 +8,7 @@ ghost use Rattle.tide_visitor.specs.Viewed.{stack_room_of, table_of, view_of};
 ghost use Rattle.tide_visitor.specs.Visits.{visit_frame, IsVisitorOf};
 
 use tide_model::FreePass;
-use tide_steps::{Heap, HeapShapes, Note, Ticket};
+use tide_heap::{Heap, HeapShapes, Note, Ticket};
 use tide_visitor::Visitor;
 
 /// A visitor that has made its part, and its note.

@@ -7,7 +7,7 @@ ghost use Rattle.tide_mutator.specs.owed.Calling.{kept};
 use tide_model::{Op, Reply, Turnstile};
 use tide_mutator::Mutator;
 use tide_shape::ShapeTable;
-use tide_steps::{Heap, Note, Ticket};
+use tide_heap::{Heap, Note, Ticket};
 
 /// How many calls it makes in a part at most.
 const MOST_CALLS: usize = 1000;

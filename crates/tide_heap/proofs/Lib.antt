@@ -4,3 +4,4 @@ pub mod Leaving
 pub mod Members
 pub mod Runs
 pub mod Turning
+pub mod steps_laws

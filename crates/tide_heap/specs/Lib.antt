@@ -3,3 +3,4 @@ pub mod Births
 pub mod Done
 pub mod Rule
 pub mod Turns
+pub mod steps

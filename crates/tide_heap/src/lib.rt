@@ -1,12 +1,21 @@
-//! The heap of shared words: a table of words whose rule is the wave of the machine of atomic steps.
+//! The heap of shared words: a table of words whose rule is the wave of the machine of atomic steps, and the steps that
+//! participants take on it, each of every kind that the machine allows.
 //!
 //! Threads share a `Heap` by `&`. What its rule says of the words, of the participants' views and of the collector's
-//! stands in `specs/Rule.antt`; the laws on keeping it, which the crates above share, are in `proofs`. It makes no step
-//! itself, and knows no participant.
+//! stands in `specs/Rule.antt`; the laws on keeping it, which the rooms above share, are in `proofs`. In `steps`, each
+//! mutator and each visitor has a `Pass`, its right to step on words; it begins a part with a `Ticket`, and hands a
+//! `Note` in at its stop. Each step keeps the rule and tells what the machine says of it.
+//!
+//! Nothing else may load or change a shared word. Who makes a heap, seats participants, freezes and opens is for the
+//! room above: of the collector it knows what its view says.
 #![tactic(auto)]
 
-mod heap;
 mod shapes;
+// over those above it
+mod heap;
+// over those above it
+mod steps;
 
 pub use heap::{Heap, Key, Waves};
 pub use shapes::HeapShapes;
+pub use steps::{Made, Note, Numbers, Pass, Ticket};

@@ -15,7 +15,7 @@ use Rattle.tide_model.specs.Refused.{ShapeLists}
 use Rattle.tide_table.proofs.FrozenWords.{FrozenWith-read}
 use Rattle.tide_table.specs.Started.{ArePasses, HasFilled, IsStarted, is_but_next}
 use Rattle.tide_heap.specs.Turns.{first_view, restored}
-use Rattle.tide_steps.specs.declared.pass.Pass.{Pass}
+use Rattle.tide_heap.specs.declared.steps.pass.Pass.{Pass}
 use Rattle.tide_words.proofs.heap_laws.Filling.{IsFilledTo-none, IsFilledTo-more, Reads-empty}
 use Rattle.tide_words.specs.heap.EmptyHeap.{empty_heap}
 use Rattle.tide_words.specs.heap.Filled.{IsFilledTo}

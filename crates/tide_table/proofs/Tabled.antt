@@ -27,7 +27,7 @@ use Rattle.tide_model.specs.Since.{since}
 use Rattle.tide_model.specs.declared.entry.Event.{Event}
 use Rattle.tide_table.proofs.Collectors.{freeze_all, frozen_store, frozen_mode, enter, open_next, note_in, ticket_split}
 use Rattle.tide_table.proofs.Heeding.{own}
-use Rattle.tide_steps.proofs.Comings.{unmoved}
+use Rattle.tide_heap.proofs.steps_laws.Comings.{unmoved}
 use Rattle.tide_heap.proofs.Members.{knows_as, known_as, spend, few_parties}
 use Rattle.tide_table.proofs.Seating.{seat_member}
 use Rattle.tide_table.proofs.Starting.{zero_word}

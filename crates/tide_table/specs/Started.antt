@@ -10,7 +10,7 @@ use Rattle.tide_machine.specs.declared.view.View.{View}
 use Rattle.tide_machine.specs.points.Sweeps.{SweptAreBelow, SweptAreTold}
 use Rattle.tide_model.specs.Layout.{Layout}
 use Rattle.tide_model.specs.Refused.{ShapeLists}
-use Rattle.tide_steps.specs.declared.pass.Pass.{Pass}
+use Rattle.tide_heap.specs.declared.steps.pass.Pass.{Pass}
 use Rattle.tide_table.specs.Blacks.{BlacksStay}
 use Rattle.tide_words.specs.heap.Filled.{IsFilledTo}
 use Rattle.tide_words.specs.heap.Heap.{SameIn, heap_of}

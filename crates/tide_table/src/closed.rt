@@ -8,7 +8,7 @@ use crate::collector::Collector;
 use crate::plays::Tickets;
 use atomic_table::Seat;
 use tide_machine::View;
-use tide_steps::{Heap, HeapShapes};
+use tide_heap::{Heap, HeapShapes};
 
 /// What a heap leaves: its history. `Collector::close` alone makes it.
 #[derive(Drop)]

@@ -1,8 +1,8 @@
 //! The collector's side of the heap of shared words: it starts a heap, seats participants, freezes, opens and closes.
 //!
 //! The `Collector` hands out tickets, takes notes in, and freezes the heap once all have stopped. A `Frozen` heap is
-//! `Words`, over which marking and sweeping run, and a `Ledger`. The heap and its rule are those of `tide_heap`, the
-//! steps of participants those of `tide_steps`, whose names this crate hands on. It waits for nobody and has no lock.
+//! `Words`, over which marking and sweeping run, and a `Ledger`. The heap, its rule and the steps of participants are
+//! those of `tide_heap`, whose names this crate hands on. It waits for nobody and has no lock.
 #![tactic(auto)]
 
 mod closed;
@@ -22,4 +22,4 @@ pub use collecting::NotOpened;
 pub use collector::{Collector, PeriodsSpent};
 pub use frozen::Frozen;
 pub use start::Start;
-pub use tide_steps::{Heap, HeapShapes, Note, Numbers, Pass, Ticket};
+pub use tide_heap::{Heap, HeapShapes, Note, Numbers, Pass, Ticket};

@@ -6,7 +6,7 @@ ghost use Rattle.tide_model.specs.Layout.{Layout as model};
 ghost use Rattle.tide_model.specs.Refused.{ShapeLists};
 ghost use Rattle.tide_model.specs.declared.entry.Entry.TheVariants.{Pause};
 ghost use Rattle.tide_model.specs.declared.entry.Event.{Event};
-ghost use Rattle.tide_steps.specs.Plays.{no_layout};
+ghost use Rattle.tide_heap.specs.steps.Plays.{no_layout};
 ghost use Rattle.tide_heap.specs.Turns.{noted, seating, spent, ticket_of};
 ghost use Rattle.tide_table.specs.Plays.{has_frozen, has_read, has_stored, has_entered, has_entered_visits, has_opened};
 

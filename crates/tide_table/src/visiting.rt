@@ -12,7 +12,7 @@ use crate::collector::Collector;
 use crate::frozen::Frozen;
 use crate::plays::{Choice, EntersVisits};
 use std::marker::Brand;
-use tide_steps::{Heap, HeapShapes};
+use tide_heap::{Heap, HeapShapes};
 
 impl Collector {
     fn enter_visits_as<S: HeapShapes, J: Choice>(

@@ -8,7 +8,7 @@ use Rattle.crossbeam_utils.specs.Padded.{padded_value}
 use Rattle.crossbeam_utils.specs.declared.cache_padded.CachePadded.{CachePadded}
 use Rattle.tide_machine.specs.declared.view.View.{View}
 use Rattle.tide_periods.specs.declared.caller.Caller.{Caller}
-use Rattle.tide_steps.specs.declared.notes.Note.{Note}
+use Rattle.tide_heap.specs.declared.steps.notes.Note.{Note}
 use Rattle.tide_threads.specs.Acting.{before_all, caller_of, callers_in, is_silent, notes_in, races_in, races_of, told_in}
 use Rattle.tide_threads.specs.declared.participant.Participant.{Participant}
 use Rattle.tide_threads.specs.declared.worker.Worker.{Worker}

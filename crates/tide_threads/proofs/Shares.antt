@@ -28,7 +28,7 @@ use Rattle.tide_periods.specs.Part.{AreCallers, RanPartBy}
 use Rattle.tide_periods.specs.Recorded.{IsSettled, recorded_at}
 use Rattle.tide_periods.specs.Store.{Setting}
 use Rattle.tide_periods.specs.declared.caller.Caller.{Caller}
-use Rattle.tide_steps.specs.declared.notes.Note.{Note}
+use Rattle.tide_heap.specs.declared.steps.notes.Note.{Note}
 use Rattle.tide_table.specs.Standing.{StandsStill}
 use Rattle.tide_threads.proofs.Acting.{caller_at, callers_many}
 use Rattle.tide_threads.proofs.Standing.{seen_part}

@@ -22,8 +22,8 @@ use Rattle.tide_model.specs.declared.entry.Event.{Event}
 use Rattle.tide_mutator.specs.calls.Viewed.{view_of}
 use Rattle.tide_periods.specs.Asking.{IsCallerAt}
 use Rattle.tide_periods.specs.declared.caller.Caller.{Caller}
-use Rattle.tide_steps.specs.declared.notes.Note.{Note}
-use Rattle.tide_steps.specs.declared.notes.Ticket.{Ticket}
+use Rattle.tide_heap.specs.declared.steps.notes.Note.{Note}
+use Rattle.tide_heap.specs.declared.steps.notes.Ticket.{Ticket}
 use Rattle.tide_table.specs.Standing.{StandsStill}
 use Rattle.tide_threads.proofs.Acting.{AreParted, IsParted}
 use Rattle.tide_threads.proofs.Parking.{IsParked-left, IsParked-played}

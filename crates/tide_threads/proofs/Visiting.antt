@@ -10,7 +10,7 @@ use Rattle.tide_machine.specs.Visiting.{FitsIn}
 use Rattle.tide_machine.specs.declared.view.View.{View}
 use Rattle.tide_machine.specs.kinds.Activate.{begun_view}
 use Rattle.tide_model.specs.Layout.{Layout}
-use Rattle.tide_steps.specs.declared.notes.Note.{Note}
+use Rattle.tide_heap.specs.declared.steps.notes.Note.{Note}
 use Rattle.tide_table.specs.VisitsTold.{most_visits}
 use Rattle.tide_threads.specs.Marking.{HasMadeVisits}
 use Rattle.tide_threads.specs.declared.marking.CountingVisitor.{CountingVisitor}

@@ -3,8 +3,8 @@ use Rattle.std.specs.Prelude.{ℕ, ◌≡◌, ◌≤◌, ◌<◌, ◌+◌, ◌-�
 use Rattle.atomic_table.specs.Seated.{TableId}
 use Rattle.tide_machine.specs.declared.view.View.{View}
 use Rattle.tide_model.specs.Layout.{Layout, cell_count}
-use Rattle.tide_steps.specs.declared.notes.Note.{Note}
-use Rattle.tide_steps.specs.declared.notes.Ticket.{Ticket}
+use Rattle.tide_heap.specs.declared.steps.notes.Note.{Note}
+use Rattle.tide_heap.specs.declared.steps.notes.Ticket.{Ticket}
 use Rattle.tide_table.specs.VisitsTold.{most_visits}
 use Rattle.tide_threads.specs.declared.marking.CountingVisitor.{CountingVisitor}
 use Rattle.tide_visitor.specs.Viewed.{stack_room_of, table_of, view_of}

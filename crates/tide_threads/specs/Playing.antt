@@ -14,8 +14,8 @@ use Rattle.tide_model.specs.declared.entry.Event.{Event}
 use Rattle.tide_model.specs.declared.Memory.{Memory}
 use Rattle.tide_mutator.specs.calls.Viewed.{table_of, view_of}
 use Rattle.tide_periods.specs.Own.{IsCallerWithin, RanOwnShare}
-use Rattle.tide_steps.specs.declared.notes.Note.{Note}
-use Rattle.tide_steps.specs.declared.notes.Ticket.{Ticket}
+use Rattle.tide_heap.specs.declared.steps.notes.Note.{Note}
+use Rattle.tide_heap.specs.declared.steps.notes.Ticket.{Ticket}
 use Rattle.tide_threads.specs.Acting.{has_left}
 use Rattle.tide_threads.specs.Marking.{HasMadeVisits, MayBeginVisits}
 use Rattle.tide_threads.specs.Parked.{HasPlayed, IsAtRest, IsParked}

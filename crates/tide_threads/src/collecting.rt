@@ -2,7 +2,7 @@
 ghost use Rattle.std.specs.Prelude.{◌≡◌, ℕ, [], Some, false, slice_get};
 ghost use Rattle.crossbeam_utils.specs.Padded.{padded_value};
 ghost use Rattle.crossbeam_utils.specs.declared.cache_padded.CachePadded.{CachePadded};
-ghost use Rattle.tide_steps.specs.declared.notes.Note.{Note};
+ghost use Rattle.tide_heap.specs.declared.steps.notes.Note.{Note};
 ghost use Rattle.tide_threads.specs.Acting.{before_all, noted_all, notes_in, told_in};
 ghost use Rattle.tide_threads.specs.Playing.{Both, GaveNote, MayTake, WasHanded};
 ghost use Rattle.tide_threads.specs.declared.participant.Participant.{Participant};

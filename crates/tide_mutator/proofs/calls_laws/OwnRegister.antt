@@ -14,7 +14,7 @@ use Rattle.tide_model.specs.declared.entry.Event.{Event}
 use Rattle.tide_mutator.proofs.owed_laws.OwnClaims.{own_at}
 use Rattle.tide_mutator.proofs.cells_laws.OwnFound.{own_found}
 use Rattle.tide_mutator.specs.owed.Standing.{StandsAt}
-use Rattle.tide_steps.specs.Follows.{Follows}
+use Rattle.tide_heap.specs.steps.Follows.{Follows}
 use Rattle.tide_words.specs.forms.ValueWord.{val_word}
 use Rattle.tide_words.specs.heap.Heap.{Heap}
 

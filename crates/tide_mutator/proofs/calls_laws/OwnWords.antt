@@ -24,7 +24,7 @@ use Rattle.tide_mutator.proofs.cells_laws.OwnFound.{own_found}
 use Rattle.tide_mutator.proofs.owed_laws.Standing.{moment_in, stands_then}
 use Rattle.tide_mutator.specs.owed.Standing.{StandsAt, claims_of}
 use Rattle.tide_mutator.specs.calls.Owning.{OwnsAt, unread}
-use Rattle.tide_steps.specs.Follows.{Follows, MayStep}
+use Rattle.tide_heap.specs.steps.Follows.{Follows, MayStep}
 use Rattle.tide_words.proofs.heap_laws.Frames.{is_read}
 use Rattle.tide_words.specs.forms.Reference.{claim_word}
 use Rattle.tide_words.specs.heap.Heap.{Heap}

@@ -41,7 +41,7 @@ use Rattle.tide_mutator.specs.owed.Calling.{IsCalling}
 use Rattle.tide_mutator.specs.cells.Claiming.{held_or, unheld_reply}
 use Rattle.tide_mutator.specs.owed.Made.{HasMade}
 use Rattle.tide_mutator.specs.owed.Standing.{IsPlanned, caller_of, claims_of}
-use Rattle.tide_steps.specs.Follows.{Follows, FollowsSome, MayStep}
+use Rattle.tide_heap.specs.steps.Follows.{Follows, FollowsSome, MayStep}
 use Rattle.tide_call.proofs.plan_laws.ClaimWords.{some_claim}
 use Rattle.tide_call.specs.Needed.{IsSomeClaim}
 use Rattle.tide_words.proofs.heap_laws.ReadingLaws.{live_within}

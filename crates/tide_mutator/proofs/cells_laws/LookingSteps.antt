@@ -18,7 +18,7 @@ use Rattle.tide_model.specs.History.{is_call_of}
 use Rattle.tide_model.specs.Layout.{Layout}
 use Rattle.tide_model.specs.Refused.{ShapeLists}
 use Rattle.tide_model.specs.declared.entry.Event.{Event}
-use Rattle.tide_steps.specs.Follows.{Follows, MayStep}
+use Rattle.tide_heap.specs.steps.Follows.{Follows, MayStep}
 
 -- a bit that isn't 1 is 0
 pub clear_by : (word k : ℕ) → (bit_at word k == 1) ≡ false → bit_at word k ≡ 0

@@ -35,7 +35,7 @@ use Rattle.tide_mutator.proofs.cells_laws.Values.{value_read}
 use Rattle.tide_mutator.specs.owed.Calling.{IsCalling}
 use Rattle.tide_mutator.specs.owed.Made.{HasMade}
 use Rattle.tide_mutator.specs.owed.Standing.{IsPlanned, StandsAt, caller_of}
-use Rattle.tide_steps.specs.Follows.{Follows, FollowsSome, MayStep}
+use Rattle.tide_heap.specs.steps.Follows.{Follows, FollowsSome, MayStep}
 use Rattle.tide_words.proofs.heap_laws.ReadingLaws.{live_within}
 use Rattle.tide_words.specs.forms.ValueWord.{val_word}
 use Rattle.tide_words.specs.heap.Heap.{Heap, write}

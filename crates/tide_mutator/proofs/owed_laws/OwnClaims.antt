@@ -11,7 +11,7 @@ use Rattle.tide_model.specs.State.{State, empty_state}
 use Rattle.tide_model.specs.declared.entry.Entry.{Entry}
 use Rattle.tide_model.specs.declared.entry.Entry.TheVariants as entry
 use Rattle.tide_model.specs.declared.entry.Event.{Event}
-use Rattle.tide_steps.specs.Plays.{no_layout}
+use Rattle.tide_heap.specs.steps.Plays.{no_layout}
 
 module _ (one other : Layout) (p : ℕ) where
   same_event : (s t : State) (event : Event) (e : Entry) → own_of p s ≡ own_of p t →

@@ -19,7 +19,7 @@ use Rattle.tide_mutator.proofs.owed_laws.Telling.{still_mutator, still_runs}
 use Rattle.tide_mutator.specs.owed.Calling.{IsCalling, Kept}
 use Rattle.tide_mutator.specs.owed.Made.{HasDone, HasMade, IsMade, Shown, shown}
 use Rattle.tide_mutator.specs.owed.Paying.{HasPaid, OwesRegister}
-use Rattle.tide_steps.specs.Follows.{FollowsSome, MayStep}
+use Rattle.tide_heap.specs.steps.Follows.{FollowsSome, MayStep}
 use Rattle.tide_words.specs.forms.ValueWord.{val_word}
 
 -- a word that was owed alone is owed no more

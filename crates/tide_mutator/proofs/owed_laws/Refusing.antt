@@ -29,7 +29,7 @@ use Rattle.tide_mutator.proofs.owed_laws.Standing.{moment_in, stands_then}
 use Rattle.tide_mutator.specs.owed.Calling.{IsCalling}
 use Rattle.tide_mutator.specs.owed.Made.{HasDone}
 use Rattle.tide_mutator.specs.owed.Standing.{IsPlanned, caller_of}
-use Rattle.tide_steps.specs.Follows.{FollowsSome, MayStep}
+use Rattle.tide_heap.specs.steps.Follows.{FollowsSome, MayStep}
 use Rattle.tide_call.proofs.plan_laws.NeverForRoom.{no_plan_for_room}
 use Rattle.tide_words.specs.heap.Heap.{Heap}
 

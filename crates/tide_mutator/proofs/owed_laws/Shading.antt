@@ -20,7 +20,7 @@ use Rattle.tide_mutator.proofs.owed_laws.Telling.{still_mutator, still_runs}
 use Rattle.tide_mutator.specs.owed.Calling.{IsCalling, Kept}
 use Rattle.tide_mutator.specs.owed.Made.{HasMade, IsMade, Shown, shown}
 use Rattle.tide_mutator.specs.owed.Shading.{Owing, HasShaded}
-use Rattle.tide_steps.specs.Follows.{Follows, MayStep}
+use Rattle.tide_heap.specs.steps.Follows.{Follows, MayStep}
 use Rattle.tide_words.specs.declared.forms.colours.Colour.TheVariants.{Black, White}
 use Rattle.tide_words.specs.forms.ColourWord.{colour_word, is_black_in}
 

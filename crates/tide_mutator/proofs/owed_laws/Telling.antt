@@ -14,7 +14,7 @@ use Rattle.tide_model.specs.declared.op.Op.{Op}
 use Rattle.tide_model.specs.declared.op.Reply.{Reply}
 use Rattle.tide_mutator.specs.owed.Calling.{IsCalling, Kept}
 use Rattle.tide_mutator.specs.owed.Made.{HasDone, IsMade, Shown, shown}
-use Rattle.tide_steps.specs.Follows.{FollowsSome, MayStep}
+use Rattle.tide_heap.specs.steps.Follows.{FollowsSome, MayStep}
 
 module _ (layout : Layout) (shapes : ShapeLists) (op : Op) (does : Plan) (reply : Reply) (v u : View)
     (calling : IsCalling layout v op) (made : IsMade layout shapes op does reply v (shown u)) where

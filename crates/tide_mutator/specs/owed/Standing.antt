@@ -17,7 +17,7 @@ use Rattle.tide_model.specs.References.{RefsAreLive}
 use Rattle.tide_model.specs.Refused.{ShapeLists}
 use Rattle.tide_model.specs.declared.entry.Event.{Event}
 use Rattle.tide_model.specs.declared.op.Op.{Op}
-use Rattle.tide_steps.specs.Plays.{no_layout}
+use Rattle.tide_heap.specs.steps.Plays.{no_layout}
 use Rattle.tide_words.specs.heap.Heap.{Heap}
 use Rattle.tide_words.specs.heap.Reading.{ReadsAs}
 

@@ -22,7 +22,7 @@ use crate::cells::hints::Hints;
 use crate::cells::pairs::{drop_pair, get_pair, put_pair};
 use crate::cells::slots::{get, put};
 use tide_model::{Op, Reply, Turnstile};
-use tide_steps::{Heap, HeapShapes, Pass};
+use tide_heap::{Heap, HeapShapes, Pass};
 
 /// Acts on a plan of a handle, of a pair or of a group, or on one to retire or to ask for a cycle.
 fn act_on_rest<S: HeapShapes>(

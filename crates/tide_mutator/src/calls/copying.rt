@@ -4,7 +4,7 @@ ghost use Rattle.tide_mutator.specs.calls.Growing.{HasRead, IsReady, KnowsElemen
 
 use tide_model::Op;
 use crate::owed::Growth;
-use tide_steps::{Heap, HeapShapes, Pass};
+use tide_heap::{Heap, HeapShapes, Pass};
 
 /// The words of the properties in the cell's array, if it has one.
 pub(crate) fn load_elements<S: HeapShapes>(

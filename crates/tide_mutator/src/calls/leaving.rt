@@ -7,7 +7,7 @@ ghost use Rattle.tide_mutator.specs.owed.Made.{HasDone};
 ghost use Rattle.tide_mutator.specs.owed.Standing.{IsPlanned};
 
 use tide_model::{Op, Reply};
-use tide_steps::{Heap, HeapShapes, Pass};
+use tide_heap::{Heap, HeapShapes, Pass};
 
 /// Makes its mutator inactive.
 pub(crate) fn leave<S: HeapShapes>(pass: &mut Pass, heap: &Heap<S>, op: Op, calls: u64) -> Reply

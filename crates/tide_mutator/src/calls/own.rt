@@ -5,7 +5,7 @@ ghost use Rattle.tide_machine.specs.declared.view.View.{View};
 ghost use Rattle.tide_mutator.specs.calls.Owning.{OwnsAt, unread};
 
 use tide_call::{OwnRegisters, OwnWords};
-use tide_steps::{Heap, HeapShapes, Pass};
+use tide_heap::{Heap, HeapShapes, Pass};
 use tide_words::Layout;
 
 /// A mutator's pass. The words of its registers are its own, and those of the cells that it claims: while it runs,

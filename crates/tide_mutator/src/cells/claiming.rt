@@ -10,7 +10,7 @@ ghost use Rattle.tide_mutator.specs.owed.Standing.{IsPlanned};
 ghost use Rattle.tide_call.specs.Needed.{IsSomeClaim};
 
 use tide_model::{Op, Refusal, Reply};
-use tide_steps::{Heap, HeapShapes, Pass};
+use tide_heap::{Heap, HeapShapes, Pass};
 use tide_words::word_claim;
 
 /// Who holds the cell of a claim word refuses the call; where nobody does, it is answered otherwise.

@@ -8,7 +8,7 @@ ghost use Rattle.tide_mutator.specs.owed.Standing.{IsPlanned};
 
 use tide_model::{Op, Reply, Val};
 use crate::owed::show;
-use tide_steps::{Heap, HeapShapes, Pass};
+use tide_heap::{Heap, HeapShapes, Pass};
 use tide_words::val_word;
 
 /// Stores a strong handle.

@@ -6,7 +6,7 @@ use Rattle.tide_heap.specs.Turns.{note_of, noted}
 use Rattle.tide_machine.specs.declared.view.View.{View}
 use Rattle.tide_machine.specs.kinds.StoreStopped.{stopped_view}
 use Rattle.tide_model.specs.Layout.{Layout}
-use Rattle.tide_steps.proofs.Comings.{numbers_tell}
+use Rattle.tide_heap.proofs.steps_laws.Comings.{numbers_tell}
 use Rattle.check_callers.proofs.Notes.{noted_in}
 use Rattle.check_callers.proofs.stops.stop_part.Goals as goal
 

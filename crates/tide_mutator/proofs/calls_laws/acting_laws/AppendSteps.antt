@@ -39,7 +39,7 @@ use Rattle.tide_model.specs.declared.op.Refusal.TheVariants.{IsTable, NoShape, N
 use Rattle.tide_model.specs.declared.op.Reply.TheVariants.{Done}
 use Rattle.tide_model.specs.declared.val.Val.{Val}
 use Rattle.tide_model.specs.declared.val.Val.TheVariants.{Cell}
-use Rattle.tide_steps.specs.Follows.{FollowsSome, MayStep}
+use Rattle.tide_heap.specs.steps.Follows.{FollowsSome, MayStep}
 use Rattle.tide_words.specs.forms.ValueWord.{val_word}
 use Rattle.tide_words.specs.heap.Heap.{Heap, write}
 

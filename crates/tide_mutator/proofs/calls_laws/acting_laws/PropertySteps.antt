@@ -40,7 +40,7 @@ use Rattle.tide_model.specs.declared.op.Refusal.TheVariants.{Absent, IsTable, No
 use Rattle.tide_model.specs.declared.op.Reply.TheVariants.{Done, Seen}
 use Rattle.tide_model.specs.declared.val.Val.{Val}
 use Rattle.tide_model.specs.declared.val.Val.TheVariants.{Cell}
-use Rattle.tide_steps.specs.Follows.{Follows, FollowsSome, MayStep}
+use Rattle.tide_heap.specs.steps.Follows.{Follows, FollowsSome, MayStep}
 use Rattle.tide_words.specs.forms.ValueWord.{val_word}
 use Rattle.tide_words.specs.heap.Heap.{Heap, write}
 use Rattle.tide_words.specs.heap.Reading.{IsValueOf, element_word}

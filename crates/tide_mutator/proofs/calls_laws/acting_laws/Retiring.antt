@@ -26,7 +26,7 @@ use Rattle.tide_mutator.proofs.owed_laws.Standing.{moment_in, stands_then}
 use Rattle.tide_mutator.specs.owed.Calling.{IsCalling}
 use Rattle.tide_mutator.specs.owed.Made.{HasMade}
 use Rattle.tide_mutator.specs.owed.Standing.{IsPlanned, caller_of}
-use Rattle.tide_steps.specs.Follows.{FollowsSome, MayStep}
+use Rattle.tide_heap.specs.steps.Follows.{FollowsSome, MayStep}
 use Rattle.tide_words.specs.heap.Heap.{Heap, write}
 
 -- which operation has such a plan

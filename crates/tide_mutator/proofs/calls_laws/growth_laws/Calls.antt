@@ -27,7 +27,7 @@ use Rattle.tide_model.specs.Layout.{Layout}
 use Rattle.tide_model.specs.Refused.{ShapeLists}
 use Rattle.tide_model.specs.declared.op.Op.{Op}
 use Rattle.tide_model.specs.declared.op.Reply.TheVariants.{Done}
-use Rattle.tide_steps.specs.Follows.{Follows}
+use Rattle.tide_heap.specs.steps.Follows.{Follows}
 use Rattle.tide_call.specs.Needed.{MayGrow}
 use Rattle.tide_words.specs.forms.ValueWord.{val_word}
 

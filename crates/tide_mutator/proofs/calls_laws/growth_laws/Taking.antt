@@ -53,7 +53,7 @@ use Rattle.tide_model.specs.declared.op.Refusal.TheVariants.{Full}
 use Rattle.tide_model.specs.declared.op.Reply.{Reply}
 use Rattle.tide_model.specs.declared.op.Reply.TheVariants.{Done, Refused}
 use Rattle.tide_model.specs.declared.val.Val.{Val}
-use Rattle.tide_steps.specs.Follows.{Follows, FollowsSome, MayStep}
+use Rattle.tide_heap.specs.steps.Follows.{Follows, FollowsSome, MayStep}
 use Rattle.tide_call.proofs.plan_laws.TakenLaws.{taken-array, wide-array}
 use Rattle.tide_call.specs.Taken.{IsTakenOf}
 use Rattle.tide_words.proofs.heap_laws.HeapLaws.{write-other_index, write-other_region, write-same}

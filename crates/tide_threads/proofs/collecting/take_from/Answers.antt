@@ -2,7 +2,7 @@
 use Rattle.std.proofs.Common.{◌≡◌, ◌∙◌, refl, sym, ap, Some, None, []}
 use Rattle.crossbeam_utils.specs.Padded.{padded_value}
 use Rattle.std.specs.Prelude.{Option}
-use Rattle.tide_steps.specs.declared.notes.Note.{Note}
+use Rattle.tide_heap.specs.declared.steps.notes.Note.{Note}
 use Rattle.tide_threads.proofs.Acting.{no_note_is}
 use Rattle.tide_threads.specs.Acting.{before_all, noted_all, told_in}
 use Rattle.tide_threads.specs.declared.participant.Participant.{Participant}

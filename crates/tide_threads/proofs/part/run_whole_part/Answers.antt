@@ -15,7 +15,7 @@ use Rattle.tide_machine.specs.declared.view.View.{View}
 use Rattle.tide_model.specs.declared.entry.Event.{Event}
 use Rattle.tide_report.specs.Ends.{TellsEnds}
 use Rattle.tide_shape.specs.Lists.{lists_of}
-use Rattle.tide_steps.specs.declared.notes.Note.{Note}
+use Rattle.tide_heap.specs.declared.steps.notes.Note.{Note}
 use Rattle.tide_table.proofs.Standing.{blacks_stay, no_ends}
 use Rattle.tide_threads.proofs.Acting.{callers_at, note_among}
 use Rattle.tide_threads.proofs.Shares.{AllIn-turns, AllStandBy-frozen, RanPartBy-frozen}

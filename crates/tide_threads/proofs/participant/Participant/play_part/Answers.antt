@@ -3,7 +3,7 @@ use Rattle.std.proofs.Common.{◌≡◌, ◌∙◌, sym, subst, Bool}
 use Rattle.std.specs.Prelude.{IfOk, Result, Some}
 use Rattle.tide_model.specs.declared.Memory.{Memory}
 use Rattle.tide_shape.specs.Lists.{lists_of}
-use Rattle.tide_steps.specs.declared.notes.Ticket.{Ticket}
+use Rattle.tide_heap.specs.declared.steps.notes.Ticket.{Ticket}
 use Rattle.tide_threads.proofs.Turns.{HasMadePart-outcome, ticket_clash, ticket_same}
 use Rattle.tide_threads.specs.Playing.{HasMadePart}
 use Rattle.tide_threads.proofs.participant.Participant.play_part.Goals as goal

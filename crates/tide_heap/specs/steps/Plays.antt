@@ -1,0 +1,45 @@
+-- What the steps of participants tell, as the plays of `atomic_table` have it: of the step, the seat before, the number
+-- found, and the seat after.
+use Rattle.std.specs.Prelude.{ℕ, ◌≡◌, []}
+use Rattle.atomic_table.specs.Table.{Me, Step}
+use Rattle.tide_machine.specs.Kind.{Kind}
+use Rattle.tide_machine.specs.declared.view.View.{View}
+use Rattle.tide_machine.specs.kinds.Activate.{begun_view}
+use Rattle.tide_machine.specs.kinds.StoreStopped.{stopped_view}
+use Rattle.tide_model.specs.Layout.{Layout}
+use Rattle.tide_model.specs.Prefix.{IsPrefix}
+use Rattle.tide_model.specs.Refused.{ShapeLists}
+use Rattle.tide_heap.specs.steps.Follows.{Follows, FollowsSome}
+
+abbrev pub no_layout : Layout
+no_layout = record {
+  cell_blocks = [];
+  array_blocks = [];
+  registers = 0;
+  strong = 0;
+  weak = 0;
+  mutators = 0;
+  visitors = 0;
+}
+
+-- It begins: the word that it found is the number of its ticket's part. What it had seen before the ticket that it
+-- heard, and what the ticket told of the history, are beginnings of what it has seen.
+pub record HasBegun (v : View) (read : ℕ) (w : View) : Type 0 where
+  pub view : w ≡ begun_view v
+  pub found : read ≡ v.ticket
+  pub earlier : IsPrefix v.earlier w.seen
+  pub told : IsPrefix v.told w.seen
+
+module _ {S : Type 0} where
+  -- a participant's step of a kind, where the word found is told, and where it is not
+  abbrev pub has_followed : Layout → ShapeLists → Kind → Step S → Me S View → ℕ → Me S View → Type 0
+  has_followed layout shapes kind st m r m' = Follows layout shapes kind m.0 r m'.0
+
+  abbrev pub has_followed_some : Layout → ShapeLists → Kind → Step S → Me S View → ℕ → Me S View → Type 0
+  has_followed_some layout shapes kind st m r m' = FollowsSome layout shapes kind m.0 m'.0
+
+  abbrev pub has_begun : Step S → Me S View → ℕ → Me S View → Type 0
+  has_begun st a r b = HasBegun a.0 r b.0
+
+  abbrev pub has_stopped : Step S → Me S View → ℕ → Me S View → Type 0
+  has_stopped st a r b = b.0 ≡ stopped_view a.0
