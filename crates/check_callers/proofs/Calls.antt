@@ -3,13 +3,13 @@ use Rattle.std.proofs.Common.{ℕ, ◌≡◌, ◌%◌, ◌^◌, refl, sym, ◌�
 use Rattle.std.proofs.lemmas.Bool.{eq-eqb}
 use Rattle.std.specs.Prelude.{Bool, if◌then◌else◌}
 use Rattle.check_callers.specs.Working.{IsReady, set_calls}
-use Rattle.tide_machine.proofs.steps.OwnState.{own_state}
-use Rattle.tide_machine.specs.Kind.{StoreCall}
-use Rattle.tide_machine.specs.May.{RunsAsMutator, MayCall, IsBetweenCalls}
-use Rattle.tide_machine.specs.Own.{Own, own_of}
-use Rattle.tide_machine.specs.RunningWave.{RunningWave}
-use Rattle.tide_machine.specs.World.{World}
-use Rattle.tide_machine.specs.declared.view.View.{View}
+use Rattle.tide_core.proofs.machine_laws.steps.OwnState.{own_state}
+use Rattle.tide_core.specs.machine.Kind.{StoreCall}
+use Rattle.tide_core.specs.machine.May.{RunsAsMutator, MayCall, IsBetweenCalls}
+use Rattle.tide_core.specs.machine.Own.{Own, own_of}
+use Rattle.tide_core.specs.machine.RunningWave.{RunningWave}
+use Rattle.tide_core.specs.machine.World.{World}
+use Rattle.tide_core.specs.declared.machine.view.View.{View}
 use Rattle.tide_model.specs.Answer.{IsAnswer}
 use Rattle.tide_model.specs.History.{state_after}
 use Rattle.tide_model.specs.Lawful.{FitsLayout}

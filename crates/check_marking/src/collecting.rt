@@ -1,7 +1,7 @@
 //! The steps of a cycle over a heap of words, each done where its conditions hold, and all of them. Each leaves what
 //! the laws of `tide_core` ask of the heaps before and after it.
 ghost use Rattle.std.specs.Prelude.{◌≡◌, ◌<◌, ◌≤◌, [], true, IfSome};
-ghost use Rattle.tide_core.specs.Entered.{HasBegun, HasEnded, HasPaused, HasSwept};
+ghost use Rattle.tide_core.specs.wave.Entered.{HasBegun, HasEnded, HasPaused, HasSwept};
 ghost use Rattle.tide_layout.specs.Region.{block_count};
 ghost use Rattle.tide_solver.specs.Outcome.{visits_of};
 ghost use Rattle.tide_words.specs.heap.Heap.{heap_of};

@@ -2,7 +2,7 @@
 ghost use Rattle.std.specs.Prelude.{◌≡◌, IfOk};
 ghost use Rattle.check_table.specs.Standing.{opened_once, StandsStill};
 ghost use Rattle.tide_freeze.specs.Books.{AreBooks};
-ghost use Rattle.tide_machine.specs.Frozen.{newcomer};
+ghost use Rattle.tide_core.specs.machine.Frozen.{newcomer};
 ghost use Rattle.tide_shape.specs.Lists.{lists_of};
 ghost use Rattle.tide_table.specs.Started.{IsStarted};
 

@@ -2,7 +2,7 @@
 ghost use Rattle.std.specs.Prelude.{◌≡◌, [], IfOk, IfSome, vec_len};
 ghost use Rattle.check_table.specs.Pairs.{HasStarted};
 ghost use Rattle.check_table.specs.Working.{IsSmall};
-ghost use Rattle.tide_machine.specs.Frozen.{newcomer};
+ghost use Rattle.tide_core.specs.machine.Frozen.{newcomer};
 ghost use Rattle.tide_freeze.specs.Books.{AreBooks};
 ghost use Rattle.tide_shape.specs.Lists.{lists_of};
 ghost use Rattle.tide_table.specs.Started.{ArePasses, IsStarted};

@@ -6,9 +6,9 @@ use Rattle.embed_visitor.specs.Parts.{HasDoneItsPart}
 use Rattle.tide_freeze.specs.declared.books.Books.{Books}
 use Rattle.tide_heap.specs.Parties.{In, IsParty}
 use Rattle.tide_heap.specs.Turns.{noted, visited_of}
-use Rattle.tide_machine.specs.World.{first_visitor}
-use Rattle.tide_machine.specs.declared.view.View.{View}
-use Rattle.tide_machine.specs.declared.view.Visited.{Visited}
+use Rattle.tide_core.specs.machine.World.{first_visitor}
+use Rattle.tide_core.specs.declared.machine.view.View.{View}
+use Rattle.tide_core.specs.declared.machine.view.Visited.{Visited}
 use Rattle.tide_model.specs.Layout.{Layout}
 use Rattle.tide_table.proofs.Nexts.{RunsWith-noted}
 use Rattle.tide_table.specs.Standing.{RunsWith}

@@ -3,7 +3,7 @@ use Rattle.std.specs.Prelude.{ℕ, ◌≡◌, ◌≤◌, true, false, [], ◌∷
 use Rattle.embed_visitor.specs.Parts.{IsIdle, IsIdleBefore}
 use Rattle.embed_visitor.specs.declared.shared.Shared.{Shared}
 use Rattle.tide_freeze.specs.Books.{AreBooks}
-use Rattle.tide_machine.specs.Frozen.{newcomer}
+use Rattle.tide_core.specs.machine.Frozen.{newcomer}
 use Rattle.tide_mutator.specs.calls.Viewed as of_mutator
 use Rattle.tide_shape.specs.Lists.{lists_of}
 use Rattle.tide_table.specs.Standing.{RunsWith}

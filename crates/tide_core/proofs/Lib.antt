@@ -1,6 +1,2 @@
-pub mod EndLaws
-pub mod EntryLaws
-pub mod FirstPauses
-pub mod PointLaws
-mod CallRows
-mod WaveRows
+pub mod wave_laws
+pub mod machine_laws

@@ -1,4 +1,2 @@
-pub mod Entered
-pub mod FrozenWave
-pub mod Laws
-pub mod StaysBlack
+pub mod wave
+pub mod machine

@@ -1,9 +1,18 @@
-//! What holds of a heap at a freeze, the wave of marking, and what each entry of a freeze leaves of it.
+//! The argument: the tri-colour invariant, and the machine of atomic steps that keeps it. Definitions and laws; the
+//! code is what laws take and give.
 //!
-//! A store that keeps words and a history has the wave, `FrozenWave` of `specs/`, after each entry of a freeze. The
-//! laws here give it after the beginning, a pause and the end of a cycle, after a sweep, and once a running part is
-//! opened; and with it, that the end may stand. They speak of heaps and histories: the crate knows no list of words and
-//! no thread.
+//! `wave` says what holds of a heap at a freeze, `FrozenWave`, and that each entry of a freeze keeps it. `machine` says
+//! what a participant may do to one word while a part runs, what it knows (`View`), and that each step keeps
+//! `RunningWave`. They speak of functions, lists and histories.
+//!
+//! It knows no thread, no table of words and no handle, and takes no memory. The heap of shared words (`tide_heap`)
+//! has this invariant as its rule, and freezes (`tide_freeze`) its other half.
 #![tactic(auto)]
 
-pub mod laws;
+pub mod wave;
+// over those above it
+pub mod machine;
+
+pub use machine::{
+    Act, Cleared, Duty, Found, Growth, Owed, Role, Round, Saw, Scan, Sweeping, Target, View,
+};

@@ -12,11 +12,11 @@ use Rattle.tide_layout.proofs.ClassWidths.{count_where-le}
 use Rattle.tide_layout.proofs.LimitLaws.{few_cells}
 use Rattle.tide_layout.specs.Limits.{IsWithinLimits}
 use Rattle.tide_layout.specs.Slots.{total_below}
-use Rattle.tide_machine.proofs.steps.Frames.{put_here, put_else}
-use Rattle.tide_machine.specs.Entries.{added}
-use Rattle.tide_machine.specs.World.{parties}
-use Rattle.tide_machine.specs.declared.view.View.{View}
-use Rattle.tide_machine.specs.points.Seen.{HasPartAlone}
+use Rattle.tide_core.proofs.machine_laws.steps.Frames.{put_here, put_else}
+use Rattle.tide_core.specs.machine.Entries.{added}
+use Rattle.tide_core.specs.machine.World.{parties}
+use Rattle.tide_core.specs.declared.machine.view.View.{View}
+use Rattle.tide_core.specs.machine.points.Seen.{HasPartAlone}
 use Rattle.tide_model.proofs.Histories.{IsLawful-elim}
 use Rattle.tide_model.proofs.NumberLaws.{put_at_elim}
 use Rattle.tide_model.proofs.SinceLaws.{since-none, since-push}

@@ -3,8 +3,8 @@ use Rattle.std.proofs.Common.{ℕ, ◌≡◌, refl, sym, ◌∙◌, ap, subst, B
 use Rattle.std.proofs.lemmas.Bool.{cases_Bool}
 use Rattle.std.proofs.lemmas.List.Elements.{filter-append}
 use Rattle.std.specs.Prelude.{filter, if◌then◌else◌, ◌==◌}
-use Rattle.tide_machine.proofs.steps.OwnState.{own_state}
-use Rattle.tide_machine.specs.Own.{Own, own_of}
+use Rattle.tide_core.proofs.machine_laws.steps.OwnState.{own_state}
+use Rattle.tide_core.specs.machine.Own.{Own, own_of}
 use Rattle.tide_model.proofs.ActiveLaws.{active_after-call}
 use Rattle.tide_model.proofs.Histories.{state_after-push}
 use Rattle.tide_model.specs.Applied.{after_call}

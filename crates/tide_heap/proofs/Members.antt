@@ -15,13 +15,13 @@ use Rattle.tide_model.specs.Since.{since}
 use Rattle.tide_heap.proofs.Births.{told_put}
 use Rattle.tide_heap.specs.Births.{births_in, born_to}
 use Rattle.tide_model.proofs.NumberLaws.{put_at_elim}
-use Rattle.tide_machine.specs.declared.view.View.{View}
-use Rattle.tide_machine.specs.declared.view.Role.{Role}
-use Rattle.tide_machine.specs.declared.view.Role.TheVariants.{Collector, Member, Note, Ticket, Spent}
-use Rattle.tide_machine.proofs.steps.Frames.{put_here, put_else}
+use Rattle.tide_core.specs.declared.machine.view.View.{View}
+use Rattle.tide_core.specs.declared.machine.view.Role.{Role}
+use Rattle.tide_core.specs.declared.machine.view.Role.TheVariants.{Collector, Member, Note, Ticket, Spent}
+use Rattle.tide_core.proofs.machine_laws.steps.Frames.{put_here, put_else}
 use Rattle.tide_layout.specs.Limits.{IsWithinLimits}
-use Rattle.tide_machine.specs.World.{parties}
-use Rattle.tide_machine.specs.points.Marks.{counted_in}
+use Rattle.tide_core.specs.machine.World.{parties}
+use Rattle.tide_core.specs.machine.points.Marks.{counted_in}
 use Rattle.tide_model.specs.History.{state_after}
 use Rattle.tide_model.specs.Refused.{ShapeLists}
 use Rattle.tide_heap.specs.Parties.{In, IsParty, tally}

@@ -8,13 +8,13 @@ use Rattle.tide_layout.specs.Limits.{IsWithinLimits}
 use Rattle.tide_layout.specs.Region.{size_of, place_in, tag}
 use Rattle.tide_layout.specs.declared.region.Region.{Region}
 use Rattle.tide_layout.specs.declared.region.Region.TheVariants as region
-use Rattle.tide_machine.specs.Entries.{added}
-use Rattle.tide_machine.specs.Kind.{acted}
-use Rattle.tide_machine.specs.RunningWave.{RunningWave}
-use Rattle.tide_machine.specs.World.{parties}
-use Rattle.tide_machine.specs.declared.act.Act.{Act}
-use Rattle.tide_machine.specs.declared.view.Role.TheVariants.{Member}
-use Rattle.tide_machine.specs.declared.view.View.{View}
+use Rattle.tide_core.specs.machine.Entries.{added}
+use Rattle.tide_core.specs.machine.Kind.{acted}
+use Rattle.tide_core.specs.machine.RunningWave.{RunningWave}
+use Rattle.tide_core.specs.machine.World.{parties}
+use Rattle.tide_core.specs.declared.machine.act.Act.{Act}
+use Rattle.tide_core.specs.declared.machine.view.Role.TheVariants.{Member}
+use Rattle.tide_core.specs.declared.machine.view.View.{View}
 use Rattle.tide_model.proofs.NumberLaws.{put_at_elim}
 use Rattle.tide_model.specs.History.{state_after}
 use Rattle.tide_model.specs.Layout.{Layout}

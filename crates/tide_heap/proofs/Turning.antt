@@ -3,17 +3,17 @@ use Rattle.std.proofs.Common.{◌≡◌, ℕ, zero, suc, ◌+◌, ◌<◌, ◌�
 use Rattle.std.specs.Prelude.{filter, if◌then◌else◌, slice_index, ◌==◌, ◌↔◌}
 use Rattle.tide_layout.specs.Region.{place_in, size_of}
 use Rattle.tide_layout.specs.declared.region.Region.TheVariants as region
-use Rattle.tide_machine.proofs.kinds.FirstGroup.{first_group}
-use Rattle.tide_machine.proofs.steps.Colouring.{write_same}
-use Rattle.tide_machine.specs.Kind.{Split, Join, Activate, StoreStopped, index_of_stopped}
-use Rattle.tide_machine.specs.May.{Rests}
-use Rattle.tide_machine.specs.RunningWave.{RunningWave}
-use Rattle.tide_machine.specs.declared.view.Role.TheVariants.{Member}
-use Rattle.tide_machine.specs.declared.view.View.{View}
-use Rattle.tide_machine.specs.kinds.Activate.{begun_view}
-use Rattle.tide_machine.specs.kinds.Join.{joined_view}
-use Rattle.tide_machine.specs.kinds.Split.{split_view}
-use Rattle.tide_machine.specs.kinds.StoreStopped.{stopped_view}
+use Rattle.tide_core.proofs.machine_laws.kinds.FirstGroup.{first_group}
+use Rattle.tide_core.proofs.machine_laws.steps.Colouring.{write_same}
+use Rattle.tide_core.specs.machine.Kind.{Split, Join, Activate, StoreStopped, index_of_stopped}
+use Rattle.tide_core.specs.machine.May.{Rests}
+use Rattle.tide_core.specs.machine.RunningWave.{RunningWave}
+use Rattle.tide_core.specs.declared.machine.view.Role.TheVariants.{Member}
+use Rattle.tide_core.specs.declared.machine.view.View.{View}
+use Rattle.tide_core.specs.machine.kinds.Activate.{begun_view}
+use Rattle.tide_core.specs.machine.kinds.Join.{joined_view}
+use Rattle.tide_core.specs.machine.kinds.Split.{split_view}
+use Rattle.tide_core.specs.machine.kinds.StoreStopped.{stopped_view}
 use Rattle.tide_model.specs.History.{is_call_of, state_after}
 use Rattle.tide_model.specs.Layout.{Layout}
 use Rattle.tide_model.specs.Numbers.{put_at}

@@ -1,8 +1,8 @@
 -- Whether a participant has done its part, as its note tells.
 use Rattle.std.specs.Prelude.{◌≡◌, ◌<◌, ◌⊎◌, Bool, false, not, ◌||◌, nat_lt}
-use Rattle.tide_machine.specs.Progress.{HasDone}
-use Rattle.tide_machine.specs.World.{first_visitor}
-use Rattle.tide_machine.specs.declared.view.View.{View}
+use Rattle.tide_core.specs.machine.Progress.{HasDone}
+use Rattle.tide_core.specs.machine.World.{first_visitor}
+use Rattle.tide_core.specs.declared.machine.view.View.{View}
 use Rattle.tide_model.specs.Layout.{Layout}
 
 -- the participant is no visitor, or its ticket doesn't mark, or it made as many cells black as it was to run for, or

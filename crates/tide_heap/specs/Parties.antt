@@ -1,8 +1,8 @@
 -- Participants of a heap by their numbers, and what is added up over some of them.
 use Rattle.std.specs.Prelude.{ℕ, zero, suc, ◌≡◌, ◌+◌, ◌⊎◌, List, [], ◌∷◌, length, nat_lt, if◌then◌else◌}
-use Rattle.tide_machine.specs.declared.view.View.{View}
-use Rattle.tide_machine.specs.points.Marks.{counted_in}
-pub use Rattle.tide_machine.specs.World.{IsParty}
+use Rattle.tide_core.specs.declared.machine.view.View.{View}
+use Rattle.tide_core.specs.machine.points.Marks.{counted_in}
+pub use Rattle.tide_core.specs.machine.World.{IsParty}
 use Rattle.tide_model.specs.declared.entry.Event.{Event}
 
 -- the number is one of the list

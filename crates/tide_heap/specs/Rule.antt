@@ -7,15 +7,15 @@ use Rattle.atomic_table.specs.Table.{State}
 use Rattle.tide_layout.specs.Limits.{IsWithinLimits}
 use Rattle.tide_layout.specs.Region.{word_count}
 use Rattle.tide_layout.specs.declared.region.Region.TheVariants as region
-use Rattle.tide_machine.specs.Frozen.{newcomer}
-use Rattle.tide_machine.specs.RunningWave.{RunningWave}
-use Rattle.tide_machine.specs.declared.view.NotedCalls.{NotedCalls}
-use Rattle.tide_machine.specs.declared.view.Role.{Role}
-use Rattle.tide_machine.specs.declared.view.Role.TheVariants.{Collector, Member, Note, Ticket, Spent}
-use Rattle.tide_machine.specs.declared.view.View.{View}
-use Rattle.tide_machine.specs.points.Marks.{SpanIsLive}
-use Rattle.tide_machine.specs.points.Seen.{IsKnown, WhoLeftIsInactive, ParkedIsEmpty}
-use Rattle.tide_machine.specs.points.Stops.{StopsAreTold}
+use Rattle.tide_core.specs.machine.Frozen.{newcomer}
+use Rattle.tide_core.specs.machine.RunningWave.{RunningWave}
+use Rattle.tide_core.specs.declared.machine.view.NotedCalls.{NotedCalls}
+use Rattle.tide_core.specs.declared.machine.view.Role.{Role}
+use Rattle.tide_core.specs.declared.machine.view.Role.TheVariants.{Collector, Member, Note, Ticket, Spent}
+use Rattle.tide_core.specs.declared.machine.view.View.{View}
+use Rattle.tide_core.specs.machine.points.Marks.{SpanIsLive}
+use Rattle.tide_core.specs.machine.points.Seen.{IsKnown, WhoLeftIsInactive, ParkedIsEmpty}
+use Rattle.tide_core.specs.machine.points.Stops.{StopsAreTold}
 use Rattle.tide_model.specs.Freeze.{marks_after}
 use Rattle.tide_model.specs.History.{is_open, state_after}
 use Rattle.tide_model.specs.Lawful.{IsLawful}

@@ -4,14 +4,14 @@ use Rattle.std.specs.Prelude.{ℕ, Bool, Contains, ◌≡◌, ◌<◌, ◌≤◌
 use Rattle.tide_layout.specs.Limits.{IsWithinLimits}
 use Rattle.tide_layout.specs.Region.{word_count}
 use Rattle.tide_layout.specs.declared.region.Region.TheVariants as region
-use Rattle.tide_machine.specs.Frozen.{FrozenWith, newcomer}
-use Rattle.tide_machine.specs.Kind as kind
-use Rattle.tide_machine.specs.World.{first_visitor, parties}
-use Rattle.tide_machine.specs.declared.view.NotedCalls.{NotedCalls}
-use Rattle.tide_machine.specs.declared.view.Role.TheVariants.{Collector, Note, Ticket, Spent}
-use Rattle.tide_machine.specs.declared.view.View.{View}
-use Rattle.tide_machine.specs.declared.view.Visited.{Visited}
-use Rattle.tide_machine.specs.kinds.Join.{joined_view}
+use Rattle.tide_core.specs.machine.Frozen.{FrozenWith, newcomer}
+use Rattle.tide_core.specs.machine.Kind as kind
+use Rattle.tide_core.specs.machine.World.{first_visitor, parties}
+use Rattle.tide_core.specs.declared.machine.view.NotedCalls.{NotedCalls}
+use Rattle.tide_core.specs.declared.machine.view.Role.TheVariants.{Collector, Note, Ticket, Spent}
+use Rattle.tide_core.specs.declared.machine.view.View.{View}
+use Rattle.tide_core.specs.declared.machine.view.Visited.{Visited}
+use Rattle.tide_core.specs.machine.kinds.Join.{joined_view}
 use Rattle.tide_model.specs.History.{is_call_of, plain, state_after}
 use Rattle.tide_model.specs.Layout.{Layout}
 use Rattle.tide_model.specs.Prefix.{IsPrefix}

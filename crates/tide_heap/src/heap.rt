@@ -3,14 +3,14 @@ ghost use Rattle.std.specs.Prelude.{◌≡◌, ◌<◌};
 ghost use Rattle.tide_layout.specs.Region.{index_of_register, place_in, size_of, word_count};
 ghost use Rattle.tide_layout.specs.Slots.{index_of_element, index_of_slot, HasElement, HasSlot};
 ghost use Rattle.tide_layout.specs.declared.region.Region.TheVariants.{Elements, Registers, Slots, Stopped};
-ghost use Rattle.tide_machine.specs.Kind.{index_of_stopped};
+ghost use Rattle.tide_core.specs.machine.Kind.{index_of_stopped};
 ghost use Rattle.tide_heap.specs.Parties.{IsParty};
 
 use crate::shapes::HeapShapes;
 use atomic_table::{Table, TableRule};
 use std::alloc::Global;
 use std::marker::PhantomData;
-use tide_machine::View;
+use tide_core::View;
 use tide_words::{Layout, Region};
 
 /// What a heap is made of.

@@ -1,32 +1,32 @@
 -- The collector's steps keep the rule: it freezes, stores words, enters, opens, takes notes in and gives tickets out.
 use Rattle.std.proofs.Common.{◌≡◌, ℕ, zero, suc, ◌+◌, ◌≤◌, ◌⊎◌, List, [], ◌∷◌, ◌++◌, length, sym, refl, ap, ◌∙◌, inl, inr, subst, arith, Bool, true, false, set, MatchBool, length-set, append-nil}
 use Rattle.std.proofs.lemmas.Bool.{and_parts, cases_Bool, eq-eqb, ne_eqb}
-use Rattle.tide_machine.proofs.freezes.Progress.{progress}
-use Rattle.tide_machine.proofs.steps.Paying.{filter_was}
-use Rattle.tide_machine.proofs.steps.StopPlaces.{stop_within}
-use Rattle.tide_machine.specs.Kind.{index_of_stopped}
-use Rattle.tide_machine.specs.points.Witness.{IsVisitor}
-use Rattle.tide_machine.specs.Progress.{HasDone}
+use Rattle.tide_core.proofs.machine_laws.freezes.Progress.{progress}
+use Rattle.tide_core.proofs.machine_laws.steps.Paying.{filter_was}
+use Rattle.tide_core.proofs.machine_laws.steps.StopPlaces.{stop_within}
+use Rattle.tide_core.specs.machine.Kind.{index_of_stopped}
+use Rattle.tide_core.specs.machine.points.Witness.{IsVisitor}
+use Rattle.tide_core.specs.machine.Progress.{HasDone}
 use Rattle.tide_heap.specs.Done.{HasDonePart}
 use Rattle.std.proofs.lemmas.List.Elements.{filter-append, Contains-append_cases}
 use Rattle.std.specs.List.{list_all}
 use Rattle.std.specs.Prelude.{Contains, ◌<◌, ◌&&◌, filter, if◌then◌else◌, ◌==◌, not}
 use Rattle.tide_layout.specs.Region.{word_count, place_in}
 use Rattle.tide_layout.specs.declared.region.Region.TheVariants as region
-use Rattle.tide_core.specs.FrozenWave.{FrozenWave}
-use Rattle.tide_machine.proofs.freezes.Entering.{FrozenWith-of}
-use Rattle.tide_machine.proofs.freezes.Freezing.{FrozenMachine-running, parts_sweep}
-use Rattle.tide_machine.proofs.freezes.OpeningParts.{RunningWave-opened}
-use Rattle.tide_machine.specs.Frozen.{FrozenWith, FrozenMachine, MayOpen}
-use Rattle.tide_machine.specs.RunningWave.{RunningWave}
-use Rattle.tide_machine.specs.World.{parties, total}
-use Rattle.tide_machine.specs.declared.view.NotedCalls.{NotedCalls}
-use Rattle.tide_machine.specs.declared.view.Role.TheVariants.{Collector, Note}
-use Rattle.tide_machine.specs.declared.view.View.{View}
-use Rattle.tide_machine.specs.declared.view.Visited.{Visited}
-use Rattle.tide_machine.specs.points.Marks.{counted_in}
-use Rattle.tide_machine.specs.points.Seen.{WhoLeftIsInactive}
-use Rattle.tide_machine.specs.points.Sweeps.{SweptAreBelow, SweptAreTold, TakenAreClean}
+use Rattle.tide_core.specs.wave.FrozenWave.{FrozenWave}
+use Rattle.tide_core.proofs.machine_laws.freezes.Entering.{FrozenWith-of}
+use Rattle.tide_core.proofs.machine_laws.freezes.Freezing.{FrozenMachine-running, parts_sweep}
+use Rattle.tide_core.proofs.machine_laws.freezes.OpeningParts.{RunningWave-opened}
+use Rattle.tide_core.specs.machine.Frozen.{FrozenWith, FrozenMachine, MayOpen}
+use Rattle.tide_core.specs.machine.RunningWave.{RunningWave}
+use Rattle.tide_core.specs.machine.World.{parties, total}
+use Rattle.tide_core.specs.declared.machine.view.NotedCalls.{NotedCalls}
+use Rattle.tide_core.specs.declared.machine.view.Role.TheVariants.{Collector, Note}
+use Rattle.tide_core.specs.declared.machine.view.View.{View}
+use Rattle.tide_core.specs.declared.machine.view.Visited.{Visited}
+use Rattle.tide_core.specs.machine.points.Marks.{counted_in}
+use Rattle.tide_core.specs.machine.points.Seen.{WhoLeftIsInactive}
+use Rattle.tide_core.specs.machine.points.Sweeps.{SweptAreBelow, SweptAreTold, TakenAreClean}
 use Rattle.tide_model.proofs.Histories.{IsLawful-push}
 use Rattle.tide_model.proofs.SinceLaws.{count-push}
 use Rattle.tide_model.specs.Cycle.{HasDead}

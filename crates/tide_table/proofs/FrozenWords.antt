@@ -1,11 +1,11 @@
 -- The wave at a freeze speaks of the words of the layout alone.
 use Rattle.std.proofs.Common.{ℕ, ◌≡◌, ◌≤◌, sym, ◌∙◌, ap, arith, Bool, true, List, []}
 use Rattle.std.specs.Prelude.{◌&&◌}
-use Rattle.tide_core.specs.FrozenWave.{is_of_visit}
+use Rattle.tide_core.specs.wave.FrozenWave.{is_of_visit}
 use Rattle.tide_layout.specs.declared.region.Region.{Region}
 use Rattle.tide_layout.specs.declared.region.Region.TheVariants.{Base, Phase, Period, Colour, Call, Swept}
-use Rattle.tide_machine.proofs.steps.SweepsKept.{swept_kept, told_kept, is_taken}
-use Rattle.tide_machine.specs.Frozen.{FrozenWith}
+use Rattle.tide_core.proofs.machine_laws.steps.SweepsKept.{swept_kept, told_kept, is_taken}
+use Rattle.tide_core.specs.machine.Frozen.{FrozenWith}
 use Rattle.tide_model.proofs.NumberLaws.{count_where-same}
 use Rattle.tide_model.specs.History.{state_after}
 use Rattle.tide_model.specs.Layout.{Layout, cell_count}

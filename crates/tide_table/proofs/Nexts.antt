@@ -7,7 +7,7 @@ use Rattle.tide_freeze.specs.Books.{AddsEnds, AreBooks, WereKept}
 use Rattle.tide_freeze.specs.Freezing.{HasFrozenWhole}
 use Rattle.tide_freeze.specs.declared.books.Books.{Books}
 use Rattle.tide_heap.specs.Turns.{Freezes, noted, opened}
-use Rattle.tide_machine.specs.declared.view.View.{View}
+use Rattle.tide_core.specs.declared.machine.view.View.{View}
 use Rattle.tide_model.proofs.Histories.{push_cases}
 use Rattle.tide_model.proofs.PeriodLaws.{Each-nil, EndsInTime-other}
 use Rattle.tide_model.proofs.SinceLaws.{count-push}

@@ -3,14 +3,14 @@ use Rattle.std.proofs.Common.{ℕ, ◌≡◌, sym, ◌∙◌, subst, Bool, true,
 use Rattle.std.proofs.lemmas.List.Sums.{AllPass-from_list_all}
 use Rattle.std.specs.List.{list_all}
 use Rattle.std.specs.Prelude.{Contains}
-use Rattle.tide_core.specs.FrozenWave.{FrozenWave}
+use Rattle.tide_core.specs.wave.FrozenWave.{FrozenWave}
 use Rattle.tide_freeze.proofs.FrozenLaws.{marks-same}
 use Rattle.tide_freeze.proofs.QuietLaws.{HasFrozen-quiet}
 use Rattle.tide_freeze.specs.Freezing.{HasFrozen, SharesGreys}
 use Rattle.tide_freeze.specs.Participants.{LeavesParticipants}
-use Rattle.tide_machine.proofs.freezes.RestingSweeps.{sweeps_rest}
-use Rattle.tide_machine.specs.Frozen.{FrozenWith}
-use Rattle.tide_machine.specs.points.Sweeps.{SweptAreTold, TakenAreClean}
+use Rattle.tide_core.proofs.machine_laws.freezes.RestingSweeps.{sweeps_rest}
+use Rattle.tide_core.specs.machine.Frozen.{FrozenWith}
+use Rattle.tide_core.specs.machine.points.Sweeps.{SweptAreTold, TakenAreClean}
 use Rattle.tide_model.specs.History.{state_after}
 use Rattle.tide_model.specs.Lawful.{IsLawful}
 use Rattle.tide_model.specs.Layout.{Layout}

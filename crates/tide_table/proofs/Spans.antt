@@ -1,8 +1,8 @@
 -- While the heap is frozen, what stood in the cycle that marks stays live, whatever becomes of the words.
 use Rattle.std.proofs.Common.{ℕ, ◌≡◌, ◌∙◌, refl, sym, ap, subst, Bool, true, false, List, [], ◌∷◌, ◌++◌, Option}
 use Rattle.std.specs.Prelude.{if◌then◌else◌, ◌==◌}
-use Rattle.tide_machine.proofs.freezes.Entering.{span-push, span-begun}
-use Rattle.tide_machine.specs.points.Marks.{SpanIsLive}
+use Rattle.tide_core.proofs.machine_laws.freezes.Entering.{span-push, span-begun}
+use Rattle.tide_core.specs.machine.points.Marks.{SpanIsLive}
 use Rattle.tide_model.proofs.Histories.{state_after-push}
 use Rattle.tide_model.proofs.LawfulReferences.{RefsAreLive-lawful}
 use Rattle.tide_model.proofs.ReferencesInCycles.{swept_cell-live}

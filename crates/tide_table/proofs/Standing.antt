@@ -18,10 +18,10 @@ use Rattle.tide_heap.specs.Rule.{SpanStays}
 use Rattle.tide_heap.specs.Turns.{Freezes}
 use Rattle.tide_layout.specs.Region.{word_count}
 use Rattle.tide_layout.specs.declared.region.Region.TheVariants.{Stopped, Phase as PhaseRegion}
-use Rattle.tide_machine.proofs.freezes.Entering.{FrozenWave-of, FrozenWith-of}
-use Rattle.tide_machine.specs.Frozen.{FrozenWith, MayOpen}
-use Rattle.tide_machine.specs.declared.view.View.{View}
-use Rattle.tide_machine.specs.points.Marks.{SpanIsLive}
+use Rattle.tide_core.proofs.machine_laws.freezes.Entering.{FrozenWave-of, FrozenWith-of}
+use Rattle.tide_core.specs.machine.Frozen.{FrozenWith, MayOpen}
+use Rattle.tide_core.specs.declared.machine.view.View.{View}
+use Rattle.tide_core.specs.machine.points.Marks.{SpanIsLive}
 use Rattle.tide_layout.specs.Limits.{IsWithinLimits}
 use Rattle.tide_model.proofs.Histories.{IsLawful-nil, IsLawful-prefix}
 use Rattle.tide_model.proofs.PeriodLaws.{Each-nil, ends_in_time-append}

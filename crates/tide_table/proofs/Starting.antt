@@ -6,10 +6,10 @@ use Rattle.tide_layout.proofs.Places.{place_in-below}
 use Rattle.tide_layout.specs.Region.{size_of, word_count, place_in, block_count}
 use Rattle.tide_layout.specs.declared.region.Region.{Region}
 use Rattle.tide_layout.specs.declared.region.Region.TheVariants.{Active, Base, Free, Stopped}
-use Rattle.tide_machine.proofs.freezes.Entering.{FrozenWave-of}
-use Rattle.tide_machine.proofs.freezes.Freezing.{FrozenMachine-first}
-use Rattle.tide_machine.specs.Frozen.{newcomer, FrozenWith}
-use Rattle.tide_machine.specs.declared.view.View.{View}
+use Rattle.tide_core.proofs.machine_laws.freezes.Entering.{FrozenWave-of}
+use Rattle.tide_core.proofs.machine_laws.freezes.Freezing.{FrozenMachine-first}
+use Rattle.tide_core.specs.machine.Frozen.{newcomer, FrozenWith}
+use Rattle.tide_core.specs.declared.machine.view.View.{View}
 use Rattle.tide_model.specs.Layout.{Layout}
 use Rattle.tide_model.specs.Refused.{ShapeLists}
 use Rattle.tide_table.proofs.FrozenWords.{FrozenWith-read}

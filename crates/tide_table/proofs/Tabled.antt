@@ -7,16 +7,16 @@ use Rattle.atomic_table.specs.Table.{Me, keeps, Allows, Splits, Joins, opening, 
 use Rattle.tide_layout.specs.Limits.{IsWithinLimits}
 use Rattle.tide_layout.specs.Region.{place_in, word_count}
 use Rattle.tide_layout.specs.declared.region.Region.TheVariants as region
-use Rattle.tide_core.specs.FrozenWave.{FrozenWave}
-use Rattle.tide_machine.proofs.steps.StopPlaces.{stop_within}
-use Rattle.tide_machine.specs.Frozen.{MayOpen, newcomer}
-use Rattle.tide_machine.specs.Kind.{index_of_stopped}
-use Rattle.tide_machine.specs.points.Sweeps.{SweptAreBelow, SweptAreTold, TakenAreClean}
+use Rattle.tide_core.specs.wave.FrozenWave.{FrozenWave}
+use Rattle.tide_core.proofs.machine_laws.steps.StopPlaces.{stop_within}
+use Rattle.tide_core.specs.machine.Frozen.{MayOpen, newcomer}
+use Rattle.tide_core.specs.machine.Kind.{index_of_stopped}
+use Rattle.tide_core.specs.machine.points.Sweeps.{SweptAreBelow, SweptAreTold, TakenAreClean}
 use Rattle.tide_words.specs.heap.Heap.{SameIn, heap_of}
-use Rattle.tide_machine.specs.World.{parties}
-use Rattle.tide_machine.specs.declared.view.Role.TheVariants.{Collector, Note, Spent}
-use Rattle.tide_machine.specs.declared.view.View.{View}
-use Rattle.tide_machine.specs.declared.view.Visited.{Visited}
+use Rattle.tide_core.specs.machine.World.{parties}
+use Rattle.tide_core.specs.declared.machine.view.Role.TheVariants.{Collector, Note, Spent}
+use Rattle.tide_core.specs.declared.machine.view.View.{View}
+use Rattle.tide_core.specs.declared.machine.view.Visited.{Visited}
 use Rattle.tide_model.proofs.Histories.{IsLawful-nil}
 use Rattle.tide_model.specs.History.{is_call_of, is_open, state_after}
 use Rattle.tide_model.specs.Lawful.{IsLawful, Stands}

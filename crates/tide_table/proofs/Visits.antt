@@ -3,12 +3,12 @@ use Rattle.std.proofs.Common.{ℕ, zero, suc, ◌≡◌, ◌+◌, ◌<◌, ◌�
 use Rattle.std.proofs.lemmas.Bool.{eqb-false, eqb-true, ne_eqb}
 use Rattle.std.specs.Prelude.{Contains, None, Option, Some, filter, if◌then◌else◌, map, not, slice_index}
 use Rattle.tide_heap.specs.Turns.{visits_entered}
-use Rattle.tide_machine.proofs.freezes.Entering.{FrozenWith-entered}
-use Rattle.tide_machine.specs.Frozen.{FrozenWith}
-use Rattle.tide_machine.specs.Schedule.{visits}
-use Rattle.tide_machine.specs.World.{first_visitor}
-use Rattle.tide_machine.specs.declared.view.View.{View}
-use Rattle.tide_machine.specs.declared.view.Visited.{Visited}
+use Rattle.tide_core.proofs.machine_laws.freezes.Entering.{FrozenWith-entered}
+use Rattle.tide_core.specs.machine.Frozen.{FrozenWith}
+use Rattle.tide_core.specs.machine.Schedule.{visits}
+use Rattle.tide_core.specs.machine.World.{first_visitor}
+use Rattle.tide_core.specs.declared.machine.view.View.{View}
+use Rattle.tide_core.specs.declared.machine.view.Visited.{Visited}
 use Rattle.tide_model.specs.declared.entry.Entry.TheVariants.{Visits}
 use Rattle.tide_model.specs.Freeze.{visits_entries}
 use Rattle.tide_model.specs.History.{plain}

@@ -1,10 +1,10 @@
 -- What an opening asks of words that stood still, and that a freeze leaves it.
 use Rattle.std.specs.Prelude.{ℕ, Bool, List}
-use Rattle.tide_core.specs.FrozenWave.{FrozenWave}
+use Rattle.tide_core.specs.wave.FrozenWave.{FrozenWave}
 use Rattle.tide_freeze.specs.Freezing.{HasFrozen, SharesGreys}
 use Rattle.tide_freeze.specs.Participants.{LeavesParticipants}
-use Rattle.tide_machine.specs.Frozen.{FrozenWith, MayOpen}
-use Rattle.tide_machine.specs.points.Sweeps.{SweptAreBelow, SweptAreTold, TakenAreClean}
+use Rattle.tide_core.specs.machine.Frozen.{FrozenWith, MayOpen}
+use Rattle.tide_core.specs.machine.points.Sweeps.{SweptAreBelow, SweptAreTold, TakenAreClean}
 use Rattle.tide_model.specs.History.{state_after}
 use Rattle.tide_model.specs.Lawful.{IsLawful}
 use Rattle.tide_model.specs.Layout.{Layout}

@@ -6,8 +6,8 @@ use Rattle.tide_freeze.specs.declared.books.Books.{Books}
 use Rattle.tide_layout.specs.Limits.{IsWithinLimits}
 use Rattle.tide_layout.specs.Region.{word_count}
 use Rattle.tide_layout.specs.declared.region.Region.TheVariants.{Stopped}
-use Rattle.tide_machine.specs.Frozen.{FrozenWith, MayOpen}
-use Rattle.tide_machine.specs.declared.view.View.{View}
+use Rattle.tide_core.specs.machine.Frozen.{FrozenWith, MayOpen}
+use Rattle.tide_core.specs.declared.machine.view.View.{View}
 use Rattle.tide_model.specs.Cycle.{begin_count}
 use Rattle.tide_model.specs.Each.{Each}
 use Rattle.tide_model.specs.Freeze.{marks_after}

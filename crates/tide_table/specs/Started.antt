@@ -4,10 +4,10 @@ use Rattle.atomic_table.specs.Seated.{TableId}
 use Rattle.tide_layout.specs.Region.{word_count}
 use Rattle.tide_layout.specs.declared.region.Region.{Region}
 use Rattle.tide_layout.specs.declared.region.Region.TheVariants.{Stopped}
-use Rattle.tide_core.specs.FrozenWave.{FrozenWave}
-use Rattle.tide_machine.specs.Frozen.{newcomer}
-use Rattle.tide_machine.specs.declared.view.View.{View}
-use Rattle.tide_machine.specs.points.Sweeps.{SweptAreBelow, SweptAreTold}
+use Rattle.tide_core.specs.wave.FrozenWave.{FrozenWave}
+use Rattle.tide_core.specs.machine.Frozen.{newcomer}
+use Rattle.tide_core.specs.declared.machine.view.View.{View}
+use Rattle.tide_core.specs.machine.points.Sweeps.{SweptAreBelow, SweptAreTold}
 use Rattle.tide_model.specs.Layout.{Layout}
 use Rattle.tide_model.specs.Refused.{ShapeLists}
 use Rattle.tide_heap.specs.declared.steps.pass.Pass.{Pass}

@@ -1,7 +1,7 @@
 -- What entries of visits leave of the wave at a freeze.
 use Rattle.std.specs.Prelude.{ℕ, ◌+◌, List, [], ◌∷◌, ◌++◌}
-use Rattle.tide_core.specs.FrozenWave.{FrozenWave}
-use Rattle.tide_machine.specs.Frozen.{FrozenWith}
+use Rattle.tide_core.specs.wave.FrozenWave.{FrozenWave}
+use Rattle.tide_core.specs.machine.Frozen.{FrozenWith}
 use Rattle.tide_model.specs.History.{plain}
 use Rattle.tide_model.specs.Layout.{Layout}
 use Rattle.tide_model.specs.Refused.{ShapeLists}

@@ -9,9 +9,9 @@ use Rattle.tide_freeze.proofs.FreezeLaws.{IsFreeze-by}
 use Rattle.tide_freeze.proofs.QuietLaws.{HasFrozenWhole-quiet, calls_of-quiet, kept_by_quiet, open_count-quiet}
 use Rattle.tide_heap.specs.Parties.{In}
 use Rattle.tide_heap.specs.Turns.{calls_of as noted_calls_of}
-use Rattle.tide_machine.specs.World.{first_visitor}
-use Rattle.tide_machine.specs.declared.view.NotedCalls.{NotedCalls}
-use Rattle.tide_machine.specs.declared.view.View.{View}
+use Rattle.tide_core.specs.machine.World.{first_visitor}
+use Rattle.tide_core.specs.declared.machine.view.NotedCalls.{NotedCalls}
+use Rattle.tide_core.specs.declared.machine.view.View.{View}
 use Rattle.tide_model.proofs.Histories.{state_from-append}
 use Rattle.tide_model.specs.History.{is_call_of, state_after, state_from}
 use Rattle.tide_model.specs.Layout.{Layout}

@@ -1,7 +1,7 @@
 -- When a part may be opened on a heap that stands still.
 use Rattle.std.specs.Prelude.{ℕ, ◌≡◌}
-use Rattle.tide_machine.specs.Frozen.{MayOpen}
-use Rattle.tide_machine.specs.declared.view.View.{View}
+use Rattle.tide_core.specs.machine.Frozen.{MayOpen}
+use Rattle.tide_core.specs.declared.machine.view.View.{View}
 use Rattle.tide_model.specs.Layout.{Layout}
 use Rattle.tide_table.specs.VisitsTold.{unentered}
 use Rattle.tide_words.specs.heap.Heap.{heap_of}

@@ -1,8 +1,8 @@
 //! `CountingVisitor`: a visitor with the races that it met, and its share of a part.
 ghost use Rattle.std.specs.Prelude.{◌≡◌, ◌≤◌, ℕ, [], true};
 ghost use Rattle.tide_heap.specs.Done.{HasDonePart};
-ghost use Rattle.tide_machine.specs.Frozen.{newcomer};
-ghost use Rattle.tide_machine.specs.Visiting.{FitsIn};
+ghost use Rattle.tide_core.specs.machine.Frozen.{newcomer};
+ghost use Rattle.tide_core.specs.machine.Visiting.{FitsIn};
 ghost use Rattle.tide_model.specs.Layout.{cell_count};
 ghost use Rattle.tide_table.specs.VisitsTold.{most_visits};
 ghost use Rattle.tide_threads.specs.Marking.{HasMadeVisits, MayBeginVisits};

@@ -1,7 +1,7 @@
 //! `Participant`: who acts in a part, with its ticket before and its note after. It knows no other.
 ghost use Rattle.std.specs.Prelude.{◌≡◌, ◌<◌, ◌+◌, ℕ, [], IfOk, None, Some};
-ghost use Rattle.tide_machine.specs.Frozen.{newcomer};
-ghost use Rattle.tide_machine.specs.World.{first_visitor};
+ghost use Rattle.tide_core.specs.machine.Frozen.{newcomer};
+ghost use Rattle.tide_core.specs.machine.World.{first_visitor};
 ghost use Rattle.tide_shape.specs.Lists.{lists_of};
 ghost use Rattle.tide_threads.specs.Acting.{caller_of};
 ghost use Rattle.tide_threads.specs.Fresh.{IsFresh};

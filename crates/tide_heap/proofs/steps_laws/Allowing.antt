@@ -9,25 +9,25 @@ use Rattle.tide_layout.specs.Limits.{IsWithinLimits}
 use Rattle.tide_layout.specs.Region.{word_count}
 use Rattle.tide_layout.specs.declared.region.Region.{Region}
 use Rattle.tide_layout.specs.declared.region.Region.TheVariants as region
-use Rattle.tide_machine.proofs.Scheduling.{step_keeps}
-use Rattle.tide_machine.proofs.kinds.EachKind.{allowed_has_law}
-use Rattle.tide_machine.proofs.kinds.Finding.{finds_after}
-use Rattle.tide_machine.proofs.steps.Frames.{put_here}
-use Rattle.tide_machine.proofs.steps.Moments.{steps_are_told}
-use Rattle.tide_machine.specs.Entries.{entry_of, added}
-use Rattle.tide_machine.specs.Kind.{Kind, LoadCall, LoadRegister, Split, Join, Activate, Retire, SwapGrey, Blacken, ZeroWord, region_of, index_of, act_of, acted}
-use Rattle.tide_machine.specs.Machine.{IsAllowed}
-use Rattle.tide_machine.specs.Moment.{Moment}
-use Rattle.tide_machine.specs.RunningWave.{RunningWave}
-use Rattle.tide_machine.specs.Views.{view_after}
-use Rattle.tide_machine.specs.World.{World, parties, first_visitor}
-use Rattle.tide_machine.specs.kinds.Retire.{MayRetire}
+use Rattle.tide_core.proofs.machine_laws.Scheduling.{step_keeps}
+use Rattle.tide_core.proofs.machine_laws.kinds.EachKind.{allowed_has_law}
+use Rattle.tide_core.proofs.machine_laws.kinds.Finding.{finds_after}
+use Rattle.tide_core.proofs.machine_laws.steps.Frames.{put_here}
+use Rattle.tide_core.proofs.machine_laws.steps.Moments.{steps_are_told}
+use Rattle.tide_core.specs.machine.Entries.{entry_of, added}
+use Rattle.tide_core.specs.machine.Kind.{Kind, LoadCall, LoadRegister, Split, Join, Activate, Retire, SwapGrey, Blacken, ZeroWord, region_of, index_of, act_of, acted}
+use Rattle.tide_core.specs.machine.Machine.{IsAllowed}
+use Rattle.tide_core.specs.machine.Moment.{Moment}
+use Rattle.tide_core.specs.machine.RunningWave.{RunningWave}
+use Rattle.tide_core.specs.machine.Views.{view_after}
+use Rattle.tide_core.specs.machine.World.{World, parties, first_visitor}
+use Rattle.tide_core.specs.machine.kinds.Retire.{MayRetire}
 use Rattle.tide_model.specs.declared.entry.Entry.TheVariants.{Call}
 use Rattle.tide_model.specs.declared.op.Reply.TheVariants.{Done}
-use Rattle.tide_machine.specs.declared.act.Act.{Act}
-use Rattle.tide_machine.specs.declared.act.Act.TheVariants.{Store}
-use Rattle.tide_machine.specs.declared.view.Role.TheVariants.{Member}
-use Rattle.tide_machine.specs.declared.view.View.{View}
+use Rattle.tide_core.specs.declared.machine.act.Act.{Act}
+use Rattle.tide_core.specs.declared.machine.act.Act.TheVariants.{Store}
+use Rattle.tide_core.specs.declared.machine.view.Role.TheVariants.{Member}
+use Rattle.tide_core.specs.declared.machine.view.View.{View}
 use Rattle.tide_model.proofs.Histories.{IsLawful-prefix}
 use Rattle.tide_model.specs.History.{state_after, is_call_of}
 use Rattle.tide_model.specs.Layout.{Layout}

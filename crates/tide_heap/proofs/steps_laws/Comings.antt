@@ -7,20 +7,20 @@ use Rattle.atomic_table.proofs.Lists.{set_else}
 use Rattle.atomic_table.specs.Table.{State, Me, keeps, stepped, Allows, Splits, Joins}
 use Rattle.tide_layout.specs.Region.{base_of, place_in, size_of, word_count}
 use Rattle.tide_layout.specs.declared.region.Region.TheVariants as region
-use Rattle.tide_machine.specs.Kind.{index_of_stopped}
-use Rattle.tide_machine.specs.May.{Rests}
-use Rattle.tide_machine.specs.World.{first_visitor}
-use Rattle.tide_machine.specs.declared.view.Role.TheVariants.{Member, Ticket}
-use Rattle.tide_machine.specs.declared.view.View.{View}
-use Rattle.tide_machine.specs.kinds.Activate.{begun_view}
-use Rattle.tide_machine.specs.kinds.Split.{split_view}
-use Rattle.tide_machine.specs.kinds.StoreStopped.{stopped_view}
+use Rattle.tide_core.specs.machine.Kind.{index_of_stopped}
+use Rattle.tide_core.specs.machine.May.{Rests}
+use Rattle.tide_core.specs.machine.World.{first_visitor}
+use Rattle.tide_core.specs.declared.machine.view.Role.TheVariants.{Member, Ticket}
+use Rattle.tide_core.specs.declared.machine.view.View.{View}
+use Rattle.tide_core.specs.machine.kinds.Activate.{begun_view}
+use Rattle.tide_core.specs.machine.kinds.Split.{split_view}
+use Rattle.tide_core.specs.machine.kinds.StoreStopped.{stopped_view}
 use Rattle.tide_model.specs.Layout.{Layout}
 use Rattle.tide_model.specs.Prefix.{IsPrefix}
 use Rattle.tide_model.specs.Refused.{ShapeLists}
 use Rattle.tide_heap.proofs.Members.{knows_as, member_ok, spend}
 use Rattle.tide_heap.proofs.Turning.{begin_here, end_here, hear_here, note_split, period_here}
-use Rattle.tide_machine.specs.Progress.{HasWholeRound}
+use Rattle.tide_core.specs.machine.Progress.{HasWholeRound}
 use Rattle.tide_heap.specs.Done.{HasDonePart, done_by_numbers}
 use Rattle.tide_heap.specs.Rule.{Tabled, Rule}
 use Rattle.tide_heap.specs.Turns.{heard_view, note_of, spent}

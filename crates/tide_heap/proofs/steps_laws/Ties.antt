@@ -1,17 +1,17 @@
 -- The numbers of a pass stay those of its view.
 use Rattle.std.proofs.Common.{ℕ, ◌≡◌, refl, sym, ◌∙◌, ap, subst, Bool, true, false, Option}
 use Rattle.std.specs.Prelude.{◌||◌, ◌+◌, if◌then◌else◌}
-use Rattle.tide_machine.specs.Entries.{entry_of}
-use Rattle.tide_machine.specs.Kind.{Kind, Retire, TakeFree, Blacken}
-use Rattle.tide_machine.specs.declared.act.Act.{Act}
-use Rattle.tide_machine.specs.declared.act.Act.TheVariants.{Load, Store, Swap, And, Or, Exchange}
-use Rattle.tide_machine.specs.declared.view.Role.TheVariants.{Member}
-use Rattle.tide_machine.specs.declared.view.View.{View}
+use Rattle.tide_core.specs.machine.Entries.{entry_of}
+use Rattle.tide_core.specs.machine.Kind.{Kind, Retire, TakeFree, Blacken}
+use Rattle.tide_core.specs.declared.machine.act.Act.{Act}
+use Rattle.tide_core.specs.declared.machine.act.Act.TheVariants.{Load, Store, Swap, And, Or, Exchange}
+use Rattle.tide_core.specs.declared.machine.view.Role.TheVariants.{Member}
+use Rattle.tide_core.specs.declared.machine.view.View.{View}
 use Rattle.tide_model.specs.History.{state_after}
 use Rattle.tide_model.specs.Layout.{Layout}
 use Rattle.tide_model.specs.Refused.{ShapeLists}
 use Rattle.tide_model.specs.declared.entry.Event.{Event}
-use Rattle.tide_machine.specs.Views.{view_after}
+use Rattle.tide_core.specs.machine.Views.{view_after}
 use Rattle.tide_heap.proofs.steps_laws.Works.{Core, core, core_found, worked, worked_view, seen_after, mine_after}
 use Rattle.tide_heap.specs.declared.heap.Heap.{Heap}
 use Rattle.tide_heap.specs.steps.Calls.{HasActed}

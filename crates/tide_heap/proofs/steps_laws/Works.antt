@@ -5,22 +5,22 @@ use Rattle.std.specs.Int.{bit_at}
 use Rattle.tide_layout.specs.Slots.{index_of_element}
 use Rattle.tide_layout.specs.declared.region.Region.{Region}
 use Rattle.tide_layout.specs.declared.region.Region.TheVariants.{Elements}
-use Rattle.tide_machine.specs.Kind.{Kind, Retire, LoadRegister, StoreRegister, LoadCall, StoreCall, LoadStrong, StoreStrong, LoadWeak, StoreWeak, LoadLink, StoreLink, LoadColour, Regrey, PushBit, LoadFree, TakeFree, StoreBorn, LoadPair, StorePair, StoreGroup, LoadClaim, TakeClaim, Release, LoadElement, StoreElement, TakeArray, Nuke, LoadOwnArray, StoreArray, LoadOwnStructure, StoreStructure, SwapGrey, Blacken, LoadStructure, LoadArray, LoadSlot, LoadElementOf, LoadAgain, LoadTarget, Mark, UnBlacken, PushRace, Publish, ClaimBlock, LoadDead, ZeroWord, GiveBits, Finish}
-use Rattle.tide_machine.specs.May.{called}
-use Rattle.tide_machine.specs.Duties.{is_growing}
-use Rattle.tide_machine.specs.Owed.{owed_register, filled_register, owed_word}
-use Rattle.tide_machine.specs.Scanning.{rests_now}
-use Rattle.tide_machine.specs.Words.{cell_named, cells_in}
-use Rattle.tide_machine.specs.Views.{changed, with_entry, with_own}
-use Rattle.tide_machine.specs.declared.view.Duty.TheVariants as duty
-use Rattle.tide_machine.specs.declared.view.Role.{Role}
-use Rattle.tide_machine.specs.declared.view.View.{View}
-use Rattle.tide_machine.specs.kinds.LoadFree.{searched_view, looked_view}
-use Rattle.tide_machine.specs.kinds.StorePrivateElement.{element_view, stored_element_view}
-use Rattle.tide_machine.specs.kinds.StoreStructure.{structured_view}
-use Rattle.tide_machine.specs.kinds.SwapGrey.{swapped_view}
-use Rattle.tide_machine.specs.kinds.Sweep.{claimed_view, cleared_from, dead_view, saw_word, with_swept}
-use Rattle.tide_machine.specs.kinds.TakeArray.{array_view, array_at, grown_view}
+use Rattle.tide_core.specs.machine.Kind.{Kind, Retire, LoadRegister, StoreRegister, LoadCall, StoreCall, LoadStrong, StoreStrong, LoadWeak, StoreWeak, LoadLink, StoreLink, LoadColour, Regrey, PushBit, LoadFree, TakeFree, StoreBorn, LoadPair, StorePair, StoreGroup, LoadClaim, TakeClaim, Release, LoadElement, StoreElement, TakeArray, Nuke, LoadOwnArray, StoreArray, LoadOwnStructure, StoreStructure, SwapGrey, Blacken, LoadStructure, LoadArray, LoadSlot, LoadElementOf, LoadAgain, LoadTarget, Mark, UnBlacken, PushRace, Publish, ClaimBlock, LoadDead, ZeroWord, GiveBits, Finish}
+use Rattle.tide_core.specs.machine.May.{called}
+use Rattle.tide_core.specs.machine.Duties.{is_growing}
+use Rattle.tide_core.specs.machine.Owed.{owed_register, filled_register, owed_word}
+use Rattle.tide_core.specs.machine.Scanning.{rests_now}
+use Rattle.tide_core.specs.machine.Words.{cell_named, cells_in}
+use Rattle.tide_core.specs.machine.Views.{changed, with_entry, with_own}
+use Rattle.tide_core.specs.declared.machine.view.Duty.TheVariants as duty
+use Rattle.tide_core.specs.declared.machine.view.Role.{Role}
+use Rattle.tide_core.specs.declared.machine.view.View.{View}
+use Rattle.tide_core.specs.machine.kinds.LoadFree.{searched_view, looked_view}
+use Rattle.tide_core.specs.machine.kinds.StorePrivateElement.{element_view, stored_element_view}
+use Rattle.tide_core.specs.machine.kinds.StoreStructure.{structured_view}
+use Rattle.tide_core.specs.machine.kinds.SwapGrey.{swapped_view}
+use Rattle.tide_core.specs.machine.kinds.Sweep.{claimed_view, cleared_from, dead_view, saw_word, with_swept}
+use Rattle.tide_core.specs.machine.kinds.TakeArray.{array_view, array_at, grown_view}
 use Rattle.tide_model.specs.History.{state_after}
 use Rattle.tide_model.specs.Layout.{Layout}
 use Rattle.tide_model.specs.Refused.{ShapeLists}

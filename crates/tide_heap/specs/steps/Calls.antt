@@ -2,9 +2,9 @@
 use Rattle.std.specs.Prelude.{ℕ, ◌≡◌, ◌<◌, true}
 use Rattle.tide_layout.specs.Region.{place_in, size_of}
 use Rattle.tide_layout.specs.declared.region.Region.{Region}
-use Rattle.tide_machine.specs.Kind.{Kind, ZeroWord}
-use Rattle.tide_machine.specs.declared.act.Act.{Act}
-use Rattle.tide_machine.specs.declared.act.Act.TheVariants.{Load, Store, Swap, And, Or, Exchange}
+use Rattle.tide_core.specs.machine.Kind.{Kind, ZeroWord}
+use Rattle.tide_core.specs.declared.machine.act.Act.{Act}
+use Rattle.tide_core.specs.declared.machine.act.Act.TheVariants.{Load, Store, Swap, And, Or, Exchange}
 use Rattle.tide_heap.specs.steps.Follows.{MayStep, Follows}
 use Rattle.tide_heap.specs.declared.heap.Heap.{Heap}
 use Rattle.tide_heap.specs.declared.steps.pass.Pass.{Pass}

@@ -1,15 +1,15 @@
 -- What a participant's step asks, and what it tells its caller.
 use Rattle.std.specs.Prelude.{ℕ, ◌≡◌, ◌<◌, true, List, filter}
 use Rattle.tide_layout.specs.Region.{place_in, size_of}
-use Rattle.tide_machine.specs.Kind.{Kind, LoadCall, LoadRegister, region_of, index_of, act_of}
-use Rattle.tide_machine.specs.Machine.{IsAllowed}
-use Rattle.tide_machine.specs.Moment.{Moment}
-use Rattle.tide_machine.specs.RunningWave.{RunningWave}
-use Rattle.tide_machine.specs.Views.{view_after}
-use Rattle.tide_machine.specs.World.{World}
-use Rattle.tide_machine.specs.declared.act.Act.{Act}
-use Rattle.tide_machine.specs.declared.act.Act.TheVariants.{Load, Store, Swap, And, Or, Exchange}
-use Rattle.tide_machine.specs.declared.view.View.{View}
+use Rattle.tide_core.specs.machine.Kind.{Kind, LoadCall, LoadRegister, region_of, index_of, act_of}
+use Rattle.tide_core.specs.machine.Machine.{IsAllowed}
+use Rattle.tide_core.specs.machine.Moment.{Moment}
+use Rattle.tide_core.specs.machine.RunningWave.{RunningWave}
+use Rattle.tide_core.specs.machine.Views.{view_after}
+use Rattle.tide_core.specs.machine.World.{World}
+use Rattle.tide_core.specs.declared.machine.act.Act.{Act}
+use Rattle.tide_core.specs.declared.machine.act.Act.TheVariants.{Load, Store, Swap, And, Or, Exchange}
+use Rattle.tide_core.specs.declared.machine.view.View.{View}
 use Rattle.tide_model.specs.History.{is_call_of}
 use Rattle.tide_model.specs.Lawful.{IsLawful}
 use Rattle.tide_model.specs.Layout.{Layout}

@@ -1,6 +1,6 @@
 -- What the numbers of passes, notes and tickets mean: the fields of the views that their seats have.
 use Rattle.std.specs.Prelude.{◌≡◌, ◌<◌, ◌^◌}
-use Rattle.tide_machine.specs.declared.view.View.{View}
+use Rattle.tide_core.specs.declared.machine.view.View.{View}
 use Rattle.tide_heap.specs.declared.steps.pass.Numbers.{Numbers}
 
 -- a participant's numbers are those of its view

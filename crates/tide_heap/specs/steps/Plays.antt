@@ -2,10 +2,10 @@
 -- found, and the seat after.
 use Rattle.std.specs.Prelude.{ℕ, ◌≡◌, []}
 use Rattle.atomic_table.specs.Table.{Me, Step}
-use Rattle.tide_machine.specs.Kind.{Kind}
-use Rattle.tide_machine.specs.declared.view.View.{View}
-use Rattle.tide_machine.specs.kinds.Activate.{begun_view}
-use Rattle.tide_machine.specs.kinds.StoreStopped.{stopped_view}
+use Rattle.tide_core.specs.machine.Kind.{Kind}
+use Rattle.tide_core.specs.declared.machine.view.View.{View}
+use Rattle.tide_core.specs.machine.kinds.Activate.{begun_view}
+use Rattle.tide_core.specs.machine.kinds.StoreStopped.{stopped_view}
 use Rattle.tide_model.specs.Layout.{Layout}
 use Rattle.tide_model.specs.Prefix.{IsPrefix}
 use Rattle.tide_model.specs.Refused.{ShapeLists}

@@ -3,8 +3,8 @@ use Rattle.std.specs.Prelude.{ℕ, ◌-◌, nat_lt, if◌then◌else◌}
 use Rattle.tide_layout.specs.Region.{base_of}
 use Rattle.tide_layout.specs.declared.region.Region.{Region}
 use Rattle.tide_layout.specs.declared.region.Region.TheVariants.{Structure, Array, Claim, Group, Slots, Elements}
-use Rattle.tide_machine.specs.Kind as kind
-use Rattle.tide_machine.specs.Kind.{Kind}
+use Rattle.tide_core.specs.machine.Kind as kind
+use Rattle.tide_core.specs.machine.Kind.{Kind}
 use Rattle.tide_model.specs.Layout.{Layout}
 use Rattle.tide_heap.specs.declared.steps.step.Step.{Step}
 use Rattle.tide_heap.specs.declared.steps.step.Step.TheVariants as step

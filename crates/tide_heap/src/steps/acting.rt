@@ -1,8 +1,8 @@
 //! A participant's operation on a word. Which kind of step it makes is picked by its caller.
 ghost use Rattle.std.specs.Prelude.{◌≡◌, true};
 ghost use Rattle.tide_layout.specs.Region.{place_in, size_of};
-ghost use Rattle.tide_machine.specs.Kind.{act_of, index_of, region_of};
-ghost use Rattle.tide_machine.specs.declared.view.Role.TheVariants.{Member};
+ghost use Rattle.tide_core.specs.machine.Kind.{act_of, index_of, region_of};
+ghost use Rattle.tide_core.specs.declared.machine.view.Role.TheVariants.{Member};
 ghost use Rattle.tide_heap.specs.steps.Calls.{CanStep, HasActed};
 ghost use Rattle.tide_heap.specs.steps.Follows.{May, StandsAt, Tells};
 ghost use Rattle.tide_heap.specs.steps.Steps.{kind_of};
@@ -15,7 +15,7 @@ use atomic_table::Seat;
 use std::marker::Brand;
 use crate::heap::Heap;
 use crate::shapes::HeapShapes;
-use tide_machine::{Act, View};
+use tide_core::{Act, View};
 
 /// Does an operation on a word. Answers the word that was there, and of a store the one that was stored.
 pub(crate) fn act_as<S: HeapShapes, J: Intent>(
@@ -34,7 +34,7 @@ pub(crate) fn act_as<S: HeapShapes, J: Intent>(
     ensures step { Tells act J.layout J.shapes J.kind seat.old.me.0 result seat.new.me.0 }
 {
     // Each is one sequentially consistent operation on one word, so all steps of all participants have one order. The
-    // history's entries have that order (`stepped`, tide_machine/specs/Machine.antt).
+    // history's entries have that order (`stepped`, tide_core/specs/machine/Machine.antt).
     let table = &heap.table.shared;
     match act {
         Act::Load => table.load::<Finds<J>>(seat, at),

@@ -1,10 +1,10 @@
 //! A participant hears a ticket and begins, stops, and hands out its note. It makes no call.
 ghost use Rattle.std.specs.Prelude.{◌≡◌, ◌↔◌, ◌<◌, ◌||◌, true, false};
-ghost use Rattle.tide_machine.specs.May.{Rests};
-ghost use Rattle.tide_machine.specs.Progress.{HasWholeRound};
-ghost use Rattle.tide_machine.specs.kinds.Activate.{begun_view};
-ghost use Rattle.tide_machine.specs.kinds.Split.{split_view};
-ghost use Rattle.tide_machine.specs.kinds.StoreStopped.{stopped_view};
+ghost use Rattle.tide_core.specs.machine.May.{Rests};
+ghost use Rattle.tide_core.specs.machine.Progress.{HasWholeRound};
+ghost use Rattle.tide_core.specs.machine.kinds.Activate.{begun_view};
+ghost use Rattle.tide_core.specs.machine.kinds.Split.{split_view};
+ghost use Rattle.tide_core.specs.machine.kinds.StoreStopped.{stopped_view};
 ghost use Rattle.tide_model.specs.Prefix.{IsPrefix};
 ghost use Rattle.tide_heap.specs.Done.{done_by_numbers, HasDonePart};
 ghost use Rattle.tide_heap.specs.Parties.{IsParty};
@@ -51,7 +51,7 @@ impl Pass {
     {
         // The word has the number that its ticket tells: the next part is opened after a freeze, which waits for this
         // participant's note. Phase, cycle and base are those of the ticket till then (`NumbersRead`: `told`,
-        // tide_machine/specs/points/Seen.antt).
+        // tide_core/specs/machine/points/Seen.antt).
         let period = heap.table.shared.load::<Begins>(&mut self.seat, 0);
         if self.numbers.begun != self.numbers.part {
             self.numbers.begun = self.numbers.part;
@@ -91,7 +91,7 @@ impl Pass {
         let at = heap.layout().place(Region::Stopped, index);
         let part = u64::from(self.numbers.part);
         // All that its calls owed is stored before: who doesn't run owes and holds nothing (`ParkedIsEmpty`,
-        // tide_machine/specs/points/Seen.antt). The word tells in which part that was so last (`StopsAreTold`,
+        // tide_core/specs/machine/points/Seen.antt). The word tells in which part that was so last (`StopsAreTold`,
         // points/Stops.antt).
         heap.table.shared.store::<Stops>(&mut self.seat, at, part);
     }

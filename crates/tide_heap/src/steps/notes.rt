@@ -1,11 +1,11 @@
 //! `Note` and `Ticket`: what a participant hands in at a stop, and what it begins a part with.
 ghost use Rattle.std.specs.Prelude.{◌≡◌, ◌<◌, ◌^◌, []};
-ghost use Rattle.tide_machine.specs.declared.view.Role.TheVariants as role;
+ghost use Rattle.tide_core.specs.declared.machine.view.Role.TheVariants as role;
 ghost use Rattle.tide_heap.specs.steps.Numbers.{AreOf};
 
 use crate::steps::pass::Numbers;
 use atomic_table::Seat;
-use tide_machine::View;
+use tide_core::View;
 
 /// What a participant hands in at a stop.
 #[derive(Drop)]

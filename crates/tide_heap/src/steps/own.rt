@@ -1,6 +1,6 @@
 //! A mutator's steps on its own words, and on handles.
 ghost use Rattle.std.specs.Prelude.{◌≡◌, ◌<◌, ◌%◌, ◌^◌, Some};
-ghost use Rattle.tide_machine.specs.Kind.{LoadCall, LoadRegister, LoadStrong, LoadWeak, Retire, StoreCall, StoreRegister, StoreStrong, StoreWeak};
+ghost use Rattle.tide_core.specs.machine.Kind.{LoadCall, LoadRegister, LoadStrong, LoadWeak, Retire, StoreCall, StoreRegister, StoreStrong, StoreWeak};
 ghost use Rattle.tide_model.specs.declared.op.Op.TheVariants as op;
 ghost use Rattle.tide_heap.specs.steps.Calls.{CanStep, HasStepped, HasStored};
 
@@ -10,7 +10,7 @@ use crate::heap::Heap;
 use crate::shapes::HeapShapes;
 use crate::steps::{Made, Pass};
 use std::marker::Brand;
-use tide_machine::Act;
+use tide_core::Act;
 use tide_model::Op;
 use tide_words::Region;
 

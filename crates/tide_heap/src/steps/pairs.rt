@@ -2,7 +2,7 @@
 ghost use Rattle.std.specs.Prelude.{◌≡◌, ◌<◌, None};
 ghost use Rattle.tide_layout.specs.Region.{place_of_slot};
 ghost use Rattle.tide_layout.specs.Slots.{HasSlot};
-ghost use Rattle.tide_machine.specs.Kind.{LoadClaim, LoadPair, Release, StoreGroup, StorePair, TakeClaim};
+ghost use Rattle.tide_core.specs.machine.Kind.{LoadClaim, LoadPair, Release, StoreGroup, StorePair, TakeClaim};
 ghost use Rattle.tide_model.specs.Layout.{cell_count};
 ghost use Rattle.tide_heap.specs.steps.Calls.{CanStep, HasStepped, HasStored};
 
@@ -10,7 +10,7 @@ use crate::steps::step::Step;
 use crate::heap::Heap;
 use crate::shapes::HeapShapes;
 use crate::steps::{Made, Pass};
-use tide_machine::Act;
+use tide_core::Act;
 use tide_words::{Region, claim_word};
 
 impl Pass {

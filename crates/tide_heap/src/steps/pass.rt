@@ -1,11 +1,11 @@
 //! `Pass`: one participant's right to take steps, and the numbers that it carries. It makes no step.
 ghost use Rattle.std.specs.Prelude.{◌≡◌};
-ghost use Rattle.tide_machine.specs.Frozen.{newcomer};
-ghost use Rattle.tide_machine.specs.declared.view.Role.TheVariants.{Member};
+ghost use Rattle.tide_core.specs.machine.Frozen.{newcomer};
+ghost use Rattle.tide_core.specs.declared.machine.view.Role.TheVariants.{Member};
 ghost use Rattle.tide_heap.specs.steps.Numbers.{AreOf};
 
 use atomic_table::Seat;
-use tide_machine::View;
+use tide_core::View;
 
 /// What a participant knows of its part in numbers.
 #[derive(Clone, Copy)]

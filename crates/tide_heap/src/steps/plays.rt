@@ -1,7 +1,7 @@
 //! What each step of a participant tells, for proofs alone. No value of these types is made.
 ghost use Rattle.std.specs.Prelude.{[], false, true};
-ghost use Rattle.tide_machine.specs.Kind.{Kind, LoadCall};
-ghost use Rattle.tide_machine.specs.kinds.Split.{split_view};
+ghost use Rattle.tide_core.specs.machine.Kind.{Kind, LoadCall};
+ghost use Rattle.tide_core.specs.machine.kinds.Split.{split_view};
 ghost use Rattle.tide_model.specs.Layout.{Layout as model};
 ghost use Rattle.tide_model.specs.Refused.{ShapeLists};
 ghost use Rattle.tide_heap.specs.steps.Plays.{has_followed, has_followed_some, has_begun, has_stopped, no_layout};
@@ -9,7 +9,7 @@ ghost use Rattle.tide_heap.specs.Turns.{heard_view, note_of, spent};
 
 use atomic_table::{Join, Play, Split};
 use std::marker::{Brand, PhantomData};
-use tide_machine::View;
+use tide_core::View;
 
 /// Which step of a participant it is. Each call picks it.
 pub(crate) trait Intent {

@@ -2,7 +2,7 @@
 ghost use Rattle.std.specs.Prelude.{◌<◌};
 ghost use Rattle.tide_layout.specs.Region.{block_count};
 ghost use Rattle.tide_layout.specs.Slots.{HasElement};
-ghost use Rattle.tide_machine.specs.Kind.{LoadElement, LoadOwnArray, LoadOwnStructure, Nuke, StoreArray, StoreElement, StoreStructure, TakeArray};
+ghost use Rattle.tide_core.specs.machine.Kind.{LoadElement, LoadOwnArray, LoadOwnStructure, Nuke, StoreArray, StoreElement, StoreStructure, TakeArray};
 ghost use Rattle.tide_model.specs.Layout.{cell_count};
 ghost use Rattle.tide_heap.specs.steps.Calls.{CanStep, HasStepped, HasStored};
 
@@ -10,7 +10,7 @@ use crate::steps::step::Step;
 use crate::heap::Heap;
 use crate::shapes::HeapShapes;
 use crate::steps::{Made, Pass};
-use tide_machine::Act;
+use tide_core::Act;
 use tide_words::{Region, array_word};
 
 impl Pass {

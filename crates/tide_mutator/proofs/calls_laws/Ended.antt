@@ -6,10 +6,10 @@ use Rattle.tide_call.specs.PlanWords.{PlanWords}
 use Rattle.tide_call.specs.Plans.{IsPlan}
 use Rattle.tide_call.specs.declared.plan.Plan.{Plan}
 use Rattle.tide_call.specs.declared.plan.Plan.TheVariants as plan
-use Rattle.tide_machine.specs.Entries.{call_of}
-use Rattle.tide_machine.specs.May.{IsBetweenCalls, Rests}
-use Rattle.tide_machine.specs.Own.{Own}
-use Rattle.tide_machine.specs.declared.view.View.{View}
+use Rattle.tide_core.specs.machine.Entries.{call_of}
+use Rattle.tide_core.specs.machine.May.{IsBetweenCalls, Rests}
+use Rattle.tide_core.specs.machine.Own.{Own}
+use Rattle.tide_core.specs.declared.machine.view.View.{View}
 use Rattle.tide_model.proofs.Histories.{state_after-push}
 use Rattle.tide_model.specs.History.{is_call_of, state_after}
 use Rattle.tide_model.specs.Layout.{Layout}

@@ -6,16 +6,16 @@ use Rattle.tide_layout.specs.Region.{tag}
 use Rattle.tide_layout.specs.Slots.{HasSlot, index_of_slot}
 use Rattle.tide_layout.specs.declared.region.Region.{Region}
 use Rattle.tide_layout.specs.declared.region.Region.TheVariants as region
-use Rattle.tide_machine.proofs.steps.Lists.{in_one}
-use Rattle.tide_machine.specs.Kind.{LoadOwnArray, LoadOwnStructure, LoadPair}
-use Rattle.tide_machine.specs.May.{RunsAsMutator}
-use Rattle.tide_machine.specs.Moment.{Moment}
-use Rattle.tide_machine.specs.Owed.{IsOwnWord, Knows, own_array, own_pair, own_structure, owed_word}
-use Rattle.tide_machine.specs.RunningWave.{RunningWave}
-use Rattle.tide_machine.specs.World.{World}
-use Rattle.tide_machine.specs.declared.view.Owed.{Owed}
-use Rattle.tide_machine.specs.declared.view.View.{View}
-use Rattle.tide_machine.specs.kinds.StoreArray.{MayLoadOwn}
+use Rattle.tide_core.proofs.machine_laws.steps.Lists.{in_one}
+use Rattle.tide_core.specs.machine.Kind.{LoadOwnArray, LoadOwnStructure, LoadPair}
+use Rattle.tide_core.specs.machine.May.{RunsAsMutator}
+use Rattle.tide_core.specs.machine.Moment.{Moment}
+use Rattle.tide_core.specs.machine.Owed.{IsOwnWord, Knows, own_array, own_pair, own_structure, owed_word}
+use Rattle.tide_core.specs.machine.RunningWave.{RunningWave}
+use Rattle.tide_core.specs.machine.World.{World}
+use Rattle.tide_core.specs.declared.machine.view.Owed.{Owed}
+use Rattle.tide_core.specs.declared.machine.view.View.{View}
+use Rattle.tide_core.specs.machine.kinds.StoreArray.{MayLoadOwn}
 use Rattle.tide_model.specs.History.{state_after}
 use Rattle.tide_model.specs.Layout.{Layout, cell_count}
 use Rattle.tide_model.specs.Refused.{ShapeLists, is_table}

@@ -4,9 +4,9 @@ use Rattle.tide_call.specs.Callers.{Caller, CallsIn, MayCallNow, OwnHeaps}
 use Rattle.tide_call.specs.Plans.{IsPlan}
 use Rattle.tide_call.specs.declared.plan.Plan.{Plan}
 use Rattle.tide_layout.specs.declared.region.Region.{Region}
-use Rattle.tide_machine.specs.Moment.{Moment}
-use Rattle.tide_machine.specs.declared.view.Growth.TheVariants.{Nothing}
-use Rattle.tide_machine.specs.declared.view.View.{View}
+use Rattle.tide_core.specs.machine.Moment.{Moment}
+use Rattle.tide_core.specs.declared.machine.view.Growth.TheVariants.{Nothing}
+use Rattle.tide_core.specs.declared.machine.view.View.{View}
 use Rattle.tide_model.specs.History.{state_after}
 use Rattle.tide_model.specs.Layout.{Layout}
 use Rattle.tide_model.specs.Refused.{ShapeLists}

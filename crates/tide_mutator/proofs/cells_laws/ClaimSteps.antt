@@ -10,16 +10,16 @@ use Rattle.tide_call.specs.PlanWords.{PlanWords}
 use Rattle.tide_call.specs.Plans.{IsPlan, is_told_by_registers}
 use Rattle.tide_call.specs.declared.plan.Plan.TheVariants as plan
 use Rattle.tide_layout.specs.declared.region.Region.TheVariants as region
-use Rattle.tide_machine.specs.Entries.{call_of, reply_of_call}
-use Rattle.tide_machine.specs.Kind.{LoadClaim, TakeClaim, Release as ReleaseStep}
-use Rattle.tide_machine.specs.May.{MayCall, called}
-use Rattle.tide_machine.specs.Moment.{Moment}
-use Rattle.tide_machine.specs.Views.{with_entry}
-use Rattle.tide_machine.specs.World.{World}
-use Rattle.tide_machine.specs.declared.view.Duty.TheVariants.{Nothing}
-use Rattle.tide_machine.specs.declared.view.View.{View}
-use Rattle.tide_machine.specs.kinds.ClaimCell.{HasNoRoom, MayLoadClaim, MayTakeClaim}
-use Rattle.tide_machine.specs.kinds.ReleaseCell.{MayRelease}
+use Rattle.tide_core.specs.machine.Entries.{call_of, reply_of_call}
+use Rattle.tide_core.specs.machine.Kind.{LoadClaim, TakeClaim, Release as ReleaseStep}
+use Rattle.tide_core.specs.machine.May.{MayCall, called}
+use Rattle.tide_core.specs.machine.Moment.{Moment}
+use Rattle.tide_core.specs.machine.Views.{with_entry}
+use Rattle.tide_core.specs.machine.World.{World}
+use Rattle.tide_core.specs.declared.machine.view.Duty.TheVariants.{Nothing}
+use Rattle.tide_core.specs.declared.machine.view.View.{View}
+use Rattle.tide_core.specs.machine.kinds.ClaimCell.{HasNoRoom, MayLoadClaim, MayTakeClaim}
+use Rattle.tide_core.specs.machine.kinds.ReleaseCell.{MayRelease}
 use Rattle.tide_model.proofs.ClaimLaws.{ClaimsAreOwn-lawful}
 use Rattle.tide_model.specs.History.{state_after}
 use Rattle.tide_model.specs.Layout.{Layout, cell_count}

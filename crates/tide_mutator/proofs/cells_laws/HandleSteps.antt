@@ -6,14 +6,14 @@ use Rattle.tide_call.specs.Plans.{IsPlan, is_told_by_registers}
 use Rattle.tide_call.specs.declared.plan.Plan.TheVariants as plan
 use Rattle.tide_layout.specs.Region.{index_of_register}
 use Rattle.tide_layout.specs.declared.region.Region.TheVariants as region
-use Rattle.tide_machine.specs.Kind.{LoadStrong, LoadWeak, StoreStrong, StoreWeak}
-use Rattle.tide_machine.specs.May.{MayCall, called}
-use Rattle.tide_machine.specs.Owed.{filled_register, owed_register}
-use Rattle.tide_machine.specs.Words.{value_of}
-use Rattle.tide_machine.specs.declared.view.Duty.TheVariants.{Nothing}
-use Rattle.tide_machine.specs.declared.view.View.{View}
-use Rattle.tide_machine.specs.Moment.{Moment}
-use Rattle.tide_machine.specs.kinds.StoreRootWord.{MayLoadStrong, MayLoadWeak, MayStoreStrong, MayStoreWeak, seen_view}
+use Rattle.tide_core.specs.machine.Kind.{LoadStrong, LoadWeak, StoreStrong, StoreWeak}
+use Rattle.tide_core.specs.machine.May.{MayCall, called}
+use Rattle.tide_core.specs.machine.Owed.{filled_register, owed_register}
+use Rattle.tide_core.specs.machine.Words.{value_of}
+use Rattle.tide_core.specs.declared.machine.view.Duty.TheVariants.{Nothing}
+use Rattle.tide_core.specs.declared.machine.view.View.{View}
+use Rattle.tide_core.specs.machine.Moment.{Moment}
+use Rattle.tide_core.specs.machine.kinds.StoreRootWord.{MayLoadStrong, MayLoadWeak, MayStoreStrong, MayStoreWeak, seen_view}
 use Rattle.tide_model.specs.History.{state_after}
 use Rattle.tide_model.specs.Layout.{Layout}
 use Rattle.tide_model.specs.Refused.{ShapeLists}

@@ -8,11 +8,11 @@ use Rattle.tide_layout.specs.declared.region.Region.{Region}
 use Rattle.tide_layout.specs.declared.region.Region.TheVariants.{Free}
 use Rattle.tide_mutator.proofs.cells_laws.Looking.{looked_once}
 use Rattle.tide_mutator.specs.cells.Searching.{HasLooked, HasSeen}
-use Rattle.tide_machine.specs.Kind.{LoadFree}
-use Rattle.tide_machine.specs.Moment.{Moment}
-use Rattle.tide_machine.specs.declared.view.Cleared.{Cleared}
-use Rattle.tide_machine.specs.declared.view.Found.{Found}
-use Rattle.tide_machine.specs.declared.view.View.{View}
+use Rattle.tide_core.specs.machine.Kind.{LoadFree}
+use Rattle.tide_core.specs.machine.Moment.{Moment}
+use Rattle.tide_core.specs.declared.machine.view.Cleared.{Cleared}
+use Rattle.tide_core.specs.declared.machine.view.Found.{Found}
+use Rattle.tide_core.specs.declared.machine.view.View.{View}
 use Rattle.tide_model.specs.Caller.{IsOwn}
 use Rattle.tide_model.specs.History.{is_call_of}
 use Rattle.tide_model.specs.Layout.{Layout}

@@ -3,12 +3,12 @@ use Rattle.std.proofs.Common.{ℕ, ◌≡◌, refl, subst, arith, true, List, []
 use Rattle.std.specs.Prelude.{Contains}
 use Rattle.tide_layout.proofs.SlotPlaces.{index_of_element-alone, index_of_slot-alone}
 use Rattle.tide_layout.specs.declared.region.Region.{Region}
-use Rattle.tide_machine.proofs.steps.Owning.{own_alone}
-use Rattle.tide_machine.specs.Moment.{Moment}
-use Rattle.tide_machine.specs.DeadWords.{IsOfDead}
-use Rattle.tide_machine.specs.Owed.{IsOwnWord, owed_word, own_register, own_structure, own_array, own_pair, own_element}
-use Rattle.tide_machine.specs.declared.view.Owed.{Owed}
-use Rattle.tide_machine.specs.declared.view.View.{View}
+use Rattle.tide_core.proofs.machine_laws.steps.Owning.{own_alone}
+use Rattle.tide_core.specs.machine.Moment.{Moment}
+use Rattle.tide_core.specs.machine.DeadWords.{IsOfDead}
+use Rattle.tide_core.specs.machine.Owed.{IsOwnWord, owed_word, own_register, own_structure, own_array, own_pair, own_element}
+use Rattle.tide_core.specs.declared.machine.view.Owed.{Owed}
+use Rattle.tide_core.specs.declared.machine.view.View.{View}
 use Rattle.tide_model.proofs.ClaimLaws.{ClaimsAreOwn-lawful}
 use Rattle.tide_model.specs.History.{state_after}
 use Rattle.tide_model.specs.Layout.{Layout}

@@ -9,17 +9,17 @@ use Rattle.tide_call.specs.declared.plan.Plan.TheVariants as plan
 use Rattle.tide_layout.specs.Region.{index_of_register}
 use Rattle.tide_layout.specs.Slots.{HasSlot, index_of_slot}
 use Rattle.tide_layout.specs.declared.region.Region.TheVariants as region
-use Rattle.tide_machine.proofs.WordLaws.{value_of_pair_word}
-use Rattle.tide_machine.specs.Kind.{LoadPair, StorePair}
-use Rattle.tide_machine.specs.May.{MayCall, called}
-use Rattle.tide_machine.specs.Moment.{Moment}
-use Rattle.tide_machine.specs.Owed.{filled_register, own_pair, owed_register}
-use Rattle.tide_machine.specs.RunningWave.{RunningWave}
-use Rattle.tide_machine.specs.Words.{value_of_pair}
-use Rattle.tide_machine.specs.World.{World}
-use Rattle.tide_machine.specs.declared.view.Duty.TheVariants.{Nothing}
-use Rattle.tide_machine.specs.declared.view.View.{View}
-use Rattle.tide_machine.specs.kinds.StorePlainWord.{IsOwnPair, MayLoadPair, MayStorePair, paired_view}
+use Rattle.tide_core.proofs.machine_laws.WordLaws.{value_of_pair_word}
+use Rattle.tide_core.specs.machine.Kind.{LoadPair, StorePair}
+use Rattle.tide_core.specs.machine.May.{MayCall, called}
+use Rattle.tide_core.specs.machine.Moment.{Moment}
+use Rattle.tide_core.specs.machine.Owed.{filled_register, own_pair, owed_register}
+use Rattle.tide_core.specs.machine.RunningWave.{RunningWave}
+use Rattle.tide_core.specs.machine.Words.{value_of_pair}
+use Rattle.tide_core.specs.machine.World.{World}
+use Rattle.tide_core.specs.declared.machine.view.Duty.TheVariants.{Nothing}
+use Rattle.tide_core.specs.declared.machine.view.View.{View}
+use Rattle.tide_core.specs.machine.kinds.StorePlainWord.{IsOwnPair, MayLoadPair, MayStorePair, paired_view}
 use Rattle.tide_model.proofs.NumberLaws.{contains_from_among}
 use Rattle.tide_model.specs.History.{state_after}
 use Rattle.tide_model.specs.Layout.{Layout}

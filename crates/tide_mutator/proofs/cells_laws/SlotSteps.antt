@@ -8,16 +8,16 @@ use Rattle.tide_call.specs.declared.plan.Plan.TheVariants as plan
 use Rattle.tide_layout.specs.Region.{index_of_register}
 use Rattle.tide_layout.specs.Slots.{index_of_slot}
 use Rattle.tide_layout.specs.declared.region.Region.TheVariants as region
-use Rattle.tide_machine.specs.Kind.{LoadLink, StoreLink}
-use Rattle.tide_machine.specs.May.{MayCall, barrier_for}
-use Rattle.tide_machine.specs.Moment.{Moment}
-use Rattle.tide_machine.specs.Owed.{filled_register, owed_register}
-use Rattle.tide_machine.specs.Words.{value_of}
-use Rattle.tide_machine.specs.declared.view.Duty.TheVariants.{Nothing}
-use Rattle.tide_machine.specs.declared.view.View.{View}
-use Rattle.tide_machine.specs.kinds.LoadLink.{MayLoadLink}
-use Rattle.tide_machine.specs.kinds.StoreLink.{MayStoreLink, linked_view}
-use Rattle.tide_machine.specs.kinds.StoreRootWord.{seen_view}
+use Rattle.tide_core.specs.machine.Kind.{LoadLink, StoreLink}
+use Rattle.tide_core.specs.machine.May.{MayCall, barrier_for}
+use Rattle.tide_core.specs.machine.Moment.{Moment}
+use Rattle.tide_core.specs.machine.Owed.{filled_register, owed_register}
+use Rattle.tide_core.specs.machine.Words.{value_of}
+use Rattle.tide_core.specs.declared.machine.view.Duty.TheVariants.{Nothing}
+use Rattle.tide_core.specs.declared.machine.view.View.{View}
+use Rattle.tide_core.specs.machine.kinds.LoadLink.{MayLoadLink}
+use Rattle.tide_core.specs.machine.kinds.StoreLink.{MayStoreLink, linked_view}
+use Rattle.tide_core.specs.machine.kinds.StoreRootWord.{seen_view}
 use Rattle.tide_model.specs.History.{state_after}
 use Rattle.tide_model.specs.Layout.{Layout, class_of, slots_of}
 use Rattle.tide_model.specs.Refused.{ShapeLists}

@@ -7,10 +7,10 @@ use Rattle.tide_layout.specs.Region.{tag}
 use Rattle.tide_layout.specs.Slots.{index_of_slot}
 use Rattle.tide_layout.specs.declared.region.Region.{Region}
 use Rattle.tide_layout.specs.declared.region.Region.TheVariants as region
-use Rattle.tide_machine.specs.DeadWords.{IsOfDead}
-use Rattle.tide_machine.specs.Moment.{Moment}
-use Rattle.tide_machine.specs.Owed.{IsOwnWord, own_register, own_structure, own_array, own_pair, own_element}
-use Rattle.tide_machine.specs.declared.view.View.{View}
+use Rattle.tide_core.specs.machine.DeadWords.{IsOfDead}
+use Rattle.tide_core.specs.machine.Moment.{Moment}
+use Rattle.tide_core.specs.machine.Owed.{IsOwnWord, own_register, own_structure, own_array, own_pair, own_element}
+use Rattle.tide_core.specs.declared.machine.view.View.{View}
 use Rattle.tide_model.specs.History.{state_after}
 use Rattle.tide_model.specs.Layout.{Layout, cell_count, class_of, slots_of}
 use Rattle.tide_model.specs.References.{IsLive}

@@ -1,7 +1,7 @@
 -- The value of a word.
 use Rattle.std.proofs.Common.{ℕ, sym, ◌∙◌, ap, subst}
-use Rattle.tide_machine.proofs.WordLaws.{value_of_word}
-use Rattle.tide_machine.specs.Words.{value_of}
+use Rattle.tide_core.proofs.machine_laws.WordLaws.{value_of_word}
+use Rattle.tide_core.specs.machine.Words.{value_of}
 use Rattle.tide_model.specs.declared.val.Val.{Val}
 use Rattle.tide_words.specs.heap.Reading.{IsValueOf}
 

@@ -6,12 +6,12 @@ use Rattle.tide_call.specs.PlanWords.{PlanWords}
 use Rattle.tide_call.specs.declared.plan.Plan.{Plan}
 use Rattle.tide_call.specs.declared.plan.Plan.TheVariants as plan
 use Rattle.tide_layout.specs.declared.region.Region.{Region}
-use Rattle.tide_machine.specs.Entries.{call_of}
-use Rattle.tide_machine.specs.May.{MayCall, IsBetweenCalls, RunsAsMutator}
-use Rattle.tide_machine.specs.Moment.{Moment}
-use Rattle.tide_machine.specs.Views.{with_entry}
-use Rattle.tide_machine.specs.World.{World}
-use Rattle.tide_machine.specs.declared.view.View.{View}
+use Rattle.tide_core.specs.machine.Entries.{call_of}
+use Rattle.tide_core.specs.machine.May.{MayCall, IsBetweenCalls, RunsAsMutator}
+use Rattle.tide_core.specs.machine.Moment.{Moment}
+use Rattle.tide_core.specs.machine.Views.{with_entry}
+use Rattle.tide_core.specs.machine.World.{World}
+use Rattle.tide_core.specs.declared.machine.view.View.{View}
 use Rattle.tide_model.proofs.ClaimLaws.{ClaimsAreOwn-lawful}
 use Rattle.tide_model.specs.History.{state_after, is_call_of}
 use Rattle.tide_model.specs.Lawful.{IsLawful}

@@ -5,11 +5,11 @@ use Rattle.std.specs.Prelude.{Contains, if◌then◌else◌, not, ◌==◌, ◌%
 use Rattle.tide_call.specs.declared.plan.Plan.{Plan}
 use Rattle.tide_layout.specs.Region.{index_of_register}
 use Rattle.tide_layout.specs.declared.region.Region.TheVariants.{Registers}
-use Rattle.tide_machine.specs.Kind.{StoreCall, StoreRegister}
-use Rattle.tide_machine.specs.Owed.{owed_register, owed_word, without_word}
-use Rattle.tide_machine.specs.declared.view.Duty.TheVariants.{Nothing}
-use Rattle.tide_machine.specs.declared.view.Owed.{Owed}
-use Rattle.tide_machine.specs.declared.view.View.{View}
+use Rattle.tide_core.specs.machine.Kind.{StoreCall, StoreRegister}
+use Rattle.tide_core.specs.machine.Owed.{owed_register, owed_word, without_word}
+use Rattle.tide_core.specs.declared.machine.view.Duty.TheVariants.{Nothing}
+use Rattle.tide_core.specs.declared.machine.view.Owed.{Owed}
+use Rattle.tide_core.specs.declared.machine.view.View.{View}
 use Rattle.tide_model.specs.Layout.{Layout}
 use Rattle.tide_model.specs.Refused.{ShapeLists}
 use Rattle.tide_model.specs.declared.op.Op.{Op}

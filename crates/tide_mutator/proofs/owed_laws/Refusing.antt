@@ -8,12 +8,12 @@ use Rattle.tide_call.specs.Plans.{IsPlan, is_told_by_registers}
 use Rattle.tide_call.specs.declared.plan.Plan.{Plan}
 use Rattle.tide_call.specs.declared.plan.Plan.TheVariants as plan
 use Rattle.tide_layout.specs.declared.region.Region.TheVariants.{Call as CallWord}
-use Rattle.tide_machine.specs.Entries.{call_of, class_taken, refused_or_full, reply_of_call}
-use Rattle.tide_machine.specs.Kind.{StoreCall}
-use Rattle.tide_machine.specs.Views.{with_entry}
-use Rattle.tide_machine.specs.declared.view.View.{View}
-use Rattle.tide_machine.specs.kinds.RegisterCall.{told_view}
-use Rattle.tide_machine.specs.May.{MayCall}
+use Rattle.tide_core.specs.machine.Entries.{call_of, class_taken, refused_or_full, reply_of_call}
+use Rattle.tide_core.specs.machine.Kind.{StoreCall}
+use Rattle.tide_core.specs.machine.Views.{with_entry}
+use Rattle.tide_core.specs.declared.machine.view.View.{View}
+use Rattle.tide_core.specs.machine.kinds.RegisterCall.{told_view}
+use Rattle.tide_core.specs.machine.May.{MayCall}
 use Rattle.tide_model.specs.History.{state_after}
 use Rattle.tide_model.specs.Layout.{Layout}
 use Rattle.tide_model.specs.Refused.{ShapeLists, refusal_of}

@@ -11,17 +11,17 @@ use Rattle.tide_layout.proofs.SlotPlaces.{index_of_element-alone}
 use Rattle.tide_layout.specs.Region.{tag}
 use Rattle.tide_layout.specs.Slots.{HasElement, index_of_element}
 use Rattle.tide_layout.specs.declared.region.Region.TheVariants as region
-use Rattle.tide_machine.specs.Duties.{nuked_growth, stored_growth}
-use Rattle.tide_machine.specs.Kind.{Nuke, StoreArray, StoreElement, StoreStructure}
-use Rattle.tide_machine.specs.May.{RunsAsMutator}
-use Rattle.tide_machine.specs.Owed.{Owes, owed_elements, owed_word, without_word}
-use Rattle.tide_machine.specs.RunningWave.{RunningWave}
-use Rattle.tide_machine.specs.World.{World}
-use Rattle.tide_machine.specs.declared.view.Growth.{Growth as Stage}
-use Rattle.tide_machine.specs.declared.view.Growth.TheVariants as growing
-use Rattle.tide_machine.specs.declared.view.Owed.{Owed}
-use Rattle.tide_machine.specs.declared.view.View.{View}
-use Rattle.tide_machine.specs.points.Growths.{GrowthKnows}
+use Rattle.tide_core.specs.machine.Duties.{nuked_growth, stored_growth}
+use Rattle.tide_core.specs.machine.Kind.{Nuke, StoreArray, StoreElement, StoreStructure}
+use Rattle.tide_core.specs.machine.May.{RunsAsMutator}
+use Rattle.tide_core.specs.machine.Owed.{Owes, owed_elements, owed_word, without_word}
+use Rattle.tide_core.specs.machine.RunningWave.{RunningWave}
+use Rattle.tide_core.specs.machine.World.{World}
+use Rattle.tide_core.specs.declared.machine.view.Growth.{Growth as Stage}
+use Rattle.tide_core.specs.declared.machine.view.Growth.TheVariants as growing
+use Rattle.tide_core.specs.declared.machine.view.Owed.{Owed}
+use Rattle.tide_core.specs.declared.machine.view.View.{View}
+use Rattle.tide_core.specs.machine.points.Growths.{GrowthKnows}
 use Rattle.tide_model.specs.History.{state_after}
 use Rattle.tide_model.specs.Layout.{Layout}
 use Rattle.tide_model.specs.References.{IsLive}

@@ -3,15 +3,15 @@ use Rattle.std.proofs.Common.{ℕ, ◌≡◌, ◌<◌, sym, ◌∙◌, ap, subst
 use Rattle.std.proofs.lemmas.Bool.{eq-eqb, ne_eqb}
 use Rattle.std.specs.Prelude.{if◌then◌else◌}
 use Rattle.tide_call.specs.declared.plan.Plan.{Plan}
-use Rattle.tide_machine.specs.Duties.{GrowsOn}
-use Rattle.tide_machine.specs.Kind.{LoadColour, PushBit, Regrey, StoreBorn}
-use Rattle.tide_machine.specs.May.{RunsAsMutator, barrier_for}
-use Rattle.tide_machine.specs.Words.{is_cell_word}
-use Rattle.tide_machine.specs.declared.view.Duty.{Duty}
-use Rattle.tide_machine.specs.declared.view.Duty.TheVariants as duty
-use Rattle.tide_machine.specs.declared.view.Growth.{Growth}
-use Rattle.tide_machine.specs.declared.view.View.{View}
-use Rattle.tide_machine.specs.World.{World}
+use Rattle.tide_core.specs.machine.Duties.{GrowsOn}
+use Rattle.tide_core.specs.machine.Kind.{LoadColour, PushBit, Regrey, StoreBorn}
+use Rattle.tide_core.specs.machine.May.{RunsAsMutator, barrier_for}
+use Rattle.tide_core.specs.machine.Words.{is_cell_word}
+use Rattle.tide_core.specs.declared.machine.view.Duty.{Duty}
+use Rattle.tide_core.specs.declared.machine.view.Duty.TheVariants as duty
+use Rattle.tide_core.specs.declared.machine.view.Growth.{Growth}
+use Rattle.tide_core.specs.declared.machine.view.View.{View}
+use Rattle.tide_core.specs.machine.World.{World}
 use Rattle.tide_model.specs.Layout.{Layout, cell_count}
 use Rattle.tide_model.specs.Refused.{ShapeLists}
 use Rattle.tide_model.specs.declared.op.Op.{Op}

@@ -3,10 +3,10 @@ use Rattle.std.proofs.Common.{ℕ, ◌≡◌, ◌<◌, ◌+◌, sym, ◌∙◌, 
 use Rattle.std.specs.Prelude.{◌%◌, ◌^◌}
 use Rattle.std.proofs.Common.{length-append}
 use Rattle.tide_call.specs.declared.plan.Plan.{Plan}
-use Rattle.tide_machine.specs.Entries.{call_of}
-use Rattle.tide_machine.specs.Kind.{StoreCall}
-use Rattle.tide_machine.specs.declared.view.Duty.TheVariants.{Nothing}
-use Rattle.tide_machine.specs.declared.view.View.{View}
+use Rattle.tide_core.specs.machine.Entries.{call_of}
+use Rattle.tide_core.specs.machine.Kind.{StoreCall}
+use Rattle.tide_core.specs.declared.machine.view.Duty.TheVariants.{Nothing}
+use Rattle.tide_core.specs.declared.machine.view.View.{View}
 use Rattle.tide_model.specs.Layout.{Layout}
 use Rattle.tide_model.specs.Refused.{ShapeLists}
 use Rattle.tide_model.specs.declared.entry.Event.{Event}

@@ -10,11 +10,11 @@ use Rattle.tide_call.specs.declared.plan.Plan.TheVariants as plan
 use Rattle.tide_mutator.specs.declared.owed.growth.Growth.{Growth}
 use Rattle.tide_layout.specs.Slots.{HasElement, index_of_element}
 use Rattle.tide_layout.specs.declared.region.Region.TheVariants as region
-use Rattle.tide_machine.specs.May.{barrier_for}
-use Rattle.tide_machine.specs.Owed.{Knows, owed_elements, owed_word}
-use Rattle.tide_machine.specs.declared.view.Growth.TheVariants as growing
-use Rattle.tide_machine.specs.declared.view.Owed.{Owed}
-use Rattle.tide_machine.specs.declared.view.View.{View}
+use Rattle.tide_core.specs.machine.May.{barrier_for}
+use Rattle.tide_core.specs.machine.Owed.{Knows, owed_elements, owed_word}
+use Rattle.tide_core.specs.declared.machine.view.Growth.TheVariants as growing
+use Rattle.tide_core.specs.declared.machine.view.Owed.{Owed}
+use Rattle.tide_core.specs.declared.machine.view.View.{View}
 use Rattle.tide_model.specs.Layout.{Layout, cell_count}
 use Rattle.tide_model.specs.Refused.{ShapeLists}
 use Rattle.tide_model.specs.declared.op.Op.{Op}

@@ -1,8 +1,8 @@
 -- Where a mutator that decides may stand, by the words that it has read.
 use Rattle.std.specs.Prelude.{ℕ, ◌≡◌, true, false, List, []}
 use Rattle.tide_mutator.specs.owed.Standing.{StandsAt}
-use Rattle.tide_machine.specs.declared.view.Growth.TheVariants.{Nothing}
-use Rattle.tide_machine.specs.declared.view.View.{View}
+use Rattle.tide_core.specs.declared.machine.view.Growth.TheVariants.{Nothing}
+use Rattle.tide_core.specs.declared.machine.view.View.{View}
 use Rattle.tide_model.specs.Layout.{Layout}
 use Rattle.tide_model.specs.Refused.{ShapeLists}
 use Rattle.tide_model.specs.declared.entry.Event.{Event}

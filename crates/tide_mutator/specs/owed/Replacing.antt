@@ -3,11 +3,11 @@ use Rattle.std.specs.Prelude.{ℕ, ◌≡◌, ◌<◌, true, List, [], ◌∷◌
 use Rattle.tide_mutator.specs.owed.Made.{shown}
 use Rattle.tide_mutator.specs.declared.owed.growth.Growth.{Growth}
 use Rattle.tide_layout.specs.declared.region.Region.TheVariants as region
-use Rattle.tide_machine.specs.Owed.{owed_elements, owed_word}
-use Rattle.tide_machine.specs.declared.view.Growth.{Growth as Stage}
-use Rattle.tide_machine.specs.declared.view.Growth.TheVariants as growing
-use Rattle.tide_machine.specs.declared.view.Owed.{Owed}
-use Rattle.tide_machine.specs.declared.view.View.{View}
+use Rattle.tide_core.specs.machine.Owed.{owed_elements, owed_word}
+use Rattle.tide_core.specs.declared.machine.view.Growth.{Growth as Stage}
+use Rattle.tide_core.specs.declared.machine.view.Growth.TheVariants as growing
+use Rattle.tide_core.specs.declared.machine.view.Owed.{Owed}
+use Rattle.tide_core.specs.declared.machine.view.View.{View}
 use Rattle.tide_model.specs.Layout.{Layout}
 use Rattle.tide_model.specs.declared.val.Val.{Val}
 use Rattle.tide_words.specs.forms.Reference.{array_word}

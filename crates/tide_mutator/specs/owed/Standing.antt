@@ -6,10 +6,10 @@ use Rattle.tide_call.specs.declared.plan.Plan.{Plan}
 use Rattle.tide_layout.specs.Region.{tag}
 use Rattle.tide_layout.specs.declared.region.Region.{Region}
 use Rattle.tide_layout.specs.declared.region.Region.TheVariants.{Elements}
-use Rattle.tide_machine.specs.Own.{own_of}
-use Rattle.tide_machine.specs.Owed.{Knows}
-use Rattle.tide_machine.specs.declared.view.Growth.TheVariants.{Nothing}
-use Rattle.tide_machine.specs.declared.view.View.{View}
+use Rattle.tide_core.specs.machine.Own.{own_of}
+use Rattle.tide_core.specs.machine.Owed.{Knows}
+use Rattle.tide_core.specs.declared.machine.view.Growth.TheVariants.{Nothing}
+use Rattle.tide_core.specs.declared.machine.view.View.{View}
 use Rattle.tide_model.specs.History.{state_after, is_call_of}
 use Rattle.tide_model.specs.Lawful.{IsLawful}
 use Rattle.tide_model.specs.Layout.{Layout}

@@ -1,7 +1,7 @@
 //! `Mutator`: a mutator of a heap, as it is between two calls.
 ghost use Rattle.std.specs.Prelude.{◌≡◌, ◌%◌, ◌^◌};
 ghost use Rattle.tide_mutator.specs.owed.Standing.{claims_of};
-ghost use Rattle.tide_machine.specs.May.{Rests};
+ghost use Rattle.tide_core.specs.machine.May.{Rests};
 
 use crate::calls::own::OwnPass;
 use tide_call::Claims;

@@ -1,7 +1,7 @@
 //! `OwnPass`: a mutator's pass, which reads its registers and the words of cells that it claims. It makes no call.
 ghost use Rattle.std.specs.Prelude.{◌≡◌, ℕ};
 ghost use Rattle.atomic_table.specs.Seated.{TableId};
-ghost use Rattle.tide_machine.specs.declared.view.View.{View};
+ghost use Rattle.tide_core.specs.declared.machine.view.View.{View};
 ghost use Rattle.tide_mutator.specs.calls.Owning.{OwnsAt, unread};
 
 use tide_call::{OwnRegisters, OwnWords};

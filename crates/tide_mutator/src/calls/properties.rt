@@ -91,7 +91,7 @@ pub(crate) fn append<S: HeapShapes, T: Turnstile>(
         pass.old.seat.me.0 pass.new.seat.me.0 }
 {
     // A scan reads no place past the count of the structure that it loaded, so the element may stand there before.
-    // Once the structure tells it, it is what the array says (`ArraysStand`, tide_machine/specs/points/Arrays.antt).
+    // Once the structure tells it, it is what the array says (`ArraysStand`, tide_core/specs/machine/points/Arrays.antt).
     pass.store_element(heap, array, addition.count, val_word(value), None);
     pass.store_structure(heap, addition.cell, shape_word(addition), Some(op));
     shade_for(pass, heap, gate, addition.cell, value);

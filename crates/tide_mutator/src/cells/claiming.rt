@@ -52,7 +52,7 @@ pub fn claim<S: HeapShapes>(
     let who = pass.who();
     // Of all that claim the cell one alone exchanges the 0, and each other finds that one's number, which refuses it.
     // From here on the cell's structure, array and elements are the claimer's alone to store (`RunningWordsRead`:
-    // `owns`, tide_machine/specs/points/SettledWords.antt).
+    // `owns`, tide_core/specs/machine/points/SettledWords.antt).
     let word = pass.take_claim(heap, cell, who, Some(op));
     pass.store_call(heap, calls, None);
     held_or(Reply::Done, word)

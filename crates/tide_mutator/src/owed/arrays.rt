@@ -31,13 +31,13 @@ pub fn replace<S: HeapShapes, T: Turnstile>(
     ensures replaced { HasReplaced pass.old.seat.me.0 pass.new.seat.me.0 }
 {
     // The array is full before a word names it: until then the old one says what the structure tells (`ArraysStand`,
-    // tide_machine/specs/points/Arrays.antt).
+    // tide_core/specs/machine/points/Arrays.antt).
     for place in (0..growth.addition.count + 1).rev() {
         pass.store_element(heap, taken, place, words[usize::from(place)], None);
     }
     // A scan loads the structure, then the array, then the structure again, and marks only where both are one word
     // that isn't nuked. The array is stored between two changes of the structure, each stage of which the view tells
-    // (`GrowthsAreRight`, tide_machine/specs/points/Growths.antt), so such a scan loaded the array of its structure
+    // (`GrowthsAreRight`, tide_core/specs/machine/points/Growths.antt), so such a scan loaded the array of its structure
     // (`ScansAreRight`, points/Scans.antt).
     pass.nuke(heap, growth.addition.cell, growth.old + 1);
     gate.at(pass.who(), Place::Nuked, growth.addition.cell);

@@ -1,6 +1,6 @@
 //! The register that a call fills, and the call word that tells it.
 ghost use Rattle.std.specs.Prelude.{◌≡◌, ◌%◌, ◌^◌, ◌<◌, length};
-ghost use Rattle.tide_machine.specs.Words.{value_of};
+ghost use Rattle.tide_core.specs.machine.Words.{value_of};
 ghost use Rattle.tide_model.specs.declared.op.Reply.TheVariants.{Seen};
 ghost use Rattle.tide_mutator.specs.owed.Paying.{HasPaid, OwesRegister};
 ghost use Rattle.tide_words.specs.heap.Reading.{IsValueOf};
@@ -20,7 +20,7 @@ pub fn pay<S: HeapShapes>(pass: &mut Pass, heap: &Heap<S>, calls: u64, dst: u8, 
 {
     pass.store_register(heap, dst, val_word(value), None);
     // The call word comes last: its mutator makes no other call and doesn't stop before it (`IsBetweenCalls`,
-    // tide_machine/specs/May.antt). So where nobody runs no word is owed, and each call word tells all calls
+    // tide_core/specs/machine/May.antt). So where nobody runs no word is owed, and each call word tells all calls
     // (`ParkedIsEmpty`, `CallsAreTold`, points/Seen.antt).
     pass.store_call(heap, calls, None);
 }

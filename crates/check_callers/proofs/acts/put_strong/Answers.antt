@@ -2,8 +2,8 @@
 use Rattle.std.proofs.Common.{refl, sym, ap, ◌∙◌, ◌++◌, ◌∷◌, [], List, false, rules}
 use Rattle.check_callers.proofs.Calls.{between_calls, may_call, may_tell, own_now, seven, told_ready}
 use Rattle.check_callers.specs.Working.{done, set_calls, strong_calls}
-use Rattle.tide_machine.specs.Own.{Own}
-use Rattle.tide_machine.specs.declared.view.View.{View}
+use Rattle.tide_core.specs.machine.Own.{Own}
+use Rattle.tide_core.specs.declared.machine.view.View.{View}
 use Rattle.tide_model.specs.declared.entry.Event.{Event}
 use Rattle.tide_model.specs.declared.op.Op.TheVariants.{StrongSet}
 use Rattle.tide_model.specs.declared.val.Val.{Val}

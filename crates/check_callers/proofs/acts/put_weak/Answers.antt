@@ -2,7 +2,7 @@
 use Rattle.std.proofs.Common.{refl, sym, ap, ◌∙◌}
 use Rattle.check_callers.proofs.Calls.{may_call, own_now, seven}
 use Rattle.check_callers.specs.Working.{strong_calls}
-use Rattle.tide_machine.specs.Own.{Own}
+use Rattle.tide_core.specs.machine.Own.{Own}
 use Rattle.tide_model.specs.declared.op.Op.TheVariants.{WeakSet}
 use Rattle.tide_model.specs.declared.val.Val.{Val}
 use Rattle.tide_words.specs.forms.ValueWord.{val_word}

@@ -2,7 +2,7 @@
 use Rattle.std.proofs.Common.{refl, ap, ◌∙◌, ◌++◌, ◌∷◌, [], List, false, arith, rules}
 use Rattle.check_callers.proofs.Calls.{between_calls, may_call, told_ready}
 use Rattle.check_callers.specs.Working.{done, set_calls}
-use Rattle.tide_machine.specs.declared.view.View.{View}
+use Rattle.tide_core.specs.declared.machine.view.View.{View}
 use Rattle.tide_model.specs.declared.entry.Event.{Event}
 use Rattle.tide_model.specs.declared.op.Op.TheVariants.{Set}
 use Rattle.check_callers.proofs.acts.set_register.Goals as goal

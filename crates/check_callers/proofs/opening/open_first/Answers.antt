@@ -1,9 +1,9 @@
 -- A heap that has started may be opened.
 use Rattle.std.proofs.Common.{◌≡◌, sym, ◌∙◌, ap, subst, true, false, List, []}
-use Rattle.tide_core.specs.FrozenWave.{FrozenWave}
+use Rattle.tide_core.specs.wave.FrozenWave.{FrozenWave}
 use Rattle.tide_freeze.proofs.BookLaws.{IsSwept-none}
 use Rattle.tide_freeze.proofs.FrozenLaws.{marks-same}
-use Rattle.tide_machine.specs.points.Sweeps.{SweptAreTold, TakenAreClean}
+use Rattle.tide_core.specs.machine.points.Sweeps.{SweptAreTold, TakenAreClean}
 use Rattle.tide_model.specs.History.{state_after}
 use Rattle.tide_model.specs.declared.entry.Event.{Event}
 use Rattle.tide_table.specs.VisitsTold.{unentered}

@@ -2,7 +2,7 @@
 use Rattle.std.proofs.Common.{ℕ, ◌∙◌, sym, ap, subst}
 use Rattle.check_drains.proofs.Taking.{is_in, stays_in}
 use Rattle.embed_visitor.specs.Parts.{IsIdleBefore}
-use Rattle.tide_machine.specs.declared.view.View.{View}
+use Rattle.tide_core.specs.declared.machine.view.View.{View}
 use Rattle.tide_mutator.specs.calls.Viewed as mutator
 use Rattle.tide_visitor.specs.Viewed as visitor
 use Rattle.check_drains.proofs.running.run_part.Goals as goal

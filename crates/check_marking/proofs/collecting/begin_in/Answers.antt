@@ -1,5 +1,5 @@
 use Rattle.std.proofs.Common.{ℕ, subst, List}
-use Rattle.tide_core.specs.Entered.{HasBegun}
+use Rattle.tide_core.specs.wave.Entered.{HasBegun}
 use Rattle.tide_words.specs.heap.Heap.{heap_of}
 use Rattle.check_marking.proofs.collecting.begin_in.Goals as goal
 

@@ -1,5 +1,5 @@
 use Rattle.std.proofs.Common.{ℕ, subst, List}
-use Rattle.tide_core.specs.Entered.{HasEnded}
+use Rattle.tide_core.specs.wave.Entered.{HasEnded}
 use Rattle.tide_model.specs.Layout.{Layout}
 use Rattle.tide_words.specs.heap.Heap.{heap_of}
 use Rattle.check_marking.proofs.collecting.end_in.Goals as goal

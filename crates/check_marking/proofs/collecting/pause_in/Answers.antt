@@ -1,5 +1,5 @@
 use Rattle.std.proofs.Common.{ℕ, subst, List}
-use Rattle.tide_core.specs.Entered.{HasPaused}
+use Rattle.tide_core.specs.wave.Entered.{HasPaused}
 use Rattle.tide_model.specs.Layout.{Layout}
 use Rattle.tide_solver.specs.Outcome.{visits_of}
 use Rattle.tide_words.specs.heap.Heap.{heap_of}

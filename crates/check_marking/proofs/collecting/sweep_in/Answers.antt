@@ -1,5 +1,5 @@
 use Rattle.std.proofs.Common.{ℕ, subst, List}
-use Rattle.tide_core.specs.Entered.{HasSwept}
+use Rattle.tide_core.specs.wave.Entered.{HasSwept}
 use Rattle.tide_words.specs.heap.Heap.{heap_of}
 use Rattle.check_marking.proofs.collecting.sweep_in.Goals as goal
 

@@ -2,8 +2,8 @@
 -- visit.
 use Rattle.std.proofs.Common.{ℕ, ◌≡◌, ◌+◌, sym, ◌∙◌, ap, subst, List, [], ◌∷◌, ◌++◌, length}
 use Rattle.std.specs.Prelude.{◌==◌, if◌then◌else◌, nat_lt}
-use Rattle.tide_machine.specs.Frozen.{FrozenWith}
-use Rattle.tide_machine.specs.declared.view.View.{View}
+use Rattle.tide_core.specs.machine.Frozen.{FrozenWith}
+use Rattle.tide_core.specs.declared.machine.view.View.{View}
 use Rattle.tide_model.specs.History.{plain}
 use Rattle.tide_model.specs.declared.entry.Entry.TheVariants.{Open}
 use Rattle.tide_model.specs.declared.entry.Event.{Event}

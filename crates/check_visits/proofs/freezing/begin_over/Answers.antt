@@ -2,7 +2,7 @@
 use Rattle.std.proofs.Common.{ℕ, ◌≡◌, ◌+◌, sym, ◌∙◌, ap, subst, arith, false, List, true}
 use Rattle.check_visits.proofs.Freezes.{begun_there, may_begin}
 use Rattle.check_visits.specs.Parts.{IsAtFreeze}
-use Rattle.tide_core.specs.Entered.{HasBegun}
+use Rattle.tide_core.specs.wave.Entered.{HasBegun}
 use Rattle.tide_freeze.proofs.ParticipantLaws.{LeavesParticipants-begun}
 use Rattle.tide_freeze.specs.Entering.{with_entry, MayEnter}
 use Rattle.tide_model.specs.Cycle.{begin_count}
@@ -10,7 +10,7 @@ use Rattle.tide_model.specs.Refused.{ShapeLists}
 use Rattle.tide_model.specs.Layout.{Layout}
 use Rattle.tide_model.specs.declared.entry.Entry.TheVariants.{Begin}
 use Rattle.tide_model.specs.declared.entry.Event.{Event}
-use Rattle.tide_machine.specs.declared.view.View.{View}
+use Rattle.tide_core.specs.declared.machine.view.View.{View}
 use Rattle.tide_table.specs.Shown.{bare, Besides, Whose}
 use Rattle.tide_words.specs.heap.Heap.{heap_of}
 use Rattle.tide_words.specs.marking.Colours.{is_black, is_marking, running_cycle}

@@ -4,7 +4,7 @@ use Rattle.std.specs.Prelude.{Contains}
 use Rattle.check_visits.proofs.Freezes.{visits_told}
 use Rattle.check_visits.specs.Parts.{IsAtFreeze}
 use Rattle.tide_cycle.specs.GreyWords.{HasSharedGrey}
-use Rattle.tide_machine.specs.declared.view.View.{View}
+use Rattle.tide_core.specs.declared.machine.view.View.{View}
 use Rattle.tide_model.specs.History.{state_after}
 use Rattle.tide_model.specs.Layout.{Layout, cell_count}
 use Rattle.tide_model.specs.Refused.{ShapeLists}

@@ -1,7 +1,7 @@
 -- Why the mutator may begin, call and stop, and what its note tells.
 use Rattle.std.proofs.Common.{ℕ, ◌<◌, ◌∙◌, sym, ap, subst, arith}
 use Rattle.embed_visitor.proofs.Parts.{has_begun, idle_then, in_part_kept, mutator_done}
-use Rattle.tide_machine.specs.declared.view.View.{View}
+use Rattle.tide_core.specs.declared.machine.view.View.{View}
 use Rattle.tide_mutator.specs.calls.Viewed.{view_of}
 use Rattle.tide_mutator.specs.owed.Calling.{Kept}
 use Rattle.embed_visitor.proofs.working.work.Goals as goal

@@ -6,11 +6,11 @@ use Rattle.tide_call.specs.Plans.{IsPlan, is_told_by_registers}
 use Rattle.tide_call.specs.declared.plan.Plan.TheVariants as plan
 use Rattle.tide_layout.specs.Region.{index_of_register}
 use Rattle.tide_layout.specs.declared.region.Region.TheVariants.{Registers}
-use Rattle.tide_machine.specs.Kind.{StoreRegister}
-use Rattle.tide_machine.specs.May.{called}
-use Rattle.tide_machine.specs.declared.view.Duty.TheVariants.{Nothing}
-use Rattle.tide_machine.specs.declared.view.View.{View}
-use Rattle.tide_machine.specs.kinds.RegisterCall.{StoresRegister}
+use Rattle.tide_core.specs.machine.Kind.{StoreRegister}
+use Rattle.tide_core.specs.machine.May.{called}
+use Rattle.tide_core.specs.declared.machine.view.Duty.TheVariants.{Nothing}
+use Rattle.tide_core.specs.declared.machine.view.View.{View}
+use Rattle.tide_core.specs.machine.kinds.RegisterCall.{StoresRegister}
 use Rattle.tide_model.specs.History.{state_after}
 use Rattle.tide_model.specs.Layout.{Layout}
 use Rattle.tide_model.specs.Refused.{ShapeLists}

@@ -4,7 +4,7 @@ use Rattle.tide_mutator.proofs.owed_laws.Standing.{calls_there}
 use Rattle.tide_mutator.specs.owed.Standing.{IsPlanned, StandsAt, caller_of}
 use Rattle.tide_call.specs.declared.plan.Plan.{Plan}
 use Rattle.tide_layout.specs.Limits.{IsWithinLimits}
-use Rattle.tide_machine.specs.declared.view.View.{View}
+use Rattle.tide_core.specs.declared.machine.view.View.{View}
 use Rattle.tide_model.proofs.ClaimLaws.{ClaimsAreOwn-lawful}
 use Rattle.tide_model.specs.History.{state_after}
 use Rattle.tide_model.specs.Lawful.{FitsLayout}

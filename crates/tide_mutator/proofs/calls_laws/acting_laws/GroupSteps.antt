@@ -4,11 +4,11 @@ use Rattle.tide_call.specs.Callers.{Caller}
 use Rattle.tide_call.specs.Plans.{IsPlan, is_told_by_registers}
 use Rattle.tide_call.specs.declared.plan.Plan.TheVariants as plan
 use Rattle.tide_layout.specs.declared.region.Region.TheVariants as region
-use Rattle.tide_machine.specs.Kind.{StoreGroup}
-use Rattle.tide_machine.specs.May.{MayCall, called}
-use Rattle.tide_machine.specs.declared.view.Duty.TheVariants.{Nothing}
-use Rattle.tide_machine.specs.declared.view.View.{View}
-use Rattle.tide_machine.specs.kinds.StorePlainWord.{MayStoreGroup}
+use Rattle.tide_core.specs.machine.Kind.{StoreGroup}
+use Rattle.tide_core.specs.machine.May.{MayCall, called}
+use Rattle.tide_core.specs.declared.machine.view.Duty.TheVariants.{Nothing}
+use Rattle.tide_core.specs.declared.machine.view.View.{View}
+use Rattle.tide_core.specs.machine.kinds.StorePlainWord.{MayStoreGroup}
 use Rattle.tide_model.specs.History.{state_after}
 use Rattle.tide_model.specs.Layout.{Layout}
 use Rattle.tide_model.specs.Refused.{ShapeLists}

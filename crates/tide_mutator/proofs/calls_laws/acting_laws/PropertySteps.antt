@@ -16,17 +16,17 @@ use Rattle.tide_call.specs.declared.plan.Plan.TheVariants as plan
 use Rattle.tide_layout.specs.Region.{index_of_register}
 use Rattle.tide_layout.specs.Slots.{HasElement, index_of_element}
 use Rattle.tide_layout.specs.declared.region.Region.TheVariants as region
-use Rattle.tide_machine.specs.Entries.{call_of}
-use Rattle.tide_machine.specs.Kind.{LoadElement, StoreElement}
-use Rattle.tide_machine.specs.May.{MayCall, barrier_for, called}
-use Rattle.tide_machine.specs.Moment.{Moment}
-use Rattle.tide_machine.specs.Owed.{filled_register, own_element, owed_register}
-use Rattle.tide_machine.specs.Views.{with_entry}
-use Rattle.tide_machine.specs.Words.{cell_named, value_of}
-use Rattle.tide_machine.specs.World.{World}
-use Rattle.tide_machine.specs.declared.view.Duty.TheVariants.{Nothing}
-use Rattle.tide_machine.specs.declared.view.View.{View}
-use Rattle.tide_machine.specs.kinds.StorePrivateElement.{IsOwnElement, MayLoadElement, MayStoreElement, element_view, stored_element_view}
+use Rattle.tide_core.specs.machine.Entries.{call_of}
+use Rattle.tide_core.specs.machine.Kind.{LoadElement, StoreElement}
+use Rattle.tide_core.specs.machine.May.{MayCall, barrier_for, called}
+use Rattle.tide_core.specs.machine.Moment.{Moment}
+use Rattle.tide_core.specs.machine.Owed.{filled_register, own_element, owed_register}
+use Rattle.tide_core.specs.machine.Views.{with_entry}
+use Rattle.tide_core.specs.machine.Words.{cell_named, value_of}
+use Rattle.tide_core.specs.machine.World.{World}
+use Rattle.tide_core.specs.declared.machine.view.Duty.TheVariants.{Nothing}
+use Rattle.tide_core.specs.declared.machine.view.View.{View}
+use Rattle.tide_core.specs.machine.kinds.StorePrivateElement.{IsOwnElement, MayLoadElement, MayStoreElement, element_view, stored_element_view}
 use Rattle.tide_model.proofs.NumberLaws.{contains_from_among}
 use Rattle.tide_model.specs.Applied.{place_of}
 use Rattle.tide_model.specs.History.{state_after}

@@ -4,14 +4,14 @@ use Rattle.tide_call.specs.Callers.{Caller}
 use Rattle.tide_call.specs.Plans.{IsPlan, is_told_by_registers}
 use Rattle.tide_call.specs.declared.plan.Plan.TheVariants as plan
 use Rattle.tide_layout.specs.declared.region.Region.TheVariants as region
-use Rattle.tide_machine.specs.Entries.{call_of}
-use Rattle.tide_machine.specs.Kind.{Retire as RetireStep}
-use Rattle.tide_machine.specs.May.{MayCall}
-use Rattle.tide_machine.specs.Moment.{Moment}
-use Rattle.tide_machine.specs.Views.{with_entry}
-use Rattle.tide_machine.specs.declared.view.Duty.TheVariants.{Nothing}
-use Rattle.tide_machine.specs.declared.view.View.{View}
-use Rattle.tide_machine.specs.kinds.Retire.{left_view}
+use Rattle.tide_core.specs.machine.Entries.{call_of}
+use Rattle.tide_core.specs.machine.Kind.{Retire as RetireStep}
+use Rattle.tide_core.specs.machine.May.{MayCall}
+use Rattle.tide_core.specs.machine.Moment.{Moment}
+use Rattle.tide_core.specs.machine.Views.{with_entry}
+use Rattle.tide_core.specs.declared.machine.view.Duty.TheVariants.{Nothing}
+use Rattle.tide_core.specs.declared.machine.view.View.{View}
+use Rattle.tide_core.specs.machine.kinds.Retire.{left_view}
 use Rattle.tide_model.specs.History.{state_after}
 use Rattle.tide_model.specs.Layout.{Layout}
 use Rattle.tide_model.specs.Refused.{ShapeLists}

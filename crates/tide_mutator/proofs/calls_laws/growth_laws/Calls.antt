@@ -18,11 +18,11 @@ use Rattle.tide_mutator.specs.owed.Replacing.{HasReplaced, OwesGrowth, grown_out
 use Rattle.tide_mutator.specs.declared.owed.growth.Growth.{Growth}
 use Rattle.tide_layout.specs.Slots.{index_of_element}
 use Rattle.tide_layout.specs.declared.region.Region.TheVariants as region
-use Rattle.tide_machine.specs.Kind.{LoadOwnStructure}
-use Rattle.tide_machine.specs.May.{barrier_for}
-use Rattle.tide_machine.specs.Owed.{Knows, owed_word}
-use Rattle.tide_machine.specs.declared.view.Owed.{Owed}
-use Rattle.tide_machine.specs.declared.view.View.{View}
+use Rattle.tide_core.specs.machine.Kind.{LoadOwnStructure}
+use Rattle.tide_core.specs.machine.May.{barrier_for}
+use Rattle.tide_core.specs.machine.Owed.{Knows, owed_word}
+use Rattle.tide_core.specs.declared.machine.view.Owed.{Owed}
+use Rattle.tide_core.specs.declared.machine.view.View.{View}
 use Rattle.tide_model.specs.Layout.{Layout}
 use Rattle.tide_model.specs.Refused.{ShapeLists}
 use Rattle.tide_model.specs.declared.op.Op.{Op}
@@ -111,7 +111,7 @@ module _ (layout : Layout) (shapes : ShapeLists) (op : Op) (growth : Growth) (v 
         owed = t.owed ∙ ap (λ (n : ℕ). owed_word region.Structure growth.addition.cell growth.next
             ∷ owed_word region.Array growth.addition.cell
             (Rattle.tide_words.specs.forms.Reference.array_word (Some taken))
-            ∷ Rattle.tide_machine.specs.Owed.owed_elements layout t.properties taken n)
+            ∷ Rattle.tide_core.specs.machine.Owed.owed_elements layout t.properties taken n)
             (let same : suc growth.addition.count ≡ growth.addition.count + 1 = omega arith in same);
         duty = refl;
       };

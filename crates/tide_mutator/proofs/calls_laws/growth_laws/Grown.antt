@@ -13,10 +13,10 @@ use Rattle.tide_layout.specs.Region.{tag}
 use Rattle.tide_layout.specs.Slots.{HasElement, index_of_element}
 use Rattle.tide_layout.specs.declared.region.Region.{Region}
 use Rattle.tide_layout.specs.declared.region.Region.TheVariants as region
-use Rattle.tide_machine.proofs.steps.Debts.{debt_cases, debts, filled, filled_at, filled_else, paid, paid_else}
-use Rattle.tide_machine.specs.Owed.{owed_word}
-use Rattle.tide_machine.specs.Words.{all_but}
-use Rattle.tide_machine.specs.declared.view.Owed.{Owed}
+use Rattle.tide_core.proofs.machine_laws.steps.Debts.{debt_cases, debts, filled, filled_at, filled_else, paid, paid_else}
+use Rattle.tide_core.specs.machine.Owed.{owed_word}
+use Rattle.tide_core.specs.machine.Words.{all_but}
+use Rattle.tide_core.specs.declared.machine.view.Owed.{Owed}
 use Rattle.tide_model.specs.Layout.{Layout, block_of_array}
 use Rattle.tide_model.specs.declared.val.Val.{Val}
 use Rattle.tide_words.proofs.heap_laws.HeapLaws.{write-other_index, write-other_region, write-same}

@@ -10,8 +10,8 @@ use Rattle.tide_mutator.specs.calls.Growing.{plan_of}
 use Rattle.tide_mutator.specs.declared.owed.growth.Growth.{Growth}
 use Rattle.tide_layout.specs.Slots.{HasElement, index_of_element}
 use Rattle.tide_layout.specs.declared.region.Region.TheVariants as region
-use Rattle.tide_machine.specs.Entries.{class_for_value, refused_or_full, reply_of_call}
-use Rattle.tide_machine.specs.declared.view.View.{View}
+use Rattle.tide_core.specs.machine.Entries.{class_for_value, refused_or_full, reply_of_call}
+use Rattle.tide_core.specs.declared.machine.view.View.{View}
 use Rattle.tide_model.proofs.NumberLaws.{contains_from_among}
 use Rattle.tide_model.specs.History.{state_after}
 use Rattle.tide_model.specs.Layout.{Layout}

@@ -29,19 +29,19 @@ use Rattle.tide_mutator.specs.declared.owed.growth.Growth.{Growth}
 use Rattle.tide_layout.specs.Region.{cell_block_count}
 use Rattle.tide_layout.specs.Slots.{HasElement, index_of_element, width_of_array, width_of_class}
 use Rattle.tide_layout.specs.declared.region.Region.TheVariants as region
-use Rattle.tide_machine.specs.Duties.{is_growing}
-use Rattle.tide_machine.specs.Entries.{call_of}
-use Rattle.tide_machine.specs.Kind.{LoadElement, LoadOwnStructure, StoreCall, TakeArray}
-use Rattle.tide_machine.specs.May.{MayCall}
-use Rattle.tide_machine.specs.Moment.{Moment}
-use Rattle.tide_machine.specs.Owed.{Knows, owed_elements, owed_word, own_structure}
-use Rattle.tide_machine.specs.Views.{with_entry}
-use Rattle.tide_machine.specs.Words.{all_but, cell_named}
-use Rattle.tide_machine.specs.declared.view.Found.{Found}
-use Rattle.tide_machine.specs.declared.view.Growth.{Growth as Stage}
-use Rattle.tide_machine.specs.declared.view.View.{View}
-use Rattle.tide_machine.specs.kinds.LoadFree.{looked_view}
-use Rattle.tide_machine.specs.kinds.TakeArray.{MayTakeArray, array_at, array_view, grown_view, properties_with}
+use Rattle.tide_core.specs.machine.Duties.{is_growing}
+use Rattle.tide_core.specs.machine.Entries.{call_of}
+use Rattle.tide_core.specs.machine.Kind.{LoadElement, LoadOwnStructure, StoreCall, TakeArray}
+use Rattle.tide_core.specs.machine.May.{MayCall}
+use Rattle.tide_core.specs.machine.Moment.{Moment}
+use Rattle.tide_core.specs.machine.Owed.{Knows, owed_elements, owed_word, own_structure}
+use Rattle.tide_core.specs.machine.Views.{with_entry}
+use Rattle.tide_core.specs.machine.Words.{all_but, cell_named}
+use Rattle.tide_core.specs.declared.machine.view.Found.{Found}
+use Rattle.tide_core.specs.declared.machine.view.Growth.{Growth as Stage}
+use Rattle.tide_core.specs.declared.machine.view.View.{View}
+use Rattle.tide_core.specs.machine.kinds.LoadFree.{looked_view}
+use Rattle.tide_core.specs.machine.kinds.TakeArray.{MayTakeArray, array_at, array_view, grown_view, properties_with}
 use Rattle.tide_model.specs.History.{state_after}
 use Rattle.tide_model.specs.Layout.{IsBlockOf, Layout, block_of_array}
 use Rattle.tide_model.specs.Refused.{ShapeLists}

@@ -9,9 +9,9 @@ use Rattle.tide_freeze.specs.Books.{AreBooks}
 use Rattle.tide_freeze.specs.declared.books.Books.{Books}
 use Rattle.tide_report.proofs.EndLaws.{TellsEnds-part}
 use Rattle.tide_heap.specs.Turns.{open_entry, opened}
-use Rattle.tide_machine.proofs.freezes.Entering.{FrozenWave-of}
-use Rattle.tide_machine.specs.Frozen.{FrozenWith}
-use Rattle.tide_machine.specs.declared.view.View.{View}
+use Rattle.tide_core.proofs.machine_laws.freezes.Entering.{FrozenWave-of}
+use Rattle.tide_core.specs.machine.Frozen.{FrozenWith}
+use Rattle.tide_core.specs.declared.machine.view.View.{View}
 use Rattle.tide_model.specs.declared.entry.Event.{Event}
 use Rattle.tide_report.specs.Ends.{TellsEnds}
 use Rattle.tide_shape.specs.Lists.{lists_of}

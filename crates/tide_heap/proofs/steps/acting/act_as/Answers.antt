@@ -1,5 +1,5 @@
 -- Why a step that its participant may make keeps the rule.
-use Rattle.tide_machine.specs.declared.act.Act.TheVariants.{Load, Swap, And, Or, Exchange}
+use Rattle.tide_core.specs.declared.machine.act.Act.TheVariants.{Load, Swap, And, Or, Exchange}
 use Rattle.tide_heap.proofs.steps_laws.Allowing.{heap_finds, heap_puts}
 use Rattle.tide_heap.proofs.steps.acting.act_as.Goals as goal
 

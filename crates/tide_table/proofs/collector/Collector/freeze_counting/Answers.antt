@@ -1,6 +1,6 @@
 -- Why the births are few, and those of the history.
 use Rattle.std.proofs.Common.{◌∙◌, ap, arith, refl, sym}
-use Rattle.tide_machine.specs.declared.view.View.{View}
+use Rattle.tide_core.specs.declared.machine.view.View.{View}
 use Rattle.tide_freeze.proofs.FewBirths.{births-few}
 use Rattle.tide_model.proofs.Histories.{IsLawful-prefix}
 use Rattle.tide_table.proofs.Standing.{AreBooks-counted, StandsStill-froze}

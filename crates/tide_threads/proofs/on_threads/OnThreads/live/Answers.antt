@@ -1,6 +1,6 @@
 -- Why the heap stands as it did once cells are counted.
 use Rattle.std.proofs.Common.{◌∙◌, refl, sym, ap, subst}
-use Rattle.tide_machine.specs.declared.view.View.{View}
+use Rattle.tide_core.specs.declared.machine.view.View.{View}
 use Rattle.tide_periods.specs.Recorded.{recorded_at}
 use Rattle.tide_shape.specs.Lists.{lists_of}
 use Rattle.tide_threads.specs.OnThreads.{setting_in}

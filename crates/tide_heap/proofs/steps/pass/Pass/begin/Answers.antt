@@ -1,6 +1,6 @@
 -- Why what it had seen, and what the ticket told, are beginnings of what it has seen.
 use Rattle.std.proofs.Common.{subst, ap, ◌∙◌}
-use Rattle.tide_machine.specs.declared.view.View.{View}
+use Rattle.tide_core.specs.declared.machine.view.View.{View}
 use Rattle.tide_model.specs.Prefix.{IsPrefix}
 use Rattle.tide_heap.proofs.steps_laws.Comings.{seen_begun}
 use Rattle.tide_heap.proofs.steps.pass.Pass.begin.Goals as goal

@@ -1,6 +1,6 @@
 -- Why the numbers stay those of the view of a mutator that retires.
 use Rattle.std.proofs.Common.{refl, Some}
-use Rattle.tide_machine.specs.Kind.{Retire}
+use Rattle.tide_core.specs.machine.Kind.{Retire}
 use Rattle.tide_model.specs.declared.op.Op.TheVariants as op
 use Rattle.tide_heap.proofs.steps_laws.Ties.{role_kept, are_of}
 use Rattle.tide_heap.proofs.steps.pass.Pass.retire.Goals as goal

@@ -2,8 +2,8 @@
 use Rattle.std.proofs.Common.{◌≡◌, subst, sym, true, false}
 use Rattle.std.specs.Prelude.{◌↔◌}
 use Rattle.tide_heap.specs.Done.{HasDonePart, done_by_numbers}
-use Rattle.tide_machine.specs.Progress.{HasWholeRound}
-use Rattle.tide_machine.specs.declared.view.View.{View}
+use Rattle.tide_core.specs.machine.Progress.{HasWholeRound}
+use Rattle.tide_core.specs.declared.machine.view.View.{View}
 use Rattle.tide_heap.proofs.steps.pass.Pass.stop.Goals as goal
 
 pub split-requires-clause-round : goal.split-requires-clause-round

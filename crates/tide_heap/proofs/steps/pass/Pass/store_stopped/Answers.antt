@@ -2,7 +2,7 @@
 use Rattle.std.proofs.Common.{◌≡◌, ◌<◌, ◌∙◌, sym, subst, ap, ℕ}
 use Rattle.tide_layout.specs.Region.{place_in, size_of, word_count}
 use Rattle.tide_layout.specs.declared.region.Region.TheVariants as region
-use Rattle.tide_machine.specs.Kind.{index_of_stopped}
+use Rattle.tide_core.specs.machine.Kind.{index_of_stopped}
 use Rattle.tide_model.specs.Layout.{Layout}
 use Rattle.tide_heap.proofs.steps_laws.Comings.{ends}
 use Rattle.tide_heap.proofs.steps.pass.Pass.store_stopped.Goals as goal

@@ -2,7 +2,7 @@
 use Rattle.std.proofs.Common.{ℕ, ◌<◌, sym, ◌∙◌, ap, subst}
 use Rattle.tide_layout.specs.Region.{index_of_register}
 use Rattle.tide_layout.specs.declared.region.Region.TheVariants.{Registers}
-use Rattle.tide_machine.specs.declared.view.View.{View}
+use Rattle.tide_core.specs.declared.machine.view.View.{View}
 use Rattle.tide_model.specs.Layout.{Layout}
 use Rattle.tide_mutator.proofs.calls_laws.OwnRegister.{register_word}
 use Rattle.tide_mutator.specs.calls.Owning.{OwnsAt, unread}

@@ -1,0 +1,4 @@
+pub mod Entered
+pub mod FrozenWave
+pub mod Laws
+pub mod StaysBlack
