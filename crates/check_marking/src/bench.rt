@@ -25,7 +25,7 @@ use check_heap::{
 };
 use std::alloc::{AllocError, Global};
 use tide_ephemeron::{Ephemerons, clear_pairs};
-use tide_greying::{mark, mark_named};
+use tide_words::{mark, mark_named};
 use tide_groups::Groups;
 use tide_layout::{Layout, Region};
 use tide_roots::{Registers, Strong, clear_weak};

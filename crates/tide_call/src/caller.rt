@@ -12,7 +12,7 @@ ghost use Rattle.tide_call.specs.ShapeWord.{IsShapeWord};
 
 use crate::own::{OwnRegisters, OwnWords};
 use std::marker::Model;
-use tide_claims::Claims;
+use crate::claims::Claims;
 use tide_layout::PAIRS;
 use tide_model::{Refusal, Val};
 use tide_shape::ShapeTable;

@@ -1,15 +1,21 @@
-//! The words of a heap, and what each of them says.
+//! The words of a heap, what each of them says, and how cells become grey and black in them.
 //!
 //! A heap is one list of words, and a `Layout` of `tide_layout` tells where each of them lies. Each value, structure,
-//! pair and colour has one word of 64 bits, and the calls here go from the one to the other. `Words` is any such list
-//! that can be read and changed. What stands on this crate reaches the words by these calls alone, and this crate
-//! stands on `tide_model`, `tide_layout` and `tide_block`.
+//! pair and colour has one word of 64 bits, and the calls here go from the one to the other (`forms`). `Words` is any
+//! such list that can be read and changed (`heap`). What a cycle says of colours is in `marking`, and `greying` changes
+//! them. What stands on this room reaches the words by these calls alone. It may touch the layout and blocks, and knows
+//! no constraint and no thread.
 #![tactic(auto)]
 
-mod block_bits;
 mod forms;
+// over those above it
 mod heap;
+// over those above it
 mod marking;
+// over those above it
+mod block_bits;
+// over those above it
+mod greying;
 
 pub use block_bits::{live_bits, marked_bits};
 pub use forms::{
@@ -17,6 +23,7 @@ pub use forms::{
     is_marked_in, pair_word, phase_word, structure_word, val_word, word_array, word_claim,
     word_pair, word_phase, word_structure, word_val,
 };
+pub use greying::{blacken, mark, mark_named};
 pub use heap::{Fields, VecWords, Words, array_of, clear_bit, is_live, is_vacant, store_word};
 pub use marking::{Constraint, GreyList, Volatility, base_cycle, is_marked, running_cycle};
 pub use tide_layout::{Layout, Region};

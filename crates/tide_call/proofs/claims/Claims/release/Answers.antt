@@ -1,7 +1,7 @@
 use Rattle.std.proofs.Common.{rules, ℕ}
 use Rattle.std.specs.Prelude.{◌==◌, not}
 use Rattle.tide_model.proofs.Retaining.{filter_in_turns}
-use Rattle.tide_claims.proofs.claims.Claims.release.Goals as goal
+use Rattle.tide_call.proofs.claims.Claims.release.Goals as goal
 
 pub returns : goal.returns
 returns c =

@@ -1,4 +1,7 @@
-//! `Claims`: the cells that one mutator claims, in the order in which the claims began.
+//! The cells that one mutator claims, at most eight of them, the oldest claim first.
+//!
+//! A call is decided by the list, and who makes calls keeps it. It knows no words: whether its cells live, and whether
+//! another mutator claims one of them, it does not know either.
 ghost use Rattle.std.specs.Prelude.{◌≡◌, ◌<◌, ◌==◌, ◌++◌, ◌∷◌, [], drop, filter, false, length, nat_le, not, slice_get};
 ghost use Rattle.tide_model.specs.Numbers.{is_among};
 ghost use Rattle.tide_model.specs.Refused.{claims_most};

@@ -1,7 +1,7 @@
 use Rattle.std.proofs.Common.{rules, ◌≡◌, ◌∙◌, ap, List, ℕ}
 use Rattle.tide_model.specs.Numbers.{is_among}
 use Rattle.tide_model.proofs.NumberLaws.{list_any-among}
-use Rattle.tide_claims.proofs.claims.Claims.contains.Goals as goal
+use Rattle.tide_call.proofs.claims.Claims.contains.Goals as goal
 
 pub returns : goal.returns
 returns c =
