@@ -1,6 +1,6 @@
 //! The table of a row: two growers, each of whose calls is made on a thread of its own, and then the settled table.
 ghost use Rattle.std.specs.Prelude.{◌≡◌, ◌≢◌, ◌<◌, None};
-ghost use Rattle.tide_grow_shape.specs.Grown.{known_keys};
+ghost use Rattle.tide_grow_shape.specs.growers.Grown.{known_keys};
 
 use std::alloc::Global;
 use std::marker::Sync;

@@ -1,6 +1,6 @@
 //! A heap over a settled table, and a mutator on it. The heap isn't closed, as the mutator keeps its claim.
 ghost use Rattle.std.specs.Prelude.{◌≡◌, ◌<◌, IfOk, vec_len};
-ghost use Rattle.tide_grow_shape.specs.Lists.{settled_lists};
+ghost use Rattle.tide_grow_shape.specs.growers.Lists.{settled_lists};
 ghost use Rattle.tide_core.specs.machine.Frozen.{newcomer};
 ghost use Rattle.tide_mutator.specs.calls.Viewed.{table_of, view_of};
 ghost use Rattle.tide_table.specs.Started.{ArePasses, IsStarted};

@@ -1,6 +1,2 @@
-pub mod GrowingLaws
-pub mod KnownLaws
-pub mod LearnLaws
-pub mod ListedLaws
-pub mod NumberedLaws
-pub mod TogetherLaws
+pub mod transitions_laws
+pub mod growers_laws

@@ -1,7 +1,2 @@
-pub mod Growing
-pub mod Grown
-pub mod Known
-pub mod Lists
-pub mod Numbered
-pub mod Stands
-pub mod Tables
+pub mod transitions
+pub mod growers

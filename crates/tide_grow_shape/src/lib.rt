@@ -1,24 +1,15 @@
-//! Shapes that several threads make at once.
+//! Shapes that several threads make at once, before a heap is opened over them.
 //!
 //! Threads share a `GrowShapes` by `&`. Each has a `Grower` of it, which knows the shapes that it made or met, and
 //! grows them by a key more. `settle` leaves a `Settled` of what some growers know: a `ShapeTable`, over which a heap
-//! is opened. It stands on `tide_sights`, for the cells of a table and what is read of them, and knows no heap.
+//! is opened. `transitions` has the cells of a table and what a grower has read of them, `growers` the calls.
+//!
+//! It may touch shapes, and knows no heap and no word. `boxcar` is used here alone.
 #![tactic(auto)]
 
-mod agreeing;
-mod grower;
-mod known;
-mod maker;
-mod numbered;
-mod refused;
-mod settled;
-mod settling;
-mod table;
+mod transitions;
+// over those above it
+mod growers;
 
-pub use agreeing::growers_agree;
-pub use grower::Grower;
-pub use refused::GrowRefused;
-pub use settled::Settled;
-pub use settling::settle;
-pub use table::GrowShapes;
-pub use tide_sights::GrowGate;
+pub use growers::{GrowRefused, GrowShapes, Grower, Settled, growers_agree, settle};
+pub use transitions::GrowGate;

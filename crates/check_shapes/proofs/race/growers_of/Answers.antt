@@ -2,7 +2,7 @@ use native.Mathlib.Omega.{arith}
 use Rattle.std.proofs.Common.{◌≡◌, [], ◌∷◌, List, ap, length, length-append, subst, sym}
 use Rattle.std.proofs.lemmas.List.Elements.{All-push}
 use Rattle.std.specs.Prelude.{All}
-use Rattle.tide_grow_shape.specs.Grown.{Knowledge}
+use Rattle.tide_grow_shape.specs.growers.Grown.{Knowledge}
 use Rattle.check_shapes.proofs.race.growers_of.Goals as goal
 
 pub loop-place-preserved : goal.loop-place-preserved

@@ -1,5 +1,0 @@
-use Rattle.tide_grow_shape.proofs.TogetherLaws.{MergesGrowers}
-use Rattle.tide_grow_shape.proofs.settling.together.Given as goal
-
-abbrev pub invariant-loop-grower : goal.invariant-loop-grower
-invariant-loop-grower l = MergesGrowers l.table l.all l.growers l.grower-index

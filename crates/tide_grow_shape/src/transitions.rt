@@ -1,0 +1,23 @@
+//! What is read of the cells of a table of shapes that several threads grow at once.
+//!
+//! A table's shapes are items of a vector of `boxcar`, and each has two cells that are set once: `Cells`. Who reads a
+//! cell keeps a `Sight` of it, with the tokens that show it; `Sights` are those of one grower. A walk over them comes
+//! to a shape's child by a key, which it makes where there is none. `tide_grow_shape` stands on it. It knows no list of
+//! keys.
+
+mod cells;
+mod gate;
+mod merging;
+mod places;
+mod sight;
+mod sights;
+mod unmade;
+mod walking;
+
+pub use cells::{Cells, ShownItem};
+pub use gate::GrowGate;
+pub use places::Places;
+pub use sight::Sight;
+pub use sights::Sights;
+pub use unmade::Unmade;
+pub use walking::Sought;

@@ -1,9 +1,0 @@
-use Rattle.tide_sights.specs.Cells.{name_of}
-use Rattle.tide_sights.proofs.SightLaws.{child_met, child_new}
-use Rattle.tide_sights.proofs.sights.Sights.agrees_on_child.Goals as goal
-
-pub returns-in-Some : goal.returns-in-Some
-returns-in-Some c = child_met (name_of c.args.cells.now) c.args.self.now c.in-Some.mine.now c.args.sight.now c.requires.sights c.in-Some.ensures.some.0 c.in-Some.ensures.some.1 c.agrees_on_child.ensures.parent c.agrees_on_child.ensures.key
-
-pub returns-in-None : goal.returns-in-None
-returns-in-None c = child_new c.args.self.now c.args.sight.now c.in-None.ensures.none
