@@ -8,7 +8,7 @@ use std::alloc::{AllocError, Global};
 use tide_model::Op;
 use tide_shape::Shapes;
 use tide_table::Heap;
-use tide_work::Keys;
+use tide_text::Keys;
 
 /// What a mutator and a visitor are to do.
 #[derive(Drop)]

@@ -1,11 +1,11 @@
-//! The operation that words say, by `tide_work`: that of a workload, with `k` and its number for a property key; or
+//! The operation that words say, by `tide_text`: that of a workload, with `k` and its number for a property key; or
 //! `retire`, which no workload writes.
 
 use check_heap::number_between;
 use std::alloc::{AllocError, Global};
 use tide_layout::Layout;
 use tide_model::Op;
-use tide_work::{Keys, MAX_KEYS, OpLimits, Settings, is_key, op_of};
+use tide_text::{Keys, MAX_KEYS, OpLimits, Settings, is_key, op_of};
 
 /// The keys `k0` to `k63`.
 pub fn numbered_keys(alloc: Global) -> Result<Keys, AllocError> {

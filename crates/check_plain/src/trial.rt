@@ -16,7 +16,7 @@ use check_heap::{
     reply_text, small_number, text,
 };
 use std::alloc::{AllocError, Global};
-use tide_work::Keys;
+use tide_text::Keys;
 
 /// A store, once its layout is given, the path that is declared, if one is, and the keys that operations name.
 #[derive(Drop)]

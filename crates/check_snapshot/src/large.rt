@@ -13,7 +13,7 @@ use std::alloc::{AllocError, Global};
 use tide_layout::{Layout, Region};
 use tide_model::Val;
 use tide_words::{MAX_CELLS, pair_word, val_word};
-use tide_work::Workload;
+use tide_text::Workload;
 
 /// What a large heap is like.
 #[derive(Clone, Copy, PartialEq, Eq)]

@@ -17,7 +17,7 @@ use crate::shot::{Shot, Written, workload_of};
 use check_heap::{Answers, Heap, joined, layout_of, number, number_or_none, numbers_text, text};
 use std::alloc::{AllocError, Global};
 use tide_words::MAX_CELLS;
-use tide_work::Workload;
+use tide_text::Workload;
 
 /// Room for any line of a row.
 const ROOM: usize = 4_096;

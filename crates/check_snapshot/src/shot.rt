@@ -4,11 +4,11 @@ use check_heap::{Heap, joined, text};
 use std::alloc::{AllocError, Global};
 use std::marker::Model;
 use tide_io::MemSink;
-use tide_reading::read;
+use tide_workload::read;
 use tide_shape::Shapes;
 use tide_snapshot::{Snapshot, take};
 use tide_words::MAX_CELLS;
-use tide_work::Workload;
+use tide_text::Workload;
 
 /// A snapshot of a heap, and the workload that declares the keys of its cells.
 #[derive(Drop)]

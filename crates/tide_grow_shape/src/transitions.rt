@@ -2,7 +2,7 @@
 //!
 //! A table's shapes are items of a vector of `boxcar`, and each has two cells that are set once: `Cells`. Who reads a
 //! cell keeps a `Sight` of it, with the tokens that show it; `Sights` are those of one grower. A walk over them comes
-//! to a shape's child by a key, which it makes where there is none. `tide_grow_shape` stands on it. It knows no list of
+//! to a shape's child by a key, which it makes where there is none. `growers` stands on it. It knows no list of
 //! keys.
 
 mod cells;

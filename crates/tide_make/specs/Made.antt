@@ -1,8 +1,8 @@
 -- The workload of a number.
 use Rattle.std.specs.Prelude.{ℕ, zero, suc, List, [], ◌∷◌, ◌++◌}
 use Rattle.tide_model.specs.declared.op.Op.{Op}
-use Rattle.tide_work.specs.declared.settings.Settings.{Settings}
-use Rattle.tide_work.specs.Work.{Work}
+use Rattle.tide_text.specs.declared.work.settings.Settings.{Settings}
+use Rattle.tide_text.specs.work.Work.{Work}
 use Rattle.tide_make.specs.Rounds.{round_ops, seed_after}
 
 -- the numbers of each generated workload: mutator m allocates in class m, whose 4,096 cells are more than it ever needs

@@ -5,7 +5,7 @@ ghost use Rattle.tide_make.specs.Made.{made, script_of, settings};
 use crate::round::{next_seed, push_round};
 use std::alloc::{AllocError, Global};
 use tide_model::{Memory, Op};
-use tide_work::{Settings, Workload};
+use tide_text::{Settings, Workload};
 
 /// How many mutators there are, each with a class of cells of its own.
 const MUTATORS: u8 = 4;

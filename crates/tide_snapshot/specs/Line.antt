@@ -1,8 +1,8 @@
 -- The line of a live cell in a snapshot: what it holds, and a shortest path to it.
 use Rattle.std.specs.Prelude.{ℕ, ◌≡◌, ◌≢◌, ◌==◌, List, [], ◌∷◌, ◌++◌, map, codes, if◌then◌else◌}
 use Rattle.std.specs.List.{flat_map}
-use Rattle.tide_line.specs.Line.{cell_text, val_text}
-use Rattle.tide_line.specs.OpText.{key_operand, number_operand, register_operand}
+use Rattle.tide_text.specs.lines.Line.{cell_text, val_text}
+use Rattle.tide_text.specs.lines.OpText.{key_operand, number_operand, register_operand}
 use Rattle.tide_model.specs.declared.val.Val.{Val}
 use Rattle.tide_model.specs.Graph.{IsRetained, graph_of, no_cell}
 use Rattle.tide_model.specs.Layout.{Layout, cell_count, class_of, slots_of}

@@ -3,7 +3,7 @@
 //! `take` reads words that stand still, over any `Words`, and keeps what they say; `Snapshot::distance`, `is_live` and
 //! `write_cell` answer from that: how far a cell is from a root, and its line, with a path than which none is shorter;
 //! `write_lines` writes the lines of all that are live. The crate knows no thread, no run and no cycle. It stands on
-//! `tide_retained`, which finds the paths, and on `tide_line` and `tide_io` for the lines.
+//! `tide_retained`, which finds the paths, and on `tide_text` and `tide_io` for the lines.
 #![tactic(auto)]
 
 mod snapshot;

@@ -22,7 +22,7 @@ use tide_model::Memory;
 use tide_retained::Retained;
 use tide_shape::ShapeTable;
 use tide_words::{Layout, Words};
-use tide_work::Workload;
+use tide_text::Workload;
 
 /// What a heap held at one moment, and a shortest path to each cell that was retained.
 #[derive(Drop)]

@@ -3,17 +3,17 @@ ghost use Rattle.std.specs.Prelude.{◌≡◌, ◌+◌, ◌++◌, ◌<◌, ◌�
 ghost use Rattle.std.specs.List.{flat_map};
 ghost use Rattle.std.specs.Io.KnownBytes.{Appends};
 ghost use Rattle.tide_io.specs.Faults.{AppendsPart, HasCause};
-ghost use Rattle.tide_work.specs.Work.{ArePaths};
+ghost use Rattle.tide_text.specs.work.Work.{ArePaths};
 ghost use Rattle.tide_snapshot.specs.Line.{body_text, cell_piece, group_text, head_text, pair_piece, pairs_text, properties_text, property_piece, root_text, slots_text, value_piece};
 ghost use Rattle.tide_retained.specs.Retention.{cells_on, path_of, way_on, AreFrom};
 ghost use Rattle.tide_snapshot.specs.Written.{held_line, line_at, lines_text, way_text, HasNamedKeys};
 
 use tide_io::{Failed, Sink, write_all};
 use tide_layout::TABLE;
-use tide_line::{LONGEST_LINE, Line};
+use tide_text::{LONGEST_LINE, Line};
 use tide_model::Val;
 use tide_retained::{Held, Keyed, Retained, Root, Way};
-use tide_work::{Keys, Workload};
+use tide_text::{Keys, Workload};
 
 /// The names of the keys of a workload, whose paths have no others.
 pub(crate) fn names_of(load: &Workload) -> &Keys

@@ -1,1 +1,3 @@
 pub mod ReadBackLaws
+pub mod work_laws
+pub mod lines_laws

@@ -6,15 +6,15 @@ use Rattle.std.specs.List.{list_all}
 use Rattle.std.specs.Prelude.{All, codes, decimal, option_map, slice_index_or}
 use Rattle.tide_model.specs.declared.op.Op.{Op}
 use Rattle.tide_model.specs.declared.op.Op.TheVariants.{Alloc, Table, Get, Put, Move, Set, Drop, Claim, Release, Unclaim, Add, GetProp, SetProp, StrongSet, StrongGet, WeakSet, WeakGet, PairSet, PairGet, PairDel, Group, Collect, Retire}
-use Rattle.tide_work.specs.declared.settings.Settings.{Settings}
-use Rattle.tide_work.specs.OpLimits.{OpLimits, limits_with}
-use Rattle.tide_work.specs.ReadOp.{register_of, key_of, one, two, three, op_named, property_op_named, handle_op_named, pair_op_named, op_of}
-use Rattle.tide_work.specs.Words.{is_trimmed, is_word_byte, words_in, number_of, number_below}
-use Rattle.tide_work.specs.Work.{AreKeys, AreSettings, IsOperation}
-use Rattle.tide_work.proofs.KeyLemmas.{key-word, position_of_name}
-use Rattle.tide_work.proofs.NumeralLemmas.{decimal-word, number_of-decimal, number_below-decimal}
-use Rattle.tide_work.proofs.SpacedLemmas.{IsWord, spaced, spaced-trimmed, words_in-spaced, words_in-word, word-trimmed}
-use Rattle.tide_line.specs.OpText.{op_text}
+use Rattle.tide_text.specs.declared.work.settings.Settings.{Settings}
+use Rattle.tide_text.specs.work.OpLimits.{OpLimits, limits_with}
+use Rattle.tide_text.specs.work.ReadOp.{register_of, key_of, one, two, three, op_named, property_op_named, handle_op_named, pair_op_named, op_of}
+use Rattle.tide_text.specs.work.Words.{is_trimmed, is_word_byte, words_in, number_of, number_below}
+use Rattle.tide_text.specs.work.Work.{AreKeys, AreSettings, IsOperation}
+use Rattle.tide_text.proofs.work_laws.KeyLemmas.{key-word, position_of_name}
+use Rattle.tide_text.proofs.work_laws.NumeralLemmas.{decimal-word, number_of-decimal, number_below-decimal}
+use Rattle.tide_text.proofs.work_laws.SpacedLemmas.{IsWord, spaced, spaced-trimmed, words_in-spaced, words_in-word, word-trimmed}
+use Rattle.tide_text.specs.lines.OpText.{op_text}
 use Rattle.tide_text.specs.ReadBack.{AreReadBack, IsReadBack}
 
 -- a text that is a name with arguments behind it reads as what they name

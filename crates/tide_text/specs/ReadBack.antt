@@ -1,11 +1,11 @@
 -- What is printed of an operation reads back as that operation.
 use Rattle.std.specs.Prelude.{◌≡◌, ℕ, List, Some}
 use Rattle.tide_model.specs.declared.op.Op.{Op}
-use Rattle.tide_work.specs.declared.settings.Settings.{Settings}
-use Rattle.tide_work.specs.OpLimits.{OpLimits, limits_with}
-use Rattle.tide_work.specs.ReadOp.{op_of}
-use Rattle.tide_work.specs.Work.{AreKeys, AreSettings, IsOperation}
-use Rattle.tide_line.specs.OpText.{op_text}
+use Rattle.tide_text.specs.declared.work.settings.Settings.{Settings}
+use Rattle.tide_text.specs.work.OpLimits.{OpLimits, limits_with}
+use Rattle.tide_text.specs.work.ReadOp.{op_of}
+use Rattle.tide_text.specs.work.Work.{AreKeys, AreSettings, IsOperation}
+use Rattle.tide_text.specs.lines.OpText.{op_text}
 
 -- the text of the operation reads as that operation
 abbrev pub IsReadBack : OpLimits → Op → Type 0

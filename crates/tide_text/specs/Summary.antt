@@ -11,8 +11,8 @@ use Rattle.tide_model.specs.Cycle.{live_count}
 use Rattle.tide_model.specs.History.{state_after}
 use Rattle.tide_model.specs.Layout.{Layout}
 use Rattle.tide_text.specs.declared.counts.Counts.{Counts}
-use Rattle.tide_line.specs.Line.{live_line}
-use Rattle.tide_line.specs.OpText.{number_operand}
+use Rattle.tide_text.specs.lines.Line.{live_line}
+use Rattle.tide_text.specs.lines.OpText.{number_operand}
 
 -- the reply of an entry that is a call
 abbrev pub reply_in : Entry → List Reply

@@ -11,7 +11,7 @@ use Rattle.tide_model.specs.State.{State, empty_state}
 use Rattle.tide_model.specs.History.{after_event, state_after}
 use Rattle.tide_model.specs.Cycle.{live_count}
 use Rattle.tide_model.specs.Script.{calls_of}
-use Rattle.tide_line.specs.Line.{call_line, mutator_line, cycle_line, live_line}
+use Rattle.tide_text.specs.lines.Line.{call_line, mutator_line, cycle_line, live_line}
 
 -- the lines of some calls, under these names of keys
 abbrev pub call_lines : List (List ℕ) → List (Op × Reply) → List ℕ

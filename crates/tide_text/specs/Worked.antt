@@ -4,13 +4,13 @@ use Rattle.tide_model.specs.declared.op.Op.TheVariants.{Alloc, Table, Get, Put, 
 use Rattle.tide_model.specs.declared.op.Refusal.TheVariants.{NotCell, IsTable, NotTable, NoSlot, Held, NotHeld, Present, Absent, NoShape, PairsFull, ClaimsFull, Full}
 use Rattle.tide_model.specs.declared.op.Reply.TheVariants.{Done, Born, Seen, Asked, Refused}
 use Rattle.tide_model.specs.declared.val.Val.TheVariants.{Empty, Int, Cell}
-use Rattle.tide_work.specs.declared.fault.Fault.TheVariants.{NotToml, TooLong, Missing, Bad, BadOp, Memory}
-use Rattle.tide_work.specs.declared.field.Field.TheVariants.{Registers, Ops, Other}
+use Rattle.tide_text.specs.declared.work.fault.Fault.TheVariants.{NotToml, TooLong, Missing, Bad, BadOp, Memory}
+use Rattle.tide_text.specs.declared.work.field.Field.TheVariants.{Registers, Ops, Other}
 use Rattle.tide_model.specs.declared.entry.Entry.TheVariants.{Call, Begin, Pause, End}
 use Rattle.tide_model.specs.History.{plain}
 use Rattle.tide_model.specs.Rows.{small}
-use Rattle.tide_line.specs.FaultLine.{fault_line}
-use Rattle.tide_line.specs.Line.{call_line, cycle_line, live_line, mutator_line, refusal_text}
+use Rattle.tide_text.specs.lines.FaultLine.{fault_line}
+use Rattle.tide_text.specs.lines.Line.{call_line, cycle_line, live_line, mutator_line, refusal_text}
 use Rattle.tide_text.specs.declared.counts.Counts.{Counts}
 use Rattle.tide_text.specs.Summary.{counts_with, summary_of, summary_text}
 

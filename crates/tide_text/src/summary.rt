@@ -7,7 +7,7 @@ ghost use Rattle.tide_text.specs.Summary.{calls_line, replies_line, summary_text
 use crate::counts::Counts;
 use crate::writing::write_live;
 use tide_io::{Failed, Sink, write_all};
-use tide_line::Line;
+use crate::lines::Line;
 
 /// How many bytes a line of a summary has at most: seven words of up to eight bytes, each with a number.
 pub const LONGEST_COUNTS: usize = 128;

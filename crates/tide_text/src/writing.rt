@@ -1,22 +1,22 @@
-//! Writing lines to a sink, each as one piece but for the line of a cycle. How a line is composed, `tide_line` says.
+//! Writing lines to a sink, each as one piece but for the line of a cycle. How a line is composed, `lines` says.
 ghost use Rattle.std.specs.Prelude.{◌≡◌, ◌+◌, ◌≤◌, [], ◌++◌, length, OnErr, OnOk};
 ghost use Rattle.std.specs.List.{flat_map};
 ghost use Rattle.std.specs.Io.KnownBytes.{Appends};
 ghost use Rattle.tide_io.specs.Faults.{AppendsPart, HasCause};
-ghost use Rattle.tide_line.specs.FaultLine.{fault_line};
-ghost use Rattle.tide_line.specs.Line.{call_line, counts_text, cycle_line, freed_cell_text, freed_text, live_line, mutator_line};
-ghost use Rattle.tide_line.specs.OpText.{HasText};
+ghost use Rattle.tide_text.specs.lines.FaultLine.{fault_line};
+ghost use Rattle.tide_text.specs.lines.Line.{call_line, counts_text, cycle_line, freed_cell_text, freed_text, live_line, mutator_line};
+ghost use Rattle.tide_text.specs.lines.OpText.{HasText};
 
 use tide_io::{Failed, Sink, write_all};
-use tide_line::{LONGEST_LINE, Line};
+use crate::lines::{LONGEST_LINE, Line};
 use tide_model::{Op, Reply};
-use tide_work::{Fault, Workload};
+use crate::work::{Fault, Workload};
 
 /// A line of a run or of a fault.
 type RunLine = Line<LONGEST_LINE>;
 
 /// Writes the line above a mutator's calls, as one piece.
-#[tactic(auto, unfolding(tide_line::specs::Line::mutator_line))]
+#[tactic(auto, unfolding(crate::specs::lines::Line::mutator_line))]
 pub fn write_mutator<K: Sink>(out: &mut K, m: u32) -> Result<(), Failed>
     ensures whole { OnOk result (Appends (K.held out.old) (K.held out.new) (mutator_line m)) }
     ensures part { OnErr result (AppendsPart (K.held out.old) (K.held out.new) (mutator_line m)) }
@@ -29,7 +29,7 @@ pub fn write_mutator<K: Sink>(out: &mut K, m: u32) -> Result<(), Failed>
 
 /// Writes the line of a call: what was asked, and what was answered. The operation's property key, where it has one, is
 /// a key of the workload.
-#[tactic(auto, unfolding(tide_line::specs::Line::call_line))]
+#[tactic(auto, unfolding(crate::specs::lines::Line::call_line))]
 pub fn write_call<K: Sink>(out: &mut K, load: &Workload, op: Op, reply: Reply) -> Result<(), Failed>
     requires { HasText load.now.keys op }
     ensures whole { OnOk result (Appends (K.held out.old) (K.held out.new) (call_line load.now.keys op reply)) }
@@ -42,7 +42,7 @@ pub fn write_call<K: Sink>(out: &mut K, load: &Workload, op: Op, reply: Reply) -
 }
 
 /// Writes how many cells live at the end.
-#[tactic(auto, unfolding(tide_line::specs::Line::live_line))]
+#[tactic(auto, unfolding(crate::specs::lines::Line::live_line))]
 pub fn write_live<K: Sink>(out: &mut K, live: u32) -> Result<(), Failed>
     ensures whole { OnOk result (Appends (K.held out.old) (K.held out.new) (live_line live)) }
     ensures part { OnErr result (AppendsPart (K.held out.old) (K.held out.new) (live_line live)) }
@@ -54,7 +54,7 @@ pub fn write_live<K: Sink>(out: &mut K, live: u32) -> Result<(), Failed>
 }
 
 /// Writes the line that tells a fault, as one piece.
-#[tactic(auto, unfolding(tide_line::specs::FaultLine::fault_line))]
+#[tactic(auto, unfolding(crate::specs::lines::FaultLine::fault_line))]
 pub fn write_fault_line<K: Sink>(out: &mut K, fault: Fault) -> Result<(), Failed>
     ensures whole { OnOk result (Appends (K.held out.old) (K.held out.new) (fault_line fault)) }
     ensures part { OnErr result (AppendsPart (K.held out.old) (K.held out.new) (fault_line fault)) }
@@ -82,7 +82,7 @@ pub fn write_cycle<K: Sink>(
 }
 
 // How many cells a cycle kept and freed.
-#[tactic(auto, unfolding(tide_line::specs::Line::counts_text))]
+#[tactic(auto, unfolding(crate::specs::lines::Line::counts_text))]
 fn compose_counts(line: &mut RunLine, number: u64, kept: u32, freed: usize)
     requires { line.old ≡ [] }
     ensures { line.new ≡ counts_text number kept freed }
@@ -128,7 +128,7 @@ fn write_cells<K: Sink>(out: &mut K, cells: &[u32]) -> Result<(), Failed>
     Ok(())
 }
 
-#[tactic(auto, unfolding(tide_line::specs::Line::freed_cell_text))]
+#[tactic(auto, unfolding(crate::specs::lines::Line::freed_cell_text))]
 fn write_cell<K: Sink>(out: &mut K, id: u32) -> Result<(), Failed>
     ensures whole { OnOk result (Appends (K.held out.old) (K.held out.new) (freed_cell_text id)) }
     ensures part { OnErr result (AppendsPart (K.held out.old) (K.held out.new) (freed_cell_text id)) }

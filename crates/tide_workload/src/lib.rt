@@ -1,15 +1,23 @@
-//! Workloads, under the one name that users say: what a workload is, reading one from bytes, and the text of its run.
+//! Bytes to a workload, and the names of workloads and of their texts that users say.
 //!
-//! It has no code of its own. `read` takes bytes to a `Workload` or to the first fault in them, the `write_` functions
-//! print a run line by line or its summary, `texts_read_back` says that what is printed of an operation reads as that
-//! operation, and `write_fault_line` tells a fault. The words of their contracts are in specs/Words.antt.
+//! `read` takes the bytes of a TOML document to a `Workload`, or to the first fault in them, as `reads_workload` of
+//! specs/ defines it over the crate `toml`. What a workload is and how a run is printed stands in `tide_text`, whose
+//! names are handed on here, with the words of their contracts in specs/Words.antt.
+//!
+//! It may touch `toml`, which is used here alone. It knows nothing of a run.
 #![tactic(auto)]
 
-pub use tide_reading::{MAX_BYTES, read};
+mod examples;
+mod fields;
+mod shapes;
+// over those above it
+mod scripts;
+// over those above it
+mod reading;
+
+pub use reading::{MAX_BYTES, read};
 pub use tide_text::{
-    Counts, texts_read_back, write_call, write_cycle, write_fault_line, write_live, write_mutator,
+    Counts, Fault, Field, MAX_KEY_BYTES, MAX_KEYS, MAX_MUTATORS, MAX_OPS, Settings, Workload,
+    texts_read_back, write_call, write_cycle, write_fault_line, write_live, write_mutator,
     write_summary,
-};
-pub use tide_work::{
-    Fault, Field, MAX_KEY_BYTES, MAX_KEYS, MAX_MUTATORS, MAX_OPS, Settings, Workload,
 };

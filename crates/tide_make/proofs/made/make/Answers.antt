@@ -1,9 +1,9 @@
 -- The four scripts are within the limits of a workload.
 use Rattle.std.proofs.Common.{◌≡◌, ◌∙◌, ap, subst, sym, arith, List, [], map, Vec, Global}
 use Rattle.tide_model.specs.declared.op.Op.{Op}
-use Rattle.tide_work.specs.declared.settings.Settings.{Settings}
-use Rattle.tide_work.specs.OpLimits.{limits_with}
-use Rattle.tide_work.specs.Work.{AreOperations, IsSized}
+use Rattle.tide_text.specs.declared.work.settings.Settings.{Settings}
+use Rattle.tide_text.specs.work.OpLimits.{limits_with}
+use Rattle.tide_text.specs.work.Work.{AreOperations, IsSized}
 use Rattle.tide_make.specs.Made.{scripts_below}
 use Rattle.tide_make.proofs.Laws.{limits, scripts_sized, scripts_within}
 use Rattle.tide_make.proofs.made.make.Goals as goal

@@ -1,6 +1,6 @@
 -- The three lines make the summary, and a failed write leaves a part of it.
 use Rattle.std.proofs.Common.{◌++◌}
-use Rattle.tide_line.specs.Line.{live_line}
+use Rattle.tide_text.specs.lines.Line.{live_line}
 use Rattle.tide_text.specs.Summary.{calls_line, replies_line}
 use Rattle.tide_io.proofs.ChainLaws.{Appends-then, AppendsPart-then, AppendsPart-grown, OnErr-from, OnErr-then, OnOk-then}
 use Rattle.tide_text.proofs.summary.write_summary.Goals as goal

@@ -1,9 +1,9 @@
 -- The definitions compute to these lines.
 use Rattle.std.proofs.Common.{refl}
 use Rattle.std.specs.Fmt.{digits}
-use Rattle.tide_line.specs.FaultLine.{fault_line, fault_text}
-use Rattle.tide_line.specs.Line.{call_line, counts_text, cycle_line, freed_cell_text, freed_text, live_line, mutator_line, refusal_text, reply_text, val_text}
-use Rattle.tide_line.specs.OpText.{op_text}
+use Rattle.tide_text.specs.lines.FaultLine.{fault_line, fault_text}
+use Rattle.tide_text.specs.lines.Line.{call_line, counts_text, cycle_line, freed_cell_text, freed_text, live_line, mutator_line, refusal_text, reply_text, val_text}
+use Rattle.tide_text.specs.lines.OpText.{op_text}
 use Rattle.tide_text.specs.Summary.{calls_line, replies_line}
 use Rattle.tide_text.proofs.worked.worked_lines.Goals as goal
 

@@ -5,7 +5,7 @@ use Rattle.std.proofs.lemmas.List.{take_more}
 use Rattle.std.proofs.lemmas.List.Concat.{flat_map-append}
 use Rattle.std.specs.Io.KnownBytes.{Appends}
 use Rattle.tide_io.specs.Faults.{AppendsPart}
-use Rattle.tide_line.specs.Line.{freed_cell_text}
+use Rattle.tide_text.specs.lines.Line.{freed_cell_text}
 use Rattle.tide_io.proofs.ChainLaws.{Appends-then, AppendsPart-then, AppendsPart-grown, OnErr-from}
 use Rattle.tide_text.proofs.writing.write_cells.Goals as goal
 

@@ -2,7 +2,7 @@
 use Rattle.std.proofs.Common.{◌≤◌, take}
 use Rattle.std.specs.List.{flat_map}
 use Rattle.std.specs.Io.KnownBytes.{Appends}
-use Rattle.tide_line.specs.Line.{freed_cell_text}
+use Rattle.tide_text.specs.lines.Line.{freed_cell_text}
 use Rattle.tide_text.proofs.writing.write_cells.Given as goal
 
 abbrev pub invariant-loop-id : goal.invariant-loop-id

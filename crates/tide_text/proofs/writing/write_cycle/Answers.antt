@@ -1,7 +1,7 @@
 -- The counts, the freed cells and the newline make the line, and a failed write leaves a part of it.
 use Rattle.std.proofs.Common.{◌++◌}
 use Rattle.std.specs.Prelude.{codes}
-use Rattle.tide_line.specs.Line.{counts_text, cycle_line, freed_text}
+use Rattle.tide_text.specs.lines.Line.{counts_text, cycle_line, freed_text}
 use Rattle.tide_io.proofs.ChainLaws.{Appends-then, AppendsPart-then, AppendsPart-grown, OnErr-from, OnErr-then, OnOk-then}
 use Rattle.tide_text.proofs.writing.write_cycle.Goals as goal
 

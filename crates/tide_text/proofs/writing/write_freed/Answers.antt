@@ -5,7 +5,7 @@ use Rattle.std.specs.List.{flat_map}
 use Rattle.std.proofs.KnownBytes.{Appends-nil}
 use Rattle.std.proofs.lemmas.Grind.{common_steps}
 use Rattle.std.specs.Io.KnownBytes.{Appends}
-use Rattle.tide_line.specs.Line.{freed_cell_text, freed_text}
+use Rattle.tide_text.specs.lines.Line.{freed_cell_text, freed_text}
 use Rattle.tide_io.proofs.ChainLaws.{AppendsPart-grown, OnErr-from, OnErr-then, OnOk-then}
 use Rattle.tide_text.proofs.writing.write_freed.Goals as goal
 

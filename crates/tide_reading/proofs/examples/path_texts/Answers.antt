@@ -1,7 +1,0 @@
-use Rattle.std.proofs.Common.{refl}
-use Rattle.tide_work.specs.Keys.{is_key}
-use Rattle.tide_reading.proofs.examples.path_texts.Goals as goal
-
-pub returns : goal.returns
-unfolding is_key
-returns c = record { first_appearance = refl; numbers = refl; twice = refl; spaced = refl; untrimmed = refl; empty = refl }

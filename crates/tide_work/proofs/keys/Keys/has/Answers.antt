@@ -1,9 +1,0 @@
-use Rattle.std.proofs.Common.{◌∙◌, ap, ℕ, List}
-use Rattle.tide_work.specs.Keys.{is_named}
-use Rattle.tide_work.proofs.KeyLemmas.{named_by_bytes}
-use Rattle.tide_work.proofs.keys.Keys.has.Goals as goal
-
-pub returns : goal.returns
-returns c =
-    c.contains.ensures ∙ named_by_bytes c.self.inside.names.keys c.args.name.now
-    ∙ ap (λ (names : List (List ℕ)). is_named names c.args.name.now) c.self.view_is
