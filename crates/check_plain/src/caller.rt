@@ -16,7 +16,7 @@ pub struct Caller {
 
 impl Model for Caller {
     ghost use Rattle.std.specs.Prelude.{◌≡◌};
-    ghost use Rattle.tide_plain.specs.Store.{layout_of};
+    ghost use Rattle.tide_plain.specs.calls.Store.{layout_of};
 
     ghost Value = { Unit {0} };
 

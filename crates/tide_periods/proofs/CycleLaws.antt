@@ -28,7 +28,7 @@ use Rattle.tide_model.proofs.Spans.{graph_in_cycle_span}
 use Rattle.tide_model.proofs.Cycles.{state_from-sweeps, phase_within}
 use Rattle.tide_model.proofs.ReferencesInCycles.{state_from-swept_in_layout}
 use Rattle.tide_layout.specs.Region.{block_count}
-use Rattle.tide_collect.specs.Collecting.{IsFreed, IsDeadWithin}
+use Rattle.tide_plain.specs.collect.Collecting.{IsFreed, IsDeadWithin}
 use Rattle.tide_periods.proofs.RecordedLaws.{TookNone-push}
 use Rattle.tide_report.specs.Ends.{TellsEnds}
 use Rattle.tide_report.specs.Reports.{Reported, with_line}

@@ -2,11 +2,11 @@
 use Rattle.std.proofs.Common.{ℕ, true, List}
 use Rattle.std.proofs.lemmas.Bool.{false≢true}
 use Rattle.std.specs.Prelude.{IfOk, Result, Ok, Err}
-use Rattle.tide_collect.specs.Collecting.{IsFreed}
+use Rattle.tide_plain.specs.collect.Collecting.{IsFreed}
 use Rattle.tide_model.proofs.Retained.{IsWithin-refl}
 use Rattle.tide_model.specs.Graph.{graph_of, no_cell, retained_more}
 use Rattle.tide_model.specs.State.{State}
-use Rattle.tide_plain.specs.Store.{IsSpared, Plain, state_of}
+use Rattle.tide_plain.specs.calls.Store.{IsSpared, Plain, state_of}
 
 full_frees : (store : Plain) (freed : List ℕ) → IsFreed (state_of store) (IsSpared store true) freed → IsFreed (state_of store) no_cell freed
 full_frees store freed is = record {

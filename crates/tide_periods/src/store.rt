@@ -9,7 +9,7 @@ ghost use Rattle.tide_model.specs.Layout.{IsBlockOf};
 ghost use Rattle.tide_model.specs.Lawful.{FitsLayout};
 ghost use Rattle.tide_model.specs.Room.{IsFullBlock};
 ghost use Rattle.tide_model.specs.State.{State};
-ghost use Rattle.tide_collect.specs.Collecting.{IsDeadWithin, IsFreed};
+ghost use Rattle.tide_plain.specs.collect.Collecting.{IsDeadWithin, IsFreed};
 ghost use Rattle.tide_periods.specs.Store.{Setting, blocks_in};
 
 use std::alloc::Global;

@@ -1,3 +1,5 @@
-pub mod Calls
-pub mod Registers
-pub mod Store
+pub mod statuses
+pub mod parts
+pub mod stored
+pub mod collect
+pub mod calls

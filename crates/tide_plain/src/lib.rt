@@ -1,22 +1,17 @@
-//! The plain store: the slow reference store, against which every other is compared.
+//! The plain store: the slow reference store, against which every other is compared. One thread, no words.
 //!
-//! An operation is a function here: what refuses it, and else a call of tide_stored, which holds the contents and
-//! changes one thing of them. `PlainStore::call` answers an operation as defined, and `PlainStore::collect` frees
-//! exactly the cells that nothing retains, which tide_collect finds; where the collection isn't a full one, the cells
-//! that the last one kept retain too. Its contracts speak of the store's layout, shapes and state by `layout_of`,
-//! `shapes_of` and `state_of` of `specs/Store.antt`, of the array that was taken last and of the blocks that were swept
-//! and the cells that were kept last.
+//! `statuses` says what becomes of an array, `parts` has each list by itself, `stored` has them together with their
+//! invariant, `collect` finds what is retained, and `calls` is the operations. Each names those before it alone.
 #![tactic(auto)]
 
-mod allocation;
-mod calling;
-mod claims;
-mod groups;
-mod handles;
-mod pairs;
-mod properties;
-mod registers;
-mod slots;
-mod store;
+mod statuses;
+// over those above it
+mod parts;
+// over those above it
+mod stored;
+// over those above it
+mod collect;
+// over those above it
+mod calls;
 
-pub use store::PlainStore;
+pub use calls::PlainStore;

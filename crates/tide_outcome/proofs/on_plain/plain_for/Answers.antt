@@ -3,7 +3,7 @@ use Rattle.std.proofs.Common.{◌∙◌, ap, sym}
 use Rattle.tide_layout.specs.Region.{block_count}
 use Rattle.tide_model.specs.Layout.{Layout}
 use Rattle.tide_model.specs.Refused.{ShapeLists}
-use Rattle.tide_plain.specs.Store.{shapes_of}
+use Rattle.tide_plain.specs.calls.Store.{shapes_of}
 use Rattle.tide_shape.specs.Shapes.{shapes_of_paths}
 use Rattle.tide_outcome.specs.Runs.{layout_of_work}
 use Rattle.tide_outcome.proofs.on_plain.plain_for.Goals as goal

@@ -1,0 +1,4 @@
+pub mod Additions
+pub mod Claiming
+pub mod PairRefusals
+pub mod Soundness

@@ -1,0 +1,12 @@
+use Rattle.std.proofs.Common.{◌≡◌, ◌≤◌}
+use Rattle.tide_model.specs.Numbers.{count_where}
+use Rattle.tide_model.specs.State.{is_live}
+use Rattle.tide_plain.specs.stored.Contents.{state_of}
+use Rattle.tide_plain.specs.stored.Parts.{parts_of}
+use Rattle.tide_plain.proofs.stored.contents.Contents.live.Given as goal
+
+abbrev pub invariant-loop-cell : goal.invariant-loop-cell
+invariant-loop-cell l = record {
+  counted : l.count ≡ count_where (λ cell. is_live ((state_of (parts_of l.self-inside)).cells cell).status) l.cell;
+  small : l.count ≤ l.cell;
+}

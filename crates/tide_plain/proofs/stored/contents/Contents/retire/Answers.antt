@@ -1,0 +1,14 @@
+use Rattle.std.proofs.Common.{◌<◌, refl, ap, arith, length}
+use Rattle.std.proofs.lemmas.List.{length-set}
+use Rattle.tide_plain.specs.stored.Parts.{parts_of}
+use Rattle.tide_plain.specs.stored.Stored.{Stored}
+use Rattle.tide_plain.proofs.stored_laws.MutatorLaws.{state_of-retired, IsStored-mutators}
+use Rattle.tide_plain.proofs.stored.contents.Contents.retire.Goals as goal
+
+pub returns : goal.returns
+returns c =
+    let within : c.args.who < length (parts_of c.self.inside).mutators = omega (arith, c.self.invariant.all_mutators, c.requires, ap (λ (s : Stored). s.layout.mutators) c.self.view_is) in
+    rw (← c.self.view_is, c.retire.ensures) (record { state = state_of-retired (parts_of c.self.inside) c.args.who within; layout = refl; shapes = refl })
+
+pub invariant_of-self : goal.invariant_of-self
+invariant_of-self c = rw c.retire.ensures (IsStored-mutators (parts_of c.self.inside) _ (length-set (parts_of c.self.inside).mutators c.args.who _) c.self.invariant)

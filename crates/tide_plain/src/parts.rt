@@ -1,0 +1,19 @@
+//! The parts of the plain store, each by itself: mutators, handles, cells, arrays, and the places of a table.
+//!
+//! Each part is a struct with private fields. Contracts see the lists that it holds (`specs/PartLists.antt`), and say
+//! what they are after a change and what a sweep leaves of them. No part knows another one, the layout or the shapes;
+//! what the lists mean together, and that they agree, is for `stored` to say.
+
+mod arrays;
+mod cells;
+mod handles;
+mod mutators;
+mod pairs;
+mod sweeping;
+mod taken;
+
+pub use arrays::{Arrays, Elements};
+pub use cells::{Cells, Pair, StoredCell};
+pub use handles::Handles;
+pub use mutators::{Mutators, StoredMutator};
+pub use pairs::{place_of, seat, value_of};
