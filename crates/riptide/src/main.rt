@@ -8,7 +8,7 @@ mod words;
 
 use std::env;
 use std::process::ExitCode;
-use tide_answer::answer;
+use tide_run::answer;
 use tide_io::{Gathered, RealSink, RealSource};
 use words::words_of;
 

@@ -2,8 +2,8 @@
 use Rattle.std.proofs.Common.{ℕ, zero, suc, ◌≡◌, ◌+◌, ◌≤◌, ◌<◌, refl, sym, ◌∙◌, ap, subst, arith, true, false, true≢false, List, [], ◌∷◌, ◌++◌, length, take, inl, inr, Option, None, Some, is_some, Result, Ok, Err}
 use Rattle.std.specs.Prelude.{◌⊎◌, IfSome, IsOk, IsErr}
 use Rattle.tide_workload.specs.Words.{Fault, MAX_BYTES, reads_workload, Work}
-use Rattle.tide_run.specs.declared.program.Stop.{Stop}
-use Rattle.tide_run.specs.declared.program.Stop.TheVariants.{Usage, ReadFault, BadInput, Memory}
+use Rattle.tide_run.specs.declared.stop.Stop.{Stop}
+use Rattle.tide_run.specs.declared.stop.Stop.TheVariants.{Usage, ReadFault, BadInput, Memory}
 use Rattle.tide_options.specs.declared.options.Options.{Options}
 use Rattle.tide_run.specs.Asked.{AsksToRead, IsAskedFor, RanAsked, asks_for_made}
 use Rattle.tide_run.specs.Runs.{Ran}

@@ -13,7 +13,7 @@ use Rattle.tide_model.specs.Script.{calls_of, own_calls}
 use Rattle.tide_periods.specs.Answered.{pair_of}
 use Rattle.tide_periods.specs.declared.answered.Answered.{Answered}
 use Rattle.tide_workload.specs.Words.{counts_with, replies_in, reply_in}
-use Rattle.tide_outcome.proofs.Outsiders.{own_calls-other}
+use Rattle.tide_run.proofs.running_laws.Outsiders.{own_calls-other}
 
 -- a mutator's replies
 abbrev pub replies_of : ℕ → List Event → List Reply

@@ -3,3 +3,4 @@ pub mod Causes
 pub mod Counted
 pub mod Printed
 pub mod Shown
+pub mod running_laws

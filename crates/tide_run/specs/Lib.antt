@@ -3,3 +3,4 @@ pub mod Asked
 pub mod Printing
 pub mod Program
 pub mod Runs
+pub mod running

@@ -4,8 +4,8 @@ use Rattle.std.specs.Io.KnownBytes.{Consumes, Appends, IsAtEnd}
 use Rattle.tide_io.specs.Faults.{Rose, AppendsPart}
 use Rattle.tide_workload.specs.Words.{Fault, MAX_BYTES, fault_line, reads_workload, Work}
 use Rattle.tide_model.specs.Numbers.{is_among}
-use Rattle.tide_run.specs.declared.program.Stop.{Stop}
-use Rattle.tide_run.specs.declared.program.Stop.TheVariants.{Usage, ReadFault, BadInput, Memory}
+use Rattle.tide_run.specs.declared.stop.Stop.{Stop}
+use Rattle.tide_run.specs.declared.stop.Stop.TheVariants.{Usage, ReadFault, BadInput, Memory}
 
 -- of the bytes that are left, those that reading takes: at most 4,194,305, one more than a workload may have
 abbrev pub input_of : List ℕ → List ℕ

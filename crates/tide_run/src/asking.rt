@@ -10,7 +10,8 @@ ghost use Rattle.tide_run.specs.Program.{ReadWork, RefusedInput};
 ghost use Rattle.tide_run.specs.Runs.{IsRunOf};
 
 use crate::counting::counts_of;
-use crate::program::Stop;
+use crate::stop::Stop;
+use crate::running::{Outcome, plain, run, run_with_snapshot};
 use std::alloc::Global;
 use std::marker::Sync;
 use std::thread::Threads;
@@ -18,7 +19,6 @@ use tide_io::{ReadError, Source, read_up_to};
 use tide_make::make;
 use tide_model::{Memory, Turnstile};
 use tide_options::{Options, Refused, options_of};
-use tide_outcome::{Outcome, plain, run, run_with_snapshot};
 use tide_snapshot::Snapshot;
 use tide_workload::{Counts, Fault, MAX_BYTES, Workload, read};
 

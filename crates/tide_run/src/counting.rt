@@ -3,8 +3,8 @@ ghost use Rattle.std.specs.Prelude.{ℕ, ◌≡◌, ◌++◌, List, map, IfOk, O
 ghost use Rattle.tide_model.specs.declared.op.Reply.{Reply};
 ghost use Rattle.tide_workload.specs.Words.{counts_of, counts_with};
 
+use crate::running::Outcome;
 use tide_model::Memory;
-use tide_outcome::Outcome;
 use tide_periods::Answered;
 use tide_workload::Counts;
 

@@ -11,8 +11,8 @@ ghost use Rattle.tide_run.specs.Asked.{printed_with};
 ghost use Rattle.tide_run.specs.Printing.{answered_line, reported_line, AreShownLines, IsPrintedWith};
 
 use crate::asking::Printable;
+use crate::running::Outcome;
 use tide_io::{Failed, Sink};
-use tide_outcome::Outcome;
 use tide_periods::Answered;
 use tide_report::{CycleLine, Report};
 use tide_workload::{Workload, write_call, write_cycle, write_live, write_mutator, write_summary};

@@ -12,13 +12,13 @@ ghost use Rattle.tide_run.specs.Program.{input_of, status_line, IsStatus, TellsL
 
 use crate::asking::{Printable, attempt};
 use crate::printing::print_run;
+use crate::running::Outcome;
+use crate::stop::tell;
 use std::alloc::Global;
 use std::marker::Sync;
 use std::thread::Threads;
-use tide_io::{Sink, Source, write_all};
+use tide_io::{Sink, Source};
 use tide_model::Turnstile;
-use tide_outcome::Outcome;
-use tide_workload::{Fault, write_fault_line};
 
 /// How a program ended, with the outcome of its run where there was one.
 #[derive(Drop)]
@@ -27,54 +27,6 @@ pub struct Ended {
     /// sink failed. 6: want of memory.
     pub status: u8,
     pub outcome: Option<Outcome>,
-}
-
-/// Why nothing was run.
-#[derive(Clone, Copy)]
-pub enum Stop {
-    Usage,
-    ReadFault,
-    BadInput { fault: Fault },
-    Memory,
-}
-
-impl Stop {
-    ghost use Rattle.tide_run.specs.Program.{stop_status, stop_line};
-
-    fn status(self) -> u8
-        ensures { result ≡ stop_status self }
-    {
-        match self {
-            Stop::Usage => 2,
-            Stop::BadInput { .. } => 3,
-            Stop::ReadFault => 4,
-            Stop::Memory => 6,
-        }
-    }
-
-    /// Writes the line that says why to the error sink, whose faults change nothing.
-    fn tell<E: Sink>(self, err: &mut E)
-        ensures { TellsLine (E.held err.old) (E.held err.new) (E.faults err.old) (E.faults err.new) (stop_line self) }
-    {
-        match self {
-            Stop::Usage => tell(
-                err,
-                "riptide: usage: riptide [--visitors N] [--plain] [--make N] [--snapshot]\n",
-            ),
-            Stop::ReadFault => tell(err, "riptide: read fault\n"),
-            Stop::BadInput { fault } => {
-                let _ = write_fault_line(err, fault);
-            }
-            Stop::Memory => tell(err, "riptide: no memory\n"),
-        }
-    }
-}
-
-/// Writes a line to the error sink, whose faults change nothing.
-fn tell<E: Sink>(err: &mut E, line: &str)
-    ensures { TellsLine (E.held err.old) (E.held err.new) (E.faults err.old) (E.faults err.new) line.now }
-{
-    let _ = write_all(err, line.as_bytes());
 }
 
 /// Prints a run, and tells where that fails.

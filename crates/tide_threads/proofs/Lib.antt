@@ -14,3 +14,4 @@ pub mod Taking
 pub mod Turns
 pub mod Visiting
 pub mod Visits
+mod Grown

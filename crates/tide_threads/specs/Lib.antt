@@ -6,3 +6,4 @@ pub mod OnThreads
 pub mod Parked
 pub mod Playing
 pub mod Standing
+pub mod Works

@@ -7,13 +7,19 @@ ghost use Rattle.tide_shape.specs.Lists.{lists_of};
 ghost use Rattle.tide_threads.specs.Parked.{HasBegun};
 ghost use Rattle.tide_threads.specs.Playing.{HasMadeShare, MayBeginShare};
 
-use crate::worker::Played;
+use crate::share::make_share;
 use tide_model::{Memory, Turnstile};
 use tide_mutator::Mutator;
 use tide_periods::Caller;
 use tide_shape::Shapes;
-use tide_share::make_share;
-use tide_table::{Heap, Pass, Ticket};
+use tide_table::{Heap, Note, Pass, Ticket};
+
+/// A part that was played: whether it was ended before its share was over, and the note of it.
+#[derive(Drop)]
+pub(crate) struct Played {
+    pub(crate) ended: bool,
+    pub(crate) note: Note,
+}
 
 /// A mutator with its caller, which says what it asks for.
 #[derive(Drop)]

@@ -7,9 +7,9 @@ ghost use Rattle.tide_threads.specs.Acting.{caller_of};
 ghost use Rattle.tide_threads.specs.Fresh.{IsFresh};
 ghost use Rattle.tide_threads.specs.Playing.{DidPart, HasMadePart, MayBeginPart, MayPlay};
 
-use crate::calling::CallingMutator;
+use crate::calling::{CallingMutator, Played};
 use crate::marking::CountingVisitor;
-use crate::worker::{Played, Worker};
+use crate::worker::Worker;
 use tide_model::{Memory, Turnstile};
 use tide_periods::Caller;
 use tide_shape::Shapes;

@@ -4,12 +4,12 @@ ghost use Rattle.tide_shape.specs.Lists.{lists_of};
 ghost use Rattle.tide_threads.specs.Acting.{caller_of, has_left, is_silent, races_of};
 ghost use Rattle.tide_threads.specs.Playing.{HasDoneShare, MayBeginPart};
 
-use crate::calling::CallingMutator;
+use crate::calling::{CallingMutator, Played};
 use crate::marking::CountingVisitor;
 use tide_model::{Memory, Turnstile};
 use tide_periods::Caller;
 use tide_shape::Shapes;
-use tide_table::{Heap, Note, Ticket};
+use tide_table::{Heap, Ticket};
 
 /// Who acts in a part.
 #[derive(Drop)]
@@ -18,13 +18,6 @@ pub enum Worker {
     Mutator(CallingMutator),
     /// It marks beside the mutators.
     Visitor(CountingVisitor),
-}
-
-/// A part that was played: whether it was ended before its share was over, and the note of it.
-#[derive(Drop)]
-pub(crate) struct Played {
-    pub(crate) ended: bool,
-    pub(crate) note: Note,
 }
 
 impl Worker {

@@ -9,7 +9,7 @@ use Rattle.tide_periods.specs.Own.{RanOwnShare}
 use Rattle.tide_periods.specs.Store.{Setting}
 use Rattle.tide_shape.specs.Lists.{lists_of}
 use Rattle.tide_threads.proofs.Making.{HasPlayed-stopped}
-use Rattle.tide_share.specs.Works.{room_by, Same}
+use Rattle.tide_threads.specs.Works.{room_by, Same}
 use Rattle.tide_threads.proofs.calling.CallingMutator.play.Goals as goal
 
 pub begin-requires : goal.begin-requires

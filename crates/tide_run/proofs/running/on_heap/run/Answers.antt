@@ -1,0 +1,64 @@
+-- Why a workload's scripts may run on a heap that threads share, and what that leaves.
+use Rattle.std.proofs.Common.{ℕ, ◌≡◌, ◌≤◌, ◌∙◌, sym, ap, arith, subst, length, map, List}
+use Rattle.std.proofs.lemmas.List.{length-map}
+use Rattle.tide_periods.specs.Asking.{scripts_of}
+use Rattle.tide_periods.specs.declared.caller.Caller.{Caller}
+use Rattle.tide_periods.specs.declared.run.Finished.{Finished}
+use Rattle.tide_threads.specs.OnThreads.{callers_on, setting_in}
+use Rattle.tide_workload.specs.Words.{Settings}
+use Rattle.tide_run.specs.running.Outcome.{HasLeft, is_heap}
+use Rattle.tide_run.specs.declared.running.outcome.Kept.{Kept}
+use Rattle.tide_run.specs.declared.running.outcome.Kept.TheVariants.{Heap}
+use Rattle.tide_periods.specs.Run.{HasRun}
+use Rattle.tide_periods.specs.Store.{Setting}
+use Rattle.tide_sched.specs.Paces.{pace_of}
+use Rattle.tide_sched.specs.declared.pacing.Pacing.{Pacing}
+use Rattle.tide_run.proofs.running_laws.RunLaws.{HasLeft-ran}
+use Rattle.tide_run.proofs.running.on_heap.run.Goals as goal
+
+pub run_on_threads-requires-clause-few : goal.run_on_threads-requires-clause-few
+run_on_threads-requires-clause-few g c κs within =
+    let callers = callers_on c.in_ok-on.on in
+    let are = c.in_ok-on.ensures.scripts in
+    let count : length callers ≡ length c.args.load.now.scripts = sym (length-map callers (λ (x : Caller). x.ops.items)) ∙ ap length are.are in
+    let few : length c.args.load.now.scripts ≤ 16 = are.few in
+    omega (arith, count, few)
+
+pub run_on_threads-requires-clause-short : goal.run_on_threads-requires-clause-short
+run_on_threads-requires-clause-short g c κs within = c.in_ok-on.ensures.scripts.short
+
+pub run_on_threads-requires-clause-opens : goal.run_on_threads-requires-clause-opens
+run_on_threads-requires-clause-opens g c κs within = c.in_ok-on.ensures.opens
+
+pub outcome_of-requires-clause-none_met : goal.outcome_of-requires-clause-none_met
+outcome_of-requires-clause-none_met g c = λ none.
+    c.in_ok-finished.ensures.none_met (ap (λ (s : Setting). s.layout.visitors) c.in_ok-on.ensures.setting ∙ none)
+
+pub outcome_of-requires-clause-left : goal.outcome_of-requires-clause-left
+outcome_of-requires-clause-left g c =
+    let work = c.args.load.now in
+    let ran = c.in_ok-finished.field-0.finished in
+    let on = c.in_ok-on in
+    let pacing = c.pacing_with-pacing in
+    let value = c.settings-settings.ensures.value in (
+      pacing.result.trigger,
+      subst (HasLeft work pacing.result.trigger c.args.visitors) (sym c.kept_by_heap-kept.ensures)
+          (HasLeft-ran work pacing.result c.args.visitors (record { kept = Heap ran.kept; report = ran.report; calls = ran.calls; live = ran.live })
+          (setting_in on.on) (scripts_of (callers_on on.on))
+          (subst (λ (p : Pacing). HasRun (setting_in on.on) (pace_of p) (scripts_of (callers_on on.on)) ran.kept.seat.me.0.seen
+          ran.report (map (λ own. own.items) ran.calls.items) ran.live) on.ensures.pacing c.in_ok-finished.ensures.ran)
+          on.ensures.setting on.ensures.scripts
+          (pacing.ensures.period ∙ ap (λ (s : Settings). s.period) value) (pacing.ensures.headroom ∙ ap (λ (s : Settings). s.headroom) value)),
+    )
+
+pub returns-clause-run : goal.returns-clause-run
+unfolding outcome_of-requires-clause-left
+returns-clause-run g c =
+    let work = c.args.load.now in
+    let trigger : c.pacing_with-pacing.result.trigger ≡ work.settings.trigger =
+    c.pacing_with-pacing.ensures.trigger ∙ ap (λ (s : Settings). s.trigger) c.settings-settings.ensures.value in
+    c.outcome_of.ensures.run work.settings.trigger
+    (subst (λ (n : ℕ). HasLeft work n c.args.visitors c.kept_by_heap-kept.result) trigger (outcome_of-requires-clause-left g c.before).1)
+
+pub returns-clause-heap : goal.returns-clause-heap
+returns-clause-heap g c = c.outcome_of.ensures.heap ∙ ap (λ (x : Finished Kept). is_heap x.kept) c.kept_by_heap-kept.ensures

@@ -1,0 +1,46 @@
+//! Running a workload on the heap that its mutators share, with a snapshot of what the heap holds at the end.
+ghost use Rattle.std.specs.Prelude.{◌≡◌, ◌≤◌, true, IfOk};
+ghost use Rattle.tide_model.specs.History.{state_after};
+ghost use Rattle.tide_run.specs.running.Runs.{IsRunOf};
+ghost use Rattle.tide_retained.specs.Contents.{HasKeysOf};
+ghost use Rattle.tide_retained.specs.Holding.{IsSnapshotOf};
+ghost use Rattle.tide_shape.specs.Shapes.{shapes_of_paths};
+
+use crate::running::finishing::{kept_by_heap, outcome_of};
+use crate::running::on_heap::heap_for;
+use crate::running::outcome::Outcome;
+use crate::running::starting::{names_of, pacing_with};
+use std::alloc::Global;
+use std::marker::Sync;
+use std::thread::Threads;
+use tide_model::{Memory, Turnstile};
+use tide_snapshot::Snapshot;
+use tide_threads::{HeapRun, run_with_snapshot as run_to_snapshot};
+use tide_workload::Workload;
+
+/// Runs a workload on one heap as `run` does, and takes a snapshot of the last state of its history. Lines of the
+/// snapshot may be written under the names of this workload's keys.
+pub fn run_with_snapshot<R: Threads + Sync, T: Turnstile>(
+    rt: &R,
+    alloc: Global,
+    load: &Workload,
+    visitors: u8,
+    gate: &T,
+) -> Result<(Outcome, Snapshot), Memory>
+    requires { visitors ≤ 8 }
+    ensures run { IfOk result (λ shown. IsRunOf load.now load.now.settings.trigger visitors shown.0) }
+    ensures heap { IfOk result (λ shown. shown.0.is_heap ≡ true) }
+    ensures snapshot { IfOk result (λ shown.
+        IsSnapshotOf shown.0.layout (state_after shown.0.layout shown.0.history) shown.1) }
+    ensures keys { IfOk result (λ shown. HasKeysOf (shapes_of_paths load.now.paths) shown.1) }
+{
+    let settings = load.settings();
+    let names = names_of(alloc, load)?;
+    let pacing = pacing_with(settings, settings.trigger);
+    let on = heap_for(alloc, load, visitors, pacing)?;
+    let (left, snapshot) = run_to_snapshot(rt, alloc, gate, on)?;
+    let HeapRun { finished, deferred } = left;
+    let kept = kept_by_heap(finished);
+    let outcome = outcome_of(load, visitors, names, kept, deferred);
+    Ok((outcome, snapshot))
+}
