@@ -1,2 +1,3 @@
 pub mod Looks
 pub mod Pairing
+pub mod callers_laws

@@ -2,7 +2,7 @@
 use Rattle.std.proofs.Common.{ℕ, zero, suc, ◌≡◌, ◌+◌, ◌<◌, ◌≤◌, ◌⊎◌, refl, sym, ◌∙◌, ap, subst, arith, inl, inr, Bool, true, false, List, [], ◌∷◌}
 use Rattle.std.proofs.lemmas.Bool.{eqb-true}
 use Rattle.std.specs.Prelude.{◌==◌, if◌then◌else◌}
-use Rattle.check_callers.specs.Working.{IsReady, Stays}
+use Rattle.check_table.specs.callers.Working.{IsReady, Stays}
 use Rattle.check_table.specs.Unvisited.{RunsPart}
 use Rattle.tide_table.proofs.Nexts.{RunsWith-noted}
 use Rattle.tide_table.specs.Standing.{HasOpenedNext}

@@ -3,3 +3,4 @@ pub mod Resting
 pub mod Pairs
 pub mod Standing
 pub mod Unvisited
+pub mod callers

@@ -6,7 +6,7 @@ ghost use Rattle.tide_core.specs.machine.Frozen.{newcomer};
 ghost use Rattle.tide_shape.specs.Lists.{lists_of};
 ghost use Rattle.tide_table.specs.Started.{IsStarted};
 
-use check_callers::{begin_part, open_first, stop_and_freeze};
+use crate::callers::{begin_part, open_first, stop_and_freeze};
 use tide_freeze::{Books, freeze};
 use tide_layout::Layout;
 use tide_model::Memory;

@@ -14,6 +14,7 @@
 //! - `freezes`: the freeze code runs twice over a frozen heap, with nothing due and as a must.
 #![tactic(auto)]
 
+mod callers;
 mod chains;
 mod freezing;
 mod pacing;

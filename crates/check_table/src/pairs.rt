@@ -1,12 +1,12 @@
 //! What both mutators of a `Pair` do, one after the other. Each call leaves them as the next one wants them.
 ghost use Rattle.std.specs.Prelude.{◌≡◌, true, false, OnOk};
-ghost use Rattle.check_callers.specs.Working.{all_calls, put_calls};
+ghost use Rattle.check_table.specs.callers.Working.{all_calls, put_calls};
 ghost use Rattle.check_table.specs.Pairs.{no_calls, HasOpened, HasStarted, HaveBegun, HaveCalled, HaveStopped};
 ghost use Rattle.check_table.specs.Pairs.{IsClosedOf, SameCalls};
 
+use crate::callers::{begin_part, leave, open_first, stop_part};
 use crate::pair::Pair;
 use crate::working::{Found, look, put};
-use check_callers::{begin_part, leave, open_first, stop_part};
 use tide_cycle::Report;
 use tide_freeze::Books;
 use tide_table::{Closed, NotOpened, Numbers, PeriodsSpent};

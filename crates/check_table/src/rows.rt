@@ -1,6 +1,6 @@
 //! Rows of parts of two mutators, from the start of a heap to its close. It prints nothing.
 ghost use Rattle.std.specs.Prelude.{false, IfSome};
-ghost use Rattle.check_callers.specs.Working.{put_calls};
+ghost use Rattle.check_table.specs.callers.Working.{put_calls};
 ghost use Rattle.check_table.specs.Pairs.{no_calls, HasOpened, HasStarted, HaveCalled, IsClosedOf};
 
 use crate::pair::Pair;

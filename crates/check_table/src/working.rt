@@ -1,10 +1,10 @@
 //! What a mutator does in a part: its calls, and loads of its own words, of handles, of a slot and a claim. It knows no
 //! ticket and no note.
 ghost use Rattle.std.specs.Prelude.{◌≡◌, ◌<◌, [], true, false};
-ghost use Rattle.check_callers.specs.Working.{put_calls, IsReady, Stays};
+ghost use Rattle.check_table.specs.callers.Working.{put_calls, IsReady, Stays};
 ghost use Rattle.check_table.specs.Working.{HasAll, HasLooked};
 
-use check_callers::{put_strong, put_weak, set_register};
+use crate::callers::{put_strong, put_weak, set_register};
 use tide_table::{Heap, HeapShapes, Pass};
 
 /// The words that a mutator found: its register, its call word, two handles, a slot and a claim.

@@ -27,19 +27,12 @@
 //! `.ci/workloads`.
 #![tactic(auto)]
 
-use check_drains::check_drains;
-use check_ends::Ends;
-use check_facts::check_facts;
 use check_heap::{check_rows, joined, text, words_of};
-use check_marking::{check_marking, time_runs};
-use check_plain::check_plain;
-use check_runs::{Shelf, check_runs, check_ways};
-use check_shapes::check_shapes;
-use check_snapshot::{check_snapshot, time_large};
+use check_runs::{Ends, Shelf, check_facts, check_runs, check_ways};
 use check_table::check_table;
-use embed_heap::both_find_seven;
-use embed_shapes::adds_in_order;
-use embed_visitor::four_are_kept;
+use check_threads::{check_drains, check_shapes};
+use check_words::{check_marking, check_plain, check_snapshot, time_large, time_runs};
+use embed_heap::{adds_in_order, both_find_seven, four_are_kept};
 use std::alloc::{AllocError, Global};
 use std::marker::Sync;
 use std::process::ExitCode;

@@ -1,2 +1,2 @@
--- The definitions of this crate.
-pub mod Working
+pub mod two_mutators
+pub mod visitor

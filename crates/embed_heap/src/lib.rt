@@ -1,31 +1,16 @@
-//! A caller of one's own of the heap that threads share: two mutators run in two threads, and each reads again what it
-//! stored.
+//! Callers of one's own of the heap that threads share: two mutators, a visitor beside one, and a heap over shapes that
+//! threads grew.
 //!
-//! It is a library that a program hands its runtime: `fn main(rt: HostRuntime)` calls
-//! `both_find_seven(&rt, rt.alloc())`.
+//! It is a library that a program hands its runtime: `fn main(rt: HostRuntime)` calls `both_find_seven(&rt, rt.alloc())`,
+//! `four_are_kept` or `adds_in_order`. A program of one's own may begin as a copy of one of the three folders.
 #![tactic(auto)]
 
-mod pair;
-mod starting;
-mod working;
+mod two_mutators;
+// over those above it
+mod visitor;
+// over those above it
+mod shapes;
 
-use starting::run;
-use std::alloc::Global;
-use std::marker::Sync;
-use std::thread::Threads;
-use tide_model::{Reply, Val};
-use working::Found;
-
-/// A mutator read the number that it had stored, and an operation that doesn't fit its heap was not made.
-fn is_seven(found: Found) -> bool {
-    matches!(found.seen, Some(Reply::Seen(Val::Int(7)))) && found.foreign.is_none()
-}
-
-/// Runs two mutators on a heap of their own, and answers whether each found the number that it had stored, and made no
-/// call of an operation on a register that it doesn't have.
-pub fn both_find_seven<R: Threads + Sync>(rt: &R, alloc: Global) -> bool {
-    match run(rt, alloc) {
-        Some((first, second)) => is_seven(first) && is_seven(second),
-        None => false,
-    }
-}
+pub use shapes::adds_in_order;
+pub use two_mutators::both_find_seven;
+pub use visitor::{Shared, Worked, four_are_kept, layout, start, work};

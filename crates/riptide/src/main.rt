@@ -8,8 +8,8 @@ mod words;
 
 use std::env;
 use std::process::ExitCode;
-use tide_run::answer;
 use tide_io::{Gathered, RealSink, RealSource};
+use tide_run::answer;
 use words::words_of;
 
 fn main(rt: HostRuntime) -> ExitCode {

@@ -10,9 +10,9 @@ ghost use Rattle.tide_words.specs.heap.Reading.{slot_word};
 ghost use Rattle.tide_call.specs.Callers.{Always, Leaves, MayCallNow};
 ghost use Rattle.tide_call.specs.ShapeWord.{IsShapeWord};
 
+use crate::claims::Claims;
 use crate::own::{OwnRegisters, OwnWords};
 use std::marker::Model;
-use crate::claims::Claims;
 use tide_layout::PAIRS;
 use tide_model::{Refusal, Val};
 use tide_shape::ShapeTable;

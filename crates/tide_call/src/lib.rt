@@ -8,8 +8,8 @@
 
 mod claims;
 // over those above it
-mod own;
 mod caller;
+mod own;
 mod plan;
 // over those above it
 mod additions;

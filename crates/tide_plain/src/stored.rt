@@ -7,6 +7,6 @@
 
 mod contents;
 
-pub use contents::Contents;
 pub use crate::parts::Pair;
 pub use crate::statuses::ArrayStatus;
+pub use contents::Contents;

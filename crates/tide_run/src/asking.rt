@@ -10,8 +10,8 @@ ghost use Rattle.tide_run.specs.Program.{ReadWork, RefusedInput};
 ghost use Rattle.tide_run.specs.Runs.{IsRunOf};
 
 use crate::counting::counts_of;
-use crate::stop::Stop;
 use crate::running::{Outcome, plain, run, run_with_snapshot};
+use crate::stop::Stop;
 use std::alloc::Global;
 use std::marker::Sync;
 use std::thread::Threads;

@@ -8,12 +8,12 @@ ghost use Rattle.tide_workload.specs.Words.{reads_workload};
 ghost use Rattle.tide_run.specs.Asked.{AsksToRead, Prints, PrintsPart, RanAsked, asks_for_made};
 ghost use Rattle.tide_run.specs.Program.{input_of, status_line, IsStatus, TellsLine, ToldFault};
 
+use crate::program::{Ended, riptide};
 use std::alloc::{AllocError, Global};
 use std::marker::Sync;
 use std::thread::Threads;
 use tide_io::{Sink, Source, write_all};
 use tide_model::FreePass;
-use crate::program::{Ended, riptide};
 
 /// Does what the words of the command line ask for, and answers how it ended, with the exit status. `Err` for want of
 /// memory for the words.

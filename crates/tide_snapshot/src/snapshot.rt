@@ -21,8 +21,8 @@ use tide_io::{Failed, Sink};
 use tide_model::Memory;
 use tide_retained::Retained;
 use tide_shape::ShapeTable;
-use tide_words::{Layout, Words};
 use tide_text::Workload;
+use tide_words::{Layout, Words};
 
 /// What a heap held at one moment, and a shortest path to each cell that was retained.
 #[derive(Drop)]

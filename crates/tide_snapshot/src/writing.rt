@@ -10,10 +10,9 @@ ghost use Rattle.tide_snapshot.specs.Written.{held_line, line_at, lines_text, wa
 
 use tide_io::{Failed, Sink, write_all};
 use tide_layout::TABLE;
-use tide_text::{LONGEST_LINE, Line};
 use tide_model::Val;
 use tide_retained::{Held, Keyed, Retained, Root, Way};
-use tide_text::{Keys, Workload};
+use tide_text::{Keys, LONGEST_LINE, Line, Workload};
 
 /// The names of the keys of a workload, whose paths have no others.
 pub(crate) fn names_of(load: &Workload) -> &Keys

@@ -9,9 +9,9 @@ use crate::zeros::{zeros, zeros_besides};
 use atomic_table::Table;
 use std::alloc::{AllocError, Global};
 use std::marker::Brand;
+use tide_heap::{Heap, HeapShapes, Key, Pass};
 use tide_model::Memory;
 use tide_shape::ShapeTable;
-use tide_heap::{Heap, HeapShapes, Key, Pass};
 use tide_words::{Layout, Region};
 
 /// A heap, with the right to each of its seats.

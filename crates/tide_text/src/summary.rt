@@ -5,9 +5,9 @@ ghost use Rattle.tide_io.specs.Faults.{AppendsPart, HasCause};
 ghost use Rattle.tide_text.specs.Summary.{calls_line, replies_line, summary_text};
 
 use crate::counts::Counts;
+use crate::lines::Line;
 use crate::writing::write_live;
 use tide_io::{Failed, Sink, write_all};
-use crate::lines::Line;
 
 /// How many bytes a line of a summary has at most: seven words of up to eight bytes, each with a number.
 pub const LONGEST_COUNTS: usize = 128;

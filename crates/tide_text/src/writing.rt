@@ -7,10 +7,10 @@ ghost use Rattle.tide_text.specs.lines.FaultLine.{fault_line};
 ghost use Rattle.tide_text.specs.lines.Line.{call_line, counts_text, cycle_line, freed_cell_text, freed_text, live_line, mutator_line};
 ghost use Rattle.tide_text.specs.lines.OpText.{HasText};
 
-use tide_io::{Failed, Sink, write_all};
 use crate::lines::{LONGEST_LINE, Line};
-use tide_model::{Op, Reply};
 use crate::work::{Fault, Workload};
+use tide_io::{Failed, Sink, write_all};
+use tide_model::{Op, Reply};
 
 /// A line of a run or of a fault.
 type RunLine = Line<LONGEST_LINE>;

@@ -7,9 +7,9 @@ ghost use Rattle.tide_grow_shape.specs.growers.Stands.{Stands};
 use crate::growers::grower::Grower;
 use crate::growers::maker::Maker;
 use crate::growers::table::GrowShapes;
+use crate::transitions::Cells;
 use std::alloc::Global;
 use tide_model::Memory;
-use crate::transitions::Cells;
 
 impl Maker {
     /// All that another of the same table has read and knows. After an `Err` some of it may be known.

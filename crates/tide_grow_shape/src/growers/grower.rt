@@ -8,12 +8,12 @@ use crate::growers::known::KnownShapes;
 use crate::growers::maker::Maker;
 use crate::growers::refused::GrowRefused;
 use crate::growers::table::GrowShapes;
+use crate::transitions::{GrowGate, Sights};
 use boxcar::tag::Tag;
 use std::alloc::Global;
 use std::marker::Model;
 use std::sync::Wait;
 use tide_model::{FreePass, Memory};
-use crate::transitions::{GrowGate, Sights};
 
 /// One maker of shapes, with what it read of its table's cells. Contracts see what it knows.
 #[derive(Drop)]

@@ -3,10 +3,10 @@ ghost use Rattle.std.specs.Prelude.{◌≡◌, ◌<◌, ◌≤◌, ◌^◌, ℕ,
 ghost use Rattle.tide_grow_shape.specs.growers.Grown.{known_keys, learned};
 ghost use Rattle.tide_grow_shape.specs.growers.Known.{fact_of};
 
+use crate::transitions::Places;
 use std::alloc::Global;
 use std::marker::Model;
 use tide_model::Memory;
-use crate::transitions::Places;
 
 /// A shape that is known.
 #[derive(Drop)]

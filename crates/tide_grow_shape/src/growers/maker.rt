@@ -9,10 +9,10 @@ ghost use Rattle.tide_shape.specs.ShapeTable.{HasNoKeyTwice};
 
 use crate::growers::known::KnownShapes;
 use crate::growers::refused::GrowRefused;
+use crate::transitions::{Cells, GrowGate, ShownItem, Sights, Sought, Unmade};
 use std::alloc::Global;
 use std::sync::Wait;
 use tide_model::Memory;
-use crate::transitions::{Cells, GrowGate, ShownItem, Sights, Sought, Unmade};
 
 /// What was read of a table's cells, and the shapes that are known by that.
 #[derive(Drop)]

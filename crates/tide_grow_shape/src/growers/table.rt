@@ -1,10 +1,10 @@
 //! The table that threads grow. It knows no grower.
 ghost use Rattle.std.specs.Prelude.{◌≡◌, IfOk};
 
+use crate::transitions::Cells;
 use std::alloc::Global;
 use std::marker::Model;
 use tide_model::Memory;
-use crate::transitions::Cells;
 
 /// Shapes that threads make while others do. Contracts see what tells the table from others, how many keys there are,
 /// and the highest number that a shape may have.

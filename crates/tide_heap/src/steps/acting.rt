@@ -8,13 +8,13 @@ ghost use Rattle.tide_heap.specs.steps.Follows.{May, StandsAt, Tells};
 ghost use Rattle.tide_heap.specs.steps.Steps.{kind_of};
 ghost use Rattle.tide_heap.specs.steps.Works.{is_plain};
 
+use crate::heap::Heap;
+use crate::shapes::HeapShapes;
 use crate::steps::pass::Pass;
 use crate::steps::plays::{Finds, Intent, Puts};
 use crate::steps::step::Step;
 use atomic_table::Seat;
 use std::marker::Brand;
-use crate::heap::Heap;
-use crate::shapes::HeapShapes;
 use tide_core::{Act, View};
 
 /// Does an operation on a word. Answers the word that was there, and of a store the one that was stored.

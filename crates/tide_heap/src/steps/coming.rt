@@ -10,11 +10,11 @@ ghost use Rattle.tide_heap.specs.Done.{done_by_numbers, HasDonePart};
 ghost use Rattle.tide_heap.specs.Parties.{IsParty};
 ghost use Rattle.tide_heap.specs.Turns.{heard_view, note_of};
 
+use crate::heap::Heap;
+use crate::shapes::HeapShapes;
 use crate::steps::notes::{Note, Ticket};
 use crate::steps::pass::Pass;
 use crate::steps::plays::{Begins, DoneNotes, Hears, Notes, Stops};
-use crate::heap::Heap;
-use crate::shapes::HeapShapes;
 use tide_words::Region;
 
 impl Pass {

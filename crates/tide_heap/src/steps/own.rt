@@ -4,10 +4,10 @@ ghost use Rattle.tide_core.specs.machine.Kind.{LoadCall, LoadRegister, LoadStron
 ghost use Rattle.tide_model.specs.declared.op.Op.TheVariants as op;
 ghost use Rattle.tide_heap.specs.steps.Calls.{CanStep, HasStepped, HasStored};
 
-use crate::steps::acting::act_as;
-use crate::steps::step::Step;
 use crate::heap::Heap;
 use crate::shapes::HeapShapes;
+use crate::steps::acting::act_as;
+use crate::steps::step::Step;
 use crate::steps::{Made, Pass};
 use std::marker::Brand;
 use tide_core::Act;

@@ -6,9 +6,9 @@ ghost use Rattle.tide_core.specs.machine.Kind.{LoadElement, LoadOwnArray, LoadOw
 ghost use Rattle.tide_model.specs.Layout.{cell_count};
 ghost use Rattle.tide_heap.specs.steps.Calls.{CanStep, HasStepped, HasStored};
 
-use crate::steps::step::Step;
 use crate::heap::Heap;
 use crate::shapes::HeapShapes;
+use crate::steps::step::Step;
 use crate::steps::{Made, Pass};
 use tide_core::Act;
 use tide_words::{Region, array_word};

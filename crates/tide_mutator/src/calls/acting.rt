@@ -14,15 +14,15 @@ use crate::calls::growing::grow;
 use crate::calls::leaving::leave;
 use crate::calls::properties::{append, get_property, put_property};
 use crate::calls::registers::{ask, fill, refuse};
-use tide_call::Plan;
 use crate::cells::births::take;
 use crate::cells::claiming::{claim, release};
 use crate::cells::handles::{get_strong, get_weak, put_strong, put_weak};
 use crate::cells::hints::Hints;
 use crate::cells::pairs::{drop_pair, get_pair, put_pair};
 use crate::cells::slots::{get, put};
-use tide_model::{Op, Reply, Turnstile};
+use tide_call::Plan;
 use tide_heap::{Heap, HeapShapes, Pass};
+use tide_model::{Op, Reply, Turnstile};
 
 /// Acts on a plan of a handle, of a pair or of a group, or on one to retire or to ask for a cycle.
 fn act_on_rest<S: HeapShapes>(

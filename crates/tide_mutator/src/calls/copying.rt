@@ -2,9 +2,9 @@
 ghost use Rattle.std.specs.Prelude.{◌≡◌};
 ghost use Rattle.tide_mutator.specs.calls.Growing.{HasRead, IsReady, KnowsElements};
 
-use tide_model::Op;
 use crate::owed::Growth;
 use tide_heap::{Heap, HeapShapes, Pass};
+use tide_model::Op;
 
 /// The words of the properties in the cell's array, if it has one.
 pub(crate) fn load_elements<S: HeapShapes>(

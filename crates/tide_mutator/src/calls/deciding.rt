@@ -15,9 +15,9 @@ ghost use Rattle.tide_words.specs.heap.Heap.{Heap as TheWords};
 
 use crate::calls::own::OwnPass;
 use tide_call::{Caller, Claims, Plan};
+use tide_heap::Heap;
 use tide_model::Op;
 use tide_shape::ShapeTable;
-use tide_heap::Heap;
 
 /// Decides what a call of a mutator with these claims is to do. The first step of a call is a load of its call word: of
 /// any step its mutator knows that references are live, and that the words read as some state.

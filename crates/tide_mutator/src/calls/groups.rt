@@ -7,8 +7,8 @@ ghost use Rattle.tide_mutator.specs.owed.Calling.{IsCalling};
 ghost use Rattle.tide_mutator.specs.owed.Made.{HasDone};
 ghost use Rattle.tide_mutator.specs.owed.Standing.{IsPlanned};
 
-use tide_model::{Op, Reply};
 use tide_heap::{Heap, HeapShapes, Pass};
+use tide_model::{Op, Reply};
 
 /// Puts a cell in a group.
 pub(crate) fn join<S: HeapShapes>(

@@ -6,8 +6,8 @@ ghost use Rattle.tide_mutator.specs.owed.Calling.{IsCalling};
 ghost use Rattle.tide_mutator.specs.owed.Made.{HasDone};
 ghost use Rattle.tide_mutator.specs.owed.Standing.{IsPlanned};
 
-use tide_model::{Op, Reply};
 use tide_heap::{Heap, HeapShapes, Pass};
+use tide_model::{Op, Reply};
 
 /// Makes its mutator inactive.
 pub(crate) fn leave<S: HeapShapes>(pass: &mut Pass, heap: &Heap<S>, op: Op, calls: u64) -> Reply

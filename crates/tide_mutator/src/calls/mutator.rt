@@ -4,8 +4,8 @@ ghost use Rattle.tide_mutator.specs.owed.Standing.{claims_of};
 ghost use Rattle.tide_core.specs.machine.May.{Rests};
 
 use crate::calls::own::OwnPass;
-use tide_call::Claims;
 use crate::cells::hints::Hints;
+use tide_call::Claims;
 
 /// A mutator, with its right to step on a heap. Between its calls it owes nothing.
 #[derive(Drop)]

@@ -8,10 +8,10 @@ ghost use Rattle.tide_layout.specs.Slots.{HasElement};
 ghost use Rattle.tide_model.specs.Layout.{cell_count};
 ghost use Rattle.tide_call.specs.Needed.{HasRoomFor};
 
-use tide_call::Addition;
-use tide_model::{Op, Reply, Turnstile, Val};
 use crate::owed::{shade_for, shape_word, show};
+use tide_call::Addition;
 use tide_heap::{Heap, HeapShapes, Pass};
+use tide_model::{Op, Reply, Turnstile, Val};
 use tide_words::val_word;
 
 /// Loads a property, and fills a register with what it holds.

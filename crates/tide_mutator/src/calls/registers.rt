@@ -6,8 +6,8 @@ ghost use Rattle.tide_mutator.specs.owed.Calling.{IsCalling};
 ghost use Rattle.tide_mutator.specs.owed.Made.{HasDone};
 ghost use Rattle.tide_mutator.specs.owed.Standing.{IsPlanned};
 
-use tide_model::{Op, Refusal, Reply, Val};
 use tide_heap::{Heap, HeapShapes, Pass};
+use tide_model::{Op, Refusal, Reply, Val};
 use tide_words::val_word;
 
 /// Fills a register.

@@ -9,8 +9,8 @@ ghost use Rattle.tide_mutator.specs.owed.Made.{HasDone};
 ghost use Rattle.tide_mutator.specs.owed.Standing.{IsPlanned};
 ghost use Rattle.tide_call.specs.Needed.{IsSomeClaim};
 
-use tide_model::{Op, Refusal, Reply};
 use tide_heap::{Heap, HeapShapes, Pass};
+use tide_model::{Op, Refusal, Reply};
 use tide_words::word_claim;
 
 /// Who holds the cell of a claim word refuses the call; where nobody does, it is answered otherwise.

@@ -6,9 +6,9 @@ ghost use Rattle.tide_mutator.specs.owed.Calling.{IsCalling};
 ghost use Rattle.tide_mutator.specs.owed.Made.{HasDone};
 ghost use Rattle.tide_mutator.specs.owed.Standing.{IsPlanned};
 
-use tide_model::{Op, Reply, Val};
 use crate::owed::show;
 use tide_heap::{Heap, HeapShapes, Pass};
+use tide_model::{Op, Reply, Val};
 use tide_words::val_word;
 
 /// Stores a strong handle.

@@ -7,9 +7,9 @@ ghost use Rattle.tide_mutator.specs.owed.Made.{HasDone};
 ghost use Rattle.tide_mutator.specs.owed.Standing.{IsPlanned};
 ghost use Rattle.tide_words.specs.forms.PairWord.{max_cells};
 
-use tide_model::{Op, Reply, Val};
 use crate::owed::pay;
 use tide_heap::{Heap, HeapShapes, Pass};
+use tide_model::{Op, Reply, Val};
 use tide_words::pair_word;
 
 /// Stores a pair of a table.

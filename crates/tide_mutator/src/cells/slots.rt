@@ -7,9 +7,9 @@ ghost use Rattle.tide_mutator.specs.owed.Calling.{IsCalling};
 ghost use Rattle.tide_mutator.specs.owed.Made.{HasDone};
 ghost use Rattle.tide_mutator.specs.owed.Standing.{IsPlanned};
 
-use tide_model::{Op, Reply, Turnstile, Val};
 use crate::owed::{shade_for, show};
 use tide_heap::{Heap, HeapShapes, Pass};
+use tide_model::{Op, Reply, Turnstile, Val};
 use tide_words::val_word;
 
 /// Loads a slot, and fills a register with what it holds.

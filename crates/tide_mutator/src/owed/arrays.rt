@@ -6,8 +6,8 @@ ghost use Rattle.tide_model.specs.Layout.{cell_count};
 ghost use Rattle.tide_mutator.specs.owed.Replacing.{HasReplaced, OwesGrowth};
 
 use crate::owed::growth::Growth;
-use tide_model::{Place, Turnstile};
 use tide_heap::{Heap, HeapShapes, Pass};
+use tide_model::{Place, Turnstile};
 
 /// Fills the array that was taken, and gives it to its cell with the new structure. While the cell's array changes, its
 /// structure's word says so. The turnstile is met once that word is stored, and once the array is.

@@ -5,8 +5,8 @@ ghost use Rattle.tide_model.specs.declared.op.Reply.TheVariants.{Seen};
 ghost use Rattle.tide_mutator.specs.owed.Paying.{HasPaid, OwesRegister};
 ghost use Rattle.tide_words.specs.heap.Reading.{IsValueOf};
 
-use tide_model::{Reply, Val};
 use tide_heap::{Heap, HeapShapes, Pass};
+use tide_model::{Reply, Val};
 use tide_words::{val_word, word_val};
 
 /// Stores the register that a call filled, and tells the call.

@@ -7,9 +7,9 @@ ghost use Rattle.tide_model.specs.State.{blank_cell, live};
 ghost use Rattle.tide_plain.specs.stored.Contents.{state_of, Leaves};
 ghost use Rattle.tide_plain.specs.calls.Calls.{IsCall, MayCall};
 
+use crate::stored::Contents;
 use tide_layout::TABLE;
 use tide_model::{Op, Refusal, Reply, Val};
-use crate::stored::Contents;
 
 /// A cell is born into a mutator's register.
 fn bear(contents: &mut Contents, who: u32, dst: u8, cell: u32)

@@ -12,8 +12,8 @@ use crate::calls::pairs::{pair_delete, pair_get, pair_set};
 use crate::calls::properties::{add, get_property, set_property};
 use crate::calls::registers::{drop_register, move_register, set};
 use crate::calls::slots::{get, put};
-use tide_model::{Op, Reply};
 use crate::stored::Contents;
+use tide_model::{Op, Reply};
 
 /// The mutator retires, and its registers keep nothing any more.
 fn retire(contents: &mut Contents, who: u32) -> Reply

@@ -9,8 +9,8 @@ ghost use Rattle.tide_plain.specs.stored.Contents.{state_of};
 ghost use Rattle.tide_plain.specs.calls.Calls.{IsCall, MayCall};
 
 use crate::calls::registers::cell_in;
-use tide_model::{Refusal, Reply};
 use crate::stored::Contents;
+use tide_model::{Refusal, Reply};
 
 /// How many cells a mutator may claim.
 const CLAIMS_MOST: usize = 8;

@@ -4,8 +4,8 @@ ghost use Rattle.tide_model.specs.Lawful.{FitsLayout};
 ghost use Rattle.tide_plain.specs.calls.Calls.{IsCall, MayCall};
 
 use crate::calls::registers::cell_in;
-use tide_model::{Op, Reply};
 use crate::stored::Contents;
+use tide_model::{Op, Reply};
 
 /// Puts the cell that a register holds into a group, or into none where `n` is 0.
 pub fn group(contents: &mut Contents, who: u32, src: u8, n: u32) -> Reply

@@ -3,8 +3,8 @@ ghost use Rattle.std.specs.Prelude.{None};
 ghost use Rattle.tide_model.specs.Lawful.{FitsLayout};
 ghost use Rattle.tide_plain.specs.calls.Calls.{IsCall, MayCall};
 
-use tide_model::{Op, Reply};
 use crate::stored::Contents;
+use tide_model::{Op, Reply};
 
 /// Puts what a register holds into a strong handle.
 pub fn strong_set(contents: &mut Contents, who: u32, at: u16, val: u8) -> Reply

@@ -11,10 +11,10 @@ ghost use Rattle.tide_plain.specs.calls.Calls.{IsCall, MayCall};
 
 use crate::calls::claims::holds;
 use crate::calls::registers::cell_in;
+use crate::stored::Contents;
 use tide_block::class_of;
 use tide_layout::TABLE;
 use tide_model::{Refusal, Reply};
-use crate::stored::Contents;
 
 /// A table and a key cell, which two registers hold.
 #[derive(Clone, Copy)]

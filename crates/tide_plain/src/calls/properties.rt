@@ -12,10 +12,10 @@ ghost use Rattle.tide_plain.specs.calls.Calls.{IsCall, MayCall};
 
 use crate::calls::claims::holds;
 use crate::calls::registers::cell_in;
+use crate::stored::Contents;
 use tide_block::class_of;
 use tide_layout::TABLE;
 use tide_model::{Refusal, Reply};
-use crate::stored::Contents;
 
 /// A property: the cell that has it, and its place among those of the cell.
 #[derive(Clone, Copy)]

@@ -7,8 +7,8 @@ ghost use Rattle.tide_plain.specs.stored.Contents.{state_of};
 ghost use Rattle.tide_plain.specs.calls.Calls.{IsCall, MayCall};
 ghost use Rattle.tide_plain.specs.calls.Registers.{not_cell};
 
-use tide_model::{Op, Refusal, Reply, Val};
 use crate::stored::Contents;
+use tide_model::{Op, Refusal, Reply, Val};
 
 /// The cell that a register of the caller holds, or that it holds none.
 pub fn cell_in(contents: &Contents, who: u32, register: u8) -> Result<u32, Refusal>

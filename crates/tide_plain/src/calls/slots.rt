@@ -8,10 +8,10 @@ ghost use Rattle.tide_plain.specs.stored.Contents.{state_of};
 ghost use Rattle.tide_plain.specs.calls.Calls.{IsCall, MayCall};
 
 use crate::calls::registers::cell_in;
+use crate::stored::Contents;
 use tide_block::{class_of, slots};
 use tide_layout::TABLE;
 use tide_model::{Op, Refusal, Reply};
-use crate::stored::Contents;
 
 /// The cell that a register of the caller holds, or why its slot can't be read or written.
 fn slot_holder(contents: &Contents, who: u32, src: u8, slot: u8) -> Result<u32, Refusal>

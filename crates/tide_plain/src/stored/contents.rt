@@ -13,11 +13,11 @@ mod reading;
 mod room;
 mod sweeping;
 
+use crate::parts::{Arrays, Cells, Handles, Mutators};
 use std::alloc::Global;
 use std::marker::Model;
 use tide_layout::Layout;
 use tide_model::Memory;
-use crate::parts::{Arrays, Cells, Handles, Mutators};
 use tide_shape::Shapes;
 
 /// All that the plain store holds. Contracts see its layout, its shapes, and its state by `state_of`.

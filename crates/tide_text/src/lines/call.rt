@@ -4,8 +4,8 @@ ghost use Rattle.tide_text.specs.lines.Line.{refusal_text, reply_text, val_text}
 ghost use Rattle.tide_text.specs.lines.OpText.{HasText, op_text};
 
 use crate::lines::line::{LONGEST_ID, Line};
-use tide_model::{Op, Refusal, Reply, Val};
 use crate::work::Keys;
+use tide_model::{Op, Refusal, Reply, Val};
 
 /// A bound on the bytes of an operation.
 pub const LONGEST_OP: usize = 40;

@@ -3,10 +3,10 @@ ghost use Rattle.std.specs.Prelude.{◌≡◌, ◌+◌, ◌<◌, ◌≤◌, [], 
 ghost use Rattle.tide_text.specs.lines.Line.{cell_text};
 ghost use Rattle.tide_text.specs.lines.OpText.{key_operand, register_operand};
 
+use crate::work::Keys;
 use arrayvec::ArrayVec;
 use itoa::{Buffer, Integer};
 use std::marker::Model;
-use crate::work::Keys;
 
 /// How many bytes a line of a run or of a fault has at most: a fault has up to 60 behind `riptide: `, and an operation
 /// up to 40 before a reply of up to 24. The cells that a cycle freed are lines of their own here.

@@ -2,7 +2,7 @@
 use Rattle.std.proofs.Common.{◌∙◌, subst, false}
 use Rattle.check_table.proofs.Pairing.{called_still, same_then}
 use Rattle.check_table.specs.Pairs.{IsClosedOf}
-use Rattle.check_callers.specs.Working.{put_calls}
+use Rattle.check_table.specs.callers.Working.{put_calls}
 use Rattle.tide_heap.specs.declared.heap.Heap.{Heap}
 use Rattle.tide_shape.specs.declared.shapes.Shapes.{Shapes}
 use Rattle.check_table.proofs.rows.leave_and_close.Goals as goal

@@ -1,9 +1,9 @@
 //! Pairs: what a table has under key cells, and their changes.
 ghost use Rattle.std.specs.Prelude.{◌≡◌, ◌<◌, ◌&&◌, Some, None, nat_le, not, true, false, slice_set};
 
+use crate::parts::{Pair, place_of, seat, value_of};
 use crate::stored::contents::Contents;
 use tide_model::Val;
-use crate::parts::{Pair, place_of, seat, value_of};
 
 impl Contents {
     ghost use Rattle.tide_model.specs.Applied.{put_cell, put_pair};

@@ -3,11 +3,11 @@ ghost use Rattle.std.specs.Prelude.{◌≡◌, ◌<◌, ℕ, length};
 ghost use Rattle.std.specs.List.{slice_index_or};
 ghost use Rattle.tide_model.specs.declared.val.Val.TheVariants.{Empty};
 
+use crate::parts::Pair;
+use crate::statuses::ArrayStatus;
 use crate::stored::contents::Contents;
 use tide_model::Val;
-use crate::parts::Pair;
 use tide_shape::ShapeTable;
-use crate::statuses::ArrayStatus;
 
 impl Contents {
     ghost use Rattle.tide_model.specs.Layout.{array_count};

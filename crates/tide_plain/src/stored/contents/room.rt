@@ -1,10 +1,10 @@
 //! Room: the free cells and arrays of a class, and how many things are live and free.
 ghost use Rattle.std.specs.Prelude.{◌≡◌, ◌<◌, ◌≤◌, ℕ, IfSome, IfNone};
 
+use crate::statuses::ArrayStatus;
 use crate::stored::contents::Contents;
 use tide_block::{class_of, class_of_array, first_array_of, first_of};
 use tide_layout::BLOCK_SIZE;
-use crate::statuses::ArrayStatus;
 
 impl Contents {
     ghost use Rattle.tide_model.specs.Answer.{IsFreeArrayOf, IsFreeCellOf};

@@ -1,7 +1,7 @@
 -- Both run, and have made the calls that these come after.
 use Rattle.std.proofs.Common.{sym, ◌∙◌, ap, arith, true, false}
 use Rattle.check_table.proofs.Pairing.{is_ready, still_takes}
-use Rattle.check_callers.specs.Working.{all_calls, put_calls}
+use Rattle.check_table.specs.callers.Working.{all_calls, put_calls}
 use Rattle.check_table.proofs.pair.Pair.leave.Goals as goal
 
 pub leave-requires-clause-ready : goal.leave-requires-clause-ready

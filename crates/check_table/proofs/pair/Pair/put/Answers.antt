@@ -1,7 +1,7 @@
 -- Both run, and have made the calls that these come after.
 use Rattle.std.proofs.Common.{sym, ◌∙◌, ap, arith, false, []}
 use Rattle.check_table.proofs.Pairing.{is_ready, still_takes}
-use Rattle.check_callers.specs.Working.{put_calls}
+use Rattle.check_table.specs.callers.Working.{put_calls}
 use Rattle.check_table.proofs.pair.Pair.put.Goals as goal
 
 pub put-requires-clause-ready : goal.put-requires-clause-ready

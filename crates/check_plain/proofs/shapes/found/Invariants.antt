@@ -1,7 +1,0 @@
--- What the loop over the keys keeps: the shape is one of the table.
-use Rattle.std.proofs.Common.{◌<◌, length}
-use Rattle.tide_shape.specs.Lists.{lists_of}
-use Rattle.check_plain.proofs.shapes.found.Given as goal
-
-abbrev pub invariant-loop-key : goal.invariant-loop-key
-invariant-loop-key l = l.shape < length (lists_of l.table)

@@ -1,0 +1,2 @@
+pub mod marking_laws
+pub mod snapshot_laws

@@ -1,0 +1,28 @@
+-- The first part runs with the books of nothing, and neither has begun.
+use Rattle.std.proofs.Common.{ap, arith}
+use Rattle.embed_heap.proofs.visitor_laws.Parts.{new_idle}
+use Rattle.tide_core.specs.declared.machine.view.View.{View}
+use Rattle.tide_mutator.specs.calls.Viewed as mutator
+use Rattle.tide_shape.specs.Lists.{lists_of}
+use Rattle.tide_table.proofs.Nexts.{HasOpenedNext-first}
+use Rattle.tide_visitor.specs.Viewed as visitor
+use Rattle.embed_heap.proofs.visitor.shared.Shared.open.Goals as goal
+
+pub returns : goal.returns
+returns c =
+    let s = c.args.self.now in
+    let is = c.requires.started in
+    let next = HasOpenedNext-first s.heap.key.layout (lists_of s.heap.key.shapes) 13 s.books s.collector.seat.me.0
+    c.open_first.new.collector.seat.me.0 is.started c.in-Ok.ensures.opened is.books in
+    let first = next.period in
+    let none = is.started.period in
+    record {
+      opened = record {
+        runs = next.runs;
+        notes = next.notes;
+        visited = next.visited;
+        done = next.done;
+        mutator = (0, new_idle 0 (mutator.view_of s.mutator) is.mutator, omega (arith, first, none));
+        visitor = (0, new_idle 16 (visitor.view_of s.visitor) is.visitor, omega (arith, first, none));
+      };
+    }

@@ -1,0 +1,66 @@
+//! What one of the two mutators does in its thread: a part, from its ticket to its note.
+ghost use Rattle.embed_heap.specs.two_mutators.Working.{HasWorked, MayWork};
+ghost use Rattle.std.specs.Prelude.{◌≡◌};
+ghost use Rattle.tide_mutator.specs.calls.Viewed.{table_of, view_of};
+
+use tide_heap::{Heap, Note, Ticket};
+use tide_model::{FreePass, Op, Reply};
+use tide_mutator::Mutator;
+use tide_shape::ShapeTable;
+
+/// What a mutator was answered.
+#[derive(Clone, Copy)]
+pub struct Found {
+    /// What it read from the cell that it had allocated.
+    pub seen: Option<Reply>,
+    /// To an operation on a register that no mutator has.
+    pub foreign: Option<Reply>,
+}
+
+/// What a mutator found, and its note of the part.
+#[derive(Drop)]
+pub struct Worked {
+    pub found: Found,
+    pub note: Note,
+}
+
+/// Begins a part, sets a register to 7, takes a cell, stores the number in its first slot and reads it again; lets go
+/// of the cell, retires, and stops. Two of its operations are tried, as one would be that came from outside: one that
+/// fits the layout, and one that doesn't.
+pub fn work<S: ShapeTable>(heap: &Heap<S>, mut mutator: Mutator, ticket: Ticket) -> Worked
+    requires own { table_of mutator ≡ heap.now.table.shared.table_id }
+    requires of_heap { ticket.seat.table_id ≡ heap.now.table.shared.table_id }
+    requires may { MayWork heap.now.key.layout (view_of mutator) ticket.seat.me.0 }
+    ensures of_heap { result.note.seat.table_id ≡ heap.now.table.shared.table_id }
+    ensures worked { HasWorked (view_of mutator) ticket.seat.me.0 result.note.seat.me.0 }
+{
+    let gate = &FreePass;
+    mutator.begin(heap, ticket);
+    mutator.call(heap, Op::Set { dst: 0, n: 7 }, gate);
+    mutator.call(heap, Op::Alloc { dst: 1, class: 0 }, gate);
+    mutator.call(
+        heap,
+        Op::Put {
+            src: 1,
+            slot: 0,
+            val: 0,
+        },
+        gate,
+    );
+    let foreign = mutator.try_call(heap, Op::Set { dst: 16, n: 9 }, gate);
+    let seen = mutator.try_call(
+        heap,
+        Op::Get {
+            dst: 0,
+            src: 1,
+            slot: 0,
+        },
+        gate,
+    );
+    mutator.call(heap, Op::Drop { dst: 1 }, gate);
+    mutator.retire(heap, gate);
+    Worked {
+        found: Found { seen, foreign },
+        note: mutator.stop(heap),
+    }
+}

@@ -1,0 +1,43 @@
+//! A visitor of one's own: while a cycle marks, a mutator and a `Visitor` run in two threads.
+//!
+//! It is a library that a program hands its runtime: `fn main(rt: HostRuntime)` calls `four_are_kept(&rt, rt.alloc())`.
+//! A part of both (`beside`) is what each does from its ticket to its note (`working`, `visiting`); between two parts
+//! the collector does what the schedule asks for (`collecting`).
+
+mod beside;
+mod collecting;
+mod running;
+mod shared;
+mod starting;
+mod visiting;
+mod working;
+
+use running::{Seen, run_cycle};
+pub use shared::Shared;
+pub use starting::{layout, start};
+use std::alloc::Global;
+use std::marker::Sync;
+use std::thread::Threads;
+use tide_model::{Reply, Val};
+use tide_shape::{Paths, Shapes};
+pub use working::{Worked, work};
+
+/// The cycle that began after the first part ended after the second one: the visitor made some cell black in it, it
+/// kept the four cells of the chain, and emptied the weak handle to the fifth one.
+fn is_kept(seen: Seen) -> bool {
+    let emptied = matches!(seen.weak, Some(Reply::Seen(Val::Empty)));
+    let is_first = seen.cycle == 1 && seen.base == 1;
+    is_first && seen.visits > 0 && seen.kept == Some(4) && emptied
+}
+
+/// A mutator links four cells and lets a fifth one go, a cycle begins, and a visitor marks what its first pause left,
+/// beside the mutator. Answers whether the cycle ended then, kept all four, and emptied the weak handle to the fifth.
+pub fn four_are_kept<R: Threads + Sync>(rt: &R, alloc: Global) -> bool {
+    let Ok(shapes) = Shapes::new(alloc, &Paths::new(alloc)) else {
+        return false;
+    };
+    match start(alloc, shapes) {
+        Ok(Some(shared)) => run_cycle(rt, shared).is_some_and(is_kept),
+        _ => false,
+    }
+}
