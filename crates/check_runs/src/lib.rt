@@ -1,17 +1,28 @@
 //! The checks of runs: rows of runs by `tide_run::riptide`, over sources and sinks that fail where they are told to and
 //! with participants that are held where they are told to, and lists of workloads that come to the same each way.
 //!
-//! It knows no program, and reads no file: `checks` calls it for the lines of its input, and hands it the rows and the
-//! workloads.
+//! `facts` draws workloads, hostile ones, and judges their texts; `ends` has rows of sources and sinks alone. It knows
+//! no program, and reads no file: `checks` calls it for the lines of its input, and hands it the rows and the workloads.
 #![tactic(auto)]
 
+mod facts;
+// over those above it
+mod real;
+// over those above it
+mod ends;
+// over those above it
 mod ending;
-mod outcomes;
-mod runs;
 mod shelf;
+// over those above it
+mod outcomes;
+// over those above it
 mod trial;
 mod ways;
+// over those above it
+mod runs;
 
+pub use ends::Ends;
+pub use facts::check_facts;
 pub use runs::check_runs;
 pub use shelf::Shelf;
 pub use ways::check_ways;

@@ -4,9 +4,7 @@
 //! Whoever calls them knows the layout and what has been called before.
 
 mod acts;
-mod opening;
 mod stops;
 
 pub use acts::{leave, put_strong, put_weak, set_register};
-pub use opening::open_first;
 pub use stops::{begin_part, stop_and_freeze, stop_part};

@@ -6,31 +6,31 @@ ghost use Rattle.tide_core.specs.machine.Frozen.{newcomer};
 ghost use Rattle.tide_shape.specs.Lists.{lists_of};
 ghost use Rattle.tide_table.specs.Started.{IsStarted};
 
-use crate::callers::{begin_part, open_first, stop_and_freeze};
+use crate::callers::{begin_part, stop_and_freeze};
 use tide_freeze::{Books, freeze};
 use tide_layout::Layout;
 use tide_model::Memory;
 use tide_shape::Shapes;
-use tide_table::{Collector, Frozen, Heap, Pass, PeriodsSpent};
+use tide_table::{Collector, Frozen, Heap, Pass};
 
 /// Opens the first part, in which the one mutator begins and stops without a call, and freezes.
 pub fn stand_still<'a>(
     heap: &'a Heap<Shapes>,
     collector: &'a mut Collector,
     pass: &mut Pass,
-) -> Result<Frozen<'a, Shapes>, PeriodsSpent>
+) -> Frozen<'a, Shapes>
     requires own { collector.old.seat.table_id ≡ heap.now.table.shared.table_id }
     requires of_heap { pass.old.seat.table_id ≡ heap.now.table.shared.table_id }
     requires started { IsStarted heap.now.key.layout (lists_of heap.now.key.shapes) collector.old.seat.me.0 }
     requires newcomer { pass.old.seat.me.0 ≡ newcomer 0 }
     requires one { (heap.now.key.layout.mutators ≡ 1) × (heap.now.key.layout.visitors ≡ 0) }
-    ensures heap { IfOk result (λ f. f.heap.now ≡ heap.now) }
-    ensures stands { IfOk result (λ f.
-        StandsStill heap.now.key.layout (lists_of heap.now.key.shapes) 5 f.collector.now.seat.me.0) }
+    ensures heap { result.heap.now ≡ heap.now }
+    ensures stands { StandsStill heap.now.key.layout (lists_of heap.now.key.shapes) 5
+        result.collector.now.seat.me.0 }
 {
-    open_first(heap, collector, 5)?;
+    collector.open_first(heap, 5);
     begin_part(heap, collector, pass);
-    Ok(stop_and_freeze(heap, collector, pass))
+    stop_and_freeze(heap, collector, pass)
 }
 
 /// What two freezes answered: how many calls each mutator has in the part that opens next.

@@ -4,23 +4,22 @@ ghost use Rattle.check_table.specs.callers.Working.{all_calls, put_calls};
 ghost use Rattle.check_table.specs.Pairs.{no_calls, HasOpened, HasStarted, HaveBegun, HaveCalled, HaveStopped};
 ghost use Rattle.check_table.specs.Pairs.{IsClosedOf, SameCalls};
 
-use crate::callers::{begin_part, leave, open_first, stop_part};
+use crate::callers::{begin_part, leave, stop_part};
 use crate::pair::Pair;
 use crate::working::{Found, look, put};
 use tide_cycle::Report;
 use tide_freeze::Books;
-use tide_table::{Closed, NotOpened, Numbers, PeriodsSpent};
+use tide_table::{Closed, NotOpened, Numbers};
 
 impl Pair {
     /// Opens the first part.
-    pub fn open(&mut self, run: u32) -> Result<(), PeriodsSpent>
+    pub fn open(&mut self, run: u32)
         requires started { HasStarted self.old }
         ensures heap { self.new.heap ≡ self.old.heap }
-        ensures opened { OnOk result (HasOpened self.new) }
-        ensures calls { OnOk result (HaveCalled no_calls false self.new) }
+        ensures opened { HasOpened self.new }
+        ensures calls { HaveCalled no_calls false self.new }
     {
-        open_first(&self.heap, &mut self.collector, run)?;
-        Ok(())
+        self.collector.open_first(&self.heap, run);
     }
 
     /// Both begin the open part. Answers its number, as each one's ticket tells it.

@@ -60,7 +60,7 @@ fn mark_over(
     chain: &mut Heap,
     list: &mut GreyList,
     budgets: [u32; 2],
-) -> Option<Marked>
+) -> Marked
     requires layout { single.heap.key.layout ≡ layout.now }
     requires started { IsStarted layout.now (lists_of single.heap.key.shapes) single.collector.seat.me.0 }
     requires one { (layout.now.mutators ≡ 1) × (layout.now.visitors ≡ 0) }
@@ -72,11 +72,9 @@ fn mark_over(
         mut collector,
         mut pass,
     } = single;
-    let Ok(mut frozen) = stand_still(&heap, &mut collector, &mut pass) else {
-        return None;
-    };
+    let mut frozen = stand_still(&heap, &mut collector, &mut pass);
     store_all(&mut frozen, layout, chain);
-    Some(mark_in_two(&mut frozen, layout, list, budgets))
+    mark_in_two(&mut frozen, layout, list, budgets)
 }
 
 /// Stores a chain over the words of a frozen heap of one mutator, and marks it in two pauses within these budgets.
@@ -91,13 +89,13 @@ pub fn mark_chain(
     }
     let mut list = GreyList::new(alloc, MAX_CELLS)?;
     match start_single(alloc, layout)? {
-        Some(single) => Ok(mark_over(single, &layout, chain, &mut list, budgets)),
+        Some(single) => Ok(Some(mark_over(single, &layout, chain, &mut list, budgets))),
         None => Ok(None),
     }
 }
 
 /// Runs the freeze code twice over a heap that stands still. The report tells the cycles that ended.
-fn freeze_over(single: Single, layout: &Layout, books: &mut Books) -> Result<Option<Runs>, Memory>
+fn freeze_over(single: Single, layout: &Layout, books: &mut Books) -> Result<Runs, Memory>
     requires layout { single.heap.key.layout ≡ layout.now }
     requires started { IsStarted layout.now (lists_of single.heap.key.shapes) single.collector.seat.me.0 }
     requires one { (layout.now.mutators ≡ 1) × (layout.now.visitors ≡ 0) }
@@ -108,10 +106,8 @@ fn freeze_over(single: Single, layout: &Layout, books: &mut Books) -> Result<Opt
         mut collector,
         mut pass,
     } = single;
-    match stand_still(&heap, &mut collector, &mut pass) {
-        Ok(mut frozen) => Ok(Some(freeze_twice(&mut frozen, layout, books)?)),
-        Err(_) => Ok(None),
-    }
+    let mut frozen = stand_still(&heap, &mut collector, &mut pass);
+    freeze_twice(&mut frozen, layout, books)
 }
 
 /// Runs the freeze code twice over a frozen heap of one mutator: with nothing due, and as a must. The report tells the
@@ -122,9 +118,7 @@ pub fn freeze_single(alloc: Global) -> Result<Option<(Runs, Report)>, Memory> {
     let Some(single) = start_single(alloc, layout)? else {
         return Ok(None);
     };
-    let Some(runs) = freeze_over(single, &layout, &mut books)? else {
-        return Ok(None);
-    };
+    let runs = freeze_over(single, &layout, &mut books)?;
     let Books { report, .. } = books;
     Ok(Some((runs, report)))
 }

@@ -12,6 +12,7 @@ mod counting;
 mod frozen;
 pub mod laws;
 mod ledger;
+mod opening;
 mod plays;
 mod start;
 mod visiting;

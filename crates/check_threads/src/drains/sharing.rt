@@ -37,7 +37,7 @@ fn run_first<R: Threads + Sync>(rt: &R, mut shared: Shared, plan: &Plan, run: u3
     requires started { HasStarted shared }
     ensures opened { IfSome result IsOpen }
 {
-    shared.open()?;
+    shared.open();
     let first = shared.run_part(rt, plan.before.as_slice());
     if first.visits != 0 {
         return None;

@@ -7,12 +7,11 @@ ghost use Rattle.tide_table.specs.Started.{ArePasses, IsStarted};
 
 use std::alloc::Global;
 use tide_grow_shape::Settled;
-use tide_heap::{Heap, Ticket};
 use tide_layout::Layout;
 use tide_model::{FreePass, Memory, Op, Reply};
 use tide_mutator::Mutator;
 use tide_shape::ShapeTable;
-use tide_table::{Collector, Pass, PeriodsSpent, Start};
+use tide_table::{Collector, Heap, Pass, Start, Ticket};
 
 /// Takes a cell, claims it, and adds a property by the key 1, by the key 0, and by the key 1 again.
 fn work<S: ShapeTable>(
@@ -51,11 +50,7 @@ fn add(key: u32) -> Op
 }
 
 /// Opens the first part, and makes the mutator's calls in it.
-fn run_part(
-    heap: &Heap<Settled>,
-    mut collector: Collector,
-    pass: Pass,
-) -> Result<(Reply, Reply, Reply), PeriodsSpent>
+fn run_part(heap: &Heap<Settled>, mut collector: Collector, pass: Pass) -> (Reply, Reply, Reply)
     requires own { collector.seat.table_id ≡ heap.now.table.shared.table_id }
     requires of_heap { pass.seat.table_id ≡ heap.now.table.shared.table_id }
     requires started { IsStarted heap.now.key.layout (settled_lists heap.now.key.shapes) collector.seat.me.0 }
@@ -63,9 +58,9 @@ fn run_part(
     requires one { (heap.now.key.layout.mutators ≡ 1) × (heap.now.key.layout.visitors ≡ 0) }
     requires two { heap.now.key.layout.registers ≡ 2 }
 {
-    collector.open(heap, 8)?;
+    collector.open_first(heap, 8);
     let ticket = collector.ticket(heap);
-    Ok(work(heap, Mutator::new(pass), ticket))
+    work(heap, Mutator::new(pass), ticket)
 }
 
 /// A heap of a layout, over a settled table.
@@ -93,5 +88,5 @@ pub fn run(alloc: Global, shapes: Settled) -> Option<(Reply, Reply, Reply)> {
         visitors: _,
     } = start;
     let pass = mutators.pop()?;
-    run_part(&heap, collector, pass).ok()
+    Some(run_part(&heap, collector, pass))
 }

@@ -1,6 +1,6 @@
 //! A heap of two mutators: it is opened for one part, in which each makes its calls in a thread of its own, and closed.
 ghost use Rattle.embed_heap.specs.two_mutators.Working.{HasWorked, MayWork};
-ghost use Rattle.std.specs.Prelude.{◌≡◌, ◌<◌, IfOk, ℕ, false};
+ghost use Rattle.std.specs.Prelude.{◌≡◌, ◌<◌, ℕ, false};
 ghost use Rattle.tide_core.specs.machine.Frozen.{newcomer};
 ghost use Rattle.tide_model.specs.History.{state_after};
 ghost use Rattle.tide_model.specs.Lawful.{IsLawful};
@@ -13,7 +13,7 @@ use std::marker::Sync;
 use std::thread::{Threads, join};
 use tide_mutator::Mutator;
 use tide_shape::Shapes;
-use tide_table::{Closed, Collector, Heap, Pass, PeriodsSpent, Ticket};
+use tide_table::{Closed, Collector, Heap, Pass, Ticket};
 
 /// What both mutators found, and the history that the heap left.
 #[derive(Drop)]
@@ -68,7 +68,7 @@ pub fn run_pair<R: Threads + Sync>(
     mut collector: Collector,
     one: Pass,
     other: Pass,
-) -> Result<Ran, PeriodsSpent>
+) -> Ran
     requires own { collector.seat.table_id ≡ heap.table.shared.table_id }
     requires of_heap { (one.seat.table_id ≡ heap.table.shared.table_id)
         × (other.seat.table_id ≡ heap.table.shared.table_id) }
@@ -76,12 +76,11 @@ pub fn run_pair<R: Threads + Sync>(
     requires newcomers { (one.seat.me.0 ≡ newcomer 0) × (other.seat.me.0 ≡ newcomer 1) }
     requires two { (heap.key.layout.mutators ≡ 2) × (heap.key.layout.visitors ≡ 0) }
     requires has { 1 < heap.key.layout.registers }
-    ensures lawful { IfOk result (λ ran.
-        IsLawful heap.key.layout (lists_of heap.key.shapes) ran.closed.seat.me.0.seen) }
-    ensures retired { IfOk result (λ ran. (i : ℕ) → i < 2 →
-        (state_after heap.key.layout ran.closed.seat.me.0.seen).active i ≡ false) }
+    ensures lawful { IsLawful heap.key.layout (lists_of heap.key.shapes) result.closed.seat.me.0.seen }
+    ensures retired { (i : ℕ) → i < 2 →
+        (state_after heap.key.layout result.closed.seat.me.0.seen).active i ≡ false }
 {
-    collector.open(&heap, 8)?;
+    collector.open_first(&heap, 8);
     let first = collector.ticket(&heap);
     let second = collector.ticket(&heap);
     let (one, other) = work_both(
@@ -95,8 +94,8 @@ pub fn run_pair<R: Threads + Sync>(
     collector.take(&heap, one.note);
     collector.take(&heap, other.note);
     collector.freeze(&heap);
-    Ok(Ran {
+    Ran {
         found: (one.found, other.found),
         closed: collector.close(heap),
-    })
+    }
 }

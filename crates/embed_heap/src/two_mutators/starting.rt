@@ -21,6 +21,6 @@ pub fn run<R: Threads + Sync>(rt: &R, alloc: Global) -> Option<(Found, Found)> {
     let (Some(other), Some(one)) = (mutators.pop(), mutators.pop()) else {
         return None;
     };
-    let ran = run_pair(rt, heap, collector, one, other).ok()?;
+    let ran = run_pair(rt, heap, collector, one, other);
     Some(ran.found)
 }

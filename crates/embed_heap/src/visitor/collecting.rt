@@ -3,21 +3,17 @@ ghost use Rattle.embed_heap.specs.visitor.Shares.{HasOpened, HasStarted, HaveSto
 ghost use Rattle.std.specs.Prelude.{IfSome};
 
 use crate::visitor::shared::Shared;
-use check_table::open_first;
 
 /// How many calls the mutator has in the first part.
 const FIRST_RUN: u32 = 13;
 
 impl Shared {
     /// Opens the first part.
-    pub fn open(&mut self) -> Option<()>
+    pub fn open(&mut self)
         requires started { HasStarted self.old }
-        ensures opened { IfSome result (λ _. HasOpened self.new) }
+        ensures opened { HasOpened self.new }
     {
-        let Ok(()) = open_first(&self.heap, &mut self.collector, FIRST_RUN) else {
-            return None;
-        };
-        Some(())
+        self.collector.open_first(&self.heap, FIRST_RUN);
     }
 
     /// Freezes the part in which both have stopped, enters what the visitor's note told, does what the schedule asks

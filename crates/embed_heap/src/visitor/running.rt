@@ -131,7 +131,7 @@ impl Shared {
 pub fn run_cycle<R: Threads + Sync>(rt: &R, mut shared: Shared) -> Option<Seen>
     requires started { HasStarted shared }
 {
-    shared.open()?;
+    shared.open();
     let mut linked = shared.run_part(rt, &LINKS);
     linked.shared.next()?;
     let mut stored = linked.shared.run_part(rt, &STORES);

@@ -43,12 +43,12 @@ none_entered ledger begun period visits = λ i. ledger i + (if begun i == period
 pub returns-clause-stands : goal.returns-clause-stands
 returns-clause-stands c =
     let new = c.requires.newcomer in
-    let first = first_part (ap (λ (x : View). x.period) c.in_ok-open_first.ensures.opened) c.requires.started.period in
+    let first = first_part (ap (λ (x : View). x.period) c.open_first.ensures.opened) c.requires.started.period in
     let begun = begins _ c.begin_part.ensures.begun.1 (ap (λ (x : View). x.begun) new) first in
     let layout = c.args.heap.now.key.layout in
     let shapes = lists_of c.args.heap.now.key.shapes in
     let stays = c.begin_part.ensures.same.1 in
-    let opened = c.in_ok-open_first.ensures.opened in
+    let opened = c.open_first.ensures.opened in
     let opens = ap (λ (x : View). x.seen) opened ∙ first_opened c.requires.started.seen c.requires.started.period in
     let hears_it = ap (λ (x : View). x.seen) begun ∙ hears (ap (λ (x : View). x.seen) new) opens in
     let seen = longer_of_one (ap (λ (x : View). x.seen) stays ∙ opens) hears_it in

@@ -14,7 +14,7 @@ returns-clause-opened c =
     opened_both _ v (new_rests 0 (v.period + 1) p.one.seat.me.0 s.one (omega arith))
     (new_rests 1 (v.period + 1) p.other.seat.me.0 s.other (omega arith)) (ap (λ (x : View). x.left) s.one)
     (ap (λ (x : View). x.left) s.other) s.started.gone (HasOpenedNext-first p.heap.key.layout
-    (lists_of p.heap.key.shapes) c.args.run p.books v _ s.started c.in_ok-open_first.ensures.opened s.books)
+    (lists_of p.heap.key.shapes) c.args.run p.books v _ s.started c.open_first.ensures.opened s.books)
 
 pub returns-clause-calls : goal.returns-clause-calls
 returns-clause-calls c = (let s = c.requires.started in record {

@@ -8,14 +8,14 @@ use Rattle.tide_model.specs.History.{state_after}
 use Rattle.tide_model.specs.declared.entry.Event.{Event}
 use Rattle.tide_table.specs.VisitsTold.{unentered}
 use Rattle.tide_words.specs.heap.Heap.{heap_of}
-use Rattle.check_table.proofs.callers.opening.open_first.Goals as goal
+use Rattle.tide_table.proofs.opening.Collector.open_first.Goals as goal
 
 pub open-requires : goal.open-requires
 open-requires g c =
     let s = c.requires.started in
     let layout = c.args.heap.now.key.layout in
     let shapes = g.S.HeapShapes.lists c.args.heap.now.key.shapes in
-    let heap = heap_of layout c.args.collector.now.seat.me.0.words in
+    let heap = heap_of layout c.args.self.now.seat.me.0.words in
     record {
       own = c.requires.own;
       frozen = s.frozen;
