@@ -1,3 +1,3 @@
 -- The lemmas of this crate.
 pub mod Calls
-mod Notes
+pub mod Notes

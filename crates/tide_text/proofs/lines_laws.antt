@@ -1,2 +1,2 @@
 -- The lemmas of this crate.
-mod PieceLemmas
+pub mod PieceLemmas

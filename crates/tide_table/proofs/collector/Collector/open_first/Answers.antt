@@ -8,7 +8,7 @@ use Rattle.tide_model.specs.History.{state_after}
 use Rattle.tide_model.specs.declared.entry.Event.{Event}
 use Rattle.tide_table.specs.VisitsTold.{unentered}
 use Rattle.tide_words.specs.heap.Heap.{heap_of}
-use Rattle.tide_table.proofs.opening.Collector.open_first.Goals as goal
+use Rattle.tide_table.proofs.collector.Collector.open_first.Goals as goal
 
 pub open-requires : goal.open-requires
 open-requires g c =
