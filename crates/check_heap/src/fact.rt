@@ -5,9 +5,8 @@ use crate::reading::{behind, large_number, number, pair_of_numbers};
 use crate::reply::value_text;
 use crate::texts::{joined, number_between, number_text, text};
 use std::alloc::{AllocError, Global};
-use tide_layout::Region;
 use tide_model::Val;
-use tide_words::{MAX_CELLS, pair_word, val_word, word_pair, word_phase, word_val};
+use tide_words::{MAX_CELLS, Region, pair_word, val_word, word_pair, word_phase, word_val};
 
 /// The region of a name, if its words go by their number.
 pub fn region_of(name: &str) -> Option<Region> {

@@ -1,12 +1,13 @@
 //! The words of a heap, each of which can be written wherever the layout has one. Nothing is written elsewhere.
 ghost use Rattle.std.specs.Prelude.{◌≡◌, ◌<◌, length};
-ghost use Rattle.tide_layout.specs.Region.{word_count};
+ghost use Rattle.tide_words.specs.tide_layout.Region.{word_count};
 
 use crate::places::{place_of_element, place_of_slot, place_of_word};
 use std::alloc::{AllocError, Global};
-use tide_block::{bit_of, block_of_array, block_of_cell};
-use tide_layout::{Layout, Region};
-use tide_words::{Structure, VecWords, Words, structure_word};
+use tide_words::{
+    Layout, Region, Structure, VecWords, Words, bit_of, block_of_array, block_of_cell,
+    structure_word,
+};
 
 /// The words of a heap, and where they lie.
 #[derive(Drop)]

@@ -4,8 +4,7 @@ ghost use Rattle.std.specs.Prelude.{◌≡◌, ℕ, ◌<◌, List, length, slice
 use crate::reading::number;
 use crate::texts::number_text;
 use std::alloc::{AllocError, Global};
-use tide_layout::Layout;
-use tide_words::{VecWords, Words, is_live};
+use tide_words::{Layout, VecWords, Words, is_live};
 
 /// The words of a heap beside a label.
 #[derive(Drop)]

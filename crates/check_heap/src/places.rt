@@ -1,9 +1,8 @@
 //! The places of a layout's words, where it has them.
 ghost use Rattle.std.specs.Prelude.{◌<◌, ◌≤◌, IfSome};
-ghost use Rattle.tide_layout.specs.Region.{size_of, word_count};
+ghost use Rattle.tide_words.specs.tide_layout.Region.{size_of, word_count};
 
-use tide_block::{class_of, class_of_array};
-use tide_layout::{BLOCK_SIZE, Layout, Region, width};
+use tide_words::{BLOCK_SIZE, Layout, Region, class_of, class_of_array, width};
 
 /// How many words a region has that one may write by their number in it; none of slots and of elements, which go by
 /// their cell or array.

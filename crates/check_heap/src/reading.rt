@@ -2,7 +2,7 @@
 ghost use Rattle.std.specs.Prelude.{◌≤◌, All, IfSome};
 
 use std::alloc::{AllocError, Global};
-use tide_layout::Layout;
+use tide_words::Layout;
 
 /// The words of a line.
 pub fn words_of<'a>(alloc: Global, line: &'a str) -> Result<Vec<&'a str>, AllocError> {

@@ -11,16 +11,16 @@ use Rattle.check_table.specs.Pairs.{HasOpened, HaveBegun, HaveCalled, HaveStoppe
 use Rattle.check_table.specs.Resting.{IsAtRest, TakesPart}
 use Rattle.check_table.specs.Working.{HasLooked, IsSmall}
 use Rattle.check_table.specs.declared.pair.Pair.{Pair}
-use Rattle.tide_freeze.specs.declared.books.Books.{Books}
+use Rattle.tide_heap.specs.tide_freeze.declared.books.Books.{Books}
 use Rattle.tide_heap.specs.Parties.{In, IsParty}
 use Rattle.tide_heap.specs.Turns.{heard_view, note_of, noted, ticket_of}
 use Rattle.tide_heap.specs.declared.heap.Heap.{Heap}
-use Rattle.tide_core.specs.machine.Frozen.{newcomer}
-use Rattle.tide_core.specs.machine.May.{Rests}
-use Rattle.tide_core.specs.declared.machine.view.View.{View}
-use Rattle.tide_core.specs.machine.kinds.Activate.{begun_view}
-use Rattle.tide_core.specs.machine.kinds.Split.{split_view}
-use Rattle.tide_core.specs.machine.kinds.StoreStopped.{stopped_view}
+use Rattle.tide_heap.specs.tide_core.machine.Frozen.{newcomer}
+use Rattle.tide_heap.specs.tide_core.machine.May.{Rests}
+use Rattle.tide_heap.specs.tide_core.declared.machine.view.View.{View}
+use Rattle.tide_heap.specs.tide_core.machine.kinds.Activate.{begun_view}
+use Rattle.tide_heap.specs.tide_core.machine.kinds.Split.{split_view}
+use Rattle.tide_heap.specs.tide_core.machine.kinds.StoreStopped.{stopped_view}
 use Rattle.tide_model.specs.Layout.{Layout}
 use Rattle.tide_model.specs.declared.entry.Event.{Event}
 use Rattle.tide_shape.specs.declared.shapes.Shapes.{Shapes}

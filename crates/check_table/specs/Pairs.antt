@@ -3,9 +3,9 @@ use Rattle.std.specs.Prelude.{ℕ, ◌≡◌, ◌+◌, ◌<◌, Bool, false, Lis
 use Rattle.check_table.specs.Unvisited.{RunsPart}
 use Rattle.check_table.specs.Resting.{IsAtRest, TakesPart}
 use Rattle.check_table.specs.declared.pair.Pair.{Pair}
-use Rattle.tide_freeze.specs.Books.{AreBooks}
+use Rattle.tide_heap.specs.tide_freeze.Books.{AreBooks}
 use Rattle.tide_heap.specs.declared.heap.Heap.{Heap}
-use Rattle.tide_core.specs.machine.Frozen.{newcomer}
+use Rattle.tide_heap.specs.tide_core.machine.Frozen.{newcomer}
 use Rattle.tide_model.specs.History.{state_after}
 use Rattle.tide_model.specs.Lawful.{IsLawful}
 use Rattle.tide_model.specs.Layout.{Layout}

@@ -1,7 +1,7 @@
 -- A mutator between two parts, and in one.
 use Rattle.std.specs.Prelude.{ℕ, ◌≡◌, ◌<◌, true, false}
-use Rattle.tide_core.specs.machine.May.{Rests}
-use Rattle.tide_core.specs.declared.machine.view.View.{View}
+use Rattle.tide_heap.specs.tide_core.machine.May.{Rests}
+use Rattle.tide_heap.specs.tide_core.declared.machine.view.View.{View}
 
 -- a mutator's view while it doesn't run: it began and stopped before this part alone
 pub record IsAtRest (who part : ℕ) (v : View) : Type 0 where

@@ -1,17 +1,17 @@
 -- A heap that stands still: after its first part, in which nobody made a call, and before the next one is opened.
 use Rattle.std.specs.Prelude.{ℕ, ◌≡◌, ◌≤◌, true, false, List, [], ◌∷◌, length}
-use Rattle.tide_layout.specs.Region.{word_count}
-use Rattle.tide_layout.specs.declared.region.Region.TheVariants.{Stopped}
-use Rattle.tide_core.specs.machine.Frozen.{FrozenWith}
-use Rattle.tide_core.specs.machine.May.{Rests}
-use Rattle.tide_core.specs.declared.machine.view.View.{View}
+use Rattle.tide_heap.specs.tide_layout.Region.{word_count}
+use Rattle.tide_heap.specs.tide_layout.declared.region.Region.TheVariants.{Stopped}
+use Rattle.tide_heap.specs.tide_core.machine.Frozen.{FrozenWith}
+use Rattle.tide_heap.specs.tide_core.machine.May.{Rests}
+use Rattle.tide_heap.specs.tide_core.declared.machine.view.View.{View}
 use Rattle.tide_model.specs.History.{plain}
 use Rattle.tide_model.specs.Layout.{Layout}
 use Rattle.tide_model.specs.Refused.{ShapeLists}
 use Rattle.tide_model.specs.declared.entry.Entry.TheVariants.{Open}
 use Rattle.tide_model.specs.declared.entry.Event.{Event}
 use Rattle.tide_table.specs.Openings.{MayFollow}
-use Rattle.tide_words.specs.heap.Heap.{SameIn, heap_of}
+use Rattle.tide_heap.specs.tide_words.heap.Heap.{SameIn, heap_of}
 
 -- the history of a part that was opened, and no more
 abbrev pub opened_once : ℕ → List Event

@@ -1,7 +1,7 @@
 -- A part of these mutators, who visit no cell.
 use Rattle.std.specs.Prelude.{◌≡◌}
-use Rattle.tide_freeze.specs.declared.books.Books.{Books}
-use Rattle.tide_core.specs.declared.machine.view.View.{View}
+use Rattle.tide_heap.specs.tide_freeze.declared.books.Books.{Books}
+use Rattle.tide_heap.specs.tide_core.declared.machine.view.View.{View}
 use Rattle.tide_model.specs.Layout.{Layout}
 use Rattle.tide_table.specs.Standing.{RunsWith}
 use Rattle.tide_table.specs.VisitsTold.{unentered}

@@ -1,7 +1,7 @@
 -- The layouts of these parts, and what a look leaves.
 use Rattle.std.specs.Prelude.{ℕ, ◌≡◌, ◌<◌}
-use Rattle.tide_layout.specs.Slots.{HasSlot}
-use Rattle.tide_core.specs.declared.machine.view.View.{View}
+use Rattle.tide_heap.specs.tide_layout.Slots.{HasSlot}
+use Rattle.tide_heap.specs.tide_core.declared.machine.view.View.{View}
 use Rattle.tide_model.specs.Layout.{Layout}
 
 -- the layout has all that a mutator of these parts steps on

@@ -1,12 +1,10 @@
 //! A chain that is stored word by word over words that stand still, and then marked in two pauses.
 ghost use Rattle.std.specs.Prelude.{◌≡◌, ◌≤◌, [], length};
-ghost use Rattle.tide_layout.specs.Region.{word_count};
+ghost use Rattle.tide_heap.specs.tide_layout.Region.{word_count};
 
 use check_heap::Heap;
-use tide_cycle::{begin, pause};
-use tide_layout::{Layout, Region};
-use tide_solver::Solved;
-use tide_words::{GreyList, MAX_CELLS, Words, word_phase};
+use tide_core::{Solved, begin, pause};
+use tide_heap::{GreyList, Layout, MAX_CELLS, Region, Words, word_phase};
 
 /// No cycle begins from this one on.
 const LAST_CYCLE: u64 = 1 << 60;

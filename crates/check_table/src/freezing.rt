@@ -1,14 +1,13 @@
 //! The freeze code that runs over words with a history, here over a heap of shared words that stands still.
 ghost use Rattle.std.specs.Prelude.{◌≡◌, IfOk};
 ghost use Rattle.check_table.specs.Standing.{opened_once, StandsStill};
-ghost use Rattle.tide_freeze.specs.Books.{AreBooks};
-ghost use Rattle.tide_core.specs.machine.Frozen.{newcomer};
+ghost use Rattle.tide_heap.specs.tide_freeze.Books.{AreBooks};
+ghost use Rattle.tide_heap.specs.tide_core.machine.Frozen.{newcomer};
 ghost use Rattle.tide_shape.specs.Lists.{lists_of};
 ghost use Rattle.tide_table.specs.Started.{IsStarted};
 
 use crate::callers::{begin_part, stop_and_freeze};
-use tide_freeze::{Books, freeze};
-use tide_layout::Layout;
+use tide_heap::{Books, Layout, freeze};
 use tide_model::Memory;
 use tide_shape::Shapes;
 use tide_table::{Collector, Frozen, Heap, Pass};

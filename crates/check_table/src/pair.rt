@@ -2,7 +2,7 @@
 ghost use Rattle.std.specs.Prelude.{◌≡◌};
 ghost use Rattle.check_table.specs.Working.{IsSmall};
 
-use tide_freeze::Books;
+use tide_heap::Books;
 use tide_shape::Shapes;
 use tide_table::{Collector, Heap, Pass};
 

@@ -7,8 +7,8 @@ ghost use Rattle.check_table.specs.Pairs.{IsClosedOf, SameCalls};
 use crate::callers::{begin_part, leave, stop_part};
 use crate::pair::Pair;
 use crate::working::{Found, look, put};
-use tide_cycle::Report;
-use tide_freeze::Books;
+use tide_core::Report;
+use tide_heap::Books;
 use tide_table::{Closed, NotOpened, Numbers};
 
 impl Pair {

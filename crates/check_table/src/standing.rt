@@ -1,7 +1,7 @@
 //! What is done to heaps that stand still: a chain is marked, and the freeze code runs twice. It prints nothing.
 ghost use Rattle.std.specs.Prelude.{◌≡◌, ◌≤◌, []};
 ghost use Rattle.check_table.specs.Standing.{opened_once};
-ghost use Rattle.tide_freeze.specs.Books.{AreBooks};
+ghost use Rattle.tide_heap.specs.tide_freeze.Books.{AreBooks};
 ghost use Rattle.tide_shape.specs.Lists.{lists_of};
 ghost use Rattle.tide_table.specs.Started.{IsStarted};
 
@@ -11,11 +11,9 @@ use crate::pacing::PACING;
 use crate::starting::{Single, start_single};
 use check_heap::{Heap, layout_of, words_of};
 use std::alloc::{AllocError, Global};
-use tide_cycle::Report;
-use tide_freeze::Books;
-use tide_layout::Layout;
+use tide_core::Report;
+use tide_heap::{Books, GreyList, Layout, MAX_CELLS};
 use tide_model::Memory;
-use tide_words::{GreyList, MAX_CELLS};
 
 /// The layout that words say.
 fn layout_among(words: &[&str]) -> Option<Layout> {

@@ -2,16 +2,15 @@
 ghost use Rattle.std.specs.Prelude.{◌≡◌, [], IfOk, IfSome, vec_len};
 ghost use Rattle.check_table.specs.Pairs.{HasStarted};
 ghost use Rattle.check_table.specs.Working.{IsSmall};
-ghost use Rattle.tide_core.specs.machine.Frozen.{newcomer};
-ghost use Rattle.tide_freeze.specs.Books.{AreBooks};
+ghost use Rattle.tide_heap.specs.tide_core.machine.Frozen.{newcomer};
+ghost use Rattle.tide_heap.specs.tide_freeze.Books.{AreBooks};
 ghost use Rattle.tide_shape.specs.Lists.{lists_of};
 ghost use Rattle.tide_table.specs.Started.{ArePasses, IsStarted};
 
 use crate::pacing::PACING;
 use crate::pair::Pair;
 use std::alloc::Global;
-use tide_freeze::Books;
-use tide_layout::Layout;
+use tide_heap::{Books, Layout};
 use tide_model::Memory;
 use tide_shape::{Paths, Shapes};
 use tide_table::{Collector, Heap, Pass, Start};

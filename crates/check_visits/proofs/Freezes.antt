@@ -1,19 +1,19 @@
 -- What entries leave of the collector's view at a freeze, and what the next opening asks of it.
 use Rattle.std.proofs.Common.{ℕ, ◌≡◌, ◌+◌, ◌<◌, refl, sym, ◌∙◌, ap, subst, arith, Bool, true, false, List, [], ◌∷◌, ◌++◌, length}
 use Rattle.check_visits.specs.Parts.{IsAtFreeze}
-use Rattle.tide_core.proofs.wave_laws.EntryLaws.{StandsBegin-next}
-use Rattle.tide_core.specs.wave.Entered.{with_begin, HasBegun, HasPaused}
-use Rattle.tide_core.specs.wave.StaysBlack.{StaysBlack}
-use Rattle.tide_freeze.proofs.FrozenLaws.{MayEnter-by, newly_counted}
-use Rattle.tide_freeze.specs.Entering.{MayEnter, TellsVisits, with_entry}
+use Rattle.tide_heap.proofs.tide_core.wave_laws.EntryLaws.{StandsBegin-next}
+use Rattle.tide_heap.specs.tide_core.wave.Entered.{with_begin, HasBegun, HasPaused}
+use Rattle.tide_heap.specs.tide_core.wave.StaysBlack.{StaysBlack}
+use Rattle.tide_heap.proofs.tide_freeze.FrozenLaws.{MayEnter-by, newly_counted}
+use Rattle.tide_heap.specs.tide_freeze.Entering.{MayEnter, TellsVisits, with_entry}
 use Rattle.tide_heap.specs.Turns.{frozen_with, visits_entered, Freezes}
-use Rattle.tide_layout.specs.Region.{word_count}
-use Rattle.tide_layout.specs.declared.region.Region.TheVariants.{Stopped}
-use Rattle.tide_core.proofs.machine_laws.freezes.Entering.{FrozenWave-of, FrozenWith-entered}
-use Rattle.tide_core.proofs.machine_laws.steps.DeadBits.{swept_at_first}
-use Rattle.tide_core.specs.machine.Frozen.{FrozenWith}
-use Rattle.tide_core.specs.machine.Schedule.{begins, pauses, visits}
-use Rattle.tide_core.specs.declared.machine.view.View.{View}
+use Rattle.tide_heap.specs.tide_layout.Region.{word_count}
+use Rattle.tide_heap.specs.tide_layout.declared.region.Region.TheVariants.{Stopped}
+use Rattle.tide_heap.proofs.tide_core.machine_laws.freezes.Entering.{FrozenWave-of, FrozenWith-entered}
+use Rattle.tide_heap.proofs.tide_core.machine_laws.steps.DeadBits.{swept_at_first}
+use Rattle.tide_heap.specs.tide_core.machine.Frozen.{FrozenWith}
+use Rattle.tide_heap.specs.tide_core.machine.Schedule.{begins, pauses, visits}
+use Rattle.tide_heap.specs.tide_core.declared.machine.view.View.{View}
 use Rattle.tide_model.specs.Cycle.{IsSwept, begin_count}
 use Rattle.tide_model.specs.History.{plain}
 use Rattle.tide_model.specs.Layout.{Layout, cell_count}
@@ -21,13 +21,13 @@ use Rattle.tide_model.specs.Refused.{ShapeLists}
 use Rattle.tide_model.specs.declared.entry.Entry.TheVariants.{Begin, Pause, Visits}
 use Rattle.tide_model.specs.declared.entry.Event.{Event}
 use Rattle.std.specs.Prelude.{Contains}
-use Rattle.tide_core.specs.machine.World.{first_visitor}
+use Rattle.tide_heap.specs.tide_core.machine.World.{first_visitor}
 use Rattle.tide_table.proofs.Visits.{unentered-entered}
 use Rattle.tide_table.specs.Blacks.{was_black_in}
 use Rattle.tide_table.specs.Shown.{bare}
 use Rattle.tide_table.specs.VisitsTold.{unentered}
-use Rattle.tide_words.specs.heap.Heap.{SameIn, heap_of}
-use Rattle.tide_words.specs.marking.Colours.{is_black, is_marking, running_cycle}
+use Rattle.tide_heap.specs.tide_words.heap.Heap.{SameIn, heap_of}
+use Rattle.tide_heap.specs.tide_words.marking.Colours.{is_black, is_marking, running_cycle}
 
 -- the visits that the notes told are entered
 pub visits_told : (layout : Layout) (shapes : ShapeLists) (v w u : View) (visitor count : ℕ) → Freezes layout shapes v w →

@@ -5,7 +5,7 @@ use Rattle.std.specs.Prelude.{◌==◌, if◌then◌else◌, Contains}
 use Rattle.check_visits.specs.Parts.{IsNoteOf}
 use Rattle.tide_heap.specs.Parties.{In}
 use Rattle.tide_heap.specs.Turns.{noted, visited_of}
-use Rattle.tide_core.specs.declared.machine.view.View.{View}
+use Rattle.tide_heap.specs.tide_core.declared.machine.view.View.{View}
 
 -- the collector, whose view was a before the part and v before it took the note u in, has the view w
 pub record HasTakenIn (a v u w : View) : Type 0 where

@@ -5,12 +5,12 @@ use Rattle.std.specs.Prelude.{◌==◌, if◌then◌else◌}
 use Rattle.check_visits.specs.Parts.{IsNoteOf, IsParked}
 use Rattle.check_visits.specs.Visiting.{unvisited, HasOneBlock, IsWaiting}
 use Rattle.tide_heap.specs.Turns.{heard_view, note_of}
-use Rattle.tide_core.specs.machine.May.{Rests}
-use Rattle.tide_core.specs.machine.World.{IsParty}
-use Rattle.tide_core.specs.declared.machine.view.View.{View}
-use Rattle.tide_core.specs.machine.kinds.Activate.{begun_view}
-use Rattle.tide_core.specs.machine.kinds.Split.{split_view}
-use Rattle.tide_core.specs.machine.kinds.StoreStopped.{stopped_view}
+use Rattle.tide_heap.specs.tide_core.machine.May.{Rests}
+use Rattle.tide_heap.specs.tide_core.machine.World.{IsParty}
+use Rattle.tide_heap.specs.tide_core.declared.machine.view.View.{View}
+use Rattle.tide_heap.specs.tide_core.machine.kinds.Activate.{begun_view}
+use Rattle.tide_heap.specs.tide_core.machine.kinds.Split.{split_view}
+use Rattle.tide_heap.specs.tide_core.machine.kinds.StoreStopped.{stopped_view}
 use Rattle.tide_model.specs.Layout.{Layout}
 
 -- it has begun the part of the ticket, in which a cycle marks, and has done nothing there yet

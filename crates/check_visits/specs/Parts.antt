@@ -1,16 +1,16 @@
 -- What is known between parts, of a note, and at a freeze in which a visitor's visits are entered.
 use Rattle.std.specs.Prelude.{ℕ, ◌≡◌, true, false, length}
-use Rattle.tide_layout.specs.Region.{word_count}
-use Rattle.tide_layout.specs.declared.region.Region.TheVariants.{Stopped}
-use Rattle.tide_core.specs.machine.Frozen.{FrozenWith}
-use Rattle.tide_core.specs.machine.May.{Rests}
-use Rattle.tide_core.specs.declared.machine.view.View.{View}
+use Rattle.tide_heap.specs.tide_layout.Region.{word_count}
+use Rattle.tide_heap.specs.tide_layout.declared.region.Region.TheVariants.{Stopped}
+use Rattle.tide_heap.specs.tide_core.machine.Frozen.{FrozenWith}
+use Rattle.tide_heap.specs.tide_core.machine.May.{Rests}
+use Rattle.tide_heap.specs.tide_core.declared.machine.view.View.{View}
 use Rattle.tide_model.specs.Layout.{Layout}
 use Rattle.tide_model.specs.Refused.{ShapeLists}
 use Rattle.tide_table.specs.Blacks.{was_black_in}
 use Rattle.tide_table.specs.VisitsTold.{unentered}
-use Rattle.tide_words.specs.heap.Heap.{SameIn, heap_of}
-use Rattle.tide_words.specs.marking.Colours.{is_black}
+use Rattle.tide_heap.specs.tide_words.heap.Heap.{SameIn, heap_of}
+use Rattle.tide_heap.specs.tide_words.marking.Colours.{is_black}
 
 -- the participant stands between two parts: it has handed out the note of the one in which it began last, and hasn't
 -- left

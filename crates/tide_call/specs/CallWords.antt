@@ -1,9 +1,9 @@
 -- The words that a granted call writes.
 use Rattle.std.specs.Prelude.{ℕ, ◌≡◌, ◌≢◌, ◌+◌, ◌%◌, ◌<◌, ◌⊎◌, Bool, true, false, List, [], ◌∷◌, ◌++◌, length, Option, None, Some}
-use Rattle.tide_layout.specs.declared.region.Region.{Region}
-use Rattle.tide_layout.specs.declared.region.Region.TheVariants as region
-use Rattle.tide_layout.specs.Region.{index_of_register}
-use Rattle.tide_layout.specs.Slots.{HasSlot, index_of_element, index_of_slot}
+use Rattle.tide_words.specs.tide_layout.declared.region.Region.{Region}
+use Rattle.tide_words.specs.tide_layout.declared.region.Region.TheVariants as region
+use Rattle.tide_words.specs.tide_layout.Region.{index_of_register}
+use Rattle.tide_words.specs.tide_layout.Slots.{HasSlot, index_of_element, index_of_slot}
 use Rattle.tide_model.specs.declared.op.Op.{Op}
 use Rattle.tide_model.specs.declared.op.Op.TheVariants.{Alloc, Table, Get, Put, Move, Set, Drop, Claim, Release, Unclaim, Add, GetProp, SetProp, StrongSet, StrongGet, WeakSet, WeakGet, PairSet, PairGet, PairDel, Group, Retire}
 use Rattle.tide_model.specs.declared.op.Reply.{Reply}

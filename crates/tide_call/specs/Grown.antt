@@ -2,13 +2,13 @@
 use Rattle.std.specs.Prelude.{ℕ, ◌≡◌, ◌≢◌, ◌+◌, ◌%◌, ◌<◌, ◌==◌, Bool, true, false, Option, Some}
 use Rattle.tide_model.specs.declared.val.Val.{Val}
 use Rattle.tide_model.specs.Layout.{Layout, block_of_array, cell_count}
-use Rattle.tide_layout.specs.declared.region.Region.{Region}
-use Rattle.tide_layout.specs.declared.region.Region.TheVariants.{Array, Elements, Free, Structure}
+use Rattle.tide_words.specs.tide_layout.declared.region.Region.{Region}
+use Rattle.tide_words.specs.tide_layout.declared.region.Region.TheVariants.{Array, Elements, Free, Structure}
 use Rattle.tide_words.specs.heap.Heap.{Heap, SameIn}
 use Rattle.tide_words.specs.heap.Reading.{element_word}
 use Rattle.tide_words.specs.forms.Reference.{array_word}
-use Rattle.tide_layout.specs.Region.{tag}
-use Rattle.tide_layout.specs.Slots.{HasElement}
+use Rattle.tide_words.specs.tide_layout.Region.{tag}
+use Rattle.tide_words.specs.tide_layout.Slots.{HasElement}
 use Rattle.tide_words.specs.forms.ValueWord.{val_word}
 use Rattle.tide_call.specs.Taken.{IsTakenBit}
 use Rattle.tide_call.specs.ShapeWord.{whole_word}

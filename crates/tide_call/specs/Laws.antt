@@ -1,7 +1,7 @@
 -- What a call leaves, once its words are written.
 use Rattle.std.specs.Prelude.{ℕ, ◌≡◌, ◌+◌, ◌<◌, true, List, [], ◌∷◌, ◌++◌, slice_get, nat_le, length, Option, None, Some}
-use Rattle.tide_layout.specs.Limits.{IsWithinLimits}
-use Rattle.tide_layout.specs.declared.region.Region.TheVariants.{Claim as ClaimRegion}
+use Rattle.tide_words.specs.tide_layout.Limits.{IsWithinLimits}
+use Rattle.tide_words.specs.tide_layout.declared.region.Region.TheVariants.{Claim as ClaimRegion}
 use Rattle.tide_model.specs.declared.entry.Entry.TheVariants.{Call}
 use Rattle.tide_model.specs.declared.entry.Event.{Event}
 use Rattle.tide_model.specs.declared.op.Op.{Op}

@@ -1,7 +1,7 @@
 -- What acting on a plan needs of the words.
 use Rattle.std.specs.Prelude.{ℕ, ◌≡◌, ◌<◌, ◌≤◌, ◌^◌, Option, Some, IfSome}
-use Rattle.tide_layout.specs.declared.region.Region.TheVariants.{Claim as ClaimRegion, Strong, Weak}
-use Rattle.tide_layout.specs.Slots.{HasElement, HasSlot, width_of_class}
+use Rattle.tide_words.specs.tide_layout.declared.region.Region.TheVariants.{Claim as ClaimRegion, Strong, Weak}
+use Rattle.tide_words.specs.tide_layout.Slots.{HasElement, HasSlot, width_of_class}
 use Rattle.tide_model.specs.declared.val.Val.{Val}
 use Rattle.tide_model.specs.Layout.{Layout, array_count, cell_count}
 use Rattle.tide_words.specs.forms.PairWord.{max_cells}

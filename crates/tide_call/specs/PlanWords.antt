@@ -1,8 +1,8 @@
 -- What acting on a plan writes and answers, told by words alone.
 use Rattle.std.specs.Prelude.{ℕ, ◌≡◌, ◌+◌, ◌%◌, ◌<◌, true, false, Option, None, Some}
-use Rattle.tide_block.specs.Bits.{IsSet}
-use Rattle.tide_layout.specs.declared.region.Region.TheVariants as region
-use Rattle.tide_layout.specs.Slots.{index_of_element, index_of_slot}
+use Rattle.tide_words.specs.tide_block.Bits.{IsSet}
+use Rattle.tide_words.specs.tide_layout.declared.region.Region.TheVariants as region
+use Rattle.tide_words.specs.tide_layout.Slots.{index_of_element, index_of_slot}
 use Rattle.tide_model.specs.declared.op.Refusal.TheVariants.{ClaimsFull, Full, Held}
 use Rattle.tide_model.specs.declared.op.Reply.{Reply}
 use Rattle.tide_model.specs.declared.op.Reply.TheVariants.{Asked, Born, Done, Refused, Seen}

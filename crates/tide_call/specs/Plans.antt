@@ -1,6 +1,6 @@
 -- What a call is to do.
 use Rattle.std.specs.Prelude.{ℕ, ◌≡◌, ◌⊎◌, Bool, true, false, nat_le, List, [], ◌∷◌, ◌++◌, length, Option, None, Some}
-use Rattle.tide_layout.specs.Slots.{HasElement, HasSlot}
+use Rattle.tide_words.specs.tide_layout.Slots.{HasElement, HasSlot}
 use Rattle.tide_model.specs.declared.op.Op.{Op}
 use Rattle.tide_model.specs.declared.op.Op.TheVariants.{Alloc, Table, Get, Put, Move, Set, Drop, Claim, Release, Unclaim, Add, GetProp, SetProp, StrongSet, StrongGet, WeakSet, WeakGet, PairSet, PairGet, PairDel, Group, Collect, Retire}
 use Rattle.tide_model.specs.declared.val.Val.{Val}

@@ -1,6 +1,6 @@
 -- Where a property of a cell stands.
 use Rattle.std.specs.Prelude.{ℕ, ◌≡◌, None, Some}
-use Rattle.tide_layout.specs.Slots.{HasElement}
+use Rattle.tide_words.specs.tide_layout.Slots.{HasElement}
 use Rattle.tide_model.specs.declared.val.Val.TheVariants.{Cell}
 use Rattle.tide_model.specs.Applied.{place_of}
 use Rattle.tide_model.specs.Refused.{property_refusal}

@@ -13,10 +13,9 @@ ghost use Rattle.tide_call.specs.ShapeWord.{IsShapeWord};
 use crate::claims::Claims;
 use crate::own::{OwnRegisters, OwnWords};
 use std::marker::Model;
-use tide_layout::PAIRS;
 use tide_model::{Refusal, Val};
 use tide_shape::ShapeTable;
-use tide_words::{Layout, word_array, word_structure, word_val};
+use tide_words::{Layout, PAIRS, word_array, word_structure, word_val};
 
 /// A mutator that makes a call, with the cells that it claims, and the layout and the shapes of its store.
 #[derive(Drop)]

@@ -1,8 +1,8 @@
 //! `OwnRegisters` and `OwnWords`: the words that a mutator alone changes, wherever they are. They know no operation.
 ghost use Rattle.std.specs.Prelude.{◌≡◌, ◌<◌, ℕ, Some, true};
-ghost use Rattle.tide_layout.specs.Region.{index_of_register, place_of_slot};
-ghost use Rattle.tide_layout.specs.Slots.{HasSlot};
-ghost use Rattle.tide_layout.specs.declared.region.Region.TheVariants.{Array, Claim, Registers, Structure};
+ghost use Rattle.tide_words.specs.tide_layout.Region.{index_of_register, place_of_slot};
+ghost use Rattle.tide_words.specs.tide_layout.Slots.{HasSlot};
+ghost use Rattle.tide_words.specs.tide_layout.declared.region.Region.TheVariants.{Array, Claim, Registers, Structure};
 ghost use Rattle.tide_model.specs.Layout.{Layout as PlainLayout, cell_count};
 ghost use Rattle.tide_model.specs.Refused.{is_table};
 ghost use Rattle.tide_words.specs.forms.Reference.{claim_word};

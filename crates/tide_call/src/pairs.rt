@@ -13,11 +13,9 @@ ghost use Rattle.tide_call.specs.Plans.{IsPlan};
 use crate::caller::Caller;
 use crate::own::OwnWords;
 use crate::plan::Plan;
-use tide_block::class_of;
-use tide_layout::{PAIRS, TABLE};
 use tide_model::{Refusal, Val};
 use tide_shape::ShapeTable;
-use tide_words::word_pair;
+use tide_words::{PAIRS, TABLE, class_of, word_pair};
 
 /// The value of a key's pair, and the place of its word among those of a table.
 #[derive(Clone, Copy)]

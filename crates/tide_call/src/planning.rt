@@ -8,9 +8,9 @@ ghost use Rattle.tide_call.specs.Plans.{IsPlan, is_told_by_registers};
 use crate::caller::Caller;
 use crate::own::{OwnRegisters, OwnWords};
 use crate::plan::Plan;
-use tide_layout::TABLE;
 use tide_model::{Op, Val};
 use tide_shape::ShapeTable;
+use tide_words::TABLE;
 
 impl<'a, S: ShapeTable> Caller<'a, S> {
     /// What a `Group` is to do.

@@ -1,6 +1,6 @@
 //! What operations on properties that a cell has are to do. It reads no word but the caller's own.
 ghost use Rattle.std.specs.Prelude.{◌≡◌, ◌<◌, ℕ, List, Option, None, Some, true, IfErr, IfOk};
-ghost use Rattle.tide_layout.specs.Slots.{HasElement};
+ghost use Rattle.tide_words.specs.tide_layout.Slots.{HasElement};
 ghost use Rattle.tide_model.specs.Applied.{place_of};
 ghost use Rattle.tide_model.specs.Layout.{cell_count};
 ghost use Rattle.tide_model.specs.Numbers.{is_among};
@@ -15,10 +15,9 @@ ghost use Rattle.tide_call.specs.Properties.{IsPropertyOf};
 use crate::caller::Caller;
 use crate::own::OwnWords;
 use crate::plan::Plan;
-use tide_block::class_of;
-use tide_layout::TABLE;
 use tide_model::Refusal;
 use tide_shape::ShapeTable;
+use tide_words::{TABLE, class_of};
 
 /// A property: the cell that has it, and the element that it stands in.
 #[derive(Clone, Copy)]

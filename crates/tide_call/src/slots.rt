@@ -1,6 +1,6 @@
 //! What operations on slots are to do. It reads no word but the caller's own.
 ghost use Rattle.std.specs.Prelude.{◌≡◌, ◌<◌, None, Some, IfErr, IfOk};
-ghost use Rattle.tide_layout.specs.Slots.{HasSlot};
+ghost use Rattle.tide_words.specs.tide_layout.Slots.{HasSlot};
 ghost use Rattle.tide_model.specs.Refused.{slot_refusal};
 ghost use Rattle.tide_model.specs.declared.op.Op.TheVariants.{Get, Put};
 ghost use Rattle.tide_model.specs.declared.val.Val.TheVariants.{Cell};
@@ -10,10 +10,9 @@ ghost use Rattle.tide_call.specs.Plans.{IsPlan};
 use crate::caller::Caller;
 use crate::own::OwnRegisters;
 use crate::plan::Plan;
-use tide_block::{class_of, slots};
-use tide_layout::TABLE;
 use tide_model::Refusal;
 use tide_shape::ShapeTable;
+use tide_words::{TABLE, class_of, slots};
 
 impl<'a, S: ShapeTable> Caller<'a, S> {
     /// The cell in a register, which has this slot, or why the slot can't be read or written.

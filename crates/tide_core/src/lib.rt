@@ -16,3 +16,14 @@ pub mod machine;
 pub use machine::{
     Act, Cleared, Duty, Found, Growth, Owed, Role, Round, Saw, Scan, Sweeping, Target, View,
 };
+pub use tide_call::{Addition, Caller, Claims, OwnRegisters, OwnWords, Plan};
+pub use tide_cycle::{Report, begin, end, pause};
+pub use tide_solver::Solved;
+pub use tide_sweep::{SweepPort, Took, has_dead, sweep, sweep_running};
+pub use tide_words::{
+    BLOCK_SIZE, Colour, GreyList, Layout, MAX_CELLS, Region, Structure, TABLE, Words, after,
+    array_word, bit_of, block_of_cell, claim_word, class_of, colour, colour_word, first_block_of,
+    fits, has_bit, is_live, is_marked_in, is_vacant, lowest, pair_word, running_cycle, slots,
+    store_word, structure_word, val_word, with_bit, without_bit, word_array, word_claim,
+    word_phase, word_structure, word_val,
+};

@@ -8,10 +8,10 @@ use Rattle.std.specs.List.{list_all}
 use Rattle.std.specs.Prelude.{Contains, ◌==◌, ◌&&◌, ◌||◌, count_by, if◌then◌else◌}
 use Rattle.tide_freeze.proofs.BirthLaws.{born-none, born-push}
 use Rattle.tide_freeze.proofs.FewBirths.{HasFewBirths-lawful}
-use Rattle.tide_layout.proofs.ClassWidths.{count_where-le}
-use Rattle.tide_layout.proofs.LimitLaws.{few_cells}
-use Rattle.tide_layout.specs.Limits.{IsWithinLimits}
-use Rattle.tide_layout.specs.Slots.{total_below}
+use Rattle.tide_core.proofs.tide_layout.ClassWidths.{count_where-le}
+use Rattle.tide_core.proofs.tide_layout.LimitLaws.{few_cells}
+use Rattle.tide_core.specs.tide_layout.Limits.{IsWithinLimits}
+use Rattle.tide_core.specs.tide_layout.Slots.{total_below}
 use Rattle.tide_core.proofs.machine_laws.steps.Frames.{put_here, put_else}
 use Rattle.tide_core.specs.machine.Entries.{added}
 use Rattle.tide_core.specs.machine.World.{parties}

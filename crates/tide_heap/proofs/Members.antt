@@ -19,7 +19,7 @@ use Rattle.tide_core.specs.declared.machine.view.View.{View}
 use Rattle.tide_core.specs.declared.machine.view.Role.{Role}
 use Rattle.tide_core.specs.declared.machine.view.Role.TheVariants.{Collector, Member, Note, Ticket, Spent}
 use Rattle.tide_core.proofs.machine_laws.steps.Frames.{put_here, put_else}
-use Rattle.tide_layout.specs.Limits.{IsWithinLimits}
+use Rattle.tide_core.specs.tide_layout.Limits.{IsWithinLimits}
 use Rattle.tide_core.specs.machine.World.{parties}
 use Rattle.tide_core.specs.machine.points.Marks.{counted_in}
 use Rattle.tide_model.specs.History.{state_after}

@@ -4,10 +4,10 @@ use Rattle.std.proofs.lemmas.Bool.Decides.{nat_tests}
 use Rattle.std.specs.Prelude.{true, false, ◌==◌, Option, None, Some, slice_get}
 use Rattle.atomic_table.specs.Table as table
 use Rattle.atomic_table.specs.Table.{State, Me, keeps, stepped, Allows, Valid}
-use Rattle.tide_layout.specs.Limits.{IsWithinLimits}
-use Rattle.tide_layout.specs.Region.{size_of, place_in, tag}
-use Rattle.tide_layout.specs.declared.region.Region.{Region}
-use Rattle.tide_layout.specs.declared.region.Region.TheVariants as region
+use Rattle.tide_core.specs.tide_layout.Limits.{IsWithinLimits}
+use Rattle.tide_core.specs.tide_layout.Region.{size_of, place_in, tag}
+use Rattle.tide_core.specs.tide_layout.declared.region.Region.{Region}
+use Rattle.tide_core.specs.tide_layout.declared.region.Region.TheVariants as region
 use Rattle.tide_core.specs.machine.Entries.{added}
 use Rattle.tide_core.specs.machine.Kind.{acted}
 use Rattle.tide_core.specs.machine.RunningWave.{RunningWave}
@@ -27,9 +27,9 @@ use Rattle.tide_heap.proofs.Leaving.{inactive-push}
 use Rattle.tide_heap.proofs.Members.{member, member_ok, member_step, running, now_running, few_parties}
 use Rattle.tide_heap.specs.Parties.{In}
 use Rattle.tide_heap.specs.Rule.{MemberOk, IsFrozen, IsRunning, Tabled, Rule}
-use Rattle.tide_words.proofs.heap_laws.HeapLaws.{reads_write, write-other_region}
-use Rattle.tide_words.specs.heap.Heap.{Heap, write, Reads}
-use Rattle.tide_words.specs.marking.Colours.{is_marking, running_cycle}
+use Rattle.tide_core.proofs.tide_words.heap_laws.HeapLaws.{reads_write, write-other_region}
+use Rattle.tide_core.specs.tide_words.heap.Heap.{Heap, write, Reads}
+use Rattle.tide_core.specs.tide_words.marking.Colours.{is_marking, running_cycle}
 use lib.ListN.{get_elem?}
 use mathlib.Core.Option.{some}
 

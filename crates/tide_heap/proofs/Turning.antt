@@ -1,8 +1,8 @@
 -- A participant hears a ticket, begins, stops and hands out its note.
 use Rattle.std.proofs.Common.{◌≡◌, ℕ, zero, suc, ◌+◌, ◌<◌, ◌≤◌, length-set, List, [], ◌∷◌, ◌++◌, length, sym, refl, ap, ◌∙◌, inl, inr, subst, arith, Bool, true, false, set, MatchBool, None}
 use Rattle.std.specs.Prelude.{filter, if◌then◌else◌, slice_index, ◌==◌, ◌↔◌}
-use Rattle.tide_layout.specs.Region.{place_in, size_of}
-use Rattle.tide_layout.specs.declared.region.Region.TheVariants as region
+use Rattle.tide_core.specs.tide_layout.Region.{place_in, size_of}
+use Rattle.tide_core.specs.tide_layout.declared.region.Region.TheVariants as region
 use Rattle.tide_core.proofs.machine_laws.kinds.FirstGroup.{first_group}
 use Rattle.tide_core.proofs.machine_laws.steps.Colouring.{write_same}
 use Rattle.tide_core.specs.machine.Kind.{Split, Join, Activate, StoreStopped, index_of_stopped}
@@ -29,8 +29,8 @@ use Rattle.tide_heap.specs.Parties.{In, IsParty, longer}
 use Rattle.tide_heap.specs.Rule.{MemberOk, NoteOk, Heard, IsFrozen, IsRunning, Tabled}
 use Rattle.tide_heap.specs.Turns.{heard_view, ticket_for, note_of}
 use Rattle.tide_heap.specs.Done.{HasDonePart}
-use Rattle.tide_words.proofs.heap_laws.HeapLaws.{reads_write}
-use Rattle.tide_words.specs.heap.Heap.{Heap, write}
+use Rattle.tide_core.proofs.tide_words.heap_laws.HeapLaws.{reads_write}
+use Rattle.tide_core.specs.tide_words.heap.Heap.{Heap, write}
 use lib.ListN.{get_elem?}
 use mathlib.Core.Option.{some, some-ne-none}
 

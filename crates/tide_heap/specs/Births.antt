@@ -1,6 +1,6 @@
 -- The births of an open part, as views count them and as the history has them.
 use Rattle.std.specs.Prelude.{ℕ, Bool, ◌==◌, ◌&&◌, List, count_by, if◌then◌else◌}
-use Rattle.tide_layout.specs.Slots.{total_below}
+use Rattle.tide_core.specs.tide_layout.Slots.{total_below}
 use Rattle.tide_core.specs.machine.World.{parties}
 use Rattle.tide_core.specs.declared.machine.view.View.{View}
 use Rattle.tide_model.specs.History.{is_call_of, is_open}

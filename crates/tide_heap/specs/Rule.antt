@@ -4,9 +4,9 @@ use Rattle.std.specs.Prelude.{ℕ, Contains, ◌≡◌, ◌↔◌, ◌+◌, ◌<
 use mathlib.Core.Option.{some}
 use lib.ListN.{get_elem?}
 use Rattle.atomic_table.specs.Table.{State}
-use Rattle.tide_layout.specs.Limits.{IsWithinLimits}
-use Rattle.tide_layout.specs.Region.{word_count}
-use Rattle.tide_layout.specs.declared.region.Region.TheVariants as region
+use Rattle.tide_core.specs.tide_layout.Limits.{IsWithinLimits}
+use Rattle.tide_core.specs.tide_layout.Region.{word_count}
+use Rattle.tide_core.specs.tide_layout.declared.region.Region.TheVariants as region
 use Rattle.tide_core.specs.machine.Frozen.{newcomer}
 use Rattle.tide_core.specs.machine.RunningWave.{RunningWave}
 use Rattle.tide_core.specs.declared.machine.view.NotedCalls.{NotedCalls}
@@ -28,9 +28,9 @@ use Rattle.tide_model.specs.declared.entry.Event.{Event}
 use Rattle.tide_heap.specs.Births.{births_in, born_to, told_births}
 use Rattle.tide_heap.specs.Done.{HasDonePart}
 use Rattle.tide_heap.specs.Parties.{In, IsParty, tally}
-use Rattle.tide_words.specs.heap.Heap.{Heap, Reads, heap_of}
-use Rattle.tide_words.specs.marking.Colours.{is_marking, running_cycle}
-use Rattle.tide_words.specs.marking.Marked.{base_cycle}
+use Rattle.tide_core.specs.tide_words.heap.Heap.{Heap, Reads, heap_of}
+use Rattle.tide_core.specs.tide_words.marking.Colours.{is_marking, running_cycle}
+use Rattle.tide_core.specs.tide_words.marking.Marked.{base_cycle}
 
 -- what the collector's view says of the open part, another says too
 pub record AgreesOnPart (cv u : View) : Type 0 where

@@ -1,9 +1,9 @@
 -- What the views become as participants come, stop and go on, and as the collector seats, freezes, enters and opens.
 use Rattle.std.specs.List.{list_all}
 use Rattle.std.specs.Prelude.{ℕ, Bool, Contains, ◌≡◌, ◌<◌, ◌≤◌, ◌+◌, ◌==◌, ◌&&◌, not, filter, count_by, true, false, List, [], ◌∷◌, ◌++◌, length, replicate, slice_set, if◌then◌else◌}
-use Rattle.tide_layout.specs.Limits.{IsWithinLimits}
-use Rattle.tide_layout.specs.Region.{word_count}
-use Rattle.tide_layout.specs.declared.region.Region.TheVariants as region
+use Rattle.tide_core.specs.tide_layout.Limits.{IsWithinLimits}
+use Rattle.tide_core.specs.tide_layout.Region.{word_count}
+use Rattle.tide_core.specs.tide_layout.declared.region.Region.TheVariants as region
 use Rattle.tide_core.specs.machine.Frozen.{FrozenWith, newcomer}
 use Rattle.tide_core.specs.machine.Kind as kind
 use Rattle.tide_core.specs.machine.World.{first_visitor, parties}
@@ -20,9 +20,9 @@ use Rattle.tide_model.specs.Since.{TakenAreSwept, is_birth, is_of_part}
 use Rattle.tide_model.specs.declared.entry.Entry.TheVariants.{Open, Visits}
 use Rattle.tide_model.specs.declared.entry.Event.{Event}
 use Rattle.tide_heap.specs.Parties.{In, IsParty, longer, up_to}
-use Rattle.tide_words.specs.heap.Heap.{heap_of}
-use Rattle.tide_words.specs.marking.Colours.{is_marking, running_cycle}
-use Rattle.tide_words.specs.marking.Marked.{base_cycle}
+use Rattle.tide_core.specs.tide_words.heap.Heap.{heap_of}
+use Rattle.tide_core.specs.tide_words.marking.Colours.{is_marking, running_cycle}
+use Rattle.tide_core.specs.tide_words.marking.Marked.{base_cycle}
 
 -- The collector's first view. The heap starts frozen, with words that are all 0, as if all had stopped in part 0.
 abbrev pub first_view : Layout → View

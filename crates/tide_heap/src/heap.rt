@@ -1,8 +1,8 @@
 //! `Heap`: the table of words, with its layout and shapes. It knows no participant.
 ghost use Rattle.std.specs.Prelude.{◌≡◌, ◌<◌};
-ghost use Rattle.tide_layout.specs.Region.{index_of_register, place_in, size_of, word_count};
-ghost use Rattle.tide_layout.specs.Slots.{index_of_element, index_of_slot, HasElement, HasSlot};
-ghost use Rattle.tide_layout.specs.declared.region.Region.TheVariants.{Elements, Registers, Slots, Stopped};
+ghost use Rattle.tide_core.specs.tide_layout.Region.{index_of_register, place_in, size_of, word_count};
+ghost use Rattle.tide_core.specs.tide_layout.Slots.{index_of_element, index_of_slot, HasElement, HasSlot};
+ghost use Rattle.tide_core.specs.tide_layout.declared.region.Region.TheVariants.{Elements, Registers, Slots, Stopped};
 ghost use Rattle.tide_core.specs.machine.Kind.{index_of_stopped};
 ghost use Rattle.tide_heap.specs.Parties.{IsParty};
 
@@ -10,8 +10,7 @@ use crate::shapes::HeapShapes;
 use atomic_table::{Table, TableRule};
 use std::alloc::Global;
 use std::marker::PhantomData;
-use tide_core::View;
-use tide_words::{Layout, Region};
+use tide_core::{Layout, Region, View};
 
 /// What a heap is made of.
 #[derive(Drop)]

@@ -6,12 +6,12 @@ use Rattle.std.proofs.lemmas.List.{get_or_append_left, get_or_default, get_or_pa
 use Rattle.std.proofs.lemmas.List.Elements.{Contains-push_cases}
 use Rattle.std.proofs.lemmas.Option.{get_or_from_slice_get, slice_get_within}
 use Rattle.std.proofs.lemmas.List.FromFn.{map-range_with_len_more}
-use Rattle.tide_layout.specs.Slots.{HasElement, HasSlot, width_of_cell, width_of_class}
+use Rattle.tide_words.specs.tide_layout.Slots.{HasElement, HasSlot, width_of_cell, width_of_class}
 use Rattle.tide_model.specs.declared.val.Val.{Val}
 use Rattle.tide_model.specs.Layout.{Layout, array_count, cell_count, class_of, slots_of}
 use Rattle.tide_model.specs.Refused.{ShapeLists, is_table, table_class}
 use Rattle.tide_model.specs.State.{CellState, State, Status, dead, free, is_free, is_live, live, spent}
-use Rattle.tide_layout.specs.declared.region.Region.TheVariants.{Array as ArrayWord, Group, Structure as StructureWord}
+use Rattle.tide_words.specs.tide_layout.declared.region.Region.TheVariants.{Array as ArrayWord, Group, Structure as StructureWord}
 use Rattle.tide_shape.specs.ShapeTable.{keys_of}
 use Rattle.tide_words.specs.declared.forms.structure.Structure.{Structure}
 use Rattle.tide_words.specs.forms.Reference.{array_word}

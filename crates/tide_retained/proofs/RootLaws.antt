@@ -8,7 +8,7 @@ use Rattle.tide_model.specs.declared.val.Val.TheVariants.{Cell}
 use Rattle.tide_model.specs.Layout.{Layout, cell_count}
 use Rattle.tide_model.specs.Refused.{ShapeLists}
 use Rattle.tide_model.specs.State.{State}
-use Rattle.tide_layout.specs.declared.region.Region.TheVariants.{Active, Claim as Claimed}
+use Rattle.tide_words.specs.tide_layout.declared.region.Region.TheVariants.{Active, Claim as Claimed}
 use Rattle.tide_words.specs.forms.Reference.{claim_word}
 use Rattle.tide_words.specs.heap.Heap.{Heap}
 use Rattle.tide_words.specs.heap.Reading.{ReadsAs}

@@ -5,7 +5,7 @@ use Rattle.tide_model.specs.declared.val.Val.TheVariants.{Empty}
 use Rattle.tide_model.specs.Layout.{Layout, cell_count, class_of, slots_of}
 use Rattle.tide_model.specs.Refused.{ShapeLists}
 use Rattle.tide_model.specs.State.{CellState, State, live}
-use Rattle.tide_layout.specs.declared.region.Region.TheVariants.{Structure as StructureWord}
+use Rattle.tide_words.specs.tide_layout.declared.region.Region.TheVariants.{Structure as StructureWord}
 use Rattle.tide_words.specs.declared.forms.structure.Structure.{Structure}
 use Rattle.tide_words.specs.forms.StructureWord.{structure_word}
 use Rattle.tide_words.specs.heap.Heap.{Heap}

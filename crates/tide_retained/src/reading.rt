@@ -1,8 +1,8 @@
 //! Reading what the live cells hold from the words: their keys, links, groups and pairs. It searches nothing.
 ghost use Rattle.std.specs.Prelude.{◌≡◌, ◌⊎◌, ◌↔◌, ◌<◌, ◌≤◌, ◌^◌, ℕ, Contains, Option, Some, length, slice_get, slice_index, IfOk, IfSome, OnOk, true};
-ghost use Rattle.tide_layout.specs.Region.{index_of_register, size_of, word_count};
-ghost use Rattle.tide_layout.specs.Slots.{HasElement, HasSlot};
-ghost use Rattle.tide_layout.specs.declared.region.Region.TheVariants.{Group, Registers, Structure};
+ghost use Rattle.tide_words.specs.tide_layout.Region.{index_of_register, size_of, word_count};
+ghost use Rattle.tide_words.specs.tide_layout.Slots.{HasElement, HasSlot};
+ghost use Rattle.tide_words.specs.tide_layout.declared.region.Region.TheVariants.{Group, Registers, Structure};
 ghost use Rattle.tide_model.specs.Layout.{array_count, cell_count, class_of, slots_of};
 ghost use Rattle.tide_model.specs.Refused.{is_table, ShapeLists};
 ghost use Rattle.tide_model.specs.State.{CellState, State, live};
@@ -19,11 +19,12 @@ ghost use Rattle.tide_retained.specs.Holding.{properties_of, AreCellsRead, AreKe
 use crate::contents::{Contents, Held, Keyed};
 use crate::roots::read_roots;
 use std::alloc::Global;
-use tide_block::{class_of, class_of_array};
-use tide_layout::{PAIRS, TABLE, array_capacity, slots};
 use tide_model::{Memory, Val};
 use tide_shape::ShapeTable;
-use tide_words::{Layout, Region, Words, array_of, is_live, word_pair, word_structure, word_val};
+use tide_words::{
+    Layout, PAIRS, Region, TABLE, Words, array_capacity, array_of, class_of, class_of_array,
+    is_live, slots, word_pair, word_structure, word_val,
+};
 
 /// The value whose word stands at a place, and `Empty` where none has it.
 pub(crate) fn value_at<W: Words>(words: &mut W, at: usize) -> Val

@@ -1,7 +1,7 @@
 //! `Retained`: what a heap held at one moment, and a shortest path to each cell that was retained. It keeps no word of
 //! the heap.
 ghost use Rattle.std.specs.Prelude.{◌≡◌, ◌↔◌, ◌<◌, ◌≤◌, IfNone, IfOk, IfSome, IsTrue, None, Some, length, option_map};
-ghost use Rattle.tide_layout.specs.Region.{word_count};
+ghost use Rattle.tide_words.specs.tide_layout.Region.{word_count};
 ghost use Rattle.tide_model.specs.Graph.{graph_of};
 ghost use Rattle.tide_model.specs.Layout.{Layout as PlainLayout};
 ghost use Rattle.tide_model.specs.State.{State, live};

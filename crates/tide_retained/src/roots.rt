@@ -1,6 +1,6 @@
 //! Reading which cells the roots hold: registers of active mutators, claims and strong handles.
 ghost use Rattle.std.specs.Prelude.{ℕ, ◌≡◌, ◌<◌, Some, length, IfNone, IfOk, IfSome, OnOk};
-ghost use Rattle.tide_layout.specs.Region.{word_count};
+ghost use Rattle.tide_words.specs.tide_layout.Region.{word_count};
 ghost use Rattle.tide_model.specs.Refused.{ShapeLists};
 ghost use Rattle.tide_model.specs.State.{State};
 ghost use Rattle.tide_words.specs.forms.Reference.{claim_word};

@@ -2,7 +2,7 @@
 ghost use Rattle.std.specs.Prelude.{ℕ, ◌≡◌, ◌↔◌, ◌<◌, ◌≤◌, true, List, IsTrue, IfOk, OnErr, OnOk, length};
 ghost use Rattle.std.specs.Io.KnownBytes.{Appends};
 ghost use Rattle.tide_io.specs.Faults.{AppendsPart, HasCause};
-ghost use Rattle.tide_layout.specs.Region.{word_count};
+ghost use Rattle.tide_words.specs.tide_layout.Region.{word_count};
 ghost use Rattle.tide_model.specs.Graph.{graph_of};
 ghost use Rattle.tide_model.specs.Layout.{Layout as PlainLayout};
 ghost use Rattle.tide_model.specs.State.{State, live};

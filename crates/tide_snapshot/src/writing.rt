@@ -9,10 +9,10 @@ ghost use Rattle.tide_retained.specs.Retention.{cells_on, path_of, way_on, AreFr
 ghost use Rattle.tide_snapshot.specs.Written.{held_line, line_at, lines_text, way_text, HasNamedKeys};
 
 use tide_io::{Failed, Sink, write_all};
-use tide_layout::TABLE;
 use tide_model::Val;
 use tide_retained::{Held, Keyed, Retained, Root, Way};
 use tide_text::{Keys, LONGEST_LINE, Line, Workload};
+use tide_words::TABLE;
 
 /// The names of the keys of a workload, whose paths have no others.
 pub(crate) fn names_of(load: &Workload) -> &Keys

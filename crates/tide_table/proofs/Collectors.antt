@@ -1,32 +1,32 @@
 -- The collector's steps keep the rule: it freezes, stores words, enters, opens, takes notes in and gives tickets out.
 use Rattle.std.proofs.Common.{◌≡◌, ℕ, zero, suc, ◌+◌, ◌≤◌, ◌⊎◌, List, [], ◌∷◌, ◌++◌, length, sym, refl, ap, ◌∙◌, inl, inr, subst, arith, Bool, true, false, set, MatchBool, length-set, append-nil}
 use Rattle.std.proofs.lemmas.Bool.{and_parts, cases_Bool, eq-eqb, ne_eqb}
-use Rattle.tide_core.proofs.machine_laws.freezes.Progress.{progress}
-use Rattle.tide_core.proofs.machine_laws.steps.Paying.{filter_was}
-use Rattle.tide_core.proofs.machine_laws.steps.StopPlaces.{stop_within}
-use Rattle.tide_core.specs.machine.Kind.{index_of_stopped}
-use Rattle.tide_core.specs.machine.points.Witness.{IsVisitor}
-use Rattle.tide_core.specs.machine.Progress.{HasDone}
+use Rattle.tide_heap.proofs.tide_core.machine_laws.freezes.Progress.{progress}
+use Rattle.tide_heap.proofs.tide_core.machine_laws.steps.Paying.{filter_was}
+use Rattle.tide_heap.proofs.tide_core.machine_laws.steps.StopPlaces.{stop_within}
+use Rattle.tide_heap.specs.tide_core.machine.Kind.{index_of_stopped}
+use Rattle.tide_heap.specs.tide_core.machine.points.Witness.{IsVisitor}
+use Rattle.tide_heap.specs.tide_core.machine.Progress.{HasDone}
 use Rattle.tide_heap.specs.Done.{HasDonePart}
 use Rattle.std.proofs.lemmas.List.Elements.{filter-append, Contains-append_cases}
 use Rattle.std.specs.List.{list_all}
 use Rattle.std.specs.Prelude.{Contains, ◌<◌, ◌&&◌, filter, if◌then◌else◌, ◌==◌, not}
-use Rattle.tide_layout.specs.Region.{word_count, place_in}
-use Rattle.tide_layout.specs.declared.region.Region.TheVariants as region
-use Rattle.tide_core.specs.wave.FrozenWave.{FrozenWave}
-use Rattle.tide_core.proofs.machine_laws.freezes.Entering.{FrozenWith-of}
-use Rattle.tide_core.proofs.machine_laws.freezes.Freezing.{FrozenMachine-running, parts_sweep}
-use Rattle.tide_core.proofs.machine_laws.freezes.OpeningParts.{RunningWave-opened}
-use Rattle.tide_core.specs.machine.Frozen.{FrozenWith, FrozenMachine, MayOpen}
-use Rattle.tide_core.specs.machine.RunningWave.{RunningWave}
-use Rattle.tide_core.specs.machine.World.{parties, total}
-use Rattle.tide_core.specs.declared.machine.view.NotedCalls.{NotedCalls}
-use Rattle.tide_core.specs.declared.machine.view.Role.TheVariants.{Collector, Note}
-use Rattle.tide_core.specs.declared.machine.view.View.{View}
-use Rattle.tide_core.specs.declared.machine.view.Visited.{Visited}
-use Rattle.tide_core.specs.machine.points.Marks.{counted_in}
-use Rattle.tide_core.specs.machine.points.Seen.{WhoLeftIsInactive}
-use Rattle.tide_core.specs.machine.points.Sweeps.{SweptAreBelow, SweptAreTold, TakenAreClean}
+use Rattle.tide_heap.specs.tide_layout.Region.{word_count, place_in}
+use Rattle.tide_heap.specs.tide_layout.declared.region.Region.TheVariants as region
+use Rattle.tide_heap.specs.tide_core.wave.FrozenWave.{FrozenWave}
+use Rattle.tide_heap.proofs.tide_core.machine_laws.freezes.Entering.{FrozenWith-of}
+use Rattle.tide_heap.proofs.tide_core.machine_laws.freezes.Freezing.{FrozenMachine-running, parts_sweep}
+use Rattle.tide_heap.proofs.tide_core.machine_laws.freezes.OpeningParts.{RunningWave-opened}
+use Rattle.tide_heap.specs.tide_core.machine.Frozen.{FrozenWith, FrozenMachine, MayOpen}
+use Rattle.tide_heap.specs.tide_core.machine.RunningWave.{RunningWave}
+use Rattle.tide_heap.specs.tide_core.machine.World.{parties, total}
+use Rattle.tide_heap.specs.tide_core.declared.machine.view.NotedCalls.{NotedCalls}
+use Rattle.tide_heap.specs.tide_core.declared.machine.view.Role.TheVariants.{Collector, Note}
+use Rattle.tide_heap.specs.tide_core.declared.machine.view.View.{View}
+use Rattle.tide_heap.specs.tide_core.declared.machine.view.Visited.{Visited}
+use Rattle.tide_heap.specs.tide_core.machine.points.Marks.{counted_in}
+use Rattle.tide_heap.specs.tide_core.machine.points.Seen.{WhoLeftIsInactive}
+use Rattle.tide_heap.specs.tide_core.machine.points.Sweeps.{SweptAreBelow, SweptAreTold, TakenAreClean}
 use Rattle.tide_model.proofs.Histories.{IsLawful-push}
 use Rattle.tide_model.proofs.SinceLaws.{count-push}
 use Rattle.tide_model.specs.Cycle.{HasDead}
@@ -50,10 +50,10 @@ use Rattle.tide_table.proofs.Tallies.{sum_one, total_few}
 use Rattle.tide_heap.specs.Parties.{In, IsParty, longer, tally}
 use Rattle.tide_heap.specs.Rule.{AgreesOnPart, MemberOk, NoteOk, IsFrozen, IsRunning, Tabled}
 use Rattle.tide_heap.specs.Turns.{calls_of, ticket_of, noted, frozen_with, restored, entered_with, open_entry, opened}
-use Rattle.tide_words.proofs.heap_laws.HeapLaws.{reads_write, Reads-heap_of}
-use Rattle.tide_words.specs.forms.ColourWord.{marks_by}
-use Rattle.tide_words.specs.heap.Heap.{Heap, SameIn, write, Reads, heap_of}
-use Rattle.tide_words.specs.marking.Colours.{is_marking}
+use Rattle.tide_heap.proofs.tide_words.heap_laws.HeapLaws.{reads_write, Reads-heap_of}
+use Rattle.tide_heap.specs.tide_words.forms.ColourWord.{marks_by}
+use Rattle.tide_heap.specs.tide_words.heap.Heap.{Heap, SameIn, write, Reads, heap_of}
+use Rattle.tide_heap.specs.tide_words.marking.Colours.{is_marking}
 use lib.ListN.{get_elem?}
 use mathlib.Core.Option.{some}
 

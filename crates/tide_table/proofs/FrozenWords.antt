@@ -1,20 +1,20 @@
 -- The wave at a freeze speaks of the words of the layout alone.
 use Rattle.std.proofs.Common.{ℕ, ◌≡◌, ◌≤◌, sym, ◌∙◌, ap, arith, Bool, true, List, []}
 use Rattle.std.specs.Prelude.{◌&&◌}
-use Rattle.tide_core.specs.wave.FrozenWave.{is_of_visit}
-use Rattle.tide_layout.specs.declared.region.Region.{Region}
-use Rattle.tide_layout.specs.declared.region.Region.TheVariants.{Base, Phase, Period, Colour, Call, Swept}
-use Rattle.tide_core.proofs.machine_laws.steps.SweepsKept.{swept_kept, told_kept, is_taken}
-use Rattle.tide_core.specs.machine.Frozen.{FrozenWith}
+use Rattle.tide_heap.specs.tide_core.wave.FrozenWave.{is_of_visit}
+use Rattle.tide_heap.specs.tide_layout.declared.region.Region.{Region}
+use Rattle.tide_heap.specs.tide_layout.declared.region.Region.TheVariants.{Base, Phase, Period, Colour, Call, Swept}
+use Rattle.tide_heap.proofs.tide_core.machine_laws.steps.SweepsKept.{swept_kept, told_kept, is_taken}
+use Rattle.tide_heap.specs.tide_core.machine.Frozen.{FrozenWith}
 use Rattle.tide_model.proofs.NumberLaws.{count_where-same}
 use Rattle.tide_model.specs.History.{state_after}
 use Rattle.tide_model.specs.Layout.{Layout, cell_count}
 use Rattle.tide_model.specs.Refused.{ShapeLists}
 use Rattle.tide_model.specs.declared.entry.Event.{Event}
-use Rattle.tide_words.proofs.marking_laws.ColourLaws.{is_marking-same, running_cycle-same, is_marked-same, is_black-same}
-use Rattle.tide_words.proofs.marking_laws.MarkingLaws.{Marking-same}
-use Rattle.tide_words.specs.heap.Heap.{Heap, SameIn, Reads, heap_of}
-use Rattle.tide_words.specs.marking.Colours.{is_marking, is_black}
+use Rattle.tide_heap.proofs.tide_words.marking_laws.ColourLaws.{is_marking-same, running_cycle-same, is_marked-same, is_black-same}
+use Rattle.tide_heap.proofs.tide_words.marking_laws.MarkingLaws.{Marking-same}
+use Rattle.tide_heap.specs.tide_words.heap.Heap.{Heap, SameIn, Reads, heap_of}
+use Rattle.tide_heap.specs.tide_words.marking.Colours.{is_marking, is_black}
 
 -- of any other heap that has the same words
 pub FrozenWith-same : (layout : Layout) (shapes : ShapeLists) (old new : Heap) (history : List Event) (unentered : ℕ) →

@@ -1,10 +1,10 @@
 -- What a step of the collector has to show of the rule.
 use Rattle.std.proofs.Common.{◌≡◌, ℕ, ◌≤◌, ◌≢◌, ◌⊎◌, List, ◌++◌, sym, refl, ap, ◌∙◌, inl, inr, subst, arith, true, false, set, MatchBool}
 use Rattle.std.specs.Prelude.{Contains}
-use Rattle.tide_core.specs.declared.machine.view.NotedCalls.{NotedCalls}
-use Rattle.tide_core.specs.declared.machine.view.Role.{Role}
-use Rattle.tide_core.specs.declared.machine.view.Role.TheVariants.{Collector, Member, Note, Ticket, Spent}
-use Rattle.tide_core.specs.declared.machine.view.View.{View}
+use Rattle.tide_heap.specs.tide_core.declared.machine.view.NotedCalls.{NotedCalls}
+use Rattle.tide_heap.specs.tide_core.declared.machine.view.Role.{Role}
+use Rattle.tide_heap.specs.tide_core.declared.machine.view.Role.TheVariants.{Collector, Member, Note, Ticket, Spent}
+use Rattle.tide_heap.specs.tide_core.declared.machine.view.View.{View}
 use Rattle.tide_model.specs.History.{is_open, state_after}
 use Rattle.tide_model.specs.Layout.{Layout}
 use Rattle.tide_model.specs.Prefix.{IsPrefix, prefix_trans}

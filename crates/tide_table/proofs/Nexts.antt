@@ -1,13 +1,13 @@
 -- From a freeze to the next part, whose numbers these are.
 use Rattle.std.proofs.Common.{ℕ, ◌≡◌, ◌+◌, ◌<◌, ◌^◌, refl, sym, ◌∙◌, ap, subst, arith, List, [], ◌∷◌, ◌++◌}
 use Rattle.std.specs.Prelude.{Bool}
-use Rattle.tide_freeze.proofs.BookLaws.{AddsEnds-same, AddsEnds-then}
-use Rattle.tide_freeze.proofs.RunningLaws.{open_keeps_books}
-use Rattle.tide_freeze.specs.Books.{AddsEnds, AreBooks, WereKept}
-use Rattle.tide_freeze.specs.Freezing.{HasFrozenWhole}
-use Rattle.tide_freeze.specs.declared.books.Books.{Books}
+use Rattle.tide_heap.proofs.tide_freeze.BookLaws.{AddsEnds-same, AddsEnds-then}
+use Rattle.tide_heap.proofs.tide_freeze.RunningLaws.{open_keeps_books}
+use Rattle.tide_heap.specs.tide_freeze.Books.{AddsEnds, AreBooks, WereKept}
+use Rattle.tide_heap.specs.tide_freeze.Freezing.{HasFrozenWhole}
+use Rattle.tide_heap.specs.tide_freeze.declared.books.Books.{Books}
 use Rattle.tide_heap.specs.Turns.{Freezes, noted, opened}
-use Rattle.tide_core.specs.declared.machine.view.View.{View}
+use Rattle.tide_heap.specs.tide_core.declared.machine.view.View.{View}
 use Rattle.tide_model.proofs.Histories.{push_cases}
 use Rattle.tide_model.proofs.PeriodLaws.{Each-nil, EndsInTime-other}
 use Rattle.tide_model.proofs.SinceLaws.{count-push}
@@ -20,7 +20,7 @@ use Rattle.tide_model.specs.Periods.{EndsInTime, open_count}
 use Rattle.tide_model.specs.Refused.{ShapeLists}
 use Rattle.tide_model.specs.declared.entry.Entry.TheVariants.{Open}
 use Rattle.tide_model.specs.declared.entry.Event.{Event}
-use Rattle.tide_freeze.proofs.BookLaws.{ends_in-part}
+use Rattle.tide_heap.proofs.tide_freeze.BookLaws.{ends_in-part}
 use Rattle.tide_report.specs.Ends.{ends_in}
 use Rattle.tide_report.specs.Reports.{Reported}
 use Rattle.tide_sched.proofs.RunLaws.{last_run-opened}

@@ -3,14 +3,14 @@ use Rattle.std.proofs.Common.{ℕ, ◌≡◌, sym, ◌∙◌, subst, Bool, true,
 use Rattle.std.proofs.lemmas.List.Sums.{AllPass-from_list_all}
 use Rattle.std.specs.List.{list_all}
 use Rattle.std.specs.Prelude.{Contains}
-use Rattle.tide_core.specs.wave.FrozenWave.{FrozenWave}
-use Rattle.tide_freeze.proofs.FrozenLaws.{marks-same}
-use Rattle.tide_freeze.proofs.QuietLaws.{HasFrozen-quiet}
-use Rattle.tide_freeze.specs.Freezing.{HasFrozen, SharesGreys}
-use Rattle.tide_freeze.specs.Participants.{LeavesParticipants}
-use Rattle.tide_core.proofs.machine_laws.freezes.RestingSweeps.{sweeps_rest}
-use Rattle.tide_core.specs.machine.Frozen.{FrozenWith}
-use Rattle.tide_core.specs.machine.points.Sweeps.{SweptAreTold, TakenAreClean}
+use Rattle.tide_heap.specs.tide_core.wave.FrozenWave.{FrozenWave}
+use Rattle.tide_heap.proofs.tide_freeze.FrozenLaws.{marks-same}
+use Rattle.tide_heap.proofs.tide_freeze.QuietLaws.{HasFrozen-quiet}
+use Rattle.tide_heap.specs.tide_freeze.Freezing.{HasFrozen, SharesGreys}
+use Rattle.tide_heap.specs.tide_freeze.Participants.{LeavesParticipants}
+use Rattle.tide_heap.proofs.tide_core.machine_laws.freezes.RestingSweeps.{sweeps_rest}
+use Rattle.tide_heap.specs.tide_core.machine.Frozen.{FrozenWith}
+use Rattle.tide_heap.specs.tide_core.machine.points.Sweeps.{SweptAreTold, TakenAreClean}
 use Rattle.tide_model.specs.History.{state_after}
 use Rattle.tide_model.specs.Lawful.{IsLawful}
 use Rattle.tide_model.specs.Layout.{Layout}
@@ -20,7 +20,7 @@ use Rattle.tide_model.specs.Refused.{ShapeLists}
 use Rattle.tide_model.specs.Since.{is_of_freeze}
 use Rattle.tide_model.specs.declared.entry.Event.{Event}
 use Rattle.tide_table.specs.Openings.{MayFollow}
-use Rattle.tide_words.specs.heap.Heap.{heap_of}
+use Rattle.tide_heap.specs.tide_words.heap.Heap.{heap_of}
 
 -- each entry of a freeze is one that it may have
 all_of_freeze : (events : List Event) → list_all (λ e. is_of_freeze e.entry) events ≡ true → (event : Event) →

@@ -1,8 +1,8 @@
 -- While the heap is frozen, what stood in the cycle that marks stays live, whatever becomes of the words.
 use Rattle.std.proofs.Common.{ℕ, ◌≡◌, ◌∙◌, refl, sym, ap, subst, Bool, true, false, List, [], ◌∷◌, ◌++◌, Option}
 use Rattle.std.specs.Prelude.{if◌then◌else◌, ◌==◌}
-use Rattle.tide_core.proofs.machine_laws.freezes.Entering.{span-push, span-begun}
-use Rattle.tide_core.specs.machine.points.Marks.{SpanIsLive}
+use Rattle.tide_heap.proofs.tide_core.machine_laws.freezes.Entering.{span-push, span-begun}
+use Rattle.tide_heap.specs.tide_core.machine.points.Marks.{SpanIsLive}
 use Rattle.tide_model.proofs.Histories.{state_after-push}
 use Rattle.tide_model.proofs.LawfulReferences.{RefsAreLive-lawful}
 use Rattle.tide_model.proofs.ReferencesInCycles.{swept_cell-live}
@@ -17,11 +17,11 @@ use Rattle.tide_model.specs.declared.entry.Entry.{Entry}
 use Rattle.tide_model.specs.declared.entry.Entry.TheVariants.{Call, Begin, Pause, Visits, End, Taken, Sweep, Open}
 use Rattle.tide_model.specs.declared.entry.Event.{Event}
 use Rattle.tide_heap.specs.Rule.{SpanStays}
-use Rattle.tide_words.specs.forms.ColourWord.{cycle_of}
-use Rattle.tide_words.specs.heap.Heap.{Heap}
-use Rattle.tide_words.specs.heap.Reading.{ReadsAs}
-use Rattle.tide_words.specs.marking.Colours.{is_marking}
-use Rattle.tide_layout.specs.declared.region.Region.TheVariants as region
+use Rattle.tide_heap.specs.tide_words.forms.ColourWord.{cycle_of}
+use Rattle.tide_heap.specs.tide_words.heap.Heap.{Heap}
+use Rattle.tide_heap.specs.tide_words.heap.Reading.{ReadsAs}
+use Rattle.tide_heap.specs.tide_words.marking.Colours.{is_marking}
+use Rattle.tide_heap.specs.tide_layout.declared.region.Region.TheVariants as region
 
 -- words that read as the state tell whether a cycle marks
 pub marks_read : (layout : Layout) (shapes : ShapeLists) (heap : Heap) (log : List Event) →

@@ -3,26 +3,26 @@ use Rattle.std.proofs.Common.{ℕ, ◌≡◌, ◌+◌, ◌<◌, ◌≤◌, refl,
 use Rattle.std.proofs.lemmas.Bool.{and_parts}
 use Rattle.std.specs.List.{list_all}
 use Rattle.std.specs.Prelude.{◌&&◌, count_by, if◌then◌else◌, map, not}
-use Rattle.tide_freeze.proofs.RunningLaws.{part_keeps_books}
-use Rattle.tide_freeze.proofs.QuietLaws.{HasFrozen-quiet, open_count-quiet, visits-quiet}
-use Rattle.tide_freeze.proofs.VisitLaws.{HasVisited-none, born_begin-visits, born_end-visits, visits_make_freeze}
-use Rattle.tide_freeze.specs.Births.{AreBornIn}
-use Rattle.tide_freeze.specs.Books.{AreBooks, WereKept}
-use Rattle.tide_freeze.proofs.BookLaws.{IsSwept-none, ends_in-part}
+use Rattle.tide_heap.proofs.tide_freeze.RunningLaws.{part_keeps_books}
+use Rattle.tide_heap.proofs.tide_freeze.QuietLaws.{HasFrozen-quiet, open_count-quiet, visits-quiet}
+use Rattle.tide_heap.proofs.tide_freeze.VisitLaws.{HasVisited-none, born_begin-visits, born_end-visits, visits_make_freeze}
+use Rattle.tide_heap.specs.tide_freeze.Births.{AreBornIn}
+use Rattle.tide_heap.specs.tide_freeze.Books.{AreBooks, WereKept}
+use Rattle.tide_heap.proofs.tide_freeze.BookLaws.{IsSwept-none, ends_in-part}
 use Rattle.tide_report.specs.Ends.{CycleEnd, ends_in}
-use Rattle.tide_freeze.specs.Freezing.{HasFrozen, HasVisited, SharesGreys}
-use Rattle.tide_freeze.specs.Frozen.{IsFrozen}
-use Rattle.tide_freeze.specs.declared.books.Books.{Books}
-use Rattle.tide_freeze.specs.Participants.{LeavesParticipants}
+use Rattle.tide_heap.specs.tide_freeze.Freezing.{HasFrozen, HasVisited, SharesGreys}
+use Rattle.tide_heap.specs.tide_freeze.Frozen.{IsFrozen}
+use Rattle.tide_heap.specs.tide_freeze.declared.books.Books.{Books}
+use Rattle.tide_heap.specs.tide_freeze.Participants.{LeavesParticipants}
 use Rattle.tide_heap.specs.Rule.{SpanStays}
 use Rattle.tide_heap.specs.Turns.{Freezes}
-use Rattle.tide_layout.specs.Region.{word_count}
-use Rattle.tide_layout.specs.declared.region.Region.TheVariants.{Stopped, Phase as PhaseRegion}
-use Rattle.tide_core.proofs.machine_laws.freezes.Entering.{FrozenWave-of, FrozenWith-of}
-use Rattle.tide_core.specs.machine.Frozen.{FrozenWith, MayOpen}
-use Rattle.tide_core.specs.declared.machine.view.View.{View}
-use Rattle.tide_core.specs.machine.points.Marks.{SpanIsLive}
-use Rattle.tide_layout.specs.Limits.{IsWithinLimits}
+use Rattle.tide_heap.specs.tide_layout.Region.{word_count}
+use Rattle.tide_heap.specs.tide_layout.declared.region.Region.TheVariants.{Stopped, Phase as PhaseRegion}
+use Rattle.tide_heap.proofs.tide_core.machine_laws.freezes.Entering.{FrozenWave-of, FrozenWith-of}
+use Rattle.tide_heap.specs.tide_core.machine.Frozen.{FrozenWith, MayOpen}
+use Rattle.tide_heap.specs.tide_core.declared.machine.view.View.{View}
+use Rattle.tide_heap.specs.tide_core.machine.points.Marks.{SpanIsLive}
+use Rattle.tide_heap.specs.tide_layout.Limits.{IsWithinLimits}
 use Rattle.tide_model.proofs.Histories.{IsLawful-nil, IsLawful-prefix}
 use Rattle.tide_model.proofs.PeriodLaws.{Each-nil, ends_in_time-append}
 use Rattle.tide_model.proofs.SinceLaws.{count-push}
@@ -30,7 +30,7 @@ use Rattle.tide_model.specs.Cycle.{begin_count}
 use Rattle.tide_model.specs.Each.{Each}
 use Rattle.tide_model.specs.Freeze.{is_marking_phase, marks_after, visits_entries}
 use Rattle.tide_model.specs.State.{idle, marking}
-use Rattle.tide_words.specs.forms.ColourWord.{cycle_of}
+use Rattle.tide_heap.specs.tide_words.forms.ColourWord.{cycle_of}
 use Rattle.tide_model.specs.History.{is_begin, is_call_of, is_open, plain}
 use Rattle.tide_model.specs.Lawful.{IsLawful}
 use Rattle.tide_model.specs.Layout.{Layout}
@@ -51,8 +51,8 @@ use Rattle.tide_table.specs.Shown.{bare}
 use Rattle.tide_table.proofs.Visits.{HasEntered, all_entered-blacks, all_entered-has}
 use Rattle.tide_table.specs.Standing.{HasCollected, HasEnteredVisits, LeavesRest, MayEnterVisits, RunsPart, StandsStill}
 use Rattle.tide_table.specs.VisitsTold.{AreTold, all_entered, unentered, visits_told}
-use Rattle.tide_words.specs.heap.Heap.{heap_of}
-use Rattle.tide_words.specs.marking.Colours.{is_black, is_marking}
+use Rattle.tide_heap.specs.tide_words.heap.Heap.{heap_of}
+use Rattle.tide_heap.specs.tide_words.marking.Colours.{is_black, is_marking}
 
 -- what the entries of a part are not
 no_open : (entry : Entry) → is_of_part entry ≡ true → not (is_open entry) ≡ true

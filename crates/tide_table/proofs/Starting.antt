@@ -2,24 +2,24 @@
 use Rattle.std.proofs.Common.{ℕ, suc, ◌≡◌, ◌+◌, ◌<◌, refl, sym, ◌∙◌, ap, subst, arith, List, [], ◌∷◌, ◌++◌, length, replicate, set}
 use Rattle.std.proofs.lemmas.List.{get_or-replicate}
 use Rattle.atomic_table.specs.Seated.{TableId}
-use Rattle.tide_layout.proofs.Places.{place_in-below}
-use Rattle.tide_layout.specs.Region.{size_of, word_count, place_in, block_count}
-use Rattle.tide_layout.specs.declared.region.Region.{Region}
-use Rattle.tide_layout.specs.declared.region.Region.TheVariants.{Active, Base, Free, Stopped}
-use Rattle.tide_core.proofs.machine_laws.freezes.Entering.{FrozenWave-of}
-use Rattle.tide_core.proofs.machine_laws.freezes.Freezing.{FrozenMachine-first}
-use Rattle.tide_core.specs.machine.Frozen.{newcomer, FrozenWith}
-use Rattle.tide_core.specs.declared.machine.view.View.{View}
+use Rattle.tide_heap.proofs.tide_layout.Places.{place_in-below}
+use Rattle.tide_heap.specs.tide_layout.Region.{size_of, word_count, place_in, block_count}
+use Rattle.tide_heap.specs.tide_layout.declared.region.Region.{Region}
+use Rattle.tide_heap.specs.tide_layout.declared.region.Region.TheVariants.{Active, Base, Free, Stopped}
+use Rattle.tide_heap.proofs.tide_core.machine_laws.freezes.Entering.{FrozenWave-of}
+use Rattle.tide_heap.proofs.tide_core.machine_laws.freezes.Freezing.{FrozenMachine-first}
+use Rattle.tide_heap.specs.tide_core.machine.Frozen.{newcomer, FrozenWith}
+use Rattle.tide_heap.specs.tide_core.declared.machine.view.View.{View}
 use Rattle.tide_model.specs.Layout.{Layout}
 use Rattle.tide_model.specs.Refused.{ShapeLists}
 use Rattle.tide_table.proofs.FrozenWords.{FrozenWith-read}
 use Rattle.tide_table.specs.Started.{ArePasses, HasFilled, IsStarted, is_but_next}
 use Rattle.tide_heap.specs.Turns.{first_view, restored}
 use Rattle.tide_heap.specs.declared.steps.pass.Pass.{Pass}
-use Rattle.tide_words.proofs.heap_laws.Filling.{IsFilledTo-none, IsFilledTo-more, Reads-empty}
-use Rattle.tide_words.specs.heap.EmptyHeap.{empty_heap}
-use Rattle.tide_words.specs.heap.Filled.{IsFilledTo}
-use Rattle.tide_words.specs.heap.Heap.{Reads, heap_of}
+use Rattle.tide_heap.proofs.tide_words.heap_laws.Filling.{IsFilledTo-none, IsFilledTo-more, Reads-empty}
+use Rattle.tide_heap.specs.tide_words.heap.EmptyHeap.{empty_heap}
+use Rattle.tide_heap.specs.tide_words.heap.Filled.{IsFilledTo}
+use Rattle.tide_heap.specs.tide_words.heap.Heap.{Reads, heap_of}
 
 -- a word of a list of zeros
 pub zero_word : (layout : Layout) (region : Region) (index : ℕ) → index < size_of layout region →

@@ -4,19 +4,19 @@ use Rattle.std.proofs.lemmas.Bool.{cases_eq}
 use Rattle.std.specs.Prelude.{slice_get}
 use Rattle.atomic_table.proofs.Lists.{set_again, set_else, set_here}
 use Rattle.atomic_table.specs.Table.{Me, keeps, Allows, Splits, Joins, opening, Final, Seen}
-use Rattle.tide_layout.specs.Limits.{IsWithinLimits}
-use Rattle.tide_layout.specs.Region.{place_in, word_count}
-use Rattle.tide_layout.specs.declared.region.Region.TheVariants as region
-use Rattle.tide_core.specs.wave.FrozenWave.{FrozenWave}
-use Rattle.tide_core.proofs.machine_laws.steps.StopPlaces.{stop_within}
-use Rattle.tide_core.specs.machine.Frozen.{MayOpen, newcomer}
-use Rattle.tide_core.specs.machine.Kind.{index_of_stopped}
-use Rattle.tide_core.specs.machine.points.Sweeps.{SweptAreBelow, SweptAreTold, TakenAreClean}
-use Rattle.tide_words.specs.heap.Heap.{SameIn, heap_of}
-use Rattle.tide_core.specs.machine.World.{parties}
-use Rattle.tide_core.specs.declared.machine.view.Role.TheVariants.{Collector, Note, Spent}
-use Rattle.tide_core.specs.declared.machine.view.View.{View}
-use Rattle.tide_core.specs.declared.machine.view.Visited.{Visited}
+use Rattle.tide_heap.specs.tide_layout.Limits.{IsWithinLimits}
+use Rattle.tide_heap.specs.tide_layout.Region.{place_in, word_count}
+use Rattle.tide_heap.specs.tide_layout.declared.region.Region.TheVariants as region
+use Rattle.tide_heap.specs.tide_core.wave.FrozenWave.{FrozenWave}
+use Rattle.tide_heap.proofs.tide_core.machine_laws.steps.StopPlaces.{stop_within}
+use Rattle.tide_heap.specs.tide_core.machine.Frozen.{MayOpen, newcomer}
+use Rattle.tide_heap.specs.tide_core.machine.Kind.{index_of_stopped}
+use Rattle.tide_heap.specs.tide_core.machine.points.Sweeps.{SweptAreBelow, SweptAreTold, TakenAreClean}
+use Rattle.tide_heap.specs.tide_words.heap.Heap.{SameIn, heap_of}
+use Rattle.tide_heap.specs.tide_core.machine.World.{parties}
+use Rattle.tide_heap.specs.tide_core.declared.machine.view.Role.TheVariants.{Collector, Note, Spent}
+use Rattle.tide_heap.specs.tide_core.declared.machine.view.View.{View}
+use Rattle.tide_heap.specs.tide_core.declared.machine.view.Visited.{Visited}
 use Rattle.tide_model.proofs.Histories.{IsLawful-nil}
 use Rattle.tide_model.specs.History.{is_call_of, is_open, state_after}
 use Rattle.tide_model.specs.Lawful.{IsLawful, Stands}

@@ -3,7 +3,7 @@ use Rattle.std.proofs.Common.{◌≡◌, ℕ, zero, suc, ◌+◌, ◌≤◌, ◌
 use Rattle.std.proofs.lemmas.Bool.Decides.{nat_tests}
 use Rattle.std.proofs.lemmas.Bool.{cases_eq, cases_Bool}
 use Rattle.std.specs.Prelude.{nat_lt, if◌then◌else◌}
-use Rattle.tide_layout.specs.Slots.{total_below}
+use Rattle.tide_heap.specs.tide_layout.Slots.{total_below}
 use Rattle.tide_heap.specs.Parties.{In, sum_of}
 
 in_cases : (n : ℕ) (xs : List ℕ) → In n xs ⊎ (In n xs → ⊥)

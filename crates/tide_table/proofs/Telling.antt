@@ -3,17 +3,17 @@ use Rattle.std.proofs.Common.{ℕ, zero, suc, ◌≡◌, ◌<◌, ◌≤◌, ◌
 use Rattle.std.proofs.lemmas.List.Sums.{sum_by-cons}
 use Rattle.std.specs.Prelude.{All, Option, if◌then◌else◌, sum}
 use Rattle.tide_heap.specs.Turns.{Freezes}
-use Rattle.tide_core.specs.machine.World.{first_visitor}
-use Rattle.tide_core.specs.declared.machine.view.View.{View}
-use Rattle.tide_core.specs.declared.machine.view.Visited.{Visited}
+use Rattle.tide_heap.specs.tide_core.machine.World.{first_visitor}
+use Rattle.tide_heap.specs.tide_core.declared.machine.view.View.{View}
+use Rattle.tide_heap.specs.tide_core.declared.machine.view.Visited.{Visited}
 use Rattle.tide_model.specs.Freeze.{marks_after}
 use Rattle.tide_model.specs.Layout.{Layout}
 use Rattle.tide_model.specs.Refused.{ShapeLists}
 use Rattle.tide_table.proofs.Standing.{marks_still}
 use Rattle.tide_table.specs.Standing.{MayEnterVisits, StandsStill}
 use Rattle.tide_table.specs.VisitsTold.{AreTold, CountsTold, HaveTold, VisitsAreIn, most_visits, told_by, unentered, visits_in, visits_left, visits_told}
-use Rattle.tide_words.specs.heap.Heap.{heap_of}
-use Rattle.tide_words.specs.marking.Colours.{is_marking}
+use Rattle.tide_heap.specs.tide_words.heap.Heap.{heap_of}
+use Rattle.tide_heap.specs.tide_words.marking.Colours.{is_marking}
 
 -- what the numbers told come to
 length-visits_told : (visited : List Visited) (from count : ℕ) → length (visits_told visited from count) ≡ count

@@ -3,12 +3,12 @@ use Rattle.std.proofs.Common.{ℕ, zero, suc, ◌≡◌, ◌+◌, ◌<◌, ◌�
 use Rattle.std.proofs.lemmas.Bool.{eqb-false, eqb-true, ne_eqb}
 use Rattle.std.specs.Prelude.{Contains, None, Option, Some, filter, if◌then◌else◌, map, not, slice_index}
 use Rattle.tide_heap.specs.Turns.{visits_entered}
-use Rattle.tide_core.proofs.machine_laws.freezes.Entering.{FrozenWith-entered}
-use Rattle.tide_core.specs.machine.Frozen.{FrozenWith}
-use Rattle.tide_core.specs.machine.Schedule.{visits}
-use Rattle.tide_core.specs.machine.World.{first_visitor}
-use Rattle.tide_core.specs.declared.machine.view.View.{View}
-use Rattle.tide_core.specs.declared.machine.view.Visited.{Visited}
+use Rattle.tide_heap.proofs.tide_core.machine_laws.freezes.Entering.{FrozenWith-entered}
+use Rattle.tide_heap.specs.tide_core.machine.Frozen.{FrozenWith}
+use Rattle.tide_heap.specs.tide_core.machine.Schedule.{visits}
+use Rattle.tide_heap.specs.tide_core.machine.World.{first_visitor}
+use Rattle.tide_heap.specs.tide_core.declared.machine.view.View.{View}
+use Rattle.tide_heap.specs.tide_core.declared.machine.view.Visited.{Visited}
 use Rattle.tide_model.specs.declared.entry.Entry.TheVariants.{Visits}
 use Rattle.tide_model.specs.Freeze.{visits_entries}
 use Rattle.tide_model.specs.History.{plain}
@@ -16,8 +16,8 @@ use Rattle.tide_model.specs.Layout.{Layout}
 use Rattle.tide_model.specs.Refused.{ShapeLists}
 use Rattle.tide_table.specs.Shown.{bare}
 use Rattle.tide_table.specs.VisitsTold.{AreNumbersTold, AreTold, all_entered, told_by, unentered, visits_in, visits_left, visits_told}
-use Rattle.tide_words.specs.heap.Heap.{heap_of}
-use Rattle.tide_words.specs.marking.Colours.{is_black}
+use Rattle.tide_heap.specs.tide_words.heap.Heap.{heap_of}
+use Rattle.tide_heap.specs.tide_words.marking.Colours.{is_black}
 
 -- the notes of others than one
 abbrev pub without : ℕ → List Visited → List Visited

@@ -1,10 +1,10 @@
 -- What an opening asks of words that stood still, and that a freeze leaves it.
 use Rattle.std.specs.Prelude.{ℕ, Bool, List}
-use Rattle.tide_core.specs.wave.FrozenWave.{FrozenWave}
-use Rattle.tide_freeze.specs.Freezing.{HasFrozen, SharesGreys}
-use Rattle.tide_freeze.specs.Participants.{LeavesParticipants}
-use Rattle.tide_core.specs.machine.Frozen.{FrozenWith, MayOpen}
-use Rattle.tide_core.specs.machine.points.Sweeps.{SweptAreBelow, SweptAreTold, TakenAreClean}
+use Rattle.tide_heap.specs.tide_core.wave.FrozenWave.{FrozenWave}
+use Rattle.tide_heap.specs.tide_freeze.Freezing.{HasFrozen, SharesGreys}
+use Rattle.tide_heap.specs.tide_freeze.Participants.{LeavesParticipants}
+use Rattle.tide_heap.specs.tide_core.machine.Frozen.{FrozenWith, MayOpen}
+use Rattle.tide_heap.specs.tide_core.machine.points.Sweeps.{SweptAreBelow, SweptAreTold, TakenAreClean}
 use Rattle.tide_model.specs.History.{state_after}
 use Rattle.tide_model.specs.Lawful.{IsLawful}
 use Rattle.tide_model.specs.Layout.{Layout}
@@ -12,7 +12,7 @@ use Rattle.tide_model.specs.Pace.{Pace}
 use Rattle.tide_model.specs.Periods.{next_run}
 use Rattle.tide_model.specs.Refused.{ShapeLists}
 use Rattle.tide_model.specs.declared.entry.Event.{Event}
-use Rattle.tide_words.specs.heap.Heap.{heap_of}
+use Rattle.tide_heap.specs.tide_words.heap.Heap.{heap_of}
 
 -- The words that stand still after a history are such that a part of so many calls may be opened: they meet the wave of
 -- the history, what is said of sweeps holds, and where a cycle marks there are calls and a shared grey cell for

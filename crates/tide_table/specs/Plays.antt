@@ -2,7 +2,7 @@
 -- number found, and the seat after.
 use Rattle.std.specs.Prelude.{ℕ, ◌≡◌, slice_index}
 use Rattle.atomic_table.specs.Table.{Me, Step}
-use Rattle.tide_core.specs.declared.machine.view.View.{View}
+use Rattle.tide_heap.specs.tide_core.declared.machine.view.View.{View}
 use Rattle.tide_model.specs.Layout.{Layout}
 use Rattle.tide_model.specs.Refused.{ShapeLists}
 use Rattle.tide_model.specs.declared.entry.Event.{Event}

@@ -1,13 +1,13 @@
 -- What the collector's view of a heap has from one freeze to the next.
 use Rattle.std.specs.Prelude.{ℕ, ◌≡◌, ◌+◌, ◌<◌, ◌≤◌, ◌^◌, Bool, true, false, length, List, [], ◌∷◌, ◌++◌}
-use Rattle.tide_freeze.specs.Books.{AreBooks}
-use Rattle.tide_freeze.specs.Freezing.{HasFrozenWhole, HasVisited}
-use Rattle.tide_freeze.specs.declared.books.Books.{Books}
-use Rattle.tide_layout.specs.Limits.{IsWithinLimits}
-use Rattle.tide_layout.specs.Region.{word_count}
-use Rattle.tide_layout.specs.declared.region.Region.TheVariants.{Stopped}
-use Rattle.tide_core.specs.machine.Frozen.{FrozenWith, MayOpen}
-use Rattle.tide_core.specs.declared.machine.view.View.{View}
+use Rattle.tide_heap.specs.tide_freeze.Books.{AreBooks}
+use Rattle.tide_heap.specs.tide_freeze.Freezing.{HasFrozenWhole, HasVisited}
+use Rattle.tide_heap.specs.tide_freeze.declared.books.Books.{Books}
+use Rattle.tide_heap.specs.tide_layout.Limits.{IsWithinLimits}
+use Rattle.tide_heap.specs.tide_layout.Region.{word_count}
+use Rattle.tide_heap.specs.tide_layout.declared.region.Region.TheVariants.{Stopped}
+use Rattle.tide_heap.specs.tide_core.machine.Frozen.{FrozenWith, MayOpen}
+use Rattle.tide_heap.specs.tide_core.declared.machine.view.View.{View}
 use Rattle.tide_model.specs.Cycle.{begin_count}
 use Rattle.tide_model.specs.Each.{Each}
 use Rattle.tide_model.specs.Freeze.{marks_after}
@@ -19,8 +19,8 @@ use Rattle.tide_model.specs.Refused.{ShapeLists}
 use Rattle.tide_model.specs.declared.entry.Entry.TheVariants.{Open}
 use Rattle.tide_model.specs.declared.entry.Event.{Event}
 use Rattle.tide_sched.specs.Paces.{last_run}
-use Rattle.tide_words.specs.heap.Heap.{SameIn, heap_of}
-use Rattle.tide_words.specs.marking.Colours.{is_black}
+use Rattle.tide_heap.specs.tide_words.heap.Heap.{SameIn, heap_of}
+use Rattle.tide_heap.specs.tide_words.marking.Colours.{is_black}
 use Rattle.tide_table.specs.VisitsTold.{AreTold, unentered}
 
 -- While a part runs the view has the number and the run of the part that was opened last, and the cycles up to there

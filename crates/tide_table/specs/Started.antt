@@ -1,19 +1,19 @@
 -- What a heap starts with.
 use Rattle.std.specs.Prelude.{ℕ, suc, ◌≡◌, true, List, [], ◌∷◌, length}
 use Rattle.atomic_table.specs.Seated.{TableId}
-use Rattle.tide_layout.specs.Region.{word_count}
-use Rattle.tide_layout.specs.declared.region.Region.{Region}
-use Rattle.tide_layout.specs.declared.region.Region.TheVariants.{Stopped}
-use Rattle.tide_core.specs.wave.FrozenWave.{FrozenWave}
-use Rattle.tide_core.specs.machine.Frozen.{newcomer}
-use Rattle.tide_core.specs.declared.machine.view.View.{View}
-use Rattle.tide_core.specs.machine.points.Sweeps.{SweptAreBelow, SweptAreTold}
+use Rattle.tide_heap.specs.tide_layout.Region.{word_count}
+use Rattle.tide_heap.specs.tide_layout.declared.region.Region.{Region}
+use Rattle.tide_heap.specs.tide_layout.declared.region.Region.TheVariants.{Stopped}
+use Rattle.tide_heap.specs.tide_core.wave.FrozenWave.{FrozenWave}
+use Rattle.tide_heap.specs.tide_core.machine.Frozen.{newcomer}
+use Rattle.tide_heap.specs.tide_core.declared.machine.view.View.{View}
+use Rattle.tide_heap.specs.tide_core.machine.points.Sweeps.{SweptAreBelow, SweptAreTold}
 use Rattle.tide_model.specs.Layout.{Layout}
 use Rattle.tide_model.specs.Refused.{ShapeLists}
 use Rattle.tide_heap.specs.declared.steps.pass.Pass.{Pass}
 use Rattle.tide_table.specs.Blacks.{BlacksStay}
-use Rattle.tide_words.specs.heap.Filled.{IsFilledTo}
-use Rattle.tide_words.specs.heap.Heap.{SameIn, heap_of}
+use Rattle.tide_heap.specs.tide_words.heap.Filled.{IsFilledTo}
+use Rattle.tide_heap.specs.tide_words.heap.Heap.{SameIn, heap_of}
 
 -- passes of participants with numbers one after another, who know nothing yet
 abbrev pub ArePasses : TableId → ℕ → List Pass → Type 0

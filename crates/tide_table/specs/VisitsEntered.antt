@@ -1,13 +1,13 @@
 -- What entries of visits leave of the wave at a freeze.
 use Rattle.std.specs.Prelude.{ℕ, ◌+◌, List, [], ◌∷◌, ◌++◌}
-use Rattle.tide_core.specs.wave.FrozenWave.{FrozenWave}
-use Rattle.tide_core.specs.machine.Frozen.{FrozenWith}
+use Rattle.tide_heap.specs.tide_core.wave.FrozenWave.{FrozenWave}
+use Rattle.tide_heap.specs.tide_core.machine.Frozen.{FrozenWith}
 use Rattle.tide_model.specs.History.{plain}
 use Rattle.tide_model.specs.Layout.{Layout}
 use Rattle.tide_model.specs.Refused.{ShapeLists}
 use Rattle.tide_model.specs.declared.entry.Entry.TheVariants.{Visits}
 use Rattle.tide_model.specs.declared.entry.Event.{Event}
-use Rattle.tide_words.specs.heap.Heap.{Heap}
+use Rattle.tide_heap.specs.tide_words.heap.Heap.{Heap}
 
 -- where a visitor's visits are entered, so many fewer are left to enter
 abbrev pub EntriesCountVisits : Type 0

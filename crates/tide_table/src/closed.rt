@@ -7,8 +7,7 @@ ghost use Rattle.tide_heap.specs.Parties.{In};
 use crate::collector::Collector;
 use crate::plays::Tickets;
 use atomic_table::Seat;
-use tide_core::View;
-use tide_heap::{Heap, HeapShapes};
+use tide_heap::{Heap, HeapShapes, View};
 
 /// What a heap leaves: its history. `Collector::close` alone makes it.
 #[derive(Drop)]

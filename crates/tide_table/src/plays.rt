@@ -1,6 +1,6 @@
 //! What each step of the collector tells, for proofs alone. No value of these types is made.
 ghost use Rattle.std.specs.Prelude.{ℕ, []};
-ghost use Rattle.tide_core.specs.machine.Frozen.{newcomer};
+ghost use Rattle.tide_heap.specs.tide_core.machine.Frozen.{newcomer};
 ghost use Rattle.tide_model.specs.History.{plain};
 ghost use Rattle.tide_model.specs.Layout.{Layout as model};
 ghost use Rattle.tide_model.specs.Refused.{ShapeLists};
@@ -12,7 +12,7 @@ ghost use Rattle.tide_table.specs.Plays.{has_frozen, has_read, has_stored, has_e
 
 use atomic_table::{Join, Play, Split};
 use std::marker::{Brand, PhantomData};
-use tide_core::View;
+use tide_heap::View;
 
 /// What a step of the collector is on. Each call picks it.
 pub(crate) trait Choice {

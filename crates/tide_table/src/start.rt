@@ -1,6 +1,6 @@
 //! A heap starts: frozen and empty, with a pass for each participant.
 ghost use Rattle.std.specs.Prelude.{◌≡◌, ◌<◌, ◌≤◌, ◌+◌, ℕ, IfOk, length, true, vec_len};
-ghost use Rattle.tide_layout.specs.Region.{size_of, word_count};
+ghost use Rattle.tide_heap.specs.tide_layout.Region.{size_of, word_count};
 ghost use Rattle.tide_heap.specs.Parties.{IsParty};
 ghost use Rattle.tide_table.specs.Started.{ArePasses, HasFilled, IsStarted, is_but_next};
 
@@ -9,10 +9,9 @@ use crate::zeros::{zeros, zeros_besides};
 use atomic_table::Table;
 use std::alloc::{AllocError, Global};
 use std::marker::Brand;
-use tide_heap::{Heap, HeapShapes, Key, Pass};
+use tide_heap::{Heap, HeapShapes, Key, Layout, Pass, Region};
 use tide_model::Memory;
 use tide_shape::ShapeTable;
-use tide_words::{Layout, Region};
 
 /// A heap, with the right to each of its seats.
 #[derive(Drop)]

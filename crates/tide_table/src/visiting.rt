@@ -2,11 +2,11 @@
 ghost use Rattle.std.specs.Prelude.{◌≡◌, ◌<◌, ◌+◌, ℕ, Contains, false, true};
 ghost use Rattle.tide_model.specs.History.{is_call_of, is_open, state_after};
 ghost use Rattle.tide_model.specs.Lawful.{Stands};
-ghost use Rattle.tide_core.specs.machine.World.{first_visitor};
+ghost use Rattle.tide_heap.specs.tide_core.machine.World.{first_visitor};
 ghost use Rattle.tide_heap.specs.Turns.{visits_entered, visits_over};
 ghost use Rattle.tide_table.specs.Blacks.{BlacksStay};
-ghost use Rattle.tide_words.specs.heap.Heap.{heap_of};
-ghost use Rattle.tide_words.specs.heap.Reading.{ReadsAs};
+ghost use Rattle.tide_heap.specs.tide_words.heap.Heap.{heap_of};
+ghost use Rattle.tide_heap.specs.tide_words.heap.Reading.{ReadsAs};
 
 use crate::collector::Collector;
 use crate::frozen::Frozen;

@@ -6,7 +6,7 @@ use Rattle.std.specs.List.{list_all}
 use Rattle.std.specs.Prelude.{Bool, ◌&&◌, Contains, Option, None, Some, slice_get}
 use Rattle.crossbeam_utils.specs.Padded.{padded_value}
 use Rattle.crossbeam_utils.specs.declared.cache_padded.CachePadded.{CachePadded}
-use Rattle.tide_core.specs.declared.machine.view.View.{View}
+use Rattle.tide_heap.specs.tide_core.declared.machine.view.View.{View}
 use Rattle.tide_periods.specs.declared.caller.Caller.{Caller}
 use Rattle.tide_heap.specs.declared.steps.notes.Note.{Note}
 use Rattle.tide_threads.specs.Acting.{before_all, caller_of, callers_in, is_silent, notes_in, races_in, races_of, told_in}

@@ -5,13 +5,13 @@ use Rattle.std.proofs.lemmas.List.Elements.{filter-append}
 use Rattle.std.specs.List.{list_all}
 use Rattle.std.specs.Prelude.{Contains, ◌+◌, filter, if◌then◌else◌}
 use Rattle.atomic_table.specs.Seated.{TableId}
-use Rattle.tide_freeze.proofs.FreezeLaws.{IsFreeze-by}
-use Rattle.tide_freeze.proofs.QuietLaws.{HasFrozenWhole-quiet, calls_of-quiet, kept_by_quiet, open_count-quiet}
+use Rattle.tide_heap.proofs.tide_freeze.FreezeLaws.{IsFreeze-by}
+use Rattle.tide_heap.proofs.tide_freeze.QuietLaws.{HasFrozenWhole-quiet, calls_of-quiet, kept_by_quiet, open_count-quiet}
 use Rattle.tide_heap.specs.Parties.{In}
 use Rattle.tide_heap.specs.Turns.{calls_of as noted_calls_of}
-use Rattle.tide_core.specs.machine.World.{first_visitor}
-use Rattle.tide_core.specs.declared.machine.view.NotedCalls.{NotedCalls}
-use Rattle.tide_core.specs.declared.machine.view.View.{View}
+use Rattle.tide_heap.specs.tide_core.machine.World.{first_visitor}
+use Rattle.tide_heap.specs.tide_core.declared.machine.view.NotedCalls.{NotedCalls}
+use Rattle.tide_heap.specs.tide_core.declared.machine.view.View.{View}
 use Rattle.tide_model.proofs.Histories.{state_from-append}
 use Rattle.tide_model.specs.History.{is_call_of, state_after, state_from}
 use Rattle.tide_model.specs.Layout.{Layout}

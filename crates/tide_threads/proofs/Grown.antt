@@ -3,8 +3,8 @@ use Rattle.std.proofs.Common.{ℕ, ◌≡◌, ◌+◌, ◌<◌, ◌∙◌, sym, 
 use Rattle.std.specs.Prelude.{not, ◌&&◌, ◌||◌}
 use Rattle.tide_mutator.proofs.owed_laws.OwnClaims.{own_at}
 use Rattle.tide_mutator.specs.owed.Standing.{claims_of}
-use Rattle.tide_core.specs.machine.Own.{Own}
-use Rattle.tide_core.specs.declared.machine.view.View.{View}
+use Rattle.tide_heap.specs.tide_core.machine.Own.{Own}
+use Rattle.tide_heap.specs.tide_core.declared.machine.view.View.{View}
 use Rattle.tide_model.specs.Caller.{MakesCall}
 use Rattle.tide_model.specs.Layout.{Layout}
 use Rattle.tide_model.specs.Refused.{ShapeLists}

@@ -6,7 +6,7 @@ use Rattle.std.proofs.lemmas.Option.{get_or_from_slice_get, slice_get-get_or, sl
 use Rattle.std.specs.Prelude.{Option, Some, slice_get}
 use Rattle.crossbeam_utils.specs.Padded.{padded_value}
 use Rattle.crossbeam_utils.specs.declared.cache_padded.CachePadded.{CachePadded}
-use Rattle.tide_core.specs.declared.machine.view.View.{View}
+use Rattle.tide_heap.specs.tide_core.declared.machine.view.View.{View}
 use Rattle.tide_threads.proofs.Acting.{notes_in-append}
 use Rattle.tide_threads.proofs.Taking.{noted_all-append}
 use Rattle.tide_threads.specs.Acting.{before_all, noted_all, notes_in, told_in}

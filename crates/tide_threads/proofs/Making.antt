@@ -3,10 +3,10 @@ use Rattle.std.proofs.Common.{ℕ, ◌≡◌, ◌<◌, ◌∙◌, refl, sym, ap,
 use Rattle.std.proofs.lemmas.Bool.{ne_eqb}
 use Rattle.std.specs.Prelude.{if◌then◌else◌}
 use Rattle.tide_heap.specs.Turns.{heard_view, note_of}
-use Rattle.tide_core.specs.declared.machine.view.View.{View}
-use Rattle.tide_core.specs.machine.kinds.Activate.{begun_view}
-use Rattle.tide_core.specs.machine.kinds.Split.{split_view}
-use Rattle.tide_core.specs.machine.kinds.StoreStopped.{stopped_view}
+use Rattle.tide_heap.specs.tide_core.declared.machine.view.View.{View}
+use Rattle.tide_heap.specs.tide_core.machine.kinds.Activate.{begun_view}
+use Rattle.tide_heap.specs.tide_core.machine.kinds.Split.{split_view}
+use Rattle.tide_heap.specs.tide_core.machine.kinds.StoreStopped.{stopped_view}
 use Rattle.tide_mutator.specs.owed.Calling.{Kept, kept}
 use Rattle.tide_threads.specs.Parked.{HasBegun, HasPlayed}
 

@@ -4,8 +4,8 @@ use Rattle.std.proofs.lemmas.List.Elements.{Contains-append_cases, Contains-appe
 use Rattle.std.specs.Prelude.{Contains, if◌then◌else◌}
 use Rattle.tide_heap.specs.Parties.{In}
 use Rattle.tide_heap.specs.Turns.{calls_of, noted}
-use Rattle.tide_core.specs.declared.machine.view.NotedCalls.{NotedCalls}
-use Rattle.tide_core.specs.declared.machine.view.View.{View}
+use Rattle.tide_heap.specs.tide_core.declared.machine.view.NotedCalls.{NotedCalls}
+use Rattle.tide_heap.specs.tide_core.declared.machine.view.View.{View}
 use Rattle.tide_threads.specs.Acting.{noted_all}
 
 -- Notes were taken in, from the first view of the collector to the second. It knows all that it knew of notes, and who

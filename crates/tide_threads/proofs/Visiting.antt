@@ -4,11 +4,11 @@ use Rattle.std.proofs.lemmas.Bool.{ne_eqb}
 use Rattle.std.specs.Prelude.{if◌then◌else◌, min}
 use Rattle.atomic_table.specs.Seated.{TableId}
 use Rattle.tide_heap.specs.Turns.{heard_view}
-use Rattle.tide_core.specs.machine.Frozen.{newcomer}
-use Rattle.tide_core.specs.machine.May.{Rests}
-use Rattle.tide_core.specs.machine.Visiting.{FitsIn}
-use Rattle.tide_core.specs.declared.machine.view.View.{View}
-use Rattle.tide_core.specs.machine.kinds.Activate.{begun_view}
+use Rattle.tide_heap.specs.tide_core.machine.Frozen.{newcomer}
+use Rattle.tide_heap.specs.tide_core.machine.May.{Rests}
+use Rattle.tide_heap.specs.tide_core.machine.Visiting.{FitsIn}
+use Rattle.tide_heap.specs.tide_core.declared.machine.view.View.{View}
+use Rattle.tide_heap.specs.tide_core.machine.kinds.Activate.{begun_view}
 use Rattle.tide_model.specs.Layout.{Layout}
 use Rattle.tide_heap.specs.declared.steps.notes.Note.{Note}
 use Rattle.tide_table.specs.VisitsTold.{most_visits}

@@ -5,9 +5,9 @@ use Rattle.std.specs.Prelude.{◌⊎◌, ◌==◌, ◌&&◌, All, Option, None, 
 use Rattle.crossbeam_utils.specs.Padded.{padded_value}
 use Rattle.crossbeam_utils.specs.declared.cache_padded.CachePadded.{CachePadded}
 use Rattle.tide_heap.specs.Turns.{visited_of}
-use Rattle.tide_core.specs.machine.World.{first_visitor}
-use Rattle.tide_core.specs.declared.machine.view.View.{View}
-use Rattle.tide_core.specs.declared.machine.view.Visited.{Visited}
+use Rattle.tide_heap.specs.tide_core.machine.World.{first_visitor}
+use Rattle.tide_heap.specs.tide_core.declared.machine.view.View.{View}
+use Rattle.tide_heap.specs.tide_core.declared.machine.view.Visited.{Visited}
 use Rattle.tide_model.specs.Layout.{Layout}
 use Rattle.tide_table.specs.VisitsTold.{HaveTold, told_by, visits_in, visits_left}
 use Rattle.tide_threads.specs.Acting.{before_all, noted_all, notes_in, told_in}

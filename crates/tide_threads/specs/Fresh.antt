@@ -3,8 +3,8 @@ use Rattle.std.specs.Prelude.{ℕ, ◌≡◌, ◌+◌, ◌<◌, List, None, Some
 use Rattle.atomic_table.specs.Seated.{TableId}
 use Rattle.crossbeam_utils.specs.Padded.{padded_value}
 use Rattle.crossbeam_utils.specs.declared.cache_padded.CachePadded.{CachePadded}
-use Rattle.tide_core.specs.machine.Frozen.{newcomer}
-use Rattle.tide_core.specs.machine.World.{first_visitor}
+use Rattle.tide_heap.specs.tide_core.machine.Frozen.{newcomer}
+use Rattle.tide_heap.specs.tide_core.machine.World.{first_visitor}
 use Rattle.tide_mutator.specs.calls.Viewed.{table_of, view_of}
 use Rattle.tide_threads.specs.declared.calling.CallingMutator.{CallingMutator}
 use Rattle.tide_threads.specs.declared.marking.CountingVisitor.{CountingVisitor}

@@ -1,6 +1,6 @@
 -- What holds of a run on threads between two parts, and what a run sees of it.
 use Rattle.std.specs.Prelude.{ℕ, ◌≡◌, List, []}
-use Rattle.tide_freeze.specs.Books.{AreBooks}
+use Rattle.tide_heap.specs.tide_freeze.Books.{AreBooks}
 use Rattle.tide_model.specs.Pace.{Pace}
 use Rattle.tide_periods.specs.Recorded.{Recorded, recorded_at}
 use Rattle.tide_periods.specs.Store.{Setting}

@@ -2,7 +2,7 @@
 use Rattle.std.specs.Prelude.{ℕ, ◌≡◌, ◌<◌, ◌-◌, ◌^◌, Bool, true, false}
 use Rattle.atomic_table.specs.Seated.{TableId}
 use Rattle.tide_mutator.specs.owed.Calling.{Kept, kept}
-use Rattle.tide_core.specs.declared.machine.view.View.{View}
+use Rattle.tide_heap.specs.tide_core.declared.machine.view.View.{View}
 use Rattle.tide_model.specs.Layout.{Layout}
 use Rattle.tide_mutator.specs.calls.Viewed.{seat_of, table_of, view_of}
 use Rattle.tide_mutator.specs.declared.calls.mutator.Mutator.{Mutator}

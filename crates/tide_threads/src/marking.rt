@@ -1,19 +1,19 @@
 //! `CountingVisitor`: a visitor with the races that it met, and its share of a part.
 ghost use Rattle.std.specs.Prelude.{◌≡◌, ◌≤◌, ℕ, [], true};
 ghost use Rattle.tide_heap.specs.Done.{HasDonePart};
-ghost use Rattle.tide_core.specs.machine.Frozen.{newcomer};
-ghost use Rattle.tide_core.specs.machine.Visiting.{FitsIn};
+ghost use Rattle.tide_heap.specs.tide_core.machine.Frozen.{newcomer};
+ghost use Rattle.tide_heap.specs.tide_core.machine.Visiting.{FitsIn};
 ghost use Rattle.tide_model.specs.Layout.{cell_count};
 ghost use Rattle.tide_table.specs.VisitsTold.{most_visits};
 ghost use Rattle.tide_threads.specs.Marking.{HasMadeVisits, MayBeginVisits};
 ghost use Rattle.tide_visitor.specs.Viewed.{stack_room_of, table_of, view_of};
 ghost use Rattle.tide_visitor.specs.Visits.{visit_frame, IsVisitorOf};
 
+use tide_heap::GreyList;
 use tide_model::Turnstile;
 use tide_shape::Shapes;
 use tide_table::{Heap, Note, Pass, Ticket};
 use tide_visitor::Visitor;
-use tide_words::GreyList;
 
 /// A visitor, with how many races it met in all parts, as far as 64 bits count them.
 #[derive(Drop)]

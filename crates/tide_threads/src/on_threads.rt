@@ -30,8 +30,7 @@ use crossbeam_utils::CachePadded;
 use std::alloc::Global;
 use std::marker::Sync;
 use std::thread::Threads;
-use tide_freeze::Books;
-use tide_layout::Layout;
+use tide_heap::{Books, GreyList, Layout};
 use tide_model::{Memory, Op, Turnstile};
 use tide_periods::{Answered, Caller, Room, callers_of};
 use tide_report::Report;
@@ -39,7 +38,6 @@ use tide_sched::Pacing;
 use tide_shape::Shapes;
 use tide_snapshot::Snapshot;
 use tide_table::{Closed, Collector, Heap, Pass, Start};
-use tide_words::GreyList;
 
 /// A heap on which mutators and visitors act on threads: the collector, a participant for each of them, and the books
 /// of its freezes.

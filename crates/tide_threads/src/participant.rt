@@ -1,7 +1,7 @@
 //! `Participant`: who acts in a part, with its ticket before and its note after. It knows no other.
 ghost use Rattle.std.specs.Prelude.{◌≡◌, ◌<◌, ◌+◌, ℕ, [], IfOk, None, Some};
-ghost use Rattle.tide_core.specs.machine.Frozen.{newcomer};
-ghost use Rattle.tide_core.specs.machine.World.{first_visitor};
+ghost use Rattle.tide_heap.specs.tide_core.machine.Frozen.{newcomer};
+ghost use Rattle.tide_heap.specs.tide_core.machine.World.{first_visitor};
 ghost use Rattle.tide_shape.specs.Lists.{lists_of};
 ghost use Rattle.tide_threads.specs.Acting.{caller_of};
 ghost use Rattle.tide_threads.specs.Fresh.{IsFresh};
@@ -10,11 +10,11 @@ ghost use Rattle.tide_threads.specs.Playing.{DidPart, HasMadePart, MayBeginPart,
 use crate::calling::{CallingMutator, Played};
 use crate::marking::CountingVisitor;
 use crate::worker::Worker;
+use tide_heap::GreyList;
 use tide_model::{Memory, Turnstile};
 use tide_periods::Caller;
 use tide_shape::Shapes;
 use tide_table::{Heap, Note, Pass, Ticket};
-use tide_words::GreyList;
 
 /// A mutator or a visitor. Between two parts it has neither a ticket nor a note.
 #[derive(Drop)]

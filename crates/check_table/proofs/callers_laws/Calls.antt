@@ -3,13 +3,13 @@ use Rattle.std.proofs.Common.{ℕ, ◌≡◌, ◌%◌, ◌^◌, refl, sym, ◌�
 use Rattle.std.proofs.lemmas.Bool.{eq-eqb}
 use Rattle.std.specs.Prelude.{Bool, if◌then◌else◌}
 use Rattle.check_table.specs.callers.Working.{IsReady, set_calls}
-use Rattle.tide_core.proofs.machine_laws.steps.OwnState.{own_state}
-use Rattle.tide_core.specs.machine.Kind.{StoreCall}
-use Rattle.tide_core.specs.machine.May.{RunsAsMutator, MayCall, IsBetweenCalls}
-use Rattle.tide_core.specs.machine.Own.{Own, own_of}
-use Rattle.tide_core.specs.machine.RunningWave.{RunningWave}
-use Rattle.tide_core.specs.machine.World.{World}
-use Rattle.tide_core.specs.declared.machine.view.View.{View}
+use Rattle.tide_heap.proofs.tide_core.machine_laws.steps.OwnState.{own_state}
+use Rattle.tide_heap.specs.tide_core.machine.Kind.{StoreCall}
+use Rattle.tide_heap.specs.tide_core.machine.May.{RunsAsMutator, MayCall, IsBetweenCalls}
+use Rattle.tide_heap.specs.tide_core.machine.Own.{Own, own_of}
+use Rattle.tide_heap.specs.tide_core.machine.RunningWave.{RunningWave}
+use Rattle.tide_heap.specs.tide_core.machine.World.{World}
+use Rattle.tide_heap.specs.tide_core.declared.machine.view.View.{View}
 use Rattle.tide_model.specs.Answer.{IsAnswer}
 use Rattle.tide_model.specs.History.{state_after}
 use Rattle.tide_model.specs.Lawful.{FitsLayout}

@@ -2,9 +2,9 @@
 ghost use Rattle.std.specs.Prelude.{◌≡◌, ◌<◌, [], true, false};
 ghost use Rattle.check_table.specs.callers.Working.{all_calls, put_calls, set_calls, strong_calls, IsReady, Stays};
 
+use tide_heap::val_word;
 use tide_model::{Op, Val};
 use tide_table::{Heap, HeapShapes, Pass};
-use tide_words::val_word;
 
 /// Sets its first register to 7, and tells the call.
 pub fn set_register<S: HeapShapes>(heap: &Heap<S>, pass: &mut Pass)

@@ -2,10 +2,10 @@
 ghost use Rattle.std.specs.Prelude.{◌≡◌, ◌<◌, ℕ, true, false};
 ghost use Rattle.tide_heap.specs.Parties.{In, IsParty};
 ghost use Rattle.tide_heap.specs.Turns.{heard_view, note_of, noted, ticket_of, Freezes};
-ghost use Rattle.tide_core.specs.machine.May.{Rests};
-ghost use Rattle.tide_core.specs.machine.kinds.Activate.{begun_view};
-ghost use Rattle.tide_core.specs.machine.kinds.Split.{split_view};
-ghost use Rattle.tide_core.specs.machine.kinds.StoreStopped.{stopped_view};
+ghost use Rattle.tide_heap.specs.tide_core.machine.May.{Rests};
+ghost use Rattle.tide_heap.specs.tide_core.machine.kinds.Activate.{begun_view};
+ghost use Rattle.tide_heap.specs.tide_core.machine.kinds.Split.{split_view};
+ghost use Rattle.tide_heap.specs.tide_core.machine.kinds.StoreStopped.{stopped_view};
 
 use tide_table::{Collector, Frozen, Heap, HeapShapes, Numbers, Pass};
 

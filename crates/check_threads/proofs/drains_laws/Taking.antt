@@ -2,7 +2,7 @@
 use Rattle.std.proofs.Common.{ℕ, ◌≡◌, ◌⊎◌, sym, subst, arith, inl, inr, List}
 use Rattle.tide_heap.specs.Parties.{In, IsParty}
 use Rattle.tide_heap.specs.Turns.{noted}
-use Rattle.tide_core.specs.declared.machine.view.View.{View}
+use Rattle.tide_heap.specs.tide_core.declared.machine.view.View.{View}
 use Rattle.tide_model.specs.Layout.{Layout}
 
 pub is_in : (who : ℕ) (v u w : View) → u.who ≡ who → w ≡ noted v u → In who w.notes

@@ -2,8 +2,8 @@
 use Rattle.std.specs.Prelude.{ℕ, ◌≡◌, ◌≤◌, true, false}
 use Rattle.embed_heap.specs.visitor.Parts.{IsIdleBefore}
 use Rattle.embed_heap.specs.declared.visitor.shared.Shared.{Shared}
-use Rattle.tide_core.specs.machine.Visiting.{FitsIn}
-use Rattle.tide_core.specs.declared.machine.view.View.{View}
+use Rattle.tide_heap.specs.tide_core.machine.Visiting.{FitsIn}
+use Rattle.tide_heap.specs.tide_core.declared.machine.view.View.{View}
 use Rattle.tide_model.specs.Layout.{Layout, cell_count}
 use Rattle.tide_mutator.specs.calls.Viewed as mutator
 use Rattle.tide_visitor.specs.Viewed as visitor

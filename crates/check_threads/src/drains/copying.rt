@@ -1,14 +1,14 @@
 //! A copy of words that stand still, its colours and grey cells, and a pause over it. What is copied stays as it is.
 ghost use Rattle.std.specs.Prelude.{◌≡◌, ◌≤◌, [], length};
-ghost use Rattle.tide_layout.specs.Region.{word_count};
+ghost use Rattle.tide_heap.specs.tide_layout.Region.{word_count};
 
 use check_heap::Heap;
 use std::alloc::{AllocError, Global};
-use tide_block::{bit_of, block_of_cell};
-use tide_cycle::pause;
-use tide_layout::{Layout, Region};
-use tide_solver::Solved;
-use tide_words::{Colour, GreyList, MAX_CELLS, Words, colour_word, word_phase};
+use tide_core::{Solved, pause};
+use tide_heap::{
+    Colour, GreyList, Layout, MAX_CELLS, Region, Words, bit_of, block_of_cell, colour_word,
+    word_phase,
+};
 
 /// No cycle begins from this one on.
 const LAST_CYCLE: u64 = 1 << 60;

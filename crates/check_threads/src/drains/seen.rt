@@ -1,14 +1,13 @@
 //! The words of a heap by the names that rows give them, and the text of what one was found to be. It reads no word.
 ghost use Rattle.std.specs.Prelude.{◌<◌, IfSome};
-ghost use Rattle.tide_layout.specs.Region.{word_count};
+ghost use Rattle.tide_heap.specs.tide_layout.Region.{word_count};
 
 use check_heap::{
     joined, number, number_between, pair_of_numbers, place_of_element, place_of_slot,
     place_of_word, region_of, text, word_text,
 };
 use std::alloc::{AllocError, Global};
-use tide_layout::{Layout, Region};
-use tide_words::{Colour, Structure, colour, word_array, word_structure};
+use tide_heap::{Colour, Layout, Region, Structure, colour, word_array, word_structure};
 
 /// A word of a heap, by its place.
 #[derive(Clone, Copy)]

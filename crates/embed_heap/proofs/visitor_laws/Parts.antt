@@ -4,13 +4,13 @@ use Rattle.std.proofs.lemmas.Bool.{ne_eqb}
 use Rattle.std.specs.Prelude.{◌==◌, if◌then◌else◌}
 use Rattle.embed_heap.specs.visitor.Parts.{HasDoneItsPart, IsIdle, IsIdleBefore, IsInPart}
 use Rattle.tide_heap.specs.Turns.{heard_view, note_of}
-use Rattle.tide_core.proofs.machine_laws.steps.Lists.{nothing_in}
-use Rattle.tide_core.specs.machine.Frozen.{newcomer}
-use Rattle.tide_core.specs.machine.Visiting.{FitsIn}
-use Rattle.tide_core.specs.declared.machine.view.View.{View}
-use Rattle.tide_core.specs.machine.kinds.Activate.{begun_view}
-use Rattle.tide_core.specs.machine.kinds.Split.{split_view}
-use Rattle.tide_core.specs.machine.kinds.StoreStopped.{stopped_view}
+use Rattle.tide_heap.proofs.tide_core.machine_laws.steps.Lists.{nothing_in}
+use Rattle.tide_heap.specs.tide_core.machine.Frozen.{newcomer}
+use Rattle.tide_heap.specs.tide_core.machine.Visiting.{FitsIn}
+use Rattle.tide_heap.specs.tide_core.declared.machine.view.View.{View}
+use Rattle.tide_heap.specs.tide_core.machine.kinds.Activate.{begun_view}
+use Rattle.tide_heap.specs.tide_core.machine.kinds.Split.{split_view}
+use Rattle.tide_heap.specs.tide_core.machine.kinds.StoreStopped.{stopped_view}
 use Rattle.tide_model.specs.Layout.{Layout}
 use Rattle.tide_mutator.specs.owed.Calling.{Kept, kept}
 use Rattle.tide_visitor.specs.Draining.{HasStopped}

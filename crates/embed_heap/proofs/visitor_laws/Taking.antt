@@ -3,12 +3,12 @@ use Rattle.std.proofs.Common.{ℕ, zero, suc, ◌≡◌, ◌+◌, ◌≤◌, ◌
 use Rattle.std.proofs.lemmas.Bool.{eq-eqb}
 use Rattle.std.specs.Prelude.{◌==◌, ◌&&◌, if◌then◌else◌, Some}
 use Rattle.embed_heap.specs.visitor.Parts.{HasDoneItsPart}
-use Rattle.tide_freeze.specs.declared.books.Books.{Books}
+use Rattle.tide_heap.specs.tide_freeze.declared.books.Books.{Books}
 use Rattle.tide_heap.specs.Parties.{In, IsParty}
 use Rattle.tide_heap.specs.Turns.{noted, visited_of}
-use Rattle.tide_core.specs.machine.World.{first_visitor}
-use Rattle.tide_core.specs.declared.machine.view.View.{View}
-use Rattle.tide_core.specs.declared.machine.view.Visited.{Visited}
+use Rattle.tide_heap.specs.tide_core.machine.World.{first_visitor}
+use Rattle.tide_heap.specs.tide_core.declared.machine.view.View.{View}
+use Rattle.tide_heap.specs.tide_core.declared.machine.view.Visited.{Visited}
 use Rattle.tide_model.specs.Layout.{Layout}
 use Rattle.tide_table.proofs.Nexts.{RunsWith-noted}
 use Rattle.tide_table.specs.Standing.{RunsWith}

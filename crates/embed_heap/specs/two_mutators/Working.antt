@@ -1,7 +1,7 @@
 -- A mutator that has made no call before a part of its, and its note after it, in which it has retired.
 use Rattle.std.specs.Prelude.{ℕ, ◌≡◌, ◌<◌, true}
-use Rattle.tide_core.specs.machine.Frozen.{newcomer}
-use Rattle.tide_core.specs.declared.machine.view.View.{View}
+use Rattle.tide_heap.specs.tide_core.machine.Frozen.{newcomer}
+use Rattle.tide_heap.specs.tide_core.declared.machine.view.View.{View}
 use Rattle.tide_model.specs.Layout.{Layout}
 
 -- v is the mutator's view, and t is that of its ticket

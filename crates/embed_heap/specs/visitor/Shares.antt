@@ -2,8 +2,8 @@
 use Rattle.std.specs.Prelude.{ℕ, ◌≡◌, ◌≤◌, true, false, [], ◌∷◌}
 use Rattle.embed_heap.specs.visitor.Parts.{IsIdle, IsIdleBefore}
 use Rattle.embed_heap.specs.declared.visitor.shared.Shared.{Shared}
-use Rattle.tide_freeze.specs.Books.{AreBooks}
-use Rattle.tide_core.specs.machine.Frozen.{newcomer}
+use Rattle.tide_heap.specs.tide_freeze.Books.{AreBooks}
+use Rattle.tide_heap.specs.tide_core.machine.Frozen.{newcomer}
 use Rattle.tide_mutator.specs.calls.Viewed as of_mutator
 use Rattle.tide_shape.specs.Lists.{lists_of}
 use Rattle.tide_table.specs.Standing.{RunsWith}

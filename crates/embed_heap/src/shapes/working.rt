@@ -1,13 +1,13 @@
 //! A heap over a settled table, and a mutator on it. The heap isn't closed, as the mutator keeps its claim.
 ghost use Rattle.std.specs.Prelude.{◌≡◌, ◌<◌, IfOk, vec_len};
 ghost use Rattle.tide_grow_shape.specs.growers.Lists.{settled_lists};
-ghost use Rattle.tide_core.specs.machine.Frozen.{newcomer};
+ghost use Rattle.tide_heap.specs.tide_core.machine.Frozen.{newcomer};
 ghost use Rattle.tide_mutator.specs.calls.Viewed.{table_of, view_of};
 ghost use Rattle.tide_table.specs.Started.{ArePasses, IsStarted};
 
 use std::alloc::Global;
 use tide_grow_shape::Settled;
-use tide_layout::Layout;
+use tide_heap::Layout;
 use tide_model::{FreePass, Memory, Op, Reply};
 use tide_mutator::Mutator;
 use tide_shape::ShapeTable;

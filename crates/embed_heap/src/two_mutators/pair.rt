@@ -1,7 +1,7 @@
 //! A heap of two mutators: it is opened for one part, in which each makes its calls in a thread of its own, and closed.
 ghost use Rattle.embed_heap.specs.two_mutators.Working.{HasWorked, MayWork};
 ghost use Rattle.std.specs.Prelude.{◌≡◌, ◌<◌, ℕ, false};
-ghost use Rattle.tide_core.specs.machine.Frozen.{newcomer};
+ghost use Rattle.tide_heap.specs.tide_core.machine.Frozen.{newcomer};
 ghost use Rattle.tide_model.specs.History.{state_after};
 ghost use Rattle.tide_model.specs.Lawful.{IsLawful};
 ghost use Rattle.tide_mutator.specs.calls.Viewed.{table_of, view_of};

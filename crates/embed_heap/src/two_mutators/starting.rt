@@ -4,7 +4,7 @@ use crate::two_mutators::working::Found;
 use std::alloc::Global;
 use std::marker::Sync;
 use std::thread::Threads;
-use tide_layout::Layout;
+use tide_heap::Layout;
 use tide_shape::{Paths, Shapes};
 use tide_table::Start;
 

@@ -4,7 +4,7 @@ ghost use Rattle.tide_model.specs.Layout.{cell_count};
 ghost use Rattle.tide_mutator.specs.calls.Viewed as works;
 ghost use Rattle.tide_visitor.specs.Viewed as visits;
 
-use tide_freeze::Books;
+use tide_heap::Books;
 use tide_mutator::Mutator;
 use tide_shape::Shapes;
 use tide_table::{Collector, Heap};

@@ -4,15 +4,13 @@ ghost use Rattle.std.specs.Prelude.{◌≡◌, IfOk, IfSome};
 
 use crate::visitor::shared::Shared;
 use std::alloc::Global;
-use tide_freeze::Books;
-use tide_layout::Layout;
+use tide_heap::{Books, GreyList, Layout};
 use tide_model::Memory;
 use tide_mutator::Mutator;
 use tide_sched::Pacing;
 use tide_shape::Shapes;
 use tide_table::Start;
 use tide_visitor::Visitor;
-use tide_words::GreyList;
 
 /// A cycle begins once four cells were born, and each freeze makes two cells black at least, of the ten calls and
 /// visits of a period.

@@ -2,7 +2,7 @@
 ghost use Rattle.embed_heap.specs.visitor.Parts.{HasDoneItsPart, IsIdle, IsIdleBefore};
 ghost use Rattle.std.specs.Prelude.{◌≡◌, ◌≤◌, [], false, true};
 ghost use Rattle.tide_heap.specs.Done.{HasDonePart};
-ghost use Rattle.tide_core.specs.machine.Visiting.{FitsIn};
+ghost use Rattle.tide_heap.specs.tide_core.machine.Visiting.{FitsIn};
 ghost use Rattle.tide_model.specs.Layout.{cell_count};
 ghost use Rattle.tide_visitor.specs.Viewed.{stack_room_of, table_of, view_of};
 ghost use Rattle.tide_visitor.specs.Visits.{visit_frame, IsVisitorOf};

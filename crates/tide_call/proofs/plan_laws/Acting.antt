@@ -2,8 +2,8 @@
 use Rattle.std.proofs.Common.{ℕ, ◌≡◌, ◌+◌, ◌<◌, refl, sym, ◌∙◌, ap, subst, Bool, true, false, List, [], ◌∷◌, length, Option, None, Some, inl, inr}
 use Rattle.std.specs.Int.{bit_at}
 use Rattle.std.specs.Prelude.{◌==◌, nat_le, not, if◌then◌else◌}
-use Rattle.tide_layout.specs.declared.region.Region.TheVariants as region
-use Rattle.tide_layout.specs.Slots.{HasSlot, index_of_element}
+use Rattle.tide_words.specs.tide_layout.declared.region.Region.TheVariants as region
+use Rattle.tide_words.specs.tide_layout.Slots.{HasSlot, index_of_element}
 use Rattle.tide_model.specs.declared.op.Op.{Op}
 use Rattle.tide_model.specs.declared.op.Op.TheVariants.{Alloc, Table, Get, Put, Move, Set, Drop, Claim, Release, Unclaim, Add, GetProp, SetProp, StrongSet, StrongGet, WeakSet, WeakGet, PairSet, PairGet, PairDel, Group, Collect, Retire}
 use Rattle.tide_model.specs.declared.op.Refusal.{Refusal}

@@ -3,8 +3,8 @@ use Rattle.std.proofs.Common.{ℕ, ◌≡◌, ◌<◌, refl, sym, subst, arith, 
 use Rattle.std.proofs.lemmas.Bool.{cases_lt}
 use Rattle.std.proofs.lemmas.Option.{none-some, same_Some}
 use Rattle.std.specs.Prelude.{Contains, ◌^◌}
-use Rattle.tide_layout.specs.declared.region.Region.TheVariants.{Claim as ClaimRegion}
-use Rattle.tide_layout.specs.Limits.{IsWithinLimits}
+use Rattle.tide_words.specs.tide_layout.declared.region.Region.TheVariants.{Claim as ClaimRegion}
+use Rattle.tide_words.specs.tide_layout.Limits.{IsWithinLimits}
 use Rattle.tide_model.specs.Layout.{Layout, cell_count}
 use Rattle.tide_model.specs.Numbers.{is_among, numbers_where}
 use Rattle.tide_model.specs.References.{ClaimsAreOwn}

@@ -1,7 +1,7 @@
 -- What a caller's own words say in a state in which it may call.
 use Rattle.std.proofs.Common.{ℕ, ◌≡◌, ◌^◌, ◌<◌, ◌≤◌, refl, sym, ◌∙◌, ap, subst, arith, true, false, List, Option, Some, None, length}
 use Rattle.std.specs.Prelude.{slice_get}
-use Rattle.tide_layout.specs.declared.region.Region.TheVariants.{Array, Claim, Structure as StructureRegion}
+use Rattle.tide_words.specs.tide_layout.declared.region.Region.TheVariants.{Array, Claim, Structure as StructureRegion}
 use Rattle.tide_model.specs.Layout.{array_count, cell_count}
 use Rattle.tide_model.specs.Numbers.{is_among}
 use Rattle.tide_model.specs.References.{IsLive}

@@ -2,7 +2,7 @@
 use Rattle.std.proofs.Common.{ℕ, zero, suc, ◌≡◌, ◌≢◌, ◌<◌, ◌≤◌, refl, sym, ◌∙◌, ap, subst, arith, Bool, true, false, inl, inr}
 use Rattle.std.proofs.lemmas.Bool.{cases_Bool, cases_eq, eq-eqb, ne_eqb}
 use Rattle.std.specs.Prelude.{◌==◌, ◌&&◌, not, if◌then◌else◌}
-use Rattle.tide_layout.proofs.ClassWidths.{count_where-first, count_where-le}
+use Rattle.tide_words.proofs.tide_layout.ClassWidths.{count_where-first, count_where-le}
 use Rattle.tide_model.specs.Numbers.{count_where}
 use Rattle.tide_model.proofs.CountLaws.{count_where-none}
 use Rattle.tide_words.proofs.marking_laws.ConstraintLaws.{count_where-one_less}

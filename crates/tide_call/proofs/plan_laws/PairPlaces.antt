@@ -3,8 +3,8 @@ use Rattle.std.proofs.Common.{ℕ, ◌≡◌, ◌+◌, ◌<◌, refl, sym, ◌�
 use Rattle.std.proofs.lemmas.Bool.{eq-eqb, eqb-true, ne_eqb}
 use Rattle.std.proofs.lemmas.Bool.Decides.{nat_tests}
 use Rattle.std.specs.Prelude.{◌==◌, ◌&&◌, is_some, nat_le, not, slice_index}
-use Rattle.tide_layout.specs.Region.{place_in, place_of_slot}
-use Rattle.tide_layout.specs.Slots.{HasSlot, index_of_slot, width_of_class}
+use Rattle.tide_words.specs.tide_layout.Region.{place_in, place_of_slot}
+use Rattle.tide_words.specs.tide_layout.Slots.{HasSlot, index_of_slot, width_of_class}
 use Rattle.tide_model.specs.declared.val.Val.{Val}
 use Rattle.tide_model.specs.Layout.{Layout, cell_count, class_of}
 use Rattle.tide_model.specs.Refused.{has_pair, is_table, pair_count, pairs_most}

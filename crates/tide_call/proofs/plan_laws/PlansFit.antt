@@ -3,9 +3,9 @@ use Rattle.std.proofs.Common.{ℕ, ◌≡◌, ◌+◌, ◌<◌, ◌≤◌, refl,
 use Rattle.std.proofs.lemmas.Bool.{cases_lt}
 use Rattle.std.proofs.lemmas.Option.{same_Some}
 use Rattle.std.specs.Prelude.{Contains, IfSome, nat_lt, not, if◌then◌else◌}
-use Rattle.tide_layout.specs.Limits.{IsWithinLimits}
-use Rattle.tide_layout.specs.Slots.{HasElement}
-use Rattle.tide_layout.proofs.LimitLaws.{few_cells}
+use Rattle.tide_words.specs.tide_layout.Limits.{IsWithinLimits}
+use Rattle.tide_words.specs.tide_layout.Slots.{HasElement}
+use Rattle.tide_words.proofs.tide_layout.LimitLaws.{few_cells}
 use Rattle.tide_model.specs.declared.op.Op.{Op}
 use Rattle.tide_model.specs.declared.op.Op.TheVariants.{Alloc, Table, Get, Put, Move, Set, Drop, Claim, Release, Unclaim, Add, GetProp, SetProp, StrongSet, StrongGet, WeakSet, WeakGet, PairSet, PairGet, PairDel, Group, Collect, Retire}
 use Rattle.tide_model.specs.declared.op.Refusal.TheVariants.{Absent, IsTable, NotHeld}
@@ -117,7 +117,7 @@ module _ (caller : Caller) (heap : Heap) (state : State) (limits : IsWithinLimit
         let few = few_keys key addition of in
         let count = of.is_count in
         let wide = width-for (length (state.cells addition.cell).keys + 1) (omega (arith, few, count)) in
-        let same = ap Rattle.tide_layout.specs.Slots.width_of_class is_class in
+        let same = ap Rattle.tide_words.specs.tide_layout.Slots.width_of_class is_class in
         omega (arith, wide, same, count));
     array_within = by_array array refl;
   }

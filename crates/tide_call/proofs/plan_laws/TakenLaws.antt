@@ -1,14 +1,14 @@
 -- What a bit that was taken of a class is.
 use Rattle.std.proofs.Common.{ℕ, ◌≡◌, ◌+◌, ◌-◌, ◌*◌, ◌%◌, ◌<◌, ◌≤◌, sym, subst, ap, arith, sum}
-use Rattle.tide_block.specs.Bits.{IsSet}
-use Rattle.tide_block.proofs.ArrayLaws.{array_at_within, block_of_array-at, block_of_arrays, class_of_array-at, first_block_of-end}
-use Rattle.tide_block.proofs.BlockLaws.{first_block_of-next, first_block_of-rises}
-use Rattle.tide_block.proofs.PlaceLaws.{bit_of-at, block_of_cell-at, cell_at_within}
-use Rattle.tide_block.proofs.RisingLaws.{rising-le}
-use Rattle.tide_layout.specs.declared.region.Region.TheVariants.{Free}
-use Rattle.tide_layout.specs.Limits.{IsWithinLimits}
-use Rattle.tide_layout.specs.Region.{block_count}
-use Rattle.tide_layout.specs.Slots.{width_of_array, width_of_class}
+use Rattle.tide_words.specs.tide_block.Bits.{IsSet}
+use Rattle.tide_words.proofs.tide_block.ArrayLaws.{array_at_within, block_of_array-at, block_of_arrays, class_of_array-at, first_block_of-end}
+use Rattle.tide_words.proofs.tide_block.BlockLaws.{first_block_of-next, first_block_of-rises}
+use Rattle.tide_words.proofs.tide_block.PlaceLaws.{bit_of-at, block_of_cell-at, cell_at_within}
+use Rattle.tide_words.proofs.tide_block.RisingLaws.{rising-le}
+use Rattle.tide_words.specs.tide_layout.declared.region.Region.TheVariants.{Free}
+use Rattle.tide_words.specs.tide_layout.Limits.{IsWithinLimits}
+use Rattle.tide_words.specs.tide_layout.Region.{block_count}
+use Rattle.tide_words.specs.tide_layout.Slots.{width_of_array, width_of_class}
 use Rattle.tide_model.specs.Layout.{IsBlockOf, Layout, block_of_array, block_of_cell, first_block_of}
 use Rattle.tide_words.specs.heap.Heap.{Heap}
 use Rattle.tide_words.specs.heap.Written.{IsBitPut}

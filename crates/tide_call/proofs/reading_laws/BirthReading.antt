@@ -1,7 +1,7 @@
 -- A free cell is born: its free bit is taken.
-use Rattle.tide_layout.proofs.SlotPlaces.{index_of_slot-below, index_of_element-below}
+use Rattle.tide_words.proofs.tide_layout.SlotPlaces.{index_of_slot-below, index_of_element-below}
 use Rattle.tide_call.specs.Taken.{IsTakenBit}
-use Rattle.tide_layout.specs.Region.{block_count}
+use Rattle.tide_words.specs.tide_layout.Region.{block_count}
 use Rattle.std.proofs.Common.{ℕ, ◌≡◌, ◌%◌, ◌<◌, refl, sym, ◌∙◌, arith, [], Some, None, inl, ◌≢◌}
 use Rattle.std.proofs.lemmas.Option.{none-some}
 use Rattle.std.specs.Int.{bit_at}
@@ -12,11 +12,11 @@ use Rattle.tide_model.specs.Layout.{Layout, block_of_array, block_of_cell, cell_
 use Rattle.tide_model.specs.Refused.{ShapeLists}
 use Rattle.tide_model.specs.State.{CellState, State, Status, blank_cell, free, live, spent}
 use Rattle.tide_model.proofs.ReferenceLaws.{put_at_elim}
-use Rattle.tide_layout.specs.declared.region.Region.TheVariants.{Array, Claim, Dead, Elements, Free, Group, Slots, Structure}
+use Rattle.tide_words.specs.tide_layout.declared.region.Region.TheVariants.{Array, Claim, Dead, Elements, Free, Group, Slots, Structure}
 use Rattle.tide_words.specs.heap.Heap.{Heap}
 use Rattle.tide_words.specs.heap.Written.{IsBitPut}
 use Rattle.tide_words.specs.heap.Reading.{CellReads, IsNamedAmong, IsPairOf, IsTableOf, IsZeroed, ReadsAs, array_status, slot_word, cell_status}
-use Rattle.tide_layout.specs.Slots.{HasSlot, index_of_slot, index_of_element}
+use Rattle.tide_words.specs.tide_layout.Slots.{HasSlot, index_of_slot, index_of_element}
 use Rattle.tide_words.proofs.form_laws.FormLaws.{pair_word-pos}
 use Rattle.tide_words.proofs.heap_laws.ReadingLaws.{AreClaimsRead-same, HasSlot-class, tags-apart}
 use Rattle.tide_words.proofs.heap_laws.CellLaw.{CellReads-live, past-put}

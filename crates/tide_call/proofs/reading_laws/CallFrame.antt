@@ -1,8 +1,8 @@
 -- Which regions a call leaves.
 use Rattle.std.proofs.Common.{ℕ, ◌≡◌, refl, ◌∙◌, true, false, Option, Some, None}
-use Rattle.tide_layout.specs.declared.region.Region.{Region}
-use Rattle.tide_layout.specs.declared.region.Region.TheVariants.{Active, Claim, Elements, Free, Group, Registers, Slots, Strong, Structure, Weak}
-use Rattle.tide_layout.specs.Region.{index_of_register}
+use Rattle.tide_words.specs.tide_layout.declared.region.Region.{Region}
+use Rattle.tide_words.specs.tide_layout.declared.region.Region.TheVariants.{Active, Claim, Elements, Free, Group, Registers, Slots, Strong, Structure, Weak}
+use Rattle.tide_words.specs.tide_layout.Region.{index_of_register}
 use Rattle.tide_model.specs.declared.op.Op.{Op}
 use Rattle.tide_model.specs.declared.op.Op.TheVariants as op
 use Rattle.tide_model.specs.declared.op.Reply.{Reply}

@@ -30,18 +30,18 @@ use Rattle.tide_model.proofs.NumberLaws.{contains_from_among}
 use Rattle.tide_model.proofs.LawfulReferences.{RefsAreLive-lawful}
 use Rattle.tide_call.specs.Laws.{CallsReadBack, HistoriesReadBack}
 use Rattle.tide_model.proofs.ReferenceLaws.{after_call-refused, place_of-below}
-use Rattle.tide_layout.specs.declared.region.Region.TheVariants as region
-use Rattle.tide_layout.specs.declared.region.Region.{Region}
+use Rattle.tide_words.specs.tide_layout.declared.region.Region.TheVariants as region
+use Rattle.tide_words.specs.tide_layout.declared.region.Region.{Region}
 use Rattle.tide_words.specs.heap.Heap.{Heap, SameIn, write}
 use Rattle.tide_words.proofs.heap_laws.Frames.{ReadsAs-same}
-use Rattle.tide_layout.specs.Limits.{IsWithinLimits}
+use Rattle.tide_words.specs.tide_layout.Limits.{IsWithinLimits}
 use Rattle.tide_words.specs.heap.Reading.{CellReads, ReadsAs, TakenReads}
-use Rattle.tide_layout.specs.Region.{index_of_register, tag}
+use Rattle.tide_words.specs.tide_layout.Region.{index_of_register, tag}
 use Rattle.tide_words.specs.heap.Written.{IsWritten}
 use Rattle.tide_words.specs.forms.ValueWord.{HasU32, val_word}
-use Rattle.tide_layout.proofs.LimitLaws.{few_cells}
+use Rattle.tide_words.proofs.tide_layout.LimitLaws.{few_cells}
 use Rattle.tide_words.proofs.heap_laws.ReadingLaws.{live_within}
-use Rattle.tide_block.proofs.PlaceLaws.{block_of_cells}
+use Rattle.tide_words.proofs.tide_block.PlaceLaws.{block_of_cells}
 use Rattle.tide_call.proofs.reading_laws.ArrayRoom.{HasElement-next, room-taken}
 use Rattle.tide_call.proofs.reading_laws.BirthReading.{Reading-birth}
 use Rattle.tide_call.specs.CallWords.{Adds, Bears, CallWords, Fills}
@@ -203,7 +203,7 @@ module _ (layout : Layout) (shapes : ShapeLists) (heap : Heap) (state : State) (
       fill new dst value within.0 (subst HasU32 (sym granted.1) (seen_slot (state.registers who src) src slot (λ cell is. alive src cell is) none)) words
   granted-reads (Put src slot val) Done took new within none granted (cell, is, same) =
       told new _ (put_slot state (state.registers who src) slot (state.registers who val)) same
-      (subst (λ (v : Val). ReadsAs layout shapes (write heap region.Slots (Rattle.tide_layout.specs.Slots.index_of_slot layout cell slot) (val_word (state.registers who val))) (put_slot state v slot (state.registers who val))) (sym is)
+      (subst (λ (v : Val). ReadsAs layout shapes (write heap region.Slots (Rattle.tide_words.specs.tide_layout.Slots.index_of_slot layout cell slot) (val_word (state.registers who val))) (put_slot state v slot (state.registers who val))) (sym is)
       (Reading-slot layout shapes heap state cell (inside cell (alive src cell is)) (alive src cell is) reads slot (state.registers who val)
       (slot_allowed layout (state.registers who src) src slot cell is none) (fits val within.1)))
   granted-reads (Move dst src) Done took new within none granted words = fill new dst (state.registers who src) within.0 (fits src within.1) words

@@ -3,9 +3,9 @@ use Rattle.std.proofs.Common.{ℕ, ◌≡◌, ◌≢◌, ◌<◌, sym, ◌∙◌
 use Rattle.std.proofs.lemmas.Bool.{cases_eq, eqb-true}
 use Rattle.std.specs.Int.{bit_at}
 use Rattle.std.specs.Prelude.{◌==◌, if◌then◌else◌}
-use Rattle.tide_block.proofs.BitLaws.{with_bit-here, with_bit-other}
-use Rattle.tide_layout.specs.Region.{block_count}
-use Rattle.tide_layout.specs.declared.region.Region.TheVariants.{Dead, Free}
+use Rattle.tide_words.proofs.tide_block.BitLaws.{with_bit-here, with_bit-other}
+use Rattle.tide_words.specs.tide_layout.Region.{block_count}
+use Rattle.tide_words.specs.tide_layout.declared.region.Region.TheVariants.{Dead, Free}
 use Rattle.tide_model.specs.Layout.{Layout}
 use Rattle.tide_model.specs.State.{Status, dead, free, is_free, live, spent}
 use Rattle.tide_words.specs.heap.Heap.{Heap, SameIn}

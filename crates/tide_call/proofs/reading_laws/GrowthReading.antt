@@ -12,15 +12,15 @@ use Rattle.tide_model.specs.References.{IsLive, RefsAreLive}
 use Rattle.tide_model.specs.Refused.{ShapeLists}
 use Rattle.tide_model.specs.State.{CellState, State, Status, free, is_free, live, spent}
 use Rattle.tide_model.proofs.ReferenceLaws.{put_at_elim}
-use Rattle.tide_layout.specs.declared.region.Region.{Region}
-use Rattle.tide_layout.specs.declared.region.Region.TheVariants.{Active, Array, Call, Claim, Colour, Dead, Elements, Free, GreyMutator, GreyRace, GreyShared, Group, Period, Phase, Base, Registers, Slots, Stopped, Strong, Structure, Swept, Weak}
+use Rattle.tide_words.specs.tide_layout.declared.region.Region.{Region}
+use Rattle.tide_words.specs.tide_layout.declared.region.Region.TheVariants.{Active, Array, Call, Claim, Colour, Dead, Elements, Free, GreyMutator, GreyRace, GreyShared, Group, Period, Phase, Base, Registers, Slots, Stopped, Strong, Structure, Swept, Weak}
 use Rattle.tide_words.specs.heap.Heap.{Heap}
 use Rattle.tide_words.specs.heap.Reading.{AreArraysRead, BitsAreApart, CellReads, IsNamedAmong, IsValueOf, PartsRead, PropertyReads, ReadsAs, TakenReads, array_status, cell_status, element_word, slot_word}
-use Rattle.tide_layout.specs.Region.{block_count}
-use Rattle.tide_layout.specs.Slots.{HasElement, HasSlot, index_of_slot, width_of_array}
+use Rattle.tide_words.specs.tide_layout.Region.{block_count}
+use Rattle.tide_words.specs.tide_layout.Slots.{HasElement, HasSlot, index_of_slot, width_of_array}
 use Rattle.tide_words.specs.forms.ValueWord.{HasU32}
 use Rattle.tide_words.proofs.heap_laws.ReadingLaws.{AreClaimsRead-same, HasSlot-class, IsValueOf-same}
-use Rattle.tide_layout.proofs.SlotPlaces.{index_of_slot-below}
+use Rattle.tide_words.proofs.tide_layout.SlotPlaces.{index_of_slot-below}
 use Rattle.tide_call.specs.Grown.{IsGrown, is_grown_region}
 use Rattle.tide_words.proofs.heap_laws.CellLaw.{CellReads-live, past-put}
 use Rattle.tide_words.proofs.heap_laws.CellReading.{CellReads-kept, IsTableOf-kept, SameCellWords}

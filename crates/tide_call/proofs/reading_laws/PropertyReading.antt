@@ -9,13 +9,13 @@ use Rattle.tide_model.specs.References.{IsLive}
 use Rattle.tide_model.specs.Refused.{ShapeLists}
 use Rattle.tide_model.specs.State.{CellState, State, is_free}
 use Rattle.tide_model.proofs.ReferenceLaws.{put_at_elim}
-use Rattle.tide_layout.specs.declared.region.Region.TheVariants.{Elements, Structure}
+use Rattle.tide_words.specs.tide_layout.declared.region.Region.TheVariants.{Elements, Structure}
 use Rattle.tide_words.specs.heap.Heap.{Heap, write}
 use Rattle.tide_words.specs.heap.Reading.{CellReads, IsStructureOf, IsValueOf, PropertyReads, ReadsAs, TakenReads, element_word}
-use Rattle.tide_layout.specs.Slots.{HasElement, index_of_element}
+use Rattle.tide_words.specs.tide_layout.Slots.{HasElement, index_of_element}
 use Rattle.tide_words.specs.forms.ValueWord.{HasU32, val_word}
 use Rattle.tide_words.proofs.heap_laws.HeapLaws.{write-same}
-use Rattle.tide_layout.proofs.SlotPlaces.{index_of_element-alone}
+use Rattle.tide_words.proofs.tide_layout.SlotPlaces.{index_of_element-alone}
 use Rattle.tide_call.specs.ShapeWord.{IsShapeWord, whole_word}
 use Rattle.tide_words.proofs.heap_laws.CellLaw.{CellReads-live, ReadsAs-cell}
 use Rattle.tide_words.proofs.heap_laws.CellReading.{IsTableOf-kept, SameCellWords}

@@ -10,14 +10,14 @@ use Rattle.tide_model.specs.References.{IsLive}
 use Rattle.tide_model.specs.Refused.{ShapeLists}
 use Rattle.tide_model.specs.State.{CellState, State, is_free}
 use Rattle.tide_model.proofs.ReferenceLaws.{put_at_elim}
-use Rattle.tide_layout.specs.declared.region.Region.TheVariants.{Group, Slots}
+use Rattle.tide_words.specs.tide_layout.declared.region.Region.TheVariants.{Group, Slots}
 use Rattle.tide_words.specs.heap.Heap.{Heap, write}
 use Rattle.tide_words.specs.heap.Reading.{CellReads, IsValueOf, ReadsAs, TakenReads, slot_word}
-use Rattle.tide_layout.specs.Slots.{HasSlot, index_of_slot}
+use Rattle.tide_words.specs.tide_layout.Slots.{HasSlot, index_of_slot}
 use Rattle.tide_words.specs.forms.ValueWord.{HasU32, val_word}
 use Rattle.tide_words.proofs.heap_laws.HeapLaws.{write-same}
 use Rattle.tide_words.proofs.heap_laws.ReadingLaws.{HasSlot-class}
-use Rattle.tide_layout.proofs.SlotPlaces.{index_of_slot-alone}
+use Rattle.tide_words.proofs.tide_layout.SlotPlaces.{index_of_slot-alone}
 use Rattle.tide_words.proofs.heap_laws.CellLaw.{CellReads-live, ReadsAs-cell}
 use Rattle.tide_words.proofs.heap_laws.CellReading.{IsTableOf-kept}
 use Rattle.tide_words.proofs.heap_laws.Frames.{else-group, else-slot}

@@ -2,7 +2,7 @@
 use Rattle.std.proofs.Common.{ℕ, ◌≡◌, ◌<◌, Bool, true, inl, inr, [], Some}
 use Rattle.std.proofs.lemmas.Bool.{or_cases}
 use Rattle.std.specs.Prelude.{slice_get, ◌||◌}
-use Rattle.tide_layout.specs.Limits.{IsWithinLimits}
+use Rattle.tide_words.specs.tide_layout.Limits.{IsWithinLimits}
 use Rattle.tide_core.proofs.machine_laws.freezes.Entering.{FrozenMachine-entered}
 use Rattle.tide_core.proofs.machine_laws.freezes.Freezing.{FrozenMachine-first, FrozenMachine-running}
 use Rattle.tide_core.proofs.machine_laws.freezes.OpeningParts.{RunningWave-opened}

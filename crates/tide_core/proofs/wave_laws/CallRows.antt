@@ -2,7 +2,7 @@
 -- a cycle marks, and that a call isn't counted. Two cells, of which the first is visited, worked out by hand.
 use Rattle.std.proofs.Common.{ℕ, ◌≡◌, refl, ap, arith, false, true, [], ◌∷◌, List}
 use Rattle.std.specs.Prelude.{Bool, if◌then◌else◌}
-use Rattle.tide_layout.specs.declared.region.Region.TheVariants.{Call as CallRegion}
+use Rattle.tide_words.specs.tide_layout.declared.region.Region.TheVariants.{Call as CallRegion}
 use Rattle.tide_model.specs.declared.entry.Entry.TheVariants.{Begin, Call, End, Pause}
 use Rattle.tide_model.specs.declared.entry.Event.{Event}
 use Rattle.tide_model.specs.declared.op.Op.TheVariants.{Alloc, Put}

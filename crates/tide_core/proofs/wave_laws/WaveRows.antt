@@ -4,8 +4,8 @@ use Rattle.std.proofs.lemmas.Bool.{cases_eq, ne_eqb}
 use Rattle.std.proofs.lemmas.Nat.Bits.{bit_at-zero, bit_at_mask_inside}
 use Rattle.std.specs.Int.{bit_at}
 use Rattle.std.specs.Prelude.{◌⊎◌, if◌then◌else◌}
-use Rattle.tide_layout.specs.Region.{index_of_register}
-use Rattle.tide_layout.specs.declared.region.Region.TheVariants.{Call as CallRegion, Dead, Free, Period, Phase, Registers}
+use Rattle.tide_words.specs.tide_layout.Region.{index_of_register}
+use Rattle.tide_words.specs.tide_layout.declared.region.Region.TheVariants.{Call as CallRegion, Dead, Free, Period, Phase, Registers}
 use Rattle.tide_model.specs.declared.entry.Entry.TheVariants.{Begin, Call, End, Pause}
 use Rattle.tide_model.specs.declared.entry.Event.{Event}
 use Rattle.tide_model.specs.declared.op.Op.TheVariants.{Alloc, Drop}

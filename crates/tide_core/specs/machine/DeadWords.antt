@@ -1,8 +1,8 @@
 -- Which words may differ from what the store has there, while a block is swept.
 use Rattle.std.specs.Prelude.{ℕ, ◌≡◌}
-use Rattle.tide_layout.specs.Slots.{index_of_slot, index_of_element, HasSlot, HasElement}
-use Rattle.tide_layout.specs.declared.region.Region.{Region}
-use Rattle.tide_layout.specs.declared.region.Region.TheVariants as region
+use Rattle.tide_words.specs.tide_layout.Slots.{index_of_slot, index_of_element, HasSlot, HasElement}
+use Rattle.tide_words.specs.tide_layout.declared.region.Region.{Region}
+use Rattle.tide_words.specs.tide_layout.declared.region.Region.TheVariants as region
 use Rattle.tide_model.specs.Layout.{Layout}
 use Rattle.tide_model.specs.State.{State, dead}
 

@@ -3,7 +3,7 @@ use Rattle.std.specs.Prelude.{ℕ, ◌≡◌, Bool, true, false}
 use Rattle.tide_core.specs.declared.machine.view.Duty.{Duty}
 use Rattle.tide_core.specs.declared.machine.view.Growth.{Growth}
 use Rattle.tide_core.specs.declared.machine.view.View.{View}
-use Rattle.tide_layout.specs.declared.region.Region.TheVariants.{Colour}
+use Rattle.tide_words.specs.tide_layout.declared.region.Region.TheVariants.{Colour}
 use Rattle.tide_words.specs.heap.Heap.{Heap}
 use Rattle.tide_core.specs.declared.machine.view.Duty.TheVariants as duty
 use Rattle.tide_core.specs.declared.machine.view.Growth.TheVariants as growth

@@ -1,7 +1,7 @@
 -- The entry that a step makes, by its kind and the word that it finds.
 use Rattle.std.specs.Int.{bit_at}
 use Rattle.std.specs.Prelude.{ℕ, ◌+◌, ◌*◌, ◌-◌, List, [], ◌∷◌, ◌++◌, length, ◌==◌, if◌then◌else◌, Option, None, Some}
-use Rattle.tide_layout.specs.Region.{cell_block_count}
+use Rattle.tide_words.specs.tide_layout.Region.{cell_block_count}
 use Rattle.tide_core.specs.machine.Kind.{Kind, Retire, StoreRegister, StoreCall, LoadStrong, StoreStrong, LoadWeak, StoreWeak, LoadLink, StoreLink, LoadFree, TakeFree, LoadPair, StorePair, StoreGroup, LoadClaim, TakeClaim, Release, LoadElement, StoreElement, TakeArray, StoreStructure, ClaimBlock, GiveBits}
 use Rattle.tide_core.specs.machine.Words.{value_of, value_of_pair}
 use Rattle.tide_model.specs.History.{plain}

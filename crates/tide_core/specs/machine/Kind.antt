@@ -1,8 +1,8 @@
 -- The kinds of step: which word each is on, and what it does to it.
 use Rattle.std.specs.Prelude.{ℕ, ◌+◌, ◌-◌, Bool, List, ◌==◌, nat_lt, if◌then◌else◌, Option, bit_and, bit_or, None, Some}
-use Rattle.tide_layout.specs.Region.{index_of_register}
-use Rattle.tide_layout.specs.Slots.{index_of_slot, index_of_element}
-use Rattle.tide_layout.specs.declared.region.Region.{Region}
+use Rattle.tide_words.specs.tide_layout.Region.{index_of_register}
+use Rattle.tide_words.specs.tide_layout.Slots.{index_of_slot, index_of_element}
+use Rattle.tide_words.specs.tide_layout.declared.region.Region.{Region}
 use Rattle.tide_core.specs.machine.Words.{all_but, bit_of}
 use Rattle.tide_core.specs.machine.World.{first_visitor}
 use Rattle.tide_core.specs.declared.machine.act.Act.{Act}
@@ -13,7 +13,7 @@ use Rattle.tide_model.specs.declared.op.Op.{Op}
 use Rattle.tide_words.specs.declared.forms.colours.Colour.TheVariants.{Black, Grey}
 use Rattle.tide_words.specs.forms.ColourWord.{colour_word}
 use Rattle.tide_words.specs.forms.Reference.{array_word, claim_word}
-use Rattle.tide_layout.specs.declared.region.Region.TheVariants as region
+use Rattle.tide_words.specs.tide_layout.declared.region.Region.TheVariants as region
 
 -- What a participant knows of the open part with a ticket: the history, as far as it knew it or the ticket told, what
 -- the ticket told of it, the part's number and how many calls each mutator has in it, whether a cycle marks, and which,

@@ -1,9 +1,9 @@
 -- What a step tells of the machine at its moment.
 use Rattle.tide_words.specs.marking.Marked.{base_cycle}
 use Rattle.std.specs.Prelude.{ℕ, ◌≡◌, ◌+◌, ◌<◌, ◌≤◌, ◌%◌, ◌^◌, true, false, not, List, [], length, take, filter, Contains, ◌⊎◌, None, Some, if◌then◌else◌}
-use Rattle.tide_layout.specs.Region.{block_count}
-use Rattle.tide_layout.specs.declared.region.Region.{Region}
-use Rattle.tide_layout.specs.declared.region.Region.TheVariants as region
+use Rattle.tide_words.specs.tide_layout.Region.{block_count}
+use Rattle.tide_words.specs.tide_layout.declared.region.Region.{Region}
+use Rattle.tide_words.specs.tide_layout.declared.region.Region.TheVariants as region
 use Rattle.tide_core.specs.machine.DeadWords.{IsOfDead}
 use Rattle.tide_core.specs.machine.Kind.{index_of_stopped}
 use Rattle.tide_core.specs.machine.Looked.{FreeIsShown}

@@ -1,9 +1,9 @@
 -- Words that one participant alone changes: those that it still owes, and those that it knows.
 use Rattle.std.specs.Prelude.{ℕ, zero, suc, ◌≡◌, ◌<◌, Bool, true, List, [], ◌∷◌, ◌==◌, ◌&&◌, not, filter, Contains, Option, None, Some, if◌then◌else◌}
-use Rattle.tide_layout.specs.Region.{tag, index_of_register}
-use Rattle.tide_layout.specs.Slots.{index_of_slot, index_of_element, HasSlot, HasElement}
-use Rattle.tide_layout.specs.declared.region.Region.{Region}
-use Rattle.tide_layout.specs.declared.region.Region.TheVariants as region
+use Rattle.tide_words.specs.tide_layout.Region.{tag, index_of_register}
+use Rattle.tide_words.specs.tide_layout.Slots.{index_of_slot, index_of_element, HasSlot, HasElement}
+use Rattle.tide_words.specs.tide_layout.declared.region.Region.{Region}
+use Rattle.tide_words.specs.tide_layout.declared.region.Region.TheVariants as region
 use Rattle.tide_core.specs.declared.machine.view.Owed.{Owed}
 use Rattle.tide_core.specs.declared.machine.view.Sweeping.{Sweeping}
 use Rattle.tide_core.specs.declared.machine.view.View.{View}

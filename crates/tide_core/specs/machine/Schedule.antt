@@ -2,7 +2,7 @@
 use Rattle.std.specs.Prelude.{ℕ, ◌≡◌, ◌+◌, ◌<◌, ◌++◌, ◌∷◌, true, false, Bool, List, []}
 use Rattle.tide_core.specs.wave.Entered.{HasBegun, HasPaused, HasEnded, HasSwept, with_begin, with_end, with_open}
 use Rattle.tide_cycle.specs.Converged.{HasConverged}
-use Rattle.tide_layout.specs.declared.region.Region.TheVariants as region
+use Rattle.tide_words.specs.tide_layout.declared.region.Region.TheVariants as region
 use Rattle.tide_core.specs.machine.Frozen.{FrozenMachine, MayOpen, first_world}
 use Rattle.tide_core.specs.machine.Kind.{Kind}
 use Rattle.tide_core.specs.machine.Machine.{IsAllowed, stepped}

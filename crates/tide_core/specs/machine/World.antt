@@ -1,6 +1,6 @@
 -- The machine's world: words, what each participant knows, and one history.
 use Rattle.std.specs.Prelude.{ℕ, ◌+◌, ◌<◌, ◌≤◌, ◌⊎◌, List, ◌==◌, if◌then◌else◌}
-use Rattle.tide_layout.specs.Slots.{total_below}
+use Rattle.tide_words.specs.tide_layout.Slots.{total_below}
 use Rattle.tide_core.specs.declared.machine.view.Duty.{Duty}
 use Rattle.tide_core.specs.declared.machine.view.Duty.TheVariants as duty
 use Rattle.tide_core.specs.declared.machine.view.View.{View}

@@ -4,11 +4,11 @@ use Rattle.std.specs.Prelude.{filter, slice_get, if◌then◌else◌, ◌||◌}
 use Rattle.atomic_table.specs.Table.{Me, Allows}
 use Rattle.atomic_table.specs.declared.shared.Seat.{Seat}
 use Rattle.tide_heap.specs.declared.heap.Heap.{Heap as Shared}
-use Rattle.tide_layout.proofs.Places.{place_in-below}
-use Rattle.tide_layout.specs.Limits.{IsWithinLimits}
-use Rattle.tide_layout.specs.Region.{word_count}
-use Rattle.tide_layout.specs.declared.region.Region.{Region}
-use Rattle.tide_layout.specs.declared.region.Region.TheVariants as region
+use Rattle.tide_core.proofs.tide_layout.Places.{place_in-below}
+use Rattle.tide_core.specs.tide_layout.Limits.{IsWithinLimits}
+use Rattle.tide_core.specs.tide_layout.Region.{word_count}
+use Rattle.tide_core.specs.tide_layout.declared.region.Region.{Region}
+use Rattle.tide_core.specs.tide_layout.declared.region.Region.TheVariants as region
 use Rattle.tide_core.proofs.machine_laws.Scheduling.{step_keeps}
 use Rattle.tide_core.proofs.machine_laws.kinds.EachKind.{allowed_has_law}
 use Rattle.tide_core.proofs.machine_laws.kinds.Finding.{finds_after}
@@ -45,8 +45,8 @@ use Rattle.tide_heap.proofs.steps_laws.Works.{Core, core, core_found, worked, wo
 use Rattle.tide_heap.specs.steps.Follows.{Follows, FollowsSome, May, MayStep, with_found}
 use Rattle.tide_heap.specs.Rule.{Rule}
 use Rattle.tide_heap.specs.steps.Works.{is_work, is_leave, is_visit}
-use Rattle.tide_sweep.specs.Zeroed.{IsDeadWord}
-use Rattle.tide_words.specs.heap.Heap.{Heap, write}
+use Rattle.tide_core.specs.tide_sweep.Zeroed.{IsDeadWord}
+use Rattle.tide_core.specs.tide_words.heap.Heap.{Heap, write}
 
 -- no call but Retire is made at the store of an Active word
 retire_alone : (layout : Layout) (shapes : ShapeLists) (w : World) (me : ℕ) (o : Op) → MayRetire layout shapes w me (Some o) →

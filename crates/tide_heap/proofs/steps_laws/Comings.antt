@@ -5,8 +5,8 @@ use Rattle.std.proofs.lemmas.Bool.Decides.{nat_tests}
 use Rattle.std.specs.Prelude.{[], if◌then◌else◌, ◌==◌, Bool, nat_lt, not, ◌||◌, ◌↔◌, ◌⊎◌}
 use Rattle.atomic_table.proofs.Lists.{set_else}
 use Rattle.atomic_table.specs.Table.{State, Me, keeps, stepped, Allows, Splits, Joins}
-use Rattle.tide_layout.specs.Region.{base_of, place_in, size_of, word_count}
-use Rattle.tide_layout.specs.declared.region.Region.TheVariants as region
+use Rattle.tide_core.specs.tide_layout.Region.{base_of, place_in, size_of, word_count}
+use Rattle.tide_core.specs.tide_layout.declared.region.Region.TheVariants as region
 use Rattle.tide_core.specs.machine.Kind.{index_of_stopped}
 use Rattle.tide_core.specs.machine.May.{Rests}
 use Rattle.tide_core.specs.machine.World.{first_visitor}
@@ -185,4 +185,4 @@ module _ (layout : Layout) (shapes : ShapeLists) where
 -- word 0 is there
 pub zero_below : (layout : Layout) (words : ℕ) → words ≡ word_count layout → 0 < words
 zero_below layout words sized =
-    (let b = Rattle.tide_layout.proofs.Places.place_in-below layout region.Period 0 (omega arith) in omega (arith, b, sized))
+    (let b = Rattle.tide_core.proofs.tide_layout.Places.place_in-below layout region.Period 0 (omega arith) in omega (arith, b, sized))

@@ -16,7 +16,7 @@ use Rattle.tide_model.specs.declared.op.Op.TheVariants as op
 use Rattle.tide_model.specs.declared.op.Refusal.{Refusal}
 use Rattle.tide_model.specs.declared.op.Refusal.TheVariants.{Full}
 use Rattle.tide_model.specs.declared.op.Reply.TheVariants.{Born, Done, Refused}
-use Rattle.tide_layout.specs.Region.{cell_block_count}
+use Rattle.tide_core.specs.tide_layout.Region.{cell_block_count}
 use Rattle.tide_heap.specs.steps.Works.{born_after, is_work}
 use Rattle.tide_heap.proofs.Births.{IsOwnEntry, births_at, still}
 

@@ -2,9 +2,9 @@
 use Rattle.std.proofs.Common.{ℕ, ◌+◌, ◌≡◌, refl, ap, Bool, true, false, List, [], ◌∷◌, ◌++◌, length, Option, None, Some}
 use Rattle.std.specs.Prelude.{if◌then◌else◌, ◌==◌, ◌||◌, ◌*◌}
 use Rattle.std.specs.Int.{bit_at}
-use Rattle.tide_layout.specs.Slots.{index_of_element}
-use Rattle.tide_layout.specs.declared.region.Region.{Region}
-use Rattle.tide_layout.specs.declared.region.Region.TheVariants.{Elements}
+use Rattle.tide_core.specs.tide_layout.Slots.{index_of_element}
+use Rattle.tide_core.specs.tide_layout.declared.region.Region.{Region}
+use Rattle.tide_core.specs.tide_layout.declared.region.Region.TheVariants.{Elements}
 use Rattle.tide_core.specs.machine.Kind.{Kind, Retire, LoadRegister, StoreRegister, LoadCall, StoreCall, LoadStrong, StoreStrong, LoadWeak, StoreWeak, LoadLink, StoreLink, LoadColour, Regrey, PushBit, LoadFree, TakeFree, StoreBorn, LoadPair, StorePair, StoreGroup, LoadClaim, TakeClaim, Release, LoadElement, StoreElement, TakeArray, Nuke, LoadOwnArray, StoreArray, LoadOwnStructure, StoreStructure, SwapGrey, Blacken, LoadStructure, LoadArray, LoadSlot, LoadElementOf, LoadAgain, LoadTarget, Mark, UnBlacken, PushRace, Publish, ClaimBlock, LoadDead, ZeroWord, GiveBits, Finish}
 use Rattle.tide_core.specs.machine.May.{called}
 use Rattle.tide_core.specs.machine.Duties.{is_growing}

@@ -1,7 +1,7 @@
 -- What a call of a pass asks, and what it tells.
 use Rattle.std.specs.Prelude.{ℕ, ◌≡◌, ◌<◌, true}
-use Rattle.tide_layout.specs.Region.{place_in, size_of}
-use Rattle.tide_layout.specs.declared.region.Region.{Region}
+use Rattle.tide_core.specs.tide_layout.Region.{place_in, size_of}
+use Rattle.tide_core.specs.tide_layout.declared.region.Region.{Region}
 use Rattle.tide_core.specs.machine.Kind.{Kind, ZeroWord}
 use Rattle.tide_core.specs.declared.machine.act.Act.{Act}
 use Rattle.tide_core.specs.declared.machine.act.Act.TheVariants.{Load, Store, Swap, And, Or, Exchange}
@@ -9,7 +9,7 @@ use Rattle.tide_heap.specs.steps.Follows.{MayStep, Follows}
 use Rattle.tide_heap.specs.declared.heap.Heap.{Heap}
 use Rattle.tide_heap.specs.declared.steps.pass.Pass.{Pass}
 use Rattle.tide_model.specs.Refused.{ShapeLists}
-use Rattle.tide_sweep.specs.Running.{IsDeadPlace}
+use Rattle.tide_core.specs.tide_sweep.Running.{IsDeadPlace}
 
 -- below, the lists of keys are those of the shapes that a heap was made of
 module _ {S : Type 0} (lists : S → ShapeLists) where

@@ -1,6 +1,6 @@
 -- What a participant's step asks, and what it tells its caller.
 use Rattle.std.specs.Prelude.{ℕ, ◌≡◌, ◌<◌, true, List, filter}
-use Rattle.tide_layout.specs.Region.{place_in, size_of}
+use Rattle.tide_core.specs.tide_layout.Region.{place_in, size_of}
 use Rattle.tide_core.specs.machine.Kind.{Kind, LoadCall, LoadRegister, region_of, index_of, act_of}
 use Rattle.tide_core.specs.machine.Machine.{IsAllowed}
 use Rattle.tide_core.specs.machine.Moment.{Moment}

@@ -1,8 +1,8 @@
 -- The kind of the machine that a call of a pass makes.
 use Rattle.std.specs.Prelude.{ℕ, ◌-◌, nat_lt, if◌then◌else◌}
-use Rattle.tide_layout.specs.Region.{base_of}
-use Rattle.tide_layout.specs.declared.region.Region.{Region}
-use Rattle.tide_layout.specs.declared.region.Region.TheVariants.{Structure, Array, Claim, Group, Slots, Elements}
+use Rattle.tide_core.specs.tide_layout.Region.{base_of}
+use Rattle.tide_core.specs.tide_layout.declared.region.Region.{Region}
+use Rattle.tide_core.specs.tide_layout.declared.region.Region.TheVariants.{Structure, Array, Claim, Group, Slots, Elements}
 use Rattle.tide_core.specs.machine.Kind as kind
 use Rattle.tide_core.specs.machine.Kind.{Kind}
 use Rattle.tide_model.specs.Layout.{Layout}

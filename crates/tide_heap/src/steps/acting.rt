@@ -1,6 +1,6 @@
 //! A participant's operation on a word. Which kind of step it makes is picked by its caller.
 ghost use Rattle.std.specs.Prelude.{◌≡◌, true};
-ghost use Rattle.tide_layout.specs.Region.{place_in, size_of};
+ghost use Rattle.tide_core.specs.tide_layout.Region.{place_in, size_of};
 ghost use Rattle.tide_core.specs.machine.Kind.{act_of, index_of, region_of};
 ghost use Rattle.tide_core.specs.declared.machine.view.Role.TheVariants.{Member};
 ghost use Rattle.tide_heap.specs.steps.Calls.{CanStep, HasActed};

@@ -15,7 +15,7 @@ use crate::shapes::HeapShapes;
 use crate::steps::notes::{Note, Ticket};
 use crate::steps::pass::Pass;
 use crate::steps::plays::{Begins, DoneNotes, Hears, Notes, Stops};
-use tide_words::Region;
+use tide_core::Region;
 
 impl Pass {
     /// Hears a ticket of a later part than the one that it stopped in last.

@@ -10,9 +10,8 @@ use crate::steps::acting::act_as;
 use crate::steps::step::Step;
 use crate::steps::{Made, Pass};
 use std::marker::Brand;
-use tide_core::Act;
+use tide_core::{Act, Region};
 use tide_model::Op;
-use tide_words::Region;
 
 impl Pass {
     /// Loads one of its registers.

@@ -1,7 +1,7 @@
 //! A mutator's steps on claims, on the pairs of a table, and on groups.
 ghost use Rattle.std.specs.Prelude.{◌≡◌, ◌<◌, None};
-ghost use Rattle.tide_layout.specs.Region.{place_of_slot};
-ghost use Rattle.tide_layout.specs.Slots.{HasSlot};
+ghost use Rattle.tide_core.specs.tide_layout.Region.{place_of_slot};
+ghost use Rattle.tide_core.specs.tide_layout.Slots.{HasSlot};
 ghost use Rattle.tide_core.specs.machine.Kind.{LoadClaim, LoadPair, Release, StoreGroup, StorePair, TakeClaim};
 ghost use Rattle.tide_model.specs.Layout.{cell_count};
 ghost use Rattle.tide_heap.specs.steps.Calls.{CanStep, HasStepped, HasStored};
@@ -10,8 +10,7 @@ use crate::heap::Heap;
 use crate::shapes::HeapShapes;
 use crate::steps::step::Step;
 use crate::steps::{Made, Pass};
-use tide_core::Act;
-use tide_words::{Region, claim_word};
+use tide_core::{Act, Region, claim_word};
 
 impl Pass {
     /// Loads a claim word, which may refuse a call.

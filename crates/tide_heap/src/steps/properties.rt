@@ -1,7 +1,7 @@
 //! A mutator's steps on the elements, the array and the structure of a cell that it claims, also in a growth.
 ghost use Rattle.std.specs.Prelude.{◌<◌};
-ghost use Rattle.tide_layout.specs.Region.{block_count};
-ghost use Rattle.tide_layout.specs.Slots.{HasElement};
+ghost use Rattle.tide_core.specs.tide_layout.Region.{block_count};
+ghost use Rattle.tide_core.specs.tide_layout.Slots.{HasElement};
 ghost use Rattle.tide_core.specs.machine.Kind.{LoadElement, LoadOwnArray, LoadOwnStructure, Nuke, StoreArray, StoreElement, StoreStructure, TakeArray};
 ghost use Rattle.tide_model.specs.Layout.{cell_count};
 ghost use Rattle.tide_heap.specs.steps.Calls.{CanStep, HasStepped, HasStored};
@@ -10,8 +10,7 @@ use crate::heap::Heap;
 use crate::shapes::HeapShapes;
 use crate::steps::step::Step;
 use crate::steps::{Made, Pass};
-use tide_core::Act;
-use tide_words::{Region, array_word};
+use tide_core::{Act, Region, array_word};
 
 impl Pass {
     /// Loads an element of the array of a cell that it claims, and sees the property by a call, or doesn't.

@@ -1,6 +1,6 @@
 //! `Step`: which step of a participant a call makes. The code looks at none of it; the proofs do.
+use tide_core::Region;
 use tide_model::Op;
-use tide_words::Region;
 
 /// The call that a step makes, if it makes one.
 pub type Made = Option<Op>;

@@ -1,15 +1,15 @@
 -- What a call that is done leaves: its entry in its caller's order, and the claims of its mutator.
 use Rattle.std.proofs.Common.{ℕ, ◌≡◌, refl, sym, ◌∙◌, ap, subst, Bool, false, List, [], ◌∷◌, ◌++◌, length}
 use Rattle.std.specs.Prelude.{filter, nat_le}
-use Rattle.tide_call.specs.Callers.{Caller}
-use Rattle.tide_call.specs.PlanWords.{PlanWords}
-use Rattle.tide_call.specs.Plans.{IsPlan}
-use Rattle.tide_call.specs.declared.plan.Plan.{Plan}
-use Rattle.tide_call.specs.declared.plan.Plan.TheVariants as plan
-use Rattle.tide_core.specs.machine.Entries.{call_of}
-use Rattle.tide_core.specs.machine.May.{IsBetweenCalls, Rests}
-use Rattle.tide_core.specs.machine.Own.{Own}
-use Rattle.tide_core.specs.declared.machine.view.View.{View}
+use Rattle.tide_heap.specs.tide_call.Callers.{Caller}
+use Rattle.tide_heap.specs.tide_call.PlanWords.{PlanWords}
+use Rattle.tide_heap.specs.tide_call.Plans.{IsPlan}
+use Rattle.tide_heap.specs.tide_call.declared.plan.Plan.{Plan}
+use Rattle.tide_heap.specs.tide_call.declared.plan.Plan.TheVariants as plan
+use Rattle.tide_heap.specs.tide_core.machine.Entries.{call_of}
+use Rattle.tide_heap.specs.tide_core.machine.May.{IsBetweenCalls, Rests}
+use Rattle.tide_heap.specs.tide_core.machine.Own.{Own}
+use Rattle.tide_heap.specs.tide_core.declared.machine.view.View.{View}
 use Rattle.tide_model.proofs.Histories.{state_after-push}
 use Rattle.tide_model.specs.History.{is_call_of, state_after}
 use Rattle.tide_model.specs.Layout.{Layout}
@@ -27,9 +27,9 @@ use Rattle.tide_mutator.specs.owed.Calling.{IsCalling, Kept}
 use Rattle.tide_mutator.specs.calls.Called.{HasCalled, is_of_claims}
 use Rattle.tide_mutator.specs.owed.Made.{HasDone}
 use Rattle.tide_mutator.specs.owed.Standing.{IsPlanned, caller_of, claims_after_calls, claims_of}
-use Rattle.tide_call.proofs.plan_laws.ClaimsKept.{claim_has_room, claims_kept}
-use Rattle.tide_call.specs.Claims.{claims_by_plan}
-use Rattle.tide_words.specs.heap.Heap.{Heap}
+use Rattle.tide_heap.proofs.tide_call.plan_laws.ClaimsKept.{claim_has_room, claims_kept}
+use Rattle.tide_heap.specs.tide_call.Claims.{claims_by_plan}
+use Rattle.tide_heap.specs.tide_words.heap.Heap.{Heap}
 
 -- a retirement has one plan, and one reply
 retire_plan : (caller : Caller) (heap : Heap) (state : State) (does : Plan) → IsPlan caller heap state Retire does →

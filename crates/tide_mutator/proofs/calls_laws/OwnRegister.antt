@@ -1,12 +1,12 @@
 -- A mutator's register says the same wherever the mutator may stand, as long as it owes nothing.
 use Rattle.std.proofs.Common.{ℕ, ◌≡◌, ◌<◌, refl, sym, ◌∙◌, ap, List, []}
-use Rattle.tide_layout.specs.Region.{index_of_register}
-use Rattle.tide_layout.specs.declared.region.Region.TheVariants.{Registers}
-use Rattle.tide_core.specs.machine.Kind.{LoadRegister}
-use Rattle.tide_core.specs.machine.Moment.{Moment}
-use Rattle.tide_core.specs.machine.Own.{Own}
-use Rattle.tide_core.specs.machine.Owed.{own_register}
-use Rattle.tide_core.specs.declared.machine.view.View.{View}
+use Rattle.tide_heap.specs.tide_layout.Region.{index_of_register}
+use Rattle.tide_heap.specs.tide_layout.declared.region.Region.TheVariants.{Registers}
+use Rattle.tide_heap.specs.tide_core.machine.Kind.{LoadRegister}
+use Rattle.tide_heap.specs.tide_core.machine.Moment.{Moment}
+use Rattle.tide_heap.specs.tide_core.machine.Own.{Own}
+use Rattle.tide_heap.specs.tide_core.machine.Owed.{own_register}
+use Rattle.tide_heap.specs.tide_core.declared.machine.view.View.{View}
 use Rattle.tide_model.specs.History.{state_after}
 use Rattle.tide_model.specs.Layout.{Layout}
 use Rattle.tide_model.specs.Refused.{ShapeLists}
@@ -15,8 +15,8 @@ use Rattle.tide_mutator.proofs.owed_laws.OwnClaims.{own_at}
 use Rattle.tide_mutator.proofs.cells_laws.OwnFound.{own_found}
 use Rattle.tide_mutator.specs.owed.Standing.{StandsAt}
 use Rattle.tide_heap.specs.steps.Follows.{Follows}
-use Rattle.tide_words.specs.forms.ValueWord.{val_word}
-use Rattle.tide_words.specs.heap.Heap.{Heap}
+use Rattle.tide_heap.specs.tide_words.forms.ValueWord.{val_word}
+use Rattle.tide_heap.specs.tide_words.heap.Heap.{Heap}
 
 pub register_word : (layout : Layout) (shapes : ShapeLists) (v u : View) (heap : Heap) (log : List Event)
     (register read : ℕ) → v.owed ≡ [] → v.who < layout.mutators → register < layout.registers →

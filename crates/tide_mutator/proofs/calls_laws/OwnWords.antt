@@ -2,20 +2,20 @@
 use Rattle.std.proofs.Common.{ℕ, suc, ◌≡◌, ◌<◌, ◌⊎◌, refl, sym, ◌∙◌, ap, subst, arith, true, false, List, [], ◌∷◌, None, Some, inl, inr}
 use Rattle.std.proofs.lemmas.List.Elements.{Contains-append_cases}
 use Rattle.std.specs.Prelude.{◌==◌, Contains}
-use Rattle.tide_layout.specs.Region.{tag}
-use Rattle.tide_layout.specs.Slots.{HasSlot, index_of_slot}
-use Rattle.tide_layout.specs.declared.region.Region.{Region}
-use Rattle.tide_layout.specs.declared.region.Region.TheVariants as region
-use Rattle.tide_core.proofs.machine_laws.steps.Lists.{in_one}
-use Rattle.tide_core.specs.machine.Kind.{LoadOwnArray, LoadOwnStructure, LoadPair}
-use Rattle.tide_core.specs.machine.May.{RunsAsMutator}
-use Rattle.tide_core.specs.machine.Moment.{Moment}
-use Rattle.tide_core.specs.machine.Owed.{IsOwnWord, Knows, own_array, own_pair, own_structure, owed_word}
-use Rattle.tide_core.specs.machine.RunningWave.{RunningWave}
-use Rattle.tide_core.specs.machine.World.{World}
-use Rattle.tide_core.specs.declared.machine.view.Owed.{Owed}
-use Rattle.tide_core.specs.declared.machine.view.View.{View}
-use Rattle.tide_core.specs.machine.kinds.StoreArray.{MayLoadOwn}
+use Rattle.tide_heap.specs.tide_layout.Region.{tag}
+use Rattle.tide_heap.specs.tide_layout.Slots.{HasSlot, index_of_slot}
+use Rattle.tide_heap.specs.tide_layout.declared.region.Region.{Region}
+use Rattle.tide_heap.specs.tide_layout.declared.region.Region.TheVariants as region
+use Rattle.tide_heap.proofs.tide_core.machine_laws.steps.Lists.{in_one}
+use Rattle.tide_heap.specs.tide_core.machine.Kind.{LoadOwnArray, LoadOwnStructure, LoadPair}
+use Rattle.tide_heap.specs.tide_core.machine.May.{RunsAsMutator}
+use Rattle.tide_heap.specs.tide_core.machine.Moment.{Moment}
+use Rattle.tide_heap.specs.tide_core.machine.Owed.{IsOwnWord, Knows, own_array, own_pair, own_structure, owed_word}
+use Rattle.tide_heap.specs.tide_core.machine.RunningWave.{RunningWave}
+use Rattle.tide_heap.specs.tide_core.machine.World.{World}
+use Rattle.tide_heap.specs.tide_core.declared.machine.view.Owed.{Owed}
+use Rattle.tide_heap.specs.tide_core.declared.machine.view.View.{View}
+use Rattle.tide_heap.specs.tide_core.machine.kinds.StoreArray.{MayLoadOwn}
 use Rattle.tide_model.specs.History.{state_after}
 use Rattle.tide_model.specs.Layout.{Layout, cell_count}
 use Rattle.tide_model.specs.Refused.{ShapeLists, is_table}
@@ -25,9 +25,9 @@ use Rattle.tide_mutator.proofs.owed_laws.Standing.{moment_in, stands_then}
 use Rattle.tide_mutator.specs.owed.Standing.{StandsAt, claims_of}
 use Rattle.tide_mutator.specs.calls.Owning.{OwnsAt, unread}
 use Rattle.tide_heap.specs.steps.Follows.{Follows, MayStep}
-use Rattle.tide_words.proofs.heap_laws.Frames.{is_read}
-use Rattle.tide_words.specs.forms.Reference.{claim_word}
-use Rattle.tide_words.specs.heap.Heap.{Heap}
+use Rattle.tide_heap.proofs.tide_words.heap_laws.Frames.{is_read}
+use Rattle.tide_heap.specs.tide_words.forms.Reference.{claim_word}
+use Rattle.tide_heap.specs.tide_words.heap.Heap.{Heap}
 
 -- the view that found a word, and knows it
 abbrev pub knowing : Region → ℕ → ℕ → View → View

@@ -1,12 +1,12 @@
 -- What a plan that was made says, wherever its mutator may stand.
 use Rattle.std.proofs.Common.{ℕ, ◌≡◌, ◌<◌, refl, sym, ◌∙◌, ap, subst, true, false, List, []}
-use Rattle.tide_call.specs.Callers.{Caller, CallsIn, MayCallNow, OwnHeaps}
-use Rattle.tide_call.specs.Plans.{IsPlan}
-use Rattle.tide_call.specs.declared.plan.Plan.{Plan}
-use Rattle.tide_layout.specs.declared.region.Region.{Region}
-use Rattle.tide_core.specs.machine.Moment.{Moment}
-use Rattle.tide_core.specs.declared.machine.view.Growth.TheVariants.{Nothing}
-use Rattle.tide_core.specs.declared.machine.view.View.{View}
+use Rattle.tide_heap.specs.tide_call.Callers.{Caller, CallsIn, MayCallNow, OwnHeaps}
+use Rattle.tide_heap.specs.tide_call.Plans.{IsPlan}
+use Rattle.tide_heap.specs.tide_call.declared.plan.Plan.{Plan}
+use Rattle.tide_heap.specs.tide_layout.declared.region.Region.{Region}
+use Rattle.tide_heap.specs.tide_core.machine.Moment.{Moment}
+use Rattle.tide_heap.specs.tide_core.declared.machine.view.Growth.TheVariants.{Nothing}
+use Rattle.tide_heap.specs.tide_core.declared.machine.view.View.{View}
 use Rattle.tide_model.specs.History.{state_after}
 use Rattle.tide_model.specs.Layout.{Layout}
 use Rattle.tide_model.specs.Refused.{ShapeLists}
@@ -16,7 +16,7 @@ use Rattle.tide_model.specs.declared.op.Op.{Op}
 use Rattle.tide_mutator.proofs.owed_laws.Standing.{calls_there, stands_then}
 use Rattle.tide_mutator.specs.owed.Standing.{IsPlanned, StandsAt, caller_of, claims_of}
 use Rattle.tide_mutator.specs.calls.Owning.{OwnsAt}
-use Rattle.tide_words.specs.heap.Heap.{Heap}
+use Rattle.tide_heap.specs.tide_words.heap.Heap.{Heap}
 
 -- the caller that was made is the mutator
 pub same_caller : (layout given : Layout) (shapes lists : ShapeLists) (v : View) (who : ℕ) (claims : List ℕ) →

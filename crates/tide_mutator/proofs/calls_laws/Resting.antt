@@ -1,11 +1,11 @@
 -- A mutator that begins a part or stops rests still, with the claims and the calls that it had.
 use Rattle.std.proofs.Common.{◌≡◌, refl, sym, subst, Bool, true, false, []}
 use Rattle.std.specs.Prelude.{◌==◌, if◌then◌else◌}
-use Rattle.tide_core.specs.machine.May.{Rests}
-use Rattle.tide_core.specs.declared.machine.view.View.{View}
-use Rattle.tide_core.specs.machine.kinds.Activate.{begun_view}
-use Rattle.tide_core.specs.machine.kinds.Split.{split_view}
-use Rattle.tide_core.specs.machine.kinds.StoreStopped.{stopped_view}
+use Rattle.tide_heap.specs.tide_core.machine.May.{Rests}
+use Rattle.tide_heap.specs.tide_core.declared.machine.view.View.{View}
+use Rattle.tide_heap.specs.tide_core.machine.kinds.Activate.{begun_view}
+use Rattle.tide_heap.specs.tide_core.machine.kinds.Split.{split_view}
+use Rattle.tide_heap.specs.tide_core.machine.kinds.StoreStopped.{stopped_view}
 use Rattle.tide_mutator.specs.owed.Standing.{claims_of}
 use Rattle.tide_heap.specs.Turns.{heard_view}
 

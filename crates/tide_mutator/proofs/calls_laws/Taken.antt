@@ -1,16 +1,16 @@
 -- Of which operations a call has which plans.
 use Rattle.std.proofs.Common.{ℕ, ◌≡◌, refl, sym, ◌∙◌, ap, Bool, true, inl, inr}
-use Rattle.tide_call.specs.Callers.{Caller}
-use Rattle.tide_call.specs.Plans.{IsPlan, is_told_by_registers}
-use Rattle.tide_call.specs.declared.plan.Plan.{Plan}
-use Rattle.tide_call.specs.declared.plan.Plan.TheVariants as plan
+use Rattle.tide_heap.specs.tide_call.Callers.{Caller}
+use Rattle.tide_heap.specs.tide_call.Plans.{IsPlan, is_told_by_registers}
+use Rattle.tide_heap.specs.tide_call.declared.plan.Plan.{Plan}
+use Rattle.tide_heap.specs.tide_call.declared.plan.Plan.TheVariants as plan
 use Rattle.tide_model.specs.State.{State}
 use Rattle.tide_model.specs.declared.op.Op.{Op}
 use Rattle.tide_model.specs.declared.op.Op.TheVariants.{Alloc, Table, Get, Put, Move, Set, Drop, Claim, Release, Unclaim, Add, GetProp, SetProp, StrongSet, StrongGet, WeakSet, WeakGet, PairSet, PairGet, PairDel, Group, Collect, Retire}
 use Rattle.tide_model.specs.declared.op.Refusal.{Refusal}
 use Rattle.tide_model.specs.declared.val.Val.{Val}
 use Rattle.tide_mutator.specs.calls.Plans.{is_plain}
-use Rattle.tide_words.specs.heap.Heap.{Heap}
+use Rattle.tide_heap.specs.tide_words.heap.Heap.{Heap}
 
 -- an operation with a plain plan is told by registers
 pub told_by_plan : (caller : Caller) (heap : Heap) (state : State) (op : Op) (does : Plan) →

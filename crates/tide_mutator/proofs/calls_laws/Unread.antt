@@ -1,8 +1,8 @@
 -- What a mutator knows of words, and found last, tells nothing of its calls.
 use Rattle.std.proofs.Common.{ℕ, ◌≡◌, ◌<◌, ◌≤◌, ◌+◌, sym, ◌∙◌, ap, subst, length}
 use Rattle.std.specs.Prelude.{◌%◌, ◌^◌}
-use Rattle.tide_core.specs.machine.May.{IsBetweenCalls, Rests}
-use Rattle.tide_core.specs.declared.machine.view.View.{View}
+use Rattle.tide_heap.specs.tide_core.machine.May.{IsBetweenCalls, Rests}
+use Rattle.tide_heap.specs.tide_core.declared.machine.view.View.{View}
 use Rattle.tide_model.specs.Caller.{IsOwn, MakesCall}
 use Rattle.tide_model.specs.Layout.{Layout}
 use Rattle.tide_model.specs.Refused.{ShapeLists}

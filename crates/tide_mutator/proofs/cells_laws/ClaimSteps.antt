@@ -3,23 +3,23 @@ use Rattle.std.proofs.Common.{ℕ, zero, suc, ◌≡◌, ◌+◌, ◌<◌, refl,
 use Rattle.std.proofs.lemmas.Bool.{ne_eqb}
 use Rattle.std.proofs.lemmas.Bool.Decides.{nat_tests}
 use Rattle.std.specs.Prelude.{if◌then◌else◌, nat_le, ◌==◌}
-use Rattle.tide_call.proofs.plan_laws.ClaimPlans.{claims_are_told}
-use Rattle.tide_call.specs.Callers.{Caller}
-use Rattle.tide_call.specs.Laws.{IsClaimTold}
-use Rattle.tide_call.specs.PlanWords.{PlanWords}
-use Rattle.tide_call.specs.Plans.{IsPlan, is_told_by_registers}
-use Rattle.tide_call.specs.declared.plan.Plan.TheVariants as plan
-use Rattle.tide_layout.specs.declared.region.Region.TheVariants as region
-use Rattle.tide_core.specs.machine.Entries.{call_of, reply_of_call}
-use Rattle.tide_core.specs.machine.Kind.{LoadClaim, TakeClaim, Release as ReleaseStep}
-use Rattle.tide_core.specs.machine.May.{MayCall, called}
-use Rattle.tide_core.specs.machine.Moment.{Moment}
-use Rattle.tide_core.specs.machine.Views.{with_entry}
-use Rattle.tide_core.specs.machine.World.{World}
-use Rattle.tide_core.specs.declared.machine.view.Duty.TheVariants.{Nothing}
-use Rattle.tide_core.specs.declared.machine.view.View.{View}
-use Rattle.tide_core.specs.machine.kinds.ClaimCell.{HasNoRoom, MayLoadClaim, MayTakeClaim}
-use Rattle.tide_core.specs.machine.kinds.ReleaseCell.{MayRelease}
+use Rattle.tide_heap.proofs.tide_call.plan_laws.ClaimPlans.{claims_are_told}
+use Rattle.tide_heap.specs.tide_call.Callers.{Caller}
+use Rattle.tide_heap.specs.tide_call.Laws.{IsClaimTold}
+use Rattle.tide_heap.specs.tide_call.PlanWords.{PlanWords}
+use Rattle.tide_heap.specs.tide_call.Plans.{IsPlan, is_told_by_registers}
+use Rattle.tide_heap.specs.tide_call.declared.plan.Plan.TheVariants as plan
+use Rattle.tide_heap.specs.tide_layout.declared.region.Region.TheVariants as region
+use Rattle.tide_heap.specs.tide_core.machine.Entries.{call_of, reply_of_call}
+use Rattle.tide_heap.specs.tide_core.machine.Kind.{LoadClaim, TakeClaim, Release as ReleaseStep}
+use Rattle.tide_heap.specs.tide_core.machine.May.{MayCall, called}
+use Rattle.tide_heap.specs.tide_core.machine.Moment.{Moment}
+use Rattle.tide_heap.specs.tide_core.machine.Views.{with_entry}
+use Rattle.tide_heap.specs.tide_core.machine.World.{World}
+use Rattle.tide_heap.specs.tide_core.declared.machine.view.Duty.TheVariants.{Nothing}
+use Rattle.tide_heap.specs.tide_core.declared.machine.view.View.{View}
+use Rattle.tide_heap.specs.tide_core.machine.kinds.ClaimCell.{HasNoRoom, MayLoadClaim, MayTakeClaim}
+use Rattle.tide_heap.specs.tide_core.machine.kinds.ReleaseCell.{MayRelease}
 use Rattle.tide_model.proofs.ClaimLaws.{ClaimsAreOwn-lawful}
 use Rattle.tide_model.specs.History.{state_after}
 use Rattle.tide_model.specs.Layout.{Layout, cell_count}
@@ -42,11 +42,11 @@ use Rattle.tide_mutator.specs.cells.Claiming.{held_or, unheld_reply}
 use Rattle.tide_mutator.specs.owed.Made.{HasMade}
 use Rattle.tide_mutator.specs.owed.Standing.{IsPlanned, caller_of, claims_of}
 use Rattle.tide_heap.specs.steps.Follows.{Follows, FollowsSome, MayStep}
-use Rattle.tide_call.proofs.plan_laws.ClaimWords.{some_claim}
-use Rattle.tide_call.specs.Needed.{IsSomeClaim}
-use Rattle.tide_words.proofs.heap_laws.ReadingLaws.{live_within}
-use Rattle.tide_words.specs.forms.Reference.{claim_word}
-use Rattle.tide_words.specs.heap.Heap.{Heap, write}
+use Rattle.tide_heap.proofs.tide_call.plan_laws.ClaimWords.{some_claim}
+use Rattle.tide_heap.specs.tide_call.Needed.{IsSomeClaim}
+use Rattle.tide_heap.proofs.tide_words.heap_laws.ReadingLaws.{live_within}
+use Rattle.tide_heap.specs.tide_words.forms.Reference.{claim_word}
+use Rattle.tide_heap.specs.tide_words.heap.Heap.{Heap, write}
 
 -- which operation has such a plan
 record IsClaim (caller : Caller) (state : State) (op : Op) (cell : ℕ) (full : Bool) : Type 0 where

@@ -1,19 +1,19 @@
 -- StrongSet, StrongGet, WeakSet and WeakGet: the step on the handle makes the call.
 use Rattle.std.proofs.Common.{ℕ, ◌≡◌, ◌<◌, refl, sym, ◌∙◌, ap, subst, true, List, [], None, Some}
-use Rattle.tide_call.specs.Callers.{Caller}
-use Rattle.tide_call.specs.PlanWords.{PlanWords}
-use Rattle.tide_call.specs.Plans.{IsPlan, is_told_by_registers}
-use Rattle.tide_call.specs.declared.plan.Plan.TheVariants as plan
-use Rattle.tide_layout.specs.Region.{index_of_register}
-use Rattle.tide_layout.specs.declared.region.Region.TheVariants as region
-use Rattle.tide_core.specs.machine.Kind.{LoadStrong, LoadWeak, StoreStrong, StoreWeak}
-use Rattle.tide_core.specs.machine.May.{MayCall, called}
-use Rattle.tide_core.specs.machine.Owed.{filled_register, owed_register}
-use Rattle.tide_core.specs.machine.Words.{value_of}
-use Rattle.tide_core.specs.declared.machine.view.Duty.TheVariants.{Nothing}
-use Rattle.tide_core.specs.declared.machine.view.View.{View}
-use Rattle.tide_core.specs.machine.Moment.{Moment}
-use Rattle.tide_core.specs.machine.kinds.StoreRootWord.{MayLoadStrong, MayLoadWeak, MayStoreStrong, MayStoreWeak, seen_view}
+use Rattle.tide_heap.specs.tide_call.Callers.{Caller}
+use Rattle.tide_heap.specs.tide_call.PlanWords.{PlanWords}
+use Rattle.tide_heap.specs.tide_call.Plans.{IsPlan, is_told_by_registers}
+use Rattle.tide_heap.specs.tide_call.declared.plan.Plan.TheVariants as plan
+use Rattle.tide_heap.specs.tide_layout.Region.{index_of_register}
+use Rattle.tide_heap.specs.tide_layout.declared.region.Region.TheVariants as region
+use Rattle.tide_heap.specs.tide_core.machine.Kind.{LoadStrong, LoadWeak, StoreStrong, StoreWeak}
+use Rattle.tide_heap.specs.tide_core.machine.May.{MayCall, called}
+use Rattle.tide_heap.specs.tide_core.machine.Owed.{filled_register, owed_register}
+use Rattle.tide_heap.specs.tide_core.machine.Words.{value_of}
+use Rattle.tide_heap.specs.tide_core.declared.machine.view.Duty.TheVariants.{Nothing}
+use Rattle.tide_heap.specs.tide_core.declared.machine.view.View.{View}
+use Rattle.tide_heap.specs.tide_core.machine.Moment.{Moment}
+use Rattle.tide_heap.specs.tide_core.machine.kinds.StoreRootWord.{MayLoadStrong, MayLoadWeak, MayStoreStrong, MayStoreWeak, seen_view}
 use Rattle.tide_model.specs.History.{state_after}
 use Rattle.tide_model.specs.Layout.{Layout}
 use Rattle.tide_model.specs.Refused.{ShapeLists}
@@ -31,9 +31,9 @@ use Rattle.tide_mutator.specs.owed.Calling.{IsCalling}
 use Rattle.tide_mutator.specs.owed.Made.{HasMade}
 use Rattle.tide_mutator.specs.owed.Standing.{IsPlanned, caller_of}
 use Rattle.tide_heap.specs.steps.Follows.{Follows, FollowsSome, MayStep}
-use Rattle.tide_words.specs.forms.ValueWord.{val_word}
-use Rattle.tide_words.specs.heap.Heap.{Heap, write}
-use Rattle.tide_words.specs.heap.Reading.{IsValueOf}
+use Rattle.tide_heap.specs.tide_words.forms.ValueWord.{val_word}
+use Rattle.tide_heap.specs.tide_words.heap.Heap.{Heap, write}
+use Rattle.tide_heap.specs.tide_words.heap.Reading.{IsValueOf}
 
 -- which operation has such a plan
 strong_set : (caller : Caller) (heap : Heap) (state : State) (op : Op) (at : ℕ) (value : Val) →

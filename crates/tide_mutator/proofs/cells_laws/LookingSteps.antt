@@ -3,16 +3,16 @@ use Rattle.std.proofs.Common.{ℕ, ◌≡◌, ◌<◌, ◌==◌, sym, ◌∙◌,
 use Rattle.std.proofs.lemmas.Bool.{eqb-false}
 use Rattle.std.specs.Int.{bit_at}
 use Rattle.std.specs.Prelude.{Contains, None, filter}
-use Rattle.tide_layout.specs.Region.{block_count}
-use Rattle.tide_layout.specs.declared.region.Region.{Region}
-use Rattle.tide_layout.specs.declared.region.Region.TheVariants.{Free}
+use Rattle.tide_heap.specs.tide_layout.Region.{block_count}
+use Rattle.tide_heap.specs.tide_layout.declared.region.Region.{Region}
+use Rattle.tide_heap.specs.tide_layout.declared.region.Region.TheVariants.{Free}
 use Rattle.tide_mutator.proofs.cells_laws.Looking.{looked_once}
 use Rattle.tide_mutator.specs.cells.Searching.{HasLooked, HasSeen}
-use Rattle.tide_core.specs.machine.Kind.{LoadFree}
-use Rattle.tide_core.specs.machine.Moment.{Moment}
-use Rattle.tide_core.specs.declared.machine.view.Cleared.{Cleared}
-use Rattle.tide_core.specs.declared.machine.view.Found.{Found}
-use Rattle.tide_core.specs.declared.machine.view.View.{View}
+use Rattle.tide_heap.specs.tide_core.machine.Kind.{LoadFree}
+use Rattle.tide_heap.specs.tide_core.machine.Moment.{Moment}
+use Rattle.tide_heap.specs.tide_core.declared.machine.view.Cleared.{Cleared}
+use Rattle.tide_heap.specs.tide_core.declared.machine.view.Found.{Found}
+use Rattle.tide_heap.specs.tide_core.declared.machine.view.View.{View}
 use Rattle.tide_model.specs.Caller.{IsOwn}
 use Rattle.tide_model.specs.History.{is_call_of}
 use Rattle.tide_model.specs.Layout.{Layout}

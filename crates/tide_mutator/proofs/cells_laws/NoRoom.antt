@@ -2,15 +2,15 @@
 use Rattle.std.proofs.Common.{ℕ, zero, suc, ◌≡◌, ◌+◌, ◌≤◌, ◌<◌, ◌⊎◌, ◌∙◌, refl, sym, ap, subst, arith, Bool, true, false, List, inl, inr, length, take, None}
 use Rattle.std.proofs.lemmas.Bool.{cases_Bool, cases_lt}
 use Rattle.std.specs.Int.{bit_at}
-use Rattle.tide_layout.specs.declared.region.Region.TheVariants as region
+use Rattle.tide_heap.specs.tide_layout.declared.region.Region.TheVariants as region
 use Rattle.tide_mutator.proofs.cells_laws.FreeInParts.{IsCleanBlock, IsHeldAt, clean_between, full_of_held, held_between, held_once_clean}
 use Rattle.tide_mutator.specs.cells.Searching.{ClassIsSearched, IsLost, IsSearched, IsSearchedTwice}
-use Rattle.tide_core.proofs.machine_laws.steps.MarkingParts.{part_is_swept}
-use Rattle.tide_core.proofs.machine_laws.steps.Moments.{marks_in, moment_of}
-use Rattle.tide_core.specs.machine.Moment.{Moment}
-use Rattle.tide_core.specs.machine.RunningWave.{RunningWave}
-use Rattle.tide_core.specs.machine.World.{World}
-use Rattle.tide_core.specs.declared.machine.view.View.{View}
+use Rattle.tide_heap.proofs.tide_core.machine_laws.steps.MarkingParts.{part_is_swept}
+use Rattle.tide_heap.proofs.tide_core.machine_laws.steps.Moments.{marks_in, moment_of}
+use Rattle.tide_heap.specs.tide_core.machine.Moment.{Moment}
+use Rattle.tide_heap.specs.tide_core.machine.RunningWave.{RunningWave}
+use Rattle.tide_heap.specs.tide_core.machine.World.{World}
+use Rattle.tide_heap.specs.tide_core.declared.machine.view.View.{View}
 use Rattle.tide_model.specs.Freeze.{marks_after}
 use Rattle.tide_model.specs.History.{is_open, moment_after_last, state_at}
 use Rattle.tide_model.specs.Layout.{IsBlockOf, Layout}

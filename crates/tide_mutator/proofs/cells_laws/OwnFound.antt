@@ -1,14 +1,14 @@
 -- A word that a mutator alone stores is as it finds it, where it owes nothing.
 use Rattle.std.proofs.Common.{ℕ, ◌≡◌, refl, subst, arith, true, List, []}
 use Rattle.std.specs.Prelude.{Contains}
-use Rattle.tide_layout.proofs.SlotPlaces.{index_of_element-alone, index_of_slot-alone}
-use Rattle.tide_layout.specs.declared.region.Region.{Region}
-use Rattle.tide_core.proofs.machine_laws.steps.Owning.{own_alone}
-use Rattle.tide_core.specs.machine.Moment.{Moment}
-use Rattle.tide_core.specs.machine.DeadWords.{IsOfDead}
-use Rattle.tide_core.specs.machine.Owed.{IsOwnWord, owed_word, own_register, own_structure, own_array, own_pair, own_element}
-use Rattle.tide_core.specs.declared.machine.view.Owed.{Owed}
-use Rattle.tide_core.specs.declared.machine.view.View.{View}
+use Rattle.tide_heap.proofs.tide_layout.SlotPlaces.{index_of_element-alone, index_of_slot-alone}
+use Rattle.tide_heap.specs.tide_layout.declared.region.Region.{Region}
+use Rattle.tide_heap.proofs.tide_core.machine_laws.steps.Owning.{own_alone}
+use Rattle.tide_heap.specs.tide_core.machine.Moment.{Moment}
+use Rattle.tide_heap.specs.tide_core.machine.DeadWords.{IsOfDead}
+use Rattle.tide_heap.specs.tide_core.machine.Owed.{IsOwnWord, owed_word, own_register, own_structure, own_array, own_pair, own_element}
+use Rattle.tide_heap.specs.tide_core.declared.machine.view.Owed.{Owed}
+use Rattle.tide_heap.specs.tide_core.declared.machine.view.View.{View}
 use Rattle.tide_model.proofs.ClaimLaws.{ClaimsAreOwn-lawful}
 use Rattle.tide_model.specs.History.{state_after}
 use Rattle.tide_model.specs.Layout.{Layout}
@@ -16,7 +16,7 @@ use Rattle.tide_model.specs.References.{RefsAreLive}
 use Rattle.tide_model.specs.Refused.{ShapeLists}
 use Rattle.tide_model.specs.State.{State, dead}
 use Rattle.tide_model.specs.declared.entry.Event.{Event}
-use Rattle.tide_words.proofs.heap_laws.Frames.{is_read}
+use Rattle.tide_heap.proofs.tide_words.heap_laws.Frames.{is_read}
 
 -- a view that owes nothing owes no word
 pub owes_nothing : (v : View) → v.owed ≡ [] → (word : Owed) → Contains v.owed word → ⊥

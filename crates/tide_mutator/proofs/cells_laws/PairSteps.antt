@@ -1,25 +1,25 @@
 -- PairSet, PairDel and PairGet: the step on the pair's word makes the call.
 use Rattle.std.proofs.Common.{ℕ, ◌≡◌, refl, sym, ◌∙◌, ap, subst, arith, Bool, true, false, List, [], ◌∷◌, None, Option, Some, inl, inr}
 use Rattle.std.specs.Prelude.{◌&&◌, nat_le, not}
-use Rattle.tide_call.specs.CallWords.{HasPairAt, IsPlaceFor}
-use Rattle.tide_call.specs.Callers.{Caller}
-use Rattle.tide_call.specs.PlanWords.{PlanWords}
-use Rattle.tide_call.specs.Plans.{IsPlan}
-use Rattle.tide_call.specs.declared.plan.Plan.TheVariants as plan
-use Rattle.tide_layout.specs.Region.{index_of_register}
-use Rattle.tide_layout.specs.Slots.{HasSlot, index_of_slot}
-use Rattle.tide_layout.specs.declared.region.Region.TheVariants as region
-use Rattle.tide_core.proofs.machine_laws.WordLaws.{value_of_pair_word}
-use Rattle.tide_core.specs.machine.Kind.{LoadPair, StorePair}
-use Rattle.tide_core.specs.machine.May.{MayCall, called}
-use Rattle.tide_core.specs.machine.Moment.{Moment}
-use Rattle.tide_core.specs.machine.Owed.{filled_register, own_pair, owed_register}
-use Rattle.tide_core.specs.machine.RunningWave.{RunningWave}
-use Rattle.tide_core.specs.machine.Words.{value_of_pair}
-use Rattle.tide_core.specs.machine.World.{World}
-use Rattle.tide_core.specs.declared.machine.view.Duty.TheVariants.{Nothing}
-use Rattle.tide_core.specs.declared.machine.view.View.{View}
-use Rattle.tide_core.specs.machine.kinds.StorePlainWord.{IsOwnPair, MayLoadPair, MayStorePair, paired_view}
+use Rattle.tide_heap.specs.tide_call.CallWords.{HasPairAt, IsPlaceFor}
+use Rattle.tide_heap.specs.tide_call.Callers.{Caller}
+use Rattle.tide_heap.specs.tide_call.PlanWords.{PlanWords}
+use Rattle.tide_heap.specs.tide_call.Plans.{IsPlan}
+use Rattle.tide_heap.specs.tide_call.declared.plan.Plan.TheVariants as plan
+use Rattle.tide_heap.specs.tide_layout.Region.{index_of_register}
+use Rattle.tide_heap.specs.tide_layout.Slots.{HasSlot, index_of_slot}
+use Rattle.tide_heap.specs.tide_layout.declared.region.Region.TheVariants as region
+use Rattle.tide_heap.proofs.tide_core.machine_laws.WordLaws.{value_of_pair_word}
+use Rattle.tide_heap.specs.tide_core.machine.Kind.{LoadPair, StorePair}
+use Rattle.tide_heap.specs.tide_core.machine.May.{MayCall, called}
+use Rattle.tide_heap.specs.tide_core.machine.Moment.{Moment}
+use Rattle.tide_heap.specs.tide_core.machine.Owed.{filled_register, own_pair, owed_register}
+use Rattle.tide_heap.specs.tide_core.machine.RunningWave.{RunningWave}
+use Rattle.tide_heap.specs.tide_core.machine.Words.{value_of_pair}
+use Rattle.tide_heap.specs.tide_core.machine.World.{World}
+use Rattle.tide_heap.specs.tide_core.declared.machine.view.Duty.TheVariants.{Nothing}
+use Rattle.tide_heap.specs.tide_core.declared.machine.view.View.{View}
+use Rattle.tide_heap.specs.tide_core.machine.kinds.StorePlainWord.{IsOwnPair, MayLoadPair, MayStorePair, paired_view}
 use Rattle.tide_model.proofs.NumberLaws.{contains_from_among}
 use Rattle.tide_model.specs.History.{state_after}
 use Rattle.tide_model.specs.Layout.{Layout}
@@ -40,10 +40,10 @@ use Rattle.tide_mutator.specs.owed.Calling.{IsCalling}
 use Rattle.tide_mutator.specs.owed.Made.{HasMade}
 use Rattle.tide_mutator.specs.owed.Standing.{IsPlanned, caller_of}
 use Rattle.tide_heap.specs.steps.Follows.{Follows, FollowsSome, MayStep}
-use Rattle.tide_words.specs.forms.PairWord.{pair_word}
-use Rattle.tide_words.specs.forms.ValueWord.{val_word}
-use Rattle.tide_words.specs.heap.Heap.{Heap, write}
-use Rattle.tide_words.specs.heap.Reading.{IsPairOf, slot_word}
+use Rattle.tide_heap.specs.tide_words.forms.PairWord.{pair_word}
+use Rattle.tide_heap.specs.tide_words.forms.ValueWord.{val_word}
+use Rattle.tide_heap.specs.tide_words.heap.Heap.{Heap, write}
+use Rattle.tide_heap.specs.tide_words.heap.Reading.{IsPairOf, slot_word}
 
 -- the value in a pair's word
 pair_value : (key : ℕ) (value : Val) (word : ℕ) → IsPairOf key value word → value_of_pair word ≡ value

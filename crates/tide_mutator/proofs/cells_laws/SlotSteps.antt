@@ -1,23 +1,23 @@
 -- Get and Put: the step on the slot makes the call.
 use Rattle.std.proofs.Common.{ℕ, ◌≡◌, ◌<◌, refl, sym, ◌∙◌, ap, subst, Bool, true, List, [], None, Some}
-use Rattle.tide_call.proofs.reading_laws.CallReading.{slot_allowed}
-use Rattle.tide_call.specs.Callers.{Caller}
-use Rattle.tide_call.specs.PlanWords.{PlanWords}
-use Rattle.tide_call.specs.Plans.{IsPlan, is_told_by_registers}
-use Rattle.tide_call.specs.declared.plan.Plan.TheVariants as plan
-use Rattle.tide_layout.specs.Region.{index_of_register}
-use Rattle.tide_layout.specs.Slots.{index_of_slot}
-use Rattle.tide_layout.specs.declared.region.Region.TheVariants as region
-use Rattle.tide_core.specs.machine.Kind.{LoadLink, StoreLink}
-use Rattle.tide_core.specs.machine.May.{MayCall, barrier_for}
-use Rattle.tide_core.specs.machine.Moment.{Moment}
-use Rattle.tide_core.specs.machine.Owed.{filled_register, owed_register}
-use Rattle.tide_core.specs.machine.Words.{value_of}
-use Rattle.tide_core.specs.declared.machine.view.Duty.TheVariants.{Nothing}
-use Rattle.tide_core.specs.declared.machine.view.View.{View}
-use Rattle.tide_core.specs.machine.kinds.LoadLink.{MayLoadLink}
-use Rattle.tide_core.specs.machine.kinds.StoreLink.{MayStoreLink, linked_view}
-use Rattle.tide_core.specs.machine.kinds.StoreRootWord.{seen_view}
+use Rattle.tide_heap.proofs.tide_call.reading_laws.CallReading.{slot_allowed}
+use Rattle.tide_heap.specs.tide_call.Callers.{Caller}
+use Rattle.tide_heap.specs.tide_call.PlanWords.{PlanWords}
+use Rattle.tide_heap.specs.tide_call.Plans.{IsPlan, is_told_by_registers}
+use Rattle.tide_heap.specs.tide_call.declared.plan.Plan.TheVariants as plan
+use Rattle.tide_heap.specs.tide_layout.Region.{index_of_register}
+use Rattle.tide_heap.specs.tide_layout.Slots.{index_of_slot}
+use Rattle.tide_heap.specs.tide_layout.declared.region.Region.TheVariants as region
+use Rattle.tide_heap.specs.tide_core.machine.Kind.{LoadLink, StoreLink}
+use Rattle.tide_heap.specs.tide_core.machine.May.{MayCall, barrier_for}
+use Rattle.tide_heap.specs.tide_core.machine.Moment.{Moment}
+use Rattle.tide_heap.specs.tide_core.machine.Owed.{filled_register, owed_register}
+use Rattle.tide_heap.specs.tide_core.machine.Words.{value_of}
+use Rattle.tide_heap.specs.tide_core.declared.machine.view.Duty.TheVariants.{Nothing}
+use Rattle.tide_heap.specs.tide_core.declared.machine.view.View.{View}
+use Rattle.tide_heap.specs.tide_core.machine.kinds.LoadLink.{MayLoadLink}
+use Rattle.tide_heap.specs.tide_core.machine.kinds.StoreLink.{MayStoreLink, linked_view}
+use Rattle.tide_heap.specs.tide_core.machine.kinds.StoreRootWord.{seen_view}
 use Rattle.tide_model.specs.History.{state_after}
 use Rattle.tide_model.specs.Layout.{Layout, class_of, slots_of}
 use Rattle.tide_model.specs.Refused.{ShapeLists}
@@ -36,10 +36,10 @@ use Rattle.tide_mutator.specs.owed.Calling.{IsCalling}
 use Rattle.tide_mutator.specs.owed.Made.{HasMade}
 use Rattle.tide_mutator.specs.owed.Standing.{IsPlanned, StandsAt, caller_of}
 use Rattle.tide_heap.specs.steps.Follows.{Follows, FollowsSome, MayStep}
-use Rattle.tide_words.proofs.heap_laws.ReadingLaws.{live_within}
-use Rattle.tide_words.specs.forms.ValueWord.{val_word}
-use Rattle.tide_words.specs.heap.Heap.{Heap, write}
-use Rattle.tide_words.specs.heap.Reading.{IsValueOf, slot_word}
+use Rattle.tide_heap.proofs.tide_words.heap_laws.ReadingLaws.{live_within}
+use Rattle.tide_heap.specs.tide_words.forms.ValueWord.{val_word}
+use Rattle.tide_heap.specs.tide_words.heap.Heap.{Heap, write}
+use Rattle.tide_heap.specs.tide_words.heap.Reading.{IsValueOf, slot_word}
 
 -- which operation has such a plan, and that its cell has the slot
 record IsGet (caller : Caller) (state : State) (op : Op) (dst cell slot : ℕ) : Type 0 where

@@ -2,23 +2,23 @@
 use Rattle.std.proofs.Common.{ℕ, ◌≡◌, ◌<◌, refl, subst, sym, ◌∙◌, ap, arith, true, false, List}
 use Rattle.std.proofs.lemmas.Bool.{eqb-true}
 use Rattle.std.specs.Prelude.{◌==◌}
-use Rattle.tide_layout.proofs.SlotPlaces.{index_of_slot-alone}
-use Rattle.tide_layout.specs.Region.{tag}
-use Rattle.tide_layout.specs.Slots.{index_of_slot}
-use Rattle.tide_layout.specs.declared.region.Region.{Region}
-use Rattle.tide_layout.specs.declared.region.Region.TheVariants as region
-use Rattle.tide_core.specs.machine.DeadWords.{IsOfDead}
-use Rattle.tide_core.specs.machine.Moment.{Moment}
-use Rattle.tide_core.specs.machine.Owed.{IsOwnWord, own_register, own_structure, own_array, own_pair, own_element}
-use Rattle.tide_core.specs.declared.machine.view.View.{View}
+use Rattle.tide_heap.proofs.tide_layout.SlotPlaces.{index_of_slot-alone}
+use Rattle.tide_heap.specs.tide_layout.Region.{tag}
+use Rattle.tide_heap.specs.tide_layout.Slots.{index_of_slot}
+use Rattle.tide_heap.specs.tide_layout.declared.region.Region.{Region}
+use Rattle.tide_heap.specs.tide_layout.declared.region.Region.TheVariants as region
+use Rattle.tide_heap.specs.tide_core.machine.DeadWords.{IsOfDead}
+use Rattle.tide_heap.specs.tide_core.machine.Moment.{Moment}
+use Rattle.tide_heap.specs.tide_core.machine.Owed.{IsOwnWord, own_register, own_structure, own_array, own_pair, own_element}
+use Rattle.tide_heap.specs.tide_core.declared.machine.view.View.{View}
 use Rattle.tide_model.specs.History.{state_after}
 use Rattle.tide_model.specs.Layout.{Layout, cell_count, class_of, slots_of}
 use Rattle.tide_model.specs.References.{IsLive}
 use Rattle.tide_model.specs.Refused.{ShapeLists}
 use Rattle.tide_model.specs.State.{State, dead}
 use Rattle.tide_model.specs.declared.entry.Event.{Event}
-use Rattle.tide_words.proofs.heap_laws.Frames.{is_read}
-use Rattle.tide_words.proofs.heap_laws.ReadingLaws.{HasSlot-class}
+use Rattle.tide_heap.proofs.tide_words.heap_laws.Frames.{is_read}
+use Rattle.tide_heap.proofs.tide_words.heap_laws.ReadingLaws.{HasSlot-class}
 
 -- the region has none
 abbrev pub IsShared : Region → Type 0

@@ -2,8 +2,8 @@
 use Rattle.std.proofs.Common.{ℕ, ◌≡◌, refl, sym, ◌∙◌, ap, subst, List, [], ◌∷◌, inl, inr}
 use Rattle.std.proofs.lemmas.Bool.{cases_eq}
 use Rattle.std.specs.Prelude.{filter}
-use Rattle.tide_core.proofs.machine_laws.steps.OwnState.{own_after, own_call, other_call, own_state}
-use Rattle.tide_core.specs.machine.Own.{Own, own_of}
+use Rattle.tide_heap.proofs.tide_core.machine_laws.steps.OwnState.{own_after, own_call, other_call, own_state}
+use Rattle.tide_heap.specs.tide_core.machine.Own.{Own, own_of}
 use Rattle.tide_model.specs.Applied.{after_call}
 use Rattle.tide_model.specs.History.{after_entry, after_event, is_call_of, state_after, state_from}
 use Rattle.tide_model.specs.Layout.{Layout}

@@ -2,14 +2,14 @@
 use Rattle.std.proofs.Common.{ℕ, ◌≡◌, ◌<◌, refl, sym, ◌∙◌, ap, subst, true, false, Bool, List, [], ◌∷◌, length, arith, None, Some}
 use Rattle.std.proofs.lemmas.Bool.{eq-eqb}
 use Rattle.std.specs.Prelude.{Contains, if◌then◌else◌, not, ◌==◌, ◌%◌, ◌^◌}
-use Rattle.tide_call.specs.declared.plan.Plan.{Plan}
-use Rattle.tide_layout.specs.Region.{index_of_register}
-use Rattle.tide_layout.specs.declared.region.Region.TheVariants.{Registers}
-use Rattle.tide_core.specs.machine.Kind.{StoreCall, StoreRegister}
-use Rattle.tide_core.specs.machine.Owed.{owed_register, owed_word, without_word}
-use Rattle.tide_core.specs.declared.machine.view.Duty.TheVariants.{Nothing}
-use Rattle.tide_core.specs.declared.machine.view.Owed.{Owed}
-use Rattle.tide_core.specs.declared.machine.view.View.{View}
+use Rattle.tide_heap.specs.tide_call.declared.plan.Plan.{Plan}
+use Rattle.tide_heap.specs.tide_layout.Region.{index_of_register}
+use Rattle.tide_heap.specs.tide_layout.declared.region.Region.TheVariants.{Registers}
+use Rattle.tide_heap.specs.tide_core.machine.Kind.{StoreCall, StoreRegister}
+use Rattle.tide_heap.specs.tide_core.machine.Owed.{owed_register, owed_word, without_word}
+use Rattle.tide_heap.specs.tide_core.declared.machine.view.Duty.TheVariants.{Nothing}
+use Rattle.tide_heap.specs.tide_core.declared.machine.view.Owed.{Owed}
+use Rattle.tide_heap.specs.tide_core.declared.machine.view.View.{View}
 use Rattle.tide_model.specs.Layout.{Layout}
 use Rattle.tide_model.specs.Refused.{ShapeLists}
 use Rattle.tide_model.specs.declared.op.Op.{Op}
@@ -20,7 +20,7 @@ use Rattle.tide_mutator.specs.owed.Calling.{IsCalling, Kept}
 use Rattle.tide_mutator.specs.owed.Made.{HasDone, HasMade, IsMade, Shown, shown}
 use Rattle.tide_mutator.specs.owed.Paying.{HasPaid, OwesRegister}
 use Rattle.tide_heap.specs.steps.Follows.{FollowsSome, MayStep}
-use Rattle.tide_words.specs.forms.ValueWord.{val_word}
+use Rattle.tide_heap.specs.tide_words.forms.ValueWord.{val_word}
 
 -- a word that was owed alone is owed no more
 pub owes_none : (index word : ℕ) → without_word Registers index (owed_word Registers index word ∷ []) ≡ []

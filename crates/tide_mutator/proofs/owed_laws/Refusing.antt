@@ -2,18 +2,18 @@
 use Rattle.std.proofs.Common.{ℕ, ◌≡◌, ◌+◌, refl, sym, ◌∙◌, ap, subst, true, [], ◌∷◌, length, Option, None, Some}
 use Rattle.std.proofs.Common.{length-append}
 use Rattle.std.specs.Prelude.{◌%◌, ◌^◌}
-use Rattle.tide_call.specs.Callers.{Caller}
-use Rattle.tide_call.specs.PlanWords.{PlanWords}
-use Rattle.tide_call.specs.Plans.{IsPlan, is_told_by_registers}
-use Rattle.tide_call.specs.declared.plan.Plan.{Plan}
-use Rattle.tide_call.specs.declared.plan.Plan.TheVariants as plan
-use Rattle.tide_layout.specs.declared.region.Region.TheVariants.{Call as CallWord}
-use Rattle.tide_core.specs.machine.Entries.{call_of, class_taken, refused_or_full, reply_of_call}
-use Rattle.tide_core.specs.machine.Kind.{StoreCall}
-use Rattle.tide_core.specs.machine.Views.{with_entry}
-use Rattle.tide_core.specs.declared.machine.view.View.{View}
-use Rattle.tide_core.specs.machine.kinds.RegisterCall.{told_view}
-use Rattle.tide_core.specs.machine.May.{MayCall}
+use Rattle.tide_heap.specs.tide_call.Callers.{Caller}
+use Rattle.tide_heap.specs.tide_call.PlanWords.{PlanWords}
+use Rattle.tide_heap.specs.tide_call.Plans.{IsPlan, is_told_by_registers}
+use Rattle.tide_heap.specs.tide_call.declared.plan.Plan.{Plan}
+use Rattle.tide_heap.specs.tide_call.declared.plan.Plan.TheVariants as plan
+use Rattle.tide_heap.specs.tide_layout.declared.region.Region.TheVariants.{Call as CallWord}
+use Rattle.tide_heap.specs.tide_core.machine.Entries.{call_of, class_taken, refused_or_full, reply_of_call}
+use Rattle.tide_heap.specs.tide_core.machine.Kind.{StoreCall}
+use Rattle.tide_heap.specs.tide_core.machine.Views.{with_entry}
+use Rattle.tide_heap.specs.tide_core.declared.machine.view.View.{View}
+use Rattle.tide_heap.specs.tide_core.machine.kinds.RegisterCall.{told_view}
+use Rattle.tide_heap.specs.tide_core.machine.May.{MayCall}
 use Rattle.tide_model.specs.History.{state_after}
 use Rattle.tide_model.specs.Layout.{Layout}
 use Rattle.tide_model.specs.Refused.{ShapeLists, refusal_of}
@@ -30,8 +30,8 @@ use Rattle.tide_mutator.specs.owed.Calling.{IsCalling}
 use Rattle.tide_mutator.specs.owed.Made.{HasDone}
 use Rattle.tide_mutator.specs.owed.Standing.{IsPlanned, caller_of}
 use Rattle.tide_heap.specs.steps.Follows.{FollowsSome, MayStep}
-use Rattle.tide_call.proofs.plan_laws.NeverForRoom.{no_plan_for_room}
-use Rattle.tide_words.specs.heap.Heap.{Heap}
+use Rattle.tide_heap.proofs.tide_call.plan_laws.NeverForRoom.{no_plan_for_room}
+use Rattle.tide_heap.specs.tide_words.heap.Heap.{Heap}
 
 -- a refused operation is answered with its refusal at the store of the call word
 pub refused_reply : (layout : Layout) (shapes : ShapeLists) (state : State) (who : ℕ) (op : Op) (refusal : Refusal) →

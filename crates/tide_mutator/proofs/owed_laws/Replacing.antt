@@ -4,24 +4,24 @@ use Rattle.std.proofs.Common.{ℕ, zero, suc, ◌≡◌, ◌+◌, ◌<◌, ◌�
 use Rattle.std.proofs.lemmas.Bool.{eq-eqb, ne_eqb}
 use Rattle.std.specs.Prelude.{Contains, if◌then◌else◌, not, slice_index}
 use Rattle.tide_mutator.specs.owed.Made.{Shown, shown}
-use Rattle.tide_call.specs.ShapeWord.{whole_word}
+use Rattle.tide_heap.specs.tide_call.ShapeWord.{whole_word}
 use Rattle.tide_mutator.specs.owed.Replacing.{HasReplaced, IsGrowing, OwesGrowth, grown_out}
 use Rattle.tide_mutator.specs.declared.owed.growth.Growth.{Growth}
-use Rattle.tide_layout.proofs.SlotPlaces.{index_of_element-alone}
-use Rattle.tide_layout.specs.Region.{tag}
-use Rattle.tide_layout.specs.Slots.{HasElement, index_of_element}
-use Rattle.tide_layout.specs.declared.region.Region.TheVariants as region
-use Rattle.tide_core.specs.machine.Duties.{nuked_growth, stored_growth}
-use Rattle.tide_core.specs.machine.Kind.{Nuke, StoreArray, StoreElement, StoreStructure}
-use Rattle.tide_core.specs.machine.May.{RunsAsMutator}
-use Rattle.tide_core.specs.machine.Owed.{Owes, owed_elements, owed_word, without_word}
-use Rattle.tide_core.specs.machine.RunningWave.{RunningWave}
-use Rattle.tide_core.specs.machine.World.{World}
-use Rattle.tide_core.specs.declared.machine.view.Growth.{Growth as Stage}
-use Rattle.tide_core.specs.declared.machine.view.Growth.TheVariants as growing
-use Rattle.tide_core.specs.declared.machine.view.Owed.{Owed}
-use Rattle.tide_core.specs.declared.machine.view.View.{View}
-use Rattle.tide_core.specs.machine.points.Growths.{GrowthKnows}
+use Rattle.tide_heap.proofs.tide_layout.SlotPlaces.{index_of_element-alone}
+use Rattle.tide_heap.specs.tide_layout.Region.{tag}
+use Rattle.tide_heap.specs.tide_layout.Slots.{HasElement, index_of_element}
+use Rattle.tide_heap.specs.tide_layout.declared.region.Region.TheVariants as region
+use Rattle.tide_heap.specs.tide_core.machine.Duties.{nuked_growth, stored_growth}
+use Rattle.tide_heap.specs.tide_core.machine.Kind.{Nuke, StoreArray, StoreElement, StoreStructure}
+use Rattle.tide_heap.specs.tide_core.machine.May.{RunsAsMutator}
+use Rattle.tide_heap.specs.tide_core.machine.Owed.{Owes, owed_elements, owed_word, without_word}
+use Rattle.tide_heap.specs.tide_core.machine.RunningWave.{RunningWave}
+use Rattle.tide_heap.specs.tide_core.machine.World.{World}
+use Rattle.tide_heap.specs.tide_core.declared.machine.view.Growth.{Growth as Stage}
+use Rattle.tide_heap.specs.tide_core.declared.machine.view.Growth.TheVariants as growing
+use Rattle.tide_heap.specs.tide_core.declared.machine.view.Owed.{Owed}
+use Rattle.tide_heap.specs.tide_core.declared.machine.view.View.{View}
+use Rattle.tide_heap.specs.tide_core.machine.points.Growths.{GrowthKnows}
 use Rattle.tide_model.specs.History.{state_after}
 use Rattle.tide_model.specs.Layout.{Layout}
 use Rattle.tide_model.specs.References.{IsLive}
@@ -29,9 +29,9 @@ use Rattle.tide_model.specs.Refused.{ShapeLists}
 use Rattle.tide_model.specs.State.{is_free}
 use Rattle.tide_model.specs.declared.val.Val.{Val}
 use Rattle.tide_heap.specs.steps.Follows.{FollowsSome, MayStep}
-use Rattle.tide_words.proofs.heap_laws.ReadingLaws.{live_within}
-use Rattle.tide_words.specs.forms.Reference.{array_word}
-use Rattle.tide_words.specs.forms.ValueWord.{val_word}
+use Rattle.tide_heap.proofs.tide_words.heap_laws.ReadingLaws.{live_within}
+use Rattle.tide_heap.specs.tide_words.forms.Reference.{array_word}
+use Rattle.tide_heap.specs.tide_words.forms.ValueWord.{val_word}
 
 -- the elements before a place that is left out
 without_earlier : (layout : Layout) (properties : ℕ → Val) (array index n : ℕ) →

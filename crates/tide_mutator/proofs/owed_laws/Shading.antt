@@ -2,16 +2,16 @@
 use Rattle.std.proofs.Common.{ℕ, ◌≡◌, ◌<◌, sym, ◌∙◌, ap, subst, Bool, true, false, []}
 use Rattle.std.proofs.lemmas.Bool.{eq-eqb, ne_eqb}
 use Rattle.std.specs.Prelude.{if◌then◌else◌}
-use Rattle.tide_call.specs.declared.plan.Plan.{Plan}
-use Rattle.tide_core.specs.machine.Duties.{GrowsOn}
-use Rattle.tide_core.specs.machine.Kind.{LoadColour, PushBit, Regrey, StoreBorn}
-use Rattle.tide_core.specs.machine.May.{RunsAsMutator, barrier_for}
-use Rattle.tide_core.specs.machine.Words.{is_cell_word}
-use Rattle.tide_core.specs.declared.machine.view.Duty.{Duty}
-use Rattle.tide_core.specs.declared.machine.view.Duty.TheVariants as duty
-use Rattle.tide_core.specs.declared.machine.view.Growth.{Growth}
-use Rattle.tide_core.specs.declared.machine.view.View.{View}
-use Rattle.tide_core.specs.machine.World.{World}
+use Rattle.tide_heap.specs.tide_call.declared.plan.Plan.{Plan}
+use Rattle.tide_heap.specs.tide_core.machine.Duties.{GrowsOn}
+use Rattle.tide_heap.specs.tide_core.machine.Kind.{LoadColour, PushBit, Regrey, StoreBorn}
+use Rattle.tide_heap.specs.tide_core.machine.May.{RunsAsMutator, barrier_for}
+use Rattle.tide_heap.specs.tide_core.machine.Words.{is_cell_word}
+use Rattle.tide_heap.specs.tide_core.declared.machine.view.Duty.{Duty}
+use Rattle.tide_heap.specs.tide_core.declared.machine.view.Duty.TheVariants as duty
+use Rattle.tide_heap.specs.tide_core.declared.machine.view.Growth.{Growth}
+use Rattle.tide_heap.specs.tide_core.declared.machine.view.View.{View}
+use Rattle.tide_heap.specs.tide_core.machine.World.{World}
 use Rattle.tide_model.specs.Layout.{Layout, cell_count}
 use Rattle.tide_model.specs.Refused.{ShapeLists}
 use Rattle.tide_model.specs.declared.op.Op.{Op}
@@ -21,8 +21,8 @@ use Rattle.tide_mutator.specs.owed.Calling.{IsCalling, Kept}
 use Rattle.tide_mutator.specs.owed.Made.{HasMade, IsMade, Shown, shown}
 use Rattle.tide_mutator.specs.owed.Shading.{Owing, HasShaded}
 use Rattle.tide_heap.specs.steps.Follows.{Follows, MayStep}
-use Rattle.tide_words.specs.declared.forms.colours.Colour.TheVariants.{Black, White}
-use Rattle.tide_words.specs.forms.ColourWord.{colour_word, is_black_in}
+use Rattle.tide_heap.specs.tide_words.declared.forms.colours.Colour.TheVariants.{Black, White}
+use Rattle.tide_heap.specs.tide_words.forms.ColourWord.{colour_word, is_black_in}
 
 module _ (layout : Layout) (shapes : ShapeLists) (v : View) (cell : ℕ) where
   runs_there : (d : Duty) → Owing layout v d → (w : World) → w.part v.who ≡ v → RunsAsMutator layout w v.who

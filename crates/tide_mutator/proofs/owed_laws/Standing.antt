@@ -1,22 +1,22 @@
 -- Where a mutator may stand, by what a step told it, and by the wave.
 use Rattle.std.proofs.Common.{ℕ, ◌≡◌, ◌<◌, refl, sym, ◌∙◌, ap, subst, Bool, true, false, List}
 use Rattle.std.specs.Prelude.{not}
-use Rattle.tide_call.proofs.plan_laws.Callers.{mutators_may_call}
-use Rattle.tide_call.specs.Callers.{IsCallerOf}
-use Rattle.tide_layout.specs.declared.region.Region.{Region}
-use Rattle.tide_core.proofs.machine_laws.steps.Moments.{moment_of}
-use Rattle.tide_core.specs.machine.Moment.{Moment}
-use Rattle.tide_core.specs.machine.Own.{Own}
-use Rattle.tide_core.specs.machine.RunningWave.{RunningWave}
-use Rattle.tide_core.specs.machine.World.{World}
-use Rattle.tide_core.specs.declared.machine.view.View.{View}
+use Rattle.tide_heap.proofs.tide_call.plan_laws.Callers.{mutators_may_call}
+use Rattle.tide_heap.specs.tide_call.Callers.{IsCallerOf}
+use Rattle.tide_heap.specs.tide_layout.declared.region.Region.{Region}
+use Rattle.tide_heap.proofs.tide_core.machine_laws.steps.Moments.{moment_of}
+use Rattle.tide_heap.specs.tide_core.machine.Moment.{Moment}
+use Rattle.tide_heap.specs.tide_core.machine.Own.{Own}
+use Rattle.tide_heap.specs.tide_core.machine.RunningWave.{RunningWave}
+use Rattle.tide_heap.specs.tide_core.machine.World.{World}
+use Rattle.tide_heap.specs.tide_core.declared.machine.view.View.{View}
 use Rattle.tide_model.specs.History.{state_after}
 use Rattle.tide_model.specs.Layout.{Layout}
 use Rattle.tide_model.specs.Refused.{ShapeLists}
 use Rattle.tide_model.specs.declared.entry.Event.{Event}
 use Rattle.tide_mutator.proofs.owed_laws.OwnClaims.{own_at}
 use Rattle.tide_mutator.specs.owed.Standing.{StandsAt, caller_of}
-use Rattle.tide_words.specs.heap.Heap.{Heap}
+use Rattle.tide_heap.specs.tide_words.heap.Heap.{Heap}
 
 -- at the moment of a step it may stand there
 pub stands_then : (layout : Layout) (shapes : ShapeLists) (v : View) (log : List Event) (at : Region) (index read : ℕ) →

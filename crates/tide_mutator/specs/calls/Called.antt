@@ -2,8 +2,8 @@
 use Rattle.std.specs.Prelude.{◌≡◌, ◌≤◌, ◌+◌, Bool, true, false}
 use Rattle.tide_mutator.specs.owed.Calling.{kept}
 use Rattle.tide_mutator.specs.owed.Standing.{claims_of}
-use Rattle.tide_core.specs.machine.May.{IsBetweenCalls}
-use Rattle.tide_core.specs.declared.machine.view.View.{View}
+use Rattle.tide_heap.specs.tide_core.machine.May.{IsBetweenCalls}
+use Rattle.tide_heap.specs.tide_core.declared.machine.view.View.{View}
 use Rattle.tide_model.specs.Caller.{MakesCall}
 use Rattle.tide_model.specs.Layout.{Layout}
 use Rattle.tide_model.specs.Refused.{ShapeLists}

@@ -4,25 +4,25 @@ use Rattle.tide_mutator.specs.owed.Calling.{IsCalling}
 use Rattle.tide_mutator.specs.owed.Made.{IsMade, shown}
 use Rattle.tide_mutator.specs.owed.Replacing.{grown_out}
 use Rattle.tide_mutator.specs.owed.Standing.{IsPlanned}
-use Rattle.tide_call.specs.ShapeWord.{whole_word}
-use Rattle.tide_call.specs.declared.plan.Plan.{Plan}
-use Rattle.tide_call.specs.declared.plan.Plan.TheVariants as plan
+use Rattle.tide_heap.specs.tide_call.ShapeWord.{whole_word}
+use Rattle.tide_heap.specs.tide_call.declared.plan.Plan.{Plan}
+use Rattle.tide_heap.specs.tide_call.declared.plan.Plan.TheVariants as plan
 use Rattle.tide_mutator.specs.declared.owed.growth.Growth.{Growth}
-use Rattle.tide_layout.specs.Slots.{HasElement, index_of_element}
-use Rattle.tide_layout.specs.declared.region.Region.TheVariants as region
-use Rattle.tide_core.specs.machine.May.{barrier_for}
-use Rattle.tide_core.specs.machine.Owed.{Knows, owed_elements, owed_word}
-use Rattle.tide_core.specs.declared.machine.view.Growth.TheVariants as growing
-use Rattle.tide_core.specs.declared.machine.view.Owed.{Owed}
-use Rattle.tide_core.specs.declared.machine.view.View.{View}
+use Rattle.tide_heap.specs.tide_layout.Slots.{HasElement, index_of_element}
+use Rattle.tide_heap.specs.tide_layout.declared.region.Region.TheVariants as region
+use Rattle.tide_heap.specs.tide_core.machine.May.{barrier_for}
+use Rattle.tide_heap.specs.tide_core.machine.Owed.{Knows, owed_elements, owed_word}
+use Rattle.tide_heap.specs.tide_core.declared.machine.view.Growth.TheVariants as growing
+use Rattle.tide_heap.specs.tide_core.declared.machine.view.Owed.{Owed}
+use Rattle.tide_heap.specs.tide_core.declared.machine.view.View.{View}
 use Rattle.tide_model.specs.Layout.{Layout, cell_count}
 use Rattle.tide_model.specs.Refused.{ShapeLists}
 use Rattle.tide_model.specs.declared.op.Op.{Op}
 use Rattle.tide_model.specs.declared.op.Reply.TheVariants.{Done}
 use Rattle.tide_model.specs.declared.val.Val.{Val}
-use Rattle.tide_words.specs.forms.Reference.{array_word}
-use Rattle.tide_words.specs.forms.ValueWord.{val_word}
-use Rattle.tide_call.specs.Needed.{MayGrow}
+use Rattle.tide_heap.specs.tide_words.forms.Reference.{array_word}
+use Rattle.tide_heap.specs.tide_words.forms.ValueWord.{val_word}
+use Rattle.tide_heap.specs.tide_call.Needed.{MayGrow}
 
 -- the plan of the growth
 abbrev pub plan_of : Growth → Plan

@@ -1,12 +1,12 @@
 -- Where a mutator that decides may stand, by the words that it has read.
 use Rattle.std.specs.Prelude.{ℕ, ◌≡◌, true, false, List, []}
 use Rattle.tide_mutator.specs.owed.Standing.{StandsAt}
-use Rattle.tide_core.specs.declared.machine.view.Growth.TheVariants.{Nothing}
-use Rattle.tide_core.specs.declared.machine.view.View.{View}
+use Rattle.tide_heap.specs.tide_core.declared.machine.view.Growth.TheVariants.{Nothing}
+use Rattle.tide_heap.specs.tide_core.declared.machine.view.View.{View}
 use Rattle.tide_model.specs.Layout.{Layout}
 use Rattle.tide_model.specs.Refused.{ShapeLists}
 use Rattle.tide_model.specs.declared.entry.Event.{Event}
-use Rattle.tide_words.specs.heap.Heap.{Heap}
+use Rattle.tide_heap.specs.tide_words.heap.Heap.{Heap}
 
 -- the view but for the words that it knows and the one found last
 abbrev pub unread : View → View

@@ -1,7 +1,7 @@
 -- The plans that are acted on.
 use Rattle.std.specs.Prelude.{Bool, true, false}
-use Rattle.tide_call.specs.declared.plan.Plan.{Plan}
-use Rattle.tide_call.specs.declared.plan.Plan.TheVariants as plan
+use Rattle.tide_heap.specs.tide_call.declared.plan.Plan.{Plan}
+use Rattle.tide_heap.specs.tide_call.declared.plan.Plan.TheVariants as plan
 
 -- all but one that adds a property in an array that is still to be taken
 abbrev pub is_acted : Plan → Bool

@@ -1,7 +1,7 @@
 -- What the pass of a mutator says.
 use Rattle.std.specs.Prelude.{ℕ}
 use Rattle.atomic_table.specs.Seated.{TableId}
-use Rattle.tide_core.specs.declared.machine.view.View.{View}
+use Rattle.tide_heap.specs.tide_core.declared.machine.view.View.{View}
 use Rattle.tide_mutator.specs.declared.calls.mutator.Mutator.{Mutator}
 
 -- what a mutator knows: of its part, of the history that it has seen, and of what it did

@@ -1,12 +1,12 @@
 -- When a mutator makes a call, and what its view is after it.
 use Rattle.std.specs.Prelude.{ℕ, ◌≡◌, ◌<◌, ◌≤◌, ◌+◌, Bool, true, false, List, [], Option}
-use Rattle.tide_layout.specs.Limits.{IsWithinLimits}
-use Rattle.tide_core.specs.machine.May.{IsBetweenCalls}
-use Rattle.tide_core.specs.declared.machine.view.Growth.{Growth}
-use Rattle.tide_core.specs.declared.machine.view.Role.{Role}
-use Rattle.tide_core.specs.declared.machine.view.Scan.{Scan}
-use Rattle.tide_core.specs.declared.machine.view.Sweeping.{Sweeping}
-use Rattle.tide_core.specs.declared.machine.view.View.{View}
+use Rattle.tide_heap.specs.tide_layout.Limits.{IsWithinLimits}
+use Rattle.tide_heap.specs.tide_core.machine.May.{IsBetweenCalls}
+use Rattle.tide_heap.specs.tide_core.declared.machine.view.Growth.{Growth}
+use Rattle.tide_heap.specs.tide_core.declared.machine.view.Role.{Role}
+use Rattle.tide_heap.specs.tide_core.declared.machine.view.Scan.{Scan}
+use Rattle.tide_heap.specs.tide_core.declared.machine.view.Sweeping.{Sweeping}
+use Rattle.tide_heap.specs.tide_core.declared.machine.view.View.{View}
 use Rattle.tide_model.specs.Caller.{IsOwn, MakesCall}
 use Rattle.tide_model.specs.Lawful.{FitsLayout}
 use Rattle.tide_model.specs.Layout.{Layout}

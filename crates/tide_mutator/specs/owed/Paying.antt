@@ -1,8 +1,8 @@
 -- What a call owes to a register, and what is left when it has paid.
 use Rattle.std.specs.Prelude.{ℕ, ◌≡◌, ◌<◌, true, [], length, Some}
-use Rattle.tide_core.specs.machine.Owed.{owed_register}
-use Rattle.tide_core.specs.declared.machine.view.Duty.TheVariants.{Nothing}
-use Rattle.tide_core.specs.declared.machine.view.View.{View}
+use Rattle.tide_heap.specs.tide_core.machine.Owed.{owed_register}
+use Rattle.tide_heap.specs.tide_core.declared.machine.view.Duty.TheVariants.{Nothing}
+use Rattle.tide_heap.specs.tide_core.declared.machine.view.View.{View}
 use Rattle.tide_model.specs.Layout.{Layout}
 use Rattle.tide_model.specs.declared.val.Val.{Val}
 use Rattle.tide_mutator.specs.owed.Made.{shown}

@@ -2,16 +2,16 @@
 use Rattle.std.specs.Prelude.{ℕ, ◌≡◌, ◌<◌, true, List, [], ◌∷◌, slice_index, Some}
 use Rattle.tide_mutator.specs.owed.Made.{shown}
 use Rattle.tide_mutator.specs.declared.owed.growth.Growth.{Growth}
-use Rattle.tide_layout.specs.declared.region.Region.TheVariants as region
-use Rattle.tide_core.specs.machine.Owed.{owed_elements, owed_word}
-use Rattle.tide_core.specs.declared.machine.view.Growth.{Growth as Stage}
-use Rattle.tide_core.specs.declared.machine.view.Growth.TheVariants as growing
-use Rattle.tide_core.specs.declared.machine.view.Owed.{Owed}
-use Rattle.tide_core.specs.declared.machine.view.View.{View}
+use Rattle.tide_heap.specs.tide_layout.declared.region.Region.TheVariants as region
+use Rattle.tide_heap.specs.tide_core.machine.Owed.{owed_elements, owed_word}
+use Rattle.tide_heap.specs.tide_core.declared.machine.view.Growth.{Growth as Stage}
+use Rattle.tide_heap.specs.tide_core.declared.machine.view.Growth.TheVariants as growing
+use Rattle.tide_heap.specs.tide_core.declared.machine.view.Owed.{Owed}
+use Rattle.tide_heap.specs.tide_core.declared.machine.view.View.{View}
 use Rattle.tide_model.specs.Layout.{Layout}
 use Rattle.tide_model.specs.declared.val.Val.{Val}
-use Rattle.tide_words.specs.forms.Reference.{array_word}
-use Rattle.tide_words.specs.forms.ValueWord.{val_word}
+use Rattle.tide_heap.specs.tide_words.forms.Reference.{array_word}
+use Rattle.tide_heap.specs.tide_words.forms.ValueWord.{val_word}
 
 -- the view as it will be once its growth is over, if it changes nothing else
 abbrev pub grown_out : View → View

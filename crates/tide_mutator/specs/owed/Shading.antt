@@ -1,9 +1,9 @@
 -- What a mutator owes between its steps, and what its barrier leaves.
 use Rattle.std.specs.Prelude.{◌≡◌, ◌<◌, true}
-use Rattle.tide_core.specs.declared.machine.view.Duty.{Duty}
-use Rattle.tide_core.specs.declared.machine.view.Duty.TheVariants.{Nothing as NoDuty}
-use Rattle.tide_core.specs.declared.machine.view.Growth.TheVariants.{Nothing}
-use Rattle.tide_core.specs.declared.machine.view.View.{View}
+use Rattle.tide_heap.specs.tide_core.declared.machine.view.Duty.{Duty}
+use Rattle.tide_heap.specs.tide_core.declared.machine.view.Duty.TheVariants.{Nothing as NoDuty}
+use Rattle.tide_heap.specs.tide_core.declared.machine.view.Growth.TheVariants.{Nothing}
+use Rattle.tide_heap.specs.tide_core.declared.machine.view.View.{View}
 use Rattle.tide_model.specs.Layout.{Layout}
 use Rattle.tide_mutator.specs.owed.Made.{shown}
 

@@ -1,15 +1,15 @@
 -- Where a mutator may stand in the history, as far as its view tells.
 use Rattle.std.specs.Prelude.{ℕ, ◌≡◌, true, false, List, [], filter, ◌==◌}
-use Rattle.tide_call.specs.Callers.{Caller}
-use Rattle.tide_call.specs.Plans.{IsPlan}
-use Rattle.tide_call.specs.declared.plan.Plan.{Plan}
-use Rattle.tide_layout.specs.Region.{tag}
-use Rattle.tide_layout.specs.declared.region.Region.{Region}
-use Rattle.tide_layout.specs.declared.region.Region.TheVariants.{Elements}
-use Rattle.tide_core.specs.machine.Own.{own_of}
-use Rattle.tide_core.specs.machine.Owed.{Knows}
-use Rattle.tide_core.specs.declared.machine.view.Growth.TheVariants.{Nothing}
-use Rattle.tide_core.specs.declared.machine.view.View.{View}
+use Rattle.tide_heap.specs.tide_call.Callers.{Caller}
+use Rattle.tide_heap.specs.tide_call.Plans.{IsPlan}
+use Rattle.tide_heap.specs.tide_call.declared.plan.Plan.{Plan}
+use Rattle.tide_heap.specs.tide_layout.Region.{tag}
+use Rattle.tide_heap.specs.tide_layout.declared.region.Region.{Region}
+use Rattle.tide_heap.specs.tide_layout.declared.region.Region.TheVariants.{Elements}
+use Rattle.tide_heap.specs.tide_core.machine.Own.{own_of}
+use Rattle.tide_heap.specs.tide_core.machine.Owed.{Knows}
+use Rattle.tide_heap.specs.tide_core.declared.machine.view.Growth.TheVariants.{Nothing}
+use Rattle.tide_heap.specs.tide_core.declared.machine.view.View.{View}
 use Rattle.tide_model.specs.History.{state_after, is_call_of}
 use Rattle.tide_model.specs.Lawful.{IsLawful}
 use Rattle.tide_model.specs.Layout.{Layout}
@@ -18,8 +18,8 @@ use Rattle.tide_model.specs.Refused.{ShapeLists}
 use Rattle.tide_model.specs.declared.entry.Event.{Event}
 use Rattle.tide_model.specs.declared.op.Op.{Op}
 use Rattle.tide_heap.specs.steps.Plays.{no_layout}
-use Rattle.tide_words.specs.heap.Heap.{Heap}
-use Rattle.tide_words.specs.heap.Reading.{ReadsAs}
+use Rattle.tide_heap.specs.tide_words.heap.Heap.{Heap}
+use Rattle.tide_heap.specs.tide_words.heap.Reading.{ReadsAs}
 
 -- the cells that a mutator claims after these calls of its own, the oldest claim first; no layout matters for them
 abbrev pub claims_after_calls : ℕ → List Event → List ℕ

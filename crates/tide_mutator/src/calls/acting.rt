@@ -1,13 +1,13 @@
 //! Acting on a plan: its steps, in their order, and the reply. It decides nothing.
 ghost use Rattle.std.specs.Prelude.{◌≡◌, ◌+◌, ◌%◌, ◌^◌, ◌<◌, length, true, ℕ};
-ghost use Rattle.tide_call.specs.Plans.{is_told_by_registers};
-ghost use Rattle.tide_call.specs.declared.plan.Plan.TheVariants.{Take};
+ghost use Rattle.tide_heap.specs.tide_call.Plans.{is_told_by_registers};
+ghost use Rattle.tide_heap.specs.tide_call.declared.plan.Plan.TheVariants.{Take};
 ghost use Rattle.tide_mutator.specs.owed.Calling.{IsCalling};
 ghost use Rattle.tide_mutator.specs.owed.Made.{HasDone};
 ghost use Rattle.tide_mutator.specs.calls.Plans.{is_acted, is_plain, is_rest};
 ghost use Rattle.tide_mutator.specs.owed.Standing.{IsPlanned};
-ghost use Rattle.tide_call.specs.Needed.{FitsPlan};
-ghost use Rattle.tide_words.specs.heap.Heap.{Heap as TheWords};
+ghost use Rattle.tide_heap.specs.tide_call.Needed.{FitsPlan};
+ghost use Rattle.tide_heap.specs.tide_words.heap.Heap.{Heap as TheWords};
 
 use crate::calls::groups::join;
 use crate::calls::growing::grow;
@@ -20,8 +20,7 @@ use crate::cells::handles::{get_strong, get_weak, put_strong, put_weak};
 use crate::cells::hints::Hints;
 use crate::cells::pairs::{drop_pair, get_pair, put_pair};
 use crate::cells::slots::{get, put};
-use tide_call::Plan;
-use tide_heap::{Heap, HeapShapes, Pass};
+use tide_heap::{Heap, HeapShapes, Pass, Plan};
 use tide_model::{Op, Reply, Turnstile};
 
 /// Acts on a plan of a handle, of a pair or of a group, or on one to retire or to ask for a cycle.

@@ -1,21 +1,20 @@
 //! What a call is to do: its mutator's own words are loaded, and a plan is made. It acts on none.
 ghost use Rattle.std.specs.Prelude.{◌≡◌, ◌<◌, true, false, ℕ};
-ghost use Rattle.tide_call.specs.Plans.{is_told_by_registers};
-ghost use Rattle.tide_call.specs.declared.plan.Plan.TheVariants.{Take};
-ghost use Rattle.tide_layout.specs.Limits.{IsWithinLimits};
-ghost use Rattle.tide_core.specs.machine.May.{IsBetweenCalls};
-ghost use Rattle.tide_core.specs.machine.kinds.TakeFree.{TakesCell};
+ghost use Rattle.tide_heap.specs.tide_call.Plans.{is_told_by_registers};
+ghost use Rattle.tide_heap.specs.tide_call.declared.plan.Plan.TheVariants.{Take};
+ghost use Rattle.tide_heap.specs.tide_layout.Limits.{IsWithinLimits};
+ghost use Rattle.tide_heap.specs.tide_core.machine.May.{IsBetweenCalls};
+ghost use Rattle.tide_heap.specs.tide_core.machine.kinds.TakeFree.{TakesCell};
 ghost use Rattle.tide_model.specs.Caller.{IsOwn};
 ghost use Rattle.tide_model.specs.Lawful.{FitsLayout};
 ghost use Rattle.tide_mutator.specs.calls.Plans.{is_plain};
 ghost use Rattle.tide_mutator.specs.owed.Standing.{IsPlanned, claims_of};
 ghost use Rattle.tide_mutator.specs.calls.Owning.{unread};
-ghost use Rattle.tide_call.specs.Needed.{FitsPlan};
-ghost use Rattle.tide_words.specs.heap.Heap.{Heap as TheWords};
+ghost use Rattle.tide_heap.specs.tide_call.Needed.{FitsPlan};
+ghost use Rattle.tide_heap.specs.tide_words.heap.Heap.{Heap as TheWords};
 
 use crate::calls::own::OwnPass;
-use tide_call::{Caller, Claims, Plan};
-use tide_heap::Heap;
+use tide_heap::{Caller, Claims, Heap, Plan};
 use tide_model::Op;
 use tide_shape::ShapeTable;
 

@@ -1,7 +1,7 @@
 //! The call that puts a cell in a group.
 ghost use Rattle.std.specs.Prelude.{◌≡◌, ◌+◌, ◌%◌, ◌^◌, ◌<◌, length, true};
-ghost use Rattle.tide_call.specs.Plans.{is_told_by_registers};
-ghost use Rattle.tide_call.specs.declared.plan.Plan.TheVariants.{Join};
+ghost use Rattle.tide_heap.specs.tide_call.Plans.{is_told_by_registers};
+ghost use Rattle.tide_heap.specs.tide_call.declared.plan.Plan.TheVariants.{Join};
 ghost use Rattle.tide_model.specs.Layout.{cell_count};
 ghost use Rattle.tide_mutator.specs.owed.Calling.{IsCalling};
 ghost use Rattle.tide_mutator.specs.owed.Made.{HasDone};

@@ -1,11 +1,11 @@
 //! `Mutator`: a mutator of a heap, as it is between two calls.
 ghost use Rattle.std.specs.Prelude.{◌≡◌, ◌%◌, ◌^◌};
 ghost use Rattle.tide_mutator.specs.owed.Standing.{claims_of};
-ghost use Rattle.tide_core.specs.machine.May.{Rests};
+ghost use Rattle.tide_heap.specs.tide_core.machine.May.{Rests};
 
 use crate::calls::own::OwnPass;
 use crate::cells::hints::Hints;
-use tide_call::Claims;
+use tide_heap::Claims;
 
 /// A mutator, with its right to step on a heap. Between its calls it owes nothing.
 #[derive(Drop)]

@@ -1,12 +1,10 @@
 //! `OwnPass`: a mutator's pass, which reads its registers and the words of cells that it claims. It makes no call.
 ghost use Rattle.std.specs.Prelude.{◌≡◌, ℕ};
 ghost use Rattle.atomic_table.specs.Seated.{TableId};
-ghost use Rattle.tide_core.specs.declared.machine.view.View.{View};
+ghost use Rattle.tide_heap.specs.tide_core.declared.machine.view.View.{View};
 ghost use Rattle.tide_mutator.specs.calls.Owning.{OwnsAt, unread};
 
-use tide_call::{OwnRegisters, OwnWords};
-use tide_heap::{Heap, HeapShapes, Pass};
-use tide_words::Layout;
+use tide_heap::{Heap, HeapShapes, Layout, OwnRegisters, OwnWords, Pass};
 
 /// A mutator's pass. The words of its registers are its own, and those of the cells that it claims: while it runs,
 /// nobody else stores them.

@@ -3,16 +3,14 @@ ghost use Rattle.std.specs.Prelude.{◌≡◌, ◌+◌, ◌%◌, ◌^◌, ◌<�
 ghost use Rattle.tide_mutator.specs.owed.Calling.{IsCalling};
 ghost use Rattle.tide_mutator.specs.owed.Made.{HasDone};
 ghost use Rattle.tide_mutator.specs.owed.Standing.{IsPlanned};
-ghost use Rattle.tide_call.specs.declared.plan.Plan.TheVariants.{Append, LoadElement, StoreElement};
-ghost use Rattle.tide_layout.specs.Slots.{HasElement};
+ghost use Rattle.tide_heap.specs.tide_call.declared.plan.Plan.TheVariants.{Append, LoadElement, StoreElement};
+ghost use Rattle.tide_heap.specs.tide_layout.Slots.{HasElement};
 ghost use Rattle.tide_model.specs.Layout.{cell_count};
-ghost use Rattle.tide_call.specs.Needed.{HasRoomFor};
+ghost use Rattle.tide_heap.specs.tide_call.Needed.{HasRoomFor};
 
 use crate::owed::{shade_for, shape_word, show};
-use tide_call::Addition;
-use tide_heap::{Heap, HeapShapes, Pass};
+use tide_heap::{Addition, Heap, HeapShapes, Pass, val_word};
 use tide_model::{Op, Reply, Turnstile, Val};
-use tide_words::val_word;
 
 /// Loads a property, and fills a register with what it holds.
 pub(crate) fn get_property<S: HeapShapes>(

@@ -1,14 +1,13 @@
 //! Calls on own words alone: one fills a register, or is told by its call word.
 ghost use Rattle.std.specs.Prelude.{◌≡◌, ◌+◌, ◌%◌, ◌^◌, ◌<◌, length, true};
-ghost use Rattle.tide_call.specs.Plans.{is_told_by_registers};
-ghost use Rattle.tide_call.specs.declared.plan.Plan.TheVariants.{Ask, Fill, Refuse};
+ghost use Rattle.tide_heap.specs.tide_call.Plans.{is_told_by_registers};
+ghost use Rattle.tide_heap.specs.tide_call.declared.plan.Plan.TheVariants.{Ask, Fill, Refuse};
 ghost use Rattle.tide_mutator.specs.owed.Calling.{IsCalling};
 ghost use Rattle.tide_mutator.specs.owed.Made.{HasDone};
 ghost use Rattle.tide_mutator.specs.owed.Standing.{IsPlanned};
 
-use tide_heap::{Heap, HeapShapes, Pass};
+use tide_heap::{Heap, HeapShapes, Pass, val_word};
 use tide_model::{Op, Refusal, Reply, Val};
-use tide_words::val_word;
 
 /// Fills a register.
 pub(crate) fn fill<S: HeapShapes>(

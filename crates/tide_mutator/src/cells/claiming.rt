@@ -1,17 +1,16 @@
 //! Calls on claims.
 ghost use Rattle.std.specs.Prelude.{◌≡◌, ◌+◌, ◌%◌, ◌^◌, ◌<◌, length, true};
-ghost use Rattle.tide_call.specs.Plans.{is_told_by_registers};
-ghost use Rattle.tide_call.specs.declared.plan.Plan.TheVariants.{Claim, Release};
+ghost use Rattle.tide_heap.specs.tide_call.Plans.{is_told_by_registers};
+ghost use Rattle.tide_heap.specs.tide_call.declared.plan.Plan.TheVariants.{Claim, Release};
 ghost use Rattle.tide_model.specs.Layout.{cell_count};
 ghost use Rattle.tide_mutator.specs.owed.Calling.{IsCalling};
 ghost use Rattle.tide_mutator.specs.cells.Claiming.{held_or};
 ghost use Rattle.tide_mutator.specs.owed.Made.{HasDone};
 ghost use Rattle.tide_mutator.specs.owed.Standing.{IsPlanned};
-ghost use Rattle.tide_call.specs.Needed.{IsSomeClaim};
+ghost use Rattle.tide_heap.specs.tide_call.Needed.{IsSomeClaim};
 
-use tide_heap::{Heap, HeapShapes, Pass};
+use tide_heap::{Heap, HeapShapes, Pass, word_claim};
 use tide_model::{Op, Refusal, Reply};
-use tide_words::word_claim;
 
 /// Who holds the cell of a claim word refuses the call; where nobody does, it is answered otherwise.
 fn held_or(otherwise: Reply, word: u64) -> Reply

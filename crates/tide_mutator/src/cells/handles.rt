@@ -1,15 +1,14 @@
 //! Calls on strong and weak handles.
 ghost use Rattle.std.specs.Prelude.{◌≡◌, ◌+◌, ◌%◌, ◌^◌, ◌<◌, length, true};
-ghost use Rattle.tide_call.specs.Plans.{is_told_by_registers};
-ghost use Rattle.tide_call.specs.declared.plan.Plan.TheVariants.{LoadStrong, LoadWeak, StoreStrong, StoreWeak};
+ghost use Rattle.tide_heap.specs.tide_call.Plans.{is_told_by_registers};
+ghost use Rattle.tide_heap.specs.tide_call.declared.plan.Plan.TheVariants.{LoadStrong, LoadWeak, StoreStrong, StoreWeak};
 ghost use Rattle.tide_mutator.specs.owed.Calling.{IsCalling};
 ghost use Rattle.tide_mutator.specs.owed.Made.{HasDone};
 ghost use Rattle.tide_mutator.specs.owed.Standing.{IsPlanned};
 
 use crate::owed::show;
-use tide_heap::{Heap, HeapShapes, Pass};
+use tide_heap::{Heap, HeapShapes, Pass, val_word};
 use tide_model::{Op, Reply, Val};
-use tide_words::val_word;
 
 /// Stores a strong handle.
 pub fn put_strong<S: HeapShapes>(

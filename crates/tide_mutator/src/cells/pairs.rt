@@ -1,16 +1,15 @@
 //! Calls on the pairs of a table that their mutator claims.
 ghost use Rattle.std.specs.Prelude.{◌≡◌, ◌+◌, ◌%◌, ◌^◌, ◌<◌, length};
-ghost use Rattle.tide_call.specs.declared.plan.Plan.TheVariants.{ClearPair, Show, StorePair};
-ghost use Rattle.tide_layout.specs.Slots.{HasSlot};
+ghost use Rattle.tide_heap.specs.tide_call.declared.plan.Plan.TheVariants.{ClearPair, Show, StorePair};
+ghost use Rattle.tide_heap.specs.tide_layout.Slots.{HasSlot};
 ghost use Rattle.tide_mutator.specs.owed.Calling.{IsCalling};
 ghost use Rattle.tide_mutator.specs.owed.Made.{HasDone};
 ghost use Rattle.tide_mutator.specs.owed.Standing.{IsPlanned};
-ghost use Rattle.tide_words.specs.forms.PairWord.{max_cells};
+ghost use Rattle.tide_heap.specs.tide_words.forms.PairWord.{max_cells};
 
 use crate::owed::pay;
-use tide_heap::{Heap, HeapShapes, Pass};
+use tide_heap::{Heap, HeapShapes, Pass, pair_word};
 use tide_model::{Op, Reply, Val};
-use tide_words::pair_word;
 
 /// Stores a pair of a table.
 pub fn put_pair<S: HeapShapes>(

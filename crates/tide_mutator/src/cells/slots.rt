@@ -1,16 +1,15 @@
 //! Calls on slots of cells.
 ghost use Rattle.std.specs.Prelude.{◌≡◌, ◌+◌, ◌%◌, ◌^◌, ◌<◌, length, true};
-ghost use Rattle.tide_call.specs.Plans.{is_told_by_registers};
-ghost use Rattle.tide_call.specs.declared.plan.Plan.TheVariants.{LoadSlot, StoreSlot};
-ghost use Rattle.tide_layout.specs.Slots.{HasSlot};
+ghost use Rattle.tide_heap.specs.tide_call.Plans.{is_told_by_registers};
+ghost use Rattle.tide_heap.specs.tide_call.declared.plan.Plan.TheVariants.{LoadSlot, StoreSlot};
+ghost use Rattle.tide_heap.specs.tide_layout.Slots.{HasSlot};
 ghost use Rattle.tide_mutator.specs.owed.Calling.{IsCalling};
 ghost use Rattle.tide_mutator.specs.owed.Made.{HasDone};
 ghost use Rattle.tide_mutator.specs.owed.Standing.{IsPlanned};
 
 use crate::owed::{shade_for, show};
-use tide_heap::{Heap, HeapShapes, Pass};
+use tide_heap::{Heap, HeapShapes, Pass, val_word};
 use tide_model::{Op, Reply, Turnstile, Val};
-use tide_words::val_word;
 
 /// Loads a slot, and fills a register with what it holds.
 pub fn get<S: HeapShapes>(

@@ -1,7 +1,7 @@
 //! The array that a growth took is filled, and replaces the one that the cell has.
 ghost use Rattle.std.specs.Prelude.{◌≡◌, ◌<◌, ◌+◌, ◌^◌};
-ghost use Rattle.tide_call.specs.ShapeWord.{whole_word};
-ghost use Rattle.tide_layout.specs.Slots.{HasElement};
+ghost use Rattle.tide_heap.specs.tide_call.ShapeWord.{whole_word};
+ghost use Rattle.tide_heap.specs.tide_layout.Slots.{HasElement};
 ghost use Rattle.tide_model.specs.Layout.{cell_count};
 ghost use Rattle.tide_mutator.specs.owed.Replacing.{HasReplaced, OwesGrowth};
 

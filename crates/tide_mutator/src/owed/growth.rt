@@ -1,5 +1,5 @@
 //! `Growth`: an addition in an array that is still to be taken.
-use tide_call::Addition;
+use tide_heap::Addition;
 use tide_model::Val;
 
 /// The addition of a property in an array of a class that is still to be taken, in place of the cell's.

@@ -1,13 +1,12 @@
 //! The register that a call fills, and the call word that tells it.
 ghost use Rattle.std.specs.Prelude.{◌≡◌, ◌%◌, ◌^◌, ◌<◌, length};
-ghost use Rattle.tide_core.specs.machine.Words.{value_of};
+ghost use Rattle.tide_heap.specs.tide_core.machine.Words.{value_of};
 ghost use Rattle.tide_model.specs.declared.op.Reply.TheVariants.{Seen};
 ghost use Rattle.tide_mutator.specs.owed.Paying.{HasPaid, OwesRegister};
-ghost use Rattle.tide_words.specs.heap.Reading.{IsValueOf};
+ghost use Rattle.tide_heap.specs.tide_words.heap.Reading.{IsValueOf};
 
-use tide_heap::{Heap, HeapShapes, Pass};
+use tide_heap::{Heap, HeapShapes, Pass, val_word, word_val};
 use tide_model::{Reply, Val};
-use tide_words::{val_word, word_val};
 
 /// Stores the register that a call filled, and tells the call.
 pub fn pay<S: HeapShapes>(pass: &mut Pass, heap: &Heap<S>, calls: u64, dst: u8, value: Val)

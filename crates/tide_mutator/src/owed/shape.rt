@@ -1,9 +1,8 @@
 //! The word of a shape that an addition leaves.
 ghost use Rattle.std.specs.Prelude.{◌≡◌, ◌+◌, ◌<◌};
-ghost use Rattle.tide_call.specs.ShapeWord.{whole_word};
+ghost use Rattle.tide_heap.specs.tide_call.ShapeWord.{whole_word};
 
-use tide_call::Addition;
-use tide_words::{Structure, structure_word};
+use tide_heap::{Addition, Structure, structure_word};
 
 /// The word of the shape that a cell has after an addition.
 pub fn shape_word(addition: Addition) -> u64

@@ -1,7 +1,7 @@
 -- The books go with the history still once there is room in the report.
 use Rattle.std.proofs.Common.{sym, subst, List}
 use Rattle.check_table.specs.Standing.{opened_once}
-use Rattle.tide_freeze.specs.Books.{AreBooks}
+use Rattle.tide_heap.specs.tide_freeze.Books.{AreBooks}
 use Rattle.tide_model.specs.declared.entry.Event.{Event}
 use Rattle.check_table.proofs.freezing.freeze_twice.Goals as goal
 

@@ -2,13 +2,13 @@
 -- visit.
 use Rattle.std.proofs.Common.{ℕ, ◌≡◌, ◌+◌, sym, ◌∙◌, ap, subst, List, [], ◌∷◌, ◌++◌, length}
 use Rattle.std.specs.Prelude.{◌==◌, if◌then◌else◌, nat_lt}
-use Rattle.tide_core.specs.machine.Frozen.{FrozenWith}
-use Rattle.tide_core.specs.declared.machine.view.View.{View}
+use Rattle.tide_heap.specs.tide_core.machine.Frozen.{FrozenWith}
+use Rattle.tide_heap.specs.tide_core.declared.machine.view.View.{View}
 use Rattle.tide_model.specs.History.{plain}
 use Rattle.tide_model.specs.declared.entry.Entry.TheVariants.{Open}
 use Rattle.tide_model.specs.declared.entry.Event.{Event}
 use Rattle.tide_shape.specs.Lists.{lists_of}
-use Rattle.tide_words.specs.heap.Heap.{heap_of}
+use Rattle.tide_heap.specs.tide_words.heap.Heap.{heap_of}
 use Rattle.check_table.specs.Standing.{opened_once}
 use Rattle.check_table.proofs.freezing.stand_still.Goals as goal
 

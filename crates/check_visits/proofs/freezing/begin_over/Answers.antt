@@ -2,18 +2,18 @@
 use Rattle.std.proofs.Common.{ℕ, ◌≡◌, ◌+◌, sym, ◌∙◌, ap, subst, arith, false, List, true}
 use Rattle.check_visits.proofs.Freezes.{begun_there, may_begin}
 use Rattle.check_visits.specs.Parts.{IsAtFreeze}
-use Rattle.tide_core.specs.wave.Entered.{HasBegun}
-use Rattle.tide_freeze.proofs.ParticipantLaws.{LeavesParticipants-begun}
-use Rattle.tide_freeze.specs.Entering.{with_entry, MayEnter}
+use Rattle.tide_heap.specs.tide_core.wave.Entered.{HasBegun}
+use Rattle.tide_heap.proofs.tide_freeze.ParticipantLaws.{LeavesParticipants-begun}
+use Rattle.tide_heap.specs.tide_freeze.Entering.{with_entry, MayEnter}
 use Rattle.tide_model.specs.Cycle.{begin_count}
 use Rattle.tide_model.specs.Refused.{ShapeLists}
 use Rattle.tide_model.specs.Layout.{Layout}
 use Rattle.tide_model.specs.declared.entry.Entry.TheVariants.{Begin}
 use Rattle.tide_model.specs.declared.entry.Event.{Event}
-use Rattle.tide_core.specs.declared.machine.view.View.{View}
+use Rattle.tide_heap.specs.tide_core.declared.machine.view.View.{View}
 use Rattle.tide_table.specs.Shown.{bare, Besides, Whose}
-use Rattle.tide_words.specs.heap.Heap.{heap_of}
-use Rattle.tide_words.specs.marking.Colours.{is_black, is_marking, running_cycle}
+use Rattle.tide_heap.specs.tide_words.heap.Heap.{heap_of}
+use Rattle.tide_heap.specs.tide_words.marking.Colours.{is_black, is_marking, running_cycle}
 use Rattle.check_visits.proofs.freezing.begin_over.Given as given
 use Rattle.check_visits.proofs.freezing.begin_over.Goals as goal
 use Rattle.check_visits.proofs.freezing.begin_over.Goals.{After-begin}

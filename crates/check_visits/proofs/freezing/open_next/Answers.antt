@@ -1,7 +1,7 @@
 -- What a pause left is what the opening asks.
 use Rattle.std.proofs.Common.{ℕ, Bool, sym, ◌∙◌, ap}
-use Rattle.tide_core.proofs.machine_laws.freezes.Entering.{FrozenWave-of}
-use Rattle.tide_words.specs.heap.Heap.{heap_of}
+use Rattle.tide_heap.proofs.tide_core.machine_laws.freezes.Entering.{FrozenWave-of}
+use Rattle.tide_heap.specs.tide_words.heap.Heap.{heap_of}
 use Rattle.check_visits.proofs.freezing.open_next.Goals as goal
 
 pub open-requires-clause-wave : goal.open-requires-clause-wave

@@ -3,16 +3,16 @@ use Rattle.std.proofs.Common.{ℕ, ◌≡◌, ◌<◌, true, refl, sym, ◌∙�
 use Rattle.std.specs.Prelude.{Contains}
 use Rattle.check_visits.proofs.Freezes.{visits_told}
 use Rattle.check_visits.specs.Parts.{IsAtFreeze}
-use Rattle.tide_cycle.specs.GreyWords.{HasSharedGrey}
-use Rattle.tide_core.specs.declared.machine.view.View.{View}
+use Rattle.tide_core.specs.tide_cycle.GreyWords.{HasSharedGrey}
+use Rattle.tide_heap.specs.tide_core.declared.machine.view.View.{View}
 use Rattle.tide_model.specs.History.{state_after}
 use Rattle.tide_model.specs.Layout.{Layout, cell_count}
 use Rattle.tide_model.specs.Refused.{ShapeLists}
 use Rattle.tide_table.specs.Blacks.{BlacksStay}
 use Rattle.tide_table.specs.Shown.{bare}
-use Rattle.tide_words.specs.heap.Heap.{heap_of}
-use Rattle.tide_words.specs.heap.Reading.{ReadsAs}
-use Rattle.tide_words.specs.marking.Colours.{is_marking}
+use Rattle.tide_heap.specs.tide_words.heap.Heap.{heap_of}
+use Rattle.tide_heap.specs.tide_words.heap.Reading.{ReadsAs}
+use Rattle.tide_heap.specs.tide_words.marking.Colours.{is_marking}
 use Rattle.check_visits.proofs.freezing.pause_part.Goals as goal
 
 pub enter_visits-requires-clause-told : goal.enter_visits-requires-clause-told

@@ -2,7 +2,7 @@
 use Rattle.std.proofs.Common.{ℕ, ◌∙◌, ap, subst}
 use Rattle.check_visits.proofs.Noting.{frozen_same, others_in, period_same, told_by, visits_by, who_in, HasTakenIn}
 use Rattle.check_visits.specs.Parts.{IsNoteOf}
-use Rattle.tide_core.specs.declared.machine.view.View.{View}
+use Rattle.tide_heap.specs.tide_core.declared.machine.view.View.{View}
 use Rattle.check_visits.proofs.parts.run_part.Given as given
 use Rattle.check_visits.proofs.parts.run_part.Goals as goal
 use Rattle.check_visits.proofs.parts.run_part.Goals.{After-take}

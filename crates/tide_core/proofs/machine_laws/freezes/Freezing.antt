@@ -3,9 +3,9 @@ use Rattle.std.proofs.Common.{ℕ, zero, suc, ◌≡◌, refl, sym, ◌∙◌, a
 use Rattle.std.proofs.lemmas.Bool.{cases_Bool}
 use Rattle.std.proofs.lemmas.List.Sums.{length-filter}
 use Rattle.std.specs.Prelude.{Contains, ◌%◌, ◌^◌}
-use Rattle.tide_layout.specs.Slots.{total_below}
-use Rattle.tide_layout.specs.declared.region.Region.{Region}
-use Rattle.tide_layout.specs.declared.region.Region.TheVariants.{Period}
+use Rattle.tide_words.specs.tide_layout.Slots.{total_below}
+use Rattle.tide_words.specs.tide_layout.declared.region.Region.{Region}
+use Rattle.tide_words.specs.tide_layout.declared.region.Region.TheVariants.{Period}
 use Rattle.tide_core.specs.machine.Duties.{OwesColour, StillOwes}
 use Rattle.tide_core.specs.machine.Frozen.{FrozenWith, FrozenMachine, first_world}
 use Rattle.tide_core.proofs.machine_laws.steps.Lists.{nothing_in}
@@ -36,7 +36,7 @@ use Rattle.tide_core.proofs.machine_laws.steps.BaseBounds.{base_is_soon, colours
 use Rattle.tide_core.proofs.machine_laws.steps.MarkedLives.{marked_is_live}
 use Rattle.tide_words.specs.marking.Marked.{is_marked}
 use Rattle.tide_words.specs.marking.Marking.{times_in}
-use Rattle.tide_layout.specs.declared.region.Region.TheVariants as region
+use Rattle.tide_words.specs.tide_layout.declared.region.Region.TheVariants as region
 use Rattle.tide_core.specs.declared.machine.view.Duty.TheVariants as duty
 
 -- before anything happened the machine is frozen, and the wave holds

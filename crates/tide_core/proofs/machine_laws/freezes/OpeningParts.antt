@@ -54,7 +54,7 @@ use Rattle.tide_words.specs.heap.Heap.{Heap, write}
 use Rattle.tide_words.specs.heap.Reading.{ReadsAs}
 use Rattle.tide_words.specs.marking.Colours.{is_black, is_grey, is_marking}
 use Rattle.tide_words.specs.marking.Marking.{times_in}
-use Rattle.tide_layout.specs.declared.region.Region.TheVariants as region
+use Rattle.tide_words.specs.tide_layout.declared.region.Region.TheVariants as region
 use Rattle.tide_core.proofs.machine_laws.steps.Growing
 
 module _ (layout : Layout) (shapes : ShapeLists) (heap : Heap) (part : ℕ → View) (before : List Event) (run : ℕ)

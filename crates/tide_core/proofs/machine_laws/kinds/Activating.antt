@@ -2,7 +2,7 @@
 use Rattle.std.proofs.Common.{ℕ, ◌⊎◌, ◌≡◌, ◌<◌, ◌≤◌, refl, sym, ◌∙◌, ap, subst, arith, Bool, true, false, [], inl, inr, Some}
 use Rattle.std.proofs.lemmas.Bool.{cases_eq, eq-eqb}
 use Rattle.std.specs.Prelude.{Contains, if◌then◌else◌}
-use Rattle.tide_layout.specs.declared.region.Region.{Region}
+use Rattle.tide_words.specs.tide_layout.declared.region.Region.{Region}
 use Rattle.tide_core.proofs.machine_laws.steps.Frames.{calls_view, stops_view, each_put}
 use Rattle.tide_core.proofs.machine_laws.steps.Lists.{nothing_in}
 use Rattle.tide_core.proofs.machine_laws.steps.Steps.{any_step}
@@ -28,7 +28,7 @@ use Rattle.tide_model.specs.Numbers.{put_at}
 use Rattle.tide_model.specs.Refused.{ShapeLists}
 use Rattle.tide_words.specs.marking.Colours.{is_marking, running_cycle}
 use Rattle.tide_words.specs.marking.Marked.{base_cycle}
-use Rattle.tide_layout.specs.declared.region.Region.TheVariants as region
+use Rattle.tide_words.specs.tide_layout.declared.region.Region.TheVariants as region
 
 module _ (layout : Layout) (shapes : ShapeLists) (w : World) (me : ℕ) (inside : me < parties)
     (wave : RunningWave layout shapes w) (parked : (w.part me).runs ≡ false)

@@ -2,7 +2,7 @@
 use Rattle.std.proofs.Common.{ℕ, ◌≡◌, ◌≢◌, ◌+◌, ◌*◌, ◌<◌, ◌⊎◌, refl, sym, ◌∙◌, ap, subst, arith, true, false, ◌∷◌, inl, inr, Some, None, length}
 use Rattle.std.proofs.lemmas.Bool.{cases_eq}
 use Rattle.std.specs.Prelude.{Contains}
-use Rattle.tide_layout.specs.Slots.{index_of_element}
+use Rattle.tide_words.specs.tide_layout.Slots.{index_of_element}
 use Rattle.tide_core.proofs.machine_laws.kinds.VisitorLoads.{and_cell_before, and_cell_here, and_cell_was, among_more}
 use Rattle.tide_core.proofs.machine_laws.steps.Rereading.{scan_step, with_scan}
 use Rattle.tide_core.specs.machine.RunningWave.{RunningWave}
@@ -29,7 +29,7 @@ use Rattle.tide_words.proofs.form_laws.FormLaws.{same_from_val_word}
 use Rattle.tide_words.specs.forms.ValueWord.{val_word}
 use Rattle.tide_words.specs.marking.Colours.{is_marking, IsStamped}
 use Rattle.tide_core.specs.machine.Duties.{StillOwes}
-use Rattle.tide_layout.specs.declared.region.Region.TheVariants as region
+use Rattle.tide_words.specs.tide_layout.declared.region.Region.TheVariants as region
 
 module _ (layout : Layout) (shapes : ShapeLists) (w : World) (me : ℕ) (inside : me < parties)
     (wave : RunningWave layout shapes w) (runs : (w.part me).runs ≡ true)

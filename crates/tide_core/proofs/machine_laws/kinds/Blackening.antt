@@ -3,7 +3,7 @@ use Rattle.std.proofs.Common.{ℕ, zero, suc, ◌≡◌, ◌≢◌, ◌+◌, ◌
 use Rattle.std.proofs.lemmas.Bool.{cases_eq, eq-eqb, ne_eqb, eqb-true, and_parts, and_from}
 use Rattle.std.proofs.lemmas.List.Elements.{Contains-append_cases, Contains-append_left, Contains-append_right}
 use Rattle.std.specs.Prelude.{Contains, if◌then◌else◌, ◌&&◌, length}
-use Rattle.tide_layout.specs.Slots.{total_below}
+use Rattle.tide_words.specs.tide_layout.Slots.{total_below}
 use Rattle.tide_core.proofs.machine_laws.steps.BaseBounds.{colours_count}
 use Rattle.tide_core.proofs.machine_laws.steps.Colouring.{unread_write, colours_coloured, recoloured_one}
 use Rattle.tide_core.proofs.machine_laws.steps.Frames.{calls_view, stops_view, put_here}
@@ -35,7 +35,7 @@ use Rattle.tide_words.specs.marking.Colours.{coloured, is_marking, running_cycle
 use Rattle.tide_words.specs.marking.Marked.{is_marked}
 use Rattle.tide_words.proofs.form_laws.FormLaws.{colour_cycle-of}
 use Rattle.tide_core.proofs.machine_laws.steps.Barriers.{still_owes}
-use Rattle.tide_layout.specs.declared.region.Region.TheVariants as region
+use Rattle.tide_words.specs.tide_layout.declared.region.Region.TheVariants as region
 
 take_out-was : (cell other : ℕ) (cells : List ℕ) → Contains (take_out cell cells) other → Contains cells other
 take_out-was cell other [] at = at

@@ -22,7 +22,7 @@ use Rattle.tide_words.specs.forms.ColourWord.{colour_word}
 use Rattle.tide_words.specs.marking.Colours.{Counts, coloured, is_marking, running_cycle, is_grey, IsMarked, IsGrey, IsBlack}
 use Rattle.tide_words.specs.marking.Marked.{is_marked}
 use Rattle.tide_model.specs.Old.{is_spared}
-use Rattle.tide_layout.specs.declared.region.Region.TheVariants as region
+use Rattle.tide_words.specs.tide_layout.declared.region.Region.TheVariants as region
 use Rattle.tide_core.specs.declared.machine.view.Duty.TheVariants as duty
 
 module _ (layout : Layout) (shapes : ShapeLists) (w : World) (me : ℕ) (inside : me < parties)

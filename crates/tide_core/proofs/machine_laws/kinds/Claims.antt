@@ -4,10 +4,10 @@ use Rattle.std.proofs.lemmas.List.Elements.{Contains-append_cases, Contains-appe
 use Rattle.std.specs.Prelude.{Contains, if◌then◌else◌, filter, drop, not, slice_get}
 use Rattle.tide_call.proofs.reading_laws.CallReading.{calls_read_back}
 use Rattle.tide_call.specs.CallWords.{CallWords}
-use Rattle.tide_layout.specs.Limits.{IsWithinLimits}
-use Rattle.tide_layout.specs.Region.{tag}
-use Rattle.tide_layout.specs.declared.region.Region.{Region}
-use Rattle.tide_layout.specs.declared.region.Region.TheVariants as region
+use Rattle.tide_words.specs.tide_layout.Limits.{IsWithinLimits}
+use Rattle.tide_words.specs.tide_layout.Region.{tag}
+use Rattle.tide_words.specs.tide_layout.declared.region.Region.{Region}
+use Rattle.tide_words.specs.tide_layout.declared.region.Region.TheVariants as region
 use Rattle.tide_core.proofs.machine_laws.kinds.Refusals.{leaves_all, leaves_store}
 use Rattle.tide_core.proofs.machine_laws.steps.Frames.{calls_view}
 use Rattle.tide_core.proofs.machine_laws.steps.Lists.{in_one}

@@ -1,6 +1,6 @@
 -- Each kind of the first group keeps the wave.
 use Rattle.std.proofs.Common.{ℕ, ◌≡◌, ◌<◌, refl, sym, subst, true, false, Some, None, inl, inr}
-use Rattle.tide_layout.specs.declared.region.Region.TheVariants as region
+use Rattle.tide_words.specs.tide_layout.declared.region.Region.TheVariants as region
 use Rattle.tide_core.proofs.machine_laws.kinds.Activating.{begin}
 use Rattle.tide_core.proofs.machine_laws.kinds.CallWords.{store_call_word}
 use Rattle.tide_core.proofs.machine_laws.kinds.PayingRegisters.{pay_register}

@@ -1,9 +1,9 @@
 -- Each kind on groups and pairs keeps the wave.
 use Rattle.std.proofs.Common.{ℕ, ◌≡◌, ◌<◌, refl, true, [], Some, None}
 use Rattle.std.specs.Prelude.{slice_get}
-use Rattle.tide_layout.specs.Limits.{IsWithinLimits}
-use Rattle.tide_layout.specs.Slots.{index_of_slot}
-use Rattle.tide_layout.specs.declared.region.Region.TheVariants as region
+use Rattle.tide_words.specs.tide_layout.Limits.{IsWithinLimits}
+use Rattle.tide_words.specs.tide_layout.Slots.{index_of_slot}
+use Rattle.tide_words.specs.tide_layout.declared.region.Region.TheVariants as region
 use Rattle.tide_core.proofs.machine_laws.kinds.KnownLoads.{known_load}
 use Rattle.tide_core.proofs.machine_laws.kinds.Pairs.{store_pair, see_pair}
 use Rattle.tide_core.proofs.machine_laws.kinds.StoringGroups.{store_group}

@@ -3,8 +3,8 @@ use Rattle.std.proofs.Common.{ℕ, ◌≡◌, ◌≢◌, ◌<◌, refl, sym, ◌
 use Rattle.std.specs.Prelude.{Contains, slice_get}
 use Rattle.tide_call.specs.CallWords.{CallWords, IsPlaceFor, HasPairAt}
 use Rattle.tide_core.specs.wave.FrozenWave.{is_birth_of}
-use Rattle.tide_layout.specs.Limits.{IsWithinLimits}
-use Rattle.tide_layout.specs.Slots.{HasSlot, index_of_slot}
+use Rattle.tide_words.specs.tide_layout.Limits.{IsWithinLimits}
+use Rattle.tide_words.specs.tide_layout.Slots.{HasSlot, index_of_slot}
 use Rattle.tide_core.proofs.machine_laws.kinds.LoadingSeen.{load_seen}
 use Rattle.tide_core.proofs.machine_laws.kinds.SeenCalls.{seen_granted}
 use Rattle.tide_core.proofs.machine_laws.steps.CallReadings.{call_reads}
@@ -48,7 +48,7 @@ use Rattle.tide_words.specs.forms.PairWord.{pair_word}
 use Rattle.tide_words.specs.forms.ValueWord.{HasU32}
 use Rattle.tide_words.specs.heap.Heap.{write}
 use Rattle.tide_words.specs.heap.Reading.{ReadsAs, IsPairOf, slot_word}
-use Rattle.tide_layout.specs.declared.region.Region.TheVariants as region
+use Rattle.tide_words.specs.tide_layout.declared.region.Region.TheVariants as region
 
 module _ (layout : Layout) (shapes : ShapeLists) (limits : IsWithinLimits layout)
     (empty_shape : slice_get shapes 0 ≡ Some []) (w : World) (me : ℕ) (inside : me < parties)

@@ -3,9 +3,9 @@ use Rattle.std.proofs.Common.{ℕ, ◌≡◌, ◌<◌, ◌∷◌, sym, ap, subst
 use Rattle.std.proofs.lemmas.Bool.{eqb-true}
 use Rattle.std.specs.Int.{bit_at}
 use Rattle.std.specs.Prelude.{slice_get, if◌then◌else◌, bit_and, ◌==◌}
-use Rattle.tide_layout.specs.Limits.{IsWithinLimits}
-use Rattle.tide_layout.specs.Slots.{index_of_element}
-use Rattle.tide_layout.specs.declared.region.Region.TheVariants as region
+use Rattle.tide_words.specs.tide_layout.Limits.{IsWithinLimits}
+use Rattle.tide_words.specs.tide_layout.Slots.{index_of_element}
+use Rattle.tide_words.specs.tide_layout.declared.region.Region.TheVariants as region
 use Rattle.tide_core.proofs.machine_laws.kinds.AddingInPlace.{add_in_place}
 use Rattle.tide_core.proofs.machine_laws.kinds.GrowthStages.{nuke, store_array, store_structure}
 use Rattle.tide_core.proofs.machine_laws.kinds.KnownLoads.{known_load}

@@ -23,7 +23,7 @@ use Rattle.tide_model.specs.Refused.{ShapeLists}
 use Rattle.tide_words.specs.heap.Heap.{Heap, write}
 use Rattle.tide_words.specs.marking.Colours.{is_marking, is_grey}
 use Rattle.tide_words.specs.marking.Marking.{times_in}
-use Rattle.tide_layout.specs.declared.region.Region.TheVariants as region
+use Rattle.tide_words.specs.tide_layout.declared.region.Region.TheVariants as region
 
 -- a cell that passes stands as often after a test as before, and one that doesn't, not at all
 times_in-filter : (test : ℕ → Bool) (cells : List ℕ) (cell : ℕ) →

@@ -37,7 +37,7 @@ use Rattle.tide_words.specs.marking.Marked.{is_marked}
 use Rattle.tide_words.specs.marking.Marking.{times_in}
 use Rattle.tide_model.specs.Old.{IsSpared}
 use Rattle.tide_core.proofs.machine_laws.steps.Barriers.{still_owes}
-use Rattle.tide_layout.specs.declared.region.Region.TheVariants as region
+use Rattle.tide_words.specs.tide_layout.declared.region.Region.TheVariants as region
 
 -- another cell than the one that is left out stays, and none comes
 leave_out-one : (cell x : ℕ) (cells : List ℕ) →

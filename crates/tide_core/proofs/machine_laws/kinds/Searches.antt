@@ -5,8 +5,8 @@ use Rattle.std.proofs.lemmas.List.Elements.{Contains-append_cases}
 use Rattle.std.proofs.lemmas.Nat.Bits.{bit_at-lt}
 use Rattle.std.specs.Int.{bit_at}
 use Rattle.std.specs.Prelude.{Contains, if◌then◌else◌, bit_and}
-use Rattle.tide_block.proofs.BitLaws.{without_bit-is}
-use Rattle.tide_layout.specs.declared.region.Region.TheVariants as region
+use Rattle.tide_words.proofs.tide_block.BitLaws.{without_bit-is}
+use Rattle.tide_words.specs.tide_layout.declared.region.Region.TheVariants as region
 use Rattle.tide_core.proofs.machine_laws.kinds.Refusals.{leaves_all}
 use Rattle.tide_core.proofs.machine_laws.kinds.Searching.{shown_block, in_window, looks}
 use Rattle.tide_core.proofs.machine_laws.kinds.Takes.{free_is_unowed}

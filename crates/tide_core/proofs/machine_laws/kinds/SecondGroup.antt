@@ -3,7 +3,7 @@ use Rattle.std.proofs.Common.{ℕ, ◌≡◌, ◌<◌, refl, sym, ◌∙◌, ap,
 use Rattle.std.proofs.lemmas.Bool.{cases_Bool}
 use Rattle.std.specs.Int.{bit_at}
 use Rattle.std.specs.Prelude.{if◌then◌else◌, slice_get, ◌==◌}
-use Rattle.tide_layout.specs.Limits.{IsWithinLimits}
+use Rattle.tide_words.specs.tide_layout.Limits.{IsWithinLimits}
 use Rattle.tide_core.proofs.machine_laws.kinds.BornColours.{born_black, born_white}
 use Rattle.tide_core.proofs.machine_laws.kinds.Regreying.{regrey, push_bit, load_colour}
 use Rattle.tide_core.proofs.machine_laws.kinds.Searches.{load_free, lost}
@@ -29,7 +29,7 @@ use Rattle.tide_words.specs.declared.forms.colours.Colour.TheVariants.{Black, Wh
 use Rattle.tide_words.specs.marking.Marked.{base_cycle}
 use Rattle.tide_words.specs.forms.ColourWord.{is_black_in, colour_word}
 use Rattle.tide_words.specs.marking.Colours.{running_cycle, is_marking}
-use Rattle.tide_layout.specs.declared.region.Region.TheVariants as region
+use Rattle.tide_words.specs.tide_layout.declared.region.Region.TheVariants as region
 
 -- a slot is stored by Put
 pub put : (layout : Layout) (shapes : ShapeLists) (w : World) (me : ℕ) → me < parties → RunningWave layout shapes w →

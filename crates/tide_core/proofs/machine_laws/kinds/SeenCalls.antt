@@ -1,7 +1,7 @@
 -- A load that a call sees keeps the wave: what a register is owed is the value that was seen.
 use Rattle.std.proofs.Common.{ℕ, ◌≡◌, ◌<◌, refl, sym, ◌∙◌, ap, subst, Option, Some, None, inl, inr}
 use Rattle.std.proofs.lemmas.Bool.{cases_lt}
-use Rattle.tide_layout.specs.declared.region.Region.TheVariants as region
+use Rattle.tide_words.specs.tide_layout.declared.region.Region.TheVariants as region
 use Rattle.tide_core.proofs.machine_laws.kinds.LoadingSeen.{load_seen}
 use Rattle.tide_core.proofs.machine_laws.steps.Loads.{load_same}
 use Rattle.tide_core.specs.machine.Kind.{LoadStrong, LoadWeak, LoadLink}

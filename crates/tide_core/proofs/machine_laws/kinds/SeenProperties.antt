@@ -1,8 +1,8 @@
 -- GetProp sees a property of a claimed cell: the wave is kept.
 use Rattle.std.proofs.Common.{ℕ, ◌≡◌, ◌<◌, refl, sym, ◌∙◌, ap, subst, Bool, true, false, [], ◌∷◌, length, Option, Some, None}
 use Rattle.std.specs.Prelude.{not}
-use Rattle.tide_layout.specs.Slots.{index_of_element}
-use Rattle.tide_layout.specs.declared.region.Region.TheVariants as region
+use Rattle.tide_words.specs.tide_layout.Slots.{index_of_element}
+use Rattle.tide_words.specs.tide_layout.declared.region.Region.TheVariants as region
 use Rattle.tide_core.proofs.machine_laws.kinds.LoadingSeen.{load_seen}
 use Rattle.tide_core.proofs.machine_laws.kinds.SeenCalls.{seen_granted}
 use Rattle.tide_core.proofs.machine_laws.steps.Loads.{load_same}

@@ -3,10 +3,10 @@ use Rattle.std.proofs.Common.{ℕ, ◌≡◌, ◌≢◌, ◌+◌, ◌*◌, ◌<�
 use Rattle.std.proofs.lemmas.Bool.{cases_Bool, cases_eq, eqb-true, and_parts}
 use Rattle.std.proofs.lemmas.List.Elements.{Contains-append_cases}
 use Rattle.std.specs.Prelude.{Contains, if◌then◌else◌, ◌&&◌, not}
-use Rattle.tide_layout.proofs.SlotPlaces.{index_of_element-alone}
-use Rattle.tide_layout.specs.Region.{tag}
-use Rattle.tide_layout.specs.Slots.{HasElement, index_of_element}
-use Rattle.tide_layout.specs.declared.region.Region.{Region}
+use Rattle.tide_words.proofs.tide_layout.SlotPlaces.{index_of_element-alone}
+use Rattle.tide_words.specs.tide_layout.Region.{tag}
+use Rattle.tide_words.specs.tide_layout.Slots.{HasElement, index_of_element}
+use Rattle.tide_words.specs.tide_layout.declared.region.Region.{Region}
 use Rattle.tide_core.proofs.machine_laws.steps.Frames.{calls_view, stops_view}
 use Rattle.tide_core.proofs.machine_laws.steps.GrowthsKept.{growth_kept}
 use Rattle.tide_core.proofs.machine_laws.steps.Lists.{nothing_in, in_one}
@@ -49,7 +49,7 @@ use Rattle.tide_words.proofs.heap_laws.ReadingLaws.{live_within}
 use Rattle.tide_words.specs.forms.ValueWord.{val_word}
 use Rattle.tide_words.specs.heap.Heap.{Heap, write}
 use Rattle.tide_words.specs.heap.Reading.{ReadsAs}
-use Rattle.tide_layout.specs.declared.region.Region.TheVariants as region
+use Rattle.tide_words.specs.tide_layout.declared.region.Region.TheVariants as region
 
 module _ (layout : Layout) (shapes : ShapeLists) (w : World) (me : ℕ) (inside : me < parties)
     (wave : RunningWave layout shapes w) (runs : (w.part me).runs ≡ true) (cell array place word : ℕ)

@@ -1,9 +1,9 @@
 -- The store of a group word keeps the wave.
 use Rattle.std.proofs.Common.{ℕ, ◌≡◌, ◌<◌, refl, sym, ◌∙◌, ap, subst, arith, [], inr, Some, None, Option}
 use Rattle.std.specs.Prelude.{slice_get}
-use Rattle.tide_layout.specs.Limits.{IsWithinLimits}
-use Rattle.tide_layout.specs.Region.{tag}
-use Rattle.tide_layout.specs.declared.region.Region.{Region}
+use Rattle.tide_words.specs.tide_layout.Limits.{IsWithinLimits}
+use Rattle.tide_words.specs.tide_layout.Region.{tag}
+use Rattle.tide_words.specs.tide_layout.declared.region.Region.{Region}
 use Rattle.tide_core.proofs.machine_laws.steps.CallReadings.{call_reads}
 use Rattle.tide_core.proofs.machine_laws.steps.CellCalls.{cell_call}
 use Rattle.tide_core.proofs.machine_laws.steps.SameLinks.{SameLinks, same_links, same_arrays, all_same}
@@ -31,7 +31,7 @@ use Rattle.tide_model.specs.declared.val.Val.{Val}
 use Rattle.tide_model.specs.declared.val.Val.TheVariants.{Cell}
 use Rattle.tide_words.specs.heap.Heap.{write}
 use Rattle.tide_words.specs.heap.Reading.{ReadsAs}
-use Rattle.tide_layout.specs.declared.region.Region.TheVariants as region
+use Rattle.tide_words.specs.tide_layout.declared.region.Region.TheVariants as region
 
 module _ (layout : Layout) (shapes : ShapeLists) (limits : IsWithinLimits layout)
     (empty_shape : slice_get shapes 0 ≡ Some []) (w : World) (me : ℕ) (inside : me < parties)

@@ -2,10 +2,10 @@
 use Rattle.std.proofs.Common.{ℕ, ◌≡◌, ◌≢◌, ◌+◌, ◌<◌, ◌≤◌, ◌⊎◌, refl, sym, ◌∙◌, ap, subst, arith, List, [], inl, inr, length, Option, Some, None}
 use Rattle.std.proofs.lemmas.Bool.{cases_eq}
 use Rattle.std.specs.Prelude.{Contains, ◌&&◌, slice_get}
-use Rattle.tide_layout.proofs.SlotPlaces.{index_of_element-alone}
-use Rattle.tide_layout.specs.Limits.{IsWithinLimits}
-use Rattle.tide_layout.specs.Slots.{HasElement, index_of_element}
-use Rattle.tide_layout.specs.declared.region.Region.{Region}
+use Rattle.tide_words.proofs.tide_layout.SlotPlaces.{index_of_element-alone}
+use Rattle.tide_words.specs.tide_layout.Limits.{IsWithinLimits}
+use Rattle.tide_words.specs.tide_layout.Slots.{HasElement, index_of_element}
+use Rattle.tide_words.specs.tide_layout.declared.region.Region.{Region}
 use Rattle.tide_core.proofs.machine_laws.WordLaws.{cell_word_is}
 use Rattle.tide_core.proofs.machine_laws.steps.Barriers.{pushes_barrier, colour_barrier, owes_barrier}
 use Rattle.tide_core.proofs.machine_laws.steps.CallReadings.{call_reads}
@@ -47,7 +47,7 @@ use Rattle.tide_words.specs.forms.ValueWord.{val_word}
 use Rattle.tide_words.specs.heap.Heap.{Heap, write}
 use Rattle.tide_words.specs.heap.Reading.{ReadsAs}
 use Rattle.tide_core.specs.machine.Duties.{StillOwes}
-use Rattle.tide_layout.specs.declared.region.Region.TheVariants as region
+use Rattle.tide_words.specs.tide_layout.declared.region.Region.TheVariants as region
 
 module _ (layout : Layout) (shapes : ShapeLists) (limits : IsWithinLimits layout)
     (empty_shape : slice_get shapes 0 ≡ Some []) (w : World) (me : ℕ) (inside : me < parties)

@@ -3,9 +3,9 @@ use Rattle.std.proofs.Common.{ℕ, ◌≡◌, ◌≢◌, ◌<◌, ◌==◌, refl
 use Rattle.std.proofs.lemmas.Bool.{eq-eqb}
 use Rattle.std.specs.Prelude.{not, if◌then◌else◌}
 use Rattle.tide_call.proofs.reading_laws.RootReading.{Reading-register, Reading-strong, Reading-weak, Reading-retire}
-use Rattle.tide_layout.specs.Region.{tag, index_of_register}
-use Rattle.tide_layout.specs.declared.region.Region.{Region}
-use Rattle.tide_layout.specs.declared.region.Region.TheVariants as region
+use Rattle.tide_words.specs.tide_layout.Region.{tag, index_of_register}
+use Rattle.tide_words.specs.tide_layout.declared.region.Region.{Region}
+use Rattle.tide_words.specs.tide_layout.declared.region.Region.TheVariants as region
 use Rattle.tide_core.proofs.machine_laws.steps.Owning.{own_alone}
 use Rattle.tide_core.proofs.machine_laws.steps.PlainWords.{plain_word}
 use Rattle.tide_core.proofs.machine_laws.steps.Registers.{register_after}

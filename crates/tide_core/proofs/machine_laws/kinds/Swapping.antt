@@ -6,8 +6,8 @@ use Rattle.std.proofs.lemmas.List.Elements.{Contains-append_cases, Contains-appe
 use Rattle.std.proofs.lemmas.Nat.Bits.{bit_at-lt, bit_at-zero}
 use Rattle.std.specs.Int.{bit_at}
 use Rattle.std.specs.Prelude.{Contains, if◌then◌else◌, ◌&&◌, not, length, is_some}
-use Rattle.tide_layout.specs.Region.{cell_block_count}
-use Rattle.tide_layout.specs.declared.region.Region.{Region}
+use Rattle.tide_words.specs.tide_layout.Region.{cell_block_count}
+use Rattle.tide_words.specs.tide_layout.declared.region.Region.{Region}
 use Rattle.tide_core.proofs.machine_laws.steps.CellsOfWords.{times_in-append, times_in-cells, in_by_times}
 use Rattle.tide_core.proofs.machine_laws.steps.Colouring.{unread_write, blackened_le}
 use Rattle.tide_core.proofs.machine_laws.steps.Frames.{calls_view, stops_view, put_here, put_else}
@@ -43,7 +43,7 @@ use Rattle.tide_core.proofs.machine_laws.steps.Barriers.{still_owes}
 use Rattle.tide_words.specs.forms.ColourWord.{colour_cycle}
 use Rattle.tide_core.proofs.machine_laws.steps.SameColours.{is_black-same, is_grey-same, is_marked-same}
 use Rattle.tide_words.specs.marking.Marked.{base_cycle, is_marked}
-use Rattle.tide_layout.specs.declared.region.Region.TheVariants as region
+use Rattle.tide_words.specs.tide_layout.declared.region.Region.TheVariants as region
 
 -- the word of a grey region is 0 now, and what it had is in the list
 module _ (layout : Layout) (shapes : ShapeLists) (w : World) (me : ℕ) (inside : me < parties)

@@ -3,11 +3,11 @@
 use Rattle.std.proofs.Common.{ℕ, zero, ◌≡◌, ◌≢◌, ◌+◌, ◌<◌, ◌≤◌, ◌⊎◌, refl, sym, ◌∙◌, ap, subst, arith, Bool, true, false, List, [], ◌∷◌, ◌++◌, inl, inr, Option, Some, None, length}
 use Rattle.std.proofs.lemmas.Bool.{cases_Bool, cases_eq, and_parts, eqb-true, ne_eqb}
 use Rattle.std.specs.Prelude.{Contains, ◌==◌, ◌&&◌, if◌then◌else◌, bit_or}
-use Rattle.tide_layout.proofs.Places.{tag-injective}
-use Rattle.tide_layout.specs.Region.{tag}
-use Rattle.tide_layout.specs.Slots.{HasElement, index_of_element}
-use Rattle.tide_layout.specs.declared.region.Region.{Region}
-use Rattle.tide_layout.specs.declared.region.Region.TheVariants as region
+use Rattle.tide_words.proofs.tide_layout.Places.{tag-injective}
+use Rattle.tide_words.specs.tide_layout.Region.{tag}
+use Rattle.tide_words.specs.tide_layout.Slots.{HasElement, index_of_element}
+use Rattle.tide_words.specs.tide_layout.declared.region.Region.{Region}
+use Rattle.tide_words.specs.tide_layout.declared.region.Region.TheVariants as region
 use Rattle.tide_core.proofs.machine_laws.kinds.SweepingBlocks.{clear_is_clean, clears, right_claimed, right_given, right_on, sees, taken_is_clean, words_claimed}
 use Rattle.tide_core.proofs.machine_laws.kinds.SweepingWords.{named_finished, named_given, named_zeroed, words_finished, words_given, words_zeroed}
 use Rattle.tide_core.proofs.machine_laws.steps.ArraysKept.{arrays_kept}

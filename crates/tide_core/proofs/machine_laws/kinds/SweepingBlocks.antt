@@ -4,9 +4,9 @@ use Rattle.std.proofs.Common.{ℕ, ◌≡◌, ◌≢◌, ◌+◌, ◌<◌, ◌�
 use Rattle.std.proofs.lemmas.Bool.{cases_eq, eq-eqb, ne_eqb}
 use Rattle.std.proofs.lemmas.List.Elements.{Contains-append_cases}
 use Rattle.std.specs.Prelude.{Contains, if◌then◌else◌}
-use Rattle.tide_layout.specs.Region.{block_count, tag}
-use Rattle.tide_layout.specs.declared.region.Region.{Region}
-use Rattle.tide_layout.specs.declared.region.Region.TheVariants as region
+use Rattle.tide_words.specs.tide_layout.Region.{block_count, tag}
+use Rattle.tide_words.specs.tide_layout.declared.region.Region.{Region}
+use Rattle.tide_words.specs.tide_layout.declared.region.Region.TheVariants as region
 use Rattle.tide_core.proofs.machine_laws.steps.Frames.{each_put, put_here}
 use Rattle.tide_core.proofs.machine_laws.steps.Lists.{nothing_in, in_one}
 use Rattle.tide_core.proofs.machine_laws.steps.SweepsKept.{cleared_kept, cleared_push, named_kept, owed_kept, sweeping_same, sweeps_same, told_kept}
@@ -194,7 +194,7 @@ module _ (layout : Layout) (shapes : ShapeLists) (heap : Heap) (part : ℕ → V
       settled = words.settled;
       reads = words.reads;
       same = λ r i read free swept. write-other_region heap region.Swept r block i cycle
-          (ne_eqb (tag r) (tag region.Swept) (λ same. let one = Rattle.tide_layout.proofs.Places.tag-injective r region.Swept same in
+          (ne_eqb (tag r) (tag region.Swept) (λ same. let one = Rattle.tide_words.proofs.tide_layout.Places.tag-injective r region.Swept same in
           let also = ap is_read one in absurd (cc)))
           ∙ words.same r i read (λ p x o. free p x (owed_back p r i x o)) (λ p x un. swept p x (back p r i x un));
       owed = each_put (λ p u. (r : Region) (i x : ℕ) → Owes u r i x → words.settled r i ≡ x) part me w
@@ -264,7 +264,7 @@ module _ (layout : Layout) (shapes : ShapeLists) (heap : Heap) (part : ℕ → V
             zeroed = λ waits r i x has. let z = was.zeroed waits r i x has in (
               z.0,
               write-other_region heap region.Swept r block i cycle
-                  (ne_eqb (tag r) (tag region.Swept) (λ same. let one = Rattle.tide_layout.proofs.Places.tag-injective r region.Swept same in
+                  (ne_eqb (tag r) (tag region.Swept) (λ same. let one = Rattle.tide_words.proofs.tide_layout.Places.tag-injective r region.Swept same in
                   absurd (subst (λ (q : Region). IsDeadWord layout t.block t.dead q i) one z.0))) ∙ z.1,
             );
           });

@@ -4,12 +4,12 @@ use Rattle.std.proofs.Common.{ℕ, zero, suc, ◌≡◌, ◌≢◌, ◌<◌, ◌
 use Rattle.std.proofs.lemmas.Bool.{cases_Bool, cases_eq, and_parts, eqb-true, eq-eqb, ne_eqb}
 use Rattle.std.proofs.lemmas.List.Elements.{Contains-append_cases}
 use Rattle.std.specs.Prelude.{Contains, ◌==◌, ◌&&◌, ◌||◌, if◌then◌else◌, bit_or}
-use Rattle.tide_layout.proofs.Places.{tag-injective}
-use Rattle.tide_layout.specs.Region.{block_count, tag}
-use Rattle.tide_layout.specs.Slots.{HasElement, HasSlot, index_of_element, index_of_slot}
-use Rattle.tide_layout.specs.declared.region.Region.{Region}
-use Rattle.tide_layout.specs.declared.region.Region.TheVariants as region
-use Rattle.tide_layout.proofs.SlotPlaces.{index_of_slot-alone, index_of_element-alone}
+use Rattle.tide_words.proofs.tide_layout.Places.{tag-injective}
+use Rattle.tide_words.specs.tide_layout.Region.{block_count, tag}
+use Rattle.tide_words.specs.tide_layout.Slots.{HasElement, HasSlot, index_of_element, index_of_slot}
+use Rattle.tide_words.specs.tide_layout.declared.region.Region.{Region}
+use Rattle.tide_words.specs.tide_layout.declared.region.Region.TheVariants as region
+use Rattle.tide_words.proofs.tide_layout.SlotPlaces.{index_of_slot-alone, index_of_element-alone}
 use Rattle.tide_core.proofs.machine_laws.steps.Frames.{each_put, put_here}
 use Rattle.tide_core.proofs.machine_laws.steps.Lists.{nothing_in, in_one}
 use Rattle.tide_core.proofs.machine_laws.steps.SweepsKept.{is_taken, saw_kept, unsettles_zeroed}

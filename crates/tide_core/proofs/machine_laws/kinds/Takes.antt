@@ -3,12 +3,12 @@ use Rattle.std.proofs.Common.{ℕ, ◌≡◌, ◌+◌, ◌*◌, ◌%◌, ◌<◌
 use Rattle.std.proofs.lemmas.Bool.{eqb-true}
 use Rattle.std.specs.Int.{bit_at}
 use Rattle.std.specs.Prelude.{if◌then◌else◌, slice_get, bit_and}
-use Rattle.tide_block.proofs.BitLaws.{without_bit-is}
-use Rattle.tide_layout.proofs.LimitLaws.{few_cells}
-use Rattle.tide_layout.specs.Limits.{IsWithinLimits}
-use Rattle.tide_layout.specs.Region.{tag}
-use Rattle.tide_layout.specs.declared.region.Region.{Region}
-use Rattle.tide_layout.specs.declared.region.Region.TheVariants as region
+use Rattle.tide_words.proofs.tide_block.BitLaws.{without_bit-is}
+use Rattle.tide_words.proofs.tide_layout.LimitLaws.{few_cells}
+use Rattle.tide_words.specs.tide_layout.Limits.{IsWithinLimits}
+use Rattle.tide_words.specs.tide_layout.Region.{tag}
+use Rattle.tide_words.specs.tide_layout.declared.region.Region.{Region}
+use Rattle.tide_words.specs.tide_layout.declared.region.Region.TheVariants as region
 use Rattle.tide_core.proofs.machine_laws.kinds.TakingCells.{take_free}
 use Rattle.tide_core.proofs.machine_laws.steps.SettledNow.{free_now}
 use Rattle.tide_core.specs.machine.Entries.{call_of, added}

@@ -3,16 +3,16 @@ use Rattle.std.proofs.Common.{ℕ, suc, ◌≡◌, ◌≢◌, ◌+◌, ◌%◌, 
 use Rattle.std.proofs.lemmas.Bool.{cases_eq, ne_eqb}
 use Rattle.std.specs.Int.{bit_at}
 use Rattle.std.specs.Prelude.{Contains, if◌then◌else◌, ◌&&◌, not, slice_get, bit_and}
-use Rattle.tide_block.proofs.BitLaws.{without_bit-is}
+use Rattle.tide_words.proofs.tide_block.BitLaws.{without_bit-is}
 use Rattle.tide_call.proofs.reading_laws.ArrayRoom.{room-taken}
 use Rattle.tide_call.specs.Grown.{IsGrown, is_grown_region}
 use Rattle.tide_call.specs.Taken.{IsTakenBit}
-use Rattle.tide_layout.proofs.Places.{tag-injective}
-use Rattle.tide_layout.proofs.SlotPlaces.{index_of_element-alone}
-use Rattle.tide_layout.specs.Limits.{IsWithinLimits}
-use Rattle.tide_layout.specs.Region.{tag}
-use Rattle.tide_layout.specs.Slots.{HasElement, index_of_element}
-use Rattle.tide_layout.specs.declared.region.Region.{Region}
+use Rattle.tide_words.proofs.tide_layout.Places.{tag-injective}
+use Rattle.tide_words.proofs.tide_layout.SlotPlaces.{index_of_element-alone}
+use Rattle.tide_words.specs.tide_layout.Limits.{IsWithinLimits}
+use Rattle.tide_words.specs.tide_layout.Region.{tag}
+use Rattle.tide_words.specs.tide_layout.Slots.{HasElement, index_of_element}
+use Rattle.tide_words.specs.tide_layout.declared.region.Region.{Region}
 use Rattle.tide_core.proofs.machine_laws.WordLaws.{cell_word_is}
 use Rattle.tide_core.proofs.machine_laws.kinds.Takes.{free_is_unowed}
 use Rattle.tide_core.proofs.machine_laws.steps.Barriers.{pushes_barrier, colour_barrier, owes_barrier, awaits_barrier}
@@ -68,7 +68,7 @@ use Rattle.tide_words.specs.forms.Reference.{array_word}
 use Rattle.tide_words.specs.forms.ValueWord.{val_word}
 use Rattle.tide_words.specs.heap.Heap.{Heap, write}
 use Rattle.tide_words.specs.heap.Reading.{ReadsAs}
-use Rattle.tide_layout.specs.declared.region.Region.TheVariants as region
+use Rattle.tide_words.specs.tide_layout.declared.region.Region.TheVariants as region
 use Rattle.tide_core.specs.declared.machine.view.Growth.TheVariants as growth
 
 -- a call that took an array met no refusal

@@ -23,7 +23,7 @@ use Rattle.tide_words.specs.declared.forms.colours.Colour.TheVariants.{Grey, Bla
 use Rattle.tide_words.specs.forms.ColourWord.{colour_word}
 use Rattle.tide_words.specs.marking.Colours.{Counts, coloured, is_marking, running_cycle, is_grey, is_black, IsBlack}
 use Rattle.tide_words.specs.marking.Marked.{base_cycle}
-use Rattle.tide_layout.specs.declared.region.Region.TheVariants as region
+use Rattle.tide_words.specs.tide_layout.declared.region.Region.TheVariants as region
 use Rattle.tide_core.specs.declared.machine.view.Duty.TheVariants as duty
 
 module _ (layout : Layout) (shapes : ShapeLists) (w : World) (me : ℕ) (inside : me < parties)

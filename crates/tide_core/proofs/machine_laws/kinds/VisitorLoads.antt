@@ -3,10 +3,10 @@ use Rattle.std.proofs.Common.{ℕ, ◌≡◌, ◌≢◌, ◌+◌, ◌*◌, ◌%�
 use Rattle.std.proofs.lemmas.Bool.{cases_eq, eq-eqb, ne_eqb, eqb-true}
 use Rattle.std.proofs.lemmas.List.Elements.{Contains-append_cases, Contains-append_right}
 use Rattle.std.specs.Prelude.{Contains, if◌then◌else◌, ◌/◌}
-use Rattle.tide_layout.proofs.SlotPlaces.{index_of_slot-alone}
-use Rattle.tide_layout.specs.Region.{tag}
-use Rattle.tide_layout.specs.Slots.{index_of_slot}
-use Rattle.tide_layout.specs.declared.region.Region.{Region}
+use Rattle.tide_words.proofs.tide_layout.SlotPlaces.{index_of_slot-alone}
+use Rattle.tide_words.specs.tide_layout.Region.{tag}
+use Rattle.tide_words.specs.tide_layout.Slots.{index_of_slot}
+use Rattle.tide_words.specs.tide_layout.declared.region.Region.{Region}
 use Rattle.tide_core.proofs.machine_laws.steps.Lists.{in_one}
 use Rattle.tide_core.proofs.machine_laws.steps.Rereading.{scan_step, with_scan}
 use Rattle.tide_core.proofs.machine_laws.steps.SettledNow.{slot_now}
@@ -36,7 +36,7 @@ use Rattle.tide_words.proofs.heap_laws.ReadingLaws.{live_within, HasSlot-class}
 use Rattle.tide_words.specs.forms.ValueWord.{val_word}
 use Rattle.tide_words.specs.marking.Colours.{is_marking, IsMarked, IsStamped}
 use Rattle.tide_core.specs.machine.Duties.{StillOwes}
-use Rattle.tide_layout.specs.declared.region.Region.TheVariants as region
+use Rattle.tide_words.specs.tide_layout.declared.region.Region.TheVariants as region
 
 -- the cell of a word that was read, and those from before
 pub and_cell_before : (word : ℕ) (cells : List ℕ) (c : ℕ) → Contains cells c → Contains (and_cell_of word cells) c

@@ -2,7 +2,7 @@
 use Rattle.std.proofs.Common.{ℕ, ◌≡◌, ◌+◌, ◌*◌, ◌%◌, ◌<◌, ◌==◌, refl, sym, ◌∙◌, ap, subst, arith, Bool, true, false, ◌∷◌, Option, Some, None}
 use Rattle.std.proofs.lemmas.Bool.{eqb-true, eqb-false}
 use Rattle.std.specs.Prelude.{Contains, if◌then◌else◌}
-use Rattle.tide_layout.specs.Slots.{index_of_slot, index_of_element}
+use Rattle.tide_words.specs.tide_layout.Slots.{index_of_slot, index_of_element}
 use Rattle.tide_core.proofs.machine_laws.kinds.ArrayLoads.{load_array, load_element}
 use Rattle.tide_core.proofs.machine_laws.kinds.Blackening.{blacken}
 use Rattle.tide_core.proofs.machine_laws.kinds.Publishing.{publish}
@@ -45,7 +45,7 @@ use Rattle.tide_core.specs.machine.Duties.{StillOwes}
 use Rattle.tide_words.specs.declared.forms.colours.Colour.{Colour}
 use Rattle.tide_words.proofs.marking_laws.ColourLaws.{colour_of-later}
 use Rattle.tide_words.specs.marking.Marked.{base_cycle}
-use Rattle.tide_layout.specs.declared.region.Region.TheVariants as region
+use Rattle.tide_words.specs.tide_layout.declared.region.Region.TheVariants as region
 use Rattle.tide_core.specs.declared.machine.view.Duty.TheVariants as duty
 
 module _ (layout : Layout) (shapes : ShapeLists) (w : World) (me : ℕ) (inside : me < parties)

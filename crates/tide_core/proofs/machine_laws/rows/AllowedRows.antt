@@ -1,6 +1,6 @@
 -- Steps near to allowed ones, which are not allowed.
 use Rattle.std.proofs.Common.{ap, arith, Some, None, ℕ, ◌≡◌, ◌∙◌, sym, refl, true, [], ◌∷◌}
-use Rattle.tide_layout.specs.declared.region.Region.TheVariants as region
+use Rattle.tide_words.specs.tide_layout.declared.region.Region.TheVariants as region
 use Rattle.tide_core.proofs.machine_laws.rows.BusyRow.{busy, loaded, taken, linked}
 use Rattle.tide_core.proofs.machine_laws.steps.Lists.{in_one, nothing_in, is_in_one}
 use Rattle.tide_core.specs.machine.Frozen.{newcomer}

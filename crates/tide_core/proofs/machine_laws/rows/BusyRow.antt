@@ -5,10 +5,10 @@ use Rattle.std.specs.Prelude.{◌==◌}
 use Rattle.tide_core.specs.wave.Entered.{HasBegun, with_begin, with_open}
 use Rattle.tide_cycle.proofs.BeginLaws
 use Rattle.tide_cycle.specs.Frames.{LeftByBegin, is_begun_region}
-use Rattle.tide_layout.specs.Region.{tag}
-use Rattle.tide_layout.specs.declared.region.Region.{Region}
-use Rattle.tide_layout.specs.Limits.{IsWithinLimits}
-use Rattle.tide_layout.specs.declared.region.Region.TheVariants as region
+use Rattle.tide_words.specs.tide_layout.Region.{tag}
+use Rattle.tide_words.specs.tide_layout.declared.region.Region.{Region}
+use Rattle.tide_words.specs.tide_layout.Limits.{IsWithinLimits}
+use Rattle.tide_words.specs.tide_layout.declared.region.Region.TheVariants as region
 use Rattle.tide_core.proofs.machine_laws.Scheduling.{all_schedules}
 use Rattle.tide_core.proofs.machine_laws.steps.Frames.{put_else}
 use Rattle.tide_core.specs.machine.Frozen.{first_world, FrozenMachine}

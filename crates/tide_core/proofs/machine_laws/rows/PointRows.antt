@@ -1,6 +1,6 @@
 -- Worlds near to one that has the wave, each of which breaks one of its points.
 use Rattle.std.proofs.Common.{ℕ, refl, arith, true, false, List, [], ◌∷◌, Some, inl, inr}
-use Rattle.tide_layout.specs.declared.region.Region.TheVariants as region
+use Rattle.tide_words.specs.tide_layout.declared.region.Region.TheVariants as region
 use Rattle.tide_core.proofs.machine_laws.Scheduling.{all_schedules}
 use Rattle.tide_core.specs.wave.FrozenWave.{OldIsMarked}
 use Rattle.tide_core.proofs.machine_laws.steps.MarkedLives.{retained_is_live}

@@ -4,9 +4,9 @@ use Rattle.std.proofs.lemmas.Bool.{cases_eq, ne_eqb}
 use Rattle.std.proofs.lemmas.Nat.Bits.{bit_at-pow_other}
 use Rattle.std.specs.Int.{bit_at}
 use Rattle.std.specs.Prelude.{◌-◌, ◌^◌, ◌%◌, ◌/◌, ◌++◌, ◌↔◌, ◌==◌, Contains, length, take}
-use Rattle.tide_layout.specs.Slots.{HasSlot, index_of_slot}
-use Rattle.tide_layout.specs.declared.region.Region.{Region}
-use Rattle.tide_layout.specs.declared.region.Region.TheVariants as region
+use Rattle.tide_words.specs.tide_layout.Slots.{HasSlot, index_of_slot}
+use Rattle.tide_words.specs.tide_layout.declared.region.Region.{Region}
+use Rattle.tide_words.specs.tide_layout.declared.region.Region.TheVariants as region
 use Rattle.tide_core.proofs.machine_laws.steps.Lists.{in_one, is_in_one, nothing_in}
 use Rattle.tide_core.specs.machine.Frozen.{newcomer}
 use Rattle.tide_core.specs.machine.Kind.{ClaimBlock, Finish, GiveBits, LoadDead, StoreRegister, StoreStopped, ZeroWord}

@@ -10,9 +10,9 @@ use Rattle.tide_core.specs.wave.Entered.{HasBegun, HasPaused, with_begin, with_o
 use Rattle.tide_cycle.proofs.BeginLaws
 use Rattle.tide_cycle.proofs.ScatterLaws
 use Rattle.tide_cycle.specs.Frames.{LeftByBegin}
-use Rattle.tide_layout.specs.Limits.{IsWithinLimits}
-use Rattle.tide_layout.specs.Slots.{index_of_slot, words_before_cell}
-use Rattle.tide_layout.specs.declared.region.Region.TheVariants as region
+use Rattle.tide_words.specs.tide_layout.Limits.{IsWithinLimits}
+use Rattle.tide_words.specs.tide_layout.Slots.{index_of_slot, words_before_cell}
+use Rattle.tide_words.specs.tide_layout.declared.region.Region.TheVariants as region
 use Rattle.tide_core.proofs.machine_laws.Scheduling.{all_schedules}
 use Rattle.tide_core.proofs.machine_laws.rows.BusyRow.{limits, no_phase}
 use Rattle.tide_core.proofs.machine_laws.steps.Frames.{put_else}

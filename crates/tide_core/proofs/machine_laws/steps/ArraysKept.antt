@@ -1,8 +1,8 @@
 -- Arrays stand for their cells where a reading says them, and while the words and the cells that they tell of stay.
 use Rattle.std.proofs.Common.{ℕ, ◌≡◌, ◌+◌, ◌<◌, ◌≤◌, ◌⊎◌, sym, ◌∙◌, ap, subst, arith, List, inl, inr, Some, None, Option, length}
 use Rattle.std.proofs.lemmas.Bool.{cases_eq}
-use Rattle.tide_layout.specs.Slots.{HasElement, index_of_element}
-use Rattle.tide_layout.specs.declared.region.Region.TheVariants as region
+use Rattle.tide_words.specs.tide_layout.Slots.{HasElement, index_of_element}
+use Rattle.tide_words.specs.tide_layout.declared.region.Region.TheVariants as region
 use Rattle.tide_core.specs.machine.Words.{count_of}
 use Rattle.tide_core.specs.machine.points.Arrays.{ArraysStand, ArrayStands}
 use Rattle.tide_model.specs.Layout.{Layout, cell_count}

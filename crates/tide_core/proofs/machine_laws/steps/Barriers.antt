@@ -6,7 +6,7 @@ use Rattle.tide_core.specs.machine.World.{pushes}
 use Rattle.tide_core.specs.declared.machine.view.Duty.{Duty}
 use Rattle.tide_words.specs.heap.Heap.{Heap}
 use Rattle.tide_core.specs.declared.machine.view.Duty.TheVariants as duty
-use Rattle.tide_layout.specs.declared.region.Region.TheVariants as region
+use Rattle.tide_words.specs.tide_layout.declared.region.Region.TheVariants as region
 
 abbrev pub barrier_if : Bool → ℕ → Duty
 barrier_if test cell = if test then duty.Barrier cell else duty.Nothing

@@ -3,7 +3,7 @@ use Rattle.std.proofs.Common.{ℕ, ◌≡◌, [], Some, Option}
 use Rattle.std.specs.Prelude.{slice_get}
 use Rattle.tide_call.proofs.reading_laws.CallReading.{calls_read_back}
 use Rattle.tide_call.specs.CallWords.{CallWords}
-use Rattle.tide_layout.specs.Limits.{IsWithinLimits}
+use Rattle.tide_words.specs.tide_layout.Limits.{IsWithinLimits}
 use Rattle.tide_core.specs.machine.Entries.{call_of}
 use Rattle.tide_core.specs.machine.RunningWave.{RunningWave}
 use Rattle.tide_core.specs.machine.World.{World}

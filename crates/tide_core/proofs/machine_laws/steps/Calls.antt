@@ -3,7 +3,7 @@ use Rattle.std.proofs.Common.{ℕ, ◌≡◌, ◌≢◌, ◌+◌, ◌<◌, ◌�
 use Rattle.std.proofs.lemmas.Bool.{cases_Bool, cases_eq, and_parts, and_from}
 use Rattle.std.specs.Prelude.{Contains, if◌then◌else◌, ◌&&◌, not}
 use Rattle.tide_core.specs.wave.FrozenWave.{is_birth_of, is_born_in_cycle, is_of_visit}
-use Rattle.tide_layout.specs.declared.region.Region.{Region}
+use Rattle.tide_words.specs.tide_layout.declared.region.Region.{Region}
 use Rattle.tide_core.proofs.machine_laws.steps.BareTables.{TablesAreBare-lawful}
 use Rattle.tide_core.proofs.machine_laws.steps.Colouring.{count_where-le}
 use Rattle.tide_core.proofs.machine_laws.steps.Frames.{each_put, put_here, put_else, total_below-put, held_view, stops_view}
@@ -59,7 +59,7 @@ use Rattle.tide_model.specs.Old.{IsSpared, is_full, is_old, is_spared}
 use Rattle.tide_core.proofs.machine_laws.steps.Barriers.{still_owes}
 use Rattle.tide_core.proofs.machine_laws.steps.SameColours.{bits_same, is_black-same, is_grey-same, is_marked-same}
 use Rattle.tide_words.specs.forms.ColourWord.{colour_cycle}
-use Rattle.tide_layout.specs.declared.region.Region.TheVariants as region
+use Rattle.tide_words.specs.tide_layout.declared.region.Region.TheVariants as region
 use Rattle.tide_core.proofs.machine_laws.steps.Growing
 use Rattle.tide_core.specs.declared.machine.view.Duty.TheVariants as duty
 use Rattle.tide_core.specs.declared.machine.view.Growth.TheVariants as growth

@@ -2,8 +2,8 @@
 use Rattle.std.proofs.Common.{ℕ, ◌≡◌, ◌+◌, ◌%◌, ◌<◌, refl, sym, ◌∙◌, ap, subst, arith, List, [], inl, inr, length, Some, false}
 use Rattle.std.proofs.lemmas.Bool.{cases_eq, ne_eqb}
 use Rattle.std.specs.Prelude.{Contains}
-use Rattle.tide_layout.specs.declared.region.Region.{Region}
-use Rattle.tide_layout.specs.declared.region.Region.TheVariants as region
+use Rattle.tide_words.specs.tide_layout.declared.region.Region.{Region}
+use Rattle.tide_words.specs.tide_layout.declared.region.Region.TheVariants as region
 use Rattle.tide_core.proofs.machine_laws.steps.Lists.{nothing_in}
 use Rattle.tide_core.proofs.machine_laws.steps.Owning.{own_alone}
 use Rattle.tide_core.proofs.machine_laws.steps.SettledNow.{own_now}

@@ -2,8 +2,8 @@
 use Rattle.std.proofs.Common.{ℕ, ◌≡◌, ◌≢◌, ◌+◌, ◌^◌, ◌<◌, ◌⊎◌, refl, sym, ◌∙◌, ap, subst, arith, Bool, true, false, List, [], ◌∷◌, ◌++◌, inl, inr, Some}
 use Rattle.std.proofs.lemmas.Bool.{cases_lt}
 use Rattle.std.specs.Prelude.{if◌then◌else◌}
-use Rattle.tide_layout.specs.Region.{block_count}
-use Rattle.tide_layout.specs.declared.region.Region.TheVariants as region
+use Rattle.tide_words.specs.tide_layout.Region.{block_count}
+use Rattle.tide_words.specs.tide_layout.declared.region.Region.TheVariants as region
 use Rattle.tide_core.proofs.machine_laws.steps.Unsettled.{own_is_not_dead, unsettled_word}
 use Rattle.tide_core.specs.machine.Owed.{Unsettles}
 use Rattle.tide_core.specs.declared.machine.view.View.{View}

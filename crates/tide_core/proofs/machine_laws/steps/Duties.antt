@@ -1,7 +1,7 @@
 -- A step that changes the duty of its view alone, beside words that the reading doesn't look at.
 use Rattle.std.proofs.Common.{ℕ, ◌≡◌, ◌+◌, ◌<◌, ◌≤◌, ◌⊎◌, refl, sym, ◌∙◌, arith, true, false, inl, inr, Some, List, ap}
 use Rattle.std.specs.Prelude.{if◌then◌else◌}
-use Rattle.tide_layout.specs.declared.region.Region.{Region}
+use Rattle.tide_words.specs.tide_layout.declared.region.Region.{Region}
 use Rattle.tide_core.proofs.machine_laws.steps.Frames.{calls_view, stops_view}
 use Rattle.tide_core.proofs.machine_laws.steps.Quiet.{quiet_step}
 use Rattle.tide_core.proofs.machine_laws.steps.Waiting.{SharedBit, left_quiet}
@@ -26,7 +26,7 @@ use Rattle.tide_words.specs.marking.Marked.{is_marked}
 use Rattle.tide_words.specs.marking.Marking.{bits_of, NoLaterColours}
 use Rattle.tide_core.specs.wave.FrozenWave.{blackened_count}
 use Rattle.tide_words.specs.forms.ColourWord.{colour_cycle}
-use Rattle.tide_layout.specs.declared.region.Region.TheVariants as region
+use Rattle.tide_words.specs.tide_layout.declared.region.Region.TheVariants as region
 
 -- the view with another duty
 abbrev pub with_duty : View → Duty → View

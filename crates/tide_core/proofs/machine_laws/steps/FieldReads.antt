@@ -1,7 +1,7 @@
 -- What a scan reads while its readings are still the words is what a visit of its cell reads, and nothing else is.
 use Rattle.std.proofs.Common.{ℕ, ◌≡◌, ◌<◌, ◌⊎◌, refl, sym, ◌∙◌, ap, arith, Some, inl, inr}
-use Rattle.tide_layout.specs.Slots.{HasElement}
-use Rattle.tide_layout.specs.declared.region.Region.TheVariants as region
+use Rattle.tide_words.specs.tide_layout.Slots.{HasElement}
+use Rattle.tide_words.specs.tide_layout.declared.region.Region.TheVariants as region
 use Rattle.tide_core.proofs.machine_laws.WordLaws.{count_of_word}
 use Rattle.tide_core.specs.machine.Words.{count_of}
 use Rattle.tide_model.specs.Layout.{Layout, class_of, slots_of}

@@ -2,7 +2,7 @@
 use Rattle.std.proofs.Common.{ℕ, zero, suc, ◌≡◌, ◌≢◌, ◌+◌, ◌<◌, ◌≤◌, ◌⊎◌, refl, sym, ◌∙◌, ap, subst, arith, Bool, List, inl, inr}
 use Rattle.std.proofs.lemmas.Bool.{eq-eqb, ne_eqb, cases_eq}
 use Rattle.std.specs.Prelude.{if◌then◌else◌, filter, ◌%◌, ◌^◌}
-use Rattle.tide_layout.specs.Slots.{total_below}
+use Rattle.tide_words.specs.tide_layout.Slots.{total_below}
 use Rattle.tide_core.specs.machine.Kind.{index_of_stopped}
 use Rattle.tide_core.specs.machine.World.{IsParty, holds, parties}
 use Rattle.tide_core.specs.declared.machine.view.View.{View}
@@ -18,7 +18,7 @@ use Rattle.tide_model.specs.declared.entry.Event.{Event}
 use Rattle.tide_words.specs.heap.Heap.{Heap}
 use Rattle.tide_words.specs.marking.Colours.{is_grey}
 use Rattle.tide_words.specs.marking.Marking.{bits_of}
-use Rattle.tide_layout.specs.declared.region.Region.TheVariants as region
+use Rattle.tide_words.specs.tide_layout.declared.region.Region.TheVariants as region
 
 -- what held of the stepping view's old value, or is shown of its new one, and held of all others, holds of all
 pub each_put : (Q : ℕ → View → Type 0) (part : ℕ → View) (me : ℕ) (w : View) → Q me w → ((p : ℕ) → Q p (part p)) →

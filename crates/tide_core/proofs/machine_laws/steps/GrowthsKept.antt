@@ -1,7 +1,7 @@
 -- What a growth knows stays known while the words of its cell, the claim, and what it owes stay.
 use Rattle.std.proofs.Common.{ℕ, ◌≡◌, ◌∙◌, Some}
 use Rattle.std.specs.Prelude.{Contains}
-use Rattle.tide_layout.specs.declared.region.Region.TheVariants as region
+use Rattle.tide_words.specs.tide_layout.declared.region.Region.TheVariants as region
 use Rattle.tide_core.specs.machine.Owed.{Owes}
 use Rattle.tide_core.specs.machine.Words.{nuked_word}
 use Rattle.tide_core.specs.declared.machine.view.Growth.{Growth}

@@ -2,7 +2,7 @@
 use Rattle.std.proofs.Common.{ℕ, suc, ◌≡◌, ◌<◌, ◌≤◌, refl, sym, ◌∙◌, ap, subst, arith, Bool, true, false, List, [], ◌∷◌, ◌++◌, append-nil, inl, inr, Option, Some, None, length, length-append}
 use Rattle.std.proofs.lemmas.List.Elements.{Contains-append_cases, filter-append}
 use Rattle.std.specs.Prelude.{Contains, filter, if◌then◌else◌, not, ◌||◌}
-use Rattle.tide_layout.specs.declared.region.Region.{Region}
+use Rattle.tide_words.specs.tide_layout.declared.region.Region.{Region}
 use Rattle.tide_core.proofs.machine_laws.steps.BareTables.{TablesAreBare-lawful}
 use Rattle.tide_core.proofs.machine_laws.steps.Barriers.{still_owes}
 use Rattle.tide_core.proofs.machine_laws.steps.Frames.{calls_view, each_put, held_view, stops_view}
@@ -48,7 +48,7 @@ use Rattle.tide_words.specs.heap.Heap.{Heap}
 use Rattle.tide_words.specs.marking.Colours.{is_black, is_grey, is_marking, running_cycle}
 use Rattle.tide_words.specs.marking.Marked.{base_cycle, is_marked}
 use Rattle.tide_words.specs.marking.Marking.{bits_of}
-use Rattle.tide_layout.specs.declared.region.Region.TheVariants as region
+use Rattle.tide_words.specs.tide_layout.declared.region.Region.TheVariants as region
 use Rattle.tide_core.proofs.machine_laws.steps.Growing
 use Rattle.tide_core.specs.declared.machine.view.Duty.TheVariants as duty
 use Rattle.tide_core.specs.declared.machine.view.Growth.TheVariants as growth

@@ -1,7 +1,7 @@
 -- A step that makes no entry, where no cycle marks: what is said of a cycle says nothing, and colours stay.
 use Rattle.std.proofs.Common.{ℕ, ◌≡◌, ◌<◌, refl, sym, ◌∙◌, ap, subst, arith, Bool, true, false, List, inl, inr, Option, Some}
 use Rattle.std.specs.Prelude.{Contains, if◌then◌else◌}
-use Rattle.tide_layout.specs.declared.region.Region.{Region}
+use Rattle.tide_words.specs.tide_layout.declared.region.Region.{Region}
 use Rattle.tide_core.proofs.machine_laws.steps.Frames.{calls_view, stops_view}
 use Rattle.tide_core.proofs.machine_laws.steps.GrowthsKept.{growth_kept}
 use Rattle.tide_core.proofs.machine_laws.steps.Barriers.{still_owes}
@@ -31,7 +31,7 @@ use Rattle.tide_words.specs.heap.Heap.{Heap}
 use Rattle.tide_words.specs.marking.Colours.{is_grey, is_marking, running_cycle}
 use Rattle.tide_words.specs.marking.Marked.{is_marked}
 use Rattle.tide_words.specs.marking.Marking.{bits_of}
-use Rattle.tide_layout.specs.declared.region.Region.TheVariants as region
+use Rattle.tide_words.specs.tide_layout.declared.region.Region.TheVariants as region
 
 -- the regions that no step of a sweep writes and that aren't read
 abbrev pub is_left : Region → Bool

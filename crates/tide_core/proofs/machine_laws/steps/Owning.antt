@@ -1,9 +1,9 @@
 -- No word is two mutators' own.
 use Rattle.std.proofs.Common.{ℕ, ◌≡◌, sym, ◌∙◌, ap, subst, arith, Some}
 use Rattle.std.specs.Prelude.{Contains}
-use Rattle.tide_layout.proofs.SlotPlaces.{index_of_slot-alone, index_of_element-alone, index_of_register-alone}
-use Rattle.tide_layout.specs.Region.{tag}
-use Rattle.tide_layout.specs.declared.region.Region.{Region}
+use Rattle.tide_words.proofs.tide_layout.SlotPlaces.{index_of_slot-alone, index_of_element-alone, index_of_register-alone}
+use Rattle.tide_words.specs.tide_layout.Region.{tag}
+use Rattle.tide_words.specs.tide_layout.declared.region.Region.{Region}
 use Rattle.tide_core.specs.machine.Owed.{IsOwnWord, own_register, own_structure, own_array, own_pair, own_element}
 use Rattle.tide_model.specs.Layout.{Layout}
 use Rattle.tide_model.specs.References.{RefsAreLive, ClaimsAreOwn}

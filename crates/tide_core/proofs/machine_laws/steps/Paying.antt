@@ -3,9 +3,9 @@ use Rattle.std.proofs.Common.{ℕ, zero, suc, ◌≡◌, ◌==◌, refl, sym, �
 use Rattle.std.proofs.lemmas.Bool.{cases_Bool, eqb-true, and_parts}
 use Rattle.std.proofs.lemmas.List.Elements.{filter-append, Contains-append_cases, Contains-append_left, Contains-append_right}
 use Rattle.std.specs.Prelude.{Contains, if◌then◌else◌, ◌&&◌, not, filter}
-use Rattle.tide_layout.proofs.Places.{tag-injective}
-use Rattle.tide_layout.specs.Region.{tag}
-use Rattle.tide_layout.specs.declared.region.Region.{Region}
+use Rattle.tide_words.proofs.tide_layout.Places.{tag-injective}
+use Rattle.tide_words.specs.tide_layout.Region.{tag}
+use Rattle.tide_words.specs.tide_layout.declared.region.Region.{Region}
 use Rattle.tide_core.proofs.machine_laws.steps.Frames.{each_put}
 use Rattle.tide_core.proofs.machine_laws.steps.Unsettled.{given_put, unsettles_put}
 use Rattle.tide_core.specs.machine.Owed.{is_at, Owes, IsOwnWord, owed_word, without_word}

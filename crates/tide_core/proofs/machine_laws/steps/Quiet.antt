@@ -1,7 +1,7 @@
 -- A step that makes no entry and changes no word that the reading looks at keeps the wave.
 use Rattle.std.proofs.Common.{ℕ, ◌≡◌, ◌≢◌, ◌+◌, ◌<◌, ◌≤◌, ◌⊎◌, refl, sym, ◌∙◌, ap, subst, arith, Bool, true, false, List, [], inl, inr, Option, Some, None}
 use Rattle.std.specs.Prelude.{Contains, if◌then◌else◌}
-use Rattle.tide_layout.specs.declared.region.Region.{Region}
+use Rattle.tide_words.specs.tide_layout.declared.region.Region.{Region}
 use Rattle.tide_core.proofs.machine_laws.steps.ArraysKept.{arrays_kept}
 use Rattle.tide_core.proofs.machine_laws.steps.Frames.{each_put}
 use Rattle.tide_core.proofs.machine_laws.steps.GrowthsKept.{growth_kept}
@@ -45,7 +45,7 @@ use Rattle.tide_words.specs.marking.Colours.{is_marking, is_grey, IsBlack, IsMar
 use Rattle.tide_words.specs.marking.Marked.{is_marked}
 use Rattle.tide_words.specs.marking.Marking.{bits_of, NoLaterColours}
 use Rattle.tide_model.specs.Old.{IsSpared}
-use Rattle.tide_layout.specs.declared.region.Region.TheVariants as region
+use Rattle.tide_words.specs.tide_layout.declared.region.Region.TheVariants as region
 
 -- the view answers for the link after the step: it owes the barrier still, or its scan answers for it, as before
 abbrev pub Answers : Heap → Heap → ℕ → Place → ℕ → View → Type 0

@@ -27,7 +27,7 @@ use Rattle.tide_words.specs.marking.Colours.{is_marking, IsMarked, IsStamped}
 use Rattle.tide_words.specs.marking.Marked.{is_marked}
 use Rattle.tide_core.specs.machine.Duties.{AwaitsLoad, StillOwes}
 use Rattle.tide_core.proofs.machine_laws.steps.Barriers.{awaits_owes}
-use Rattle.tide_layout.specs.declared.region.Region.TheVariants as region
+use Rattle.tide_words.specs.tide_layout.declared.region.Region.TheVariants as region
 
 abbrev pub with_scan : View → Option Scan → View
 with_scan v scan = record v { scan = scan }

@@ -4,7 +4,7 @@ use Rattle.tide_core.specs.machine.Scanning.{Place, slot, property}
 use Rattle.tide_core.specs.machine.points.Arrays.{ArraysStand}
 use Rattle.tide_core.specs.machine.points.Links.{LinkAt}
 use Rattle.tide_core.proofs.machine_laws.steps.ArraysKept.{arrays_kept}
-use Rattle.tide_layout.specs.declared.region.Region.TheVariants as region
+use Rattle.tide_words.specs.tide_layout.declared.region.Region.TheVariants as region
 use Rattle.tide_model.proofs.ReferenceLaws.{put_at_elim}
 use Rattle.tide_model.specs.Applied.{put_cell}
 use Rattle.tide_model.specs.Layout.{Layout}

@@ -1,7 +1,7 @@
 -- What a scan knows stays known while structures, arrays and elements stay, and live cells are live still.
 use Rattle.std.proofs.Common.{ℕ, ◌≡◌, ◌≤◌, sym, ◌∙◌, subst, true}
-use Rattle.tide_layout.specs.Slots.{index_of_element}
-use Rattle.tide_layout.specs.declared.region.Region.TheVariants as region
+use Rattle.tide_words.specs.tide_layout.Slots.{index_of_element}
+use Rattle.tide_words.specs.tide_layout.declared.region.Region.TheVariants as region
 use Rattle.tide_core.specs.machine.Scanning.{IsStill}
 use Rattle.tide_core.specs.machine.Words.{count_of, is_nuked}
 use Rattle.tide_core.specs.declared.machine.view.Scan.{Scan}

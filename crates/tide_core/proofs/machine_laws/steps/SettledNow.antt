@@ -1,8 +1,8 @@
 -- The words that no sweep has differ, in a machine that has the running wave.
 use Rattle.std.proofs.Common.{ℕ, ◌≡◌, ◌≢◌, refl, arith, true}
-use Rattle.tide_layout.specs.Slots.{HasElement, HasSlot, index_of_element, index_of_slot}
-use Rattle.tide_layout.specs.declared.region.Region.{Region}
-use Rattle.tide_layout.specs.declared.region.Region.TheVariants as region
+use Rattle.tide_words.specs.tide_layout.Slots.{HasElement, HasSlot, index_of_element, index_of_slot}
+use Rattle.tide_words.specs.tide_layout.declared.region.Region.{Region}
+use Rattle.tide_words.specs.tide_layout.declared.region.Region.TheVariants as region
 use Rattle.tide_core.proofs.machine_laws.steps.Unsettled.{own_settled, settled_claim, settled_element, settled_group, settled_region, settled_slot, settled_array, settled_structure, unsettled_cases}
 use Rattle.tide_core.specs.machine.Owed.{IsOwnWord, Unsettles}
 use Rattle.tide_core.specs.machine.RunningWave.{RunningWave}

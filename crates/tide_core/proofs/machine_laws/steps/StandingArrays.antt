@@ -1,7 +1,7 @@
 -- The array of a cell stands where nobody owes a word of it.
 use Rattle.std.proofs.Common.{◌≢◌, inl, inr, ℕ, ◌≡◌, ◌+◌, ◌<◌, ◌≤◌, refl, sym, ◌∙◌, subst, length, ap}
-use Rattle.tide_layout.specs.Slots.{HasElement, index_of_element}
-use Rattle.tide_layout.specs.declared.region.Region.TheVariants as region
+use Rattle.tide_words.specs.tide_layout.Slots.{HasElement, index_of_element}
+use Rattle.tide_words.specs.tide_layout.declared.region.Region.TheVariants as region
 use Rattle.tide_core.proofs.machine_laws.steps.ArraysKept.{array_read, bare_read}
 use Rattle.tide_core.proofs.machine_laws.steps.Unsettled.{settled_array, settled_element, settled_structure}
 use Rattle.tide_core.specs.machine.Owed.{Owes}

@@ -2,7 +2,7 @@
 use Rattle.std.proofs.Common.{ℕ, ◌≡◌, ◌≢◌, ◌+◌, ◌<◌, ◌≤◌, ◌⊎◌, refl, sym, ◌∙◌, ap, subst, arith, true, false, List, [], inl, inr, Option, Some, None, length, true≢false}
 use Rattle.std.proofs.lemmas.Bool.{cases_Bool}
 use Rattle.std.specs.Prelude.{Contains, filter, if◌then◌else◌, not}
-use Rattle.tide_layout.specs.declared.region.Region.{Region}
+use Rattle.tide_words.specs.tide_layout.declared.region.Region.{Region}
 use Rattle.tide_core.proofs.machine_laws.steps.Frames.{each_put, put_here, put_else, total_below-put, known_view, held_view}
 use Rattle.tide_core.specs.machine.Looked.{FreeIsShown}
 use Rattle.tide_core.specs.machine.Duties.{GrowsAndOwes, OwesColour, AwaitsLoad}
@@ -49,7 +49,7 @@ use Rattle.tide_model.specs.Old.{IsSpared}
 use Rattle.tide_core.proofs.machine_laws.steps.SameColours.{is_black-same}
 use Rattle.tide_core.proofs.machine_laws.steps.Barriers.{still_owes, awaits_owes}
 use Rattle.tide_words.specs.forms.ColourWord.{colour_cycle}
-use Rattle.tide_layout.specs.declared.region.Region.TheVariants as region
+use Rattle.tide_words.specs.tide_layout.declared.region.Region.TheVariants as region
 use Rattle.tide_core.specs.declared.machine.view.Duty.TheVariants as duty
 use Rattle.tide_core.specs.declared.machine.view.Growth.TheVariants as growth
 

@@ -3,8 +3,8 @@ use Rattle.std.proofs.Common.{ℕ, ◌≡◌, ◌≢◌, ◌+◌, ◌<◌, ◌�
 use Rattle.std.proofs.lemmas.Bool.{cases_Bool}
 use Rattle.std.proofs.lemmas.Bool.Decides.{nat_tests}
 use Rattle.std.specs.Prelude.{◌-◌, nat_lt, if◌then◌else◌}
-use Rattle.tide_layout.specs.Region.{size_of}
-use Rattle.tide_layout.specs.declared.region.Region.TheVariants as region
+use Rattle.tide_words.specs.tide_layout.Region.{size_of}
+use Rattle.tide_words.specs.tide_layout.declared.region.Region.TheVariants as region
 use Rattle.tide_core.specs.machine.Kind.{index_of_stopped}
 use Rattle.tide_core.specs.machine.World.{IsParty, first_visitor}
 use Rattle.tide_model.specs.Layout.{Layout}

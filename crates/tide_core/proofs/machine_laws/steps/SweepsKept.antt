@@ -2,9 +2,9 @@
 use Rattle.std.proofs.Common.{ℕ, suc, ◌≡◌, ◌<◌, ◌≤◌, ◌⊎◌, refl, sym, ◌∙◌, ap, subst, arith, Bool, true, false, List, [], ◌∷◌, ◌++◌, inl, inr, length, length-append, take, Option, None, Some}
 use Rattle.std.proofs.lemmas.Bool.{cases_eq}
 use Rattle.std.specs.Prelude.{◌↔◌, Contains, if◌then◌else◌}
-use Rattle.tide_layout.specs.Region.{block_count}
-use Rattle.tide_layout.specs.declared.region.Region.{Region}
-use Rattle.tide_layout.specs.declared.region.Region.TheVariants as region
+use Rattle.tide_words.specs.tide_layout.Region.{block_count}
+use Rattle.tide_words.specs.tide_layout.declared.region.Region.{Region}
+use Rattle.tide_words.specs.tide_layout.declared.region.Region.TheVariants as region
 use Rattle.tide_core.proofs.machine_laws.steps.Frames.{each_put}
 use Rattle.tide_core.specs.machine.Owed.{Unsettles, owed_word, unsettled}
 use Rattle.tide_core.specs.declared.machine.view.Cleared.{Cleared}

@@ -4,13 +4,13 @@ use Rattle.std.proofs.lemmas.Bool.{cases_Bool, and_parts, eqb-true}
 use Rattle.std.proofs.lemmas.Nat.Bits.{bit_at-lt}
 use Rattle.std.specs.Int.{bit_at}
 use Rattle.std.specs.Prelude.{Contains, ◌==◌, ◌&&◌, if◌then◌else◌}
-use Rattle.tide_block.specs.Places.{bit_of}
-use Rattle.tide_layout.proofs.Places.{tag-injective}
-use Rattle.tide_layout.proofs.SlotPlaces.{index_of_slot-alone, index_of_element-alone}
-use Rattle.tide_layout.specs.Region.{tag}
-use Rattle.tide_layout.specs.Slots.{HasElement, HasSlot, index_of_element, index_of_slot}
-use Rattle.tide_layout.specs.declared.region.Region.{Region}
-use Rattle.tide_layout.specs.declared.region.Region.TheVariants as region
+use Rattle.tide_words.specs.tide_block.Places.{bit_of}
+use Rattle.tide_words.proofs.tide_layout.Places.{tag-injective}
+use Rattle.tide_words.proofs.tide_layout.SlotPlaces.{index_of_slot-alone, index_of_element-alone}
+use Rattle.tide_words.specs.tide_layout.Region.{tag}
+use Rattle.tide_words.specs.tide_layout.Slots.{HasElement, HasSlot, index_of_element, index_of_slot}
+use Rattle.tide_words.specs.tide_layout.declared.region.Region.{Region}
+use Rattle.tide_words.specs.tide_layout.declared.region.Region.TheVariants as region
 use Rattle.tide_core.proofs.machine_laws.steps.Frames.{each_put}
 use Rattle.tide_core.proofs.machine_laws.steps.Lists.{nothing_in, in_one}
 use Rattle.tide_core.specs.machine.DeadWords.{IsOfDead}

@@ -4,7 +4,7 @@ use Rattle.tide_core.specs.machine.World.{World}
 use Rattle.tide_core.specs.declared.machine.view.View.{View}
 use Rattle.tide_words.specs.marking.Colours.{is_marking, running_cycle}
 use Rattle.tide_words.specs.marking.Marked.{base_cycle}
-use Rattle.tide_layout.specs.declared.region.Region.TheVariants as region
+use Rattle.tide_words.specs.tide_layout.declared.region.Region.TheVariants as region
 
 -- the participant runs, and at its first beginning in the part counts nothing yet
 abbrev pub begun_view : View → View

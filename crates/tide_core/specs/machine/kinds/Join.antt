@@ -8,7 +8,7 @@ use Rattle.tide_model.specs.History.{is_call_of}
 use Rattle.tide_model.specs.Prefix.{IsPrefix}
 use Rattle.tide_words.specs.marking.Colours.{is_marking, running_cycle}
 use Rattle.tide_words.specs.marking.Marked.{base_cycle}
-use Rattle.tide_layout.specs.declared.region.Region.TheVariants as region
+use Rattle.tide_words.specs.tide_layout.declared.region.Region.TheVariants as region
 
 -- the participant has seen what the ticket tells of the history, and knows what it tells of the part; it doesn't run
 -- yet

@@ -1,6 +1,6 @@
 -- Load free word: a mutator looks for a free cell or array in a block of the class.
 use Rattle.std.specs.Prelude.{ℕ, ◌≡◌, ◌<◌, [], ◌∷◌, List, length, ◌==◌, if◌then◌else◌, Option, None, Some}
-use Rattle.tide_layout.specs.Region.{block_count}
+use Rattle.tide_words.specs.tide_layout.Region.{block_count}
 use Rattle.tide_core.specs.machine.Entries.{class_taken}
 use Rattle.tide_core.specs.machine.May.{RunsAsMutator, MayCall, called}
 use Rattle.tide_core.specs.machine.World.{World}

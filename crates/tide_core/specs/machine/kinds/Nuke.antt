@@ -1,6 +1,6 @@
 -- Nuke: a growth stores the structure's word with the mark that the array changes, once it owes no element.
 use Rattle.std.specs.Prelude.{ℕ, ◌≡◌, []}
-use Rattle.tide_layout.specs.declared.region.Region.TheVariants as region
+use Rattle.tide_words.specs.tide_layout.declared.region.Region.TheVariants as region
 use Rattle.tide_core.specs.machine.Duties.{nuked_growth}
 use Rattle.tide_core.specs.machine.May.{RunsAsMutator}
 use Rattle.tide_core.specs.machine.Owed.{Owes}

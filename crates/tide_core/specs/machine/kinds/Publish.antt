@@ -1,7 +1,7 @@
 -- Publish stack: a visitor sets the bits of cells that it holds, in the shared grey word of their block.
 use Rattle.std.specs.Int.{bit_at}
 use Rattle.std.specs.Prelude.{ℕ, ◌≡◌, ◌+◌, ◌*◌, ◌%◌, ◌<◌, ◌==◌, ◌&&◌, not, filter, Contains}
-use Rattle.tide_layout.specs.Region.{cell_block_count}
+use Rattle.tide_words.specs.tide_layout.Region.{cell_block_count}
 use Rattle.tide_core.specs.machine.May.{RunsAsVisitor}
 use Rattle.tide_core.specs.machine.World.{World}
 use Rattle.tide_core.specs.declared.machine.view.View.{View}

@@ -1,7 +1,7 @@
 -- Register call: a mutator loads or stores one of its own registers, or its call word.
 use Rattle.std.specs.Prelude.{ℕ, ◌≡◌, ◌+◌, ◌%◌, ◌^◌, [], length, Option, None, Some}
-use Rattle.tide_layout.specs.Region.{index_of_register}
-use Rattle.tide_layout.specs.declared.region.Region.TheVariants as region
+use Rattle.tide_words.specs.tide_layout.Region.{index_of_register}
+use Rattle.tide_words.specs.tide_layout.declared.region.Region.TheVariants as region
 use Rattle.tide_core.specs.machine.Entries.{reply_of_call}
 use Rattle.tide_core.specs.machine.May.{RunsAsMutator, MayCall, called}
 use Rattle.tide_core.specs.machine.Owed.{Owes, without_word}

@@ -1,6 +1,6 @@
 -- Store array: a growth stores the new array in its cell; the claimer of a cell loads its array's word.
 use Rattle.std.specs.Prelude.{ℕ, ◌≡◌, ◌∷◌, [], Contains}
-use Rattle.tide_layout.specs.declared.region.Region.TheVariants as region
+use Rattle.tide_words.specs.tide_layout.declared.region.Region.TheVariants as region
 use Rattle.tide_core.specs.machine.Duties.{stored_growth}
 use Rattle.tide_core.specs.machine.May.{RunsAsMutator}
 use Rattle.tide_core.specs.machine.Owed.{owed_word, without_word}

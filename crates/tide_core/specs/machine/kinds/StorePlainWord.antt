@@ -1,8 +1,8 @@
 -- Store plain word: the claimer of a table loads or stores the word of a pair, and a mutator stores a group word.
 use Rattle.std.specs.Prelude.{ℕ, ◌≡◌, ◌∷◌, [], true, Contains, Option, None, Some}
 use Rattle.tide_call.specs.CallWords.{IsPlaceFor, HasPairAt}
-use Rattle.tide_layout.specs.Slots.{index_of_slot, HasSlot}
-use Rattle.tide_layout.specs.declared.region.Region.TheVariants as region
+use Rattle.tide_words.specs.tide_layout.Slots.{index_of_slot, HasSlot}
+use Rattle.tide_words.specs.tide_layout.declared.region.Region.TheVariants as region
 use Rattle.tide_core.specs.machine.May.{RunsAsMutator, MayCall, called}
 use Rattle.tide_core.specs.machine.Owed.{owed_word, owed_register, filled_register}
 use Rattle.tide_core.specs.machine.Words.{value_of_pair}

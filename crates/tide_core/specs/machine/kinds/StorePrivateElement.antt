@@ -1,7 +1,7 @@
 -- Store private array word: the claimer of a cell loads or stores an element of its array, or of one that was just
 -- taken.
 use Rattle.std.specs.Prelude.{ℕ, ◌≡◌, ◌≤◌, ◌<◌, ◌∷◌, [], if◌then◌else◌, length, ◌⊎◌, Contains, Option, None, Some, true}
-use Rattle.tide_layout.specs.Slots.{index_of_element, HasElement}
+use Rattle.tide_words.specs.tide_layout.Slots.{index_of_element, HasElement}
 use Rattle.tide_core.specs.machine.Duties.{is_growing}
 use Rattle.tide_core.specs.machine.May.{RunsAsMutator, MayCall, called, barrier_for}
 use Rattle.tide_core.specs.machine.Owed.{Owes, owed_word, without_word, owed_register, filled_register}
@@ -19,7 +19,7 @@ use Rattle.tide_model.specs.declared.op.Reply.TheVariants.{Done, Seen}
 use Rattle.tide_model.specs.declared.val.Val.TheVariants.{Cell}
 use Rattle.tide_words.specs.forms.Reference.{array_word}
 use Rattle.tide_words.specs.forms.ValueWord.{val_word}
-use Rattle.tide_layout.specs.declared.region.Region.TheVariants as region
+use Rattle.tide_words.specs.tide_layout.declared.region.Region.TheVariants as region
 use Rattle.tide_core.specs.declared.machine.view.Growth.TheVariants as growth
 
 -- an element's word is known, but for one that a growth copies; or GetProp saw its value

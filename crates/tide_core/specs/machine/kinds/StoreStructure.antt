@@ -2,7 +2,7 @@
 -- cell loads its structure's word.
 use Rattle.std.specs.Prelude.{ℕ, ◌≡◌, ◌+◌, ◌∷◌, ◌++◌, [], length, Contains, Option, None, Some}
 use Rattle.tide_call.specs.ShapeWord.{whole_word, IsShapeWord}
-use Rattle.tide_layout.specs.Slots.{index_of_element}
+use Rattle.tide_words.specs.tide_layout.Slots.{index_of_element}
 use Rattle.tide_core.specs.machine.May.{RunsAsMutator, MayCall, called, barrier_for}
 use Rattle.tide_core.specs.machine.Owed.{Knows, owed_word, without_word}
 use Rattle.tide_core.specs.machine.World.{World}
@@ -16,7 +16,7 @@ use Rattle.tide_model.specs.declared.op.Op.TheVariants.{Add}
 use Rattle.tide_model.specs.declared.op.Reply.TheVariants.{Done}
 use Rattle.tide_model.specs.declared.val.Val.TheVariants.{Cell}
 use Rattle.tide_words.specs.forms.ValueWord.{val_word}
-use Rattle.tide_layout.specs.declared.region.Region.TheVariants as region
+use Rattle.tide_words.specs.tide_layout.declared.region.Region.TheVariants as region
 use Rattle.tide_core.specs.declared.machine.view.Growth.TheVariants as growth
 
 -- the growth is over, or Add made a link whose barrier is owed

@@ -1,8 +1,8 @@
 -- Swap grey word: a visitor takes the grey cells of a block, and owes each of them a visit or a push.
 use Rattle.std.specs.Prelude.{ℕ, ◌≡◌, ◌<◌, ◌∷◌, ◌++◌, [], ◌⊎◌, ◌==◌, if◌then◌else◌}
-use Rattle.tide_layout.specs.Region.{cell_block_count}
-use Rattle.tide_layout.specs.declared.region.Region.{Region}
-use Rattle.tide_layout.specs.declared.region.Region.TheVariants as region
+use Rattle.tide_words.specs.tide_layout.Region.{cell_block_count}
+use Rattle.tide_words.specs.tide_layout.declared.region.Region.{Region}
+use Rattle.tide_words.specs.tide_layout.declared.region.Region.TheVariants as region
 use Rattle.tide_core.specs.machine.May.{RunsAsVisitor}
 use Rattle.tide_core.specs.machine.Scanning.{rests_now}
 use Rattle.tide_core.specs.machine.Words.{cells_in}

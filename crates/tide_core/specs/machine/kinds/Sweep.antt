@@ -1,8 +1,8 @@
 -- The sweep of a block in a part in which no cycle marks: a mutator loads the word of the block's dead bits, claims the
 -- block, zeroes the words of what is dead there, gives the bits back and finishes.
 use Rattle.std.specs.Prelude.{ℕ, ◌≡◌, ◌<◌, ◌+◌, ◌∷◌, [], true, false, ◌==◌, if◌then◌else◌, List, length, Contains, Option, None, Some}
-use Rattle.tide_layout.specs.Region.{block_count}
-use Rattle.tide_layout.specs.declared.region.Region.{Region}
+use Rattle.tide_words.specs.tide_layout.Region.{block_count}
+use Rattle.tide_words.specs.tide_layout.declared.region.Region.{Region}
 use Rattle.tide_core.specs.machine.May.{RunsAsMutator, IsBetweenCalls}
 use Rattle.tide_core.specs.machine.Owed.{owed_word}
 use Rattle.tide_core.specs.machine.World.{World}

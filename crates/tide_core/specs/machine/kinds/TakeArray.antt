@@ -3,7 +3,7 @@
 use Rattle.std.specs.Int.{bit_at}
 use Rattle.std.specs.Prelude.{ℕ, ◌≡◌, ◌+◌, ◌*◌, ◌-◌, ◌<◌, ◌≤◌, ◌∷◌, ◌++◌, [], suc, Contains, List, length, ◌==◌, if◌then◌else◌, Option, None, Some}
 use Rattle.tide_call.specs.ShapeWord.{IsShapeWord, whole_word}
-use Rattle.tide_layout.specs.Region.{cell_block_count}
+use Rattle.tide_words.specs.tide_layout.Region.{cell_block_count}
 use Rattle.tide_core.specs.machine.May.{RunsAsMutator, MayCall, barrier_for}
 use Rattle.tide_core.specs.machine.Owed.{owed_word, owed_elements, Knows}
 use Rattle.tide_core.specs.machine.Words.{cell_named}
@@ -22,7 +22,7 @@ use Rattle.tide_model.specs.declared.val.Val.{Val}
 use Rattle.tide_model.specs.declared.val.Val.TheVariants.{Cell}
 use Rattle.tide_words.specs.forms.Reference.{array_word}
 use Rattle.tide_words.specs.forms.ValueWord.{val_word}
-use Rattle.tide_layout.specs.declared.region.Region.TheVariants as region
+use Rattle.tide_words.specs.tide_layout.declared.region.Region.TheVariants as region
 use Rattle.tide_core.specs.declared.machine.view.Growth.TheVariants as growth
 
 -- the array of a block of arrays that has this bit

@@ -1,8 +1,8 @@
 -- The point on the arrays that the words of cells name, also while an array grows: until the new array is stored, the
 -- old one says the properties that the structure's word tells.
 use Rattle.std.specs.Prelude.{ℕ, ◌≡◌, ◌<◌, ◌≤◌, length, ◌⊎◌, Some}
-use Rattle.tide_layout.specs.Slots.{HasElement, index_of_element}
-use Rattle.tide_layout.specs.declared.region.Region.TheVariants as region
+use Rattle.tide_words.specs.tide_layout.Slots.{HasElement, index_of_element}
+use Rattle.tide_words.specs.tide_layout.declared.region.Region.TheVariants as region
 use Rattle.tide_core.specs.machine.Words.{count_of}
 use Rattle.tide_model.specs.Layout.{Layout}
 use Rattle.tide_model.specs.References.{IsLive}

@@ -1,6 +1,6 @@
 -- Points on growths of arrays, which change several words of a cell one after another.
 use Rattle.std.specs.Prelude.{ℕ, ◌≡◌, ◌+◌, ◌≤◌, true, false, Contains, Some}
-use Rattle.tide_layout.specs.declared.region.Region.TheVariants as region
+use Rattle.tide_words.specs.tide_layout.declared.region.Region.TheVariants as region
 use Rattle.tide_core.specs.machine.Duties.{GrowsAndOwes}
 use Rattle.tide_core.specs.machine.Owed.{Owes}
 use Rattle.tide_core.specs.machine.Scanning.{property}

@@ -13,7 +13,7 @@ use Rattle.tide_words.specs.heap.Heap.{Heap}
 use Rattle.tide_words.specs.marking.Colours.{IsBlack}
 use Rattle.tide_words.specs.marking.Marked.{is_marked}
 use Rattle.tide_core.specs.machine.Duties.{StillOwes}
-use Rattle.tide_layout.specs.declared.region.Region.TheVariants as region
+use Rattle.tide_words.specs.tide_layout.declared.region.Region.TheVariants as region
 
 -- a live cell holds the other at this place
 abbrev pub LinkAt : State → ℕ → Place → ℕ → Type 0

@@ -15,7 +15,7 @@ use Rattle.tide_model.specs.declared.entry.Event.{Event}
 use Rattle.tide_words.specs.heap.Heap.{Heap}
 use Rattle.tide_words.specs.marking.Colours.{is_marking, IsMarked, IsStamped}
 use Rattle.tide_model.specs.Old.{IsSpared}
-use Rattle.tide_layout.specs.declared.region.Region.TheVariants as region
+use Rattle.tide_words.specs.tide_layout.declared.region.Region.TheVariants as region
 
 -- what stood at some moment of the cycle that marks retains each marked cell, together with the old cells where it is
 -- an Eden cycle; and so what a scan will mark

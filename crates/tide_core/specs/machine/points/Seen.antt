@@ -12,7 +12,7 @@ use Rattle.tide_model.specs.State.{State}
 use Rattle.tide_model.specs.declared.entry.Event.{Event}
 use Rattle.tide_words.specs.heap.Heap.{Heap}
 use Rattle.tide_words.specs.marking.Colours.{is_marking, running_cycle}
-use Rattle.tide_layout.specs.declared.region.Region.TheVariants as region
+use Rattle.tide_words.specs.tide_layout.declared.region.Region.TheVariants as region
 use Rattle.tide_core.specs.declared.machine.view.Duty.TheVariants as duty
 use Rattle.tide_core.specs.declared.machine.view.Growth.TheVariants as growth
 

@@ -1,7 +1,7 @@
 -- Points on what the words say of the store while calls still owe some of them.
 use Rattle.std.specs.Prelude.{ℕ, ◌≡◌, ◌≤◌, true, List, length, Contains, Some}
-use Rattle.tide_layout.specs.declared.region.Region.{Region}
-use Rattle.tide_layout.specs.declared.region.Region.TheVariants as region
+use Rattle.tide_words.specs.tide_layout.declared.region.Region.{Region}
+use Rattle.tide_words.specs.tide_layout.declared.region.Region.TheVariants as region
 use Rattle.tide_core.specs.machine.Looked.{FreeIsShown}
 use Rattle.tide_core.specs.machine.Owed.{Owes, Knows, IsOwnWord, Unsettles, owed_word}
 use Rattle.tide_core.specs.declared.machine.view.Sweeping.{Sweeping}

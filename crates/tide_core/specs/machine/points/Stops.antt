@@ -1,6 +1,6 @@
 -- The point on Stopped words: each tells the part in which its participant last stopped.
 use Rattle.std.specs.Prelude.{ℕ, ◌≡◌}
-use Rattle.tide_layout.specs.declared.region.Region.TheVariants as region
+use Rattle.tide_words.specs.tide_layout.declared.region.Region.TheVariants as region
 use Rattle.tide_core.specs.machine.Kind.{index_of_stopped}
 use Rattle.tide_core.specs.machine.World.{IsParty}
 use Rattle.tide_core.specs.declared.machine.view.View.{View}

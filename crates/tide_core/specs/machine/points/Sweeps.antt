@@ -1,8 +1,8 @@
 -- Points on sweeps of blocks: which cycle's sweep was taken, who names what is dead, and what a sweeper owes.
 use Rattle.std.specs.Prelude.{ℕ, ◌≡◌, ◌↔◌, ◌⊎◌, ◌<◌, ◌≤◌, true, false, List, length, take, Contains, Some}
-use Rattle.tide_layout.specs.Region.{block_count}
-use Rattle.tide_layout.specs.declared.region.Region.{Region}
-use Rattle.tide_layout.specs.declared.region.Region.TheVariants as region
+use Rattle.tide_words.specs.tide_layout.Region.{block_count}
+use Rattle.tide_words.specs.tide_layout.declared.region.Region.{Region}
+use Rattle.tide_words.specs.tide_layout.declared.region.Region.TheVariants as region
 use Rattle.tide_core.specs.machine.Owed.{owed_word}
 use Rattle.tide_core.specs.declared.machine.view.Saw.{Saw}
 use Rattle.tide_core.specs.declared.machine.view.Sweeping.{Sweeping}

@@ -2,7 +2,7 @@
 -- meet.
 use Rattle.std.specs.Int.{bit_at}
 use Rattle.std.specs.Prelude.{ℕ, ◌≡◌, ◌≢◌, ◌%◌, ◌+◌, ◌<◌, ◌≤◌, ◌⊎◌, true, Contains}
-use Rattle.tide_layout.specs.declared.region.Region.TheVariants as region
+use Rattle.tide_words.specs.tide_layout.declared.region.Region.TheVariants as region
 use Rattle.tide_core.specs.machine.World.{first_visitor}
 use Rattle.tide_core.specs.declared.machine.view.Round.{Round}
 use Rattle.tide_core.specs.declared.machine.view.View.{View}

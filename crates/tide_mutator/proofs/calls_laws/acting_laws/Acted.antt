@@ -1,9 +1,9 @@
 -- A plan that is no growth is acted on without one.
 use Rattle.std.proofs.Common.{ℕ, ◌≡◌, refl, true, Option}
 use Rattle.tide_mutator.specs.calls.Plans.{is_acted}
-use Rattle.tide_call.specs.declared.additions.Addition.{Addition}
-use Rattle.tide_call.specs.declared.plan.Plan.{Plan}
-use Rattle.tide_call.specs.declared.plan.Plan.TheVariants as plan
+use Rattle.tide_heap.specs.tide_call.declared.additions.Addition.{Addition}
+use Rattle.tide_heap.specs.tide_call.declared.plan.Plan.{Plan}
+use Rattle.tide_heap.specs.tide_call.declared.plan.Plan.TheVariants as plan
 use Rattle.tide_model.specs.declared.val.Val.{Val}
 
 pub acted_else : (does : Plan) →

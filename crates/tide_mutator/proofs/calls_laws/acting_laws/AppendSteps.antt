@@ -6,27 +6,27 @@ use Rattle.tide_mutator.proofs.owed_laws.Standing.{moment_in, stands_then}
 use Rattle.tide_mutator.specs.owed.Calling.{IsCalling}
 use Rattle.tide_mutator.specs.owed.Made.{HasMade, IsMade, Shown}
 use Rattle.tide_mutator.specs.owed.Standing.{IsPlanned, StandsAt, caller_of}
-use Rattle.tide_call.specs.Callers.{Caller}
-use Rattle.tide_call.specs.PlanWords.{PlanWords}
-use Rattle.tide_call.specs.Plans.{HasRoomIn, IsAddition, IsPlan}
-use Rattle.tide_call.specs.ShapeWord.{whole_word}
-use Rattle.tide_call.specs.declared.additions.Addition.{Addition}
-use Rattle.tide_call.specs.declared.plan.Plan.{Plan}
-use Rattle.tide_call.specs.declared.plan.Plan.TheVariants as plan
-use Rattle.tide_layout.specs.Region.{tag}
-use Rattle.tide_layout.specs.Slots.{HasElement, index_of_element}
-use Rattle.tide_layout.specs.declared.region.Region.{Region}
-use Rattle.tide_layout.specs.declared.region.Region.TheVariants as region
-use Rattle.tide_core.proofs.machine_laws.steps.Paying.{in_filter}
-use Rattle.tide_core.specs.machine.Entries.{call_of}
-use Rattle.tide_core.specs.machine.Kind.{StoreElement, StoreStructure}
-use Rattle.tide_core.specs.machine.May.{MayCall, barrier_for, called}
-use Rattle.tide_core.specs.machine.Moment.{Moment}
-use Rattle.tide_core.specs.machine.Owed.{Knows, is_at, owed_word, without_word}
-use Rattle.tide_core.specs.machine.Views.{with_entry}
-use Rattle.tide_core.specs.declared.machine.view.Owed.{Owed}
-use Rattle.tide_core.specs.declared.machine.view.View.{View}
-use Rattle.tide_core.specs.machine.kinds.StoreStructure.{MayStoreStructure, structured_view}
+use Rattle.tide_heap.specs.tide_call.Callers.{Caller}
+use Rattle.tide_heap.specs.tide_call.PlanWords.{PlanWords}
+use Rattle.tide_heap.specs.tide_call.Plans.{HasRoomIn, IsAddition, IsPlan}
+use Rattle.tide_heap.specs.tide_call.ShapeWord.{whole_word}
+use Rattle.tide_heap.specs.tide_call.declared.additions.Addition.{Addition}
+use Rattle.tide_heap.specs.tide_call.declared.plan.Plan.{Plan}
+use Rattle.tide_heap.specs.tide_call.declared.plan.Plan.TheVariants as plan
+use Rattle.tide_heap.specs.tide_layout.Region.{tag}
+use Rattle.tide_heap.specs.tide_layout.Slots.{HasElement, index_of_element}
+use Rattle.tide_heap.specs.tide_layout.declared.region.Region.{Region}
+use Rattle.tide_heap.specs.tide_layout.declared.region.Region.TheVariants as region
+use Rattle.tide_heap.proofs.tide_core.machine_laws.steps.Paying.{in_filter}
+use Rattle.tide_heap.specs.tide_core.machine.Entries.{call_of}
+use Rattle.tide_heap.specs.tide_core.machine.Kind.{StoreElement, StoreStructure}
+use Rattle.tide_heap.specs.tide_core.machine.May.{MayCall, barrier_for, called}
+use Rattle.tide_heap.specs.tide_core.machine.Moment.{Moment}
+use Rattle.tide_heap.specs.tide_core.machine.Owed.{Knows, is_at, owed_word, without_word}
+use Rattle.tide_heap.specs.tide_core.machine.Views.{with_entry}
+use Rattle.tide_heap.specs.tide_core.declared.machine.view.Owed.{Owed}
+use Rattle.tide_heap.specs.tide_core.declared.machine.view.View.{View}
+use Rattle.tide_heap.specs.tide_core.machine.kinds.StoreStructure.{MayStoreStructure, structured_view}
 use Rattle.tide_model.proofs.NumberLaws.{contains_from_among}
 use Rattle.tide_model.specs.History.{state_after}
 use Rattle.tide_model.specs.Layout.{Layout}
@@ -40,8 +40,8 @@ use Rattle.tide_model.specs.declared.op.Reply.TheVariants.{Done}
 use Rattle.tide_model.specs.declared.val.Val.{Val}
 use Rattle.tide_model.specs.declared.val.Val.TheVariants.{Cell}
 use Rattle.tide_heap.specs.steps.Follows.{FollowsSome, MayStep}
-use Rattle.tide_words.specs.forms.ValueWord.{val_word}
-use Rattle.tide_words.specs.heap.Heap.{Heap, write}
+use Rattle.tide_heap.specs.tide_words.forms.ValueWord.{val_word}
+use Rattle.tide_heap.specs.tide_words.heap.Heap.{Heap, write}
 
 -- an addition that nothing refuses is to a cell that its caller claims
 held_by : (caller : Caller) (state : State) (src key val cell : ℕ) → state.registers caller.who src ≡ Cell cell →

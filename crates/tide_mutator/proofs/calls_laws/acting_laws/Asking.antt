@@ -1,9 +1,9 @@
 -- What a plan is that is none of some others.
 use Rattle.std.proofs.Common.{ℕ, ◌≡◌, refl, Bool, true}
 use Rattle.tide_mutator.specs.calls.Plans.{is_acted, is_rest}
-use Rattle.tide_call.specs.declared.additions.Addition.{Addition}
-use Rattle.tide_call.specs.declared.plan.Plan.{Plan}
-use Rattle.tide_call.specs.declared.plan.Plan.TheVariants as plan
+use Rattle.tide_heap.specs.tide_call.declared.additions.Addition.{Addition}
+use Rattle.tide_heap.specs.tide_call.declared.plan.Plan.{Plan}
+use Rattle.tide_heap.specs.tide_call.declared.plan.Plan.TheVariants as plan
 use Rattle.tide_model.specs.declared.op.Refusal.{Refusal}
 use Rattle.tide_model.specs.declared.val.Val.{Val}
 

@@ -1,16 +1,16 @@
 -- Move, Set and Drop: the store of the register makes the call.
 use Rattle.std.proofs.Common.{ℕ, ◌≡◌, refl, sym, ◌∙◌, ap, subst, true, [], None, Some}
-use Rattle.tide_call.specs.Callers.{Caller}
-use Rattle.tide_call.specs.PlanWords.{PlanWords}
-use Rattle.tide_call.specs.Plans.{IsPlan, is_told_by_registers}
-use Rattle.tide_call.specs.declared.plan.Plan.TheVariants as plan
-use Rattle.tide_layout.specs.Region.{index_of_register}
-use Rattle.tide_layout.specs.declared.region.Region.TheVariants.{Registers}
-use Rattle.tide_core.specs.machine.Kind.{StoreRegister}
-use Rattle.tide_core.specs.machine.May.{called}
-use Rattle.tide_core.specs.declared.machine.view.Duty.TheVariants.{Nothing}
-use Rattle.tide_core.specs.declared.machine.view.View.{View}
-use Rattle.tide_core.specs.machine.kinds.RegisterCall.{StoresRegister}
+use Rattle.tide_heap.specs.tide_call.Callers.{Caller}
+use Rattle.tide_heap.specs.tide_call.PlanWords.{PlanWords}
+use Rattle.tide_heap.specs.tide_call.Plans.{IsPlan, is_told_by_registers}
+use Rattle.tide_heap.specs.tide_call.declared.plan.Plan.TheVariants as plan
+use Rattle.tide_heap.specs.tide_layout.Region.{index_of_register}
+use Rattle.tide_heap.specs.tide_layout.declared.region.Region.TheVariants.{Registers}
+use Rattle.tide_heap.specs.tide_core.machine.Kind.{StoreRegister}
+use Rattle.tide_heap.specs.tide_core.machine.May.{called}
+use Rattle.tide_heap.specs.tide_core.declared.machine.view.Duty.TheVariants.{Nothing}
+use Rattle.tide_heap.specs.tide_core.declared.machine.view.View.{View}
+use Rattle.tide_heap.specs.tide_core.machine.kinds.RegisterCall.{StoresRegister}
 use Rattle.tide_model.specs.History.{state_after}
 use Rattle.tide_model.specs.Layout.{Layout}
 use Rattle.tide_model.specs.Refused.{ShapeLists}
@@ -26,8 +26,8 @@ use Rattle.tide_mutator.specs.owed.Calling.{IsCalling}
 use Rattle.tide_mutator.specs.owed.Made.{HasMade}
 use Rattle.tide_mutator.specs.owed.Standing.{IsPlanned, caller_of}
 use Rattle.tide_heap.specs.steps.Follows.{FollowsSome, MayStep}
-use Rattle.tide_words.specs.forms.ValueWord.{val_word}
-use Rattle.tide_words.specs.heap.Heap.{Heap, write}
+use Rattle.tide_heap.specs.tide_words.forms.ValueWord.{val_word}
+use Rattle.tide_heap.specs.tide_words.heap.Heap.{Heap, write}
 
 -- the words of the plan
 fills : (layout : Layout) (heap : Heap) (who dst : ℕ) (value : Val) →

@@ -2,9 +2,9 @@
 use Rattle.std.proofs.Common.{◌<◌, List}
 use Rattle.tide_mutator.proofs.owed_laws.Standing.{calls_there}
 use Rattle.tide_mutator.specs.owed.Standing.{IsPlanned, StandsAt, caller_of}
-use Rattle.tide_call.specs.declared.plan.Plan.{Plan}
-use Rattle.tide_layout.specs.Limits.{IsWithinLimits}
-use Rattle.tide_core.specs.declared.machine.view.View.{View}
+use Rattle.tide_heap.specs.tide_call.declared.plan.Plan.{Plan}
+use Rattle.tide_heap.specs.tide_layout.Limits.{IsWithinLimits}
+use Rattle.tide_heap.specs.tide_core.declared.machine.view.View.{View}
 use Rattle.tide_model.proofs.ClaimLaws.{ClaimsAreOwn-lawful}
 use Rattle.tide_model.specs.History.{state_after}
 use Rattle.tide_model.specs.Lawful.{FitsLayout}
@@ -12,9 +12,9 @@ use Rattle.tide_model.specs.Layout.{Layout}
 use Rattle.tide_model.specs.Refused.{ShapeLists}
 use Rattle.tide_model.specs.declared.entry.Event.{Event}
 use Rattle.tide_model.specs.declared.op.Op.{Op}
-use Rattle.tide_call.proofs.plan_laws.PlansFit.{plans_fit}
-use Rattle.tide_call.specs.Needed.{FitsPlan}
-use Rattle.tide_words.specs.heap.Heap.{Heap}
+use Rattle.tide_heap.proofs.tide_call.plan_laws.PlansFit.{plans_fit}
+use Rattle.tide_heap.specs.tide_call.Needed.{FitsPlan}
+use Rattle.tide_heap.specs.tide_words.heap.Heap.{Heap}
 
 -- what acting needs it has where its mutator stands
 pub fits_there : (layout : Layout) (shapes : ShapeLists) (v : View) (op : Op) (does : Plan) (heap : Heap)

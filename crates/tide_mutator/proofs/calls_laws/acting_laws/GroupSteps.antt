@@ -1,14 +1,14 @@
 -- Group: the store of the group word makes the call.
 use Rattle.std.proofs.Common.{ℕ, ◌≡◌, refl, sym, ◌∙◌, ap, subst, true, [], None, Some}
-use Rattle.tide_call.specs.Callers.{Caller}
-use Rattle.tide_call.specs.Plans.{IsPlan, is_told_by_registers}
-use Rattle.tide_call.specs.declared.plan.Plan.TheVariants as plan
-use Rattle.tide_layout.specs.declared.region.Region.TheVariants as region
-use Rattle.tide_core.specs.machine.Kind.{StoreGroup}
-use Rattle.tide_core.specs.machine.May.{MayCall, called}
-use Rattle.tide_core.specs.declared.machine.view.Duty.TheVariants.{Nothing}
-use Rattle.tide_core.specs.declared.machine.view.View.{View}
-use Rattle.tide_core.specs.machine.kinds.StorePlainWord.{MayStoreGroup}
+use Rattle.tide_heap.specs.tide_call.Callers.{Caller}
+use Rattle.tide_heap.specs.tide_call.Plans.{IsPlan, is_told_by_registers}
+use Rattle.tide_heap.specs.tide_call.declared.plan.Plan.TheVariants as plan
+use Rattle.tide_heap.specs.tide_layout.declared.region.Region.TheVariants as region
+use Rattle.tide_heap.specs.tide_core.machine.Kind.{StoreGroup}
+use Rattle.tide_heap.specs.tide_core.machine.May.{MayCall, called}
+use Rattle.tide_heap.specs.tide_core.declared.machine.view.Duty.TheVariants.{Nothing}
+use Rattle.tide_heap.specs.tide_core.declared.machine.view.View.{View}
+use Rattle.tide_heap.specs.tide_core.machine.kinds.StorePlainWord.{MayStoreGroup}
 use Rattle.tide_model.specs.History.{state_after}
 use Rattle.tide_model.specs.Layout.{Layout}
 use Rattle.tide_model.specs.Refused.{ShapeLists}
@@ -23,7 +23,7 @@ use Rattle.tide_mutator.specs.owed.Calling.{IsCalling}
 use Rattle.tide_mutator.specs.owed.Made.{HasMade}
 use Rattle.tide_mutator.specs.owed.Standing.{IsPlanned, caller_of}
 use Rattle.tide_heap.specs.steps.Follows.{FollowsSome, MayStep}
-use Rattle.tide_words.specs.heap.Heap.{Heap, write}
+use Rattle.tide_heap.specs.tide_words.heap.Heap.{Heap, write}
 
 -- which operation has such a plan
 record IsGroup (caller : Caller) (state : State) (op : Op) (cell group : ℕ) : Type 0 where

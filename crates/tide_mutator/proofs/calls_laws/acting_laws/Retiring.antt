@@ -1,17 +1,17 @@
 -- Retire: the store of 0 to the Active word makes the call.
 use Rattle.std.proofs.Common.{ℕ, ◌≡◌, refl, sym, ◌∙◌, ap, subst, true, List, [], None, Some}
-use Rattle.tide_call.specs.Callers.{Caller}
-use Rattle.tide_call.specs.Plans.{IsPlan, is_told_by_registers}
-use Rattle.tide_call.specs.declared.plan.Plan.TheVariants as plan
-use Rattle.tide_layout.specs.declared.region.Region.TheVariants as region
-use Rattle.tide_core.specs.machine.Entries.{call_of}
-use Rattle.tide_core.specs.machine.Kind.{Retire as RetireStep}
-use Rattle.tide_core.specs.machine.May.{MayCall}
-use Rattle.tide_core.specs.machine.Moment.{Moment}
-use Rattle.tide_core.specs.machine.Views.{with_entry}
-use Rattle.tide_core.specs.declared.machine.view.Duty.TheVariants.{Nothing}
-use Rattle.tide_core.specs.declared.machine.view.View.{View}
-use Rattle.tide_core.specs.machine.kinds.Retire.{left_view}
+use Rattle.tide_heap.specs.tide_call.Callers.{Caller}
+use Rattle.tide_heap.specs.tide_call.Plans.{IsPlan, is_told_by_registers}
+use Rattle.tide_heap.specs.tide_call.declared.plan.Plan.TheVariants as plan
+use Rattle.tide_heap.specs.tide_layout.declared.region.Region.TheVariants as region
+use Rattle.tide_heap.specs.tide_core.machine.Entries.{call_of}
+use Rattle.tide_heap.specs.tide_core.machine.Kind.{Retire as RetireStep}
+use Rattle.tide_heap.specs.tide_core.machine.May.{MayCall}
+use Rattle.tide_heap.specs.tide_core.machine.Moment.{Moment}
+use Rattle.tide_heap.specs.tide_core.machine.Views.{with_entry}
+use Rattle.tide_heap.specs.tide_core.declared.machine.view.Duty.TheVariants.{Nothing}
+use Rattle.tide_heap.specs.tide_core.declared.machine.view.View.{View}
+use Rattle.tide_heap.specs.tide_core.machine.kinds.Retire.{left_view}
 use Rattle.tide_model.specs.History.{state_after}
 use Rattle.tide_model.specs.Layout.{Layout}
 use Rattle.tide_model.specs.Refused.{ShapeLists}
@@ -27,7 +27,7 @@ use Rattle.tide_mutator.specs.owed.Calling.{IsCalling}
 use Rattle.tide_mutator.specs.owed.Made.{HasMade}
 use Rattle.tide_mutator.specs.owed.Standing.{IsPlanned, caller_of}
 use Rattle.tide_heap.specs.steps.Follows.{FollowsSome, MayStep}
-use Rattle.tide_words.specs.heap.Heap.{Heap, write}
+use Rattle.tide_heap.specs.tide_words.heap.Heap.{Heap, write}
 
 -- which operation has such a plan
 is_retire_op : (caller : Caller) (heap : Heap) (state : State) (op : Op) → is_told_by_registers op ≡ true →

@@ -10,26 +10,26 @@ use Rattle.tide_mutator.specs.owed.Made.{HasMade, IsMade, Shown, shown}
 use Rattle.tide_mutator.specs.cells.Searching.{HasLooked}
 use Rattle.tide_mutator.specs.owed.Shading.{Owing}
 use Rattle.tide_mutator.specs.owed.Standing.{IsPlanned}
-use Rattle.tide_call.specs.ShapeWord.{whole_word}
+use Rattle.tide_heap.specs.tide_call.ShapeWord.{whole_word}
 use Rattle.tide_mutator.proofs.calls_laws.growth_laws.Reading.{calling_still, planned_still, read_twice, ready_read}
 use Rattle.tide_mutator.proofs.calls_laws.growth_laws.Taking.{elements_had, structure_known, structure_read, structure_small}
 use Rattle.tide_mutator.specs.calls.Growing.{HasRead, HasTaken, IsReady, KnowsElements, plan_of}
 use Rattle.tide_mutator.specs.owed.Replacing.{HasReplaced, OwesGrowth, grown_out}
 use Rattle.tide_mutator.specs.declared.owed.growth.Growth.{Growth}
-use Rattle.tide_layout.specs.Slots.{index_of_element}
-use Rattle.tide_layout.specs.declared.region.Region.TheVariants as region
-use Rattle.tide_core.specs.machine.Kind.{LoadOwnStructure}
-use Rattle.tide_core.specs.machine.May.{barrier_for}
-use Rattle.tide_core.specs.machine.Owed.{Knows, owed_word}
-use Rattle.tide_core.specs.declared.machine.view.Owed.{Owed}
-use Rattle.tide_core.specs.declared.machine.view.View.{View}
+use Rattle.tide_heap.specs.tide_layout.Slots.{index_of_element}
+use Rattle.tide_heap.specs.tide_layout.declared.region.Region.TheVariants as region
+use Rattle.tide_heap.specs.tide_core.machine.Kind.{LoadOwnStructure}
+use Rattle.tide_heap.specs.tide_core.machine.May.{barrier_for}
+use Rattle.tide_heap.specs.tide_core.machine.Owed.{Knows, owed_word}
+use Rattle.tide_heap.specs.tide_core.declared.machine.view.Owed.{Owed}
+use Rattle.tide_heap.specs.tide_core.declared.machine.view.View.{View}
 use Rattle.tide_model.specs.Layout.{Layout}
 use Rattle.tide_model.specs.Refused.{ShapeLists}
 use Rattle.tide_model.specs.declared.op.Op.{Op}
 use Rattle.tide_model.specs.declared.op.Reply.TheVariants.{Done}
 use Rattle.tide_heap.specs.steps.Follows.{Follows}
-use Rattle.tide_call.specs.Needed.{MayGrow}
-use Rattle.tide_words.specs.forms.ValueWord.{val_word}
+use Rattle.tide_heap.specs.tide_call.Needed.{MayGrow}
+use Rattle.tide_heap.specs.tide_words.forms.ValueWord.{val_word}
 
 -- with the structure's word it is ready
 pub ready_first : (layout : Layout) (shapes : ShapeLists) (v u : View) (op : Op) (growth : Growth) →
@@ -110,8 +110,8 @@ module _ (layout : Layout) (shapes : ShapeLists) (op : Op) (growth : Growth) (v 
         stage = t.stage;
         owed = t.owed ∙ ap (λ (n : ℕ). owed_word region.Structure growth.addition.cell growth.next
             ∷ owed_word region.Array growth.addition.cell
-            (Rattle.tide_words.specs.forms.Reference.array_word (Some taken))
-            ∷ Rattle.tide_core.specs.machine.Owed.owed_elements layout t.properties taken n)
+            (Rattle.tide_heap.specs.tide_words.forms.Reference.array_word (Some taken))
+            ∷ Rattle.tide_heap.specs.tide_core.machine.Owed.owed_elements layout t.properties taken n)
             (let same : suc growth.addition.count ≡ growth.addition.count + 1 = omega arith in same);
         duty = refl;
       };

@@ -3,26 +3,26 @@ use Rattle.std.proofs.Common.{ℕ, suc, ◌≡◌, ◌+◌, ◌%◌, ◌<◌, re
 use Rattle.std.proofs.lemmas.Bool.{ne_eqb}
 use Rattle.std.specs.Int.{bit_at}
 use Rattle.std.specs.Prelude.{Contains, bit_and}
-use Rattle.tide_block.proofs.BitLaws.{without_bit-is}
-use Rattle.tide_call.specs.Grown.{IsGrown, is_grown_region}
-use Rattle.tide_call.specs.ShapeWord.{whole_word}
-use Rattle.tide_call.specs.Taken.{IsTakenBit}
-use Rattle.tide_layout.proofs.Places.{tag-injective}
-use Rattle.tide_layout.proofs.SlotPlaces.{index_of_element-alone}
-use Rattle.tide_layout.specs.Region.{tag}
-use Rattle.tide_layout.specs.Slots.{HasElement, index_of_element}
-use Rattle.tide_layout.specs.declared.region.Region.{Region}
-use Rattle.tide_layout.specs.declared.region.Region.TheVariants as region
-use Rattle.tide_core.proofs.machine_laws.steps.Debts.{debt_cases, debts, filled, filled_at, filled_else, paid, paid_else}
-use Rattle.tide_core.specs.machine.Owed.{owed_word}
-use Rattle.tide_core.specs.machine.Words.{all_but}
-use Rattle.tide_core.specs.declared.machine.view.Owed.{Owed}
+use Rattle.tide_heap.proofs.tide_block.BitLaws.{without_bit-is}
+use Rattle.tide_heap.specs.tide_call.Grown.{IsGrown, is_grown_region}
+use Rattle.tide_heap.specs.tide_call.ShapeWord.{whole_word}
+use Rattle.tide_heap.specs.tide_call.Taken.{IsTakenBit}
+use Rattle.tide_heap.proofs.tide_layout.Places.{tag-injective}
+use Rattle.tide_heap.proofs.tide_layout.SlotPlaces.{index_of_element-alone}
+use Rattle.tide_heap.specs.tide_layout.Region.{tag}
+use Rattle.tide_heap.specs.tide_layout.Slots.{HasElement, index_of_element}
+use Rattle.tide_heap.specs.tide_layout.declared.region.Region.{Region}
+use Rattle.tide_heap.specs.tide_layout.declared.region.Region.TheVariants as region
+use Rattle.tide_heap.proofs.tide_core.machine_laws.steps.Debts.{debt_cases, debts, filled, filled_at, filled_else, paid, paid_else}
+use Rattle.tide_heap.specs.tide_core.machine.Owed.{owed_word}
+use Rattle.tide_heap.specs.tide_core.machine.Words.{all_but}
+use Rattle.tide_heap.specs.tide_core.declared.machine.view.Owed.{Owed}
 use Rattle.tide_model.specs.Layout.{Layout, block_of_array}
 use Rattle.tide_model.specs.declared.val.Val.{Val}
-use Rattle.tide_words.proofs.heap_laws.HeapLaws.{write-other_index, write-other_region, write-same}
-use Rattle.tide_words.specs.forms.Reference.{array_word}
-use Rattle.tide_words.specs.forms.ValueWord.{val_word}
-use Rattle.tide_words.specs.heap.Heap.{Heap, write}
+use Rattle.tide_heap.proofs.tide_words.heap_laws.HeapLaws.{write-other_index, write-other_region, write-same}
+use Rattle.tide_heap.specs.tide_words.forms.Reference.{array_word}
+use Rattle.tide_heap.specs.tide_words.forms.ValueWord.{val_word}
+use Rattle.tide_heap.specs.tide_words.heap.Heap.{Heap, write}
 
 module _ (layout : Layout) (heap : Heap) (properties : ℕ → Val) (cell taken block k count shape : ℕ)
     (in_block : block_of_array layout taken ≡ block) (its_bit : taken % 64 ≡ k) (few : k < 64)

@@ -3,15 +3,15 @@ use Rattle.std.proofs.Common.{ℕ, zero, suc, ◌≡◌, ◌<◌, refl, sym, ◌
 use Rattle.std.specs.Prelude.{Contains, not}
 use Rattle.tide_mutator.specs.owed.Calling.{IsCalling}
 use Rattle.tide_mutator.specs.owed.Standing.{IsPlanned, StandsAt, caller_of}
-use Rattle.tide_call.specs.Callers.{Caller}
-use Rattle.tide_call.specs.Plans.{IsAddition, IsPlan, NeedsArray}
-use Rattle.tide_call.specs.declared.additions.Addition.{Addition}
+use Rattle.tide_heap.specs.tide_call.Callers.{Caller}
+use Rattle.tide_heap.specs.tide_call.Plans.{IsAddition, IsPlan, NeedsArray}
+use Rattle.tide_heap.specs.tide_call.declared.additions.Addition.{Addition}
 use Rattle.tide_mutator.specs.calls.Growing.{plan_of}
 use Rattle.tide_mutator.specs.declared.owed.growth.Growth.{Growth}
-use Rattle.tide_layout.specs.Slots.{HasElement, index_of_element}
-use Rattle.tide_layout.specs.declared.region.Region.TheVariants as region
-use Rattle.tide_core.specs.machine.Entries.{class_for_value, refused_or_full, reply_of_call}
-use Rattle.tide_core.specs.declared.machine.view.View.{View}
+use Rattle.tide_heap.specs.tide_layout.Slots.{HasElement, index_of_element}
+use Rattle.tide_heap.specs.tide_layout.declared.region.Region.TheVariants as region
+use Rattle.tide_heap.specs.tide_core.machine.Entries.{class_for_value, refused_or_full, reply_of_call}
+use Rattle.tide_heap.specs.tide_core.declared.machine.view.View.{View}
 use Rattle.tide_model.proofs.NumberLaws.{contains_from_among}
 use Rattle.tide_model.specs.History.{state_after}
 use Rattle.tide_model.specs.Layout.{Layout}
@@ -26,10 +26,10 @@ use Rattle.tide_model.specs.declared.op.Refusal.TheVariants.{Full, IsTable, NoSh
 use Rattle.tide_model.specs.declared.op.Reply.TheVariants.{Refused}
 use Rattle.tide_model.specs.declared.val.Val.{Val}
 use Rattle.tide_model.specs.declared.val.Val.TheVariants.{Cell}
-use Rattle.tide_words.proofs.heap_laws.ReadingLaws.{live_within}
-use Rattle.tide_words.specs.forms.ValueWord.{val_word}
-use Rattle.tide_words.specs.heap.Heap.{Heap}
-use Rattle.tide_words.specs.heap.Reading.{CellReads, IsStructureOf, PropertyReads}
+use Rattle.tide_heap.proofs.tide_words.heap_laws.ReadingLaws.{live_within}
+use Rattle.tide_heap.specs.tide_words.forms.ValueWord.{val_word}
+use Rattle.tide_heap.specs.tide_words.heap.Heap.{Heap}
+use Rattle.tide_heap.specs.tide_words.heap.Reading.{CellReads, IsStructureOf, PropertyReads}
 
 -- an addition that nothing refuses is to a cell that its caller claims
 held_by : (caller : Caller) (state : State) (src key val cell : ℕ) → state.registers caller.who src ≡ Cell cell →

@@ -7,15 +7,15 @@ use Rattle.tide_mutator.specs.owed.Made.{HasDone, IsMade, Shown, shown}
 use Rattle.tide_mutator.specs.cells.Searching.{HasLooked}
 use Rattle.tide_mutator.specs.owed.Standing.{IsPlanned}
 use Rattle.tide_mutator.proofs.cells_laws.Looking.{calling_still as calling_looked, planned_still as planned_looked}
-use Rattle.tide_call.specs.declared.plan.Plan.{Plan}
+use Rattle.tide_heap.specs.tide_call.declared.plan.Plan.{Plan}
 use Rattle.tide_mutator.specs.calls.Growing.{HasRead, IsReady, KnowsElements, plan_of}
 use Rattle.tide_mutator.specs.declared.owed.growth.Growth.{Growth}
-use Rattle.tide_layout.specs.Slots.{index_of_element}
-use Rattle.tide_layout.specs.declared.region.Region.{Region}
-use Rattle.tide_layout.specs.declared.region.Region.TheVariants as region
-use Rattle.tide_core.specs.machine.Owed.{Knows, owed_word}
-use Rattle.tide_core.specs.declared.machine.view.Owed.{Owed}
-use Rattle.tide_core.specs.declared.machine.view.View.{View}
+use Rattle.tide_heap.specs.tide_layout.Slots.{index_of_element}
+use Rattle.tide_heap.specs.tide_layout.declared.region.Region.{Region}
+use Rattle.tide_heap.specs.tide_layout.declared.region.Region.TheVariants as region
+use Rattle.tide_heap.specs.tide_core.machine.Owed.{Knows, owed_word}
+use Rattle.tide_heap.specs.tide_core.declared.machine.view.Owed.{Owed}
+use Rattle.tide_heap.specs.tide_core.declared.machine.view.View.{View}
 use Rattle.tide_model.specs.Layout.{Layout}
 use Rattle.tide_model.specs.Refused.{ShapeLists}
 use Rattle.tide_model.specs.declared.op.Op.{Op}

@@ -16,32 +16,32 @@ use Rattle.tide_mutator.specs.owed.Calling.{IsCalling, kept}
 use Rattle.tide_mutator.specs.owed.Made.{HasDone}
 use Rattle.tide_mutator.specs.cells.Searching.{ClassIsSearched, HasLooked, HasSeen}
 use Rattle.tide_mutator.specs.owed.Standing.{IsPlanned, caller_of}
-use Rattle.tide_block.proofs.ArrayLaws.{block_of_arrays}
-use Rattle.tide_block.proofs.BitLaws.{without_bit-is}
-use Rattle.tide_call.specs.PlanWords.{PlanWords}
-use Rattle.tide_call.specs.ShapeWord.{whole_word}
+use Rattle.tide_heap.proofs.tide_block.ArrayLaws.{block_of_arrays}
+use Rattle.tide_heap.proofs.tide_block.BitLaws.{without_bit-is}
+use Rattle.tide_heap.specs.tide_call.PlanWords.{PlanWords}
+use Rattle.tide_heap.specs.tide_call.ShapeWord.{whole_word}
 use Rattle.tide_mutator.proofs.calls_laws.growth_laws.Grown.{are_grown, grown_words}
 use Rattle.tide_mutator.proofs.calls_laws.growth_laws.Plans.{IsGrowth, bare_there, claimed_there, element_there, full_reply, growth_there, structure_there}
 use Rattle.tide_mutator.proofs.calls_laws.growth_laws.Reading.{read_once}
 use Rattle.tide_mutator.specs.calls.Growing.{HasRead, HasTaken, IsReady, plan_of}
 use Rattle.tide_mutator.specs.owed.Replacing.{grown_out}
 use Rattle.tide_mutator.specs.declared.owed.growth.Growth.{Growth}
-use Rattle.tide_layout.specs.Region.{cell_block_count}
-use Rattle.tide_layout.specs.Slots.{HasElement, index_of_element, width_of_array, width_of_class}
-use Rattle.tide_layout.specs.declared.region.Region.TheVariants as region
-use Rattle.tide_core.specs.machine.Duties.{is_growing}
-use Rattle.tide_core.specs.machine.Entries.{call_of}
-use Rattle.tide_core.specs.machine.Kind.{LoadElement, LoadOwnStructure, StoreCall, TakeArray}
-use Rattle.tide_core.specs.machine.May.{MayCall}
-use Rattle.tide_core.specs.machine.Moment.{Moment}
-use Rattle.tide_core.specs.machine.Owed.{Knows, owed_elements, owed_word, own_structure}
-use Rattle.tide_core.specs.machine.Views.{with_entry}
-use Rattle.tide_core.specs.machine.Words.{all_but, cell_named}
-use Rattle.tide_core.specs.declared.machine.view.Found.{Found}
-use Rattle.tide_core.specs.declared.machine.view.Growth.{Growth as Stage}
-use Rattle.tide_core.specs.declared.machine.view.View.{View}
-use Rattle.tide_core.specs.machine.kinds.LoadFree.{looked_view}
-use Rattle.tide_core.specs.machine.kinds.TakeArray.{MayTakeArray, array_at, array_view, grown_view, properties_with}
+use Rattle.tide_heap.specs.tide_layout.Region.{cell_block_count}
+use Rattle.tide_heap.specs.tide_layout.Slots.{HasElement, index_of_element, width_of_array, width_of_class}
+use Rattle.tide_heap.specs.tide_layout.declared.region.Region.TheVariants as region
+use Rattle.tide_heap.specs.tide_core.machine.Duties.{is_growing}
+use Rattle.tide_heap.specs.tide_core.machine.Entries.{call_of}
+use Rattle.tide_heap.specs.tide_core.machine.Kind.{LoadElement, LoadOwnStructure, StoreCall, TakeArray}
+use Rattle.tide_heap.specs.tide_core.machine.May.{MayCall}
+use Rattle.tide_heap.specs.tide_core.machine.Moment.{Moment}
+use Rattle.tide_heap.specs.tide_core.machine.Owed.{Knows, owed_elements, owed_word, own_structure}
+use Rattle.tide_heap.specs.tide_core.machine.Views.{with_entry}
+use Rattle.tide_heap.specs.tide_core.machine.Words.{all_but, cell_named}
+use Rattle.tide_heap.specs.tide_core.declared.machine.view.Found.{Found}
+use Rattle.tide_heap.specs.tide_core.declared.machine.view.Growth.{Growth as Stage}
+use Rattle.tide_heap.specs.tide_core.declared.machine.view.View.{View}
+use Rattle.tide_heap.specs.tide_core.machine.kinds.LoadFree.{looked_view}
+use Rattle.tide_heap.specs.tide_core.machine.kinds.TakeArray.{MayTakeArray, array_at, array_view, grown_view, properties_with}
 use Rattle.tide_model.specs.History.{state_after}
 use Rattle.tide_model.specs.Layout.{IsBlockOf, Layout, block_of_array}
 use Rattle.tide_model.specs.Refused.{ShapeLists}
@@ -54,12 +54,12 @@ use Rattle.tide_model.specs.declared.op.Reply.{Reply}
 use Rattle.tide_model.specs.declared.op.Reply.TheVariants.{Done, Refused}
 use Rattle.tide_model.specs.declared.val.Val.{Val}
 use Rattle.tide_heap.specs.steps.Follows.{Follows, FollowsSome, MayStep}
-use Rattle.tide_call.proofs.plan_laws.TakenLaws.{taken-array, wide-array}
-use Rattle.tide_call.specs.Taken.{IsTakenOf}
-use Rattle.tide_words.proofs.heap_laws.HeapLaws.{write-other_index, write-other_region, write-same}
-use Rattle.tide_words.specs.forms.ValueWord.{val_word}
-use Rattle.tide_words.specs.heap.Heap.{Heap, write}
-use Rattle.tide_words.specs.heap.Written.{IsBitPut}
+use Rattle.tide_heap.proofs.tide_call.plan_laws.TakenLaws.{taken-array, wide-array}
+use Rattle.tide_heap.specs.tide_call.Taken.{IsTakenOf}
+use Rattle.tide_heap.proofs.tide_words.heap_laws.HeapLaws.{write-other_index, write-other_region, write-same}
+use Rattle.tide_heap.specs.tide_words.forms.ValueWord.{val_word}
+use Rattle.tide_heap.specs.tide_words.heap.Heap.{Heap, write}
+use Rattle.tide_heap.specs.tide_words.heap.Written.{IsBitPut}
 
 -- a bit that was cleared
 cleared : (layout : Layout) (heap : Heap) (block k : ℕ) → k < 64 →
@@ -323,7 +323,7 @@ module _ (layout : Layout) (shapes : ShapeLists) (v : View) (op : Op) (growth : 
             properties = properties f.log read f.moment set;
             owed = ap (λ (x : View). x.owed) took_view
                 ∙ ap (λ (n : ℕ). owed_word region.Structure cell growth.next
-                ∷ owed_word region.Array cell (Rattle.tide_words.specs.forms.Reference.array_word (Some taken))
+                ∷ owed_word region.Array cell (Rattle.tide_heap.specs.tide_words.forms.Reference.array_word (Some taken))
                 ∷ owed_elements layout (properties_with then_state cell growth.value) taken (suc n))
                 (sym at_take.adds.is_count);
             copied = λ source place word from below knows.

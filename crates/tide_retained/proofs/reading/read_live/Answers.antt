@@ -1,6 +1,6 @@
 -- What was read of the cell is what it holds.
 use Rattle.std.proofs.Common.{ℕ, List, ap, subst, sym, ◌∙◌}
-use Rattle.tide_layout.specs.declared.region.Region.TheVariants.{Group}
+use Rattle.tide_words.specs.tide_layout.declared.region.Region.TheVariants.{Group}
 use Rattle.tide_words.specs.heap.Heap.{heap_of}
 use Rattle.tide_words.specs.heap.Reading.{TakenReads}
 use Rattle.tide_retained.specs.Holding.{LiveReads}

@@ -1,7 +1,7 @@
 -- One more property was read.
 use Rattle.std.proofs.Common.{ℕ, ◌≡◌, ◌+◌, ◌<◌, List, length, arith, subst, sym, ◌∙◌}
 use Rattle.std.specs.Prelude.{IfNone, IfSome, Some}
-use Rattle.tide_layout.specs.declared.region.Region.TheVariants.{Array}
+use Rattle.tide_words.specs.tide_layout.declared.region.Region.TheVariants.{Array}
 use Rattle.tide_model.specs.Layout.{array_count}
 use Rattle.tide_shape.specs.ShapeTable.{keys_of}
 use Rattle.tide_words.specs.forms.Reference.{array_word}

@@ -1,8 +1,8 @@
 -- The word of the mutator tells whether it is active.
 use Rattle.std.proofs.Common.{ℕ, ◌≡◌, List, ap, arith, sym, ◌∙◌, subst}
 use Rattle.std.specs.Prelude.{slice_index}
-use Rattle.tide_layout.specs.declared.region.Region.TheVariants.{Active}
-use Rattle.tide_layout.specs.Region.{place_in}
+use Rattle.tide_words.specs.tide_layout.declared.region.Region.TheVariants.{Active}
+use Rattle.tide_words.specs.tide_layout.Region.{place_in}
 use Rattle.tide_words.specs.heap.Heap.{heap_of}
 use Rattle.tide_words.specs.heap.Reading.{ReadsAs}
 use Rattle.tide_retained.proofs.OkLaws.{on_ok}

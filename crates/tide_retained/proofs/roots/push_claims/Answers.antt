@@ -1,7 +1,7 @@
 -- One more claim was read.
 use Rattle.std.proofs.Common.{ℕ, ◌≡◌, ◌<◌, ◌≤◌, List, ap, arith, subst, ◌∙◌}
 use Rattle.std.specs.Prelude.{slice_index}
-use Rattle.tide_layout.specs.declared.region.Region.TheVariants.{Claim}
+use Rattle.tide_words.specs.tide_layout.declared.region.Region.TheVariants.{Claim}
 use Rattle.tide_model.specs.Layout.{cell_count}
 use Rattle.tide_words.specs.heap.Heap.{heap_of}
 use Rattle.tide_retained.specs.RootsRead.{AddsRoots, IsClaimRoot, IsClaimWordRoot}

@@ -1,6 +1,6 @@
 -- One more handle was read.
 use Rattle.std.proofs.Common.{ℕ, ◌≡◌, ◌<◌, List, arith, subst, sym, ◌∙◌}
-use Rattle.tide_layout.specs.declared.region.Region.TheVariants.{Strong as Handles}
+use Rattle.tide_words.specs.tide_layout.declared.region.Region.TheVariants.{Strong as Handles}
 use Rattle.tide_model.specs.declared.val.Val.{Val}
 use Rattle.tide_words.specs.heap.Heap.{heap_of}
 use Rattle.tide_words.specs.heap.Reading.{IsValueOf}

@@ -1,7 +1,7 @@
 -- One more register was read.
 use Rattle.std.proofs.Common.{ℕ, ◌≡◌, ◌<◌, List, arith, subst, sym, ◌∙◌}
-use Rattle.tide_layout.specs.declared.region.Region.TheVariants.{Registers}
-use Rattle.tide_layout.specs.Region.{index_of_register}
+use Rattle.tide_words.specs.tide_layout.declared.region.Region.TheVariants.{Registers}
+use Rattle.tide_words.specs.tide_layout.Region.{index_of_register}
 use Rattle.tide_model.specs.declared.val.Val.{Val}
 use Rattle.tide_words.specs.heap.Heap.{heap_of}
 use Rattle.tide_words.specs.heap.Reading.{IsValueOf}

@@ -2,7 +2,7 @@
 use Rattle.std.proofs.Common.{◌<◌, ◌∙◌, arith, length, get_or, subst}
 use Rattle.std.proofs.lemmas.Option.{slice_get_within}
 use Rattle.crossbeam_utils.specs.Padded.{padded_value}
-use Rattle.tide_core.specs.declared.machine.view.View.{View}
+use Rattle.tide_heap.specs.tide_core.declared.machine.view.View.{View}
 use Rattle.tide_threads.proofs.Loops.{both_step, later_step}
 use Rattle.tide_threads.specs.Playing.{WasHanded}
 use Rattle.tide_threads.proofs.collecting.hand_out.Goals as goal

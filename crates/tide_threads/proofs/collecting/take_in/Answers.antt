@@ -1,7 +1,7 @@
 -- Why each note was taken in.
 use Rattle.std.proofs.Common.{◌<◌, ◌∙◌, sym, ap, arith, length, get_or, subst, take, take_all}
 use Rattle.std.proofs.lemmas.Option.{slice_get-get_or, slice_get_within}
-use Rattle.tide_core.specs.declared.machine.view.View.{View}
+use Rattle.tide_heap.specs.tide_core.declared.machine.view.View.{View}
 use Rattle.tide_threads.proofs.Loops.{both_step, later_step, taken_step}
 use Rattle.tide_threads.proofs.Taking.{TookNotes-all}
 use Rattle.tide_threads.specs.Acting.{noted_all, notes_in}

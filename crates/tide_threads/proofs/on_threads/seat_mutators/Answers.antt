@@ -5,7 +5,7 @@ use Rattle.std.specs.Prelude.{None, Option, Some, slice_get}
 use Rattle.std.specs.Vec.Iter.{into_iter_items}
 use Rattle.crossbeam_utils.specs.Padded.{padded_value}
 use Rattle.crossbeam_utils.specs.declared.cache_padded.CachePadded.{CachePadded}
-use Rattle.tide_core.specs.machine.Frozen.{newcomer}
+use Rattle.tide_heap.specs.tide_core.machine.Frozen.{newcomer}
 use Rattle.tide_periods.specs.declared.caller.Caller.{Caller}
 use Rattle.tide_table.specs.Started.{ArePasses}
 use Rattle.tide_threads.proofs.Acting.{callers_in-append}

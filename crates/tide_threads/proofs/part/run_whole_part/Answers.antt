@@ -4,14 +4,14 @@ use Rattle.std.proofs.lemmas.Result.{err_from_is_err_and}
 use Rattle.std.specs.Prelude.{Some, slice_get}
 use Rattle.crossbeam_utils.specs.Padded.{padded_value}
 use Rattle.crossbeam_utils.specs.declared.cache_padded.CachePadded.{CachePadded}
-use Rattle.tide_freeze.proofs.RunningLaws.{open_keeps_books}
-use Rattle.tide_freeze.specs.Books.{AreBooks}
-use Rattle.tide_freeze.specs.declared.books.Books.{Books}
+use Rattle.tide_heap.proofs.tide_freeze.RunningLaws.{open_keeps_books}
+use Rattle.tide_heap.specs.tide_freeze.Books.{AreBooks}
+use Rattle.tide_heap.specs.tide_freeze.declared.books.Books.{Books}
 use Rattle.tide_report.proofs.EndLaws.{TellsEnds-part}
 use Rattle.tide_heap.specs.Turns.{open_entry, opened}
-use Rattle.tide_core.proofs.machine_laws.freezes.Entering.{FrozenWave-of}
-use Rattle.tide_core.specs.machine.Frozen.{FrozenWith}
-use Rattle.tide_core.specs.declared.machine.view.View.{View}
+use Rattle.tide_heap.proofs.tide_core.machine_laws.freezes.Entering.{FrozenWave-of}
+use Rattle.tide_heap.specs.tide_core.machine.Frozen.{FrozenWith}
+use Rattle.tide_heap.specs.tide_core.declared.machine.view.View.{View}
 use Rattle.tide_model.specs.declared.entry.Event.{Event}
 use Rattle.tide_report.specs.Ends.{TellsEnds}
 use Rattle.tide_shape.specs.Lists.{lists_of}
@@ -27,7 +27,7 @@ use Rattle.tide_threads.specs.Acting.{noted_all, notes_in}
 use Rattle.tide_table.specs.VisitsTold.{HaveTold, most_visits}
 use Rattle.tide_threads.specs.Playing.{MayTake, TookTurn}
 use Rattle.tide_threads.specs.declared.participant.Participant.{Participant}
-use Rattle.tide_words.specs.heap.Heap.{heap_of}
+use Rattle.tide_heap.specs.tide_words.heap.Heap.{heap_of}
 use Rattle.tide_threads.proofs.part.run_whole_part.Goals as goal
 
 pub open-requires : goal.open-requires

@@ -11,8 +11,8 @@ use Rattle.tide_retained.specs.Contents.{HasKeysOf}
 use Rattle.tide_retained.specs.Holding.{IsSnapshotOf}
 use Rattle.tide_shape.specs.Lists.{lists_of}
 use Rattle.tide_table.specs.declared.collector.Collector.{Collector}
-use Rattle.tide_words.specs.heap.Heap.{heap_of}
-use Rattle.tide_words.specs.heap.Reading.{ReadsAs}
+use Rattle.tide_heap.specs.tide_words.heap.Heap.{heap_of}
+use Rattle.tide_heap.specs.tide_words.heap.Reading.{ReadsAs}
 use Rattle.tide_threads.proofs.showing.snapshot_of.Goals as goal
 
 -- what the words read as, under other names for all three

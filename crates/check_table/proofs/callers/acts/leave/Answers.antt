@@ -2,8 +2,8 @@
 use Rattle.std.proofs.Common.{refl, ap, ◌∙◌, ◌++◌, ◌∷◌, [], List, true, rules}
 use Rattle.check_table.proofs.callers_laws.Calls.{between_calls, may_call, told_ready}
 use Rattle.check_table.specs.callers.Working.{all_calls, done, put_calls}
-use Rattle.tide_core.specs.machine.Own.{Own}
-use Rattle.tide_core.specs.declared.machine.view.View.{View}
+use Rattle.tide_heap.specs.tide_core.machine.Own.{Own}
+use Rattle.tide_heap.specs.tide_core.declared.machine.view.View.{View}
 use Rattle.tide_model.specs.declared.entry.Event.{Event}
 use Rattle.tide_model.specs.declared.op.Op.TheVariants.{Retire}
 use Rattle.check_table.proofs.callers.acts.leave.Goals as goal

@@ -2,12 +2,12 @@
 use Rattle.std.proofs.Common.{refl, sym, ap, ◌∙◌, ◌++◌, ◌∷◌, [], List, false, rules}
 use Rattle.check_table.proofs.callers_laws.Calls.{between_calls, may_call, may_tell, own_now, seven, told_ready}
 use Rattle.check_table.specs.callers.Working.{done, set_calls, strong_calls}
-use Rattle.tide_core.specs.machine.Own.{Own}
-use Rattle.tide_core.specs.declared.machine.view.View.{View}
+use Rattle.tide_heap.specs.tide_core.machine.Own.{Own}
+use Rattle.tide_heap.specs.tide_core.declared.machine.view.View.{View}
 use Rattle.tide_model.specs.declared.entry.Event.{Event}
 use Rattle.tide_model.specs.declared.op.Op.TheVariants.{StrongSet}
 use Rattle.tide_model.specs.declared.val.Val.{Val}
-use Rattle.tide_words.specs.forms.ValueWord.{val_word}
+use Rattle.tide_heap.specs.tide_words.forms.ValueWord.{val_word}
 use Rattle.check_table.proofs.callers.acts.put_strong.Goals as goal
 
 pub store_strong-requires-clause-may : goal.store_strong-requires-clause-may

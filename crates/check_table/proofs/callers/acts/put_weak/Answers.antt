@@ -2,10 +2,10 @@
 use Rattle.std.proofs.Common.{refl, sym, ap, ◌∙◌}
 use Rattle.check_table.proofs.callers_laws.Calls.{may_call, own_now, seven}
 use Rattle.check_table.specs.callers.Working.{strong_calls}
-use Rattle.tide_core.specs.machine.Own.{Own}
+use Rattle.tide_heap.specs.tide_core.machine.Own.{Own}
 use Rattle.tide_model.specs.declared.op.Op.TheVariants.{WeakSet}
 use Rattle.tide_model.specs.declared.val.Val.{Val}
-use Rattle.tide_words.specs.forms.ValueWord.{val_word}
+use Rattle.tide_heap.specs.tide_words.forms.ValueWord.{val_word}
 use Rattle.check_table.proofs.callers.acts.put_weak.Goals as goal
 
 pub store_weak-requires-clause-may : goal.store_weak-requires-clause-may

@@ -2,7 +2,7 @@
 use Rattle.std.proofs.Common.{refl, ap, ◌∙◌, ◌++◌, ◌∷◌, [], List, false, arith, rules}
 use Rattle.check_table.proofs.callers_laws.Calls.{between_calls, may_call, told_ready}
 use Rattle.check_table.specs.callers.Working.{done, set_calls}
-use Rattle.tide_core.specs.declared.machine.view.View.{View}
+use Rattle.tide_heap.specs.tide_core.declared.machine.view.View.{View}
 use Rattle.tide_model.specs.declared.entry.Event.{Event}
 use Rattle.tide_model.specs.declared.op.Op.TheVariants.{Set}
 use Rattle.check_table.proofs.callers.acts.set_register.Goals as goal

@@ -3,8 +3,8 @@ use Rattle.std.proofs.Common.{ℕ, ◌≤◌, ◌∙◌, ap, arith, inl, subst, 
 use Rattle.std.specs.Prelude.{◌||◌}
 use Rattle.tide_heap.specs.Parties.{In}
 use Rattle.tide_heap.specs.Turns.{note_of, noted}
-use Rattle.tide_core.specs.declared.machine.view.View.{View}
-use Rattle.tide_core.specs.machine.kinds.StoreStopped.{stopped_view}
+use Rattle.tide_heap.specs.tide_core.declared.machine.view.View.{View}
+use Rattle.tide_heap.specs.tide_core.machine.kinds.StoreStopped.{stopped_view}
 use Rattle.tide_model.specs.Layout.{Layout}
 use Rattle.tide_heap.proofs.steps_laws.Comings.{numbers_tell}
 use Rattle.check_table.proofs.callers_laws.Notes.{noted_in}

@@ -1,7 +1,7 @@
 -- Both begin with tickets of the open part.
 use Rattle.std.proofs.Common.{ℕ, ◌<◌, refl, sym, ◌∙◌, ap, subst}
 use Rattle.check_table.proofs.Pairing.{begin_both, begun_keeps}
-use Rattle.tide_core.specs.declared.machine.view.View.{View}
+use Rattle.tide_heap.specs.tide_core.declared.machine.view.View.{View}
 use Rattle.check_table.proofs.pair.Pair.begin.Goals as goal
 
 pub begin_part-requires : goal.begin_part-requires

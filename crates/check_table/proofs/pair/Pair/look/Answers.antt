@@ -1,7 +1,7 @@
 -- Who looks changes nothing but the word that it found last.
 use Rattle.std.proofs.Common.{sym, ◌∙◌, ap, arith, refl}
 use Rattle.check_table.proofs.Pairing.{is_ready, looked_takes}
-use Rattle.tide_core.specs.declared.machine.view.View.{View}
+use Rattle.tide_heap.specs.tide_core.declared.machine.view.View.{View}
 use Rattle.check_table.proofs.pair.Pair.look.Goals as goal
 
 pub look-requires : goal.look-requires

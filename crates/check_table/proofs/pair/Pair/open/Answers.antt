@@ -2,7 +2,7 @@
 use Rattle.std.proofs.Common.{◌+◌, ap, arith}
 use Rattle.tide_table.proofs.Nexts.{HasOpenedNext-first}
 use Rattle.check_table.proofs.Pairing.{new_rests, opened_both}
-use Rattle.tide_core.specs.declared.machine.view.View.{View}
+use Rattle.tide_heap.specs.tide_core.declared.machine.view.View.{View}
 use Rattle.tide_shape.specs.Lists.{lists_of}
 use Rattle.check_table.proofs.pair.Pair.open.Goals as goal
 

@@ -1,7 +1,7 @@
 -- Both hand in notes of the open part.
 use Rattle.std.proofs.Common.{ℕ, ◌<◌, refl, sym, ◌∙◌, ap, subst, arith}
 use Rattle.check_table.proofs.Pairing.{is_ready, stop_both}
-use Rattle.tide_core.specs.declared.machine.view.View.{View}
+use Rattle.tide_heap.specs.tide_core.declared.machine.view.View.{View}
 use Rattle.check_table.proofs.pair.Pair.stop.Goals as goal
 
 pub stop_part-requires : goal.stop_part-requires

@@ -1,7 +1,7 @@
 -- Why the visitor may begin, drain and stop, and what its note tells.
 use Rattle.std.proofs.Common.{ℕ, ◌≤◌, ◌∙◌, sym, ap, subst, arith}
 use Rattle.embed_heap.proofs.visitor_laws.Parts.{bare_fits, has_begun, in_part_framed, is_visitor_of}
-use Rattle.tide_core.specs.declared.machine.view.View.{View}
+use Rattle.tide_heap.specs.tide_core.declared.machine.view.View.{View}
 use Rattle.tide_model.specs.Layout.{cell_count}
 use Rattle.tide_visitor.specs.Viewed.{view_of}
 use Rattle.check_threads.proofs.drains.parts.visit.Goals as goal

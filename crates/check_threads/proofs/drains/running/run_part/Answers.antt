@@ -2,7 +2,7 @@
 use Rattle.std.proofs.Common.{ℕ, ◌∙◌, sym, ap, subst}
 use Rattle.check_threads.proofs.drains_laws.Taking.{is_in, stays_in}
 use Rattle.embed_heap.specs.visitor.Parts.{IsIdleBefore}
-use Rattle.tide_core.specs.declared.machine.view.View.{View}
+use Rattle.tide_heap.specs.tide_core.declared.machine.view.View.{View}
 use Rattle.tide_mutator.specs.calls.Viewed as mutator
 use Rattle.tide_visitor.specs.Viewed as visitor
 use Rattle.check_threads.proofs.drains.running.run_part.Goals as goal

@@ -2,7 +2,7 @@ use Rattle.std.proofs.Common.{ℕ, ◌≡◌, sym, ◌∙◌, ap, subst, true, f
 use Rattle.std.proofs.lemmas.Option.{none-some, same_Some, slice_get_within}
 use Rattle.std.proofs.lemmas.Result.{err_from_is_err_and}
 use Rattle.std.specs.Prelude.{not, slice_get}
-use Rattle.tide_layout.specs.Slots.{HasElement}
+use Rattle.tide_words.specs.tide_layout.Slots.{HasElement}
 use Rattle.tide_model.specs.declared.op.Refusal.TheVariants.{Absent}
 use Rattle.tide_model.specs.Applied.{place_of}
 use Rattle.tide_model.specs.Refused.{has_key, refuse_if}

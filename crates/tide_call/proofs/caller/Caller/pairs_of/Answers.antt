@@ -3,7 +3,7 @@ use Rattle.std.proofs.Math.ListN.{length-set}
 use Rattle.std.proofs.lemmas.Bool.{cases_eq}
 use Rattle.std.proofs.lemmas.List.{get_or-set_other}
 use Rattle.std.proofs.lemmas.Grind.{get_or-set_at}
-use Rattle.tide_layout.specs.Region.{place_of_slot}
+use Rattle.tide_words.specs.tide_layout.Region.{place_of_slot}
 use Rattle.tide_words.specs.heap.Reading.{slot_word}
 use Rattle.tide_call.specs.Callers.{Caller}
 use Rattle.tide_call.proofs.plan_laws.OwnLaws.{Leaves-own, claims-there, owned-seen}

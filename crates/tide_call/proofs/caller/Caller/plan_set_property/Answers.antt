@@ -1,6 +1,6 @@
 use Rattle.std.proofs.Common.{ℕ, sym, ◌∙◌, subst}
 use Rattle.tide_call.specs.declared.plan.Plan.TheVariants.{StoreElement}
-use Rattle.tide_layout.specs.Slots.{HasElement}
+use Rattle.tide_words.specs.tide_layout.Slots.{HasElement}
 use Rattle.tide_call.proofs.caller.Caller.plan_set_property.Goals as goal
 
 pub returns-in-Err : goal.returns-in-Err

@@ -3,7 +3,7 @@ use Rattle.std.proofs.Common.{ℕ, ◌≡◌, ◌<◌, sym, ◌∙◌, ap, subst
 use Rattle.std.proofs.lemmas.Bool.{eq-eqb, le-ltb, lt-ltb, ne_eqb}
 use Rattle.std.proofs.lemmas.Result.{err_from_is_err_and}
 use Rattle.std.specs.Prelude.{◌==◌, if◌then◌else◌}
-use Rattle.tide_layout.specs.Slots.{width_of_class}
+use Rattle.tide_words.specs.tide_layout.Slots.{width_of_class}
 use Rattle.tide_model.specs.Layout.{Layout, array_capacity_of, class_of, slots_of}
 use Rattle.tide_call.proofs.plan_laws.RefusalLaws.{slot_refusal-has, slot_refusal-lacks, slot_refusal-none, slot_refusal-table}
 use Rattle.tide_call.proofs.caller.Caller.slot_holder.Goals as goal

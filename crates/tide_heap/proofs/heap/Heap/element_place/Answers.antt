@@ -1,5 +1,5 @@
 -- It is one of the words of its region.
-use Rattle.tide_layout.proofs.SlotPlaces.{index_of_element-below}
+use Rattle.tide_core.proofs.tide_layout.SlotPlaces.{index_of_element-below}
 use Rattle.tide_heap.proofs.heap.Heap.element_place.Goals as goal
 
 pub returns-clause-within : goal.returns-clause-within

@@ -1,8 +1,8 @@
 -- A plan that is no growth is one of those that are acted on without one.
 use Rattle.std.proofs.Common.{subst}
-use Rattle.tide_call.specs.declared.plan.Plan.{Plan}
+use Rattle.tide_heap.specs.tide_call.declared.plan.Plan.{Plan}
 use Rattle.tide_mutator.proofs.calls_laws.acting_laws.Acted.{acted_else}
-use Rattle.tide_call.specs.Needed.{FitsPlan}
+use Rattle.tide_heap.specs.tide_call.Needed.{FitsPlan}
 use Rattle.tide_mutator.proofs.calls.acting.act.Goals as goal
 
 pub grow-requires-clause-may : goal.grow-requires-clause-may

@@ -1,6 +1,6 @@
 -- Of which operations the plans are, and that one that is none of the others asks for a cycle.
 use Rattle.std.proofs.Common.{ap, subst, sym}
-use Rattle.tide_call.specs.declared.plan.Plan.{Plan}
+use Rattle.tide_heap.specs.tide_call.declared.plan.Plan.{Plan}
 use Rattle.tide_mutator.proofs.calls_laws.acting_laws.Asking.{asks_else}
 use Rattle.tide_mutator.specs.owed.Made.{HasDone}
 use Rattle.tide_mutator.specs.calls.Plans.{is_plain}

@@ -1,11 +1,11 @@
 -- Of which operations the plans are, and that one that is none of these is one of the rest.
 use Rattle.std.proofs.Common.{ap, subst, sym}
-use Rattle.tide_call.specs.declared.plan.Plan.{Plan}
+use Rattle.tide_heap.specs.tide_call.declared.plan.Plan.{Plan}
 use Rattle.tide_mutator.proofs.calls_laws.acting_laws.Asking.{rests_else}
 use Rattle.tide_mutator.specs.owed.Made.{HasDone}
 use Rattle.tide_mutator.specs.calls.Plans.{is_plain}
 use Rattle.tide_mutator.specs.owed.Standing.{IsPlanned}
-use Rattle.tide_call.specs.Needed.{FitsPlan}
+use Rattle.tide_heap.specs.tide_call.Needed.{FitsPlan}
 use Rattle.tide_mutator.proofs.calls.acting.act_without_growth.Goals as goal
 
 pub act_on_rest-requires-clause-rest : goal.act_on_rest-requires-clause-rest

@@ -1,9 +1,9 @@
 -- Why the mutator may be asked for a plan, and what the plan says.
 use Rattle.std.proofs.Common.{◌≡◌, ◌<◌, sym, ◌∙◌, ap, subst}
-use Rattle.tide_call.specs.Plans.{IsPlan}
-use Rattle.tide_layout.specs.Limits.{IsWithinLimits}
-use Rattle.tide_layout.specs.declared.region.Region.TheVariants.{Call}
-use Rattle.tide_core.specs.declared.machine.view.View.{View}
+use Rattle.tide_heap.specs.tide_call.Plans.{IsPlan}
+use Rattle.tide_heap.specs.tide_layout.Limits.{IsWithinLimits}
+use Rattle.tide_heap.specs.tide_layout.declared.region.Region.TheVariants.{Call}
+use Rattle.tide_heap.specs.tide_core.declared.machine.view.View.{View}
 use Rattle.tide_model.specs.History.{state_after}
 use Rattle.tide_model.specs.Layout.{Layout}
 use Rattle.tide_model.specs.Refused.{ShapeLists}
@@ -15,7 +15,7 @@ use Rattle.tide_mutator.proofs.calls_laws.Unread.{below_unread, calm_unread}
 use Rattle.tide_mutator.specs.calls.Plans.{is_plain}
 use Rattle.tide_mutator.specs.owed.Standing.{IsPlanned, caller_of, claims_of}
 use Rattle.tide_mutator.specs.calls.Owning.{OwnsAt, unread}
-use Rattle.tide_words.specs.heap.Heap.{Heap}
+use Rattle.tide_heap.specs.tide_words.heap.Heap.{Heap}
 use Rattle.tide_mutator.proofs.calls.deciding.decide.Given.{Over}
 use Rattle.tide_mutator.proofs.calls.deciding.decide.Goals as goal
 use Rattle.tide_mutator.proofs.calls.deciding.decide.Goals.{After-plan_of}

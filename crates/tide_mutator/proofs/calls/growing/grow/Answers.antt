@@ -5,7 +5,7 @@ use Rattle.std.proofs.lemmas.List.{get_or-set_other}
 use Rattle.tide_mutator.proofs.cells_laws.Looking.{counted_still as counted_looked, has_done_before as has_done_looked}
 use Rattle.tide_mutator.proofs.owed_laws.Shading.{made_shaded}
 use Rattle.tide_mutator.proofs.owed_laws.Telling.{done_by, may_tell, still_mutator, still_runs}
-use Rattle.tide_call.specs.declared.additions.Addition.{Addition}
+use Rattle.tide_heap.specs.tide_call.declared.additions.Addition.{Addition}
 use Rattle.tide_mutator.proofs.calls_laws.growth_laws.Calls.{made_replaced, owes_first, owing_replaced, read_loaded, ready_first, ready_loaded}
 use Rattle.tide_mutator.proofs.calls_laws.growth_laws.Reading.{counted_still, has_done_before, knows_below, ready_looked}
 use Rattle.tide_mutator.proofs.calls_laws.growth_laws.Taking.{full_by, may_load_structure, may_tell_full}

@@ -1,14 +1,14 @@
 -- Why the element may be stored, and why the store of the structure makes the call, which then pays the barrier.
 use Rattle.std.proofs.Common.{Bool, ◌∙◌, ap, subst, sym}
-use Rattle.tide_call.specs.declared.plan.Plan.TheVariants.{Append}
-use Rattle.tide_core.specs.machine.May.{barrier_for}
+use Rattle.tide_heap.specs.tide_call.declared.plan.Plan.TheVariants.{Append}
+use Rattle.tide_heap.specs.tide_core.machine.May.{barrier_for}
 use Rattle.tide_model.specs.declared.op.Reply.TheVariants.{Done}
 use Rattle.tide_mutator.proofs.calls_laws.acting_laws.AppendSteps.{added_by, may_add_stored, may_store_past, stored_runs}
 use Rattle.tide_mutator.proofs.owed_laws.Shading.{made_shaded, owing_made}
 use Rattle.tide_mutator.proofs.owed_laws.Telling.{done_by, may_tell, still_mutator, still_runs}
 use Rattle.tide_mutator.specs.owed.Calling.{Kept}
 use Rattle.tide_mutator.specs.owed.Shading.{Owing}
-use Rattle.tide_words.specs.forms.ValueWord.{val_word}
+use Rattle.tide_heap.specs.tide_words.forms.ValueWord.{val_word}
 use Rattle.tide_mutator.proofs.calls.properties.append.Goals as goal
 
 pub store_element-requires-clause-may : goal.store_element-requires-clause-may

@@ -1,7 +1,7 @@
 -- Why the load of the element makes the call, which then pays its register.
 use Rattle.std.proofs.Common.{sym, subst}
-use Rattle.tide_call.specs.declared.plan.Plan.TheVariants.{LoadElement}
-use Rattle.tide_core.specs.machine.Words.{value_of}
+use Rattle.tide_heap.specs.tide_call.declared.plan.Plan.TheVariants.{LoadElement}
+use Rattle.tide_heap.specs.tide_core.machine.Words.{value_of}
 use Rattle.tide_model.specs.declared.op.Reply.{Reply}
 use Rattle.tide_model.specs.declared.op.Reply.TheVariants.{Seen}
 use Rattle.tide_mutator.proofs.calls_laws.acting_laws.PropertySteps.{element_value, got_property_by, may_get_property}

@@ -1,6 +1,6 @@
 -- Why the store of the element makes the call, which then pays the barrier.
 use Rattle.std.proofs.Common.{◌∙◌}
-use Rattle.tide_call.specs.declared.plan.Plan.TheVariants.{StoreElement}
+use Rattle.tide_heap.specs.tide_call.declared.plan.Plan.TheVariants.{StoreElement}
 use Rattle.tide_model.specs.declared.op.Reply.TheVariants.{Done}
 use Rattle.tide_mutator.proofs.calls_laws.acting_laws.PropertySteps.{may_put_property, put_property_by}
 use Rattle.tide_mutator.proofs.owed_laws.Shading.{made_shaded, owing_made}

@@ -2,7 +2,7 @@
 use Rattle.std.proofs.Common.{ℕ, ◌≡◌, ◌<◌, sym, ◌∙◌, ap, refl, add-one, None, Some, Option}
 use Rattle.tide_model.specs.declared.op.Reply.{Reply}
 use Rattle.tide_mutator.specs.cells.Claiming.{held_or}
-use Rattle.tide_words.specs.forms.Reference.{claim_word}
+use Rattle.tide_heap.specs.tide_words.forms.Reference.{claim_word}
 use Rattle.tide_mutator.proofs.cells.claiming.held_or.Goals as goal
 
 nobody : (otherwise : Reply) (word : ℕ) (holder : Option ℕ) →

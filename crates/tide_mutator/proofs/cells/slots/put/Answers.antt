@@ -1,6 +1,6 @@
 -- Why the store of the slot makes the call, which then pays the barrier.
 use Rattle.std.proofs.Common.{◌∙◌, rules}
-use Rattle.tide_call.specs.declared.plan.Plan.TheVariants.{StoreSlot}
+use Rattle.tide_heap.specs.tide_call.declared.plan.Plan.TheVariants.{StoreSlot}
 use Rattle.tide_model.specs.declared.op.Reply.TheVariants.{Done}
 use Rattle.tide_mutator.proofs.cells_laws.SlotSteps.{may_put_with, put_with}
 use Rattle.tide_mutator.proofs.owed_laws.Shading.{made_shaded, owing_made}

@@ -7,7 +7,7 @@ use Rattle.tide_model.specs.Refused.{ShapeLists}
 use Rattle.tide_heap.proofs.steps_laws.Comings.{zero_below}
 use Rattle.tide_table.proofs.Tabled.{enters_as}
 use Rattle.tide_heap.specs.Turns.{visits_over}
-use Rattle.tide_core.specs.declared.machine.view.View.{View}
+use Rattle.tide_heap.specs.tide_core.declared.machine.view.View.{View}
 use Rattle.tide_table.proofs.Visits.{AreNumbersTold-over}
 use Rattle.tide_table.specs.VisitsTold.{AreNumbersTold}
 use Rattle.tide_table.proofs.collector.Collector.enter_visits_as.Goals as goal

@@ -1,6 +1,6 @@
 -- Why the places so far hold the word.
 use Rattle.std.proofs.Common.{ℕ, ◌∙◌, refl, ap, arith}
-use Rattle.tide_layout.specs.Region.{place_in}
+use Rattle.tide_heap.specs.tide_layout.Region.{place_in}
 use Rattle.tide_model.specs.Layout.{Layout}
 use Rattle.tide_table.proofs.Starting.{filled_none, filled_more}
 use Rattle.tide_heap.specs.Turns.{restored}

@@ -1,7 +1,7 @@
 -- Why the births are few, and those of the history.
 use Rattle.std.proofs.Common.{◌∙◌, ap, arith, refl, sym}
-use Rattle.tide_core.specs.declared.machine.view.View.{View}
-use Rattle.tide_freeze.proofs.FewBirths.{births-few}
+use Rattle.tide_heap.specs.tide_core.declared.machine.view.View.{View}
+use Rattle.tide_heap.proofs.tide_freeze.FewBirths.{births-few}
 use Rattle.tide_model.proofs.Histories.{IsLawful-prefix}
 use Rattle.tide_table.proofs.Standing.{AreBooks-counted, StandsStill-froze}
 use Rattle.tide_table.proofs.collector.Collector.freeze_counting.Goals as goal

@@ -1,13 +1,13 @@
 -- A heap that has started may be opened.
 use Rattle.std.proofs.Common.{◌≡◌, sym, ◌∙◌, ap, subst, true, false, List, []}
-use Rattle.tide_core.specs.wave.FrozenWave.{FrozenWave}
-use Rattle.tide_freeze.proofs.BookLaws.{IsSwept-none}
-use Rattle.tide_freeze.proofs.FrozenLaws.{marks-same}
-use Rattle.tide_core.specs.machine.points.Sweeps.{SweptAreTold, TakenAreClean}
+use Rattle.tide_heap.specs.tide_core.wave.FrozenWave.{FrozenWave}
+use Rattle.tide_heap.proofs.tide_freeze.BookLaws.{IsSwept-none}
+use Rattle.tide_heap.proofs.tide_freeze.FrozenLaws.{marks-same}
+use Rattle.tide_heap.specs.tide_core.machine.points.Sweeps.{SweptAreTold, TakenAreClean}
 use Rattle.tide_model.specs.History.{state_after}
 use Rattle.tide_model.specs.declared.entry.Event.{Event}
 use Rattle.tide_table.specs.VisitsTold.{unentered}
-use Rattle.tide_words.specs.heap.Heap.{heap_of}
+use Rattle.tide_heap.specs.tide_words.heap.Heap.{heap_of}
 use Rattle.tide_table.proofs.collector.Collector.open_first.Goals as goal
 
 pub open-requires : goal.open-requires

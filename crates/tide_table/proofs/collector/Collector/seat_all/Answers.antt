@@ -1,7 +1,7 @@
 -- Why the passes are those of their numbers.
 use Rattle.std.proofs.Common.{ℕ, ◌+◌, ◌∙◌, [], ◌∷◌, length, length-append, refl, sym, subst, arith, ap}
-use Rattle.tide_core.specs.machine.Frozen.{newcomer}
-use Rattle.tide_core.specs.declared.machine.view.View.{View}
+use Rattle.tide_heap.specs.tide_core.machine.Frozen.{newcomer}
+use Rattle.tide_heap.specs.tide_core.declared.machine.view.View.{View}
 use Rattle.tide_table.proofs.Starting.{passes_push, next_trans}
 use Rattle.tide_heap.specs.Parties.{IsParty}
 use Rattle.tide_table.specs.Started.{ArePasses}

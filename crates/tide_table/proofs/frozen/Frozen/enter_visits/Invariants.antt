@@ -1,6 +1,6 @@
 -- Which visitor's visits are entered, and how many.
 use Rattle.std.specs.Prelude.{◌+◌}
-use Rattle.tide_core.specs.machine.World.{first_visitor}
+use Rattle.tide_heap.specs.tide_core.machine.World.{first_visitor}
 use Rattle.tide_model.specs.History.{plain}
 use Rattle.tide_model.specs.declared.entry.Entry.TheVariants.{Visits}
 use Rattle.tide_table.proofs.frozen.Frozen.enter_visits.Given as goal

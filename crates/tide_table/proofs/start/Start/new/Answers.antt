@@ -1,8 +1,8 @@
 -- Why a new heap meets the rule.
 use Rattle.std.proofs.Common.{◌≡◌, ℕ, List, subst, ◌∙◌, ap, replicate}
-use Rattle.tide_layout.specs.Region.{block_count}
-use Rattle.tide_layout.specs.declared.region.Region.TheVariants.{Active, Base, Free}
-use Rattle.tide_core.specs.declared.machine.view.View.{View}
+use Rattle.tide_heap.specs.tide_layout.Region.{block_count}
+use Rattle.tide_heap.specs.tide_layout.declared.region.Region.TheVariants.{Active, Base, Free}
+use Rattle.tide_heap.specs.tide_core.declared.machine.view.View.{View}
 use Rattle.tide_table.proofs.Starting.{next_trans, started}
 use Rattle.tide_table.proofs.Tabled.{opens_at}
 use Rattle.tide_table.specs.Started.{HasFilled}

@@ -1,7 +1,7 @@
 -- Why a visitor may be made of a newcomer's pass.
 use Rattle.std.proofs.Common.{◌∙◌, sym, ap, subst}
-use Rattle.tide_core.specs.machine.May.{Rests}
-use Rattle.tide_core.specs.declared.machine.view.View.{View}
+use Rattle.tide_heap.specs.tide_core.machine.May.{Rests}
+use Rattle.tide_heap.specs.tide_core.declared.machine.view.View.{View}
 use Rattle.tide_threads.proofs.Visiting.{Rests-newcomer}
 use Rattle.tide_threads.proofs.marking.CountingVisitor.new.Goals as goal
 

@@ -1,7 +1,7 @@
 -- What a visitor's part makes.
 use Rattle.std.proofs.Common.{ℕ, ◌≤◌, ◌+◌, ◌-◌, ◌^◌, ◌∙◌, refl, sym, ap, subst, arith}
 use Rattle.std.specs.Prelude.{min}
-use Rattle.tide_core.specs.declared.machine.view.View.{View}
+use Rattle.tide_heap.specs.tide_core.declared.machine.view.View.{View}
 use Rattle.tide_model.specs.Layout.{cell_count}
 use Rattle.tide_threads.proofs.Visiting.{HasBegunVisits-by, HasMadeVisits-stopped, IsVisitorOf-same}
 use Rattle.tide_visitor.specs.Viewed.{view_of}

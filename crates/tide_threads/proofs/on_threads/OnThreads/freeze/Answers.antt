@@ -1,7 +1,7 @@
 -- Why the heap may be collected, and stands after.
 use Rattle.std.proofs.Common.{◌∙◌, refl, arith}
 use Rattle.std.proofs.lemmas.Result.{err_from_is_err_and}
-use Rattle.tide_freeze.proofs.BookLaws.{longer_report_tells}
+use Rattle.tide_heap.proofs.tide_freeze.BookLaws.{longer_report_tells}
 use Rattle.tide_shape.specs.Lists.{lists_of}
 use Rattle.tide_threads.proofs.Freezes.{MayOpenPart-collected, RanFreeze-collected, StandsBy-collected}
 use Rattle.tide_threads.specs.OnThreads.{pace_on}

@@ -1,11 +1,11 @@
 -- Why the heap stands as it did once cells are counted.
 use Rattle.std.proofs.Common.{◌∙◌, refl, sym, ap, subst}
-use Rattle.tide_core.specs.declared.machine.view.View.{View}
+use Rattle.tide_heap.specs.tide_core.declared.machine.view.View.{View}
 use Rattle.tide_periods.specs.Recorded.{recorded_at}
 use Rattle.tide_shape.specs.Lists.{lists_of}
 use Rattle.tide_threads.specs.OnThreads.{setting_in}
 use Rattle.tide_threads.specs.Playing.{AllStandBy}
-use Rattle.tide_freeze.specs.Books.{AreBooks}
+use Rattle.tide_heap.specs.tide_freeze.Books.{AreBooks}
 use Rattle.tide_report.specs.Ends.{TellsEnds}
 use Rattle.tide_table.specs.Standing.{StandsStill}
 use Rattle.tide_threads.proofs.on_threads.OnThreads.live.Goals as goal

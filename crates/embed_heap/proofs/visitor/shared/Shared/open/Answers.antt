@@ -1,7 +1,7 @@
 -- The first part runs with the books of nothing, and neither has begun.
 use Rattle.std.proofs.Common.{ap, arith}
 use Rattle.embed_heap.proofs.visitor_laws.Parts.{new_idle}
-use Rattle.tide_core.specs.declared.machine.view.View.{View}
+use Rattle.tide_heap.specs.tide_core.declared.machine.view.View.{View}
 use Rattle.tide_mutator.specs.calls.Viewed as mutator
 use Rattle.tide_shape.specs.Lists.{lists_of}
 use Rattle.tide_table.proofs.Nexts.{HasOpenedNext-first}

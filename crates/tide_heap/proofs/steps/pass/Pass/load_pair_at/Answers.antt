@@ -1,6 +1,6 @@
 -- Why the step is on its word.
 use Rattle.std.proofs.Common.{refl}
-use Rattle.tide_layout.proofs.SlotPlaces.{index_of_slot-below}
+use Rattle.tide_core.proofs.tide_layout.SlotPlaces.{index_of_slot-below}
 use Rattle.tide_heap.proofs.steps.pass.Pass.load_pair_at.Goals as goal
 
 pub make_step-requires : goal.make_step-requires

@@ -1,7 +1,7 @@
 -- Why a participant may stop.
 use Rattle.std.proofs.Common.{◌≡◌, ◌<◌, ◌∙◌, sym, subst, ap, ℕ}
-use Rattle.tide_layout.specs.Region.{place_in, size_of, word_count}
-use Rattle.tide_layout.specs.declared.region.Region.TheVariants as region
+use Rattle.tide_core.specs.tide_layout.Region.{place_in, size_of, word_count}
+use Rattle.tide_core.specs.tide_layout.declared.region.Region.TheVariants as region
 use Rattle.tide_core.specs.machine.Kind.{index_of_stopped}
 use Rattle.tide_model.specs.Layout.{Layout}
 use Rattle.tide_heap.proofs.steps_laws.Comings.{ends}

@@ -1,13 +1,13 @@
 -- Why a call that is done stands in its caller's order, and its mutator rests again with the claims that it has.
 use Rattle.std.proofs.Common.{◌≡◌, ◌+◌, ◌<◌, ◌^◌, sym, ◌∙◌, ap, subst, false, List, length, ℕ}
 use Rattle.std.specs.Prelude.{nat_le}
-use Rattle.tide_core.specs.declared.machine.view.View.{View}
-use Rattle.tide_core.specs.machine.kinds.TakeFree.{TakesCell}
+use Rattle.tide_heap.specs.tide_core.declared.machine.view.View.{View}
+use Rattle.tide_heap.specs.tide_core.machine.kinds.TakeFree.{TakesCell}
 use Rattle.tide_model.specs.Refused.{claims_most}
 use Rattle.tide_mutator.proofs.calls_laws.Ended.{called_by, claims_then, has_room, rests_after}
 use Rattle.tide_mutator.proofs.calls_laws.Unread.{called_unread, calling_unread, claims_unread, counts_unread, rests_unread}
 use Rattle.tide_mutator.specs.owed.Calling.{IsCalling}
-use Rattle.tide_call.specs.Claims.{claims_by_plan}
+use Rattle.tide_heap.specs.tide_call.Claims.{claims_by_plan}
 use Rattle.tide_mutator.proofs.calls.mutator.Mutator.perform.Goals as goal
 
 pub act-reply-requires-clause-calling : goal.act-reply-requires-clause-calling

@@ -1,8 +1,8 @@
 -- Why the word that is loaded is the register's wherever its mutator may stand.
 use Rattle.std.proofs.Common.{ℕ, ◌<◌, sym, ◌∙◌, ap, subst}
-use Rattle.tide_layout.specs.Region.{index_of_register}
-use Rattle.tide_layout.specs.declared.region.Region.TheVariants.{Registers}
-use Rattle.tide_core.specs.declared.machine.view.View.{View}
+use Rattle.tide_heap.specs.tide_layout.Region.{index_of_register}
+use Rattle.tide_heap.specs.tide_layout.declared.region.Region.TheVariants.{Registers}
+use Rattle.tide_heap.specs.tide_core.declared.machine.view.View.{View}
 use Rattle.tide_model.specs.Layout.{Layout}
 use Rattle.tide_mutator.proofs.calls_laws.OwnRegister.{register_word}
 use Rattle.tide_mutator.specs.calls.Owning.{OwnsAt, unread}

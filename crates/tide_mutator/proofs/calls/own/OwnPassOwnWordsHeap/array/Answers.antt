@@ -1,6 +1,6 @@
 -- Why the word that is loaded is known from then on.
 use Rattle.std.proofs.Common.{ℕ, refl, ◌∙◌, sym, subst, ap}
-use Rattle.tide_layout.specs.declared.region.Region.TheVariants.{Array}
+use Rattle.tide_heap.specs.tide_layout.declared.region.Region.TheVariants.{Array}
 use Rattle.tide_model.specs.Layout.{Layout}
 use Rattle.tide_mutator.proofs.calls_laws.OwnWords.{array_owned, is_read_there, may_load_array, narrows, unread_same, within}
 use Rattle.tide_mutator.proofs.calls.own.OwnPassOwnWordsHeap.array.Goals as goal

@@ -1,8 +1,8 @@
 -- Why the word that is loaded is known from then on.
 use Rattle.std.proofs.Common.{ℕ, refl, ◌∙◌, sym, subst, ap}
-use Rattle.tide_layout.specs.Region.{place_of_slot}
-use Rattle.tide_layout.specs.Slots.{HasSlot, index_of_slot}
-use Rattle.tide_layout.specs.declared.region.Region.TheVariants.{Slots}
+use Rattle.tide_heap.specs.tide_layout.Region.{place_of_slot}
+use Rattle.tide_heap.specs.tide_layout.Slots.{HasSlot, index_of_slot}
+use Rattle.tide_heap.specs.tide_layout.declared.region.Region.TheVariants.{Slots}
 use Rattle.tide_model.specs.Layout.{Layout}
 use Rattle.tide_mutator.proofs.calls_laws.OwnWords.{is_read_there, may_load_pair, narrows, pair_owned, unread_same, within}
 use Rattle.tide_mutator.proofs.calls.own.OwnPassOwnWordsHeap.pair.Goals as goal

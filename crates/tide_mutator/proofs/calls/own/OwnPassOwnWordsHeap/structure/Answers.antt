@@ -1,6 +1,6 @@
 -- Why the word that is loaded is known from then on.
 use Rattle.std.proofs.Common.{ℕ, refl, ◌∙◌, sym, subst, ap}
-use Rattle.tide_layout.specs.declared.region.Region.TheVariants.{Structure}
+use Rattle.tide_heap.specs.tide_layout.declared.region.Region.TheVariants.{Structure}
 use Rattle.tide_model.specs.Layout.{Layout}
 use Rattle.tide_mutator.proofs.calls_laws.OwnWords.{is_read_there, may_load_structure, narrows, structure_owned, unread_same, within}
 use Rattle.tide_mutator.proofs.calls.own.OwnPassOwnWordsHeap.structure.Goals as goal
