@@ -7,16 +7,18 @@
 #![tactic(auto)]
 
 mod draw;
-mod fact;
-mod heap;
-mod holds;
-mod labelled;
 mod places;
-mod point;
 mod reading;
+mod texts;
+// over those above it
+mod heap;
+mod labelled;
+mod point;
 mod reply;
 mod rows;
-mod texts;
+// over those above it
+mod fact;
+mod holds;
 
 pub use draw::Draw;
 pub use fact::{pair_text, region_of, value_of, word_of, word_text};

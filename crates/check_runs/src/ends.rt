@@ -10,6 +10,7 @@
 //!   all that the sink took; a call that fails is answered `failed`;
 //! - what `real.rt` answers.
 
+use crate::answering::{text_of, write};
 use crate::real::on_real_end;
 use check_heap::{Answers, joined, large_number, large_numbers, number_between, number_text, text};
 use std::alloc::{AllocError, Global};
@@ -20,11 +21,6 @@ use tide_io::{MemSink, MemSource, ReadError, Sink, Source, read_up_to, write_all
 pub struct Ends {
     source: Option<MemSource>,
     sink: Option<MemSink>,
-}
-
-/// The text that bytes are.
-pub fn text_of(alloc: Global, bytes: &[u8]) -> Result<String, AllocError> {
-    text(alloc, std::str::from_utf8(bytes).unwrap_or("no text"))
 }
 
 /// The size that a word is, and 0 where it is none.
@@ -82,17 +78,6 @@ fn on_source(
         _ => return Ok(None),
     };
     Ok(Some(answer))
-}
-
-/// One write.
-pub fn write<K: Sink>(alloc: Global, sink: &mut K, piece: &str) -> Result<String, AllocError> {
-    if piece.is_empty() {
-        return text(alloc, "");
-    }
-    match sink.write(piece.as_bytes()) {
-        Ok(count) => number_text(alloc, count as u64),
-        Err(_) => text(alloc, "failed"),
-    }
 }
 
 /// Writes all of a text.

@@ -5,11 +5,15 @@
 //! drawn from two files (`drawn.rt`). The facts have to hold of its text (`facts.rt`), and of none that is doctored
 //! (`doctored.rt`).
 
-mod counts;
-mod doctored;
 mod drawn;
-mod facts;
 mod held;
+// over those above it
+mod facts;
+// over those above it
+mod doctored;
+// over those above it
+mod counts;
+// over those above it
 mod runs;
 
 pub use runs::check_facts;

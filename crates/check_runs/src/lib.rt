@@ -5,20 +5,17 @@
 //! no program, and reads no file: `checks` calls it for the lines of its input, and hands it the rows and the workloads.
 #![tactic(auto)]
 
-mod facts;
-// over those above it
-mod real;
-// over those above it
-mod ends;
-// over those above it
+mod answering;
 mod ending;
+mod facts;
+mod outcomes;
 mod shelf;
 // over those above it
-mod outcomes;
-// over those above it
+mod real;
 mod trial;
 mod ways;
 // over those above it
+mod ends;
 mod runs;
 
 pub use ends::Ends;

@@ -4,7 +4,7 @@
 //! got that A and then B were written to; `read broken`, `write broken TEXT` and `write nowhere TEXT` are over a reader
 //! that fails, a writer that can't be flushed, and one without room.
 
-use crate::ends::{text_of, write};
+use crate::answering::{text_of, write};
 use check_heap::{number_text, text};
 use std::alloc::{AllocError, Global};
 use std::io;

@@ -16,15 +16,18 @@
 
 mod callers;
 mod chains;
-mod freezing;
 mod pacing;
 mod pair;
+// over those above it
+mod freezing;
+mod starting;
+mod working;
+// over those above it
 mod pairs;
 mod rows;
 mod standing;
-mod starting;
+// over those above it
 mod telling;
-mod working;
 
 use check_heap::number;
 use std::alloc::{AllocError, Global};

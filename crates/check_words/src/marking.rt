@@ -16,13 +16,17 @@
 //!   goes to the error output, in nanoseconds.
 //! - `cycles ROWS`: heaps that are collected, step by step or a whole cycle at a time (`cycles.rt`).
 
-mod bench;
-mod chains;
-mod collecting;
-mod cycles;
-mod heaps;
 mod marking;
+// over those above it
+mod chains;
+mod heaps;
+// over those above it
+mod bench;
+// over those above it
+mod collecting;
 mod runs;
+// over those above it
+mod cycles;
 
 use bench::Bench;
 use chains::check_chain;

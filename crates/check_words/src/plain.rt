@@ -6,9 +6,11 @@
 //! - `stores ROWS`: plain stores (`trial.rt` tells what a line of a row says).
 //! - `shapes ROWS`: the shapes of declared paths (`shapes.rt`).
 
-mod caller;
 mod op;
 mod shapes;
+// over those above it
+mod caller;
+// over those above it
 mod trial;
 
 use check_heap::check_rows;

@@ -10,10 +10,13 @@
 //!
 //! `time_large` tells how long a snapshot of such a heap takes, by the clock, which `check_snapshot` isn't handed.
 
+mod naming;
+// over those above it
+mod shot;
+// over those above it
 mod large;
 mod lines;
-mod naming;
-mod shot;
+// over those above it
 mod timing;
 
 use check_heap::check_rows;

@@ -11,7 +11,7 @@ use std::alloc::Global;
 use std::marker::Sync;
 use std::sync::Wait;
 use std::thread::Threads;
-use tide_model::{Refusal, Reply};
+use tide::{Refusal, Reply};
 use working::run;
 
 /// Runs a mutator on a heap over a table that two threads grew by the keys 0 and 1. Answers whether its cell took key 0

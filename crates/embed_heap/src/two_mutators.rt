@@ -4,15 +4,17 @@
 //! It is a library that a program hands its runtime: `fn main(rt: HostRuntime)` calls
 //! `both_find_seven(&rt, rt.alloc())`.
 
-mod pair;
-mod starting;
 mod working;
+// over those above it
+mod pair;
+// over those above it
+mod starting;
 
 use starting::run;
 use std::alloc::Global;
 use std::marker::Sync;
 use std::thread::Threads;
-use tide_model::{Reply, Val};
+use tide::{Reply, Val};
 use working::Found;
 
 /// A mutator read the number that it had stored, and an operation that doesn't fit its heap was not made.

@@ -4,13 +4,15 @@
 //! A part of both (`beside`) is what each does from its ticket to its note (`working`, `visiting`); between two parts
 //! the collector does what the schedule asks for (`collecting`).
 
-mod beside;
-mod collecting;
-mod running;
 mod shared;
-mod starting;
 mod visiting;
 mod working;
+// over those above it
+mod beside;
+mod collecting;
+mod starting;
+// over those above it
+mod running;
 
 use running::{Seen, run_cycle};
 pub use shared::Shared;
@@ -18,8 +20,7 @@ pub use starting::{layout, start};
 use std::alloc::Global;
 use std::marker::Sync;
 use std::thread::Threads;
-use tide_model::{Reply, Val};
-use tide_shape::{Paths, Shapes};
+use tide::{Paths, Reply, Shapes, Val};
 pub use working::{Worked, work};
 
 /// The cycle that began after the first part ended after the second one: the visitor made some cell black in it, it

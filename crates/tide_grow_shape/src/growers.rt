@@ -4,15 +4,20 @@
 //! grows them by a key more. `settle` leaves a `Settled` of what some growers know: a `ShapeTable`, over which a heap
 //! is opened. It stands on `transitions`, for the cells of a table and what is read of them.
 
-mod agreeing;
-mod grower;
 mod known;
-mod maker;
-mod numbered;
 mod refused;
-mod settled;
-mod settling;
 mod table;
+// over those above it
+mod maker;
+// over those above it
+mod grower;
+// over those above it
+mod agreeing;
+mod numbered;
+// over those above it
+mod settled;
+// over those above it
+mod settling;
 
 pub use agreeing::growers_agree;
 pub use grower::Grower;

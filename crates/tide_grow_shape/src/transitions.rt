@@ -7,11 +7,14 @@
 
 mod cells;
 mod gate;
-mod merging;
 mod places;
+// over those above it
 mod sight;
-mod sights;
 mod unmade;
+// over those above it
+mod sights;
+// over those above it
+mod merging;
 mod walking;
 
 pub use cells::{Cells, ShownItem};

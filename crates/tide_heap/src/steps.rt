@@ -4,17 +4,19 @@
 //! a `Note` in at its stop. Each step keeps the rule of the heap and tells what the machine says of it. Who makes a
 //! heap, seats participants, freezes and opens is for the crate above: of the collector it knows what its view says.
 
-mod acting;
-mod coming;
-mod notes;
-mod own;
-mod pairs;
 mod pass;
 mod plays;
-mod properties;
-mod slots;
 mod step;
+// over those above it
+mod acting;
+mod notes;
+mod pairs;
+mod properties;
 mod sweeps;
+// over those above it
+mod coming;
+mod own;
+mod slots;
 mod visits;
 
 pub use notes::{Note, Ticket};

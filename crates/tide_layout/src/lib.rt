@@ -5,11 +5,14 @@
 //! place. What a word says, and that there are words at all, this crate does not know. It stands on `tide_model`.
 #![tactic(auto)]
 
-mod layout;
-mod numbers;
-mod operands;
 mod region;
 mod sizes;
+// over those above it
+mod numbers;
+// over those above it
+mod layout;
+// over those above it
+mod operands;
 
 pub use layout::Layout;
 pub use operands::fits;

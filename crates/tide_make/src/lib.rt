@@ -4,8 +4,9 @@
 //! nothing, and knows no store, no run and no text.
 #![tactic(auto)]
 
-mod made;
 mod round;
 mod rows;
+// over those above it
+mod made;
 
 pub use made::make;

@@ -6,12 +6,14 @@
 //! stands on none.
 #![tactic(auto)]
 
-mod entry;
 pub mod laws;
 mod memory;
-mod op;
 mod turnstile;
 mod val;
+// over those above it
+mod op;
+// over those above it
+mod entry;
 
 pub use entry::{Entry, Event, Ids};
 pub use memory::Memory;

@@ -9,18 +9,21 @@
 #![tactic(auto)]
 
 mod answered;
-mod caller;
-mod in_turn;
 pub mod laws;
-mod part;
-mod parts;
-mod periods;
-mod plain;
 mod recorder;
-mod recording;
-mod room;
-mod run;
 mod store;
+// over those above it
+mod caller;
+mod parts;
+mod plain;
+mod recording;
+// over those above it
+mod part;
+mod periods;
+mod room;
+// over those above it
+mod in_turn;
+mod run;
 
 pub use answered::Answered;
 pub use caller::{Caller, callers_of};

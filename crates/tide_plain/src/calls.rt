@@ -8,14 +8,18 @@
 //! and the cells that were kept last.
 
 mod allocation;
-mod calling;
+mod handles;
+mod registers;
+// over those above it
 mod claims;
 mod groups;
-mod handles;
+mod slots;
+// over those above it
 mod pairs;
 mod properties;
-mod registers;
-mod slots;
+// over those above it
+mod calling;
+// over those above it
 mod store;
 
 pub use store::PlainStore;

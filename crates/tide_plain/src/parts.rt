@@ -4,16 +4,21 @@
 //! what they are after a change and what a sweep leaves of them. No part knows another one, the layout or the shapes;
 //! what the lists mean together, and that they agree, is for `stored` to say.
 
-mod arrays;
+mod mutators;
+mod stored_cell;
+mod taken;
+// over those above it
+mod sweeping;
+// over those above it
 mod cells;
 mod handles;
-mod mutators;
+// over those above it
+mod arrays;
 mod pairs;
-mod sweeping;
-mod taken;
 
 pub use arrays::{Arrays, Elements};
-pub use cells::{Cells, Pair, StoredCell};
+pub use cells::Cells;
 pub use handles::Handles;
 pub use mutators::{Mutators, StoredMutator};
 pub use pairs::{place_of, seat, value_of};
+pub use stored_cell::{Pair, StoredCell};

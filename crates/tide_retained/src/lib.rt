@@ -2,20 +2,25 @@
 //!
 //! `Retained::of` reads words that stand still, over any `Words`, and keeps what they say, with a shortest path to each
 //! cell that is retained. It answers what a cell held, how many steps there are to it, and which cells its path has,
-//! one after another and without memory. The crate knows no thread, no run, no cycle and no text. It stands on
-//! `tide_words`, and on `tide_shape` for the keys of cells.
+//! one after another and without memory. It may touch words and the keys of shapes, and knows no thread, no run, no
+//! cycle and no text.
 #![tactic(auto)]
 
 mod contents;
-mod index;
 pub mod laws;
-mod phases;
-mod reading;
-mod retained;
 mod root;
+mod values;
+// over those above it
+mod index;
 mod roots;
+// over those above it
+mod reading;
 mod search;
+// over those above it
+mod phases;
 mod trail;
+// over those above it
+mod retained;
 
 pub use contents::{Held, Keyed};
 pub use retained::{Retained, Way};

@@ -11,7 +11,7 @@ ghost use Rattle.tide_retained.specs.RootsRead.{AddsRoots, IsActiveRoot, IsClaim
 
 use crate::Root;
 use crate::contents::Rooted;
-use crate::reading::{register_at, value_in};
+use crate::values::{register_at, value_in};
 use std::alloc::Global;
 use tide_model::{Memory, Val};
 use tide_words::{Layout, Region, Words, word_claim};

@@ -5,11 +5,14 @@
 //! the plain store, one mutator after another, and keeps the history itself. All take of the workload what `starting`
 //! does, and make an `Outcome` of what is left. It knows no sink and no word of a command line.
 
-mod finishing;
-mod on_heap;
-mod on_plain;
 mod outcome;
 mod starting;
+// over those above it
+mod finishing;
+// over those above it
+mod on_heap;
+mod on_plain;
+// over those above it
 mod with_snapshot;
 
 pub use on_heap::run;

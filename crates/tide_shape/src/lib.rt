@@ -8,9 +8,10 @@
 mod capacities;
 mod paths;
 mod shape_table;
-mod shapes;
 mod shapes_refused;
 mod tree;
+// over those above it
+mod shapes;
 
 pub use capacities::{array_class_for, capacity};
 pub use paths::Paths;

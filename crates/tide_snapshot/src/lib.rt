@@ -6,7 +6,8 @@
 //! `tide_retained`, which finds the paths, and on `tide_text` and `tide_io` for the lines.
 #![tactic(auto)]
 
-mod snapshot;
 mod writing;
+// over those above it
+mod snapshot;
 
 pub use snapshot::{Snapshot, take};

@@ -5,18 +5,21 @@
 //! those of `tide_heap`, whose names this crate hands on. It waits for nobody and has no lock.
 #![tactic(auto)]
 
-mod closed;
-mod collecting;
-mod collector;
-mod counting;
-mod frozen;
 pub mod laws;
-mod ledger;
-mod opening;
 mod plays;
-mod start;
-mod visiting;
 mod zeros;
+// over those above it
+mod collector;
+// over those above it
+mod closed;
+mod frozen;
+mod opening;
+mod start;
+// over those above it
+mod collecting;
+mod counting;
+mod ledger;
+mod visiting;
 
 pub use closed::Closed;
 pub use collecting::NotOpened;

@@ -3,9 +3,10 @@
 //! Each piece is put behind those before it, so that a line takes no memory and is written as one. It knows no sink and
 //! no document that a workload is read from.
 
+mod line;
+// over those above it
 mod call;
 mod fault;
-mod line;
 
 pub use call::{LONGEST_OP, LONGEST_REPLY};
 pub use fault::LONGEST_FAULT;

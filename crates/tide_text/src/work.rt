@@ -4,14 +4,16 @@
 //! It knows neither the document that a workload stands in nor the lines that its run prints.
 
 mod examples;
-mod fault;
 mod field;
 mod keys;
-mod op_limits;
-mod read_op;
 mod settings;
 mod words;
+// over those above it
+mod fault;
+mod op_limits;
 mod workload;
+// over those above it
+mod read_op;
 
 pub use fault::Fault;
 pub use field::Field;

@@ -8,10 +8,11 @@
 //! is decided by the rooms below. It knows no text and no option.
 #![tactic(auto)]
 
+mod living;
+mod marking;
 mod share;
 // over those above it
 mod calling;
-mod marking;
 // over those above it
 mod worker;
 // over those above it
@@ -23,7 +24,6 @@ mod playing;
 // over those above it
 mod part;
 // over those above it
-mod living;
 mod on_threads;
 // over those above it
 mod periods;

@@ -21,10 +21,9 @@ ghost use Rattle.tide_threads.specs.OnThreads.{callers_on, pace_on, recorded_in,
 ghost use Rattle.tide_threads.specs.OnThreads.{MayEnterOn, MayOpenOn, Stands};
 ghost use Rattle.tide_threads.specs.declared.participant.Participant.{Participant};
 
-use crate::living::count_live;
+use crate::living::{count_live, snapshot_of};
 use crate::part::run_whole_part;
 use crate::participant::Participant;
-use crate::showing::snapshot_of;
 use crate::worker::Worker;
 use crossbeam_utils::CachePadded;
 use std::alloc::Global;

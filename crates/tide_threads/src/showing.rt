@@ -1,4 +1,4 @@
-//! Snapshots of a heap that stands still, and runs that end with one.
+//! Runs that end with a snapshot.
 ghost use Rattle.std.specs.Prelude.{◌≡◌, ◌≤◌, [], All, IfOk, length, map};
 ghost use Rattle.tide_model.specs.History.{state_after};
 ghost use Rattle.tide_periods.specs.Asking.{scripts_of};
@@ -7,7 +7,6 @@ ghost use Rattle.tide_periods.specs.Run.{HasRun};
 ghost use Rattle.tide_retained.specs.Contents.{HasKeysOf};
 ghost use Rattle.tide_retained.specs.Holding.{IsSnapshotOf};
 ghost use Rattle.tide_shape.specs.Lists.{lists_of};
-ghost use Rattle.tide_table.specs.Standing.{StandsStill};
 ghost use Rattle.tide_threads.specs.OnThreads.{callers_on, pace_on, recorded_in, setting_in, MayOpenOn, Stands};
 
 use crate::on_threads::OnThreads;
@@ -16,27 +15,7 @@ use std::alloc::Global;
 use std::marker::Sync;
 use std::thread::Threads;
 use tide_model::{Memory, Turnstile};
-use tide_shape::Shapes;
-use tide_snapshot::{Snapshot, take};
-use tide_table::{Collector, Heap};
-
-/// A snapshot of what a heap holds.
-pub(crate) fn snapshot_of(
-    alloc: Global,
-    heap: &Heap<Shapes>,
-    collector: &mut Collector,
-) -> Result<Snapshot, Memory>
-    requires own { collector.old.seat.table_id ≡ heap.now.table.shared.table_id }
-    requires still { StandsStill heap.now.key.layout (lists_of heap.now.key.shapes) collector.old.seat.me.0 }
-    ensures own { collector.new.seat.table_id ≡ collector.old.seat.table_id }
-    ensures same { collector.new.seat.me.0 ≡ collector.old.seat.me.0 }
-    ensures snapshot { IfOk result (IsSnapshotOf heap.now.key.layout
-        (state_after heap.now.key.layout collector.old.seat.me.0.seen)) }
-    ensures keys { IfOk result (HasKeysOf (lists_of heap.now.key.shapes)) }
-{
-    let mut frozen = collector.frozen(heap);
-    take(alloc, &mut frozen, heap.layout(), heap.shapes())
-}
+use tide_snapshot::Snapshot;
 
 /// Runs the scripts of a heap's mutators as `run_on_threads` does, and takes a snapshot of what the heap holds at the
 /// end.

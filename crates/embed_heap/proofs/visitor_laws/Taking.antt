@@ -3,16 +3,16 @@ use Rattle.std.proofs.Common.{ℕ, zero, suc, ◌≡◌, ◌+◌, ◌≤◌, ◌
 use Rattle.std.proofs.lemmas.Bool.{eq-eqb}
 use Rattle.std.specs.Prelude.{◌==◌, ◌&&◌, if◌then◌else◌, Some}
 use Rattle.embed_heap.specs.visitor.Parts.{HasDoneItsPart}
-use Rattle.tide_heap.specs.tide_freeze.declared.books.Books.{Books}
-use Rattle.tide_heap.specs.Parties.{In, IsParty}
-use Rattle.tide_heap.specs.Turns.{noted, visited_of}
-use Rattle.tide_heap.specs.tide_core.machine.World.{first_visitor}
-use Rattle.tide_heap.specs.tide_core.declared.machine.view.View.{View}
-use Rattle.tide_heap.specs.tide_core.declared.machine.view.Visited.{Visited}
-use Rattle.tide_model.specs.Layout.{Layout}
-use Rattle.tide_table.proofs.Nexts.{RunsWith-noted}
-use Rattle.tide_table.specs.Standing.{RunsWith}
-use Rattle.tide_table.specs.VisitsTold.{HaveTold, VisitsAreIn, most_visits, told_by, visits_left}
+use Rattle.tide.specs.tide_freeze.declared.books.Books.{Books}
+use Rattle.tide.specs.tide_heap.Parties.{In, IsParty}
+use Rattle.tide.specs.tide_heap.Turns.{noted, visited_of}
+use Rattle.tide.specs.tide_core.machine.World.{first_visitor}
+use Rattle.tide.specs.tide_core.declared.machine.view.View.{View}
+use Rattle.tide.specs.tide_core.declared.machine.view.Visited.{Visited}
+use Rattle.tide.specs.tide_model.Layout.{Layout}
+use Rattle.tide.proofs.tide_table.Nexts.{RunsWith-noted}
+use Rattle.tide.specs.tide_table.Standing.{RunsWith}
+use Rattle.tide.specs.tide_table.VisitsTold.{HaveTold, VisitsAreIn, most_visits, told_by, visits_left}
 
 -- what a note told of visits
 told_visits : (who period : ℕ) (t u : View) → HasDoneItsPart who t u → t.period ≡ period →

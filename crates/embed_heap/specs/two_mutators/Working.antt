@@ -1,8 +1,8 @@
 -- A mutator that has made no call before a part of its, and its note after it, in which it has retired.
 use Rattle.std.specs.Prelude.{ℕ, ◌≡◌, ◌<◌, true}
-use Rattle.tide_heap.specs.tide_core.machine.Frozen.{newcomer}
-use Rattle.tide_heap.specs.tide_core.declared.machine.view.View.{View}
-use Rattle.tide_model.specs.Layout.{Layout}
+use Rattle.tide.specs.tide_core.machine.Frozen.{newcomer}
+use Rattle.tide.specs.tide_core.declared.machine.view.View.{View}
+use Rattle.tide.specs.tide_model.Layout.{Layout}
 
 -- v is the mutator's view, and t is that of its ticket
 pub record MayWork (layout : Layout) (v t : View) : Type 0 where

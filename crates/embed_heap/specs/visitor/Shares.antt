@@ -2,13 +2,13 @@
 use Rattle.std.specs.Prelude.{ℕ, ◌≡◌, ◌≤◌, true, false, [], ◌∷◌}
 use Rattle.embed_heap.specs.visitor.Parts.{IsIdle, IsIdleBefore}
 use Rattle.embed_heap.specs.declared.visitor.shared.Shared.{Shared}
-use Rattle.tide_heap.specs.tide_freeze.Books.{AreBooks}
-use Rattle.tide_heap.specs.tide_core.machine.Frozen.{newcomer}
-use Rattle.tide_mutator.specs.calls.Viewed as of_mutator
-use Rattle.tide_shape.specs.Lists.{lists_of}
-use Rattle.tide_table.specs.Standing.{RunsWith}
-use Rattle.tide_table.specs.Started.{IsStarted}
-use Rattle.tide_visitor.specs.Viewed as of_visitor
+use Rattle.tide.specs.tide_freeze.Books.{AreBooks}
+use Rattle.tide.specs.tide_core.machine.Frozen.{newcomer}
+use Rattle.tide.specs.tide_mutator.calls.Viewed as of_mutator
+use Rattle.tide.specs.tide_shape.Lists.{lists_of}
+use Rattle.tide.specs.tide_table.Standing.{RunsWith}
+use Rattle.tide.specs.tide_table.Started.{IsStarted}
+use Rattle.tide.specs.tide_visitor.Viewed as of_visitor
 
 -- the heap is frozen and empty, and nobody has taken a step yet
 pub record HasStarted (s : Shared) : Type 0 where

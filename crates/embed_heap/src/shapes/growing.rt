@@ -5,7 +5,7 @@ use std::alloc::Global;
 use std::marker::Sync;
 use std::sync::Wait;
 use std::thread::{Threads, join};
-use tide_grow_shape::{GrowShapes, Grower, Settled, settle};
+use tide::{GrowShapes, Grower, Settled, settle};
 
 /// A grower's calls in its thread: it grows the empty shape by the key 0, and what it got by the key 1.
 fn grow<R: Wait>(rt: &R, alloc: Global, table: &GrowShapes) -> Option<Grower>

@@ -1,17 +1,15 @@
 //! A heap over a settled table, and a mutator on it. The heap isn't closed, as the mutator keeps its claim.
 ghost use Rattle.std.specs.Prelude.{◌≡◌, ◌<◌, IfOk, vec_len};
-ghost use Rattle.tide_grow_shape.specs.growers.Lists.{settled_lists};
-ghost use Rattle.tide_heap.specs.tide_core.machine.Frozen.{newcomer};
-ghost use Rattle.tide_mutator.specs.calls.Viewed.{table_of, view_of};
-ghost use Rattle.tide_table.specs.Started.{ArePasses, IsStarted};
+ghost use Rattle.tide.specs.tide_grow_shape.growers.Lists.{settled_lists};
+ghost use Rattle.tide.specs.tide_core.machine.Frozen.{newcomer};
+ghost use Rattle.tide.specs.tide_mutator.calls.Viewed.{table_of, view_of};
+ghost use Rattle.tide.specs.tide_table.Started.{ArePasses, IsStarted};
 
 use std::alloc::Global;
-use tide_grow_shape::Settled;
-use tide_heap::Layout;
-use tide_model::{FreePass, Memory, Op, Reply};
-use tide_mutator::Mutator;
-use tide_shape::ShapeTable;
-use tide_table::{Collector, Heap, Pass, Start, Ticket};
+use tide::{
+    Collector, FreePass, Heap, Layout, Memory, Mutator, Op, Pass, Reply, Settled, ShapeTable,
+    Start, Ticket,
+};
 
 /// Takes a cell, claims it, and adds a property by the key 1, by the key 0, and by the key 1 again.
 fn work<S: ShapeTable>(

@@ -1,19 +1,17 @@
 //! A heap of two mutators: it is opened for one part, in which each makes its calls in a thread of its own, and closed.
 ghost use Rattle.embed_heap.specs.two_mutators.Working.{HasWorked, MayWork};
 ghost use Rattle.std.specs.Prelude.{◌≡◌, ◌<◌, ℕ, false};
-ghost use Rattle.tide_heap.specs.tide_core.machine.Frozen.{newcomer};
-ghost use Rattle.tide_model.specs.History.{state_after};
-ghost use Rattle.tide_model.specs.Lawful.{IsLawful};
-ghost use Rattle.tide_mutator.specs.calls.Viewed.{table_of, view_of};
-ghost use Rattle.tide_shape.specs.Lists.{lists_of};
-ghost use Rattle.tide_table.specs.Started.{IsStarted};
+ghost use Rattle.tide.specs.tide_core.machine.Frozen.{newcomer};
+ghost use Rattle.tide.specs.tide_model.History.{state_after};
+ghost use Rattle.tide.specs.tide_model.Lawful.{IsLawful};
+ghost use Rattle.tide.specs.tide_mutator.calls.Viewed.{table_of, view_of};
+ghost use Rattle.tide.specs.tide_shape.Lists.{lists_of};
+ghost use Rattle.tide.specs.tide_table.Started.{IsStarted};
 
 use crate::two_mutators::working::{Found, Worked, work};
 use std::marker::Sync;
 use std::thread::{Threads, join};
-use tide_mutator::Mutator;
-use tide_shape::Shapes;
-use tide_table::{Closed, Collector, Heap, Pass, Ticket};
+use tide::{Closed, Collector, Heap, Mutator, Pass, Shapes, Ticket};
 
 /// What both mutators found, and the history that the heap left.
 #[derive(Drop)]

@@ -4,9 +4,7 @@ use crate::two_mutators::working::Found;
 use std::alloc::Global;
 use std::marker::Sync;
 use std::thread::Threads;
-use tide_heap::Layout;
-use tide_shape::{Paths, Shapes};
-use tide_table::Start;
+use tide::{Layout, Paths, Shapes, Start};
 
 /// Starts a small heap, runs a part of two mutators on it, and answers what each found. `None` where memory ran out.
 pub fn run<R: Threads + Sync>(rt: &R, alloc: Global) -> Option<(Found, Found)> {

@@ -1,12 +1,9 @@
 //! What one of the two mutators does in its thread: a part, from its ticket to its note.
 ghost use Rattle.embed_heap.specs.two_mutators.Working.{HasWorked, MayWork};
 ghost use Rattle.std.specs.Prelude.{◌≡◌};
-ghost use Rattle.tide_mutator.specs.calls.Viewed.{table_of, view_of};
+ghost use Rattle.tide.specs.tide_mutator.calls.Viewed.{table_of, view_of};
 
-use tide_heap::{Heap, Note, Ticket};
-use tide_model::{FreePass, Op, Reply};
-use tide_mutator::Mutator;
-use tide_shape::ShapeTable;
+use tide::{FreePass, Heap, Mutator, Note, Op, Reply, ShapeTable, Ticket};
 
 /// What a mutator was answered.
 #[derive(Clone, Copy)]

@@ -1,19 +1,15 @@
 //! The part of a mutator and a visitor, each in a thread of its own.
 ghost use Rattle.embed_heap.specs.visitor.Parts.{HasDoneItsPart, IsIdle, IsIdleBefore};
 ghost use Rattle.std.specs.Prelude.{◌≡◌, ◌≤◌};
-ghost use Rattle.tide_model.specs.Layout.{cell_count};
-ghost use Rattle.tide_mutator.specs.calls.Viewed as works;
-ghost use Rattle.tide_visitor.specs.Viewed as visits;
+ghost use Rattle.tide.specs.tide_model.Layout.{cell_count};
+ghost use Rattle.tide.specs.tide_mutator.calls.Viewed as works;
+ghost use Rattle.tide.specs.tide_visitor.Viewed as visits;
 
 use crate::visitor::visiting::{Visited, visit};
 use crate::visitor::working::{Worked, work};
 use std::marker::Sync;
 use std::thread::{Threads, join};
-use tide_heap::{Heap, Ticket};
-use tide_model::{FreePass, Op};
-use tide_mutator::Mutator;
-use tide_shape::Shapes;
-use tide_visitor::Visitor;
+use tide::{FreePass, Heap, Mutator, Op, Shapes, Ticket, Visitor};
 
 /// The mutator and the visitor make their parts side by side.
 pub fn work_and_visit<R: Threads + Sync>(

@@ -6,7 +6,7 @@ use crate::visitor::beside::work_and_visit;
 use crate::visitor::shared::Shared;
 use std::marker::Sync;
 use std::thread::Threads;
-use tide_model::{Op, Reply};
+use tide::{Op, Reply};
 
 /// The mutator links four cells, each of which holds the one before it, and has the last one in two registers. To a
 /// fifth one only a weak handle leads then.

@@ -1,14 +1,10 @@
 //! `Shared`: a heap that a mutator and a visitor share. It makes no step.
 ghost use Rattle.std.specs.Prelude.{◌≡◌, ◌≤◌};
-ghost use Rattle.tide_model.specs.Layout.{cell_count};
-ghost use Rattle.tide_mutator.specs.calls.Viewed as works;
-ghost use Rattle.tide_visitor.specs.Viewed as visits;
+ghost use Rattle.tide.specs.tide_model.Layout.{cell_count};
+ghost use Rattle.tide.specs.tide_mutator.calls.Viewed as works;
+ghost use Rattle.tide.specs.tide_visitor.Viewed as visits;
 
-use tide_heap::Books;
-use tide_mutator::Mutator;
-use tide_shape::Shapes;
-use tide_table::{Collector, Heap};
-use tide_visitor::Visitor;
+use tide::{Books, Collector, Heap, Mutator, Shapes, Visitor};
 
 /// A heap that a mutator and a visitor share, its collector, and the books of its freezes. The visitor's stack has a
 /// place for each cell.

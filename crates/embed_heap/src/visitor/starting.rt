@@ -4,13 +4,7 @@ ghost use Rattle.std.specs.Prelude.{◌≡◌, IfOk, IfSome};
 
 use crate::visitor::shared::Shared;
 use std::alloc::Global;
-use tide_heap::{Books, GreyList, Layout};
-use tide_model::Memory;
-use tide_mutator::Mutator;
-use tide_sched::Pacing;
-use tide_shape::Shapes;
-use tide_table::Start;
-use tide_visitor::Visitor;
+use tide::{Books, GreyList, Layout, Memory, Mutator, Pacing, Shapes, Start, Visitor};
 
 /// A cycle begins once four cells were born, and each freeze makes two cells black at least, of the ten calls and
 /// visits of a period.

@@ -1,15 +1,13 @@
 //! What the visitor does in its thread: a part, from its ticket to its note.
 ghost use Rattle.embed_heap.specs.visitor.Parts.{HasDoneItsPart, IsIdle, IsIdleBefore};
 ghost use Rattle.std.specs.Prelude.{◌≡◌, ◌≤◌, [], false, true};
-ghost use Rattle.tide_heap.specs.Done.{HasDonePart};
-ghost use Rattle.tide_heap.specs.tide_core.machine.Visiting.{FitsIn};
-ghost use Rattle.tide_model.specs.Layout.{cell_count};
-ghost use Rattle.tide_visitor.specs.Viewed.{stack_room_of, table_of, view_of};
-ghost use Rattle.tide_visitor.specs.Visits.{visit_frame, IsVisitorOf};
+ghost use Rattle.tide.specs.tide_heap.Done.{HasDonePart};
+ghost use Rattle.tide.specs.tide_core.machine.Visiting.{FitsIn};
+ghost use Rattle.tide.specs.tide_model.Layout.{cell_count};
+ghost use Rattle.tide.specs.tide_visitor.Viewed.{stack_room_of, table_of, view_of};
+ghost use Rattle.tide.specs.tide_visitor.Visits.{visit_frame, IsVisitorOf};
 
-use tide_heap::{Heap, HeapShapes, Note, Ticket};
-use tide_model::FreePass;
-use tide_visitor::Visitor;
+use tide::{FreePass, Heap, HeapShapes, Note, Ticket, Visitor};
 
 /// A visitor that has made its part, and its note.
 #[derive(Drop)]

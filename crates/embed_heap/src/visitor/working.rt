@@ -1,13 +1,10 @@
 //! What the mutator does in its thread: a part, from its ticket to its note.
 ghost use Rattle.embed_heap.specs.visitor.Parts.{HasDoneItsPart, IsIdle, IsIdleBefore};
 ghost use Rattle.std.specs.Prelude.{◌≡◌, ◌<◌, false, true};
-ghost use Rattle.tide_mutator.specs.calls.Viewed.{table_of, view_of};
-ghost use Rattle.tide_mutator.specs.owed.Calling.{kept};
+ghost use Rattle.tide.specs.tide_mutator.calls.Viewed.{table_of, view_of};
+ghost use Rattle.tide.specs.tide_mutator.owed.Calling.{kept};
 
-use tide_heap::{Heap, Note, Ticket};
-use tide_model::{Op, Reply, Turnstile};
-use tide_mutator::Mutator;
-use tide_shape::ShapeTable;
+use tide::{Heap, Mutator, Note, Op, Reply, ShapeTable, Ticket, Turnstile};
 
 /// How many calls it makes in a part at most.
 const MOST_CALLS: usize = 1000;

@@ -11,7 +11,7 @@ use Rattle.tide_model.specs.declared.val.Val.{Val}
 use Rattle.tide_model.specs.Numbers.{put_at, count_where}
 use Rattle.tide_model.proofs.PositionLaws.{All-position}
 use Rattle.tide_model.proofs.NumberLaws.{count_where-same}
-use Rattle.tide_plain.specs.declared.parts.cells.Pair.{Pair}
+use Rattle.tide_plain.specs.declared.parts.stored_cell.Pair.{Pair}
 use Rattle.tide_plain.specs.parts.Pairs.{is_of, IsSeat}
 use Rattle.tide_plain.specs.parts.Pairs.{pairs_of, IsDistinctPairs}
 

@@ -15,7 +15,7 @@ use Rattle.tide_model.specs.State.{State, CellState, free, live}
 use Rattle.tide_model.proofs.NumberLaws.{among_from_contains, contains_from_among}
 use Rattle.tide_shape.proofs.KeyLaws.{fewer_keys}
 use Rattle.tide_plain.specs.declared.statuses.ArrayStatus.{ArrayStatus}
-use Rattle.tide_plain.specs.declared.parts.cells.StoredCell.{StoredCell}
+use Rattle.tide_plain.specs.declared.parts.stored_cell.StoredCell.{StoredCell}
 use Rattle.tide_plain.specs.parts.Changes.{elements_of}
 use Rattle.tide_plain.specs.statuses.Statuses.{arrays_of}
 use Rattle.tide_plain.specs.stored.Stored.{Stored, properties_of}

@@ -11,7 +11,7 @@ use Rattle.tide_model.specs.Refused.{ShapeLists}
 use Rattle.tide_model.specs.References.{IsLive}
 use Rattle.tide_model.specs.State.{CellState, live, free, blank_cell}
 use Rattle.tide_plain.specs.stored.Stored.{Stored}
-use Rattle.tide_plain.specs.declared.parts.cells.StoredCell.{StoredCell}
+use Rattle.tide_plain.specs.declared.parts.stored_cell.StoredCell.{StoredCell}
 use Rattle.tide_plain.specs.parts.PartLists.{blank_stored}
 use Rattle.tide_plain.specs.stored.Stored.{live_cell, cells_of}
 use Rattle.tide_plain.specs.stored.Contents.{state_of, IsStored}

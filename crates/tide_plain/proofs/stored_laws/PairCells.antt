@@ -10,8 +10,8 @@ use Rattle.tide_model.specs.References.{IsLive}
 use Rattle.tide_model.specs.Refused.{has_pair, pair_count}
 use Rattle.tide_model.specs.State.{CellState}
 use Rattle.tide_plain.specs.stored.Stored.{Stored}
-use Rattle.tide_plain.specs.declared.parts.cells.Pair.{Pair}
-use Rattle.tide_plain.specs.declared.parts.cells.StoredCell.{StoredCell}
+use Rattle.tide_plain.specs.declared.parts.stored_cell.Pair.{Pair}
+use Rattle.tide_plain.specs.declared.parts.stored_cell.StoredCell.{StoredCell}
 use Rattle.tide_plain.specs.stored.Contents.{state_of, stored_at, IsSound, IsStored}
 use Rattle.tide_plain.specs.parts.Pairs.{IsSeat}
 use Rattle.tide_plain.specs.parts.Pairs.{pairs_of, IsDistinctPairs}

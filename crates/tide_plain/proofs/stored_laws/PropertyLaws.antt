@@ -13,7 +13,7 @@ use Rattle.tide_model.specs.References.{IsLive}
 use Rattle.tide_model.specs.State.{CellState, free, live}
 use Rattle.tide_shape.specs.ShapeTable.{keys_of}
 use Rattle.tide_plain.specs.stored.Stored.{Stored}
-use Rattle.tide_plain.specs.declared.parts.cells.StoredCell.{StoredCell}
+use Rattle.tide_plain.specs.declared.parts.stored_cell.StoredCell.{StoredCell}
 use Rattle.tide_plain.specs.declared.statuses.ArrayStatus.{ArrayStatus}
 use Rattle.tide_plain.specs.declared.statuses.ArrayStatus.TheVariants.{Free}
 use Rattle.tide_plain.specs.statuses.Statuses.{arrays_of, status_of}

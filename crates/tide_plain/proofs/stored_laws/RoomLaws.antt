@@ -9,7 +9,7 @@ use Rattle.tide_model.specs.State.{CellState, blank_cell, free, live}
 use Rattle.tide_model.specs.Applied.{put_cell}
 use Rattle.tide_shape.specs.ShapeTable.{keys_of}
 use Rattle.tide_plain.specs.stored.Stored.{Stored}
-use Rattle.tide_plain.specs.declared.parts.cells.StoredCell.{StoredCell}
+use Rattle.tide_plain.specs.declared.parts.stored_cell.StoredCell.{StoredCell}
 use Rattle.tide_plain.specs.parts.PartLists.{blank_stored}
 use Rattle.tide_plain.specs.stored.Stored.{live_cell, cells_of}
 use Rattle.tide_plain.specs.stored.Contents.{state_of, stored_at, IsStored}

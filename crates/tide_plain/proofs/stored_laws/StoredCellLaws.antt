@@ -9,7 +9,7 @@ use Rattle.tide_model.specs.References.{IsLive}
 use Rattle.tide_model.specs.State.{CellState}
 use Rattle.tide_model.specs.Applied.{put_cell, put_slot, at_cell}
 use Rattle.tide_plain.specs.stored.Stored.{Stored}
-use Rattle.tide_plain.specs.declared.parts.cells.StoredCell.{StoredCell}
+use Rattle.tide_plain.specs.declared.parts.stored_cell.StoredCell.{StoredCell}
 use Rattle.tide_plain.specs.parts.PartLists.{blank_stored}
 use Rattle.tide_plain.specs.stored.Stored.{live_cell}
 use Rattle.tide_plain.specs.stored.Contents.{state_of, stored_at}

@@ -9,7 +9,7 @@ use Rattle.tide_model.specs.References.{IsLive, RefsAreLive}
 use Rattle.tide_model.specs.State.{CellState}
 use Rattle.tide_shape.specs.ShapeTable.{keys_of}
 use Rattle.tide_plain.specs.stored.Stored.{Stored}
-use Rattle.tide_plain.specs.declared.parts.cells.StoredCell.{StoredCell}
+use Rattle.tide_plain.specs.declared.parts.stored_cell.StoredCell.{StoredCell}
 use Rattle.tide_plain.specs.declared.statuses.ArrayStatus.{ArrayStatus}
 use Rattle.tide_plain.specs.stored.Contents.{state_of, stored_at, IsSound, IsStored}
 use Rattle.tide_plain.specs.parts.Pairs.{IsDistinctPairs}

@@ -2,7 +2,7 @@
 use Rattle.std.specs.Prelude.{ℕ, List, Option, None, Some, slice_set}
 use Rattle.std.specs.List.{slice_index_or}
 use Rattle.tide_model.specs.declared.val.Val.{Val}
-use Rattle.tide_plain.specs.declared.parts.cells.StoredCell.{StoredCell}
+use Rattle.tide_plain.specs.declared.parts.stored_cell.StoredCell.{StoredCell}
 use Rattle.tide_plain.specs.declared.parts.mutators.StoredMutator.{StoredMutator}
 use Rattle.tide_plain.specs.parts.PartLists.{no_elements}
 

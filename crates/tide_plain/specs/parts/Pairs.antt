@@ -2,7 +2,7 @@
 use Rattle.std.specs.Prelude.{ℕ, ◌≡◌, ◌≢◌, ◌<◌, ◌==◌, Bool, false, List, [], ◌∷◌, length, Option, None, Some, if◌then◌else◌}
 use Rattle.std.specs.List.{slice_index_or}
 use Rattle.tide_model.specs.declared.val.Val.{Val}
-use Rattle.tide_plain.specs.declared.parts.cells.Pair.{Pair}
+use Rattle.tide_plain.specs.declared.parts.stored_cell.Pair.{Pair}
 
 -- what these places hold under a key cell
 abbrev pub pairs_of : List (Option Pair) → ℕ → Option Val

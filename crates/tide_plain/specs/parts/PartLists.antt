@@ -5,7 +5,7 @@ use Rattle.tide_model.specs.declared.val.Val.{Val}
 use Rattle.tide_model.specs.declared.val.Val.TheVariants.{Empty}
 use Rattle.tide_plain.specs.declared.statuses.ArrayStatus.{ArrayStatus}
 use Rattle.tide_plain.specs.declared.parts.mutators.StoredMutator.{StoredMutator}
-use Rattle.tide_plain.specs.declared.parts.cells.StoredCell.{StoredCell}
+use Rattle.tide_plain.specs.declared.parts.stored_cell.StoredCell.{StoredCell}
 
 -- what the handles hold, the strong ones and the weak ones
 pub record HandleLists : Type 0 where

@@ -7,7 +7,7 @@ use Rattle.tide_model.specs.State.{State, free, dead, idle}
 use Rattle.tide_model.specs.References.{IsLive, RefsAreLive}
 use Rattle.tide_layout.specs.Limits.{IsWithinLimits}
 use Rattle.tide_shape.specs.ShapeTable.{keys_of, IsShapeTable}
-use Rattle.tide_plain.specs.declared.parts.cells.StoredCell.{StoredCell}
+use Rattle.tide_plain.specs.declared.parts.stored_cell.StoredCell.{StoredCell}
 use Rattle.tide_plain.specs.parts.Pairs.{IsDistinctPairs}
 use Rattle.tide_plain.specs.statuses.Statuses.{arrays_of}
 use Rattle.tide_plain.specs.parts.PartLists.{blank_stored, mutator_at}

@@ -8,7 +8,7 @@ use Rattle.tide_model.specs.Refused.{ShapeLists}
 use Rattle.tide_model.specs.State.{CellState, blank_cell, free, live}
 use Rattle.tide_shape.specs.ShapeTable.{keys_of}
 use Rattle.tide_plain.specs.declared.parts.mutators.StoredMutator.{StoredMutator}
-use Rattle.tide_plain.specs.declared.parts.cells.StoredCell.{StoredCell}
+use Rattle.tide_plain.specs.declared.parts.stored_cell.StoredCell.{StoredCell}
 use Rattle.tide_plain.specs.declared.statuses.ArrayStatus.{ArrayStatus}
 use Rattle.tide_plain.specs.parts.Pairs.{pairs_of}
 use Rattle.tide_plain.specs.parts.PartLists.{blank_stored, no_elements}

@@ -3,7 +3,7 @@ ghost use Rattle.std.specs.Prelude.{◌≡◌, ◌<◌, None, is_some, not, true
 ghost use Rattle.tide_plain.specs.parts.Pairs.{is_of, IsSeat};
 ghost use Rattle.tide_plain.specs.parts.Pairs.{pairs_of, IsDistinctPairs};
 
-use crate::parts::cells::Pair;
+use crate::parts::stored_cell::Pair;
 use tide_model::Val;
 
 /// Whether a place has a pair of the key.

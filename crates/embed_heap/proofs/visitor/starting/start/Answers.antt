@@ -1,7 +1,7 @@
 -- The stack has a place for each cell.
 use Rattle.std.proofs.Common.{ap, arith}
-use Rattle.tide_model.specs.Layout.{cell_count}
-use Rattle.tide_heap.specs.tide_words.marking.Greys.{Greys}
+use Rattle.tide.specs.tide_model.Layout.{cell_count}
+use Rattle.tide.specs.tide_words.marking.Greys.{Greys}
 use Rattle.embed_heap.proofs.visitor.starting.start.Goals as goal
 
 pub invariant_of-result-clause-room : goal.invariant_of-result-clause-room

@@ -1,7 +1,7 @@
 -- The mutator is in its part as it was, with a birth a call at most.
 use Rattle.std.proofs.Common.{◌≡◌, ◌≤◌, false}
-use Rattle.tide_mutator.specs.calls.Viewed.{table_of, view_of}
-use Rattle.tide_mutator.specs.owed.Calling.{kept}
+use Rattle.tide.specs.tide_mutator.calls.Viewed.{table_of, view_of}
+use Rattle.tide.specs.tide_mutator.owed.Calling.{kept}
 use Rattle.embed_heap.proofs.visitor.working.call_each.Given as goal
 
 abbrev pub invariant-loop-index : goal.invariant-loop-index

@@ -1,11 +1,11 @@
 -- The first part runs with the books of nothing, and neither has begun.
 use Rattle.std.proofs.Common.{ap, arith}
 use Rattle.embed_heap.proofs.visitor_laws.Parts.{new_idle}
-use Rattle.tide_heap.specs.tide_core.declared.machine.view.View.{View}
-use Rattle.tide_mutator.specs.calls.Viewed as mutator
-use Rattle.tide_shape.specs.Lists.{lists_of}
-use Rattle.tide_table.proofs.Nexts.{HasOpenedNext-first}
-use Rattle.tide_visitor.specs.Viewed as visitor
+use Rattle.tide.specs.tide_core.declared.machine.view.View.{View}
+use Rattle.tide.specs.tide_mutator.calls.Viewed as mutator
+use Rattle.tide.specs.tide_shape.Lists.{lists_of}
+use Rattle.tide.proofs.tide_table.Nexts.{HasOpenedNext-first}
+use Rattle.tide.specs.tide_visitor.Viewed as visitor
 use Rattle.embed_heap.proofs.visitor.shared.Shared.open.Goals as goal
 
 pub returns : goal.returns

@@ -2,11 +2,11 @@
 use Rattle.std.proofs.Common.{ℕ, ◌≡◌, ◌∙◌, sym, ap, subst, arith}
 use Rattle.embed_heap.proofs.visitor_laws.Taking.{both_done, both_in, both_runs, both_told}
 use Rattle.embed_heap.specs.visitor.Parts.{IsIdle, IsIdleBefore}
-use Rattle.tide_heap.specs.Turns.{noted}
-use Rattle.tide_heap.specs.tide_core.declared.machine.view.Role.TheVariants.{Ticket}
-use Rattle.tide_heap.specs.tide_core.declared.machine.view.View.{View}
-use Rattle.tide_mutator.specs.calls.Viewed as mutator
-use Rattle.tide_visitor.specs.Viewed as visitor
+use Rattle.tide.specs.tide_heap.Turns.{noted}
+use Rattle.tide.specs.tide_core.declared.machine.view.Role.TheVariants.{Ticket}
+use Rattle.tide.specs.tide_core.declared.machine.view.View.{View}
+use Rattle.tide.specs.tide_mutator.calls.Viewed as mutator
+use Rattle.tide.specs.tide_visitor.Viewed as visitor
 use Rattle.embed_heap.proofs.visitor.shared.Shared.run_part.Goals as goal
 
 pub work_and_visit-worked-requires-clause-idle : goal.work_and_visit-worked-requires-clause-idle

@@ -1,7 +1,7 @@
 use Rattle.std.proofs.Common.{◌≡◌, ◌∙◌, sym, ap, subst, None}
 use Rattle.std.specs.Prelude.{is_some, slice_set}
 use Rattle.tide_model.specs.Applied.{put_cell}
-use Rattle.tide_plain.specs.declared.parts.cells.StoredCell.{StoredCell}
+use Rattle.tide_plain.specs.declared.parts.stored_cell.StoredCell.{StoredCell}
 use Rattle.tide_plain.specs.stored.Contents.{state_of, stored_at, IsStored}
 use Rattle.tide_plain.specs.parts.Pairs.{pairs_of, IsDistinctPairs}
 use Rattle.tide_plain.specs.stored.Stored.{Stored}

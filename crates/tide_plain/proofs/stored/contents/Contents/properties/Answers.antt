@@ -1,6 +1,6 @@
 use Rattle.std.proofs.Common.{◌∙◌, sym, ap, subst}
 use Rattle.tide_model.specs.References.{IsLive, RefsAreLive}
-use Rattle.tide_plain.specs.declared.parts.cells.StoredCell.{StoredCell}
+use Rattle.tide_plain.specs.declared.parts.stored_cell.StoredCell.{StoredCell}
 use Rattle.tide_plain.specs.stored.Contents.{state_of}
 use Rattle.tide_plain.specs.stored.Parts.{parts_of}
 use Rattle.tide_plain.specs.stored.Stored.{Stored}

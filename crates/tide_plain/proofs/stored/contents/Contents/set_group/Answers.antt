@@ -1,6 +1,6 @@
 use Rattle.std.proofs.Common.{refl, sym, ap}
 use Rattle.tide_model.specs.declared.val.Val.TheVariants.{Cell}
-use Rattle.tide_plain.specs.declared.parts.cells.StoredCell.{StoredCell}
+use Rattle.tide_plain.specs.declared.parts.stored_cell.StoredCell.{StoredCell}
 use Rattle.tide_plain.specs.stored.Parts.{parts_of}
 use Rattle.tide_plain.proofs.stored_laws.StoredLaws.{IsLive-at, IsStored-kept, stored_within}
 use Rattle.tide_plain.proofs.stored_laws.StoredCellLaws.{state_of-group}

@@ -1,8 +1,8 @@
 use Rattle.std.proofs.Common.{◌≡◌, ◌∙◌, sym, ap, subst, arith, length, Some}
 use Rattle.std.specs.Prelude.{slice_set}
 use Rattle.tide_model.specs.Applied.{put_cell}
-use Rattle.tide_plain.specs.declared.parts.cells.Pair.{Pair}
-use Rattle.tide_plain.specs.declared.parts.cells.StoredCell.{StoredCell}
+use Rattle.tide_plain.specs.declared.parts.stored_cell.Pair.{Pair}
+use Rattle.tide_plain.specs.declared.parts.stored_cell.StoredCell.{StoredCell}
 use Rattle.tide_plain.specs.stored.Contents.{state_of, stored_at, IsStored}
 use Rattle.tide_plain.specs.parts.Pairs.{pairs_of, IsDistinctPairs}
 use Rattle.tide_plain.specs.stored.Stored.{Stored}

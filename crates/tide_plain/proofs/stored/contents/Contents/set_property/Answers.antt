@@ -1,7 +1,7 @@
 use Rattle.std.proofs.Common.{◌<◌, ◌∙◌, refl, sym, ap, arith, length, get_or}
 use Rattle.std.specs.Prelude.{slice_set}
 use Rattle.tide_model.specs.declared.val.Val.TheVariants.{Empty}
-use Rattle.tide_plain.specs.declared.parts.cells.StoredCell.{StoredCell}
+use Rattle.tide_plain.specs.declared.parts.stored_cell.StoredCell.{StoredCell}
 use Rattle.tide_plain.specs.stored.Contents.{state_of}
 use Rattle.tide_plain.specs.stored.Parts.{parts_of}
 use Rattle.tide_plain.specs.parts.PartLists.{no_elements}

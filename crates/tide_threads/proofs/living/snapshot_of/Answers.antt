@@ -13,7 +13,7 @@ use Rattle.tide_shape.specs.Lists.{lists_of}
 use Rattle.tide_table.specs.declared.collector.Collector.{Collector}
 use Rattle.tide_heap.specs.tide_words.heap.Heap.{heap_of}
 use Rattle.tide_heap.specs.tide_words.heap.Reading.{ReadsAs}
-use Rattle.tide_threads.proofs.showing.snapshot_of.Goals as goal
+use Rattle.tide_threads.proofs.living.snapshot_of.Goals as goal
 
 -- what the words read as, under other names for all three
 reads_alike : (layout l : Layout) (shapes s : ShapeLists) (words ws : List ℕ) (state : State) → l ≡ layout → s ≡ shapes → ws ≡ words →

@@ -1,0 +1,3 @@
+-- The laws on these definitions, each under the name of its room.
+pub use Rattle.tide_heap.proofs.tide_core
+pub use Rattle.tide_table.proofs as tide_table

@@ -1,0 +1,23 @@
+//! The one door: all that a program of one's own calls to have a heap with a proved collector, under one name, and what
+//! the clauses of these calls cite.
+//!
+//! `Start` makes a heap of a `Layout` over `Shapes`, its `Collector`, and a `Pass` for each participant. A `Mutator` makes
+//! calls of it, a `Visitor` marks beside them, and the collector opens and freezes parts and keeps `Books`. Shapes may be
+//! grown by threads before (`GrowShapes`). The definitions that contracts cite are those of the rooms below, each under
+//! its room's name: `Rattle.tide.specs.tide_model.Lawful` is `Lawful` of `tide_model`.
+//!
+//! It has no code of its own.
+#![tactic(auto)]
+
+pub use tide_grow_shape::{
+    GrowGate, GrowRefused, GrowShapes, Grower, Settled, growers_agree, settle,
+};
+pub use tide_heap::{Books, GreyList, Layout, Numbers, Pacing, Report};
+pub use tide_model::{FreePass, Memory, Op, Place, Refusal, Reply, Turnstile, Val};
+pub use tide_mutator::Mutator;
+pub use tide_shape::{Paths, ShapeTable, Shapes};
+pub use tide_snapshot::{Snapshot, take as take_snapshot};
+pub use tide_table::{
+    Closed, Collector, Frozen, Heap, HeapShapes, NotOpened, Note, Pass, PeriodsSpent, Start, Ticket,
+};
+pub use tide_visitor::{Drained, Visitor};
