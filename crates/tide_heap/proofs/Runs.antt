@@ -41,7 +41,7 @@ pub record Turns (layout : Layout) (v u : View) : Type 0 where
   pub ticket : u.ticket ≡ v.ticket
   pub marks : u.marks ≡ v.marks
   pub cycle : u.cycle ≡ v.cycle
-  pub least : u.least ≡ v.least
+  pub mark_version : u.mark_version ≡ v.mark_version
   pub run : u.run ≡ v.run
   pub runs : u.runs ≡ true → v.period < v.ticket
   pub still : v.who < layout.mutators → v.visits ≡ 0 → u.visits ≡ 0
@@ -62,7 +62,7 @@ turned_ok layout cv v u ok later stays t = let p = t.period in let q = t.ticket 
   told = λ e. (let h = ok.told (sym q ∙ e) in record {
     marks = t.marks ∙ h.marks;
     cycle = t.cycle ∙ h.cycle;
-    least = t.least ∙ h.least;
+    mark_version = t.mark_version ∙ h.mark_version;
     run = t.run ∙ h.run;
   });
   still = λ below. t.still below (ok.still below);

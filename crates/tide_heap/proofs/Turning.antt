@@ -94,7 +94,7 @@ module _ (layout : Layout) (shapes : ShapeLists) (words : List ℕ) (views : Lis
         of_part = ap (λ (x : View). x.ticket) mine ∙ now ∙ sym run.period;
         marks = ap (λ (x : View). x.marks) mine ∙ told.marks ∙ run.marks;
         cycle = ap (λ (x : View). x.cycle) mine ∙ told.cycle ∙ run.cycle;
-        based = ap (λ (x : View). x.least) mine ∙ told.least ∙ run.based;
+        based = ap (λ (x : View). x.mark_version) mine ∙ told.mark_version ∙ run.based;
       } in
       turn layout shapes words views log me v k there (begun_view v) words None is last (not_gone stays)
       (turns later (v.begun == v.ticket))
@@ -127,7 +127,7 @@ module _ (layout : Layout) (shapes : ShapeLists) (words : List ℕ) (views : Lis
         ticket = refl;
         marks = refl;
         cycle = refl;
-        least = refl;
+        mark_version = refl;
         run = refl;
         runs = λ _. later;
         still = λ below none. none;
@@ -144,7 +144,7 @@ module _ (layout : Layout) (shapes : ShapeLists) (words : List ℕ) (views : Lis
         ticket = refl;
         marks = refl;
         cycle = refl;
-        least = refl;
+        mark_version = refl;
         run = refl;
         runs = λ _. later;
         still = λ below none. refl;
@@ -217,7 +217,7 @@ module _ (layout : Layout) (shapes : ShapeLists) (words : List ℕ) (views : Lis
         ticket = refl;
         marks = refl;
         cycle = refl;
-        least = refl;
+        mark_version = refl;
         run = refl;
         runs = λ e. absurd (cc);
         still = λ below none. none;
@@ -272,7 +272,7 @@ module _ (layout : Layout) (shapes : ShapeLists) (words : List ℕ) (views : Lis
         period = now ∙ sym run.period;
         marks = told.marks ∙ run.marks;
         cycle = told.cycle ∙ run.cycle;
-        based = told.least ∙ run.based;
+        based = told.mark_version ∙ run.based;
         told = long.whole;
         longer = subst (λ (x : View). IsPrefix x.seen (longer v.seen u.seen)) (sym mine) long.one;
         own = own;
@@ -293,7 +293,7 @@ module _ (layout : Layout) (shapes : ShapeLists) (words : List ℕ) (views : Lis
         close = ok.close;
         ticket = heard.behind;
         runs = λ e. absurd (cc);
-        told = λ e. (let t = heard.told e in record { marks = t.marks; cycle = t.cycle; least = t.least; run = t.run });
+        told = λ e. (let t = heard.told e in record { marks = t.marks; cycle = t.cycle; mark_version = t.mark_version; run = t.run });
         still = ok.still;
         mutator = ok.mutator;
         earlier = long.one;
@@ -360,7 +360,7 @@ module _ (layout : Layout) (shapes : ShapeLists) (words : List ℕ) (views : Lis
         close = elim ok.close [ inl a ↦ inl a | inr a ↦ inr (omega (arith, a, later)) ];
         ticket = few;
         runs = λ e. absurd (cc);
-        told = λ e. (let t = ok.told e in record { marks = t.marks; cycle = t.cycle; least = t.least; run = t.run });
+        told = λ e. (let t = ok.told e in record { marks = t.marks; cycle = t.cycle; mark_version = t.mark_version; run = t.run });
         still = ok.still;
         mutator = ok.mutator;
         earlier = ok.earlier;

@@ -36,7 +36,7 @@ use Rattle.tide_core.specs.tide_words.marking.Marked.{base_cycle}
 pub record AgreesOnPart (cv u : View) : Type 0 where
   pub marks : u.marks ≡ cv.marks
   pub cycle : u.cycle ≡ cv.cycle
-  pub least : u.least ≡ cv.least
+  pub mark_version : u.mark_version ≡ cv.mark_version
   pub run : u.run ≡ cv.run
 
 -- What a note that was taken in tells of a participant's calls is so still: its note of the open part is in, or it has
@@ -137,7 +137,7 @@ pub record IsRunning (layout : Layout) (shapes : ShapeLists) (words : List ℕ) 
   pub period : heap region.Period 0 ≡ cv.period
   pub marks : cv.marks ≡ is_marking heap
   pub cycle : cv.cycle ≡ running_cycle heap
-  pub based : cv.least ≡ base_cycle heap
+  pub based : cv.mark_version ≡ base_cycle heap
   -- where it marks and there are visitors, they run for some calls
   pub some_run : cv.marks ≡ true → 0 < layout.visitors → 0 < cv.run
 

@@ -45,7 +45,7 @@ ticket_for seen u =
       run = u.run;
       marks = u.marks;
       cycle = u.cycle;
-      base = u.least;
+      base = u.mark_version;
     }
 
 -- a participant hears a ticket
@@ -123,7 +123,7 @@ opened layout run v = record v {
   run = run;
   marks = is_marking (heap_of layout v.words);
   cycle = running_cycle (heap_of layout v.words);
-  least = base_cycle (heap_of layout v.words);
+  mark_version = base_cycle (heap_of layout v.words);
   notes = [];
   ledger = 0;
   births = 0;

@@ -16,7 +16,7 @@ use Rattle.tide_model.specs.Laws.{FourthBeginsFull, FreesNoSpared}
 use Rattle.tide_model.specs.Lawful.{IsLawful, StandsEntry}
 use Rattle.tide_model.specs.Layout.{Layout}
 use Rattle.tide_model.specs.Pace.{Pace}
-use Rattle.tide_model.specs.Periods.{ArePeriods, no_period, one_more, IsScheduled, after_part, is_must, next_run, opened}
+use Rattle.tide_model.specs.Periods.{ArePeriods, no_period, one_more, IsScheduled, after_part, is_forced, next_run, opened}
 use Rattle.tide_model.specs.Refused.{ShapeLists}
 use Rattle.tide_model.specs.Since.{is_of_part, is_sweep}
 use Rattle.tide_model.proofs.PeriodLaws.{Each-all}
@@ -141,7 +141,7 @@ fourths_are_full-periods pace layout _ (one_more before period periods stands) =
     freeze =
         fourths_are_full-marks (entries_of period.freeze)
         ∙ fourths_are_full-freeze pace layout (after_part pace layout before period) (next_run pace layout before)
-        (is_must layout (opened pace layout before) period.part) _ stands.freeze
+        (is_forced layout (opened pace layout before) period.part) _ stands.freeze
 
 pub fourth_cycles_are_full : (pace : Pace) (layout : Layout) (history : List Event) → IsScheduled pace layout history →
     Each FourthBeginsFull history

@@ -13,7 +13,7 @@ use Rattle.tide_model.specs.Freeze.{IsFreeze, GoesOn, IsPause, is_due, visits_en
 use Rattle.tide_model.specs.History.{plain}
 use Rattle.tide_model.specs.Layout.{Layout}
 use Rattle.tide_model.specs.Pace.{Pace}
-use Rattle.tide_model.specs.Periods.{is_must}
+use Rattle.tide_model.specs.Periods.{is_forced}
 use Rattle.tide_model.specs.Rows.{small}
 
 -- a period of 8, a cycle by itself after four births, and room for many
@@ -169,10 +169,10 @@ second_refused = second_calls (Alloc 0 1) (Refused (Full 1)) ∷ []
 
 -- a freeze is a must where some mutator's last call ended its share, and where none is active
 pub musts :
-    (is_must visited [] (first_calls (Drop 0) Done ∷ second_calls Collect Asked ∷ []) ≡ true)
-    × (is_must visited [] (second_calls Collect Asked ∷ second_calls (Drop 0) Done ∷ []) ≡ false)
-    × (is_must visited [] second_refused ≡ true)
-    × (is_must visited second_refused second_refused ≡ false)
-    × (is_must visited [] (first_calls Retire Done ∷ []) ≡ false)
-    × (is_must visited [] (first_calls Retire Done ∷ second_calls Retire Done ∷ []) ≡ true)
+    (is_forced visited [] (first_calls (Drop 0) Done ∷ second_calls Collect Asked ∷ []) ≡ true)
+    × (is_forced visited [] (second_calls Collect Asked ∷ second_calls (Drop 0) Done ∷ []) ≡ false)
+    × (is_forced visited [] second_refused ≡ true)
+    × (is_forced visited second_refused second_refused ≡ false)
+    × (is_forced visited [] (first_calls Retire Done ∷ []) ≡ false)
+    × (is_forced visited [] (first_calls Retire Done ∷ second_calls Retire Done ∷ []) ≡ true)
 musts = (refl, refl, refl, refl, refl, refl)

@@ -15,7 +15,7 @@ use Rattle.tide_model.specs.Freeze.{IsFreeze, Paused, begins_full, end_entries, 
 use Rattle.tide_model.specs.History.{plain, is_open, state_after}
 use Rattle.tide_model.specs.Layout.{Layout}
 use Rattle.tide_model.specs.Pace.{Pace, is_triggered}
-use Rattle.tide_model.specs.Periods.{Period, StandsPeriod, ArePeriods, no_period, one_more, after_part, after_period, is_must, next_run, open_count, opened}
+use Rattle.tide_model.specs.Periods.{Period, StandsPeriod, ArePeriods, no_period, one_more, after_part, after_period, is_forced, next_run, open_count, opened}
 use Rattle.tide_model.specs.Since.{born_since, is_end, is_of_part, is_sweep}
 use Rattle.tide_model.specs.State.{State}
 use Rattle.tide_model.proofs.Histories.{state_after-append, state_after-push}
@@ -205,7 +205,7 @@ period_is_quiet pace layout before period never stands quiet = record {
 
     shape : IsWholeOrNone (marks_of period.freeze)
     shape = freeze_is_whole_or_none pace layout here (next_run pace layout before)
-        (is_must layout (opened pace layout before) period.part) (marks_of period.freeze) never part.rests stands.freeze
+        (is_forced layout (opened pace layout before) period.part) (marks_of period.freeze) never part.rests stands.freeze
 
     marking : IsWholeOrNone (marks_of period.freeze) → marking_after false (marks_of period.freeze) ≡ false
     marking (inl none) = ap (marking_after false) none

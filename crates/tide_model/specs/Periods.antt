@@ -23,8 +23,8 @@ is_over layout history = not (any_below (λ who. (state_after layout history).ac
 
 -- The freeze after a part is a must: some mutator's last call in the part ended its share, or no mutator is active.
 -- `before` is the history before the part's first call, so with its Open or without: an Open is no call.
-abbrev pub is_must : Layout → List Event → List Event → Bool
-is_must layout before part =
+abbrev pub is_forced : Layout → List Event → List Event → Bool
+is_forced layout before part =
     any_below (λ who. has_ended (retry_of who before) (calls_of who part)) layout.mutators || is_over layout (before ++ part)
 
 -- how many calls each mutator has in the part that opens after a history
@@ -64,8 +64,8 @@ pub record StandsPeriod (pace : Pace) (layout : Layout) (before : List Event) (p
       IsShare (next_run pace layout before) (retry_of who before)
       ((state_after layout (after_part pace layout before period)).active who) (calls_of who period.part)
   pub freeze : IsFreeze pace layout (after_part pace layout before period) (next_run pace layout before)
-      (is_must layout (opened pace layout before) period.part) (marks_of period.freeze)
-  pub swept : is_must layout (opened pace layout before) period.part ≡ true →
+      (is_forced layout (opened pace layout before) period.part) (marks_of period.freeze)
+  pub swept : is_forced layout (opened pace layout before) period.part ≡ true →
       IsSwept layout (after_period pace layout before period)
 
 -- the history is periods, one after another

@@ -15,7 +15,7 @@ use Rattle.tide_model.specs.History.{is_begin, is_open, plain, state_after}
 use Rattle.tide_model.specs.Layout.{Layout}
 use Rattle.tide_model.specs.Pace.{Pace, running_share}
 use Rattle.tide_model.specs.Numbers.{any_below}
-use Rattle.tide_model.specs.Periods.{is_must, is_over, next_run, open_count, opened, after_part, Period}
+use Rattle.tide_model.specs.Periods.{is_forced, is_over, next_run, open_count, opened, after_part, Period}
 use Rattle.tide_model.specs.Script.{calls_of, retry_after_all, retry_of}
 use Rattle.tide_model.specs.Share.{IsShare, has_ended}
 use Rattle.tide_model.specs.Since.{born_since, is_end, is_of_part}
@@ -174,7 +174,7 @@ none_open (event ∷ part) all =
 pub RanPeriod-by : (old begun ran new : Recorded) (pace : Pace) (run next : ℕ) (stopped must : Bool) → is_over old.setting.layout old.history ≡ false →
     run ≡ next_run pace old.setting.layout old.history → OpenedPart old begun run → RanPart begun ran run stopped → RanFreeze ran new pace must next →
     must ≡ (stopped || is_over ran.setting.layout ran.history) → RanPeriod old new pace next
-RanPeriod-by old begun ran new pace run next stopped must goes_on is_run opens part froze is_must' = record {
+RanPeriod-by old begun ran new pace run next stopped must goes_on is_run opens part froze is_forced' = record {
   settled = froze.settled;
   same = froze.same ∙ settings;
   cycles = let e = froze.cycles in let f = part.counts.cycles in let h = opens.cycles in omega (arith, e, f, h);
@@ -229,8 +229,8 @@ RanPeriod-by old begun ran new pace run next stopped must goes_on is_run opens p
     still : (who : ℕ) → retry_of who begun.history ≡ retry_of who old.history
     still who = ap (retry_of who) opens.history ∙ ap (retry_after_all None) (calls_of-opened who old.history (open_count old.history + 1) run)
 
-    is_must_now : must ≡ is_must layout (opened pace layout old.history) part.part
-    is_must_now = is_must' ∙ ap (λ (b : Bool). b || is_over ran.setting.layout ran.history) part.stops
+    is_must_now : must ≡ is_forced layout (opened pace layout old.history) part.part
+    is_must_now = is_forced' ∙ ap (λ (b : Bool). b || is_over ran.setting.layout ran.history) part.stops
         ∙ ap (λ (s : Setting). any_below (λ who. has_ended (retry_of who begun.history) (calls_of who part.part)) s.layout.mutators || is_over ran.setting.layout ran.history) opens.same
         ∙ ap (λ (s : Setting). any_below (λ who. has_ended (retry_of who begun.history) (calls_of who part.part)) layout.mutators || is_over s.layout ran.history) settings
         ∙ ap (λ (h : List Event). any_below (λ who. has_ended (retry_of who begun.history) (calls_of who part.part)) layout.mutators || is_over layout h) ran_history

@@ -14,7 +14,7 @@ use Rattle.tide_periods.specs.Recorded.{IsSettled, Recorded}
 
 -- A freeze did what the schedule asks for after the running part that ended, and after a must nothing is dead. Each
 -- mutator has so many calls in the next part, and at least one.
-pub record RanFreeze (old new : Recorded) (pace : Pace) (is_must : Bool) (run : ℕ) : Type 0 where
+pub record RanFreeze (old new : Recorded) (pace : Pace) (is_forced : Bool) (run : ℕ) : Type 0 where
   pub settled : IsSettled new
   pub same : new.setting ≡ old.setting
   pub cycles : new.cycles ≤ old.cycles + 1
@@ -24,8 +24,8 @@ pub record RanFreeze (old new : Recorded) (pace : Pace) (is_must : Bool) (run : 
   pub quiet : (who : ℕ) → calls_of who freeze ≡ []
   pub active : new.state.active ≡ old.state.active
   pub claims : new.state.claims ≡ old.state.claims
-  pub is_freeze : IsFreeze pace old.setting.layout old.history (last_run old.history) is_must (marks_of freeze)
-  pub clean : is_must ≡ true → IsSwept new.setting.layout new.history
+  pub is_freeze : IsFreeze pace old.setting.layout old.history (last_run old.history) is_forced (marks_of freeze)
+  pub clean : is_forced ≡ true → IsSwept new.setting.layout new.history
   pub next : run ≡ next_run pace new.setting.layout new.history
   pub some : 0 < run
 

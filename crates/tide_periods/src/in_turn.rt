@@ -89,8 +89,8 @@ impl<T: Recorder + Drop> Parts for InTurn<T> {
         self.callers.iter().all(Caller::has_retired)
     }
 
-    fn freeze(&mut self, is_must: bool, pacing: Pacing, alloc: Global) -> Result<u32, Memory> {
-        self.recorder.freeze(is_must, pacing, alloc)
+    fn freeze(&mut self, is_forced: bool, pacing: Pacing, alloc: Global) -> Result<u32, Memory> {
+        self.recorder.freeze(is_forced, pacing, alloc)
     }
 
     fn live(&mut self) -> u32 {

@@ -62,12 +62,12 @@ pub trait Recorder {
 
     /// Freezes after a part, does what the schedule asks for, and records it. Answers how many calls each mutator has
     /// in the next part.
-    fn freeze(&mut self, is_must: bool, pacing: Pacing, alloc: Global) -> Result<u32, Memory>
+    fn freeze(&mut self, is_forced: bool, pacing: Pacing, alloc: Global) -> Result<u32, Memory>
         requires settled { IsSettled (recorded self.old) }
         requires stands { stands self.old }
         requires room { (recorded self.old).cycles < 2 ^ 60 }
         requires paces { paces pacing }
-        ensures ran { IfOk result (λ run. RanFreeze (recorded self.old) (recorded self.new) (pace_of pacing) is_must run) }
+        ensures ran { IfOk result (λ run. RanFreeze (recorded self.old) (recorded self.new) (pace_of pacing) is_forced run) }
         ensures stands { IfOk result (λ run. stands self.new) };
 
     /// How many cells live.

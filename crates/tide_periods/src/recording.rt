@@ -84,8 +84,8 @@ impl<S: Store + Drop> Recorder for Recording<S> {
         Ok(())
     }
 
-    fn freeze(&mut self, is_must: bool, pacing: Pacing, alloc: Global) -> Result<u32, Memory> {
-        if is_must {
+    fn freeze(&mut self, is_forced: bool, pacing: Pacing, alloc: Global) -> Result<u32, Memory> {
+        if is_forced {
             self.cycle(alloc)?;
         }
         Ok(pacing.period)

@@ -267,7 +267,7 @@ module _ (layout : Layout) (shapes : ShapeLists) (words : List ℕ) (views : Lis
               period = refl;
               marks = refl;
               cycle = refl;
-              least = refl;
+              mark_version = refl;
               run = refl;
               seen = prefix_refl v.seen;
               ledger = ledger_of;
@@ -326,7 +326,7 @@ module _ (layout : Layout) (shapes : ShapeLists) (words : List ℕ) (views : Lis
         period = refl;
         marks = refl;
         cycle = refl;
-        least = refl;
+        mark_version = refl;
         run = refl;
         seen = prefix_refl v.seen;
         ledger = ledger_of;
@@ -374,7 +374,7 @@ module _ (layout : Layout) (shapes : ShapeLists) (words : List ℕ) (views : Lis
         period = refl;
         marks = refl;
         cycle = refl;
-        least = refl;
+        mark_version = refl;
         run = refl;
         seen = prefix_push v.seen event;
         ledger = ledger_of;
@@ -544,7 +544,7 @@ module _ (layout : Layout) (shapes : ShapeLists) (words : List ℕ) (views : Lis
         period = refl;
         marks = refl;
         cycle = refl;
-        least = refl;
+        mark_version = refl;
         run = refl;
         seen = long.one;
         ledger = (let t = ledger_of in
@@ -630,7 +630,7 @@ module _ (layout : Layout) (shapes : ShapeLists) (words : List ℕ) (views : Lis
     told = λ _. record {
       marks = ap (λ (x : View). x.marks) (own layout shapes words views log me v k there is);
       cycle = ap (λ (x : View). x.cycle) (own layout shapes words views log me v k there is);
-      least = ap (λ (x : View). x.least) (own layout shapes words views log me v k there is);
+      mark_version = ap (λ (x : View). x.mark_version) (own layout shapes words views log me v k there is);
       run = ap (λ (x : View). x.run) (own layout shapes words views log me v k there is);
     };
   }

@@ -88,7 +88,7 @@ module _ (layout : Layout) (shapes : ShapeLists) (words : List ℕ) (views : Lis
     pub period : w.period ≡ v.period
     pub marks : w.marks ≡ v.marks
     pub cycle : w.cycle ≡ v.cycle
-    pub least : w.least ≡ v.least
+    pub mark_version : w.mark_version ≡ v.mark_version
     pub run : w.run ≡ v.run
     pub seen : IsPrefix v.seen w.seen
     pub ledger : tally w.period k.part w.notes ≡ w.ledger
@@ -142,4 +142,4 @@ module _ (layout : Layout) (shapes : ShapeLists) (words : List ℕ) (views : Lis
       born_of i = subst (λ (x : View). births_in x.period (k.part i) ≡ born_to i log) (sym own) (k.births i)
 
       same_told : (x : View) → AgreesOnPart v x → AgreesOnPart w x
-      same_told x t = record { marks = t.marks ∙ sym c.marks; cycle = t.cycle ∙ sym c.cycle; least = t.least ∙ sym c.least; run = t.run ∙ sym c.run }
+      same_told x t = record { marks = t.marks ∙ sym c.marks; cycle = t.cycle ∙ sym c.cycle; mark_version = t.mark_version ∙ sym c.mark_version; run = t.run ∙ sym c.run }

@@ -85,11 +85,11 @@ RunsWith-noted layout books v note runs = record {
 
 -- Below, v is the view while a part runs, u once it is frozen, w once the freeze code ran, and x once the next part is
 -- opened.
-pub HasOpenedNext-by : (layout : Layout) (shapes : ShapeLists) (pace : Pace) (is_must : Bool) (run : ℕ)
+pub HasOpenedNext-by : (layout : Layout) (shapes : ShapeLists) (pace : Pace) (is_forced : Bool) (run : ℕ)
     (old counted books : Books) (v u w x : View) → RunsWith layout old v → Freezes layout shapes v u →
-    HasCollected layout shapes pace is_must u w run → WereKept layout u.seen w.seen counted books →
+    HasCollected layout shapes pace is_forced u w run → WereKept layout u.seen w.seen counted books →
     x ≡ opened layout run w → w.period + 1 < 2 ^ 32 → HasOpenedNext layout books v x
-HasOpenedNext-by layout shapes pace is_must run old counted books v u w x runs froze did kept is numbered = record {
+HasOpenedNext-by layout shapes pace is_forced run old counted books v u w x runs froze did kept is numbered = record {
   runs = record {
     runs = RunsPart-opened layout run w x is did.still.period did.still.ends;
     few =
@@ -114,12 +114,12 @@ HasOpenedNext-by layout shapes pace is_must run old counted books v u w x runs f
     later = ap (λ (y : View). y.period) is ∙ ap (λ (y : View). y.period + 1) did.rest ∙ ap (λ (y : View). y.period + 1) froze.view
 
 -- the freeze did what the schedule asks for, and so many calls has the next part
-pub HasFrozenNext-by : (layout : Layout) (shapes : ShapeLists) (pace : Pace) (is_must : Bool) (run : ℕ) (v u w x : View) →
-    Freezes layout shapes v u → HasCollected layout shapes pace is_must u w run → x ≡ opened layout run w →
-    HasFrozenNext pace layout is_must v x
-HasFrozenNext-by layout shapes pace is_must run v u w x froze did is = record {
+pub HasFrozenNext-by : (layout : Layout) (shapes : ShapeLists) (pace : Pace) (is_forced : Bool) (run : ℕ) (v u w x : View) →
+    Freezes layout shapes v u → HasCollected layout shapes pace is_forced u w run → x ≡ opened layout run w →
+    HasFrozenNext pace layout is_forced v x
+HasFrozenNext-by layout shapes pace is_forced run v u w x froze did is = record {
   frozen = w.seen;
-  freezes = subst (λ (h : List Event). HasFrozenWhole pace layout (last_run h) h w.seen is_must)
+  freezes = subst (λ (h : List Event). HasFrozenWhole pace layout (last_run h) h w.seen is_forced)
       (ap (λ (y : View). y.seen) froze.view) did.freezes;
   opened = ap (λ (y : View). y.start) is
       ∙ (λ i. w.seen ++ plain (Open (sym (ap (λ (y : View). y.period) is) i) (did.next i)) ∷ []);

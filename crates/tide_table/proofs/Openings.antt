@@ -29,17 +29,17 @@ all_of_freeze events all event (k, below, is) = subst (λ (e : Event). is_of_fre
     (AllPass-from_list_all (λ e. is_of_freeze e.entry) events all k event below)
 
 pub leads_to_opening : (pace : Pace) (layout : Layout) (shapes : ShapeLists) (words words_now : List ℕ)
-    (here after : List Event) (unentered : ℕ) (is_must : Bool) →
+    (here after : List Event) (unentered : ℕ) (is_forced : Bool) →
     FrozenWith layout shapes (heap_of layout words) here unentered →
     FrozenWave layout shapes (heap_of layout words_now) after → IsLawful layout shapes after →
-    HasFrozen pace layout here after is_must →
+    HasFrozen pace layout here after is_forced →
     LeavesParticipants layout (heap_of layout words) (heap_of layout words_now) →
     SharesGreys layout words_now after → MayFollow layout shapes words_now after (next_run pace layout after)
-leads_to_opening pace layout shapes words words_now here after unentered is_must f wave lawful has left shared =
+leads_to_opening pace layout shapes words words_now here after unentered is_forced f wave lawful has left shared =
     let swept = sweeps_rest layout shapes (heap_of layout words) (heap_of layout words_now) here has.events unentered f
     (subst (FrozenWave layout shapes (heap_of layout words_now)) has.entered wave)
     (subst (IsLawful layout shapes) has.entered lawful)
-    (all_of_freeze has.events (HasFrozen-quiet pace layout here after is_must has)) left.swept in
+    (all_of_freeze has.events (HasFrozen-quiet pace layout here after is_forced has)) left.swept in
     record {
       wave = wave;
       swept = swept.0;

@@ -34,7 +34,7 @@ reseat : (layout : Layout) (cv : View) (part : ℕ → View) (seat_of note_at : 
 reseat layout cv part seat_of note_at log who k p u apart later Collector h = absurd (apart h.0)
 reseat layout cv part seat_of note_at log who k p u apart later Member h = let b = h.1 in (h.0, omega (arith, b, later), h.2, number_else seat_of who u.who p (λ e. omega (arith, e, b, later)) ∙ h.3)
 reseat layout cv part seat_of note_at log who k p u apart later Note h = (h.0, record { behind = h.1.behind; now = h.1.now; one = h.1.one; out = h.1.out; began = h.1.began; done = h.1.done })
-reseat layout cv part seat_of note_at log who k p u apart later Ticket h = record { behind = h.behind; prefix = h.prefix; told = λ e. (let t = h.told e in record { marks = t.marks; cycle = t.cycle; least = t.least; run = t.run }) }
+reseat layout cv part seat_of note_at log who k p u apart later Ticket h = record { behind = h.behind; prefix = h.prefix; told = λ e. (let t = h.told e in record { marks = t.marks; cycle = t.cycle; mark_version = t.mark_version; run = t.run }) }
 reseat layout cv part seat_of note_at log who k p u apart later Spent h = tt
 
 -- a participant gets its seat
@@ -56,7 +56,7 @@ seat_member layout shapes words views log me v k there is who later party = reco
   ];
   fresh = λ i h. k.fresh i (let e = ap (λ (x : View). x.next) o in omega (arith, h, later, e));
   strangers = k.strangers;
-  members = λ i l. let q = ok_of layout shapes words views log me v k there is i l in record { role = q.role; behind = q.behind; close = q.close; ticket = q.ticket; runs = q.runs; still = q.still; mutator = q.mutator; told = λ e. (let t = q.told e in record { marks = t.marks; cycle = t.cycle; least = t.least; run = t.run }); earlier = q.earlier; heard = q.heard; calls = q.calls; ended = q.ended; halted = q.halted; noted = q.noted; gone = q.gone; over = q.over; leaves = q.leaves; began = q.began; done = q.done };
+  members = λ i l. let q = ok_of layout shapes words views log me v k there is i l in record { role = q.role; behind = q.behind; close = q.close; ticket = q.ticket; runs = q.runs; still = q.still; mutator = q.mutator; told = λ e. (let t = q.told e in record { marks = t.marks; cycle = t.cycle; mark_version = t.mark_version; run = t.run }); earlier = q.earlier; heard = q.heard; calls = q.calls; ended = q.ended; halted = q.halted; noted = q.noted; gone = q.gone; over = q.over; leaves = q.leaves; began = q.began; done = q.done };
   prefix = subst (λ (x : View). IsPrefix x.seen log) (sym o) k.prefix;
   tip = subst (λ (x : View). (log ≡ x.seen) ⊎ ((i : ℕ) × IsParty layout i × (log ≡ (k.part i).seen))) (sym o) k.tip;
   retired = k.retired;

@@ -289,13 +289,13 @@ module _ (layout : Layout) (shapes : ShapeLists) (v u : View) (still : StandsSti
     blacks = sym (entered.blacks opened);
   }
 
-  module _ (pace : Pace) (is_must : Bool) (w : View) (run : ℕ) (same : bare w ≡ bare u)
+  module _ (pace : Pace) (is_forced : Bool) (w : View) (run : ℕ) (same : bare w ≡ bare u)
       (frozen : IsFrozen layout shapes w.words w.seen (was_black_in layout w))
-      (has : HasFrozen pace layout u.seen w.seen is_must)
+      (has : HasFrozen pace layout u.seen w.seen is_forced)
       (left : LeavesParticipants layout (heap_of layout u.words) (heap_of layout w.words))
       (shared : SharesGreys layout w.words w.seen) (is_run : run ≡ next_run pace layout w.seen) where
     quiet : list_all (λ (e : Event). is_of_freeze e.entry) has.events ≡ true
-    quiet = HasFrozen-quiet pace layout u.seen w.seen is_must has
+    quiet = HasFrozen-quiet pace layout u.seen w.seen is_forced has
 
     span : SpanIsLive layout (heap_of layout w.words) w.seen
     span = stays (heap_of layout w.words)
@@ -320,9 +320,9 @@ module _ (layout : Layout) (shapes : ShapeLists) (v u : View) (still : StandsSti
     seen_runs f stays = ap f has.entered ∙ stays u.seen has.events quiet
         ∙ ap f entered.visited.entered ∙ stays v.seen visits_before (visits-quiet 0 entered.visited.visits)
 
-    pub HasCollected-still : HasCollected layout shapes pace is_must v w run
+    pub HasCollected-still : HasCollected layout shapes pace is_forced v w run
     HasCollected-still =
-        let follows = leads_to_opening pace layout shapes u.words w.words u.seen w.seen 0 is_must entered.wave frozen.wave
+        let follows = leads_to_opening pace layout shapes u.words w.words u.seen w.seen 0 is_forced entered.wave frozen.wave
         frozen.lawful has left shared in
         let visited : w.visited ≡ u.visited = ap (λ (x : View). x.visited) same in
         let none : unentered w.visited ≡ 0 = ap unentered visited ∙ entered.entered in record {
@@ -345,7 +345,7 @@ module _ (layout : Layout) (shapes : ShapeLists) (v u : View) (still : StandsSti
           };
           entered = none;
           rest = rest;
-          freezes = visits_make_freeze pace layout (last_run v.seen) v.seen u.seen w.seen is_must
+          freezes = visits_make_freeze pace layout (last_run v.seen) v.seen u.seen w.seen is_forced
               (subst (λ (n : ℕ). HasVisited layout n v.seen u.seen) (still.run opened) entered.visited) has;
           next = is_run;
           may = subst (MayOpen layout (heap_of layout w.words)) (sym is_run) follows.may;

@@ -226,7 +226,7 @@ opens_at layout shapes words limits empty_shape zeros = record {
       close = inr (omega arith);
       ticket = omega arith;
       runs = λ e. absurd (cc);
-      told = λ _. record { marks = refl; cycle = refl; least = refl; run = refl };
+      told = λ _. record { marks = refl; cycle = refl; mark_version = refl; run = refl };
       still = λ _. refl;
       mutator = λ e. absurd (cc);
       earlier = prefix_refl [];

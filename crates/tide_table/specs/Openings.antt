@@ -30,8 +30,8 @@ pub record MayFollow (layout : Layout) (shapes : ShapeLists) (words : List ℕ) 
 abbrev pub FreezesLeadToOpenings : Type 0
 FreezesLeadToOpenings =
     (pace : Pace) (layout : Layout) (shapes : ShapeLists) (words words_now : List ℕ) (here after : List Event)
-    (unentered : ℕ) (is_must : Bool) → FrozenWith layout shapes (heap_of layout words) here unentered →
+    (unentered : ℕ) (is_forced : Bool) → FrozenWith layout shapes (heap_of layout words) here unentered →
     FrozenWave layout shapes (heap_of layout words_now) after → IsLawful layout shapes after →
-    HasFrozen pace layout here after is_must →
+    HasFrozen pace layout here after is_forced →
     LeavesParticipants layout (heap_of layout words) (heap_of layout words_now) →
     SharesGreys layout words_now after → MayFollow layout shapes words_now after (next_run pace layout after)

@@ -75,9 +75,9 @@ pub record HasOpenedNext (layout : Layout) (books : Books) (v w : View) : Type 0
 
 -- A freeze after the part of `v` did what the schedule asks for, and the next part was opened with as many calls as
 -- that leaves for it.
-pub record HasFrozenNext (pace : Pace) (layout : Layout) (is_must : Bool) (v w : View) : Type 0 where
+pub record HasFrozenNext (pace : Pace) (layout : Layout) (is_forced : Bool) (v w : View) : Type 0 where
   pub frozen : List Event
-  pub freezes : HasFrozenWhole pace layout (last_run v.seen) v.seen frozen is_must
+  pub freezes : HasFrozenWhole pace layout (last_run v.seen) v.seen frozen is_forced
   pub opened : w.start ≡ frozen ++ plain (Open w.period (next_run pace layout frozen)) ∷ []
 
 -- What notes told of visits was entered, if a cycle marks, and nothing else happened: none is left to enter, and the
@@ -92,11 +92,11 @@ pub record HasEnteredVisits (layout : Layout) (shapes : ShapeLists) (v w : View)
 
 -- A freeze did what the schedule asks for after the running part that ended, and no visits are left to enter: the heap
 -- stands still, and the next part may be opened, in which each mutator has so many calls.
-pub record HasCollected (layout : Layout) (shapes : ShapeLists) (pace : Pace) (is_must : Bool) (v w : View) (run : ℕ)
+pub record HasCollected (layout : Layout) (shapes : ShapeLists) (pace : Pace) (is_forced : Bool) (v w : View) (run : ℕ)
     : Type 0 where
   pub still : StandsStill layout shapes w
   pub entered : unentered w.visited ≡ 0
   pub rest : LeavesRest v w
-  pub freezes : HasFrozenWhole pace layout (last_run v.seen) v.seen w.seen is_must
+  pub freezes : HasFrozenWhole pace layout (last_run v.seen) v.seen w.seen is_forced
   pub next : run ≡ next_run pace layout w.seen
   pub may : MayOpen layout (heap_of layout w.words) run

@@ -66,10 +66,10 @@ own-quiet who history events all =
         ∙ none some later
 
 -- what a collection leaves
-module _ (layout : Layout) (shapes : ShapeLists) (pace : Pace) (is_must : Bool) (v w : View) (run : ℕ)
-    (did : HasCollected layout shapes pace is_must v w run) where
+module _ (layout : Layout) (shapes : ShapeLists) (pace : Pace) (is_forced : Bool) (v w : View) (run : ℕ)
+    (did : HasCollected layout shapes pace is_forced v w run) where
   quiet : list_all (λ (e : Event). is_of_freeze e.entry) did.freezes.events ≡ true
-  quiet = HasFrozenWhole-quiet pace layout (last_run v.seen) v.seen w.seen is_must did.freezes
+  quiet = HasFrozenWhole-quiet pace layout (last_run v.seen) v.seen w.seen is_forced did.freezes
 
   -- the next part may be opened
   pub MayOpenPart-collected : MayOpenPart layout w run
@@ -128,7 +128,7 @@ module _ (layout : Layout) (shapes : ShapeLists) (pace : Pace) (is_must : Bool) 
   -- it did what a run's freeze does
   pub RanFreeze-collected : IsSettled (recorded_at (record { layout = layout; shapes = shapes }) v.seen) →
       RanFreeze (recorded_at (record { layout = layout; shapes = shapes }) v.seen)
-      (recorded_at (record { layout = layout; shapes = shapes }) w.seen) pace is_must run
+      (recorded_at (record { layout = layout; shapes = shapes }) w.seen) pace is_forced run
   RanFreeze-collected settled = record {
     settled = record {
       lawful = did.still.wave.lawful;
@@ -147,7 +147,7 @@ module _ (layout : Layout) (shapes : ShapeLists) (pace : Pace) (is_must : Bool) 
     quiet = λ who. calls_of-quiet who did.freezes.events quiet;
     active = ap (λ (s : State). s.active) grown ∙ kept.0;
     claims = claims;
-    is_freeze = IsFreeze-by pace layout v.seen (last_run v.seen) is_must did.freezes.events did.freezes.freezes;
+    is_freeze = IsFreeze-by pace layout v.seen (last_run v.seen) is_forced did.freezes.events did.freezes.freezes;
     clean = did.freezes.clean;
     next = did.next;
     some = subst (λ (n : ℕ). 0 < n) (sym did.next) did.freezes.calls;

@@ -278,13 +278,13 @@ impl OnThreads {
 
     /// Freezes after a part, and does what the schedule asks for. Answers how many calls each mutator has in the next
     /// part.
-    pub(crate) fn freeze(&mut self, is_must: bool) -> Result<u32, Memory>
+    pub(crate) fn freeze(&mut self, is_forced: bool) -> Result<u32, Memory>
         requires settled { IsSettled (recorded_in self.old) }
         requires stands { Stands self.old }
         requires opened { 0 < (recorded_in self.old).parts }
         requires room { (recorded_in self.old).cycles < 2 ^ 60 }
         requires visits { MayEnterOn self.old }
-        ensures ran { IfOk result (RanFreeze (recorded_in self.old) (recorded_in self.new) (pace_on self.old) is_must) }
+        ensures ran { IfOk result (RanFreeze (recorded_in self.old) (recorded_in self.new) (pace_on self.old) is_forced) }
         ensures stands { OnOk result (Stands self.new) }
         ensures pacing { OnOk result (self.new.books.pacing ≡ self.old.books.pacing) }
         ensures callers { OnOk result (callers_on self.new ≡ callers_on self.old) }
@@ -292,7 +292,7 @@ impl OnThreads {
     {
         let next = self
             .collector
-            .collect(&self.heap, &mut self.books, is_must)?;
+            .collect(&self.heap, &mut self.books, is_forced)?;
         Ok(next)
     }
 

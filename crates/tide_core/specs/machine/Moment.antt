@@ -41,7 +41,7 @@ use Rattle.tide_words.specs.marking.Marking.{bits_of}
 -- it holds, scans or has read is live; a grey cell has one holder, and where no cycle marks the view has none at hand.
 -- Its scan's readings are right; and arrays say what the words of their cells tell.
 pub record WorksOn (layout : Layout) (v : View) (words : Heap) (state : State) : Type 0 where
-  pub phase : v.runs ≡ true → (v.marks ≡ is_marking words) × (v.cycle ≡ running_cycle words) × (v.least ≡ base_cycle words)
+  pub phase : v.runs ≡ true → (v.marks ≡ is_marking words) × (v.cycle ≡ running_cycle words) × (v.mark_version ≡ base_cycle words)
   pub part : v.runs ≡ true → words region.Period 0 ≡ v.begun
   pub calls : v.who < layout.mutators → words region.Call v.who ≡ v.calls % 2 ^ 64
   pub stop : IsParty layout v.who → words region.Stopped (index_of_stopped layout v.who) ≡ v.stopped

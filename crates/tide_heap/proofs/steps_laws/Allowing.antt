@@ -154,7 +154,7 @@ module _ (layout : Layout) (shapes : ShapeLists) (v : View) (kind : Kind) where
           ticket = ap (λ (x : Core). x.ticket) c;
           marks = ap (λ (x : Core). x.marks) c;
           cycle = ap (λ (x : Core). x.cycle) c;
-          least = ap (λ (x : Core). x.least) c;
+          mark_version = ap (λ (x : Core). x.mark_version) c;
           run = ap (λ (x : Core). x.run) c;
           runs = λ _. later;
           still = λ below none. ap (λ (x : Core). x.visits) c ∙ still_by (is_visit kind) refl below none;

@@ -91,7 +91,7 @@ module _ (layout : Layout) (shapes : ShapeLists) (kind : Kind) (v u : View) (rea
     run = a.run ∙ sym (ap (λ (c : Core). c.run) followed);
     marking = a.marking ∙ sym (ap (λ (c : Core). c.marks) followed);
     cycle = a.cycle ∙ sym (ap (λ (c : Core). c.cycle) followed);
-    base = a.base ∙ sym (ap (λ (c : Core). c.least) followed);
+    base = a.base ∙ sym (ap (λ (c : Core). c.mark_version) followed);
     few_cycles = a.few_cycles;
     begun = a.begun ∙ sym (ap (λ (c : Core). c.begun) followed);
     born = ap (born_after kind read) a.born ∙ sym (ap (λ (c : Core). c.born) followed);

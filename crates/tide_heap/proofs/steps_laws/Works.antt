@@ -43,7 +43,7 @@ pub record Core : Type 0 where
   pub run : ℕ
   pub marks : Bool
   pub cycle : ℕ
-  pub least : ℕ
+  pub mark_version : ℕ
   pub earlier : List Event
   pub told : List Event
   pub runs : Bool
@@ -63,7 +63,7 @@ core v = record {
   run = v.run;
   marks = v.marks;
   cycle = v.cycle;
-  least = v.least;
+  mark_version = v.mark_version;
   earlier = v.earlier;
   told = v.told;
   runs = v.runs;

@@ -10,7 +10,7 @@ pub record AreOf (numbers : Numbers) (v : View) : Type 0 where
   pub run : numbers.run ≡ v.run
   pub marking : numbers.marking ≡ v.marks
   pub cycle : numbers.cycle ≡ v.cycle
-  pub base : numbers.base ≡ v.least
+  pub base : numbers.base ≡ v.mark_version
   -- each colour of the cycle has a word of 64 bits
   pub few_cycles : numbers.cycle < 2 ^ 62
   pub begun : numbers.begun ≡ v.begun

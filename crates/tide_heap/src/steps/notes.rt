@@ -35,7 +35,7 @@ pub struct Ticket {
     ghost run_is: { run ≡ seat.me.0.run },
     ghost marking_is: { marking ≡ seat.me.0.marks },
     ghost cycle_is: { cycle ≡ seat.me.0.cycle },
-    ghost base_is: { base ≡ seat.me.0.least },
+    ghost base_is: { base ≡ seat.me.0.mark_version },
     ghost few_cycles: { cycle < 2 ^ 62 },
 }
 
@@ -81,7 +81,7 @@ impl Ticket {
         requires run { run ≡ seat.me.0.run }
         requires marking { marking ≡ seat.me.0.marks }
         requires cycle { cycle ≡ seat.me.0.cycle }
-        requires base { base ≡ seat.me.0.least }
+        requires base { base ≡ seat.me.0.mark_version }
         requires few_cycles { cycle < 2 ^ 62 }
         ensures { result.seat ≡ seat }
     {
@@ -125,7 +125,7 @@ impl Ticket {
 
     /// The cycle from which on colours count: the last full one that began, or 1 before the first.
     pub fn base(&self) -> u64
-        ensures { result ≡ self.now.seat.me.0.least }
+        ensures { result ≡ self.now.seat.me.0.mark_version }
     {
         self.base
     }

@@ -39,12 +39,12 @@ module _ (layout : Layout) (shapes : ShapeLists) (v : View) (cell : ℕ) where
     grown = grows_none (duty.Barrier cell) owing w is;
   }
 
-  pub may_regrey : (word cycle : ℕ) → Owing layout v (duty.Regrey cell word) → is_black_in v.least word ≡ true →
+  pub may_regrey : (word cycle : ℕ) → Owing layout v (duty.Regrey cell word) → is_black_in v.mark_version word ≡ true →
       cell < cell_count layout → cycle ≡ v.cycle → MayStep layout shapes v (Regrey cell word cycle)
   may_regrey word cycle owing black within same w running is = record {
     runner = runs_there (duty.Regrey cell word) owing w is;
     owed = ap (λ (x : View). x.duty) is ∙ owing.duty;
-    black = ap (λ (x : View). is_black_in x.least word) is ∙ black;
+    black = ap (λ (x : View). is_black_in x.mark_version word) is ∙ black;
     within = within;
     in_cycle = same ∙ sym (ap (λ (x : View). x.cycle) is);
     grown = grows_none (duty.Regrey cell word) owing w is;
@@ -59,12 +59,12 @@ module _ (layout : Layout) (shapes : ShapeLists) (v : View) (cell : ℕ) where
 -- what each step leaves
 module _ (layout : Layout) (shapes : ShapeLists) (v u : View) (cell read : ℕ)
     (f : Follows layout shapes (LoadColour cell) v read u) where
-  pub looked_black : is_black_in v.least read ≡ true → u.duty ≡ duty.Regrey cell read
+  pub looked_black : is_black_in v.mark_version read ≡ true → u.duty ≡ duty.Regrey cell read
   looked_black is = ap (λ (x : View). x.duty) f.view
       ∙ ap (λ (b : Bool). if b then duty.Regrey cell read else duty.Nothing) is
 
   -- one that didn't find its cell black owes nothing more
-  pub looked_shaded : is_black_in v.least read ≡ false → HasShaded v u
+  pub looked_shaded : is_black_in v.mark_version read ≡ false → HasShaded v u
   looked_shaded isnt = record {
     shown = ap shown f.view;
     owed = ap (λ (x : View). x.owed) f.view;
@@ -84,7 +84,7 @@ owing_after layout v u before after owing same duty = record {
 -- a barrier that looked and found its cell black
 module _ (layout : Layout) (shapes : ShapeLists) (v u : View) (cell read cycle : ℕ)
     (owing : Owing layout v (duty.Barrier cell)) (f : Follows layout shapes (LoadColour cell) v read u)
-    (same_cycle : cycle ≡ v.cycle) (black : is_black_in v.least read ≡ true) where
+    (same_cycle : cycle ≡ v.cycle) (black : is_black_in v.mark_version read ≡ true) where
   pub cycle_still : cycle ≡ u.cycle
   cycle_still = same_cycle ∙ sym (ap (λ (x : View). x.cycle) f.view)
 
@@ -94,7 +94,7 @@ module _ (layout : Layout) (shapes : ShapeLists) (v u : View) (cell read cycle :
 
   pub may_regrey_it : cell < cell_count layout → MayStep layout shapes u (Regrey cell read cycle)
   may_regrey_it within = may_regrey layout shapes u cell read cycle looked_owing
-      (ap (λ (x : View). is_black_in x.least read) f.view ∙ black) within cycle_still
+      (ap (λ (x : View). is_black_in x.mark_version read) f.view ∙ black) within cycle_still
 
 -- a barrier that found its cell black still, and made it grey
 module _ (layout : Layout) (shapes : ShapeLists) (v u : View) (cell read cycle word : ℕ)

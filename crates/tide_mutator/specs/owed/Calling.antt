@@ -27,7 +27,7 @@ pub record Kept : Type 0 where
   pub run : ℕ
   pub marks : Bool
   pub cycle : ℕ
-  pub least : ℕ
+  pub mark_version : ℕ
   pub runs : Bool
   pub begun : ℕ
   pub visits : ℕ
@@ -45,7 +45,7 @@ kept v = record {
   run = v.run;
   marks = v.marks;
   cycle = v.cycle;
-  least = v.least;
+  mark_version = v.mark_version;
   runs = v.runs;
   begun = v.begun;
   visits = v.visits;

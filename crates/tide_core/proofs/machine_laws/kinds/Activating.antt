@@ -33,7 +33,7 @@ use Rattle.tide_words.specs.tide_layout.declared.region.Region.TheVariants as re
 module _ (layout : Layout) (shapes : ShapeLists) (w : World) (me : ℕ) (inside : me < parties)
     (wave : RunningWave layout shapes w) (parked : (w.part me).runs ≡ false)
     (of_part : (w.part me).ticket ≡ w.heap region.Period 0) (marks_are : (w.part me).marks ≡ is_marking w.heap)
-    (cycle_is : (w.part me).cycle ≡ running_cycle w.heap) (base_is : (w.part me).least ≡ base_cycle w.heap)
+    (cycle_is : (w.part me).cycle ≡ running_cycle w.heap) (base_is : (w.part me).mark_version ≡ base_cycle w.heap)
     (born visits races : ℕ) (fresh : ((w.part me).begun ≡ w.heap region.Period 0 → visits ≡ (w.part me).visits)) where
   abbrev later : View
   later = record (w.part me) {
@@ -218,7 +218,7 @@ activated v = elim (cases_eq v.begun v.ticket) [
 pub begin : (layout : Layout) (shapes : ShapeLists) (w : World) (me : ℕ) → me < parties → RunningWave layout shapes w →
     (w.part me).runs ≡ false → (w.part me).ticket ≡ w.heap region.Period 0 →
     (w.part me).marks ≡ is_marking w.heap → (w.part me).cycle ≡ running_cycle w.heap →
-    (w.part me).least ≡ base_cycle w.heap →
+    (w.part me).mark_version ≡ base_cycle w.heap →
     RunningWave layout shapes (record {
       heap = w.heap;
       part = put_at w.part me (begun_view (w.part me));

@@ -190,7 +190,7 @@ module _ (layout : Layout) (shapes : ShapeLists) (w : World) (me : ℕ) (inside 
     growth = refl;
     marks = refl;
     cycle = refl;
-    least = refl;
+    mark_version = refl;
     begun = refl;
     left = refl;
     sweeping = refl;

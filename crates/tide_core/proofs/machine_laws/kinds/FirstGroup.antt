@@ -45,7 +45,7 @@ split layout shapes w me inside wave may =
     let v = w.part me in
     load_same layout shapes w.heap region.Period 0 _ w.log
     (rest_step layout shapes w.heap w.part w.log me inside wave (parked_rests layout shapes w me wave may.stopped)
-    v.seen v.earlier v.told v.ticket v.ticket v.run v.cycle v.least v.marks (inl refl))
+    v.seen v.earlier v.told v.ticket v.ticket v.run v.cycle v.mark_version v.marks (inl refl))
 
 pub join : (layout : Layout) (shapes : ShapeLists) (w : World) (me : ℕ) → me < parties → RunningWave layout shapes w →
     (t : Ticket) → MayJoin w me t → RunningWave layout shapes (stepped layout shapes w me (Join t))

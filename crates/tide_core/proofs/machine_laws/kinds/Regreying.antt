@@ -251,7 +251,7 @@ module _ (layout : Layout) (shapes : ShapeLists) (w : World) (me : ℕ) (inside 
       RunningWave layout shapes (record {
         heap = h;
         part =
-            put_at w.part me (with_duty (w.part me) (if is_black_in (w.part me).least (w.heap region.Colour cell)
+            put_at w.part me (with_duty (w.part me) (if is_black_in (w.part me).mark_version (w.heap region.Colour cell)
             then duty.Regrey cell (w.heap region.Colour cell) else duty.Nothing));
         log =
             w.log;

@@ -58,7 +58,7 @@ module _ (layout : Layout) (shapes : ShapeLists) (heap : Heap) (part : ℕ → V
       run = run;
       marks = marks;
       cycle = cycle;
-      least = least;
+      mark_version = least;
       earlier = earlier;
       told = said;
       known = [];
@@ -217,7 +217,7 @@ module _ (layout : Layout) (shapes : ShapeLists) (heap : Heap) (part : ℕ → V
       growth = refl;
       marks = refl;
       cycle = refl;
-      least = refl;
+      mark_version = refl;
       begun = refl;
       period = refl;
       left = refl;
@@ -291,7 +291,7 @@ stop layout shapes heap part log me inside party wave runs rests word =
       };
     } in
     let after = rest_step layout shapes (write heap region.Stopped (index_of_stopped layout me) word) now log me inside
-    once (subst Rests (sym same) rests_so) v.seen v.earlier v.told v.period v.ticket v.run v.cycle v.least v.marks (inl refl) in
+    once (subst Rests (sym same) rests_so) v.seen v.earlier v.told v.period v.ticket v.run v.cycle v.mark_version v.marks (inl refl) in
     subst (λ (q : ℕ → View). RunningWave layout shapes (record {
       heap = write heap region.Stopped (index_of_stopped layout me) word;
       part = q;

@@ -181,7 +181,7 @@ module _ (layout : Layout) (shapes : ShapeLists) (w : World) (me : ℕ) (inside 
           marks = refl;
           cycle =
               refl;
-          least = refl;
+          mark_version = refl;
           begun = refl;
           period = refl;
           left = refl;
@@ -334,7 +334,7 @@ module _ (layout : Layout) (shapes : ShapeLists) (w : World) (me : ℕ) (inside 
           marks = refl;
           cycle =
               refl;
-          least = refl;
+          mark_version = refl;
           begun = refl;
           period = refl;
           left = refl;

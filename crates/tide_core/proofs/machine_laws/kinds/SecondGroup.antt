@@ -77,7 +77,7 @@ born_coloured layout shapes w me inside wave cell word may =
     (by (is_marking w.heap) refl)
   where
     told : ((w.part me).marks ≡ is_marking w.heap) × ((w.part me).cycle ≡ running_cycle w.heap) ×
-        ((w.part me).begun ≡ w.heap region.Period 0) × ((w.part me).least ≡ base_cycle w.heap)
+        ((w.part me).begun ≡ w.heap region.Period 0) × ((w.part me).mark_version ≡ base_cycle w.heap)
     told = wave.numbers.told me may.runner.runs
 
     by : (marks : Bool) → is_marking w.heap ≡ marks →

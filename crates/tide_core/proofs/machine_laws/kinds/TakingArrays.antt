@@ -586,7 +586,7 @@ module _ (layout : Layout) (shapes : ShapeLists) (limits : IsWithinLimits layout
     mine = refl;
     marks = refl;
     cycle = refl;
-    least = refl;
+    mark_version = refl;
     begun = refl;
     visits = refl;
     stopped = refl;

@@ -215,12 +215,12 @@ module _ (layout : Layout) (shapes : ShapeLists) (w : World) (me : ℕ) (inside 
   pub target_loaded : (cell : ℕ) → MayLoadTarget layout w me cell →
       RunningWave layout shapes (stepped layout shapes w me (LoadTarget cell))
   target_loaded cell may =
-      in_view may.scan may.is region.Colour cell (λ s. if is_marked_in (w.part me).least (w.heap region.Colour cell)
+      in_view may.scan may.is region.Colour cell (λ s. if is_marked_in (w.part me).mark_version (w.heap region.Colour cell)
       then still_open (record s { buffer = leave_out cell s.buffer; target = None })
       else Some record s { target = Some record { cell = cell; word = w.heap region.Colour cell } })
-      (by (is_marked_in (w.part me).least (w.heap region.Colour cell)) refl)
+      (by (is_marked_in (w.part me).mark_version (w.heap region.Colour cell)) refl)
     where
-      by : (b : Bool) → is_marked_in (w.part me).least (w.heap region.Colour cell) ≡ b →
+      by : (b : Bool) → is_marked_in (w.part me).mark_version (w.heap region.Colour cell) ≡ b →
           RunningWave layout shapes (record {
             heap = w.heap;
             part = put_at w.part me (record (w.part me) {

@@ -77,7 +77,7 @@ abbrev with_view : ℕ → View → World
 with_view who v = record busy { part = put_at newcomer who v }
 
 abbrev visitor : View
-visitor = record (newcomer 16) { runs = true; marks = true; cycle = 1; least = 1; begun = 1; ticket = 1; run = 16 }
+visitor = record (newcomer 16) { runs = true; marks = true; cycle = 1; mark_version = 1; begun = 1; ticket = 1; run = 16 }
 
 -- a cell made black that isn't held
 blacken-unheld : IsAllowed small no_shapes (with_view 16 visitor) 16 (Blacken 0 1) → ⊥

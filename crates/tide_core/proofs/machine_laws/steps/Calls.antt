@@ -128,7 +128,7 @@ module _ (layout : Layout) (shapes : ShapeLists) (old : Heap) (part : ℕ → Vi
     pub mine : w.mine ≡ (part me).mine ++ call_of me op reply took ∷ []
     pub marks : w.marks ≡ (part me).marks
     pub cycle : w.cycle ≡ (part me).cycle
-    pub least : w.least ≡ (part me).least
+    pub mark_version : w.mark_version ≡ (part me).mark_version
     pub begun : w.begun ≡ (part me).begun
     pub visits : w.visits ≡ (part me).visits
     pub stopped : w.stopped ≡ (part me).stopped
@@ -284,12 +284,12 @@ module _ (layout : Layout) (shapes : ShapeLists) (old : Heap) (part : ℕ → Vi
             sym (Growing.begin_count-push layout log (call_of me op reply took) refl);
         periods = s.period ∙ wave.numbers.periods ∙ sym (Growing.open_count-call log me op reply took);
         told = each_put (λ p u. u.runs ≡ true → (u.marks ≡ is_marking new) × (u.cycle ≡ running_cycle new) ×
-            (u.begun ≡ new region.Period 0) × (u.least ≡ base_cycle new)) part me w
+            (u.begun ≡ new region.Period 0) × (u.mark_version ≡ base_cycle new)) part me w
             (λ is. let t = wave.numbers.told me s.runs in (
               s.marks ∙ t.0 ∙ sym marking,
               s.cycle ∙ t.1 ∙ sym running,
               s.begun ∙ t.2 ∙ sym s.period,
-              s.least ∙ t.3 ∙ sym base,
+              s.mark_version ∙ t.3 ∙ sym base,
             ))
             (λ p is. let t = wave.numbers.told p is in
             (t.0 ∙ sym marking, t.1 ∙ sym running, t.2 ∙ sym s.period, t.3 ∙ sym base));

@@ -237,7 +237,7 @@ module _ (layout : Layout) (shapes : ShapeLists) (w : World) (me : ℕ) (inside 
       mine = refl;
       marks = refl;
       cycle = refl;
-      least = refl;
+      mark_version = refl;
       begun = refl;
       visits = refl;
       stopped = refl;

@@ -80,7 +80,7 @@ module _ (layout : Layout) (shapes : ShapeLists) (old : Heap) (part : ℕ → Vi
     growth = refl;
     marks = refl;
     cycle = refl;
-    least = refl;
+    mark_version = refl;
     begun = refl;
     period = s.period;
     left = refl;

@@ -146,7 +146,7 @@ module _ (layout : Layout) (shapes : ShapeLists) (w : World) (me : ℕ) (inside 
     }
 
     told_now : (p : ℕ) → (w.part p).runs ≡ true → ((w.part p).marks ≡ is_marking new) × ((w.part p).cycle ≡ running_cycle new) ×
-        ((w.part p).begun ≡ new region.Period 0) × ((w.part p).least ≡ base_cycle new)
+        ((w.part p).begun ≡ new region.Period 0) × ((w.part p).mark_version ≡ base_cycle new)
     told_now p is = let t = wave.numbers.told p is in
         (t.0 ∙ sym marking, t.1 ∙ sym running, t.2 ∙ sym (s.same region.Period 0 refl), t.3 ∙ sym base)
 
@@ -203,7 +203,7 @@ module _ (layout : Layout) (shapes : ShapeLists) (w : World) (me : ℕ) (inside 
             let none = ap {B = ℕ} (λ (b : Bool). if b then 1 else 0) no_open in
             let was = wave.numbers.periods in let p = s.same region.Period 0 refl in omega (arith, counted, none, was, p));
         told = each_put (λ p u. u.runs ≡ true → (u.marks ≡ is_marking new) × (u.cycle ≡ running_cycle new) ×
-            (u.begun ≡ new region.Period 0) × (u.least ≡ base_cycle new)) w.part me entry_view (told_now me) told_now;
+            (u.begun ≡ new region.Period 0) × (u.mark_version ≡ base_cycle new)) w.part me entry_view (told_now me) told_now;
         begun = each_put (λ p u. u.begun ≤ new region.Period 0) w.part me entry_view
             (let b = wave.numbers.begun me in let e = s.same region.Period 0 refl in omega (arith, b, e))
             (λ p. let b = wave.numbers.begun p in let e = s.same region.Period 0 refl in omega (arith, b, e));

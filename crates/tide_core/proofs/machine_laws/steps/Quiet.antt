@@ -71,7 +71,7 @@ module _ (layout : Layout) (shapes : ShapeLists) (old : Heap) (part : ℕ → Vi
     pub growth : w.growth ≡ (part me).growth
     pub marks : w.marks ≡ (part me).marks
     pub cycle : w.cycle ≡ (part me).cycle
-    pub least : w.least ≡ (part me).least
+    pub mark_version : w.mark_version ≡ (part me).mark_version
     pub begun : w.begun ≡ (part me).begun
     pub left : w.left ≡ (part me).left
     pub sweeping : w.sweeping ≡ (part me).sweeping
@@ -215,7 +215,7 @@ module _ (layout : Layout) (shapes : ShapeLists) (old : Heap) (part : ℕ → Vi
           (λ block. s.words region.Dead block refl) (λ p at index word is. s.words at index
           (unsettled_read layout old (part p) at index word (wave.sweeps.named.stands p) is)) s.sweeping s.saw s.cleared
           s.left wave.sweeps;
-      told = λ is. (let t = wave.numbers.told me s.ran in (s.marks ∙ t.0, s.cycle ∙ t.1, s.begun ∙ t.2, s.least ∙ t.3));
+      told = λ is. (let t = wave.numbers.told me s.ran in (s.marks ∙ t.0, s.cycle ∙ t.1, s.begun ∙ t.2, s.mark_version ∙ t.3));
       calls = s.calls;
       stops = s.stops;
       empties = λ is. (let runs = s.runs in absurd (cc));

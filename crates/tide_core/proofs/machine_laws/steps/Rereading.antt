@@ -73,7 +73,7 @@ module _ (layout : Layout) (shapes : ShapeLists) (w : World) (me : ℕ) (inside 
     marks = refl;
     cycle =
         refl;
-    least = refl;
+    mark_version = refl;
     begun = refl;
     period = refl;
     left = refl;

@@ -77,7 +77,7 @@ module _ (layout : Layout) (shapes : ShapeLists) (old : Heap) (part : ℕ → Vi
     pub finds : (block moment word : ℕ) → Contains w.full (found block moment word) → (window_start me log ≤ moment) ×
         (moment ≤ length log) × FreeIsShown layout (state_at layout log moment) block word
     pub told : w.runs ≡ true → (w.marks ≡ is_marking old) × (w.cycle ≡ running_cycle old) ×
-        (w.begun ≡ old region.Period 0) × (w.least ≡ base_cycle old)
+        (w.begun ≡ old region.Period 0) × (w.mark_version ≡ base_cycle old)
     pub begins : w.begun ≤ old region.Period 0
     pub left : w.left ≡ (part me).left
     pub calls : CallsAreTold layout new (put_at part me w)
@@ -221,7 +221,7 @@ module _ (layout : Layout) (shapes : ShapeLists) (old : Heap) (part : ℕ → Vi
         cycles = running ∙ wave.numbers.cycles;
         periods = s.period ∙ wave.numbers.periods;
         told = each_put (λ p u. u.runs ≡ true → (u.marks ≡ is_marking new) × (u.cycle ≡ running_cycle new) ×
-            (u.begun ≡ new region.Period 0) × (u.least ≡ base_cycle new)) part me w
+            (u.begun ≡ new region.Period 0) × (u.mark_version ≡ base_cycle new)) part me w
             (λ is. let t = s.told is in (t.0 ∙ sym marking, t.1 ∙ sym running, t.2 ∙ sym s.period, t.3 ∙ sym base))
             (λ p is. let t = wave.numbers.told p is in
             (t.0 ∙ sym marking, t.1 ∙ sym running, t.2 ∙ sym s.period, t.3 ∙ sym base));

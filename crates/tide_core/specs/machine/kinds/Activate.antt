@@ -30,4 +30,4 @@ pub record MayActivate (w : World) (me : ℕ) : Type 0 where
   pub of_part : (w.part me).ticket ≡ w.heap region.Period 0
   pub marks : (w.part me).marks ≡ is_marking w.heap
   pub cycle : (w.part me).cycle ≡ running_cycle w.heap
-  pub based : (w.part me).least ≡ base_cycle w.heap
+  pub based : (w.part me).mark_version ≡ base_cycle w.heap

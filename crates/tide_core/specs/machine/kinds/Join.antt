@@ -21,7 +21,7 @@ joined_view t v = record (resting_view v) {
   run = t.run;
   marks = t.marks;
   cycle = t.cycle;
-  least = t.base;
+  mark_version = t.base;
 }
 
 -- the ticket is of the open part and tells its phase and base, and what it tells of the history is as much as the

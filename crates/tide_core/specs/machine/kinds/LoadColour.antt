@@ -11,7 +11,7 @@ use Rattle.tide_core.specs.declared.machine.view.Duty.TheVariants as duty
 -- where the cell is black it has to be made grey again; else no more is owed
 abbrev pub coloured_view : ℕ → ℕ → View → View
 coloured_view cell read v =
-    record v { duty = if is_black_in v.least read then duty.Regrey cell read else duty.Nothing }
+    record v { duty = if is_black_in v.mark_version read then duty.Regrey cell read else duty.Nothing }
 
 -- the barrier on the cell is owed, and the cell's growth is over
 pub record MayLoadColour (layout : Layout) (w : World) (me cell : ℕ) : Type 0 where

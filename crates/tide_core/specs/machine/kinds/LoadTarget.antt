@@ -11,7 +11,7 @@ use Rattle.tide_words.specs.forms.ColourWord.{is_marked_in}
 -- a marked cell leaves the buffer; an unmarked one is to be marked over the word that was read
 abbrev pub target_view : ℕ → ℕ → View → View
 target_view cell read v = record v {
-  scan = in_scan v.scan (λ s. if is_marked_in v.least read
+  scan = in_scan v.scan (λ s. if is_marked_in v.mark_version read
       then still_open (record s { buffer = leave_out cell s.buffer; target = None })
       else Some record s { target = Some record { cell = cell; word = read } });
 }

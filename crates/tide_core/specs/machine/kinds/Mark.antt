@@ -23,5 +23,5 @@ pub record MayMark (layout : Layout) (w : World) (me cell old cycle : ℕ) : Typ
   pub agreed : scan.agreed ≡ true
   pub has : Contains scan.buffer cell
   pub target : scan.target ≡ Some record { cell = cell; word = old }
-  pub white : is_marked_in (w.part me).least old ≡ false
+  pub white : is_marked_in (w.part me).mark_version old ≡ false
   pub in_cycle : cycle ≡ (w.part me).cycle

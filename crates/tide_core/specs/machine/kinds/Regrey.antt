@@ -17,7 +17,7 @@ regreyed_view cell old read v =
 pub record MayRegrey (layout : Layout) (w : World) (me cell old cycle : ℕ) : Type 0 where
   pub runner : RunsAsMutator layout w me
   pub owed : (w.part me).duty ≡ duty.Regrey cell old
-  pub black : is_black_in (w.part me).least old ≡ true
+  pub black : is_black_in (w.part me).mark_version old ≡ true
   pub within : cell < cell_count layout
   pub in_cycle : cycle ≡ (w.part me).cycle
   pub grown : GrowsOn (w.part me).growth cell → ⊥

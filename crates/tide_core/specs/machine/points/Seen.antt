@@ -30,7 +30,7 @@ pub record NumbersRead (heap : Heap) (part : ℕ → View) (log : List Event) : 
   pub periods : heap region.Period 0 ≡ open_count log
   pub told : (p : ℕ) → (part p).runs ≡ true → ((part p).marks ≡ is_marking heap)
       × ((part p).cycle ≡ running_cycle heap) × ((part p).begun ≡ heap region.Period 0)
-      × ((part p).least ≡ base_cycle heap)
+      × ((part p).mark_version ≡ base_cycle heap)
   pub begun : (p : ℕ) → (part p).begun ≤ heap region.Period 0
 
 -- each mutator's call word tells as many calls as its view says, as far as a word can

@@ -37,7 +37,7 @@ invariant_of-self g c =
       run_is = s.run_is ∙ (λ i. (sym e i).run);
       marking_is = s.marking_is ∙ (λ i. (sym e i).marks);
       cycle_is = s.cycle_is ∙ (λ i. (sym e i).cycle);
-      base_is = s.base_is ∙ (λ i. (sym e i).least);
+      base_is = s.base_is ∙ (λ i. (sym e i).mark_version);
       few_cycles = s.few_cycles;
       born_is = s.born_is ∙ (λ i. (sym e i).births % 2 ^ 32);
       told = λ running. (let clash : true ≡ false = sym ((λ i. (e i).frozen) ∙ c.requires.frozen) ∙ running in absurd (cc));

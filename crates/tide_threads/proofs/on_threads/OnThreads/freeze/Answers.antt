@@ -35,7 +35,7 @@ returns c =
     let pace = pace_on self in
     let run = c.in_ok-next.next in
     record {
-      ran = RanFreeze-collected layout shapes pace c.args.is_must v w run e.collected c.requires.settled;
+      ran = RanFreeze-collected layout shapes pace c.args.is_forced v w run e.collected c.requires.settled;
       stands = record {
         of_heap = e.own ∙ stands.of_heap;
         still = e.collected.still;
@@ -43,12 +43,12 @@ returns c =
         told = longer_report_tells layout v.seen w.seen self.books.report c.collect.new.books.report stands.told e.books.told;
         all = record {
           one_each = stands.all.one_each;
-          each = λ at x found. StandsBy-collected layout shapes pace c.args.is_must v w run e.collected
+          each = λ at x found. StandsBy-collected layout shapes pace c.args.is_forced v w run e.collected
               self.heap.table.shared.table_id at _ (stands.all.each at x found);
         };
         no_calls = stands.no_calls;
       };
       pacing = e.books.pacing;
       callers = refl;
-      opens = MayOpenPart-collected layout shapes pace c.args.is_must v w run e.collected;
+      opens = MayOpenPart-collected layout shapes pace c.args.is_forced v w run e.collected;
     }
