@@ -2,7 +2,8 @@
 //! with participants that are held where they are told to, and lists of workloads that come to the same each way.
 //!
 //! `facts` draws workloads, hostile ones, and judges their texts; `ends` has rows of sources and sinks alone. It knows
-//! no program, and reads no file: `checks` calls it for the lines of its input, and hands it the rows and the workloads.
+//! no program, and reads no file: `checks` calls it for the lines of its input, and hands it the rows and the
+//! workloads.
 #![tactic(auto)]
 
 mod answering;

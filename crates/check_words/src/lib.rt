@@ -1,9 +1,9 @@
 //! The checks of what needs no thread: the plain store, heaps of words that are marked and collected, and snapshots of
 //! them, compared with what is expected.
 //!
-//! `plain` makes calls on plain stores and collects them, `marking` marks heaps of words and runs single constraints and
-//! whole cycles, and `snapshot` takes snapshots. It knows no program, and reads no file: `checks` calls it for the lines
-//! of its input, and hands it the rows.
+//! `plain` makes calls on plain stores and collects them, `marking` marks heaps of words and runs single constraints
+//! and whole cycles, and `snapshot` takes snapshots. It knows no program, and reads no file: `checks` calls it for the
+//! lines of its input, and hands it the rows.
 #![tactic(auto)]
 
 mod plain;

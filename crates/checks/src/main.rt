@@ -4,23 +4,23 @@
 //! A line begins with a word that says which library makes its check. What stands behind it says which one, and is told
 //! there. A word that ends in `.txt` is the name of a file, and the library is given the text of that in its place:
 //!
-//! - `plain CHECK`: on plain stores and shapes (`check_plain`).
-//! - `marking CHECK`: on heaps of words that are marked and collected (`check_marking`).
+//! - `plain CHECK`: on plain stores and shapes (`check_words`).
+//! - `marking CHECK`: on heaps of words that are marked and collected (`check_words`).
 //! - `table CHECK`: on the table of words that threads share (`check_table`).
-//! - `snapshot CHECK`: on snapshots of heaps of words (`check_snapshot`).
+//! - `snapshot CHECK`: on snapshots of heaps of words (`check_words`).
 //! - `facts SETTINGS MEETINGS SEED COUNT`: the texts of so many workloads, from this seed on, which are drawn from
-//!   these files, and judged (`check_facts`).
+//!   these files, and judged (`check_runs`).
 //! - `counts SETTINGS MEETINGS SEED COUNT`: the same, and tells how much the texts had.
 //! - `runs ROWS WORKLOADS MADE`: rows of runs whose source and sinks fail where they are told to, and whose
 //!   participants are held where they are told to, of the workloads of a list, and of the generated one whose summary
 //!   is MADE (`check_runs`).
-//! - `drains ROWS`: rows of cycles that a visitor marks beside a mutator (`check_drains`).
+//! - `drains ROWS`: rows of cycles that a visitor marks beside a mutator (`check_threads`).
 //! - `ways WORKLOADS`: a list of workloads, each of which comes to the same each way that it is run (`check_runs`).
-//! - `ends ROWS`: rows of sources and sinks alone (`check_ends`).
-//! - `shapes CHECK`: on tables of shapes that threads grow (`check_shapes`).
+//! - `ends ROWS`: rows of sources and sinks alone (`check_runs`).
+//! - `shapes CHECK`: on tables of shapes that threads grow (`check_threads`).
 //! - `embed`: two mutators on a heap of their own, each of which finds what it stored (`embed_heap`).
-//! - `embed shapes`: a heap over a table that two threads grew, whose mutator adds properties (`embed_shapes`).
-//! - `embed visitor`: a cycle that a visitor marks beside a mutator, and what it keeps (`embed_visitor`).
+//! - `embed shapes`: a heap over a table that two threads grew, whose mutator adds properties (`embed_heap`).
+//! - `embed visitor`: a cycle that a visitor marks beside a mutator, and what it keeps (`embed_heap`).
 //!
 //! Of each check it prints what ended otherwise than expected, once the check is over, and then a line. Where one was
 //! not as expected, the status is 1. The workloads and the refused documents of its folder `data` are run by

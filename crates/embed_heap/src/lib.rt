@@ -1,8 +1,9 @@
 //! Callers of one's own of the heap that threads share: two mutators, a visitor beside one, and a heap over shapes that
 //! threads grew.
 //!
-//! It is a library that a program hands its runtime: `fn main(rt: HostRuntime)` calls `both_find_seven(&rt, rt.alloc())`,
-//! `four_are_kept` or `adds_in_order`. A program of one's own may begin as a copy of one of the three folders.
+//! It is a library that a program hands its runtime: `fn main(rt: HostRuntime)` calls
+//! `both_find_seven(&rt, rt.alloc())`, `four_are_kept` or `adds_in_order`. A program of one's own may begin as a copy
+//! of one of the three folders.
 #![tactic(auto)]
 
 mod two_mutators;

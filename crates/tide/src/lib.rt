@@ -1,10 +1,10 @@
 //! The one door: all that a program of one's own calls to have a heap with a proved collector, under one name, and what
 //! the clauses of these calls cite.
 //!
-//! `Start` makes a heap of a `Layout` over `Shapes`, its `Collector`, and a `Pass` for each participant. A `Mutator` makes
-//! calls of it, a `Visitor` marks beside them, and the collector opens and freezes parts and keeps `Books`. Shapes may be
-//! grown by threads before (`GrowShapes`). The definitions that contracts cite are those of the rooms below, each under
-//! its room's name: `Rattle.tide.specs.tide_model.Lawful` is `Lawful` of `tide_model`.
+//! `Start` makes a heap of a `Layout` over `Shapes`, its `Collector`, and a `Pass` for each participant. A `Mutator`
+//! makes calls of it, a `Visitor` marks beside them, and the collector opens and freezes parts and keeps `Books`.
+//! Shapes may be grown by threads before (`GrowShapes`). The definitions that contracts cite are those of the rooms
+//! below, each under its room's name: `Rattle.tide.specs.tide_model.Lawful` is `Lawful` of `tide_model`.
 //!
 //! It has no code of its own.
 #![tactic(auto)]

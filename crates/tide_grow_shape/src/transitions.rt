@@ -1,7 +1,7 @@
 //! What is read of the cells of a table of shapes that several threads grow at once.
 //!
-//! A table's shapes are items of a vector of `boxcar`, and each has two cells that are set once: `Cells`. Who reads a
-//! cell keeps a `Sight` of it, with the tokens that show it; `Sights` are those of one grower. A walk over them comes
+//! A table's shapes are items of a vector of `boxcar`, and each has two cells that are set once: `Cells`. A reader
+//! keeps what it saw of an entry, with the proof (`Sight`); `Sights` are those of one grower. A walk over them comes
 //! to a shape's child by a key, which it makes where there is none. `growers` stands on it. It knows no list of
 //! keys.
 

@@ -8,14 +8,15 @@
 #![tactic(auto)]
 
 mod calls;
+mod sink;
+mod source;
+// over those above it
 mod gathering;
 mod mem_sink;
 mod mem_source;
 mod reading;
 mod real_sink;
 mod real_source;
-mod sink;
-mod source;
 mod writing;
 
 pub use gathering::{Gathered, PIECE};

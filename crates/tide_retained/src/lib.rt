@@ -6,10 +6,11 @@
 //! cycle and no text.
 #![tactic(auto)]
 
-mod contents;
 pub mod laws;
 mod root;
 mod values;
+// over those above it
+mod contents;
 // over those above it
 mod index;
 mod roots;

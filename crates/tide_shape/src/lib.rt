@@ -1,8 +1,8 @@
 //! Shapes: the lists of property keys that a cell may have, and the next shape by a key.
 //!
 //! A workload declares paths of keys, and the shapes are the beginnings of these paths. `ShapeTable` is what the
-//! crates above use of them, and its contracts speak of nothing but the list of keys of each shape. `Shapes` is
-//! the table that is made of declared paths. The crate stands on tide_model alone.
+//! rooms above use of them, and its contracts speak of nothing but the list of keys of each shape. `Shapes` is
+//! the table that is made of declared paths. It knows no cell and no word.
 #![tactic(auto)]
 
 mod capacities;

@@ -2,8 +2,8 @@
 //!
 //! `take` reads words that stand still, over any `Words`, and keeps what they say; `Snapshot::distance`, `is_live` and
 //! `write_cell` answer from that: how far a cell is from a root, and its line, with a path than which none is shorter;
-//! `write_lines` writes the lines of all that are live. The crate knows no thread, no run and no cycle. It stands on
-//! `tide_retained`, which finds the paths, and on `tide_text` and `tide_io` for the lines.
+//! `write_lines` writes the lines of all that are live. It may touch `tide_retained`, which finds the paths,
+//! text and sinks, and knows no thread, no run and no cycle.
 #![tactic(auto)]
 
 mod writing;

@@ -1,12 +1,12 @@
 //! Workloads and runs, as data and as text.
 //!
-//! `work` says what a workload is, which operation a text is, and what is wrong with bytes that are no workload. `lines`
-//! composes the lines of a run and of a fault on the stack. Above them are the text of a run, line by line, its summary,
-//! and the line of a fault, as `text_of`, `summary_of` and `fault_line` of specs/ say; `texts_read_back` says that what
-//! is printed of an operation reads as that operation.
+//! `work` says what a workload is, which operation a text is, and what is wrong with bytes that are no workload.
+//! `lines` composes the lines of a run and of a fault on the stack. Above them are the text of a run, line by line, its
+//! summary, and the line of a fault, as `text_of`, `summary_of` and `fault_line` of specs/ say; `texts_read_back` says
+//! that what is printed of an operation reads as that operation.
 //!
-//! It may touch what an operation is, shapes and sinks. It takes no memory for a line, and knows nothing of the document
-//! that a workload is read from. Users name it by `tide_workload`, which reads the document.
+//! It may touch what an operation is, shapes and sinks. It takes no memory for a line, and knows nothing of the
+//! document that a workload is read from. Users name it by `tide_workload`, which reads the document.
 #![tactic(auto)]
 
 mod work;
