@@ -12,7 +12,7 @@
 - In docs/WHY.md a block of text says what bench/why.py prints of that page's workload with the lines that it begins with,
   or of what the command behind its `$` prints; and each line that WORKLOAD.md tells of a refused file is in one of them.
   That the lines with which it ends mend it, bench/why_test.py tests.
-- In the pages of CODE a function or a definition that is named behind a file, as `tide_paying/src/barrier.rt`: `shade`, is
+- In the pages of CODE a function or a definition that is named behind a file, as `tide_mutator/src/owed/barrier.rt`: `shade`, is
   there, and so is a clause behind a function and its crate, as `pause` of `tide_cycle`: `reached`.
 - The fields and operations of docs/WORKLOAD.md, with their limits and operands, are those that bench/why.py has.
 - A block that begins with `mutators` is a summary that a run is compared with, and one that begins with `cell #` is the

@@ -6,8 +6,9 @@
 
 - docs/DEFINITIONS.md: docs/reading-order.md, then each definition of specs/ that has a comment above it: those that the
   clauses of the top call `riptide` rest on, and then the others, crate by crate.
-- docs/MAP.md, between `<!-- map -->` and `<!-- end of map -->`: the crates by layers, from crates.txt and the first
-  sentence of each crate's root file.
+- docs/MAP.md, between `<!-- rooms -->` and `<!-- end of rooms -->`: a picture of the crates by layers, with the folders
+  of each; between `<!-- map -->` and `<!-- end of map -->`: the same as tables, from crates.txt and the first sentence of
+  each crate's root file.
 - docs/GATE.md, between `<!-- sizes -->` and `<!-- end of sizes -->`: the size of each crate. The columns of seconds are
   those of docs/seconds.txt, which docs/seconds.py measures.
 
@@ -36,6 +37,7 @@ GHOST_USE = re.compile(r"ghost use (Rattle\.[\w.]+?)\.?\{([^}]*)\}")
 HEAD = re.compile(r"^((?:abbrev |unfoldable |inline |pub |record |data )*)([^\s:(){}]+)\s*(?=[:({]|$)")
 MODULE = re.compile(r"^(?:pub(?:\(crate\))? )?mod (\w+);", re.M)
 HANDED_ON = re.compile(r"^pub(?:\(crate\))? use (\w+)::(?:(\w+)|\{([^}]*)\});", re.M)
+HANDED_ROOM = re.compile(r"^Rattle\..*\.(tide_\w+)")
 IN_CODE = re.compile(r"\bcrate((?:::\w+)*)(?:::\{([^{}]*)\})?")
 IN_SPECS = re.compile(r"\bRattle\.(\w+)\.specs\.(?:declared\.)?([\w.]*)")
 FUNCTION = re.compile(r"^\s*(?:pub(?:\(crate\))? )?(?:const )?fn ", re.M)
@@ -243,8 +245,8 @@ def sentence(lines):
 
 
 def names_of(module, listed):
-    """What each name of a list in braces stands for: the module and its name there."""
-    found = {}
+    """What each name of a list in braces stands for: the module, whichever crate hands it on, and its name there."""
+    found, module = {}, HANDED_ROOM.sub(r"Rattle.\1.specs", module)
     for item in filter(None, (item.strip() for item in listed.split(","))):
         there, _, here = item.partition(" as ")
         found[(here or there).strip()] = (module, there.strip())
@@ -371,7 +373,30 @@ def first_sentence(crate):
     return ""
 
 
-def map_of_crates(_):
+def folders_of(crate):
+    """The modules of a crate that have a folder of their own, lowest first."""
+    top = TOP / "crates" / crate / "src"
+    roots = [path for path in (top / "lib.rt", top / "main.rt") if path.exists()]
+    return [name for path in roots for name in MODULE.findall(path.read_text()) if (top / name).is_dir()]
+
+
+def picture_of_rooms():
+    """The crates as a picture of layers, the lowest on top, with the folders of each in brackets."""
+    lines = []
+    for says, here in layers():
+        line, head = "", re.match(r"(?:the )?(\w+)", says).group(1)
+        for name, _ in here:
+            folders = " ".join(folders_of(name))
+            room = f"{name} ({folders})" if folders else name
+            if line and len(line) + len(room) > 90:
+                lines.append(f"{head:10}  {line}")
+                line, head = "", ""
+            line = f"{line}  {room}".strip()
+        lines.append(f"{head:10}  {line}")
+    return "```\n" + "\n".join(lines) + "\n```"
+
+
+def map_of_crates():
     lines = []
     for says, here in layers():
         lines += [f"**{says[0].upper()}{says[1:]}**", "", "| Crate | What it is | Stands on |", "|---|---|---|"]
@@ -388,7 +413,7 @@ def measured():
     return {name: seconds for name, *seconds in rows if len(seconds) == 3}
 
 
-def sizes(_):
+def sizes():
     """The size of each crate, and what it took of the processor when that was last measured."""
     seconds = measured()
     lines = ["| Crate | Lines of code | Functions | Lines of specs and proofs | Edits | Proof, s | Running, s | Edits, s |"]
@@ -404,23 +429,24 @@ def sizes(_):
     return "\n".join(lines)
 
 
-def between(path, name, write):
-    """A page with what stands between two of its lines written anew."""
-    begin, end = f"<!-- {name} -->\n\n", f"\n\n<!-- end of {name} -->"
+def between(path, parts):
+    """A page with each part that stands between two of its lines written anew."""
     text = path.read_text()
-    if begin not in text or end not in text:
-        sys.exit(f"{path.name} has no place for {name}")
-    before, rest = text.split(begin, 1)
-    old, after = rest.split(end, 1)
-    return before + begin + write(old) + end + after
+    for name, written in parts.items():
+        begin, end = f"<!-- {name} -->\n\n", f"\n\n<!-- end of {name} -->"
+        if begin not in text or end not in text:
+            sys.exit(f"{path.name} has no place for {name}")
+        before, rest = text.split(begin, 1)
+        text = before + begin + written + end + rest.split(end, 1)[1]
+    return text
 
 
 def pages():
     plan, gate = TOP / "docs" / "MAP.md", TOP / "docs" / "GATE.md"
     return {
         TOP / "docs" / "DEFINITIONS.md": definitions_page(),
-        plan: between(plan, "map", map_of_crates),
-        gate: between(gate, "sizes", sizes),
+        plan: between(plan, {"rooms": picture_of_rooms(), "map": map_of_crates()}),
+        gate: between(gate, {"sizes": sizes()}),
     }
 
 
