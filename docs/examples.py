@@ -12,14 +12,15 @@
 - In docs/WHY.md a block of text says what bench/why.py prints of that page's workload with the lines that it begins with,
   or of what the command behind its `$` prints; and each line that WORKLOAD.md tells of a refused file is in one of them.
   That the lines with which it ends mend it, bench/why_test.py tests.
-- In the pages of CODE a function or a definition that is named behind a file, as `tide_paying/src/barrier.rt`: `shade`, is
+- In the pages of CODE a function or a definition that is named behind a file, as `tide_mutator/src/owed/barrier.rt`: `shade`, is
   there, and so is a clause behind a function and its crate, as `pause` of `tide_cycle`: `reached`.
 - The fields and operations of docs/WORKLOAD.md, with their limits and operands, are those that bench/why.py has.
 - A block that begins with `mutators` is a summary that a run is compared with, and one that begins with `cell #` is the
   lines of a run with a snapshot.
 - A line on the error output, as `riptide: not TOML`, is one that a refused input or a run that fails is compared with.
 
-It also tells which links of the pages lead nowhere, and which files that they name below crates/ aren't there.
+It also tells which links of the pages lead nowhere, to a file or to a heading, which files that they name below crates/
+aren't there, and which crates.
 """
 import re
 import subprocess
@@ -186,18 +187,38 @@ def code_differs(name):
                     yield f"{name}: {function} of {crate} has no clause {clause}"
 
 
+def anchors_of(page):
+    """The anchors of a page's headings: what stands there in small letters, with a line for each space."""
+    heads = re.findall(r"^#+ (.*)$", page.read_text(), re.M)
+    return {re.sub(r"[^\w -]", "", head).strip().lower().replace(" ", "-") for head in heads}
+
+
+def links_differ(page, text):
+    """The links of a page that lead to no file, or to no heading of one."""
+    for link, anchor in re.findall(r"\]\(([^()#:]*)(?:#([^()]*))?\)", text):
+        there = page.parent / link if link else page
+        if not there.exists():
+            yield f"{page.relative_to(TOP)}: no file {link}"
+        elif anchor and there.suffix == ".md" and anchor not in anchors_of(there):
+            yield f"{page.relative_to(TOP)}: no heading {anchor} in {there.name}"
+
+
 def paths_differ():
-    """The links of all pages, and the files that they name by a crate's folder."""
+    """The links of all pages, the files that they name by a crate's folder, and the crates that they name."""
     folders = [TOP / "crates", *(TOP / "crates").iterdir()]
+    known = {folder.name for folder in folders}
     pages = [TOP / "README.md", *(TOP / "docs").glob("*.md"), *(TOP / "crates").glob("*/README.md")]
     for page in sorted(pages):
         text = page.read_text()
-        for link in re.findall(r"\]\(([^()#:]+)(?:#[^()]*)?\)", text):
-            if not (page.parent / link).exists():
-                yield f"{page.relative_to(TOP)}: no file {link}"
+        yield from links_differ(page, text)
         for path in re.findall(r"`((?:\w+/)?(?:src|specs|proofs|data)/[\w/]+\.\w+)`", text):
             if "NAME" not in path and not any((folder / path).exists() for folder in folders):
                 yield f"{page.relative_to(TOP)}: no file {path} in crates/"
+        for path in re.findall(r"`(crates/[\w/.-]*\w)/?`", text):
+            if not re.search("NAME|CRATE|/X|/out/", path) and not (TOP / path).exists():
+                yield f"{page.relative_to(TOP)}: no file {path}"
+        for name in set(re.findall(r"`((?:tide|embed)_\w+)(?:::\w+)*`", text)) - known - {"tide_NAME"}:
+            yield f"{page.relative_to(TOP)}: no crate {name}"
 
 
 def main():

@@ -6,15 +6,21 @@
 
 - docs/DEFINITIONS.md: docs/reading-order.md, then each definition of specs/ that has a comment above it: those that the
   clauses of the top call `riptide` rest on, and then the others, crate by crate.
-- docs/MAP.md, between `<!-- map -->` and `<!-- end of map -->`: the crates by layers, from crates.txt and the first
-  sentence of each crate's root file.
+- docs/MAP.md, between `<!-- rooms -->` and `<!-- end of rooms -->`: a picture of the crates by layers, with the folders
+  of each; between `<!-- map -->` and `<!-- end of map -->`: the same as tables, from crates.txt and the first sentence of
+  each crate's root file.
 - docs/GATE.md, between `<!-- sizes -->` and `<!-- end of sizes -->`: the size of each crate. The columns of seconds are
   those of docs/seconds.txt, which docs/seconds.py measures.
 
-It also refuses a crates.txt in which a crate stands above one that it stands on, a README.md of a crate that names
-others than crates.txt under "What it stands on", a reading order that names a definition that the clauses of `riptide`
-don't rest on, or leaves out a fact (a name in CamelCase) that they do, an edit that doesn't fit its file any more, and a
-table of edits in docs/GATE.md that names others than the files of must-fail.
+It prints how many ways lead through crates.txt, and also refuses
+
+- a crates.txt in which a crate stands above one that it stands on, or through which too many ways lead,
+- a module of a crate, in src/ or specs/, that names one that is listed after it, beside it in lib.rt or in the file of
+  the module around both,
+- a reading order that names a definition that the clauses of `riptide` don't rest on, or leaves out a fact (a name in
+  CamelCase) that they do,
+- an edit that doesn't fit its file any more, and a table of edits in docs/GATE.md that names others than the files of
+  must-fail.
 """
 import re
 import sys
@@ -23,11 +29,17 @@ from dataclasses import dataclass
 from pathlib import Path
 
 TOP = Path(__file__).resolve().parent.parent
-TOP_CRATE, TOP_CALL = "tide_run", "riptide"
+TOP_CRATE, TOP_CALL, PROGRAM = "tide_run", "riptide", "riptide"
+MOST_WAYS, MOST_WAYS_OF_PROGRAM = 20_000, 1_500
 NAME = re.compile(r"[^\W\d][\w'-]*|◌\S+◌")
 USE = re.compile(r"^(?:unfoldable )?(pub )?use (Rattle\.[\w.]+?)\.?\{([^}]*)\}", re.M)
 GHOST_USE = re.compile(r"ghost use (Rattle\.[\w.]+?)\.?\{([^}]*)\}")
 HEAD = re.compile(r"^((?:abbrev |unfoldable |inline |pub |record |data )*)([^\s:(){}]+)\s*(?=[:({]|$)")
+MODULE = re.compile(r"^(?:pub(?:\(crate\))? )?mod (\w+);", re.M)
+HANDED_ON = re.compile(r"^pub(?:\(crate\))? use (\w+)::(?:(\w+)|\{([^}]*)\});", re.M)
+HANDED_ROOM = re.compile(r"^Rattle\..*\.(tide_\w+)")
+IN_CODE = re.compile(r"\bcrate((?:::\w+)*)(?:::\{([^{}]*)\})?")
+IN_SPECS = re.compile(r"\bRattle\.(\w+)\.specs\.(?:declared\.)?([\w.]*)")
 FUNCTION = re.compile(r"^\s*(?:pub(?:\(crate\))? )?(?:const )?fn ", re.M)
 UNKNOWN = "—"
 
@@ -56,16 +68,22 @@ def crates():
     return [name for _, here in layers() for name, _ in here]
 
 
-def readmes_differ():
-    """The crates whose README.md names others, first thing under its last heading, than crates.txt has for them."""
-    here = [(name, below) for _, crates_of_layer in layers() for name, below in crates_of_layer]
-    known = {name for name, _ in here} | {other for _, below in here for other in below}
-    for name, below in here:
-        path = TOP / "crates" / name / "README.md"
-        text = path.read_text() if path.exists() else ""
-        said = re.search(r"## What it stands on\n\n(.*)", text)
-        if not said or set(re.findall(r"`(\w+)`", said.group(1))) & known != set(below):
-            yield name
+def ways():
+    """How many ways lead from each crate through crates.txt: the toolchain sums up a library anew along each of them."""
+    found = {}
+    for name, below in (row for _, here in layers() for row in here):
+        found[name] = 1 + sum(found.get(other, 0) for other in below)
+    return found
+
+
+def too_many_ways(found):
+    for what, count, most in (
+        ("all crates together", sum(found.values()), MOST_WAYS),
+        (PROGRAM, found[PROGRAM], MOST_WAYS_OF_PROGRAM),
+    ):
+        print(f"ways through crates.txt of {what}: {count:,} of {most:,}")
+        if count > most:
+            yield f"crates.txt: {count:,} ways lead through it from {what}, which may be {most:,}"
 
 
 def files_of(crate, part):
@@ -106,6 +124,58 @@ def edits_told_otherwise():
 
 def edit_of(crate, name):
     return TOP / "crates" / crate / "must-fail" / f"{name}.edit"
+
+
+# Who names whom inside a crate
+
+
+def place_of(path, top):
+    """The modules that lead to a file below src/ or specs/."""
+    place = path.relative_to(top).with_suffix("").parts
+    return () if place in (("lib",), ("main",)) else place
+
+
+def order_of(text):
+    """The modules that a file lists, lowest first, and whose the names are that it hands on from them."""
+    handed_on = {}
+    for module, one, several in HANDED_ON.findall(text):
+        for item in (one or several).split(","):
+            handed_on[item.split(" as ")[-1].strip()] = module
+    return MODULE.findall(text), handed_on
+
+
+def named_in(text, crate):
+    """What a file names of its own crate, as the modules that lead there, and whether by a path of code."""
+    for path, several in IN_CODE.findall(text):
+        for item in several.split(","):
+            yield (*path.split("::")[1:], *item.split(" as ")[0].strip().split("::")), True
+    for its, path in IN_SPECS.findall(text):
+        if its == crate:
+            yield tuple(path.split(".")), False
+
+
+def later(orders, place, name, is_code):
+    """The module that a name leads into, where it is listed after the one beside it that the place is in."""
+    for depth, (here, there) in enumerate(zip(place, name)):
+        order, handed_on = orders.get(place[:depth], ([], {}))
+        if is_code and there not in order:
+            there = handed_on.get(there)
+        if there != here:
+            return there if here in order and there in order[order.index(here) :] else None
+    return None
+
+
+def named_too_early():
+    """Files of src/ and specs/ that name a module that is listed after theirs."""
+    for crate in crates():
+        top = TOP / "crates" / crate
+        orders = {place_of(path, top / "src"): order_of(path.read_text()) for path in files_of(crate, "src")}
+        for part in ("src", "specs"):
+            for path in files_of(crate, part):
+                place = place_of(path, top / part)
+                found = {later(orders, place, *name) for name in named_in(path.read_text(), crate)}
+                for module in sorted(found - {None}):
+                    yield f"{shown(path)} names {module}, which is listed after its own module"
 
 
 # The definitions of specs/
@@ -175,8 +245,8 @@ def sentence(lines):
 
 
 def names_of(module, listed):
-    """What each name of a list in braces stands for: the module and its name there."""
-    found = {}
+    """What each name of a list in braces stands for: the module, whichever crate hands it on, and its name there."""
+    found, module = {}, HANDED_ROOM.sub(r"Rattle.\1.specs", module)
     for item in filter(None, (item.strip() for item in listed.split(","))):
         there, _, here = item.partition(" as ")
         found[(here or there).strip()] = (module, there.strip())
@@ -303,7 +373,30 @@ def first_sentence(crate):
     return ""
 
 
-def map_of_crates(_):
+def folders_of(crate):
+    """The modules of a crate that have a folder of their own, lowest first."""
+    top = TOP / "crates" / crate / "src"
+    roots = [path for path in (top / "lib.rt", top / "main.rt") if path.exists()]
+    return [name for path in roots for name in MODULE.findall(path.read_text()) if (top / name).is_dir()]
+
+
+def picture_of_rooms():
+    """The crates as a picture of layers, the lowest on top, with the folders of each in brackets."""
+    lines = []
+    for says, here in layers():
+        line, head = "", re.match(r"(?:the )?(\w+)", says).group(1)
+        for name, _ in here:
+            folders = " ".join(folders_of(name))
+            room = f"{name} ({folders})" if folders else name
+            if line and len(line) + len(room) > 90:
+                lines.append(f"{head:10}  {line}")
+                line, head = "", ""
+            line = f"{line}  {room}".strip()
+        lines.append(f"{head:10}  {line}")
+    return "```\n" + "\n".join(lines) + "\n```"
+
+
+def map_of_crates():
     lines = []
     for says, here in layers():
         lines += [f"**{says[0].upper()}{says[1:]}**", "", "| Crate | What it is | Stands on |", "|---|---|---|"]
@@ -320,7 +413,7 @@ def measured():
     return {name: seconds for name, *seconds in rows if len(seconds) == 3}
 
 
-def sizes(_):
+def sizes():
     """The size of each crate, and what it took of the processor when that was last measured."""
     seconds = measured()
     lines = ["| Crate | Lines of code | Functions | Lines of specs and proofs | Edits | Proof, s | Running, s | Edits, s |"]
@@ -336,23 +429,24 @@ def sizes(_):
     return "\n".join(lines)
 
 
-def between(path, name, write):
-    """A page with what stands between two of its lines written anew."""
-    begin, end = f"<!-- {name} -->\n\n", f"\n\n<!-- end of {name} -->"
+def between(path, parts):
+    """A page with each part that stands between two of its lines written anew."""
     text = path.read_text()
-    if begin not in text or end not in text:
-        sys.exit(f"{path.name} has no place for {name}")
-    before, rest = text.split(begin, 1)
-    old, after = rest.split(end, 1)
-    return before + begin + write(old) + end + after
+    for name, written in parts.items():
+        begin, end = f"<!-- {name} -->\n\n", f"\n\n<!-- end of {name} -->"
+        if begin not in text or end not in text:
+            sys.exit(f"{path.name} has no place for {name}")
+        before, rest = text.split(begin, 1)
+        text = before + begin + written + end + rest.split(end, 1)[1]
+    return text
 
 
 def pages():
     plan, gate = TOP / "docs" / "MAP.md", TOP / "docs" / "GATE.md"
     return {
         TOP / "docs" / "DEFINITIONS.md": definitions_page(),
-        plan: between(plan, "map", map_of_crates),
-        gate: between(gate, "sizes", sizes),
+        plan: between(plan, {"rooms": picture_of_rooms(), "map": map_of_crates()}),
+        gate: between(gate, {"sizes": sizes()}),
     }
 
 
@@ -360,10 +454,7 @@ def main():
     if sys.argv[1:] not in ([], ["--check"]):
         sys.exit(__doc__)
     differ = 0
-    for name in readmes_differ():
-        differ = 1
-        print(f"crates/{name}/README.md doesn't say what it stands on as crates.txt does")
-    for miss in [*edits_that_miss(), *edits_told_otherwise()]:
+    for miss in [*too_many_ways(ways()), *named_too_early(), *edits_that_miss(), *edits_told_otherwise()]:
         differ = 1
         print(miss)
     for path, text in pages().items():
