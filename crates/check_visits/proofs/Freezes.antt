@@ -31,7 +31,7 @@ use Rattle.tide_heap.specs.tide_words.marking.Colours.{is_black, is_marking, run
 
 -- the visits that the notes told are entered
 pub visits_told : (layout : Layout) (shapes : ShapeLists) (v w u : View) (visitor count : ℕ) → Freezes layout shapes v w →
-    unentered v.visited ≡ v.ledger → v.ledger ≡ count →
+    unentered v.visited ≡ v.visits_told → v.visits_told ≡ count →
     Contains v.visited (record { who = first_visitor + visitor; visits = count; done = true }) →
     u ≡ visits_entered visitor count w → IsAtFreeze layout shapes u
 visits_told layout shapes v w u visitor count freezes counted told note entered =
@@ -51,7 +51,7 @@ visits_told layout shapes v w u visitor count freezes counted told note entered 
 
 -- with none that is left to enter
 pub nothing_told : (layout : Layout) (shapes : ShapeLists) (v w : View) → Freezes layout shapes v w →
-    unentered v.visited ≡ v.ledger → v.ledger ≡ 0 → IsAtFreeze layout shapes w
+    unentered v.visited ≡ v.visits_told → v.visits_told ≡ 0 → IsAtFreeze layout shapes w
 nothing_told layout shapes v w freezes counted none =
     subst (IsAtFreeze layout shapes) (sym freezes.view) record {
       frozen = refl;

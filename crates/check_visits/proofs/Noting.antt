@@ -25,12 +25,12 @@ module _ {a v u w : View} (has : HasTakenIn a v u w) where
   counts = ap {B = ℕ} (λ (b : Bool). if b then u.visits else 0)
       (eq-eqb u.begun v.period (has.note.begun ∙ sym (ap (λ (x : View). x.period) has.same)))
 
-  pub visits_by : (visits : ℕ) → a.ledger ≡ 0 → visits ≡ u.visits → w.ledger ≡ visits
+  pub visits_by : (visits : ℕ) → a.visits_told ≡ 0 → visits ≡ u.visits → w.visits_told ≡ visits
   visits_by visits none is =
-      let ledger = ap (λ (x : View). x.ledger) has.took in
-      let before = ap (λ (x : View). x.ledger) has.same in
+      let visits_told = ap (λ (x : View). x.visits_told) has.took in
+      let before = ap (λ (x : View). x.visits_told) has.same in
       let counted = counts in
-      omega (arith, ledger, before, counted, none, is)
+      omega (arith, visits_told, before, counted, none, is)
 
   told_is : (visits : ℕ) (done : Bool) → visits ≡ u.visits → done ≡ u.done → done ≡ true →
       visited_of v.period u ≡ record { who = 16; visits = visits; done = true }

@@ -59,7 +59,7 @@ pub fn run_part<S: HeapShapes>(heap: &Heap<S>, collector: &mut Collector, pass: 
     requires small { HasOneBlock heap.now.key.layout }
     requires running { collector.old.seat.me.0.frozen ≡ false }
     requires marks { collector.old.seat.me.0.marks ≡ true }
-    requires unvisited { collector.old.seat.me.0.ledger ≡ 0 }
+    requires unvisited { collector.old.seat.me.0.visits_told ≡ 0 }
     requires visitor { pass.old.seat.me.0.who ≡ 16 }
     requires parked { IsParked pass.old.seat.me.0 }
     requires later { pass.old.seat.me.0.period < collector.old.seat.me.0.period }
@@ -68,7 +68,7 @@ pub fn run_part<S: HeapShapes>(heap: &Heap<S>, collector: &mut Collector, pass: 
     ensures running { collector.new.seat.me.0.frozen ≡ false }
     ensures is_in { In 16 collector.new.seat.me.0.notes }
     ensures others { (i : ℕ) → In i collector.old.seat.me.0.notes → In i collector.new.seat.me.0.notes }
-    ensures visits { collector.new.seat.me.0.ledger ≡ result.visits }
+    ensures visits { collector.new.seat.me.0.visits_told ≡ result.visits }
     ensures told { result.is_done ≡ true → Contains collector.new.seat.me.0.visited
         (record { who = 16; visits = result.visits; done = true }) }
     ensures pass { pass.new.seat.table_id ≡ pass.old.seat.table_id }

@@ -143,7 +143,7 @@ module _ (layout : Layout) (shapes : ShapeLists) (words : List ℕ) (views : Lis
       prefix = prefix_trans k.cv.seen log log' k.prefix grows;
       tip = tips tip;
       retired = retired;
-      ledger = tally_put k.cv.period k.part i p k.cv.notes (λ a. counts a ∙ ap (counted_in k.cv.period) b.2) ∙ k.ledger;
+      visits_told = tally_put k.cv.period k.part i p k.cv.notes (λ a. counts a ∙ ap (counted_in k.cv.period) b.2) ∙ k.visits_told;
       births = births;
       told = told_put k.cv.period k.part i p k.cv.notes (λ a. noted_births a ∙ ap (births_in k.cv.period) b.2) ∙ k.told;
       start = start;
@@ -206,7 +206,7 @@ reseated layout shapes words views others log note_at k each = (
     prefix = k.prefix;
     tip = k.tip;
     retired = k.retired;
-    ledger = k.ledger;
+    visits_told = k.visits_told;
     births = k.births;
     told = k.told;
     start = k.start;

@@ -167,7 +167,7 @@ pub record Tabled (layout : Layout) (shapes : ShapeLists) (words : List ℕ) (vi
   -- who has left is active no more
   pub retired : (i : ℕ) → (part i).left ≡ true → (state_after layout log).active i ≡ false
   -- the visits of those whose notes are in
-  pub ledger : tally cv.period part cv.notes ≡ cv.ledger
+  pub visits_told : tally cv.period part cv.notes ≡ cv.visits_told
   -- each view counts the births of its participant since the part was opened; those of whom the notes are in
   pub births : (i : ℕ) → births_in cv.period (part i) ≡ born_to i log
   pub told : told_births cv.period part cv.notes ≡ cv.births

@@ -82,7 +82,7 @@ noted v u = record v {
   seen = longer v.seen u.seen;
   notes = u.who ∷ v.notes;
   gone = if u.left then u.who ∷ v.gone else v.gone;
-  ledger = v.ledger + (if u.begun == v.period then u.visits else 0);
+  visits_told = v.visits_told + (if u.begun == v.period then u.visits else 0);
   births = v.births + (if u.begun == v.period then u.born else 0);
   done = v.done && u.done;
   visited = visited_of v.period u ∷ v.visited;
@@ -125,7 +125,7 @@ opened layout run v = record v {
   cycle = running_cycle (heap_of layout v.words);
   mark_version = base_cycle (heap_of layout v.words);
   notes = [];
-  ledger = 0;
+  visits_told = 0;
   births = 0;
   done = true;
   visited = [];
@@ -145,7 +145,7 @@ pub record Freezes (layout : Layout) (shapes : ShapeLists) (v w : View) : Type 0
   pub words : List ℕ
   pub view : w ≡ frozen_with words v
   pub long : length words ≡ word_count layout
-  pub wave : FrozenWith layout shapes (heap_of layout words) v.seen v.ledger
+  pub wave : FrozenWith layout shapes (heap_of layout words) v.seen v.visits_told
   pub part : List Event
   pub since : v.seen ≡ v.start ++ part
   pub of_part : list_all (λ event. is_of_part event.entry) part ≡ true
@@ -166,4 +166,4 @@ pub record Freezes (layout : Layout) (shapes : ShapeLists) (v w : View) : Type 0
   pub marks : v.marks ≡ is_marking (heap_of layout words)
   -- where a cycle marks, there are visitors and each note says that its participant has done its part, one made a cell
   -- black
-  pub progress : v.marks ≡ true → 0 < layout.visitors → v.done ≡ true → 0 < v.ledger
+  pub progress : v.marks ≡ true → 0 < layout.visitors → v.done ≡ true → 0 < v.visits_told

@@ -26,4 +26,4 @@ pub use tide_core::{
     is_marked_in, is_vacant, lowest, pair_word, slots, structure_word, sweep_running, val_word,
     with_bit, without_bit, word_array, word_claim, word_phase, word_structure, word_val,
 };
-pub use tide_freeze::{Books, Ledger, Pacing, freeze};
+pub use tide_freeze::{Books, HistoryWords, Pacing, freeze};

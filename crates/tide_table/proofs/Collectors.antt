@@ -68,9 +68,9 @@ first_or_later {X} x xs y a = elim (Contains-append_cases (x ∷ []) xs y a) [ i
 module _ (layout : Layout) (shapes : ShapeLists) (words : List ℕ) (views : List View) (log : List Event) (me : ℕ)
     (v : View) (k : Tabled layout shapes words views log) (there : get_elem? views me ≡ some v)
     (is : v.role ≡ Collector) where
-  ledger_of : tally v.period k.part v.notes ≡ v.ledger
-  ledger_of = subst (λ (x : View). tally x.period k.part x.notes ≡ x.ledger)
-      (sym (own layout shapes words views log me v k there is)) k.ledger
+  ledger_of : tally v.period k.part v.notes ≡ v.visits_told
+  ledger_of = subst (λ (x : View). tally x.period k.part x.notes ≡ x.visits_told)
+      (sym (own layout shapes words views log me v k there is)) k.visits_told
 
   told_of : told_births v.period k.part v.notes ≡ v.births
   told_of = subst (λ (x : View). told_births x.period k.part x.notes ≡ x.births)
@@ -135,7 +135,7 @@ module _ (layout : Layout) (shapes : ShapeLists) (words : List ℕ) (views : Lis
       by_test true = no_visits
       by_test false = refl
 
-  enough : AllIn → total (counted_in v.period) k.part ≤ v.ledger
+  enough : AllIn → total (counted_in v.period) k.part ≤ v.visits_told
   enough all_in = (let most = total_few (λ p. counted_in v.period (k.part p)) v.notes (none_else all_in) parties in
       let t = ledger_of in omega (arith, most, t))
 
@@ -181,7 +181,7 @@ module _ (layout : Layout) (shapes : ShapeLists) (words : List ℕ) (views : Lis
 
   -- where each note says that its participant has done its part, one of the visitors made a cell black
   progress_told : AllIn → IsRunning layout shapes words log v k.part → v.marks ≡ true → 0 < layout.visitors →
-      v.done ≡ true → 0 < v.ledger
+      v.done ≡ true → 0 < v.visits_told
   progress_told all_in run marks visitors done =
       let one = progress layout shapes (record { heap = run.heap; part = k.part; log = log }) run.wave (all_parked all_in)
       (sym run.marks ∙ marks) visitors each in
@@ -229,7 +229,7 @@ module _ (layout : Layout) (shapes : ShapeLists) (words : List ℕ) (views : Lis
 
   -- all have stopped: the collector has the words to itself, and they meet the wave at a freeze with the history that
   -- it has seen
-  pub freeze_all : v.frozen ≡ false → AllIn → FrozenWith layout shapes (heap_of layout words) v.seen v.ledger
+  pub freeze_all : v.frozen ≡ false → AllIn → FrozenWith layout shapes (heap_of layout words) v.seen v.visits_told
       × (length words ≡ word_count layout)
       × Tabled layout shapes words (set views me (frozen_with words v)) log
       × (v.seen ≡ v.start ++ since is_open log)
@@ -239,7 +239,7 @@ module _ (layout : Layout) (shapes : ShapeLists) (words : List ℕ) (views : Lis
       × ((noted : NotedCalls) → IsParty layout noted.who → Contains v.noted_calls noted → IsPrefix noted.seen v.seen)
       × ((noted : NotedCalls) → IsParty layout noted.who → Contains v.noted_calls noted →
       filter (λ event. is_call_of noted.who event.entry) v.seen ≡ noted.mine)
-      × (v.marks ≡ true → 0 < layout.visitors → v.done ≡ true → 0 < v.ledger)
+      × (v.marks ≡ true → 0 < layout.visitors → v.done ≡ true → 0 < v.visits_told)
       × ((i : ℕ) → IsParty layout i → In i v.notes →
       heap_of layout words region.Stopped (index_of_stopped layout i) ≡ v.period)
       × (v.marks ≡ is_marking (heap_of layout words))
@@ -251,7 +251,7 @@ module _ (layout : Layout) (shapes : ShapeLists) (words : List ℕ) (views : Lis
       (total (counted_in (run.heap region.Period 0)) k.part) =
       FrozenMachine-running layout shapes (record { heap = run.heap; part = k.part; log = log }) run.wave
       (all_parked all_in) in (
-        FrozenWith-more layout shapes (heap_of layout words) v.seen (total (counted_in v.period) k.part) v.ledger
+        FrozenWith-more layout shapes (heap_of layout words) v.seen (total (counted_in v.period) k.part) v.visits_told
             (enough all_in)
             (subst (λ (n : ℕ). FrozenWith layout shapes (heap_of layout words) v.seen (total (counted_in n) k.part))
             run.period
@@ -270,7 +270,7 @@ module _ (layout : Layout) (shapes : ShapeLists) (words : List ℕ) (views : Lis
               mark_version = refl;
               run = refl;
               seen = prefix_refl v.seen;
-              ledger = ledger_of;
+              visits_told = ledger_of;
               told = told_of;
               start = refl;
               kept = λ i a. a;
@@ -329,7 +329,7 @@ module _ (layout : Layout) (shapes : ShapeLists) (words : List ℕ) (views : Lis
         mark_version = refl;
         run = refl;
         seen = prefix_refl v.seen;
-        ledger = ledger_of;
+        visits_told = ledger_of;
         told = told_of;
         start = refl;
         kept = λ i a. a;
@@ -377,7 +377,7 @@ module _ (layout : Layout) (shapes : ShapeLists) (words : List ℕ) (views : Lis
         mark_version = refl;
         run = refl;
         seen = prefix_push v.seen event;
-        ledger = ledger_of;
+        visits_told = ledger_of;
         told = told_of;
         start = refl;
         kept = λ i a. a;
@@ -547,7 +547,7 @@ module _ (layout : Layout) (shapes : ShapeLists) (words : List ℕ) (views : Lis
         mark_version = refl;
         run = refl;
         seen = long.one;
-        ledger = (let t = ledger_of in
+        visits_told = (let t = ledger_of in
             let one : counted_in v.period (k.part u.who) ≡ (if u.begun == v.period then u.visits else 0) =
             ap (λ (x : ℕ × ℕ). if x.0 == v.period then x.1 else 0) (λ i. (same.3 i, same.2 i)) in omega (arith, t, one));
         told = (let t = told_of in

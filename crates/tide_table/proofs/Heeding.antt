@@ -49,10 +49,10 @@ module _ (layout : Layout) (shapes : ShapeLists) (words : List ℕ) (views : Lis
 
   pub collector_step : (w : View) (words' : List ℕ) (log' : List Event) → w.role ≡ Collector → v.period ≤ w.period → w.next ≡ v.next
       → IsPrefix log log' → ((j : ℕ) (x : View) → get_elem? views j ≡ some x → x.role ≡ Note → IsParty layout x.who → NoteOk layout v (k.part x.who) (k.note_at x.who) j x → NoteOk layout w (k.part x.who) (k.note_at x.who) j x) → ((x : View) → Heard log v x → x.period ≡ w.period → AgreesOnPart w x)
-      → ((i : ℕ) → IsParty layout i → MemberOk layout w (k.part i) i) → IsPrefix w.seen log' → ((i : ℕ) → (k.part i).left ≡ true → (state_after layout log').active i ≡ false) → (log' ≡ w.seen) ⊎ ((log' ≡ log) × (log ≡ v.seen → log ≡ w.seen)) → tally w.period k.part w.notes ≡ w.ledger
+      → ((i : ℕ) → IsParty layout i → MemberOk layout w (k.part i) i) → IsPrefix w.seen log' → ((i : ℕ) → (k.part i).left ≡ true → (state_after layout log').active i ≡ false) → (log' ≡ w.seen) ⊎ ((log' ≡ log) × (log ≡ v.seen → log ≡ w.seen)) → tally w.period k.part w.notes ≡ w.visits_told
       → ((i : ℕ) → births_in w.period (k.part i) ≡ born_to i log') → told_births w.period k.part w.notes ≡ w.births → w.start ++ since is_open log' ≡ log' → Mode layout shapes words' log' w k.part
       → Tabled layout shapes words' (set views me w) log'
-  collector_step w words' log' is' later seats grows notes tells ok prefix retired tip ledger births told start mode = record {
+  collector_step w words' log' is' later seats grows notes tells ok prefix retired tip visits_told births told start mode = record {
     cv = w;
     part = k.part;
     seat_of = k.seat_of;
@@ -74,7 +74,7 @@ module _ (layout : Layout) (shapes : ShapeLists) (words : List ℕ) (views : Lis
       ]
     ];
     retired = retired;
-    ledger = ledger;
+    visits_told = visits_told;
     births = births;
     told = told;
     start = start;
@@ -91,7 +91,7 @@ module _ (layout : Layout) (shapes : ShapeLists) (words : List ℕ) (views : Lis
     pub mark_version : w.mark_version ≡ v.mark_version
     pub run : w.run ≡ v.run
     pub seen : IsPrefix v.seen w.seen
-    pub ledger : tally w.period k.part w.notes ≡ w.ledger
+    pub visits_told : tally w.period k.part w.notes ≡ w.visits_told
     pub told : told_births w.period k.part w.notes ≡ w.births
     pub start : w.start ≡ v.start
     pub kept : (i : ℕ) → In i v.notes → In i w.notes
@@ -134,7 +134,7 @@ module _ (layout : Layout) (shapes : ShapeLists) (words : List ℕ) (views : Lis
           | inl b ↦ elim (o.over b) [ inl noted ↦ inl (c.kept i noted) | inr before ↦ inr (omega (arith, before, p)) ]
           | inr b ↦ inl b.4
         ];
-      }) prefix retired tip c.ledger
+      }) prefix retired tip c.visits_told
       (λ i. ap (λ (n : ℕ). births_in n (k.part i)) p ∙ born_of i ∙ sym (quiet i)) c.told
       (ap (λ (l : List Event). l ++ since is_open log') c.start ∙ start) mode
     where

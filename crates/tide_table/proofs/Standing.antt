@@ -119,7 +119,7 @@ AreBooks-counted layout start part seen books now since born cap are =
 
 -- Below, v is the collector's view while a part runs, and w once it is frozen.
 pub StandsStill-froze : (layout : Layout) (shapes : ShapeLists) (v w : View) → RunsPart layout v →
-    v.ledger ≡ unentered v.visited → Freezes layout shapes v w → StandsStill layout shapes w
+    v.visits_told ≡ unentered v.visited → Freezes layout shapes v w → StandsStill layout shapes w
 StandsStill-froze layout shapes v w runs counts f = subst (StandsStill layout shapes) (sym f.view) (record {
   limits = f.limits;
   frozen = refl;

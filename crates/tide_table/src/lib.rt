@@ -1,7 +1,7 @@
 //! The collector's side of the heap of shared words: it starts a heap, seats participants, freezes, opens and closes.
 //!
 //! The `Collector` hands out tickets, takes notes in, and freezes the heap once all have stopped. A `Frozen` heap is
-//! `Words`, over which marking and sweeping run, and a `Ledger`. The heap, its rule and the steps of participants are
+//! `Words`, over which marking and sweeping run, and a `HistoryWords`. The heap, its rule and the steps of participants are
 //! those of `tide_heap`, whose names this crate hands on. It waits for nobody and has no lock.
 #![tactic(auto)]
 
@@ -18,7 +18,7 @@ mod start;
 // over those above it
 mod collecting;
 mod counting;
-mod ledger;
+mod history_words;
 mod visiting;
 
 pub use closed::Closed;

@@ -15,7 +15,7 @@ use tide_core::Solved;
 /// Begins a cycle, whose first pause is to leave grey cells for the visitor, and opens the second part.
 fn open_second(shared: &mut Shared, budget: u32, run: u32) -> Option<()>
     requires stopped { HaveStopped shared.old }
-    requires unvisited { shared.old.collector.seat.me.0.ledger ≡ 0 }
+    requires unvisited { shared.old.collector.seat.me.0.visits_told ≡ 0 }
     ensures opened { IfSome result (λ _. IsOpen shared.new) }
 {
     let heap = &shared.heap;

@@ -93,7 +93,7 @@ impl Shared {
     pub fn run_part<R: Threads + Sync>(self, rt: &R, ops: &[Op]) -> PartDone
         requires opened { HasOpened self }
         ensures stopped { HaveStopped result.shared }
-        ensures visits { result.shared.collector.seat.me.0.ledger ≡ result.visits }
+        ensures visits { result.shared.collector.seat.me.0.visits_told ≡ result.visits }
     {
         let Shared {
             heap,

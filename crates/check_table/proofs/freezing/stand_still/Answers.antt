@@ -36,9 +36,9 @@ first_opened : {seen : List Event} {period : ℕ} → seen ≡ [] → period ≡
 first_opened seen period = λ i. seen i ++ plain (Open (period i + 1) 5) ∷ []
 
 -- a mutator that made no visit leaves none to enter
-none_entered : {ledger begun period visits : ℕ} → ledger ≡ 0 → begun ≡ 1 → period ≡ 1 → visits ≡ 0 →
-    ledger + (if begun == period then visits else 0) ≡ 0
-none_entered ledger begun period visits = λ i. ledger i + (if begun i == period i then visits i else 0)
+none_entered : {visits_told begun period visits : ℕ} → visits_told ≡ 0 → begun ≡ 1 → period ≡ 1 → visits ≡ 0 →
+    visits_told + (if begun == period then visits else 0) ≡ 0
+none_entered visits_told begun period visits = λ i. visits_told i + (if begun i == period i then visits i else 0)
 
 pub returns-clause-stands : goal.returns-clause-stands
 returns-clause-stands c =
@@ -52,7 +52,7 @@ returns-clause-stands c =
     let opens = ap (λ (x : View). x.seen) opened ∙ first_opened c.requires.started.seen c.requires.started.period in
     let hears_it = ap (λ (x : View). x.seen) begun ∙ hears (ap (λ (x : View). x.seen) new) opens in
     let seen = longer_of_one (ap (λ (x : View). x.seen) stays ∙ opens) hears_it in
-    let entered = none_entered (ap (λ (x : View). x.ledger) (stays ∙ opened)) (ap (λ (x : View). x.begun) begun ∙ first)
+    let entered = none_entered (ap (λ (x : View). x.visits_told) (stays ∙ opened)) (ap (λ (x : View). x.begun) begun ∙ first)
     (ap (λ (x : View). x.period) stays ∙ first) (ap (λ (x : View). x.visits) begun) in
     let freezes = c.stop_and_freeze.ensures.frozen in
     let words = ap (λ (x : View). x.words) freezes.view in
