@@ -3,7 +3,7 @@ use Rattle.std.proofs.Common.{ℕ, ◌≡◌, ◌<◌, true, refl, sym, ◌∙�
 use Rattle.std.specs.Prelude.{Contains}
 use Rattle.check_visits.proofs.Freezes.{visits_told}
 use Rattle.check_visits.specs.Parts.{IsAtFreeze}
-use Rattle.tide_core.specs.tide_cycle.GreyWords.{HasSharedGrey}
+use Rattle.tide_heap.specs.tide_cycle.GreyWords.{HasSharedGrey}
 use Rattle.tide_heap.specs.tide_core.declared.machine.view.View.{View}
 use Rattle.tide_model.specs.History.{state_after}
 use Rattle.tide_model.specs.Layout.{Layout, cell_count}
