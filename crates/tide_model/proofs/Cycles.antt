@@ -6,7 +6,7 @@ use Rattle.tide_model.specs.declared.entry.Event.{Event}
 use Rattle.tide_model.specs.Layout.{Layout, block_of_cell, block_of_array}
 use Rattle.tide_model.specs.Numbers.{is_among}
 use Rattle.tide_model.specs.State.{State, Phase, CellState, Status, free, live, spent, dead, is_dead, blank_cell}
-use Rattle.tide_model.specs.Graph.{IsRoot, in_register, claimed, in_handle, IsLink, in_slot, in_property, IsTriple, AreTwins, graph_of, IsWithin}
+use Rattle.tide_model.specs.Graph.{IsRoot, in_register, claimed, in_handle, IsLink, in_slot, in_property, IsTriple, AreGroupMates, graph_of, IsWithin}
 use Rattle.tide_model.specs.History.{plain, after_sweep, swept_cell, swept_status, state_from, state_after}
 use Rattle.tide_model.specs.Cycle.{span_of}
 
@@ -55,7 +55,7 @@ phase_within state phase = record {
     | in_property place is_live below is ↦ in_property place is_live below is
   ];
   triples = λ table key cell triple. record { is_live = triple.is_live; has_pair = triple.has_pair };
-  twins = λ one other twin. record { one_is_live = twin.one_is_live; other_is_live = twin.other_is_live; same_group = twin.same_group; in_a_group = twin.in_a_group };
+  group_mates = λ one other group_mate. record { one_is_live = group_mate.one_is_live; other_is_live = group_mate.other_is_live; same_group = group_mate.same_group; in_a_group = group_mate.in_a_group };
 }
 
 pub take-all : {X : Type 0} (xs : List X) → take (length xs) xs ≡ xs
@@ -71,5 +71,5 @@ graph_in_span layout history from early =
       roots = λ cell root. (length history, early, omega arith, subst (λ (h : List Event). IsRoot (state_after layout h) cell) e root);
       links = λ source cell link. (length history, early, omega arith, subst (λ (h : List Event). IsLink (state_after layout h) source cell) e link);
       triples = λ table key cell triple. (length history, early, omega arith, subst (λ (h : List Event). IsTriple (state_after layout h) table key cell) e triple);
-      twins = λ one other twin. (length history, early, omega arith, subst (λ (h : List Event). AreTwins (state_after layout h) one other) e twin);
+      group_mates = λ one other group_mate. (length history, early, omega arith, subst (λ (h : List Event). AreGroupMates (state_after layout h) one other) e group_mate);
     }

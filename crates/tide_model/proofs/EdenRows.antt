@@ -8,7 +8,7 @@ use Rattle.tide_model.specs.declared.op.Op.TheVariants.{Alloc, Put, Drop, WeakSe
 use Rattle.tide_model.specs.declared.op.Reply.TheVariants.{Done, Born}
 use Rattle.tide_model.specs.declared.entry.Entry.TheVariants.{Call, Begin, Pause, End}
 use Rattle.tide_model.specs.declared.entry.Event.{Event}
-use Rattle.tide_model.specs.Graph.{is_root, IsRoot, in_register, claimed, in_handle, IsLink, in_slot, in_property, IsTriple, AreTwins, IsRetained, IsClosed, graph_of, is_further, by_link, no_cell, retained_in_closed}
+use Rattle.tide_model.specs.Graph.{is_root, IsRoot, in_register, claimed, in_handle, IsLink, in_slot, in_property, IsTriple, AreGroupMates, IsRetained, IsClosed, graph_of, is_further, by_link, no_cell, retained_in_closed}
 use Rattle.tide_model.specs.History.{after_end, plain, state_after, state_at}
 use Rattle.tide_model.specs.Cycle.{StandsBegin, StandsEnd, StaysLive, begin_count, cycle_span}
 use Rattle.tide_model.specs.Lawful.{IsLawful}
@@ -119,8 +119,8 @@ module _ (state : State) (left : AreLeft state) where
   no_pair table key cell triple =
       let e : None ≡ Some (Cell cell) = sym ((left.holds table).pairs key) ∙ triple.has_pair in cc
 
-  no_twin : (one other : ℕ) → AreTwins state one other → ⊥
-  no_twin one other twins = twins.in_a_group (left.holds one).group
+  no_group_mate : (one other : ℕ) → AreGroupMates state one other → ⊥
+  no_group_mate one other group_mates = group_mates.in_a_group (left.holds one).group
 
   is_live_one : (cell : ℕ) → (cell ≡ 0) ⊎ (cell ≡ 1) → IsLive state cell
   is_live_one cell (inl is) = subst (IsLive state) (sym is) left.first
@@ -137,7 +137,7 @@ module _ (state : State) (left : AreLeft state) where
       not_freed = λ among. absurd (cc);
     };
     pairs = λ table key cell kept_table kept_key triple. absurd (no_pair table key cell triple);
-    twins = λ one other kept twin. absurd (no_twin one other twin);
+    group_mates = λ one other kept group_mate. absurd (no_group_mate one other group_mate);
   }
 
   both_are_among : (cell : ℕ) → (cell ≡ 0) ⊎ (cell ≡ 1) → is_among (0 ∷ 1 ∷ []) cell ≡ true
@@ -164,7 +164,7 @@ module _ (state : State) (left : AreLeft state) where
     further_cells = λ cell more. absurd (none cell more);
     links = λ source cell kept link. absurd (empty source kept);
     pairs = λ table key cell kept_table kept_key triple. absurd (empty table kept_table);
-    twins = λ one other kept twin. absurd (empty one kept);
+    group_mates = λ one other kept group_mate. absurd (empty one kept);
   }
 
   nothing_is_retained : (cell : ℕ) → IsRetained (graph_of state) no_cell cell → ⊥
@@ -352,8 +352,8 @@ module _ (state : State) (held : NothingIsHeld state) where
   no_pair_at_all table key cell triple =
       let e : None ≡ Some (Cell cell) = sym ((held.holds table).pairs key) ∙ triple.has_pair in cc
 
-  no_twin_at_all : (one other : ℕ) → AreTwins state one other → ⊥
-  no_twin_at_all one other twins = twins.in_a_group (held.holds one).group
+  no_group_mate_at_all : (one other : ℕ) → AreGroupMates state one other → ⊥
+  no_group_mate_at_all one other group_mates = group_mates.in_a_group (held.holds one).group
 
   -- so what is kept needs only to have the cells that retain as roots do
   closed_where_nothing_is_held : (further member : ℕ → Type 0) → ((cell : ℕ) → further cell → member cell) →
@@ -363,7 +363,7 @@ module _ (state : State) (held : NothingIsHeld state) where
     further_cells = have;
     links = λ source cell kept link. absurd (no_link_at_all source cell link);
     pairs = λ table key cell kept_table kept_key triple. absurd (no_pair_at_all table key cell triple);
-    twins = λ one other kept twin. absurd (no_twin_at_all one other twin);
+    group_mates = λ one other kept group_mate. absurd (no_group_mate_at_all one other group_mate);
   }
 
 abbrev IsFirstOrSecond : ℕ → CellState → Type 0
@@ -449,8 +449,8 @@ young_garbage_is_not_kept stands =
           absurd (no_link_at_all (state_at small with_young link.0) (at_each link.0 link.1 link.2) source cell link.3);
       pairs = λ table key cell kept_table kept_key triple. absurd (no_pair_at_all
           (state_at small with_young triple.0) (at_each triple.0 triple.1 triple.2) table key cell triple.3);
-      twins = λ one other kept twin.
-          absurd (no_twin_at_all (state_at small with_young twin.0) (at_each twin.0 twin.1 twin.2) one other twin.3);
+      group_mates = λ one other kept group_mate.
+          absurd (no_group_mate_at_all (state_at small with_young group_mate.0) (at_each group_mate.0 group_mate.1 group_mate.2) one other group_mate.3);
     }
 
 -- an end that frees nothing stands where all that lives was retained, or is spared

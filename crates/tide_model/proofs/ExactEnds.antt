@@ -8,7 +8,7 @@ use Rattle.tide_model.specs.declared.entry.Entry.TheVariants.{Call, Begin, Pause
 use Rattle.tide_model.specs.declared.entry.Event.{Event}
 use Rattle.tide_model.specs.Cycle.{StandsEnd, cycle_span, span_of}
 use Rattle.tide_model.specs.Each.{Each}
-use Rattle.tide_model.specs.Graph.{Graph, IsRoot, in_register, claimed, in_handle, IsLink, in_slot, in_property, IsTriple, AreTwins, IsRetained, IsWithin, graph_of, no_cell, retained_more}
+use Rattle.tide_model.specs.Graph.{Graph, IsRoot, in_register, claimed, in_handle, IsLink, in_slot, in_property, IsTriple, AreGroupMates, IsRetained, IsWithin, graph_of, no_cell, retained_more}
 use Rattle.tide_model.specs.History.{after_entry, after_sweep, is_begin, moment_after_last, state_after, state_at}
 use Rattle.tide_model.specs.Lawful.{IsLawful, Stands, StandsEntry}
 use Rattle.tide_model.specs.Layout.{Layout, block_of_cell}
@@ -40,8 +40,8 @@ span_within layout history event from older = record {
   triples = λ table key cell now.
       at_moment (λ s. IsTriple s table key cell) (λ m early late is. older.triples table key cell (m, early, late, is))
       now.0 now.1 now.2 now.3;
-  twins = λ one other now.
-      at_moment (λ s. AreTwins s one other) (λ m early late is. older.twins one other (m, early, late, is))
+  group_mates = λ one other now.
+      at_moment (λ s. AreGroupMates s one other) (λ m early late is. older.group_mates one other (m, early, late, is))
       now.0 now.1 now.2 now.3;
 }
   where
@@ -86,13 +86,13 @@ sweep_within layout state block = record {
     is_live = lives table triple.is_live;
     has_pair = ap (λ c. c.pairs key) (same table triple.is_live) ∙ triple.has_pair;
   };
-  twins = λ one other twin. record {
-    one_is_live = lives one twin.one_is_live;
-    other_is_live = lives other twin.other_is_live;
+  group_mates = λ one other group_mate. record {
+    one_is_live = lives one group_mate.one_is_live;
+    other_is_live = lives other group_mate.other_is_live;
     same_group =
-        ap (λ c. c.group) (same one twin.one_is_live) ∙ twin.same_group
-        ∙ sym (ap (λ c. c.group) (same other twin.other_is_live));
-    in_a_group = λ none. twin.in_a_group (sym (ap (λ c. c.group) (same one twin.one_is_live)) ∙ none);
+        ap (λ c. c.group) (same one group_mate.one_is_live) ∙ group_mate.same_group
+        ∙ sym (ap (λ c. c.group) (same other group_mate.other_is_live));
+    in_a_group = λ none. group_mate.in_a_group (sym (ap (λ c. c.group) (same one group_mate.one_is_live)) ∙ none);
   };
 }
   where
@@ -180,7 +180,7 @@ quiet_span layout shapes =
           links = λ source cell found. absurd (let early = found.1 in let late = found.2 in omega (arith, early, late));
           triples = λ table key cell found.
               absurd (let early = found.1 in let late = found.2 in omega (arith, early, late));
-          twins = λ one other found. absurd (let early = found.1 in let late = found.2 in omega (arith, early, late));
+          group_mates = λ one other found. absurd (let early = found.1 in let late = found.2 in omega (arith, early, late));
         }
 
         step : (passes : Bool) → is_begin event.entry ≡ passes → IsWithin (cycle_span layout longer) now

@@ -3,7 +3,7 @@ use Rattle.std.proofs.Common.{ℕ, suc, ◌≡◌, ◌≤◌, sym, ◌∙◌, ap
 use Rattle.std.specs.Prelude.{if◌then◌else◌}
 use Rattle.tide_model.specs.declared.entry.Event.{Event}
 use Rattle.tide_model.specs.Layout.{Layout}
-use Rattle.tide_model.specs.Graph.{IsRoot, IsLink, IsTriple, AreTwins, graph_of, IsWithin}
+use Rattle.tide_model.specs.Graph.{IsRoot, IsLink, IsTriple, AreGroupMates, graph_of, IsWithin}
 use Rattle.tide_model.specs.History.{state_after, is_begin, moment_after_last}
 use Rattle.tide_model.specs.Cycle.{span_of, cycle_span}
 use Rattle.tide_model.proofs.Cycles.{graph_in_span}
@@ -23,7 +23,7 @@ span_of-later layout history more from to later within after = record {
   links = λ source cell link. (link.0, link.1, sooner link.0 link.2, subst (λ (h : List Event). IsLink (state_after layout h) source cell) (same link.0 link.2) link.3);
   triples = λ table key cell triple.
       (triple.0, triple.1, sooner triple.0 triple.2, subst (λ (h : List Event). IsTriple (state_after layout h) table key cell) (same triple.0 triple.2) triple.3);
-  twins = λ one other twin. (twin.0, twin.1, sooner twin.0 twin.2, subst (λ (h : List Event). AreTwins (state_after layout h) one other) (same twin.0 twin.2) twin.3);
+  group_mates = λ one other group_mate. (group_mate.0, group_mate.1, sooner group_mate.0 group_mate.2, subst (λ (h : List Event). AreGroupMates (state_after layout h) one other) (same group_mate.0 group_mate.2) group_mate.3);
 }
   where
     sooner : (moment : ℕ) → moment ≤ to → moment ≤ later

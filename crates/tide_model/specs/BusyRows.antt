@@ -7,7 +7,7 @@ use Rattle.tide_model.specs.declared.op.Reply.TheVariants.{Asked}
 use Rattle.tide_model.specs.declared.entry.Entry.TheVariants.{Call, Open}
 use Rattle.tide_model.specs.Numbers.{put_at}
 use Rattle.tide_model.specs.State.{State, free, live, spent, dead, blank_cell, empty_state}
-use Rattle.tide_model.specs.Graph.{in_register, in_handle, IsLink, in_property, graph_of, IsRetained, is_root, by_pair, by_twin, no_cell}
+use Rattle.tide_model.specs.Graph.{in_register, in_handle, IsLink, in_property, graph_of, IsRetained, is_root, by_pair, by_group_mate, no_cell}
 use Rattle.tide_model.specs.History.{plain, after_end, after_sweep}
 use Rattle.tide_model.specs.Cycle.{HasDead, dead_array}
 use Rattle.tide_model.specs.Room.{IsFullBlock, window_start}
@@ -60,8 +60,8 @@ replaced_array_is_swept = dead_array 6 (lit< tt) refl refl
 pub pair_is_kept : IsRetained (graph_of busy) no_cell 2
 pair_is_kept = by_pair 64 0 2 (is_root 64 (in_handle 0 refl)) (is_root 0 (in_register 0 1 refl refl)) (record { is_live = refl; has_pair = refl })
 
-pub twin_is_kept : IsRetained (graph_of busy) no_cell 3
-twin_is_kept = by_twin 2 3 pair_is_kept (record { one_is_live = refl; other_is_live = refl; same_group = refl; in_a_group = λ same. absurd (cc) })
+pub group_mate_is_kept : IsRetained (graph_of busy) no_cell 3
+group_mate_is_kept = by_group_mate 2 3 pair_is_kept (record { one_is_live = refl; other_is_live = refl; same_group = refl; in_a_group = λ same. absurd (cc) })
 
 -- a property is a link, and a place past the keys is none
 pub property_is_link : IsLink busy 1 0

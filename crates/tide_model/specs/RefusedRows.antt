@@ -59,7 +59,7 @@ garbage_is_not_kept stands =
       further_cells = λ cell spared. (let eden : false ≡ true = spared in cc);
       links = λ source cell kept link. kept;
       pairs = λ table key cell kept_table kept_key triple. kept_table;
-      twins = λ one other kept twin. kept;
+      group_mates = λ one other kept group_mate. kept;
     }
 
 -- a fifth register, and a class without slots

@@ -120,7 +120,7 @@ StandsEnd-freed layout shapes state freed history cycle lawful full is_freed lea
     further_cells = λ cell spared. absurd (none_spared cell spared);
     links = closed.links;
     pairs = closed.pairs;
-    twins = closed.twins;
+    group_mates = closed.group_mates;
   };
 }
   where

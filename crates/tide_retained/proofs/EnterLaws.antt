@@ -168,7 +168,7 @@ IsSearch-with_cell contents place search cell is placed new =
         | inr same ↦ (place, ap (found_at next) (sym same) ∙ get_or-set_same search.found cell (Some place) None within)
       ];
       count = one_counted place search cell within none is.count longer;
-      twins = λ one twin twined pair. (let (f, found) = is.twins one twin twined pair in (f, grows.kept twin f found));
+      group_mates = λ one group_mate mated pair. (let (f, found) = is.group_mates one group_mate mated pair in (f, grows.kept group_mate f found));
     }
 
 IsSearch-entered : (contents : Contents) (place : Found) (search : Search) (cell : ℕ) → IsSearch contents search → IsPlaced contents search.found cell place → AreEntered contents place search (cell ∷ []) (entered place search cell)

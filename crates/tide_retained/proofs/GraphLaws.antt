@@ -16,7 +16,7 @@ use Rattle.tide_retained.specs.declared.root.Root.TheVariants.{Register, Claim, 
 use Rattle.tide_retained.specs.Contents.{HasPair, cell_in, cells_in, cells_under, graph_held, group_of, held_at, links_of, pairs_of}
 use Rattle.tide_retained.specs.Holding.{HoldsSame, IsHeldOf, IsSnapshotOf, keyed}
 use Rattle.tide_retained.specs.Index.{up_to}
-use Rattle.tide_retained.specs.Path.{IsDistanceOf, IsStep, Reaches, along_link, at_root, by_step, to_twin, to_value}
+use Rattle.tide_retained.specs.Path.{IsDistanceOf, IsStep, Reaches, along_link, at_root, by_step, to_group_mate, to_value}
 use Rattle.tide_retained.proofs.ListLaws.{nowhere, contains_first, contains_map, from_map, contains_one, from_flat_map, in_flat_map, in_up_to, below_up_to}
 
 -- paths of a graph are those of a larger one
@@ -24,7 +24,7 @@ pub step_within : (one other : Graph) (source cell : ℕ) → IsWithin one other
 step_within one other source cell within (along_link link) = along_link (within.links source cell link)
 step_within one other source cell within (to_value key triple kept) =
     to_value key (within.triples source key cell triple) (retained_more one other no_cell no_cell within (λ c none. absurd none) key kept)
-step_within one other source cell within (to_twin twin) = to_twin (within.twins source cell twin)
+step_within one other source cell within (to_group_mate group_mate) = to_group_mate (within.group_mates source cell group_mate)
 
 pub reaches_within : (one other : Graph) → IsWithin one other → (steps cell : ℕ) → Reaches one steps cell → Reaches other steps cell
 reaches_within one other within steps cell (at_root root) = at_root (within.roots cell root)
@@ -145,10 +145,10 @@ module _ (layout : Layout) (state : State) (snapshot : Contents) (is : IsSnapsho
     roots = root_held;
     links = link_held;
     triples = triple_held;
-    twins = λ one other twin.
-        let a = grouped one (λ none. twin.1 (sym twin.0 ∙ none)) in
-        let b = grouped other twin.1 in
-        record { one_is_live = a.0; other_is_live = b.0; same_group = sym a.1 ∙ twin.0 ∙ b.1; in_a_group = λ none. twin.1 (sym twin.0 ∙ a.1 ∙ none) };
+    group_mates = λ one other group_mate.
+        let a = grouped one (λ none. group_mate.1 (sym group_mate.0 ∙ none)) in
+        let b = grouped other group_mate.1 in
+        record { one_is_live = a.0; other_is_live = b.0; same_group = sym a.1 ∙ group_mate.0 ∙ b.1; in_a_group = λ none. group_mate.1 (sym group_mate.0 ∙ a.1 ∙ none) };
   }
 
   pub state_within : IsWithin (graph_of state) (graph_held snapshot)
@@ -156,8 +156,8 @@ module _ (layout : Layout) (state : State) (snapshot : Contents) (is : IsSnapsho
     roots = root_of;
     links = link_of;
     triples = triple_of;
-    twins = λ one other twins.
-        let a = group_of_live one twins.one_is_live in
-        let b = group_of_live other twins.other_is_live in
-        (a ∙ twins.same_group ∙ sym b, λ none. twins.in_a_group (twins.same_group ∙ sym b ∙ none));
+    group_mates = λ one other group_mates.
+        let a = group_of_live one group_mates.one_is_live in
+        let b = group_of_live other group_mates.other_is_live in
+        (a ∙ group_mates.same_group ∙ sym b, λ none. group_mates.in_a_group (group_mates.same_group ∙ sym b ∙ none));
   }

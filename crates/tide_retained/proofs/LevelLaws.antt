@@ -10,7 +10,7 @@ use Rattle.tide_retained.specs.declared.contents.Held.{Held}
 use Rattle.tide_retained.specs.declared.contents.Rooted.{Rooted}
 use Rattle.tide_retained.specs.declared.search.Found.{Found}
 use Rattle.tide_retained.specs.Contents.{graph_held, group_of, held_at, links_of, pairs_of}
-use Rattle.tide_retained.specs.Path.{IsStep, along_link, to_value, to_twin, IsDistanceOf, Reaches, at_root, by_step as by_one_step}
+use Rattle.tide_retained.specs.Path.{IsStep, along_link, to_value, to_group_mate, IsDistanceOf, Reaches, at_root, by_step as by_one_step}
 use Rattle.tide_retained.specs.Searching.{Search, distance_at, distance_in, found_at, found_in, root_entered, roots_entered, unsearched, place_after, AreRetained, Extends, FindsAll, HasKeysBelow, Grows, IsFound, IsLevelling, IsPassed, IsPlaced, IsRetaining, IsSearch, IsVisited, by_root, by_step}
 use Rattle.tide_retained.proofs.EnterLaws.{cells_entered}
 use Rattle.tide_retained.proofs.ListLaws.{nowhere, contains_cases, contains_first, contains_later, contains_one}
@@ -43,7 +43,7 @@ stepped_to contents search new at cell target is few visited (to_value key pair 
     let small = few cell pair.0 pair.1 in
     let same = pair.2 in
     visited.values key target pair (is.complete key (omega (arith, small, same)) kept) below
-stepped_to contents search new at cell target is few visited (to_twin twin) below = visited.twins target twin
+stepped_to contents search new at cell target is few visited (to_group_mate group_mate) below = visited.group_mates target group_mate
 
 -- what was found by now was found before, or like this
 grown_cases : (contents : Contents) (place : Found) (old new : Search) (cell : ℕ) (found : Found) → IsSearch contents old → IsSearch contents new → Grows place old new →
@@ -168,8 +168,8 @@ none_counted : (n a : ℕ) → fold (λ a (o : Option Found). a + cond (is_some 
 none_counted zero a = refl
 none_counted (suc n) a = none_counted n (a + 0) ∙ add-zero a
 
-pub none_twined : (n cell : ℕ) → get_or (replicate n false) cell false ≡ false
-none_twined n cell = elim (cases_lt cell n) [
+pub none_mated : (n cell : ℕ) → get_or (replicate n false) cell false ≡ false
+none_mated n cell = elim (cases_lt cell n) [
   | inl below ↦ get_or-replicate n cell false false below
   | inr past ↦ get_or_past (replicate n false) cell false (let l = length-replicate {A = Bool} n false in omega (arith, past, l))
 ]
@@ -190,7 +190,7 @@ begins contents flags wide sound =
       listed = λ cell place found. (let none = none_found n cell in absurd (cc));
       in_order = λ cell at. absurd (nowhere cell at);
       count = sym (none_counted n 0);
-      twins = λ cell twin twined pair. (let none = none_twined n cell in absurd (cc));
+      group_mates = λ cell group_mate mated pair. (let none = none_mated n cell in absurd (cc));
     }
 
 -- all is begun once the roots were entered
@@ -221,7 +221,7 @@ retaining_begins contents flags search wide none same =
       ];
       roots = λ cell root below. all.each (record { root = root.0; cell = cell }) root.1 (let s = all.extends.same_size in omega (arith, below, s));
       links = λ cell target passed. absurd (let early = passed.1 in omega (arith, early));
-      twins = λ cell target passed. absurd (let early = passed.1 in omega (arith, early));
+      group_mates = λ cell target passed. absurd (let early = passed.1 in omega (arith, early));
       values = λ table key target passed. absurd (let early = passed.1 in omega (arith, early));
     } in
     subst (λ (s : Search). IsRetaining contents s 0) (sym same) is
@@ -293,7 +293,7 @@ all_found contents search at is done = record {
     from_live : (source target : ℕ) → IsStep (graph_held contents) source target → source < length search.found
     from_live source target (along_link link) = wide source (λ none. nowhere target (subst (λ (o : Option Held). Contains (links_of o) target) none link))
     from_live source target (to_value key pair kept) = wide source (λ none. nowhere pair.0 (subst (λ (o : Option Held). Contains (pairs_of o) pair.0) none pair.1))
-    from_live source target (to_twin twin) = wide source (λ none. (let none_is = ap group_of none in twin.1 (sym twin.0 ∙ none_is)))
+    from_live source target (to_group_mate group_mate) = wide source (λ none. (let none_is = ap group_of none in group_mate.1 (sym group_mate.0 ∙ none_is)))
 
     within : (n c : ℕ) → Reaches (graph_held contents) n c → c < length search.found → (place : Found) × (found_at search c ≡ Some place) × (place.distance ≤ n)
     within zero c (at_root root) below = (let (f, found, none) = is.roots c root below in (f, found, omega (arith, none)))

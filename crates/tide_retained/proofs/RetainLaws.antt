@@ -171,9 +171,9 @@ one_retaining contents search middle new at cell is within here visited key_visi
         | inl before ↦ keep target (is.links source target before link (small target below))
         | inr last ↦ on target (visited.links target (subst (λ (c : ℕ). (graph_held contents).link c target) (sym last ∙ here) link) (small target below))
       ];
-      twins = λ source target passed twin. elim (passed_cases search new at source both within passed) [
-        | inl before ↦ keep target (is.twins source target before twin)
-        | inr last ↦ on target (visited.twins target (subst (λ (c : ℕ). (graph_held contents).twin c target) (sym last ∙ here) twin))
+      group_mates = λ source target passed group_mate. elim (passed_cases search new at source both within passed) [
+        | inl before ↦ keep target (is.group_mates source target before group_mate)
+        | inr last ↦ on target (visited.group_mates target (subst (λ (c : ℕ). (graph_held contents).group_mate c target) (sym last ∙ here) group_mate))
       ];
       values = λ table key target table_passed key_passed pair below. elim (passed_cases search new at table both within table_passed) [
         | inr last ↦
@@ -229,7 +229,7 @@ all_retained contents search at is done few cell below =
           let small = few table pair.0 pair.1 in
           let key_below : key < length search.found = (let same = pair.2 in omega (arith, small, same)) in
           is.values table key c (passed table (at_table there)) (passed key (at_key key_below)) pair b;
-      twins = λ one other at_one twin b.
-          let there = wide one (λ none. (let zero = ap group_of none in twin.1 (sym twin.0 ∙ zero))) in
-          is.twins one other (passed one (at_one there)) twin;
+      group_mates = λ one other at_one group_mate b.
+          let there = wide one (λ none. (let zero = ap group_of none in group_mate.1 (sym group_mate.0 ∙ zero))) in
+          is.group_mates one other (passed one (at_one there)) group_mate;
     }

@@ -10,8 +10,8 @@ use Rattle.tide_retained.specs.declared.index.Entry.{Entry}
 use Rattle.tide_retained.specs.declared.search.Found.{Found}
 use Rattle.tide_retained.specs.Contents.{HasPair, graph_held, group_of, held_at, links_of, pairs_of}
 use Rattle.tide_retained.specs.Index.{AreUnder, HasGroups, entry, items_of}
-use Rattle.tide_retained.specs.Path.{along_link, to_value, to_twin}
-use Rattle.tide_retained.specs.Searching.{Search, found_at, is_known, entered, all_entered, held_entered, twins_entered, with_twined, place_after, IsFound, by_step, IsSearch, Grows, AreEntered, ArePairsEntered, IsVisited}
+use Rattle.tide_retained.specs.Path.{along_link, to_value, to_group_mate}
+use Rattle.tide_retained.specs.Searching.{Search, found_at, is_known, entered, all_entered, held_entered, group_mates_entered, with_mated, place_after, IsFound, by_step, IsSearch, Grows, AreEntered, ArePairsEntered, IsVisited}
 use Rattle.tide_retained.proofs.EnterLaws.{Grows-refl, Grows-trans, cells_entered, pairs_are_entered}
 use Rattle.tide_retained.proofs.ListLaws.{nowhere, contains_first, contains_later, contains_one, from_flat_map, in_flat_map}
 
@@ -28,7 +28,7 @@ visited_none contents search cell is none = record {
   values = λ key target pair known below.
       let at = subst (λ (o : Option Held). Contains (pairs_of o) pair.0) none pair.1 in
       absurd (nowhere pair.0 at);
-  twins = λ twin pair. (let zero = ap group_of none in absurd (pair.1 (sym pair.0 ∙ zero)));
+  group_mates = λ group_mate pair. (let zero = ap group_of none in absurd (pair.1 (sym pair.0 ∙ zero)));
 }
 
 -- what a cell holds is entered
@@ -45,7 +45,7 @@ held_is_entered contents search cell held before is holds found =
     (to_value key (subst (λ (o : Option Held). HasPair (pairs_of o) key target) (sym holds) has) kept)) in
     (pairs, links)
 
--- all was entered that a cell holds, but for its twins
+-- all was entered that a cell holds, but for its group mates
 pub record HoldsEntered (contents : Contents) (old : Search) (cell : ℕ) (before : Found) (new : Search) : Type 0 where
   pub found : found_at old cell ≡ Some before
   pub search : IsSearch contents new
@@ -74,15 +74,15 @@ holds_entered contents search cell held before is holds found next same =
     } in
     subst (HoldsEntered contents search cell before) (sym same) all
 
--- and its twins were found before
-pub with_found_twins : (contents : Contents) (old new : Search) (cell : ℕ) (before : Found) → HoldsEntered contents old cell before new →
-    ((twin : ℕ) → (graph_held contents).twin cell twin → IsFound new twin) → IsVisited contents old cell new
-with_found_twins contents old new cell before entered twins = record {
+-- and its group mates were found before
+pub with_found_group_mates : (contents : Contents) (old new : Search) (cell : ℕ) (before : Found) → HoldsEntered contents old cell before new →
+    ((group_mate : ℕ) → (graph_held contents).group_mate cell group_mate → IsFound new group_mate) → IsVisited contents old cell new
+with_found_group_mates contents old new cell before entered group_mates = record {
   search = entered.search;
   grows = λ also is_also. subst (λ (f : Found). Grows (place_after cell f) old new) (found_once old cell before also entered.found is_also) entered.grows;
   links = entered.links;
   values = entered.values;
-  twins = twins;
+  group_mates = group_mates;
 }
 
 -- the flags of some cells are set
@@ -97,10 +97,10 @@ flags_set (first ∷ cells) flags cell is = elim (flags_set cells (slice_set fla
   ]
 ]
 
--- noting that the twins of some cells were entered keeps a search, where they were
-twined_search : (contents : Contents) (search : Search) (cells : List ℕ) → IsSearch contents search →
-    ((cell twin : ℕ) → Contains cells cell → (graph_held contents).twin cell twin → IsFound search twin) → IsSearch contents (with_twined search cells)
-twined_search contents search cells is entered = record {
+-- noting that the group mates of some cells were entered keeps a search, where they were
+mated_search : (contents : Contents) (search : Search) (cells : List ℕ) → IsSearch contents search →
+    ((cell group_mate : ℕ) → Contains cells cell → (graph_held contents).group_mate cell group_mate → IsFound search group_mate) → IsSearch contents (with_mated search cells)
+mated_search contents search cells is entered = record {
   sized = is.sized;
   wide = is.wide;
   retained = is.retained;
@@ -110,9 +110,9 @@ twined_search contents search cells is entered = record {
   listed = is.listed;
   in_order = is.in_order;
   count = is.count;
-  twins = λ one twin twined pair. elim (flags_set cells search.twined one twined) [
-    | inl was ↦ is.twins one twin was pair
-    | inr now ↦ entered one twin now pair
+  group_mates = λ one group_mate mated pair. elim (flags_set cells search.mated one mated) [
+    | inl was ↦ is.group_mates one group_mate was pair
+    | inr now ↦ entered one group_mate now pair
   ];
 }
 
@@ -140,35 +140,35 @@ in_group contents entries members group cell has under is some =
     let among = (under (entry group cell)).1 (subst (λ (g : ℕ). Contains entries (entry g cell)) is stands, refl) in
     in_flat_map (λ entry. entry.item ∷ []) members (entry group cell) cell among (contains_first cell [])
 
--- and its twins are entered, as the members of its group
-pub with_entered_twins : (contents : Contents) (entries members : List Entry) (old middle : Search) (cell group : ℕ) (before : Found) → HoldsEntered contents old cell before middle →
+-- and its group mates are entered, as the members of its group
+pub with_entered_group_mates : (contents : Contents) (entries members : List Entry) (old middle : Search) (cell group : ℕ) (before : Found) → HoldsEntered contents old cell before middle →
     HasGroups contents entries → AreUnder entries group members → group_of (held_at contents cell) ≡ group → group ≢ 0 → (new : Search) →
-    new ≡ twins_entered (place_after cell before) middle members → IsVisited contents old cell new
-with_entered_twins contents entries members old middle cell group before entered has under in_it some new same =
+    new ≡ group_mates_entered (place_after cell before) middle members → IsVisited contents old cell new
+with_entered_group_mates contents entries members old middle cell group before entered has under in_it some new same =
     let place = place_after cell before in
     let items = items_of members in
     let next = all_entered place middle items in
-    let last = with_twined next items in
+    let last = with_mated next items in
     let all = cells_entered contents place items middle entered.search (λ member at.
     let of_group = (under_group contents entries members group member has under at).0 in
-    by_step before (entered.grows.kept cell before entered.found) refl refl (to_twin (in_it ∙ sym of_group, λ none. some (sym of_group ∙ none)))) in
+    by_step before (entered.grows.kept cell before entered.found) refl refl (to_group_mate (in_it ∙ sym of_group, λ none. some (sym of_group ∙ none)))) in
     let found : (member : ℕ) → group_of (held_at contents member) ≡ group → IsFound next member = λ member is.
     all.each member (in_group contents entries members group member has under is some) (live_is_wide contents middle member entered.search (λ none. some (sym is ∙ none))) in
-    let search = twined_search contents next items all.search (λ one twin at pair.
+    let search = mated_search contents next items all.search (λ one group_mate at pair.
     let of_group = (under_group contents entries members group one has under at).0 in
-    found twin (sym pair.0 ∙ of_group)) in
+    found group_mate (sym pair.0 ∙ of_group)) in
     let visited : IsVisited contents old cell last = record {
       search = search;
       grows = λ also is_also. subst (λ (f : Found). Grows (place_after cell f) old last) (found_once old cell before also entered.found is_also)
-          (grows_twined place old next items (Grows-trans place old middle next entered.grows all.grows));
+          (grows_mated place old next items (Grows-trans place old middle next entered.grows all.grows));
       links = λ target link below. (let (f, there) = entered.links target link below in (f, all.grows.kept target f there));
       values = λ key target pair known below. (let (f, there) = entered.values key target pair known below in (f, all.grows.kept target f there));
-      twins = λ twin pair. found twin (sym pair.0 ∙ in_it);
+      group_mates = λ group_mate pair. found group_mate (sym pair.0 ∙ in_it);
     } in
     subst (IsVisited contents old cell) (sym same) visited
   where
-    grows_twined : (place : Found) (one two : Search) (cells : List ℕ) → Grows place one two → Grows place one (with_twined two cells)
-    grows_twined place one two cells grows = record {
+    grows_mated : (place : Found) (one two : Search) (cells : List ℕ) → Grows place one two → Grows place one (with_mated two cells)
+    grows_mated place one two cells grows = record {
       kept = grows.kept;
       known = grows.known;
       added = grows.added;

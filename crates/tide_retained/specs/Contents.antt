@@ -70,5 +70,5 @@ graph_held contents = record {
   root = λ cell. (root : Root) × Contains contents.roots.items (record { root = root; cell = cell });
   link = λ source cell. Contains (links_of (held_at contents source)) cell;
   triple = λ table key cell. HasPair (pairs_of (held_at contents table)) key cell;
-  twin = λ one other. (group_of (held_at contents one) ≡ group_of (held_at contents other)) × (group_of (held_at contents other) ≢ 0);
+  group_mate = λ one other. (group_of (held_at contents one) ≡ group_of (held_at contents other)) × (group_of (held_at contents other) ≢ 0);
 }

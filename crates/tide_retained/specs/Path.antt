@@ -6,11 +6,11 @@ use Rattle.tide_model.specs.declared.val.Val.TheVariants.{Cell}
 use Rattle.tide_retained.specs.declared.root.Root.{Root}
 use Rattle.tide_retained.specs.declared.root.Root.TheVariants.{Register, Claim, Strong}
 
--- one step from a cell: along a link, from a table to the value of a pair whose key is retained, or to a twin
+-- one step from a cell: along a link, from a table to the value of a pair whose key is retained, or to a group mate
 pub data IsStep (graph : Graph) (source cell : ℕ) : Type 0 where
   along_link : graph.link source cell → IsStep graph source cell
   to_value : (key : ℕ) → graph.triple source key cell → IsRetained graph no_cell key → IsStep graph source cell
-  to_twin : graph.twin source cell → IsStep graph source cell
+  to_group_mate : graph.group_mate source cell → IsStep graph source cell
 
 -- from a root, so many steps lead to the cell
 pub data Reaches (graph : Graph) : ℕ → ℕ → Type 0 where

@@ -12,12 +12,12 @@ use Rattle.tide_retained.specs.Index.{items_of}
 use Rattle.tide_retained.specs.Path.{IsDistanceOf, IsStep}
 
 -- which cells are known to be retained, how each was found that was, in which order they were, and of which cells the
--- twins were entered
+-- group mates were entered
 pub record Search : Type 0 where
   pub retained : List Bool
   pub found : List (Option Found)
   pub order : List ℕ
-  pub twined : List Bool
+  pub mated : List Bool
 
 -- how a cell was found, if it was
 abbrev pub found_in : List (Option Found) → ℕ → Option Found
@@ -30,9 +30,9 @@ found_at search cell = found_in search.found cell
 abbrev pub is_known : Search → ℕ → Bool
 is_known search cell = slice_index_or search.retained cell false
 
--- the cell's twins were entered
-abbrev pub is_twined : Search → ℕ → Bool
-is_twined search cell = slice_index_or search.twined cell false
+-- the cell's group mates were entered
+abbrev pub is_mated : Search → ℕ → Bool
+is_mated search cell = slice_index_or search.mated cell false
 
 -- a search over so many cells that has found none, where these are known to be retained
 abbrev pub unsearched : List Bool → Search
@@ -40,7 +40,7 @@ unsearched retained = record {
   retained = retained;
   found = replicate (length retained) None;
   order = [];
-  twined = replicate (length retained) false;
+  mated = replicate (length retained) false;
 }
 
 -- the cell is one of the cells and isn't found yet
@@ -75,9 +75,9 @@ pairs_entered place search pairs = fold (pair_entered place) search pairs
 abbrev pub with_flags : List Bool → List ℕ → List Bool
 with_flags flags cells = fold (λ flags cell. slice_set flags cell true) flags cells
 
--- the search in which the twins of some cells were entered
-abbrev pub with_twined : Search → List ℕ → Search
-with_twined search cells = record search { twined = with_flags search.twined cells }
+-- the search in which the group mates of some cells were entered
+abbrev pub with_mated : Search → List ℕ → Search
+with_mated search cells = record search { mated = with_flags search.mated cells }
 
 -- the search in which the cells that roots hold were entered
 abbrev pub root_entered : Search → Rooted → Search
@@ -97,7 +97,7 @@ pub data IsPlaced (contents : Contents) (found : List (Option Found)) (cell : �
       IsStep (graph_held contents) place.parent cell → IsPlaced contents found cell place
 
 -- What was found is what steps lead to from the roots, each cell once in the order; what is known to be retained is;
--- and of each cell whose twins were entered these were found.
+-- and of each cell whose group mates were entered these were found.
 pub record IsSearch (contents : Contents) (search : Search) : Type 0 where
   pub sized : length search.retained ≡ length search.found
   pub wide : length contents.cells.items ≤ length search.found
@@ -108,7 +108,7 @@ pub record IsSearch (contents : Contents) (search : Search) : Type 0 where
   pub listed : (cell : ℕ) (place : Found) → found_at search cell ≡ Some place → Contains search.order cell
   pub in_order : (cell : ℕ) → Contains search.order cell → IsFound search cell
   pub count : length search.order ≡ count_by is_some search.found
-  pub twins : (cell twin : ℕ) → is_twined search cell ≡ true → (graph_held contents).twin cell twin → IsFound search twin
+  pub group_mates : (cell group_mate : ℕ) → is_mated search cell ≡ true → (graph_held contents).group_mate cell group_mate → IsFound search group_mate
 
 -- more cells were found, all of them like this, and behind those that were found before
 pub record Grows (place : Found) (old new : Search) : Type 0 where
@@ -140,9 +140,9 @@ place_after cell before = record { distance = before.distance + 1; parent = cell
 abbrev pub held_entered : Found → Search → Held → Search
 held_entered place search held = pairs_entered place (all_entered place search (links_of (Some held))) held.pairs.items
 
--- the search in which the members of a group were entered with their twins
-abbrev pub twins_entered : Found → Search → List Entry → Search
-twins_entered place search members = with_twined (all_entered place search (items_of members)) (items_of members)
+-- the search in which the members of a group were entered with their group mates
+abbrev pub group_mates_entered : Found → Search → List Entry → Search
+group_mates_entered place search members = with_mated (all_entered place search (items_of members)) (items_of members)
 
 -- all was entered to which a step leads from a cell, as far as the keys of its pairs were known to be retained
 pub record IsVisited (contents : Contents) (old : Search) (cell : ℕ) (new : Search) : Type 0 where
@@ -150,7 +150,7 @@ pub record IsVisited (contents : Contents) (old : Search) (cell : ℕ) (new : Se
   pub grows : (before : Found) → found_at old cell ≡ Some before → Grows (place_after cell before) old new
   pub links : (target : ℕ) → (graph_held contents).link cell target → target < length old.found → IsFound new target
   pub values : (key target : ℕ) → (graph_held contents).triple cell key target → is_known old key ≡ true → target < length old.found → IsFound new target
-  pub twins : (twin : ℕ) → (graph_held contents).twin cell twin → IsFound new twin
+  pub group_mates : (group_mate : ℕ) → (graph_held contents).group_mate cell group_mate → IsFound new group_mate
 
 -- more cells were found, behind those that were found before
 pub record Extends (old new : Search) : Type 0 where
@@ -186,7 +186,7 @@ pub record IsRetaining (contents : Contents) (search : Search) (at : ℕ) : Type
   pub own : (cell : ℕ) → is_known search cell ≡ true → IsFound search cell
   pub roots : (cell : ℕ) → (graph_held contents).root cell → cell < length search.found → IsFound search cell
   pub links : (cell target : ℕ) → IsPassed search at cell → (graph_held contents).link cell target → target < length search.found → IsFound search target
-  pub twins : (cell target : ℕ) → IsPassed search at cell → (graph_held contents).twin cell target → IsFound search target
+  pub group_mates : (cell target : ℕ) → IsPassed search at cell → (graph_held contents).group_mate cell target → IsFound search target
   pub values : (table key target : ℕ) → IsPassed search at table → IsPassed search at key → (graph_held contents).triple table key target → target < length search.found →
       IsFound search target
 

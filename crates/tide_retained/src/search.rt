@@ -3,7 +3,7 @@
 ghost use Rattle.std.specs.Prelude.{◌≡◌, ◌<◌, ◌≤◌, Some, fold, is_some, length, slice_index, IfOk, OnOk};
 ghost use Rattle.tide_retained.specs.Contents.{cell_in, cells_in, cells_under};
 ghost use Rattle.tide_retained.specs.Index.{items_of, HasGroups, HasKeys};
-ghost use Rattle.tide_retained.specs.Searching.{again_entered, all_entered, entered, found_at, held_entered, is_known, is_twined, pairs_entered, place_after, roots_entered, twins_entered, unsearched, with_flags, with_twined, IsFound, IsKeyVisited, IsSearch, IsVisited};
+ghost use Rattle.tide_retained.specs.Searching.{again_entered, all_entered, entered, found_at, held_entered, is_known, is_mated, pairs_entered, place_after, roots_entered, group_mates_entered, unsearched, with_flags, with_mated, IsFound, IsKeyVisited, IsSearch, IsVisited};
 
 use crate::Root;
 use crate::contents::{Contents, Held, Keyed, Rooted};
@@ -29,7 +29,7 @@ pub(crate) struct Search {
     retained: Vec<bool>,
     found: Vec<Option<Found>>,
     order: Vec<u32>,
-    twined: Vec<bool>,
+    mated: Vec<bool>,
 }
 
 impl Model for Search {
@@ -42,11 +42,11 @@ impl Model for Search {
       retained = s.retained.items;
       found = s.found.items;
       order = s.order.items;
-      twined = s.twined.items;
+      mated = s.mated.items;
     } };
 
     ghost invariant = { λ s. (length s.retained.items ≡ length s.found.items)
-        × (length s.twined.items ≡ length s.found.items) × (length s.found.items ≤ 20480) };
+        × (length s.mated.items ≡ length s.found.items) × (length s.found.items ≤ 20480) };
 }
 
 /// Sets the flags of some items.
@@ -71,14 +71,14 @@ impl Search {
         let Ok(found) = vec![in alloc; None; cells] else {
             return Err(Memory);
         };
-        let Ok(twined) = vec![in alloc; false; cells] else {
+        let Ok(mated) = vec![in alloc; false; cells] else {
             return Err(Memory);
         };
         Ok(Search {
             retained,
             found,
             order: Vec::new(alloc),
-            twined,
+            mated,
         })
     }
 
@@ -171,12 +171,12 @@ impl Search {
         self.enter_pairs(held.pairs.as_slice(), place)
     }
 
-    /// Whether the twins of a cell were entered.
-    fn is_twined(&self, cell: u32) -> bool
-        ensures { result ≡ is_twined self.now cell }
+    /// Whether the group mates of a cell were entered.
+    fn is_mated(&self, cell: u32) -> bool
+        ensures { result ≡ is_mated self.now cell }
     {
         let at = cell as usize;
-        at < self.twined.len() && self.twined[at]
+        at < self.mated.len() && self.mated[at]
     }
 
     /// Enters the members of a group.
@@ -189,19 +189,19 @@ impl Search {
         Ok(())
     }
 
-    /// Notes of the members of a group that their twins were entered.
-    fn set_twined(&mut self, members: &[Entry])
-        ensures { self.new ≡ with_twined self.old (items_of members.now) }
+    /// Notes of the members of a group that their group mates were entered.
+    fn set_mated(&mut self, members: &[Entry])
+        ensures { self.new ≡ with_mated self.old (items_of members.now) }
     {
-        set_flags(self.twined.as_mut_slice(), members);
+        set_flags(self.mated.as_mut_slice(), members);
     }
 
-    /// Enters the members of a group, each of which is a twin of the others.
-    fn enter_twins(&mut self, members: &[Entry], place: Found) -> Result<(), Memory>
-        ensures { OnOk result (self.new ≡ twins_entered place self.old members.now) }
+    /// Enters the members of a group, each of which is a group mate of the others.
+    fn enter_group_mates(&mut self, members: &[Entry], place: Found) -> Result<(), Memory>
+        ensures { OnOk result (self.new ≡ group_mates_entered place self.old members.now) }
     {
         self.enter_members(members, place)?;
-        self.set_twined(members);
+        self.set_mated(members);
         Ok(())
     }
 
@@ -234,8 +234,8 @@ impl Search {
             return Ok(());
         };
         self.enter_held(held, place)?;
-        if held.group != 0 && !self.is_twined(cell) {
-            self.enter_twins(groups.of(held.group), place)?;
+        if held.group != 0 && !self.is_mated(cell) {
+            self.enter_group_mates(groups.of(held.group), place)?;
         }
         Ok(())
     }

@@ -26,7 +26,7 @@ FrozenWith-same layout shapes old new history unentered same wave = record {
     roots = λ marks. wave.span.roots (before marks);
     links = λ marks. wave.span.links (before marks);
     triples = λ marks. wave.span.triples (before marks);
-    twins = λ marks. wave.span.twins (before marks);
+    group_mates = λ marks. wave.span.group_mates (before marks);
   };
   marking = Marking-same layout shapes old new (state_after layout history) [] same wave.marking;
   cycle = running_cycle-same layout old new (same Phase) ∙ wave.cycle;

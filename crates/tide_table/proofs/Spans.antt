@@ -40,7 +40,7 @@ span_of layout heap log marked span other says = record {
   roots = λ marks. span.roots (marked (says marks));
   links = λ marks. span.links (marked (says marks));
   triples = λ marks. span.triples (marked (says marks));
-  twins = λ marks. span.twins (marked (says marks));
+  group_mates = λ marks. span.group_mates (marked (says marks));
 }
 
 -- where no cycle marks, nothing is said
@@ -49,7 +49,7 @@ span_none layout log none heap says = record {
   roots = λ marks. absurd (let is = says marks in cc);
   links = λ marks. absurd (let is = says marks in cc);
   triples = λ marks. absurd (let is = says marks in cc);
-  twins = λ marks. absurd (let is = says marks in cc);
+  group_mates = λ marks. absurd (let is = says marks in cc);
 }
 
 -- an entry of a freeze keeps it

@@ -175,8 +175,8 @@ impl Runs {
         })
     }
 
-    /// How many twins of so many marked cells are to be marked.
-    fn unmarked_twins(&self, count: usize) -> usize {
+    /// How many group mates of so many marked cells are to be marked.
+    fn unmarked_group_mates(&self, count: usize) -> usize {
         match (self.grouping, self.marks) {
             (Grouping::Alone, _) | (_, Marks::Nothing | Marks::All) => 0,
             (Grouping::Together, _) => self.cells.len().saturating_sub(count),
@@ -233,8 +233,8 @@ fn least_times<R: Clock>(
 ) -> io::Result<Option<(Duration, Duration)>> {
     let mut runs = Runs::new(alloc, grouping, marks)?;
     let count = set_marks(&mut runs.heap, runs.cells.as_slice(), runs.marks);
-    let twins = runs.unmarked_twins(count);
-    let groups = least_time(rt, alloc, &mut runs, times, &Groups, twins)?;
+    let group_mates = runs.unmarked_group_mates(count);
+    let groups = least_time(rt, alloc, &mut runs, times, &Groups, group_mates)?;
     let pairs = least_time(rt, alloc, &mut runs, times, &Ephemerons, 0)?;
     match (groups, pairs) {
         (Some(groups), Some(pairs)) => Ok(Some((groups, pairs))),

@@ -259,7 +259,7 @@ visited_is_converged = record {
     links = λ source cell marked link. absurd (no_link source cell link);
     pairs = λ table key cell marked_table marked_key triple. absurd
         (let held = triple.has_pair in no_pair table key cell held);
-    twins = λ one other marked twin. absurd (twin.in_a_group (no_group one));
+    group_mates = λ one other marked group_mate. absurd (group_mate.in_a_group (no_group one));
   };
 }
   where
@@ -370,7 +370,7 @@ none_retained = retained_in_closed (cycle_span small dropped) (IsSpared small dr
   further_cells = λ cell spared. true≢false (sym spared);
   links = λ source cell from link. from;
   pairs = λ table key cell from_table from_key triple. from_table;
-  twins = λ one other from twin. from;
+  group_mates = λ one other from group_mate. from;
 })
 
 -- a mark on the cell breaks the wave, whatever else the words say

@@ -1,4 +1,4 @@
--- The words determine all that a graph sees: two states that they read as have the same roots, links, pairs and twins.
+-- The words determine all that a graph sees: two states that they read as have the same roots, links, pairs and group mates.
 use Rattle.tide_words.proofs.heap_laws.ReadingLaws.{live_within}
 use Rattle.std.proofs.Common.{ℕ, ◌≡◌, ◌<◌, sym, ◌∙◌, ap, subst, arith, Bool, true, List, length, inl, inr, Option, Some, None}
 use Rattle.std.proofs.lemmas.Bool.{cases_Bool, cases_lt}
@@ -143,10 +143,10 @@ module _ (layout : Layout) (shapes : ShapeLists) (heap : Heap) (one other : Stat
       is_live = alive_in_both table triple.is_live;
       has_pair = same_pair table key (Cell cell) triple.is_live triple.has_pair;
     };
-    twins = λ a b twins. record {
-      one_is_live = alive_in_both a twins.one_is_live;
-      other_is_live = alive_in_both b twins.other_is_live;
-      same_group = same_group a twins.one_is_live ∙ twins.same_group ∙ sym (same_group b twins.other_is_live);
-      in_a_group = λ none. twins.in_a_group (sym (same_group a twins.one_is_live) ∙ none);
+    group_mates = λ a b group_mates. record {
+      one_is_live = alive_in_both a group_mates.one_is_live;
+      other_is_live = alive_in_both b group_mates.other_is_live;
+      same_group = same_group a group_mates.one_is_live ∙ group_mates.same_group ∙ sym (same_group b group_mates.other_is_live);
+      in_a_group = λ none. group_mates.in_a_group (sym (same_group a group_mates.one_is_live) ∙ none);
     };
   }

@@ -6,7 +6,7 @@ use Rattle.tide_model.specs.Layout.{block_of_cell}
 use Rattle.tide_layout.specs.Region.{index_of_register}
 use Rattle.tide_words.specs.heap.EmptyHeap.{empty_heap}
 use Rattle.tide_words.specs.heap.Heap.{Heap, write}
-use Rattle.tide_words.specs.marking.Named.{AreTwinsOfWords, IsNamedByMutator, of_register, of_claim}
+use Rattle.tide_words.specs.marking.Named.{AreGroupMatesOfWords, IsNamedByMutator, of_register, of_claim}
 use Rattle.tide_words.proofs.marking_laws.ReadingRows.{small}
 
 -- a register with the word of cell 1 names it
@@ -37,9 +37,9 @@ free_claim_names_none cell (of_claim who in_mutators within occupied is) =
 abbrev of_group : ℕ → Heap
 of_group word = write (write (write empty_heap Free 0 (2 ^ 64 - 2 ^ 2)) Group 0 word) Group 1 word
 
--- with the word of a group they are twins
-group_has_twins : AreTwinsOfWords small (of_group 7) 0 1
-group_has_twins = record {
+-- with the word of a group they are group mates
+group_has_group_mates : AreGroupMatesOfWords small (of_group 7) 0 1
+group_has_group_mates = record {
   one_within = omega arith;
   other_within = omega arith;
   one_is_live = refl;
@@ -50,5 +50,5 @@ group_has_twins = record {
 }
 
 -- with a word that is none of a group they aren't
-large_group_has_none : AreTwinsOfWords small (of_group (2 ^ 32)) 0 1 → ⊥
-large_group_has_none twins = let number = twins.number in omega (arith, number)
+large_group_has_none : AreGroupMatesOfWords small (of_group (2 ^ 32)) 0 1 → ⊥
+large_group_has_none group_mates = let number = group_mates.number in omega (arith, number)

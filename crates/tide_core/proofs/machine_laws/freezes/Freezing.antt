@@ -48,7 +48,7 @@ FrozenMachine-first layout shapes = record {
       roots = λ marks. absurd (cc);
       links = λ marks. absurd (cc);
       triples = λ marks. absurd (cc);
-      twins =
+      group_mates =
           λ marks. absurd (cc);
     };
     marking = Marking-empty layout shapes;

@@ -37,7 +37,7 @@ use Rattle.tide_model.proofs.Histories.{IsLawful-push, state_after-push, moment_
 use Rattle.tide_model.proofs.SinceLaws.{count-push, since-none}
 use Rattle.tide_model.specs.Old.{is_full, is_old, is_spared}
 use Rattle.tide_model.specs.Cycle.{cycle_span, HasDead}
-use Rattle.tide_model.specs.Graph.{IsLink, in_slot, in_property, IsRoot, IsTriple, AreTwins, IsWithin, graph_of}
+use Rattle.tide_model.specs.Graph.{IsLink, in_slot, in_property, IsRoot, IsTriple, AreGroupMates, IsWithin, graph_of}
 use Rattle.tide_model.specs.History.{is_open, plain, state_after, is_begin, is_call_of, moment_after_last}
 use Rattle.tide_model.specs.Layout.{Layout, cell_count}
 use Rattle.tide_model.specs.Periods.{open_count}
@@ -216,11 +216,11 @@ module _ (layout : Layout) (shapes : ShapeLists) (heap : Heap) (part : ℕ → V
             | inr now ↦ wave.span.triples marks table key cell
                 (in_before.triples table key cell (subst (λ (t : State). IsTriple t table key cell) same_state now))
           ]);
-      twins = λ marks one other twin. subst (λ (t : State). IsLive t one × IsLive t other) (sym same_state)
-          (elim (Growing.twin_cases layout before (plain (Open number run)) refl one other twin) [
-            | inl earlier ↦ wave.span.twins marks one other earlier
-            | inr now ↦ wave.span.twins marks one other
-                (in_before.twins one other (subst (λ (t : State). AreTwins t one other) same_state now))
+      group_mates = λ marks one other group_mate. subst (λ (t : State). IsLive t one × IsLive t other) (sym same_state)
+          (elim (Growing.group_mate_cases layout before (plain (Open number run)) refl one other group_mate) [
+            | inl earlier ↦ wave.span.group_mates marks one other earlier
+            | inr now ↦ wave.span.group_mates marks one other
+                (in_before.group_mates one other (subst (λ (t : State). AreGroupMates t one other) same_state now))
           ]);
     };
     born = record {

@@ -384,9 +384,9 @@ module _ (layout : Layout) (shapes : ShapeLists) (old : Heap) (part : ℕ → Vi
               | inl earlier ↦ now_of.alive cell (wave.span.triples (sym marking ∙ marks) table key cell earlier)
               | inr now ↦ now_of.refs.in_pairs table key cell now.is_live now.has_pair
             ];
-        twins = λ marks one other twin.
-            elim (Growing.twin_cases layout log (call_of me op reply took) refl one other twin) [
-              | inl earlier ↦ (let both = wave.span.twins (sym marking ∙ marks) one other earlier in
+        group_mates = λ marks one other group_mate.
+            elim (Growing.group_mate_cases layout log (call_of me op reply took) refl one other group_mate) [
+              | inl earlier ↦ (let both = wave.span.group_mates (sym marking ∙ marks) one other earlier in
                   (now_of.alive one both.0, now_of.alive other both.1))
               | inr now ↦ (now.one_is_live, now.other_is_live)
             ];

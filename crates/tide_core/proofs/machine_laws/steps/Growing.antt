@@ -15,7 +15,7 @@ use Rattle.tide_model.proofs.SinceLaws.{since-push, count-push, visits_since-pus
 use Rattle.tide_model.proofs.Spans
 use Rattle.tide_model.proofs.Windows.{window_start-push}
 use Rattle.tide_model.specs.Cycle.{cycle_span, begin_count}
-use Rattle.tide_model.specs.Graph.{IsWithin, IsRoot, IsLink, IsTriple, AreTwins}
+use Rattle.tide_model.specs.Graph.{IsWithin, IsRoot, IsLink, IsTriple, AreGroupMates}
 use Rattle.tide_model.specs.History.{state_after, state_at, is_begin, is_open, is_call_of, moment_after_last}
 use Rattle.tide_model.specs.Layout.{Layout}
 use Rattle.tide_model.specs.Periods.{open_count}
@@ -82,9 +82,9 @@ module _ (layout : Layout) (log : List Event) (e : Event) (goes_on : is_begin e.
       (cycle_span layout log).triple table key cell ⊎ IsTriple (state_after layout (log ++ e ∷ [])) table key cell
   triple_cases table key cell = earlier (λ s. IsTriple s table key cell)
 
-  pub twin_cases : (one other : ℕ) → (cycle_span layout (log ++ e ∷ [])).twin one other →
-      (cycle_span layout log).twin one other ⊎ AreTwins (state_after layout (log ++ e ∷ [])) one other
-  twin_cases one other = earlier (λ s. AreTwins s one other)
+  pub group_mate_cases : (one other : ℕ) → (cycle_span layout (log ++ e ∷ [])).group_mate one other →
+      (cycle_span layout log).group_mate one other ⊎ AreGroupMates (state_after layout (log ++ e ∷ [])) one other
+  group_mate_cases one other = earlier (λ s. AreGroupMates s one other)
 
   -- no cycle more began
   pub begin_count-push : begin_count (log ++ e ∷ []) ≡ begin_count log

@@ -258,7 +258,7 @@ module _ (layout : Layout) (shapes : ShapeLists) (w : World) (me : ℕ) (inside 
         roots = λ marks. now_not marks;
         links = λ marks. now_not marks;
         triples = λ marks. now_not marks;
-        twins = λ marks. now_not marks;
+        group_mates = λ marks. now_not marks;
       };
       old = record {
         old = λ when cell within is. same_marked cell ∙ wave.old.old (λ marks. marks_not marks) cell within (sym (old_same cell) ∙ is);

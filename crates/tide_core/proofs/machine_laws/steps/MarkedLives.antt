@@ -29,7 +29,7 @@ retained_is_live layout shapes heap log lawful span marks =
           (and_parts (not (is_full log)) (is_old layout log cell) spared).1;
       links = λ source cell alive link. (span.links marks source cell link).1;
       pairs = λ table key cell one other triple. span.triples marks table key cell triple;
-      twins = λ one other alive twin. (span.twins marks one other twin).1;
+      group_mates = λ one other alive group_mate. (span.group_mates marks one other group_mate).1;
     }
 
 pub marked_is_live : (layout : Layout) (shapes : ShapeLists) (w : World) → RunningWave layout shapes w →

@@ -281,7 +281,7 @@ module _ (layout : Layout) (shapes : ShapeLists) (old : Heap) (part : ℕ → Vi
         roots = λ marks. wave.span.roots (sym marking ∙ marks);
         links = λ marks. wave.span.links (sym marking ∙ marks);
         triples = λ marks. wave.span.triples (sym marking ∙ marks);
-        twins = λ marks. wave.span.twins (sym marking ∙ marks);
+        group_mates = λ marks. wave.span.group_mates (sym marking ∙ marks);
       };
       old = record {
         old = λ when cell within is. s.stays cell (wave.old.old (λ marks. when (marking ∙ marks)) cell within is);

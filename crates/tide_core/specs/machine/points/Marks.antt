@@ -35,7 +35,7 @@ pub record SpanIsLive (layout : Layout) (heap : Heap) (log : List Event) : Type 
       IsLive (state_after layout log) source × IsLive (state_after layout log) cell
   pub triples : is_marking heap ≡ true → (table key cell : ℕ) → (cycle_span layout log).triple table key cell →
       IsLive (state_after layout log) cell
-  pub twins : is_marking heap ≡ true → (one other : ℕ) → (cycle_span layout log).twin one other →
+  pub group_mates : is_marking heap ≡ true → (one other : ℕ) → (cycle_span layout log).group_mate one other →
       IsLive (state_after layout log) one × IsLive (state_after layout log) other
 
 -- the visits of a view that began in the part with this number

@@ -2,7 +2,7 @@
 use Rattle.std.proofs.Common.{ℕ, ◌≡◌, ◌<◌, ◌≤◌, sym, ◌∙◌, ap, subst, arith, Bool, false, List, length, get_or}
 use Rattle.std.proofs.lemmas.List.{length-replicate}
 use Rattle.tide_retained.specs.Searching.{AreRetained, HasKeysBelow, Search, roots_entered, unsearched}
-use Rattle.tide_retained.proofs.LevelLaws.{begun_size, none_twined, retaining_begins}
+use Rattle.tide_retained.proofs.LevelLaws.{begun_size, none_mated, retaining_begins}
 use Rattle.tide_retained.proofs.RetainLaws.{all_retained, one_retaining, ordered_found, visit_size}
 use Rattle.tide_retained.proofs.phases.retained.Goals as goal
 
@@ -12,7 +12,7 @@ loop-at-init c =
     let contents = c.args.contents.now in
     let counted : length flags ≡ 20480 = ap {A = List Bool} length c.in_ok-none.ensures ∙ length-replicate 20480 false in
     let wide : length contents.cells.items ≤ length flags = (let few = c.requires.cells in omega (arith, few, counted)) in
-    let none : (cell : ℕ) → get_or flags cell false ≡ false = λ cell. ap (λ (l : List Bool). get_or l cell false) c.in_ok-none.ensures ∙ none_twined 20480 cell in
+    let none : (cell : ℕ) → get_or flags cell false ≡ false = λ cell. ap (λ (l : List Bool). get_or l cell false) c.in_ok-none.ensures ∙ none_mated 20480 cell in
     let same = c.in_ok-enter_roots.ensures ∙ ap (λ (s : Search). roots_entered s c.as_slice.result.now) c.in_ok-search.ensures ∙ ap (roots_entered (unsearched flags)) c.as_slice.ensures.value in
     record {
       retaining = retaining_begins contents flags c.enter_roots.new.self wide none same;
