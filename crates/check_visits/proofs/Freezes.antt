@@ -2,7 +2,7 @@
 use Rattle.std.proofs.Common.{ℕ, ◌≡◌, ◌+◌, ◌<◌, refl, sym, ◌∙◌, ap, subst, arith, Bool, true, false, List, [], ◌∷◌, ◌++◌, length}
 use Rattle.check_visits.specs.Parts.{IsAtFreeze}
 use Rattle.tide_heap.proofs.tide_core.wave_laws.EntryLaws.{StandsBegin-next}
-use Rattle.tide_heap.specs.tide_core.wave.Entered.{with_begin, HasBegun, HasPaused}
+use Rattle.tide_heap.specs.tide_core.wave.Entered.{with_begin, CycleHasBegun, HasPaused}
 use Rattle.tide_heap.specs.tide_core.wave.StaysBlack.{StaysBlack}
 use Rattle.tide_heap.proofs.tide_freeze.FrozenLaws.{MayEnter-by, newly_counted}
 use Rattle.tide_heap.specs.tide_freeze.Entering.{MayEnter, TellsVisits, with_entry}
@@ -104,7 +104,7 @@ module _ (layout : Layout) (shapes : ShapeLists) (v : View) (freeze : IsAtFreeze
 -- below, v is the collector's view before the first cycle began, and x once that is entered
 module _ (layout : Layout) (shapes : ShapeLists) (v : View) (freeze : IsAtFreeze layout shapes v) (words : List ℕ)
     (idle : is_marking (heap_of layout v.words) ≡ false) (first : running_cycle (heap_of layout v.words) ≡ 0)
-    (begun : HasBegun layout true (heap_of layout v.words) (heap_of layout words)) where
+    (begun : CycleHasBegun layout true (heap_of layout v.words) (heap_of layout words)) where
   clean : IsSwept layout v.seen
   clean = swept_at_first layout shapes v.seen freeze.wave.lawful (sym freeze.wave.cycle ∙ first)
 

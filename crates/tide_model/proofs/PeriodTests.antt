@@ -14,7 +14,7 @@ use Rattle.tide_model.specs.Pace.{Pace}
 use Rattle.tide_model.specs.Old.{spared_count}
 use Rattle.tide_model.specs.Periods.{Period, EndsInTime, after_part, next_run}
 use Rattle.tide_model.specs.Script.{calls_of, retry_of, retry_after_all}
-use Rattle.tide_model.specs.Share.{MayCall, IsShare, has_ended}
+use Rattle.tide_model.specs.Share.{HasCallLeft, IsShare, has_ended}
 use Rattle.tide_model.specs.Since.{born_since, visits_since, is_end}
 use Rattle.tide_model.specs.State.{State, is_dead}
 use Rattle.tide_model.proofs.NumberLaws.{any_below-false}
@@ -50,9 +50,9 @@ abbrev pub may_call : ℕ → Option Op → List (Op × Reply) → Op × Reply �
 may_call run retry before call =
     nat_lt (length before) run && (not (has_ended retry before) && is_none (retry_after_all retry before))
 
-MayCall-tested : (run : ℕ) (retry : Option Op) (before : List (Op × Reply)) (call : Op × Reply) →
-    may_call run retry before call ≡ true → MayCall run retry before call
-MayCall-tested run retry before call passes =
+HasCallLeft-tested : (run : ℕ) (retry : Option Op) (before : List (Op × Reply)) (call : Op × Reply) →
+    may_call run retry before call ≡ true → HasCallLeft run retry before call
+HasCallLeft-tested run retry before call passes =
     let (few, rest) = and_parts (nat_lt (length before) run) (not (has_ended retry before) && is_none again) passes in
     let (may, none) = and_parts (not (has_ended retry before)) (is_none again) rest in
     record {
@@ -75,7 +75,7 @@ IsShare-tested run retry is_active calls passes =
     let (each, fewer) = and_parts (all_pass (may_call run retry) calls)
     (nat_le run (length calls) || (not is_active || has_ended retry calls)) passes in
     record {
-      each = Each-tested (MayCall run retry) (may_call run retry) (MayCall-tested run retry) calls each;
+      each = Each-tested (HasCallLeft run retry) (may_call run retry) (HasCallLeft-tested run retry) calls each;
       fewer = λ few.
           stops (nat_le run (length calls)) is_active (has_ended retry calls) (lt-leb run (length calls) few) fewer;
     }

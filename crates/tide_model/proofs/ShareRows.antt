@@ -4,7 +4,7 @@ use Rattle.std.proofs.Common.{arith, lit<, inl, inr}
 use Rattle.tide_model.specs.declared.op.Op.TheVariants.{Alloc, Set, Drop, Collect}
 use Rattle.tide_model.specs.declared.op.Reply.TheVariants.{Done, Born, Asked, Refused}
 use Rattle.tide_model.specs.declared.op.Refusal.TheVariants.{Full}
-use Rattle.tide_model.specs.Share.{MayCall, IsShare}
+use Rattle.tide_model.specs.Share.{HasCallLeft, IsShare}
 use Rattle.tide_model.proofs.PeriodTests.{IsShare-tested}
 
 -- a mutator may stop before its calls are used up where it asked for a cycle, or was refused for room a first time
@@ -35,11 +35,11 @@ goes_on_after_refusal share =
     cc
 
 -- nor make more calls than it has
-pub calls_too_often : MayCall 1 None ((Drop 0, Done) ∷ []) (Drop 1, Done) → ⊥
+pub calls_too_often : HasCallLeft 1 None ((Drop 0, Done) ∷ []) (Drop 1, Done) → ⊥
 calls_too_often may = let few = may.left in omega (arith, few)
 
 -- what was refused a first time at a part's end is tried again in the next part, and nothing else comes before it
-pub tries_again : MayCall 8 (Some (Alloc 0 1)) [] (Alloc 0 1, Refused (Full 1))
+pub tries_again : HasCallLeft 8 (Some (Alloc 0 1)) [] (Alloc 0 1, Refused (Full 1))
 tries_again = record { left = lit< tt; goes_on = refl; retries = λ op is. cc }
 
 pub skips_the_retry : IsShare 8 (Some (Alloc 0 1)) true ((Drop 0, Done) ∷ []) → ⊥
@@ -49,5 +49,5 @@ skips_the_retry share =
     cc
 
 -- after its second refusal the mutator goes on
-pub goes_on_after_second_refusal : MayCall 8 (Some (Alloc 0 1)) ((Alloc 0 1, Refused (Full 1)) ∷ []) (Set 0 1, Done)
+pub goes_on_after_second_refusal : HasCallLeft 8 (Some (Alloc 0 1)) ((Alloc 0 1, Refused (Full 1)) ∷ []) (Set 0 1, Done)
 goes_on_after_second_refusal = record { left = lit< tt; goes_on = refl; retries = λ op is. absurd (cc) }

@@ -27,7 +27,7 @@ has_ended retry calls = has_ended_from false retry calls
 
 -- a call may follow those that the mutator made in this part: fewer than `run` were made, the last of them let it go
 -- on, and an operation that was first refused for room is tried again
-pub record MayCall (run : ℕ) (retry : Option Op) (before : List (Op × Reply)) (call : Op × Reply) : Type 0 where
+pub record HasCallLeft (run : ℕ) (retry : Option Op) (before : List (Op × Reply)) (call : Op × Reply) : Type 0 where
   pub left : length before < run
   pub goes_on : has_ended retry before ≡ false
   pub retries : (op : Op) → retry_after_all retry before ≡ Some op → call.0 ≡ op
@@ -35,5 +35,5 @@ pub record MayCall (run : ℕ) (retry : Option Op) (before : List (Op × Reply))
 -- A mutator's calls in a part. It makes `run` calls, and fewer only where it has retired, or where the last one ends
 -- its share.
 pub record IsShare (run : ℕ) (retry : Option Op) (is_active : Bool) (calls : List (Op × Reply)) : Type 0 where
-  pub each : Each (MayCall run retry) calls
+  pub each : Each (HasCallLeft run retry) calls
   pub fewer : length calls < run → (is_active ≡ false) ⊎ (has_ended retry calls ≡ true)

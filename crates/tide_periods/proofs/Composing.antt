@@ -18,7 +18,7 @@ use Rattle.tide_model.specs.Numbers.{any_below}
 use Rattle.tide_model.specs.Periods.{open_count}
 use Rattle.tide_model.specs.Prefix.{IsPrefix, prefix_trans}
 use Rattle.tide_model.specs.Script.{calls_of, retry_after_all, retry_of}
-use Rattle.tide_model.specs.Share.{IsShare, MayCall, has_ended}
+use Rattle.tide_model.specs.Share.{IsShare, HasCallLeft, has_ended}
 use Rattle.tide_model.specs.Since.{is_call, is_of_part}
 use Rattle.tide_model.proofs.DeadLaws.{calls_where_marking}
 use Rattle.tide_model.proofs.Histories.{IsLawful-prefix, state_after-push}
@@ -117,7 +117,7 @@ follows history calls run = record {
 shared-retired : (setting : Setting) (run : ℕ) (history calls mine : List Event) (old new : Caller) → IsCallerAt setting history old → old.retired ≡ true → new ≡ old →
     IsOwn old.who history mine → IsOwn old.who (with_open history run ++ calls) mine → HasShared setting run history calls old new false
 shared-retired setting run history calls mine old new at retired same own all = subst (λ (c : Caller). HasShared setting run history calls old c false) (sym same) (record {
-  share = subst (IsShare run retry active) (sym quiet) (record { each = Each-nil (MayCall run retry); fewer = λ few. inl (caller.active ∙ ap not retired) });
+  share = subst (IsShare run retry active) (sym quiet) (record { each = Each-nil (HasCallLeft run retry); fewer = λ few. inl (caller.active ∙ ap not retired) });
   stops = ap (has_ended retry) (sym quiet);
   who = refl;
   ops = refl;

@@ -16,7 +16,7 @@ use Rattle.tide_model.specs.Layout.{Layout}
 use Rattle.tide_model.specs.Prefix.{IsPrefix, prefix_refl, prefix_trans}
 use Rattle.tide_model.specs.Refused.{ShapeLists}
 use Rattle.tide_model.specs.Script.{calls_of, is_full_reply, own_calls, retry_after_all, retry_of}
-use Rattle.tide_model.specs.Share.{MayCall, ends_share, has_ended, is_asked}
+use Rattle.tide_model.specs.Share.{HasCallLeft, ends_share, has_ended, is_asked}
 use Rattle.tide_model.specs.Each.{Each}
 use Rattle.tide_model.proofs.CallKeeps.{HasFewClaims, HasFewClaims-call}
 use Rattle.tide_model.proofs.Cycles.{take-all}
@@ -138,7 +138,7 @@ IsSharingOwn-nothing setting run seen mine caller within = record {
   more = [];
   adds = sym (append-nil mine);
   own = All-nil (λ event. is_call_of caller.who event.entry ≡ true);
-  each = Each-nil (MayCall run (retry_of caller.who mine));
+  each = Each-nil (HasCallLeft run (retry_of caller.who mine));
   count = refl;
   stops = refl;
   who = refl;
@@ -159,8 +159,8 @@ IsSharingOwn-called setting run made seen seen_then seen_now mine mine_then mine
   more = sharing.more ++ event ∷ [];
   adds = makes.adds ∙ ap (λ (l : List Event). l ++ event ∷ []) sharing.adds ∙ append_assoc mine sharing.more (event ∷ []);
   own = All-push (λ e. is_call_of old.who e.entry ≡ true) sharing.more event sharing.own (eq-eqb caller.who old.who sharing.who);
-  each = subst (Each (MayCall run retry)) (sym grown)
-      (push_cases (MayCall run retry) own (op, reply) sharing.each (record {
+  each = subst (Each (HasCallLeft run retry)) (sym grown)
+      (push_cases (HasCallLeft run retry) own (op, reply) sharing.each (record {
         left = let count = sharing.count in omega (arith, count, below);
         goes_on = sharing.stops;
         retries = λ o pending. is ∙ ap (λ (x : Option Op). op_or_leave x (length claims)) (at.retries o (still ∙ pending));

@@ -5,7 +5,7 @@ use Rattle.tide_model.specs.declared.entry.Event.{Event}
 use Rattle.tide_model.specs.History.{is_call_of, state_after}
 use Rattle.tide_model.specs.Numbers.{any_below}
 use Rattle.tide_model.specs.Script.{calls_of, retry_of}
-use Rattle.tide_model.specs.Share.{IsShare, MayCall, has_ended}
+use Rattle.tide_model.specs.Share.{IsShare, HasCallLeft, has_ended}
 use Rattle.tide_model.specs.Each.{Each}
 use Rattle.tide_model.specs.Since.{is_call}
 use Rattle.tide_model.specs.Prefix.{IsPrefix}
@@ -23,7 +23,7 @@ pub record IsSharing (old now : Recorded) (run who made : ℕ) (ended : Bool) : 
   pub events : List Event
   pub history : now.history ≡ old.history ++ events
   pub own : AllPass (λ event. is_call_of who event.entry) events
-  pub each : Each (MayCall run (retry_of who old.history)) (calls_of who events)
+  pub each : Each (HasCallLeft run (retry_of who old.history)) (calls_of who events)
   pub count : length (calls_of who events) ≡ made
   pub stops : has_ended (retry_of who old.history) (calls_of who events) ≡ ended
 
@@ -47,7 +47,7 @@ pub record IsSharingOwn (setting : Setting) (run : ℕ) (seen seen_now mine mine
   pub more : List Event
   pub adds : mine_now ≡ mine ++ more
   pub own : AllPass (λ event. is_call_of old.who event.entry) more
-  pub each : Each (MayCall run (retry_of old.who mine)) (calls_of old.who more)
+  pub each : Each (HasCallLeft run (retry_of old.who mine)) (calls_of old.who more)
   pub count : length (calls_of old.who more) ≡ made
   pub stops : has_ended (retry_of old.who mine) (calls_of old.who more) ≡ ended
   pub who : new.who ≡ old.who

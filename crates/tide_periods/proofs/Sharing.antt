@@ -10,7 +10,7 @@ use Rattle.tide_model.specs.Answer.{IsAnswer}
 use Rattle.tide_model.specs.History.{is_call_of, state_after}
 use Rattle.tide_model.specs.State.{State}
 use Rattle.tide_model.specs.Script.{calls_of, is_full_reply, retry_after_all, retry_of}
-use Rattle.tide_model.specs.Share.{MayCall, ends_share, has_ended, is_asked}
+use Rattle.tide_model.specs.Share.{HasCallLeft, ends_share, has_ended, is_asked}
 use Rattle.tide_model.specs.Each.{Each}
 use Rattle.tide_model.proofs.Histories.{calls_of-append, push_cases, retry_after_all-append}
 use Rattle.tide_model.proofs.PeriodLaws.{has_ended-push}
@@ -33,7 +33,7 @@ IsSharing-nothing old run who settled = record {
   events = [];
   history = sym (append-nil old.history);
   own = All-nil (λ event. is_call_of who event.entry ≡ true);
-  each = Each-nil (MayCall run (retry_of who old.history));
+  each = Each-nil (HasCallLeft run (retry_of who old.history));
   count = refl;
   stops = refl;
 }
@@ -53,8 +53,8 @@ IsSharing-called old now new run who made ops standing calls claims op reply sha
   events = sharing.events ++ event ∷ [];
   history = call.history ∙ ap (λ (h : List Event). h ++ event ∷ []) sharing.history ∙ append_assoc old.history sharing.events (event ∷ []);
   own = All-push (λ e. is_call_of who e.entry ≡ true) sharing.events event sharing.own (eq-eqb who who refl);
-  each = subst (Each (MayCall run retry)) (sym grown)
-      (push_cases (MayCall run retry) own (op, reply) sharing.each (record {
+  each = subst (Each (HasCallLeft run retry)) (sym grown)
+      (push_cases (HasCallLeft run retry) own (op, reply) sharing.each (record {
         left = let count = sharing.count in omega (arith, count, below);
         goes_on = sharing.stops;
         retries = λ o pending. is ∙ ap (λ (x : Option Op). op_or_leave x claims) (at.retries o (still ∙ pending));

@@ -8,11 +8,11 @@ use Rattle.tide_heap.specs.tide_core.machine.kinds.Activate.{begun_view}
 use Rattle.tide_heap.specs.tide_core.machine.kinds.Split.{split_view}
 use Rattle.tide_heap.specs.tide_core.machine.kinds.StoreStopped.{stopped_view}
 use Rattle.tide_mutator.specs.owed.Calling.{Kept, kept}
-use Rattle.tide_threads.specs.Parked.{HasBegun, HasPlayed}
+use Rattle.tide_threads.specs.Parked.{HasBegunPart, HasPlayed}
 
 -- the first beginning in a part
-pub HasBegun-by : (t v u : View) → u ≡ begun_view (heard_view v t) → v.begun < t.period → HasBegun t v u
-HasBegun-by t v u is later = subst (HasBegun t v) (sym (is ∙ first)) (record {
+pub HasBegunPart-by : (t v u : View) → u ≡ begun_view (heard_view v t) → v.begun < t.period → HasBegunPart t v u
+HasBegunPart-by t v u is later = subst (HasBegunPart t v) (sym (is ∙ first)) (record {
   who = refl;
   runs = refl;
   left = refl;
@@ -46,7 +46,7 @@ HasBegun-by t v u is later = subst (HasBegun t v) (sym (is ∙ first)) (record {
         }) (ne_eqb v.begun t.period (λ e. omega (arith, e, later)))
 
 -- what its view and its note are when it has stopped
-pub HasPlayed-stopped : (t v u0 u1 w n : View) (who : ℕ) (retired : Bool) → HasBegun t v u0 → kept u1 ≡ kept u0 →
+pub HasPlayed-stopped : (t v u0 u1 w n : View) (who : ℕ) (retired : Bool) → HasBegunPart t v u0 → kept u1 ≡ kept u0 →
     who ≡ v.who → u1.left ≡ retired → w ≡ split_view (stopped_view u1) → n ≡ note_of true (stopped_view u1) →
     HasPlayed t who retired w n
 HasPlayed-stopped t v u0 u1 w n who retired began same is left at out =

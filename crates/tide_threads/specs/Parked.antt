@@ -45,7 +45,7 @@ pub record HasPlayed (ticket : View) (who : ℕ) (retired : Bool) (v note : View
   pub done : note.done ≡ true
 
 -- a mutator began the part of a ticket, in which it hadn't begun before
-pub record HasBegun (tells v u : View) : Type 0 where
+pub record HasBegunPart (tells v u : View) : Type 0 where
   pub who : u.who ≡ v.who
   pub runs : u.runs ≡ true
   pub left : u.left ≡ v.left

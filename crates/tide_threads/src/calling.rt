@@ -4,7 +4,7 @@ ghost use Rattle.tide_heap.specs.tide_core.machine.Frozen.{newcomer};
 ghost use Rattle.tide_model.specs.Prefix.{IsPrefix};
 ghost use Rattle.tide_mutator.specs.calls.Viewed.{table_of, view_of};
 ghost use Rattle.tide_shape.specs.Lists.{lists_of};
-ghost use Rattle.tide_threads.specs.Parked.{HasBegun};
+ghost use Rattle.tide_threads.specs.Parked.{HasBegunPart};
 ghost use Rattle.tide_threads.specs.Playing.{HasMadeShare, MayBeginShare};
 
 use crate::share::make_share;
@@ -37,7 +37,7 @@ fn begin(mutator: &mut Mutator, heap: &Heap<Shapes>, ticket: Ticket)
     requires period { (view_of mutator.old).period < ticket.seat.me.0.period }
     requires begun { (view_of mutator.old).begun < ticket.seat.me.0.period }
     ensures own { table_of mutator.new ≡ table_of mutator.old }
-    ensures begun { HasBegun ticket.seat.me.0 (view_of mutator.old) (view_of mutator.new) }
+    ensures begun { HasBegunPart ticket.seat.me.0 (view_of mutator.old) (view_of mutator.new) }
     ensures told { IsPrefix ticket.seat.me.0.seen (view_of mutator.new).seen }
     ensures mine { (view_of mutator.new).mine ≡ (view_of mutator.old).mine }
 {

@@ -1,7 +1,7 @@
 //! The steps of a cycle over a heap of words, each done where its conditions hold, and all of them. Each leaves what
 //! the laws of `tide_core` ask of the heaps before and after it.
 ghost use Rattle.std.specs.Prelude.{◌≡◌, ◌<◌, ◌≤◌, [], true, IfSome};
-ghost use Rattle.tide_core.specs.wave.Entered.{HasBegun, HasEnded, HasPaused, HasSwept};
+ghost use Rattle.tide_core.specs.wave.Entered.{CycleHasBegun, HasEnded, HasPaused, HasSwept};
 ghost use Rattle.tide_layout.specs.Region.{block_count};
 ghost use Rattle.tide_solver.specs.Outcome.{visits_of};
 ghost use Rattle.tide_words.specs.heap.Heap.{heap_of};
@@ -41,7 +41,7 @@ impl Room {
 
 /// Begins a cycle where none marks, a full one or an Eden one, and answers whether it did.
 pub fn begin_in(heap: &mut Heap, full: bool) -> bool
-    ensures begun { result ≡ true → HasBegun heap.old.layout full (heap_of heap.old.layout heap.old.words)
+    ensures begun { result ≡ true → CycleHasBegun heap.old.layout full (heap_of heap.old.layout heap.old.words)
         (heap_of heap.old.layout heap.new.words) }
 {
     let (cycle, marks) = word_phase(heap.words.load(heap.layout.place(Region::Phase, 0)));

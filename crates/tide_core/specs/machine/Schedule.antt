@@ -1,6 +1,6 @@
 -- Where the machine may come, whoever steps when.
 use Rattle.std.specs.Prelude.{ℕ, ◌≡◌, ◌+◌, ◌<◌, ◌++◌, ◌∷◌, true, false, Bool, List, []}
-use Rattle.tide_core.specs.wave.Entered.{HasBegun, HasPaused, HasEnded, HasSwept, with_begin, with_end, with_open}
+use Rattle.tide_core.specs.wave.Entered.{CycleHasBegun, HasPaused, HasEnded, HasSwept, with_begin, with_end, with_open}
 use Rattle.tide_cycle.specs.Converged.{HasConverged}
 use Rattle.tide_words.specs.tide_layout.declared.region.Region.TheVariants as region
 use Rattle.tide_core.specs.machine.Frozen.{FrozenMachine, MayOpen, first_world}
@@ -30,7 +30,7 @@ pub data Enters (layout : Layout) (shapes : ShapeLists) (old : Heap) (history : 
     ℕ → Type 0 where
   visits : (who visits left : ℕ) →
       Enters layout shapes old history (visits + left) old (history ++ plain (Visits who visits) ∷ []) left
-  begins : (full : Bool) (new : Heap) → is_marking old ≡ false → IsSwept layout history → HasBegun layout full old new →
+  begins : (full : Bool) (new : Heap) → is_marking old ≡ false → IsSwept layout history → CycleHasBegun layout full old new →
       Enters layout shapes old history 0 new (with_begin history full) 0
   pauses : (new : Heap) (visits : ℕ) → is_marking old ≡ true → HasPaused layout old new visits →
       Enters layout shapes old history 0 new (history ++ plain (Pause visits) ∷ []) 0

@@ -12,7 +12,7 @@ use Rattle.tide_grow_shape.specs.transitions.Cells.{keys_in, last_in, name_of}
 use Rattle.tide_grow_shape.specs.declared.transitions.cells.Cells.{Cells}
 use Rattle.tide_grow_shape.specs.growers.Growing.{IsGrower, knowledge_of}
 use Rattle.tide_grow_shape.specs.growers.Stands.{AreOfTable, Stands}
-use Rattle.tide_grow_shape.specs.growers.Tables.{table_of}
+use Rattle.tide_grow_shape.specs.growers.Tables.{shape_table_of}
 use Rattle.tide_grow_shape.specs.transitions.Sights.{AreSights, edges_of}
 use Rattle.tide_grow_shape.specs.transitions.Walks.{Finds, first_of, Includes, Lists, empty, longer}
 use Rattle.tide_grow_shape.specs.declared.transitions.sight.Sight.{Sight}
@@ -196,7 +196,7 @@ grown_short_of facts shape key more known same = by_cases (known_keys facts shap
     by_cases (Some keys) e = let it = same keys e in grown_short keys more key it.0 it.1
 
 -- a grower's table is the one of its name
-pub own_name : (g : Inside) (k : Knowledge) (cells : Cells) (t : Table) → knowledge_of g ≡ k → table_of (name_of cells) ≡ t → k.table ≡ t → g.table.numbers ≡ name_of cells
+pub own_name : (g : Inside) (k : Knowledge) (cells : Cells) (t : Table) → knowledge_of g ≡ k → shape_table_of (name_of cells) ≡ t → k.table ≡ t → g.table.numbers ≡ name_of cells
 own_name g k cells t is of own = ap (λ (x : Knowledge). x.table.name) is ∙ ap (λ (x : Table). x.name) (own ∙ sym of)
 
 -- a child that has its parent's keys and one more is known

@@ -175,8 +175,8 @@ listed_more g (first ∷ others) list listed is = λ shape within. elim (cases_e
     within_front ls l n within apart = let more = long ls l in omega (arith, within, apart, more)
 
 -- such lists are a table of shapes
-pub table_of : {S : Type 0} (lists : ShapeLists) (children : HashMap ℕ ℕ S) → IsNumbered lists children → IsShapeTable lists
-table_of lists children is = record {
+pub shape_table_of : {S : Type 0} (lists : ShapeLists) (children : HashMap ℕ ℕ S) → IsNumbered lists children → IsShapeTable lists
+shape_table_of lists children is = record {
   empty = is.by_number.known 0 [] is.holds.empty;
   short = λ k d within. by_list (λ (keys : List ℕ). length keys ≤ 64) (omega arith) is.holds.short k d within;
   distinct = λ k d within. by_list HasNoKeyTwice (λ i j e below inside. grind (arith, inside)) is.holds.distinct k d within;

@@ -8,7 +8,7 @@ use Rattle.std.specs.Prelude.{All, Contains, OnOk, is_some}
 use Rattle.tide_shape.specs.ShapeTable.{HasNoKeyTwice}
 use Rattle.tide_grow_shape.specs.growers.Grown.{Fact, Grown, IsAbove, IsKnowledge, IsKnown, Knowledge, Knows, Table, known_keys}
 use Rattle.tide_grow_shape.specs.growers.Stands.{AreOfTable, Stands}
-use Rattle.tide_grow_shape.specs.growers.Tables.{table_of}
+use Rattle.tide_grow_shape.specs.growers.Tables.{shape_table_of}
 use Rattle.tide_grow_shape.specs.transitions.Sights.{AreSights, edges_of}
 use Rattle.tide_grow_shape.specs.transitions.Walks.{AreOfOne, Includes, Lists}
 use Rattle.tide_grow_shape.specs.declared.transitions.sight.Sight.{Sight}
@@ -192,6 +192,6 @@ Grown_of name g h k l is_k is_l mine theirs one = subst (λ (x : Knowledge). Gro
     (Grown_two name g.maker.sights h.maker.sights (knowledge_of g) (knowledge_of h) mine theirs one))
 
 -- a grower of a table stands by the table's name
-pub stands_by : (g : Inside) (k : Knowledge) (cells : Cells) (t : Table) → knowledge_of g ≡ k → table_of (name_of cells) ≡ t → k.table ≡ t
+pub stands_by : (g : Inside) (k : Knowledge) (cells : Cells) (t : Table) → knowledge_of g ≡ k → shape_table_of (name_of cells) ≡ t → k.table ≡ t
     → Stands g.table.numbers g.maker.sights g.maker.known → Stands (name_of cells) g.maker.sights g.maker.known
 stands_by g k cells t is of own stands = subst (λ (name : List ℕ). Stands name g.maker.sights g.maker.known) (own_name g k cells t is of own) stands

@@ -4,5 +4,5 @@ use Rattle.tide_grow_shape.specs.transitions.Cells.{keys_in, last_in}
 use Rattle.tide_grow_shape.specs.growers.Grown.{Table}
 
 -- the table of this name
-abbrev pub table_of : List ℕ → Table
-table_of name = record { name = name; keys = keys_in name; last = last_in name }
+abbrev pub shape_table_of : List ℕ → Table
+shape_table_of name = record { name = name; keys = keys_in name; last = last_in name }

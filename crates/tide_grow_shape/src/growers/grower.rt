@@ -2,7 +2,7 @@
 ghost use Rattle.std.specs.Prelude.{◌≡◌, ◌≢◌, ◌↔◌, ◌<◌, ◌≤◌, ℕ, [], ◌∷◌, ◌++◌, Contains, Err, IfOk, None, OnErr, Some, length, option_map, slice_get};
 ghost use Rattle.tide_grow_shape.specs.growers.Grown.{IsKnowledge, Knows, known_keys};
 ghost use Rattle.tide_grow_shape.specs.growers.Stands.{Stands};
-ghost use Rattle.tide_grow_shape.specs.growers.Tables.{table_of};
+ghost use Rattle.tide_grow_shape.specs.growers.Tables.{shape_table_of};
 
 use crate::growers::known::KnownShapes;
 use crate::growers::maker::Maker;
@@ -59,7 +59,7 @@ impl Grower {
     fn of(table: Tag, maker: Maker) -> Grower
         requires stands { Stands table.numbers maker.sights maker.known }
         requires beyond { maker.beyond ≡ None }
-        ensures { result ≡ record { table = table_of table.numbers; known = maker.known; beyond = None } }
+        ensures { result ≡ record { table = shape_table_of table.numbers; known = maker.known; beyond = None } }
     {
         Grower { table, maker }
     }

@@ -19,9 +19,9 @@ impl Model for GrowShapes {
     ghost Value = { Table };
 
     ghost use Rattle.tide_grow_shape.specs.transitions.Cells.{name_of};
-    ghost use Rattle.tide_grow_shape.specs.growers.Tables.{table_of};
+    ghost use Rattle.tide_grow_shape.specs.growers.Tables.{shape_table_of};
 
-    ghost view = { λ t. table_of (name_of t.cells) };
+    ghost view = { λ t. shape_table_of (name_of t.cells) };
 }
 
 impl GrowShapes {

@@ -13,7 +13,7 @@ use Rattle.tide_plain.specs.stored.Contents.{state_of}
 use Rattle.tide_plain.specs.stored.Stored.{Stored}
 
 -- no reference names a cell that isn't live, and the caller is one of the layout and active
-pub record MayCall (contents : Stored) (who : ℕ) : Type 0 where
+pub record MayCallStore (contents : Stored) (who : ℕ) : Type 0 where
   pub references : RefsAreLive (state_of contents)
   pub is_mutator : who < contents.layout.mutators
   pub is_active : (state_of contents).active who ≡ true

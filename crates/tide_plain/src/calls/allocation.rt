@@ -5,7 +5,7 @@ ghost use Rattle.tide_model.specs.Lawful.{FitsLayout};
 ghost use Rattle.tide_model.specs.Layout.{cell_count};
 ghost use Rattle.tide_model.specs.State.{blank_cell, live};
 ghost use Rattle.tide_plain.specs.stored.Contents.{state_of, Leaves};
-ghost use Rattle.tide_plain.specs.calls.Calls.{IsCall, MayCall};
+ghost use Rattle.tide_plain.specs.calls.Calls.{IsCall, MayCallStore};
 
 use crate::stored::Contents;
 use tide_layout::TABLE;
@@ -25,7 +25,7 @@ fn bear(contents: &mut Contents, who: u32, dst: u8, cell: u32)
 
 /// Takes the free cell of the class with the lowest id into a register. It is refused where none is free.
 pub fn alloc(contents: &mut Contents, who: u32, dst: u8, class: u8) -> Reply
-    requires caller { MayCall contents.old who }
+    requires caller { MayCallStore contents.old who }
     requires served { FitsLayout contents.old.layout (Op.Alloc dst class) }
     ensures { IsCall contents.old contents.new who (Op.Alloc dst class) result None }
 {
@@ -40,7 +40,7 @@ pub fn alloc(contents: &mut Contents, who: u32, dst: u8, class: u8) -> Reply
 
 /// Takes the free table with the lowest id into a register. It is refused where none is free.
 pub fn table(contents: &mut Contents, who: u32, dst: u8) -> Reply
-    requires caller { MayCall contents.old who }
+    requires caller { MayCallStore contents.old who }
     requires served { FitsLayout contents.old.layout (Op.Table dst) }
     ensures { IsCall contents.old contents.new who (Op.Table dst) result None }
 {

@@ -2,7 +2,7 @@
 ghost use Rattle.std.specs.Prelude.{◌≡◌, [], None};
 ghost use Rattle.tide_model.specs.Lawful.{FitsLayout};
 ghost use Rattle.tide_plain.specs.stored.Contents.{state_of};
-ghost use Rattle.tide_plain.specs.calls.Calls.{IsCall, MayCall};
+ghost use Rattle.tide_plain.specs.calls.Calls.{IsCall, MayCallStore};
 
 use crate::calls::allocation::{alloc, table};
 use crate::calls::claims::{claim, release, unclaim};
@@ -17,7 +17,7 @@ use tide_model::{Op, Reply};
 
 /// The mutator retires, and its registers keep nothing any more.
 fn retire(contents: &mut Contents, who: u32) -> Reply
-    requires caller { MayCall contents.old who }
+    requires caller { MayCallStore contents.old who }
     requires released { (state_of contents.old).claims who ≡ [] }
     ensures { IsCall contents.old contents.new who Op.Retire result None }
 {
@@ -27,7 +27,7 @@ fn retire(contents: &mut Contents, who: u32) -> Reply
 
 /// Answers an operation, and tells the array that it took.
 pub fn answer(contents: &mut Contents, who: u32, op: Op) -> (Reply, Option<u32>)
-    requires caller { MayCall contents.old who }
+    requires caller { MayCallStore contents.old who }
     requires fits { FitsLayout contents.old.layout op }
     requires released { op ≡ Op.Retire → (state_of contents.old).claims who ≡ [] }
     ensures { IsCall contents.old contents.new who op result.0 result.1 }

@@ -6,7 +6,7 @@ ghost use Rattle.tide_model.specs.declared.op.Op.TheVariants.{Claim, Release, Un
 ghost use Rattle.tide_model.specs.declared.op.Refusal.TheVariants.{Held};
 ghost use Rattle.tide_model.specs.declared.val.Val.TheVariants.{Cell};
 ghost use Rattle.tide_plain.specs.stored.Contents.{state_of};
-ghost use Rattle.tide_plain.specs.calls.Calls.{IsCall, MayCall};
+ghost use Rattle.tide_plain.specs.calls.Calls.{IsCall, MayCallStore};
 
 use crate::calls::registers::cell_in;
 use crate::stored::Contents;
@@ -39,7 +39,7 @@ fn holder_of(contents: &Contents, cell: u32) -> Option<u32>
 
 /// The cell in a register where the caller may claim it, or why it can't.
 fn claimable(contents: &Contents, who: u32, src: u8) -> Result<u32, Refusal>
-    requires caller { MayCall contents.now who }
+    requires caller { MayCallStore contents.now who }
     requires register { src < contents.now.layout.registers }
     ensures refused { IfErr result (λ refusal.
         refusal_of contents.now.layout contents.now.shapes (state_of contents.now) who (Claim src) ≡ Some refusal) }
@@ -60,7 +60,7 @@ fn claimable(contents: &Contents, who: u32, src: u8) -> Result<u32, Refusal>
 
 /// The caller claims the cell in a register.
 pub fn claim(contents: &mut Contents, who: u32, src: u8) -> Reply
-    requires caller { MayCall contents.old who }
+    requires caller { MayCallStore contents.old who }
     requires served { FitsLayout contents.old.layout (Claim src) }
     ensures { IsCall contents.old contents.new who (Claim src) result None }
 {
@@ -75,7 +75,7 @@ pub fn claim(contents: &mut Contents, who: u32, src: u8) -> Reply
 
 /// The cell in a register where the caller claims it, or why its claim can't end.
 fn held(contents: &Contents, who: u32, src: u8) -> Result<u32, Refusal>
-    requires caller { MayCall contents.now who }
+    requires caller { MayCallStore contents.now who }
     requires register { src < contents.now.layout.registers }
     ensures refused { IfErr result (λ refusal.
         refusal_of contents.now.layout contents.now.shapes (state_of contents.now) who (Release src) ≡ Some refusal) }
@@ -93,7 +93,7 @@ fn held(contents: &Contents, who: u32, src: u8) -> Result<u32, Refusal>
 
 /// The caller's claim on the cell in a register ends.
 pub fn release(contents: &mut Contents, who: u32, src: u8) -> Reply
-    requires caller { MayCall contents.old who }
+    requires caller { MayCallStore contents.old who }
     requires served { FitsLayout contents.old.layout (Release src) }
     ensures { IsCall contents.old contents.new who (Release src) result None }
 {
@@ -108,7 +108,7 @@ pub fn release(contents: &mut Contents, who: u32, src: u8) -> Reply
 
 /// The caller's oldest claim ends.
 pub fn unclaim(contents: &mut Contents, who: u32) -> Reply
-    requires caller { MayCall contents.old who }
+    requires caller { MayCallStore contents.old who }
     requires served { FitsLayout contents.old.layout Unclaim }
     ensures { IsCall contents.old contents.new who Unclaim result None }
 {

@@ -1,14 +1,14 @@
 //! Operations on strong and weak handles.
 ghost use Rattle.std.specs.Prelude.{None};
 ghost use Rattle.tide_model.specs.Lawful.{FitsLayout};
-ghost use Rattle.tide_plain.specs.calls.Calls.{IsCall, MayCall};
+ghost use Rattle.tide_plain.specs.calls.Calls.{IsCall, MayCallStore};
 
 use crate::stored::Contents;
 use tide_model::{Op, Reply};
 
 /// Puts what a register holds into a strong handle.
 pub fn strong_set(contents: &mut Contents, who: u32, at: u16, val: u8) -> Reply
-    requires caller { MayCall contents.old who }
+    requires caller { MayCallStore contents.old who }
     requires served { FitsLayout contents.old.layout (Op.StrongSet at val) }
     ensures { IsCall contents.old contents.new who (Op.StrongSet at val) result None }
 {
@@ -19,7 +19,7 @@ pub fn strong_set(contents: &mut Contents, who: u32, at: u16, val: u8) -> Reply
 
 /// Reads a strong handle into a register.
 pub fn strong_get(contents: &mut Contents, who: u32, dst: u8, at: u16) -> Reply
-    requires caller { MayCall contents.old who }
+    requires caller { MayCallStore contents.old who }
     requires served { FitsLayout contents.old.layout (Op.StrongGet dst at) }
     ensures { IsCall contents.old contents.new who (Op.StrongGet dst at) result None }
 {
@@ -30,7 +30,7 @@ pub fn strong_get(contents: &mut Contents, who: u32, dst: u8, at: u16) -> Reply
 
 /// Puts what a register holds into a weak handle.
 pub fn weak_set(contents: &mut Contents, who: u32, at: u16, val: u8) -> Reply
-    requires caller { MayCall contents.old who }
+    requires caller { MayCallStore contents.old who }
     requires served { FitsLayout contents.old.layout (Op.WeakSet at val) }
     ensures { IsCall contents.old contents.new who (Op.WeakSet at val) result None }
 {
@@ -41,7 +41,7 @@ pub fn weak_set(contents: &mut Contents, who: u32, at: u16, val: u8) -> Reply
 
 /// Reads a weak handle into a register.
 pub fn weak_get(contents: &mut Contents, who: u32, dst: u8, at: u16) -> Reply
-    requires caller { MayCall contents.old who }
+    requires caller { MayCallStore contents.old who }
     requires served { FitsLayout contents.old.layout (Op.WeakGet dst at) }
     ensures { IsCall contents.old contents.new who (Op.WeakGet dst at) result None }
 {

@@ -7,7 +7,7 @@ ghost use Rattle.tide_model.specs.declared.op.Op.TheVariants.{PairDel, PairGet, 
 ghost use Rattle.tide_model.specs.declared.op.Refusal.{Refusal as TheRefusal};
 ghost use Rattle.tide_model.specs.declared.val.Val.TheVariants.{Cell};
 ghost use Rattle.tide_plain.specs.stored.Contents.{state_of};
-ghost use Rattle.tide_plain.specs.calls.Calls.{IsCall, MayCall};
+ghost use Rattle.tide_plain.specs.calls.Calls.{IsCall, MayCallStore};
 
 use crate::calls::claims::holds;
 use crate::calls::registers::cell_in;
@@ -26,7 +26,7 @@ struct PairCells {
 /// The table and the key cell that two registers hold, of which the caller claims the table, or why an operation on
 /// the pair is refused.
 fn pair_cells(contents: &Contents, who: u32, src: u8, key: u8) -> Result<PairCells, Refusal>
-    requires caller { MayCall contents.now who }
+    requires caller { MayCallStore contents.now who }
     requires table_register { src < contents.now.layout.registers }
     requires key_register { key < contents.now.layout.registers }
     ensures refused { IfErr result (λ refusal. (further : ℕ → ℕ → Option TheRefusal) →
@@ -51,7 +51,7 @@ fn pair_cells(contents: &Contents, who: u32, src: u8, key: u8) -> Result<PairCel
 
 /// Puts what a register holds under the key cell of another one, in the table of a third.
 pub fn pair_set(contents: &mut Contents, who: u32, src: u8, key: u8, val: u8) -> Reply
-    requires caller { MayCall contents.old who }
+    requires caller { MayCallStore contents.old who }
     requires served { FitsLayout contents.old.layout (PairSet src key val) }
     ensures { IsCall contents.old contents.new who (PairSet src key val) result None }
 {
@@ -69,7 +69,7 @@ pub fn pair_set(contents: &mut Contents, who: u32, src: u8, key: u8, val: u8) ->
 
 /// Reads what the table of a register has under the key cell of another one.
 pub fn pair_get(contents: &mut Contents, who: u32, dst: u8, src: u8, key: u8) -> Reply
-    requires caller { MayCall contents.old who }
+    requires caller { MayCallStore contents.old who }
     requires served { FitsLayout contents.old.layout (PairGet dst src key) }
     ensures { IsCall contents.old contents.new who (PairGet dst src key) result None }
 {
@@ -88,7 +88,7 @@ pub fn pair_get(contents: &mut Contents, who: u32, dst: u8, src: u8, key: u8) ->
 
 /// Takes the pair of the key cell of a register out of the table of another one.
 pub fn pair_delete(contents: &mut Contents, who: u32, src: u8, key: u8) -> Reply
-    requires caller { MayCall contents.old who }
+    requires caller { MayCallStore contents.old who }
     requires served { FitsLayout contents.old.layout (PairDel src key) }
     ensures { IsCall contents.old contents.new who (PairDel src key) result None }
 {

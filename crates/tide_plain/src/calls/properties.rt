@@ -8,7 +8,7 @@ ghost use Rattle.tide_model.specs.declared.op.Op.TheVariants.{Add, GetProp, SetP
 ghost use Rattle.tide_model.specs.declared.op.Refusal.{Refusal as TheRefusal};
 ghost use Rattle.tide_model.specs.declared.val.Val.TheVariants.{Cell};
 ghost use Rattle.tide_plain.specs.stored.Contents.{state_of};
-ghost use Rattle.tide_plain.specs.calls.Calls.{IsCall, MayCall};
+ghost use Rattle.tide_plain.specs.calls.Calls.{IsCall, MayCallStore};
 
 use crate::calls::claims::holds;
 use crate::calls::registers::cell_in;
@@ -26,7 +26,7 @@ struct Property {
 
 /// The cell in a register, which has properties and which the caller claims, or why an operation on them is refused.
 fn property_holder(contents: &Contents, who: u32, src: u8) -> Result<u32, Refusal>
-    requires caller { MayCall contents.now who }
+    requires caller { MayCallStore contents.now who }
     requires register { src < contents.now.layout.registers }
     ensures refused { IfErr result (λ refusal. (further : ℕ → List (Option TheRefusal)) →
         holder_refusal contents.now.layout (state_of contents.now) who src further ≡ Some refusal) }
@@ -47,7 +47,7 @@ fn property_holder(contents: &Contents, who: u32, src: u8) -> Result<u32, Refusa
 
 /// Where a property of the cell in a register stands, or why it can't be read or written.
 fn find_property(contents: &Contents, who: u32, src: u8, key: u32) -> Result<Property, Refusal>
-    requires caller { MayCall contents.now who }
+    requires caller { MayCallStore contents.now who }
     requires register { src < contents.now.layout.registers }
     ensures refused { IfErr result (λ refusal.
         property_refusal contents.now.layout (state_of contents.now) who src key ≡ Some refusal) }
@@ -66,7 +66,7 @@ fn find_property(contents: &Contents, who: u32, src: u8, key: u32) -> Result<Pro
 
 /// Reads a property of the cell in a register into another register.
 pub fn get_property(contents: &mut Contents, who: u32, dst: u8, src: u8, key: u32) -> Reply
-    requires caller { MayCall contents.old who }
+    requires caller { MayCallStore contents.old who }
     requires served { FitsLayout contents.old.layout (GetProp dst src key) }
     ensures { IsCall contents.old contents.new who (GetProp dst src key) result None }
 {
@@ -82,7 +82,7 @@ pub fn get_property(contents: &mut Contents, who: u32, dst: u8, src: u8, key: u3
 
 /// Puts what a register holds into a property of the cell in another one.
 pub fn set_property(contents: &mut Contents, who: u32, src: u8, key: u32, val: u8) -> Reply
-    requires caller { MayCall contents.old who }
+    requires caller { MayCallStore contents.old who }
     requires served { FitsLayout contents.old.layout (SetProp src key val) }
     ensures { IsCall contents.old contents.new who (SetProp src key val) result None }
 {
@@ -98,7 +98,7 @@ pub fn set_property(contents: &mut Contents, who: u32, src: u8, key: u32, val: u
 
 /// The cell in a register where it may get one more key, or why it can't. Want of room is apart.
 fn extensible(contents: &Contents, who: u32, src: u8, key: u32) -> Result<u32, Refusal>
-    requires caller { MayCall contents.now who }
+    requires caller { MayCallStore contents.now who }
     requires register { src < contents.now.layout.registers }
     ensures refused { IfErr result (λ refusal. (val : ℕ) →
         refusal_of contents.now.layout contents.now.shapes (state_of contents.now) who (Add src key val) ≡
@@ -122,7 +122,7 @@ fn extensible(contents: &Contents, who: u32, src: u8, key: u32) -> Result<u32, R
 /// Gives the cell in a register a property of one more key, with the value of another register. The answer beside
 /// the reply is the array that it took for this, if it took one.
 pub fn add(contents: &mut Contents, who: u32, src: u8, key: u32, val: u8) -> (Reply, Option<u32>)
-    requires caller { MayCall contents.old who }
+    requires caller { MayCallStore contents.old who }
     requires served { FitsLayout contents.old.layout (Add src key val) }
     ensures { IsCall contents.old contents.new who (Add src key val) result.0 result.1 }
 {

@@ -5,7 +5,7 @@ ghost use Rattle.tide_model.specs.References.{IsLive};
 ghost use Rattle.tide_model.specs.Refused.{slot_refusal};
 ghost use Rattle.tide_model.specs.declared.val.Val.TheVariants.{Cell};
 ghost use Rattle.tide_plain.specs.stored.Contents.{state_of};
-ghost use Rattle.tide_plain.specs.calls.Calls.{IsCall, MayCall};
+ghost use Rattle.tide_plain.specs.calls.Calls.{IsCall, MayCallStore};
 
 use crate::calls::registers::cell_in;
 use crate::stored::Contents;
@@ -15,7 +15,7 @@ use tide_model::{Op, Refusal, Reply};
 
 /// The cell that a register of the caller holds, or why its slot can't be read or written.
 fn slot_holder(contents: &Contents, who: u32, src: u8, slot: u8) -> Result<u32, Refusal>
-    requires caller { MayCall contents.now who }
+    requires caller { MayCallStore contents.now who }
     requires register { src < contents.now.layout.registers }
     ensures refused { IfErr result (λ refusal.
         slot_refusal contents.now.layout ((state_of contents.now).registers who src) src slot ≡ Some refusal) }
@@ -38,7 +38,7 @@ fn slot_holder(contents: &Contents, who: u32, src: u8, slot: u8) -> Result<u32, 
 
 /// Reads a slot of the cell that a register holds into another register.
 pub fn get(contents: &mut Contents, who: u32, dst: u8, src: u8, slot: u8) -> Reply
-    requires caller { MayCall contents.old who }
+    requires caller { MayCallStore contents.old who }
     requires served { FitsLayout contents.old.layout (Op.Get dst src slot) }
     ensures { IsCall contents.old contents.new who (Op.Get dst src slot) result None }
 {
@@ -54,7 +54,7 @@ pub fn get(contents: &mut Contents, who: u32, dst: u8, src: u8, slot: u8) -> Rep
 
 /// Puts what a register holds into a slot of the cell that another one holds.
 pub fn put(contents: &mut Contents, who: u32, src: u8, slot: u8, val: u8) -> Reply
-    requires caller { MayCall contents.old who }
+    requires caller { MayCallStore contents.old who }
     requires served { FitsLayout contents.old.layout (Op.Put src slot val) }
     ensures { IsCall contents.old contents.new who (Op.Put src slot val) result None }
 {

@@ -2,7 +2,7 @@
 use Rattle.std.proofs.Common.{ℕ, ◌≡◌, ◌+◌, sym, ◌∙◌, ap, subst, arith, false, List, true}
 use Rattle.check_visits.proofs.Freezes.{begun_there, may_begin}
 use Rattle.check_visits.specs.Parts.{IsAtFreeze}
-use Rattle.tide_heap.specs.tide_core.wave.Entered.{HasBegun}
+use Rattle.tide_heap.specs.tide_core.wave.Entered.{CycleHasBegun}
 use Rattle.tide_heap.proofs.tide_freeze.ParticipantLaws.{LeavesParticipants-begun}
 use Rattle.tide_heap.specs.tide_freeze.Entering.{with_entry, MayEnter}
 use Rattle.tide_model.specs.Cycle.{begin_count}
@@ -59,7 +59,7 @@ module _ (g : given.Over) (c : After-begin g) where
   first : running_cycle (heap_of layout before.words) ≡ 0
   first = (let same = same_cycle in let none = c.if-cycle-gt0.false in omega (arith, same, none))
 
-  begun : HasBegun layout true (heap_of layout before.words) (heap_of layout after.words)
+  begun : CycleHasBegun layout true (heap_of layout before.words) (heap_of layout after.words)
   begun = record {
     others = c.begin.ensures.others;
     base = c.begin.ensures.base;

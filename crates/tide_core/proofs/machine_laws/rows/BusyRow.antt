@@ -2,7 +2,7 @@
 -- links it again. The wave holds there, with a grey cell in a grey word and a barrier that is owed.
 use Rattle.std.proofs.Common.{ap, ◌∙◌, Bool, false, inl, ℕ, zero, suc, ◌≡◌, ◌≤◌, refl, arith, true, [], ◌∷◌, Some, None}
 use Rattle.std.specs.Prelude.{◌==◌}
-use Rattle.tide_core.specs.wave.Entered.{HasBegun, with_begin, with_open}
+use Rattle.tide_core.specs.wave.Entered.{CycleHasBegun, with_begin, with_open}
 use Rattle.tide_cycle.proofs.BeginLaws
 use Rattle.tide_cycle.specs.Frames.{LeftByBegin, is_begun_region}
 use Rattle.tide_words.specs.tide_layout.Region.{tag}
@@ -68,7 +68,7 @@ no_phase full _ is = refl
 abbrev begun : World
 begun = record first_world { heap = write empty_heap region.Phase 0 3; log = with_begin [] true }
 
-begins_first : HasBegun small true empty_heap (write empty_heap region.Phase 0 3)
+begins_first : CycleHasBegun small true empty_heap (write empty_heap region.Phase 0 3)
 begins_first = record {
   others = same;
   base = refl;

@@ -6,7 +6,7 @@ use Rattle.std.proofs.lemmas.Bool.{cases_Bool, cases_eq, ne_eqb}
 use Rattle.std.proofs.lemmas.Nat.Bits.{bit_at-zero, bit_at-pow_other}
 use Rattle.std.specs.Int.{bit_at}
 use Rattle.std.specs.Prelude.{if◌then◌else◌, not, Contains, ◌*◌}
-use Rattle.tide_core.specs.wave.Entered.{HasBegun, HasPaused, with_begin, with_open}
+use Rattle.tide_core.specs.wave.Entered.{CycleHasBegun, HasPaused, with_begin, with_open}
 use Rattle.tide_cycle.proofs.BeginLaws
 use Rattle.tide_cycle.proofs.ScatterLaws
 use Rattle.tide_cycle.specs.Frames.{LeftByBegin}
@@ -319,7 +319,7 @@ before = stopped.heap
 abbrev begun : World
 begun = record stopped { heap = write before region.Phase 0 3; log = with_begin stopped.log true }
 
-begins_here : HasBegun visited true before begun.heap
+begins_here : CycleHasBegun visited true before begun.heap
 begins_here = record {
   others = same;
   base = refl;

@@ -29,20 +29,20 @@ use Rattle.tide_words.specs.heap.Heap.{Heap}
 use Rattle.tide_words.specs.marking.Colours.{running_cycle}
 
 -- a cycle began before one marks, and before anything is dead
-record HasBegun (layout : Layout) (log : List Event) : Type 0 where
+record CycleHasBegun (layout : Layout) (log : List Event) : Type 0 where
   pub marks : marks_after layout log ≡ true → 0 < begin_count log
   pub dead : (block : ℕ) → HasDead layout (state_after layout log) block → 0 < begin_count log
 
-has_begun : (layout : Layout) (shapes : ShapeLists) (log : List Event) → IsLawful layout shapes log → HasBegun layout log
+has_begun : (layout : Layout) (shapes : ShapeLists) (log : List Event) → IsLawful layout shapes log → CycleHasBegun layout log
 has_begun layout shapes =
-    IsLawful-elim layout shapes (HasBegun layout) (record { marks = λ is. absurd (cc); dead = none_first }) push
+    IsLawful-elim layout shapes (CycleHasBegun layout) (record { marks = λ is. absurd (cc); dead = none_first }) push
   where
     none_first : (block : ℕ) → HasDead layout empty_state block → 0 < begin_count []
     none_first block (dead_cell cell within at is) = absurd (cc)
     none_first block (dead_array array within at is) = absurd (cc)
 
-    push : (before : List Event) (event : Event) → HasBegun layout before → Stands layout shapes before event →
-        HasBegun layout (before ++ event ∷ [])
+    push : (before : List Event) (event : Event) → CycleHasBegun layout before → Stands layout shapes before event →
+        CycleHasBegun layout (before ++ event ∷ [])
     push before event was stands = by_entry event.entry refl stands
       where
         counted : begin_count (before ++ event ∷ []) ≡ begin_count before + (if is_begin event.entry then 1 else 0)
@@ -54,7 +54,7 @@ has_begun layout shapes =
         -- an entry that neither begins nor ends a cycle
         still : is_end event.entry ≡ false →
             is_marking_phase (after_entry layout (state_after layout before) event.entry event.took).phase
-            ≡ marks_after layout before → HasBegun layout (before ++ event ∷ [])
+            ≡ marks_after layout before → CycleHasBegun layout (before ++ event ∷ [])
         still no_end same = record {
           marks = λ marks. grown (was.marks (sym same ∙ ap (λ (s : State). is_marking_phase s.phase)
               (sym (state_after-push layout before event)) ∙ marks));
@@ -68,7 +68,7 @@ has_begun layout shapes =
             ap (λ (e : Entry). is_marking_phase (after_entry layout (state_after layout before) e event.took).phase) is
 
         by_entry : (entry : Entry) → event.entry ≡ entry → StandsEntry layout shapes before entry event.took →
-            HasBegun layout (before ++ event ∷ [])
+            CycleHasBegun layout (before ++ event ∷ [])
         by_entry (Call who op reply) is call = still (ap is_end is) (same_as (Call who op reply) is
             ∙ ap is_marking_phase (phase_after-call (state_after layout before) who op reply event.took))
         by_entry (Begin cycle full) is begin =

@@ -1,6 +1,6 @@
 -- Why a mutator may begin, and has begun.
 use Rattle.tide_mutator.specs.calls.Viewed.{view_of}
-use Rattle.tide_threads.proofs.Making.{HasBegun-by}
+use Rattle.tide_threads.proofs.Making.{HasBegunPart-by}
 use Rattle.tide_threads.proofs.calling.begin.Goals as goal
 
 pub begin-requires : goal.begin-requires
@@ -15,7 +15,7 @@ begin-requires c = record {
 pub returns : goal.returns
 returns c = record {
   own = c.begin.ensures.same.0;
-  begun = HasBegun-by c.args.ticket.seat.me.0 (view_of c.args.mutator.now) (view_of c.begin.new.self) c.begin.ensures.begun c.requires.begun;
+  begun = HasBegunPart-by c.args.ticket.seat.me.0 (view_of c.args.mutator.now) (view_of c.begin.new.self) c.begin.ensures.begun c.requires.begun;
   told = c.begin.ensures.told;
   mine = c.begin.ensures.mine;
 }
