@@ -3,8 +3,7 @@ ghost use Rattle.std.specs.Prelude.{◌≡◌, ◌≤◌, [], length};
 ghost use Rattle.tide_heap.specs.tide_layout.Region.{word_count};
 
 use check_heap::Heap;
-use tide_core::{Solved, begin, pause};
-use tide_heap::{GreyList, Layout, MAX_CELLS, Region, Words, word_phase};
+use tide_heap::{GreyList, Layout, MAX_CELLS, Region, Solved, Words, begin, pause, word_phase};
 
 /// No cycle begins from this one on.
 const LAST_CYCLE: u64 = 1 << 60;

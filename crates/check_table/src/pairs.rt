@@ -7,8 +7,7 @@ ghost use Rattle.check_table.specs.Pairs.{IsClosedOf, SameCalls};
 use crate::callers::{begin_part, leave, stop_part};
 use crate::pair::Pair;
 use crate::working::{Found, look, put};
-use tide_core::Report;
-use tide_heap::Books;
+use tide_heap::{Books, Report};
 use tide_table::{Closed, NotOpened, Numbers};
 
 impl Pair {

@@ -7,7 +7,7 @@ use crate::pair::Pair;
 use crate::starting::start_pair;
 use crate::working::Found;
 use std::alloc::Global;
-use tide_core::Report;
+use tide_heap::Report;
 use tide_model::Memory;
 use tide_table::{Closed, Numbers};
 

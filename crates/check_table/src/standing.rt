@@ -11,8 +11,7 @@ use crate::pacing::PACING;
 use crate::starting::{Single, start_single};
 use check_heap::{Heap, layout_of, words_of};
 use std::alloc::{AllocError, Global};
-use tide_core::Report;
-use tide_heap::{Books, GreyList, Layout, MAX_CELLS};
+use tide_heap::{Books, GreyList, Layout, MAX_CELLS, Report};
 use tide_model::Memory;
 
 /// The layout that words say.

@@ -7,7 +7,7 @@ use crate::standing::{freeze_single, heap_of_facts, mark_chain};
 use crate::working::Found;
 use check_heap::{number_text, tell, text, word_text};
 use std::alloc::{AllocError, Global};
-use tide_core::{Report, Solved};
+use tide_heap::{Report, Solved};
 use tide_model::Memory;
 use tide_table::Numbers;
 

@@ -4,10 +4,9 @@ ghost use Rattle.tide_heap.specs.tide_layout.Region.{word_count};
 
 use check_heap::Heap;
 use std::alloc::{AllocError, Global};
-use tide_core::{Solved, pause};
 use tide_heap::{
-    Colour, GreyList, Layout, MAX_CELLS, Region, Words, bit_of, block_of_cell, colour_word,
-    word_phase,
+    Colour, GreyList, Layout, MAX_CELLS, Region, Solved, Words, bit_of, block_of_cell, colour_word,
+    pause, word_phase,
 };
 
 /// No cycle begins from this one on.

@@ -10,7 +10,7 @@ use embed_heap::{Shared, start};
 use std::alloc::{AllocError, Global};
 use std::marker::Sync;
 use std::thread::Threads;
-use tide_core::Solved;
+use tide_heap::Solved;
 
 /// Begins a cycle, whose first pause is to leave grey cells for the visitor, and opens the second part.
 fn open_second(shared: &mut Shared, budget: u32, run: u32) -> Option<()>

@@ -28,7 +28,7 @@ use check_heap::{joined, number, number_between, numbers_text, region_of, text};
 use std::alloc::{AllocError, Global};
 use std::marker::Sync;
 use std::thread::Threads;
-use tide_core::Solved;
+use tide_heap::Solved;
 use tide_visitor::Drained;
 
 /// What is to be run, and what was left once it was.
