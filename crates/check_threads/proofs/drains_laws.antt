@@ -1,2 +1,3 @@
 -- The proofs that several functions share.
+pub mod Freezes
 pub mod Taking

@@ -7,6 +7,7 @@
 
 mod copying;
 mod drains;
+mod freezing;
 mod looks;
 mod parts;
 mod plan;

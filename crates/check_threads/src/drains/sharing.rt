@@ -3,8 +3,8 @@ ghost use Rattle.check_threads.specs.drains.Parts.{IsOpen};
 ghost use Rattle.embed_heap.specs.visitor.Shares.{HasStarted, HaveStopped};
 ghost use Rattle.std.specs.Prelude.{◌≡◌, IfOk, IfSome};
 
+use crate::drains::freezing::{begin_cycle, open_next};
 use crate::drains::plan::Plan;
-use check_visits::{begin_cycle, open_next};
 use check_words::shapes_from;
 use embed_heap::{Shared, start};
 use std::alloc::{AllocError, Global};
