@@ -1,2 +1,2 @@
-pub mod plan_laws
+pub mod action_laws
 pub mod reading_laws

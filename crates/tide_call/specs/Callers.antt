@@ -10,7 +10,7 @@ use Rattle.tide_words.specs.heap.Heap.{Heap}
 use Rattle.tide_words.specs.heap.Reading.{ReadsAs}
 
 -- a mutator, the cells that it claims, the oldest claim first, and its store's layout and shapes
-pub record Caller : Type 0 where
+pub record Planner : Type 0 where
   pub layout : Layout
   pub shapes : ShapeLists
   pub who : ℕ
@@ -18,7 +18,7 @@ pub record Caller : Type 0 where
 
 -- The caller is one of the state's mutators and has these claims, which are live. The cells in its registers are of the
 -- layout, and so are the arrays and the keys of pairs of the cells that it claims. It needs no more of the state.
-pub record IsCallerOf (caller : Caller) (state : State) : Type 0 where
+pub record IsCallerOf (caller : Planner) (state : State) : Type 0 where
   pub is_mutator : caller.who < caller.layout.mutators
   pub claims : state.claims caller.who ≡ caller.claims
   pub live : (cell : ℕ) → holds state caller.who cell ≡ true → IsLive state cell
@@ -33,20 +33,20 @@ abbrev pub OwnHeaps : Type 1
 OwnHeaps = Layout → ℕ → Heap → Type 0
 
 -- the caller may call in this state: the heap has its own words, and reads as the state
-pub record CallsIn (owns : OwnHeaps) (caller : Caller) (heap : Heap) (state : State) : Type 0 where
+pub record CallsIn (owns : OwnHeaps) (caller : Planner) (heap : Heap) (state : State) : Type 0 where
   pub owned : owns caller.layout caller.who heap
   pub reads : ReadsAs caller.layout caller.shapes heap state
   pub is_caller : IsCallerOf caller state
 
 -- The caller may call now: some heap has its own words, and each heap that has them reads as a state in which it may
 -- call.
-pub record MayCallNow (owns : OwnHeaps) (caller : Caller) : Type 0 where
+pub record MayCallNow (owns : OwnHeaps) (caller : Planner) : Type 0 where
   pub heap : Heap
   pub owned : owns caller.layout caller.who heap
   pub each : (other : Heap) → owns caller.layout caller.who other → (state : State) × CallsIn owns caller other state
 
 -- this holds of each heap and state in which the caller may call
-abbrev pub Always : OwnHeaps → Caller → (Heap → State → Type 0) → Type 0
+abbrev pub Always : OwnHeaps → Planner → (Heap → State → Type 0) → Type 0
 Always owns caller holds = (heap : Heap) (state : State) → CallsIn owns caller heap state → holds heap state
 
 -- After own words of a mutator were read in some context, some heap has them as they are known now. Each that has them
@@ -58,7 +58,7 @@ LeavesOwn before after context layout who old new =
 
 -- After a caller's own words were read in some context it may call still, nowhere but where it might before, and the
 -- rest is as it was.
-abbrev pub Leaves : {C Rest : Type 0} → (C → OwnHeaps) → (C → OwnHeaps) → C → Caller → Rest → Rest → Type 0
+abbrev pub Leaves : {C Rest : Type 0} → (C → OwnHeaps) → (C → OwnHeaps) → C → Planner → Rest → Rest → Type 0
 Leaves before after context caller old new =
     MayCallNow (after context) caller
     × ((heap : Heap) (state : State) → CallsIn (after context) caller heap state →

@@ -20,11 +20,11 @@ use Rattle.tide_model.specs.State.{State}
 use Rattle.tide_words.specs.heap.Heap.{Heap}
 use Rattle.tide_words.specs.forms.Reference.{claim_word}
 use Rattle.tide_words.specs.heap.Reading.{ReadsAs}
-use Rattle.tide_call.specs.Callers.{Caller, IsCallerOf}
+use Rattle.tide_call.specs.Callers.{Planner, IsCallerOf}
 use Rattle.tide_call.specs.CallWords.{CallWords}
-use Rattle.tide_call.specs.declared.plan.Plan.{Plan}
-use Rattle.tide_call.specs.Plans.{IsPlan}
-use Rattle.tide_call.specs.PlanWords.{PlanWords}
+use Rattle.tide_call.specs.declared.action.Action.{Action}
+use Rattle.tide_call.specs.Actions.{IsAction}
+use Rattle.tide_call.specs.ActionWords.{ActionWords}
 
 -- the call stands in the state: an active mutator of the layout may make it and be answered so; the layout is within
 -- its limits, the first shape is the empty one, and no two mutators claim a cell
@@ -41,7 +41,7 @@ pub record StandsIn (layout : Layout) (shapes : ShapeLists) (state : State) (who
 -- an active mutator of a state whose references are live may call there, with the claims that it has
 abbrev pub MutatorsMayCall : Type 0
 MutatorsMayCall =
-    (caller : Caller) (heap : Heap) (state : State) → caller.who < caller.layout.mutators →
+    (caller : Planner) (heap : Heap) (state : State) → caller.who < caller.layout.mutators →
     state.active caller.who ≡ true → state.claims caller.who ≡ caller.claims → RefsAreLive state →
     ReadsAs caller.layout caller.shapes heap state → IsCallerOf caller state
 
@@ -81,14 +81,14 @@ ClaimsAreTold =
     ClaimsAreOwn layout state → ReadsAs layout shapes heap state → state.registers who src ≡ Cell cell →
     cell < cell_count layout → IsClaimTold layout shapes heap state who src cell
 
--- Who acts on the plan of a call, by its words alone, answers the call and writes its words. The mutator is active and
--- retires without claims, references are live, and no two mutators claim a cell.
-abbrev pub PlansAreCalls : Type 0
-PlansAreCalls =
-    (caller : Caller) (heap new : Heap) (state : State) (op : Op) (does : Plan) (reply : Reply) (took : Option ℕ) →
+-- Who carries out the action of a call, by its words alone, answers the call and writes its words. The mutator is
+-- active and retires without claims, references are live, and no two mutators claim a cell.
+abbrev pub ActionsAreCalls : Type 0
+ActionsAreCalls =
+    (caller : Planner) (heap new : Heap) (state : State) (op : Op) (does : Action) (reply : Reply) (took : Option ℕ) →
     FitsLayout caller.layout op → IsCallerOf caller state → state.active caller.who ≡ true →
     (op ≡ Retire → caller.claims ≡ []) → RefsAreLive state → ClaimsAreOwn caller.layout state →
-    ReadsAs caller.layout caller.shapes heap state → IsPlan caller heap state op does →
-    PlanWords caller.layout heap caller.who does reply took new →
+    ReadsAs caller.layout caller.shapes heap state → IsAction caller heap state op does →
+    ActionWords caller.layout heap caller.who does reply took new →
     IsAnswer caller.layout caller.shapes state caller.who op reply took
     × CallWords caller.layout caller.shapes heap state caller.who op reply took new

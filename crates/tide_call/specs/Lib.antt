@@ -5,8 +5,8 @@ pub mod Grown
 pub mod Laws
 pub mod Needed
 pub mod Pairs
-pub mod Plans
-pub mod PlanWords
+pub mod Actions
+pub mod ActionWords
 pub mod Properties
 pub mod ShapeWord
 pub mod Taken

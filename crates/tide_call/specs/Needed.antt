@@ -1,4 +1,4 @@
--- What acting on a plan needs of the words.
+-- What carrying out an action needs of the words.
 use Rattle.std.specs.Prelude.{ℕ, ◌≡◌, ◌<◌, ◌≤◌, ◌^◌, Option, Some, IfSome}
 use Rattle.tide_words.specs.tide_layout.declared.region.Region.TheVariants.{Claim as ClaimRegion, Strong, Weak}
 use Rattle.tide_words.specs.tide_layout.Slots.{HasElement, HasSlot, width_of_class}
@@ -8,9 +8,9 @@ use Rattle.tide_words.specs.forms.PairWord.{max_cells}
 use Rattle.tide_words.specs.forms.Reference.{claim_word}
 use Rattle.tide_words.specs.heap.Heap.{Heap}
 use Rattle.tide_words.specs.heap.Reading.{IsValueOf, element_word, slot_word}
-use Rattle.tide_call.specs.declared.additions.Addition.{Addition}
-use Rattle.tide_call.specs.declared.plan.Plan.{Plan}
-use Rattle.tide_call.specs.declared.plan.Plan.TheVariants as plan
+use Rattle.tide_call.specs.declared.action.Addition.{Addition}
+use Rattle.tide_call.specs.declared.action.Action.{Action}
+use Rattle.tide_call.specs.declared.action.Action.TheVariants as action
 
 -- the word is that of some value
 abbrev pub IsSomeValue : ℕ → Type 0
@@ -36,31 +36,31 @@ pub record MayGrow (layout : Layout) (addition : Addition) (array : Option ℕ) 
   pub holds : addition.count < width_of_class class
   pub array_within : IfSome array (λ from. from < array_count layout)
 
--- the plan's numbers are those of the layout, and the words that it loads are of some value
-abbrev pub FitsPlan : Layout → Heap → Plan → Type 0
-FitsPlan layout heap (plan.Refuse refusal) = Unit {0}
-FitsPlan layout heap (plan.Take dst class) = (dst < layout.registers) × (class < 5)
-FitsPlan layout heap (plan.LoadSlot dst cell slot) =
+-- the action's numbers are those of the layout, and the words that it loads are of some value
+abbrev pub FitsAction : Layout → Heap → Action → Type 0
+FitsAction layout heap (action.Refuse refusal) = Unit {0}
+FitsAction layout heap (action.Allocate dst class) = (dst < layout.registers) × (class < 5)
+FitsAction layout heap (action.LoadSlot dst cell slot) =
     (dst < layout.registers) × HasSlot layout cell slot × IsSomeValue (slot_word layout heap cell slot)
-FitsPlan layout heap (plan.StoreSlot cell slot value) = HasSlot layout cell slot
-FitsPlan layout heap (plan.Fill dst value) = dst < layout.registers
-FitsPlan layout heap (plan.Show dst table place value) = (dst < layout.registers) × HasSlot layout table place
-FitsPlan layout heap (plan.Claim cell full) = (cell < cell_count layout) × IsSomeClaim (heap ClaimRegion cell)
-FitsPlan layout heap (plan.Release cell) = cell < cell_count layout
-FitsPlan layout heap (plan.LoadElement dst array place) =
+FitsAction layout heap (action.StoreSlot cell slot value) = HasSlot layout cell slot
+FitsAction layout heap (action.Fill dst value) = dst < layout.registers
+FitsAction layout heap (action.Show dst table place value) = (dst < layout.registers) × HasSlot layout table place
+FitsAction layout heap (action.Claim cell full) = (cell < cell_count layout) × IsSomeClaim (heap ClaimRegion cell)
+FitsAction layout heap (action.Release cell) = cell < cell_count layout
+FitsAction layout heap (action.LoadElement dst array place) =
     (dst < layout.registers) × HasElement layout array place × IsSomeValue (element_word layout heap array place)
-FitsPlan layout heap (plan.StoreElement cell array place value) =
+FitsAction layout heap (action.StoreElement cell array place value) =
     (cell < cell_count layout) × HasElement layout array place
-FitsPlan layout heap (plan.Append addition array value) = HasRoomFor layout addition array
-FitsPlan layout heap (plan.Grow addition array class value) = MayGrow layout addition array class
-FitsPlan layout heap (plan.StoreStrong at value) = at < layout.strong
-FitsPlan layout heap (plan.LoadStrong dst at) =
+FitsAction layout heap (action.Append addition array value) = HasRoomFor layout addition array
+FitsAction layout heap (action.Grow addition array class value) = MayGrow layout addition array class
+FitsAction layout heap (action.StoreStrong at value) = at < layout.strong
+FitsAction layout heap (action.LoadStrong dst at) =
     (dst < layout.registers) × (at < layout.strong) × IsSomeValue (heap Strong at)
-FitsPlan layout heap (plan.StoreWeak at value) = at < layout.weak
-FitsPlan layout heap (plan.LoadWeak dst at) =
+FitsAction layout heap (action.StoreWeak at value) = at < layout.weak
+FitsAction layout heap (action.LoadWeak dst at) =
     (dst < layout.registers) × (at < layout.weak) × IsSomeValue (heap Weak at)
-FitsPlan layout heap (plan.StorePair table place key value) = HasSlot layout table place × (key < max_cells)
-FitsPlan layout heap (plan.ClearPair table place) = HasSlot layout table place
-FitsPlan layout heap (plan.Join cell group) = cell < cell_count layout
-FitsPlan layout heap plan.Ask = Unit {0}
-FitsPlan layout heap plan.Retire = Unit {0}
+FitsAction layout heap (action.StorePair table place key value) = HasSlot layout table place × (key < max_cells)
+FitsAction layout heap (action.ClearPair table place) = HasSlot layout table place
+FitsAction layout heap (action.Join cell group) = cell < cell_count layout
+FitsAction layout heap action.Ask = Unit {0}
+FitsAction layout heap action.Retire = Unit {0}

@@ -6,32 +6,21 @@ ghost use Rattle.tide_model.specs.Refused.{refusal_of};
 ghost use Rattle.tide_model.specs.declared.op.Op.TheVariants.{Add};
 ghost use Rattle.tide_model.specs.declared.val.Val.TheVariants.{Cell};
 ghost use Rattle.tide_call.specs.Callers.{Always, Leaves, MayCallNow};
-ghost use Rattle.tide_call.specs.declared.plan.Plan.TheVariants.{Grow};
-ghost use Rattle.tide_call.specs.Plans.{IsAddition, IsPlan};
+ghost use Rattle.tide_call.specs.declared.action.Action.TheVariants.{Grow};
+ghost use Rattle.tide_call.specs.Actions.{IsAddition, IsAction};
 
-use crate::caller::Caller;
+use crate::action::{Action, Addition};
 use crate::own::OwnWords;
-use crate::plan::Plan;
+use crate::planner::Planner;
 use tide_model::{Refusal, Val};
 use tide_shape::{ShapeTable, array_class_for, capacity};
 
-/// One more property of a cell.
-#[derive(Clone, Copy)]
-pub struct Addition {
-    pub cell: u32,
-    pub shape: u32,
-    /// The shape with one more key.
-    pub next: u32,
-    /// How many properties the cell has.
-    pub count: u8,
-}
-
 /// The addition in an array that is still to be taken, in place of the one that the cell has, if it has one.
-fn growth(addition: Addition, array: Option<u32>, value: Val) -> Plan
+fn growth(addition: Addition, array: Option<u32>, value: Val) -> Action
     requires { addition.count < 64 }
     ensures { result ≡ Grow addition array (array_class_for (addition.count + 1)) value }
 {
-    Plan::Grow {
+    Action::Grow {
         addition,
         array,
         class: array_class_for(u32::from(addition.count) + 1),
@@ -39,7 +28,7 @@ fn growth(addition: Addition, array: Option<u32>, value: Val) -> Plan
     }
 }
 
-impl<'a, S: ShapeTable> Caller<'a, S> {
+impl<'a, S: ShapeTable> Planner<'a, S> {
     /// The addition of a key to the cell in a register, or why it can't be added. Want of room is apart.
     fn find_addition<C, O: OwnWords<C>>(
         &self,
@@ -88,17 +77,17 @@ impl<'a, S: ShapeTable> Caller<'a, S> {
         src: u8,
         key: u32,
         val: u8,
-    ) -> Plan
+    ) -> Action
         requires of_layout { src < self.now.layout.registers }
         requires val_of_layout { val < self.now.layout.registers }
         requires known { MayCallNow (O.owns own.old context.now) self.now }
-        ensures plan { Always (O.owns own.new context.now) self.now (λ heap state.
-            IsPlan self.now heap state (Add src key val) result) }
+        ensures action { Always (O.owns own.new context.now) self.now (λ heap state.
+            IsAction self.now heap state (Add src key val) result) }
         ensures owns { Leaves (O.owns own.old) (O.owns own.new) context.now self.now (O.rest own.old) (O.rest own.new) }
     {
         let addition = match self.find_addition(own, context, src, key) {
             Ok(addition) => addition,
-            Err(refusal) => return Plan::Refuse { refusal },
+            Err(refusal) => return Action::Refuse { refusal },
         };
         let value = self.value_in(own, context, val);
         let count = u32::from(addition.count);
@@ -108,7 +97,7 @@ impl<'a, S: ShapeTable> Caller<'a, S> {
         if count == capacity(count) {
             return growth(addition, Some(array), value);
         }
-        Plan::Append {
+        Action::Append {
             addition,
             array,
             value,

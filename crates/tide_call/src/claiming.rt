@@ -4,34 +4,34 @@ ghost use Rattle.tide_model.specs.State.{State};
 ghost use Rattle.tide_words.specs.heap.Heap.{Heap};
 ghost use Rattle.tide_model.specs.declared.op.Op.TheVariants.{Claim, Release, Unclaim};
 ghost use Rattle.tide_call.specs.Callers.{Always, IsCallerOf, Leaves, MayCallNow};
-ghost use Rattle.tide_call.specs.Plans.{IsPlan};
+ghost use Rattle.tide_call.specs.Actions.{IsAction};
 
-use crate::caller::Caller;
+use crate::action::Action;
 use crate::own::OwnRegisters;
-use crate::plan::Plan;
+use crate::planner::Planner;
 use tide_model::Refusal;
 use tide_shape::ShapeTable;
 
-impl<'a, S: ShapeTable> Caller<'a, S> {
+impl<'a, S: ShapeTable> Planner<'a, S> {
     /// What a `Claim` is to do. Whether others claim the cell, its claim word tells, which isn't the caller's own.
     pub(crate) fn plan_claim<C, O: OwnRegisters<C>>(
         &self,
         own: &mut O,
         context: &C,
         src: u8,
-    ) -> Plan
+    ) -> Action
         requires of_layout { src < self.now.layout.registers }
         requires known { MayCallNow (O.owns own.old context.now) self.now }
-        ensures plan { Always (O.owns own.new context.now) self.now (λ heap state.
-            IsPlan self.now heap state (Claim src) result) }
+        ensures action { Always (O.owns own.new context.now) self.now (λ heap state.
+            IsAction self.now heap state (Claim src) result) }
         ensures owns { Leaves (O.owns own.old) (O.owns own.new) context.now self.now (O.rest own.old) (O.rest own.new) }
     {
         match self.cell_in(own, context, src) {
-            Ok(cell) => Plan::Claim {
+            Ok(cell) => Action::Claim {
                 cell,
                 full: self.claims().is_full(),
             },
-            Err(refusal) => Plan::Refuse { refusal },
+            Err(refusal) => Action::Refuse { refusal },
         }
     }
 
@@ -41,30 +41,30 @@ impl<'a, S: ShapeTable> Caller<'a, S> {
         own: &mut O,
         context: &C,
         src: u8,
-    ) -> Plan
+    ) -> Action
         requires of_layout { src < self.now.layout.registers }
         requires known { MayCallNow (O.owns own.old context.now) self.now }
-        ensures plan { Always (O.owns own.new context.now) self.now (λ heap state.
-            IsPlan self.now heap state (Release src) result) }
+        ensures action { Always (O.owns own.new context.now) self.now (λ heap state.
+            IsAction self.now heap state (Release src) result) }
         ensures owns { Leaves (O.owns own.old) (O.owns own.new) context.now self.now (O.rest own.old) (O.rest own.new) }
     {
         match self.cell_in(own, context, src) {
-            Ok(cell) if self.claims().contains(cell) => Plan::Release { cell },
-            Ok(_) => Plan::Refuse {
+            Ok(cell) if self.claims().contains(cell) => Action::Release { cell },
+            Ok(_) => Action::Refuse {
                 refusal: Refusal::NotHeld,
             },
-            Err(refusal) => Plan::Refuse { refusal },
+            Err(refusal) => Action::Refuse { refusal },
         }
     }
 
     /// What an `Unclaim` is to do.
-    pub(crate) fn plan_unclaim(&self) -> Plan
-        ensures plan { (heap : Heap) (state : State) → IsCallerOf self.now state →
-            IsPlan self.now heap state Unclaim result }
+    pub(crate) fn plan_unclaim(&self) -> Action
+        ensures action { (heap : Heap) (state : State) → IsCallerOf self.now state →
+            IsAction self.now heap state Unclaim result }
     {
         match self.claims().oldest() {
-            Some(cell) => Plan::Release { cell },
-            None => Plan::Refuse {
+            Some(cell) => Action::Release { cell },
+            None => Action::Refuse {
                 refusal: Refusal::NotHeld,
             },
         }

@@ -2,16 +2,17 @@
 //!
 //! A law speaks of the heap before a call, the heap after it, and the state before it. It knows no list of words and no
 //! order in which they were stored.
-ghost use Rattle.tide_call.specs.Laws.{CallsReadBack, ClaimsAreTold, HistoriesReadBack, MutatorsMayCall, PlansAreCalls};
+ghost use Rattle.tide_call.specs.Laws.{CallsReadBack, ClaimsAreTold, HistoriesReadBack, MutatorsMayCall, ActionsAreCalls};
 
-/// An active mutator may call wherever references are live: it meets what `Caller::plan_of` asks of the state.
+/// An active mutator may call wherever references are live: it meets what `Planner::plan_call` asks of the state.
 pub fn mutators_may_call()
     ensures callers { MutatorsMayCall }
 {}
 
-/// Who acts on a plan, by its words alone, makes its call. Of a claim the claim word tells what the plan leaves open.
-pub fn plans_are_calls()
-    ensures calls { PlansAreCalls }
+/// Who carries out an action, by its words alone, makes its call. Of a claim the claim word tells what the action
+/// leaves open.
+pub fn actions_are_calls()
+    ensures calls { ActionsAreCalls }
     ensures claims { ClaimsAreTold }
 {}
 

@@ -7,12 +7,12 @@ ghost use Rattle.tide_model.specs.declared.op.Op.TheVariants.{PairDel, PairGet, 
 ghost use Rattle.tide_model.specs.declared.op.Refusal.{Refusal as TheRefusal};
 ghost use Rattle.tide_model.specs.declared.val.Val.TheVariants.{Cell};
 ghost use Rattle.tide_call.specs.Callers.{Always, Leaves, MayCallNow};
-ghost use Rattle.tide_call.specs.Pairs.{HasNoZero, IsFirstZero, IsPlaceAmong, LacksKey, StandsAt};
-ghost use Rattle.tide_call.specs.Plans.{IsPlan};
+ghost use Rattle.tide_call.specs.Pairs.{HasNoZero, IsFirstZero, IsPlaceAmong, LacksKey, PairStandsAt};
+ghost use Rattle.tide_call.specs.Actions.{IsAction};
 
-use crate::caller::Caller;
+use crate::action::Action;
 use crate::own::OwnWords;
-use crate::plan::Plan;
+use crate::planner::Planner;
 use tide_model::{Refusal, Val};
 use tide_shape::ShapeTable;
 use tide_words::{PAIRS, TABLE, class_of, word_pair};
@@ -26,7 +26,7 @@ struct Pair {
 
 /// The pair of a key among the words of a table, if there is one.
 fn pair_of(words: &[u64; 8], key: u32) -> Option<Pair>
-    ensures stands { IfSome result (λ pair. StandsAt words.now key pair.value pair.place) }
+    ensures stands { IfSome result (λ pair. PairStandsAt words.now key pair.value pair.place) }
     ensures none { IfNone result (LacksKey words.now key) }
 {
     for place in 0..PAIRS {
@@ -70,7 +70,7 @@ struct PairCells {
     key: u32,
 }
 
-impl<'a, S: ShapeTable> Caller<'a, S> {
+impl<'a, S: ShapeTable> Planner<'a, S> {
     /// The table, which the caller claims, and the key cell that two registers hold, or why an operation is refused.
     fn pair_cells<C, O: OwnWords<C>>(
         &self,
@@ -117,26 +117,26 @@ impl<'a, S: ShapeTable> Caller<'a, S> {
         src: u8,
         key: u8,
         val: u8,
-    ) -> Plan
+    ) -> Action
         requires table_register { src < self.now.layout.registers }
         requires key_register { key < self.now.layout.registers }
         requires val_of_layout { val < self.now.layout.registers }
         requires known { MayCallNow (O.owns own.old context.now) self.now }
-        ensures plan { Always (O.owns own.new context.now) self.now (λ heap state.
-            IsPlan self.now heap state (PairSet src key val) result) }
+        ensures action { Always (O.owns own.new context.now) self.now (λ heap state.
+            IsAction self.now heap state (PairSet src key val) result) }
         ensures owns { Leaves (O.owns own.old) (O.owns own.new) context.now self.now (O.rest own.old) (O.rest own.new) }
     {
         let cells = match self.pair_cells(own, context, src, key) {
             Ok(cells) => cells,
-            Err(refusal) => return Plan::Refuse { refusal },
+            Err(refusal) => return Action::Refuse { refusal },
         };
         let words = self.pairs_of(own, context, cells.table);
         let Some(place) = place_for(&words, cells.key) else {
-            return Plan::Refuse {
+            return Action::Refuse {
                 refusal: Refusal::PairsFull,
             };
         };
-        Plan::StorePair {
+        Action::StorePair {
             table: cells.table,
             place,
             key: cells.key,
@@ -152,27 +152,27 @@ impl<'a, S: ShapeTable> Caller<'a, S> {
         dst: u8,
         src: u8,
         key: u8,
-    ) -> Plan
+    ) -> Action
         requires table_register { src < self.now.layout.registers }
         requires key_register { key < self.now.layout.registers }
         requires known { MayCallNow (O.owns own.old context.now) self.now }
-        ensures plan { Always (O.owns own.new context.now) self.now (λ heap state.
-            IsPlan self.now heap state (PairGet dst src key) result) }
+        ensures action { Always (O.owns own.new context.now) self.now (λ heap state.
+            IsAction self.now heap state (PairGet dst src key) result) }
         ensures owns { Leaves (O.owns own.old) (O.owns own.new) context.now self.now (O.rest own.old) (O.rest own.new) }
     {
         let cells = match self.pair_cells(own, context, src, key) {
             Ok(cells) => cells,
-            Err(refusal) => return Plan::Refuse { refusal },
+            Err(refusal) => return Action::Refuse { refusal },
         };
         let words = self.pairs_of(own, context, cells.table);
         match pair_of(&words, cells.key) {
-            Some(pair) => Plan::Show {
+            Some(pair) => Action::Show {
                 dst,
                 table: cells.table,
                 place: pair.place,
                 value: pair.value,
             },
-            None => Plan::Refuse {
+            None => Action::Refuse {
                 refusal: Refusal::Absent,
             },
         }
@@ -185,25 +185,25 @@ impl<'a, S: ShapeTable> Caller<'a, S> {
         context: &C,
         src: u8,
         key: u8,
-    ) -> Plan
+    ) -> Action
         requires table_register { src < self.now.layout.registers }
         requires key_register { key < self.now.layout.registers }
         requires known { MayCallNow (O.owns own.old context.now) self.now }
-        ensures plan { Always (O.owns own.new context.now) self.now (λ heap state.
-            IsPlan self.now heap state (PairDel src key) result) }
+        ensures action { Always (O.owns own.new context.now) self.now (λ heap state.
+            IsAction self.now heap state (PairDel src key) result) }
         ensures owns { Leaves (O.owns own.old) (O.owns own.new) context.now self.now (O.rest own.old) (O.rest own.new) }
     {
         let cells = match self.pair_cells(own, context, src, key) {
             Ok(cells) => cells,
-            Err(refusal) => return Plan::Refuse { refusal },
+            Err(refusal) => return Action::Refuse { refusal },
         };
         let words = self.pairs_of(own, context, cells.table);
         match pair_of(&words, cells.key) {
-            Some(pair) => Plan::ClearPair {
+            Some(pair) => Action::ClearPair {
                 table: cells.table,
                 place: pair.place,
             },
-            None => Plan::Refuse {
+            None => Action::Refuse {
                 refusal: Refusal::Absent,
             },
         }

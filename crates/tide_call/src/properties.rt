@@ -9,12 +9,12 @@ ghost use Rattle.tide_model.specs.declared.op.Op.TheVariants.{GetProp, SetProp};
 ghost use Rattle.tide_model.specs.declared.op.Refusal.{Refusal as TheRefusal};
 ghost use Rattle.tide_model.specs.declared.val.Val.TheVariants.{Cell};
 ghost use Rattle.tide_call.specs.Callers.{Always, Leaves, MayCallNow};
-ghost use Rattle.tide_call.specs.Plans.{IsPlan};
+ghost use Rattle.tide_call.specs.Actions.{IsAction};
 ghost use Rattle.tide_call.specs.Properties.{IsPropertyOf};
 
-use crate::caller::Caller;
+use crate::action::Action;
 use crate::own::OwnWords;
-use crate::plan::Plan;
+use crate::planner::Planner;
 use tide_model::Refusal;
 use tide_shape::ShapeTable;
 use tide_words::{TABLE, class_of};
@@ -27,7 +27,7 @@ struct Property {
     place: u8,
 }
 
-impl<'a, S: ShapeTable> Caller<'a, S> {
+impl<'a, S: ShapeTable> Planner<'a, S> {
     /// The cell in a register, which has properties and which the caller claims, or why an operation on these is
     /// refused.
     pub(crate) fn property_holder<C, O: OwnWords<C>>(
@@ -99,16 +99,16 @@ impl<'a, S: ShapeTable> Caller<'a, S> {
         dst: u8,
         src: u8,
         key: u32,
-    ) -> Plan
+    ) -> Action
         requires of_layout { src < self.now.layout.registers }
         requires known { MayCallNow (O.owns own.old context.now) self.now }
-        ensures plan { Always (O.owns own.new context.now) self.now (λ heap state.
-            IsPlan self.now heap state (GetProp dst src key) result) }
+        ensures action { Always (O.owns own.new context.now) self.now (λ heap state.
+            IsAction self.now heap state (GetProp dst src key) result) }
         ensures owns { Leaves (O.owns own.old) (O.owns own.new) context.now self.now (O.rest own.old) (O.rest own.new) }
     {
         match self.find_property(own, context, src, key) {
-            Ok(Property { array, place, .. }) => Plan::LoadElement { dst, array, place },
-            Err(refusal) => Plan::Refuse { refusal },
+            Ok(Property { array, place, .. }) => Action::LoadElement { dst, array, place },
+            Err(refusal) => Action::Refuse { refusal },
         }
     }
 
@@ -120,22 +120,22 @@ impl<'a, S: ShapeTable> Caller<'a, S> {
         src: u8,
         key: u32,
         val: u8,
-    ) -> Plan
+    ) -> Action
         requires of_layout { src < self.now.layout.registers }
         requires val_of_layout { val < self.now.layout.registers }
         requires known { MayCallNow (O.owns own.old context.now) self.now }
-        ensures plan { Always (O.owns own.new context.now) self.now (λ heap state.
-            IsPlan self.now heap state (SetProp src key val) result) }
+        ensures action { Always (O.owns own.new context.now) self.now (λ heap state.
+            IsAction self.now heap state (SetProp src key val) result) }
         ensures owns { Leaves (O.owns own.old) (O.owns own.new) context.now self.now (O.rest own.old) (O.rest own.new) }
     {
         match self.find_property(own, context, src, key) {
-            Ok(found) => Plan::StoreElement {
+            Ok(found) => Action::StoreElement {
                 cell: found.cell,
                 array: found.array,
                 place: found.place,
                 value: self.value_in(own, context, val),
             },
-            Err(refusal) => Plan::Refuse { refusal },
+            Err(refusal) => Action::Refuse { refusal },
         }
     }
 }

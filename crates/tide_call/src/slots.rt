@@ -5,16 +5,16 @@ ghost use Rattle.tide_model.specs.Refused.{slot_refusal};
 ghost use Rattle.tide_model.specs.declared.op.Op.TheVariants.{Get, Put};
 ghost use Rattle.tide_model.specs.declared.val.Val.TheVariants.{Cell};
 ghost use Rattle.tide_call.specs.Callers.{Always, Leaves, MayCallNow};
-ghost use Rattle.tide_call.specs.Plans.{IsPlan};
+ghost use Rattle.tide_call.specs.Actions.{IsAction};
 
-use crate::caller::Caller;
+use crate::action::Action;
 use crate::own::OwnRegisters;
-use crate::plan::Plan;
+use crate::planner::Planner;
 use tide_model::Refusal;
 use tide_shape::ShapeTable;
 use tide_words::{TABLE, class_of, slots};
 
-impl<'a, S: ShapeTable> Caller<'a, S> {
+impl<'a, S: ShapeTable> Planner<'a, S> {
     /// The cell in a register, which has this slot, or why the slot can't be read or written.
     fn slot_holder<C, O: OwnRegisters<C>>(
         &self,
@@ -53,16 +53,16 @@ impl<'a, S: ShapeTable> Caller<'a, S> {
         dst: u8,
         src: u8,
         slot: u8,
-    ) -> Plan
+    ) -> Action
         requires of_layout { src < self.now.layout.registers }
         requires known { MayCallNow (O.owns own.old context.now) self.now }
-        ensures plan { Always (O.owns own.new context.now) self.now (λ heap state.
-            IsPlan self.now heap state (Get dst src slot) result) }
+        ensures action { Always (O.owns own.new context.now) self.now (λ heap state.
+            IsAction self.now heap state (Get dst src slot) result) }
         ensures owns { Leaves (O.owns own.old) (O.owns own.new) context.now self.now (O.rest own.old) (O.rest own.new) }
     {
         match self.slot_holder(own, context, src, slot) {
-            Ok(cell) => Plan::LoadSlot { dst, cell, slot },
-            Err(refusal) => Plan::Refuse { refusal },
+            Ok(cell) => Action::LoadSlot { dst, cell, slot },
+            Err(refusal) => Action::Refuse { refusal },
         }
     }
 
@@ -74,21 +74,21 @@ impl<'a, S: ShapeTable> Caller<'a, S> {
         src: u8,
         slot: u8,
         val: u8,
-    ) -> Plan
+    ) -> Action
         requires of_layout { src < self.now.layout.registers }
         requires val_of_layout { val < self.now.layout.registers }
         requires known { MayCallNow (O.owns own.old context.now) self.now }
-        ensures plan { Always (O.owns own.new context.now) self.now (λ heap state.
-            IsPlan self.now heap state (Put src slot val) result) }
+        ensures action { Always (O.owns own.new context.now) self.now (λ heap state.
+            IsAction self.now heap state (Put src slot val) result) }
         ensures owns { Leaves (O.owns own.old) (O.owns own.new) context.now self.now (O.rest own.old) (O.rest own.new) }
     {
         match self.slot_holder(own, context, src, slot) {
-            Ok(cell) => Plan::StoreSlot {
+            Ok(cell) => Action::StoreSlot {
                 cell,
                 slot,
                 value: self.value_in(own, context, val),
             },
-            Err(refusal) => Plan::Refuse { refusal },
+            Err(refusal) => Action::Refuse { refusal },
         }
     }
 }

@@ -16,7 +16,7 @@ pub mod machine;
 pub use machine::{
     Act, Cleared, Duty, Found, Growth, Owed, Role, Round, Saw, Scan, Sweeping, Target, View,
 };
-pub use tide_call::{Addition, Caller, Claims, OwnRegisters, OwnWords, Plan};
+pub use tide_call::{Action, Addition, Claims, OwnRegisters, OwnWords, Planner};
 pub use tide_cycle::{Report, begin, end, pause};
 pub use tide_solver::Solved;
 pub use tide_sweep::{SweepPort, Took, has_dead, sweep, sweep_running};

@@ -20,10 +20,10 @@ pub use heap::{Heap, Key, Waves};
 pub use shapes::HeapShapes;
 pub use steps::{Made, Note, Numbers, Pass, Ticket};
 pub use tide_core::{
-    Addition, BLOCK_SIZE, Caller, Claims, Colour, GreyList, Layout, MAX_CELLS, OwnRegisters,
-    OwnWords, Plan, Region, Report, Solved, Structure, SweepPort, TABLE, Took, View, Words, after,
-    begin, bit_of, block_of_cell, class_of, colour, colour_word, first_block_of, fits, has_bit,
-    is_live, is_marked_in, is_vacant, lowest, pair_word, pause, slots, structure_word,
+    Action, Addition, BLOCK_SIZE, Claims, Colour, GreyList, Layout, MAX_CELLS, OwnRegisters,
+    OwnWords, Planner, Region, Report, Solved, Structure, SweepPort, TABLE, Took, View, Words,
+    after, begin, bit_of, block_of_cell, class_of, colour, colour_word, first_block_of, fits,
+    has_bit, is_live, is_marked_in, is_vacant, lowest, pair_word, pause, slots, structure_word,
     sweep_running, val_word, with_bit, without_bit, word_array, word_claim, word_phase,
     word_structure, word_val,
 };

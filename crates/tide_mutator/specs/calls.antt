@@ -1,5 +1,5 @@
 pub mod Called
 pub mod Growing
 pub mod Owning
-pub mod Plans
+pub mod Actions
 pub mod Viewed

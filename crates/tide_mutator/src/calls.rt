@@ -3,7 +3,7 @@
 //!
 //! A `Mutator` (`mutator`, `calling`) has a pass of `tide_heap`, the cells that it claims, where its searches for
 //! something free go on, and the number of its calls. What a call is to do is decided by `tide_call` (`deciding`), over
-//! own words that it loads (`own`). `acting` hands the plan to the function that acts on it, and decides nothing. The
+//! own words that it loads (`own`). `acting` hands the action to the function that acts on it, and decides nothing. The
 //! calls on own registers, on groups and on properties are here (`registers`, `groups`, `properties`, `leaving`), and
 //! so is the addition of a property that needs a larger array (`growing`): what the cell's array holds is loaded
 //! (`copying`), and a free one is found and taken (`searching`). The calls that take, link, hold and claim cells are

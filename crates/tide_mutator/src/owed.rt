@@ -2,8 +2,8 @@
 //! colour, a larger array, a barrier, the call word.
 //!
 //! Here is also what such a step needs and leaves: where a mutator with a view may stand in the history, and why a call
-//! may be made where its plan is the call's. It knows which word says what, and no operation: who makes a call, and by
-//! which step, it is told.
+//! may be made where its action is the call's. It knows which word says what, and no operation: who makes a call, and
+//! by which step, it is told.
 
 mod arrays;
 mod barrier;
@@ -13,7 +13,7 @@ mod registers;
 mod shape;
 
 pub use arrays::replace;
-pub use barrier::shade_for;
+pub use barrier::write_barrier;
 pub use colouring::colour;
 pub use growth::Growth;
 pub use registers::{pay, show};

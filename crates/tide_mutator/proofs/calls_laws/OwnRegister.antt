@@ -13,14 +13,14 @@ use Rattle.tide_model.specs.Refused.{ShapeLists}
 use Rattle.tide_model.specs.declared.entry.Event.{Event}
 use Rattle.tide_mutator.proofs.owed_laws.OwnClaims.{own_at}
 use Rattle.tide_mutator.proofs.cells_laws.OwnFound.{own_found}
-use Rattle.tide_mutator.specs.owed.Standing.{StandsAt}
+use Rattle.tide_mutator.specs.owed.Standing.{MutatorStandsAt}
 use Rattle.tide_heap.specs.steps.Follows.{Follows}
 use Rattle.tide_heap.specs.tide_words.forms.ValueWord.{val_word}
 use Rattle.tide_heap.specs.tide_words.heap.Heap.{Heap}
 
 pub register_word : (layout : Layout) (shapes : ShapeLists) (v u : View) (heap : Heap) (log : List Event)
     (register read : ℕ) → v.owed ≡ [] → v.who < layout.mutators → register < layout.registers →
-    StandsAt layout shapes v heap log → Follows layout shapes (LoadRegister register) v read u →
+    MutatorStandsAt layout shapes v heap log → Follows layout shapes (LoadRegister register) v read u →
     read ≡ heap Registers (index_of_register layout v.who register)
 register_word layout shapes v u heap log register read calm mutator within stands f =
     sym (own_found layout shapes v f.log Registers index read refl calm (own_register register mutator within) m)

@@ -22,7 +22,7 @@ use Rattle.tide_model.specs.Refused.{ShapeLists, is_table}
 use Rattle.tide_model.specs.declared.entry.Event.{Event}
 use Rattle.tide_mutator.proofs.cells_laws.OwnFound.{own_found}
 use Rattle.tide_mutator.proofs.owed_laws.Standing.{moment_in, stands_then}
-use Rattle.tide_mutator.specs.owed.Standing.{StandsAt, claims_of}
+use Rattle.tide_mutator.specs.owed.Standing.{MutatorStandsAt, claims_of}
 use Rattle.tide_mutator.specs.calls.Owning.{OwnsAt, unread}
 use Rattle.tide_heap.specs.steps.Follows.{Follows, MayStep}
 use Rattle.tide_heap.proofs.tide_words.heap_laws.Frames.{is_read}
@@ -115,7 +115,7 @@ module _ (layout : Layout) (shapes : ShapeLists) (v u : View) (at : Region) (ind
         };
       }
     where
-      stands : StandsAt layout shapes v m.settled log
+      stands : MutatorStandsAt layout shapes v m.settled log
       stands = stands_then layout shapes v log at index read o.stays m
 
       found : m.settled at index ≡ read

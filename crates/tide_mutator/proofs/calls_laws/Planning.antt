@@ -1,8 +1,8 @@
--- What a plan that was made says, wherever its mutator may stand.
+-- What an action that was planned says, wherever its mutator may stand.
 use Rattle.std.proofs.Common.{ℕ, ◌≡◌, ◌<◌, refl, sym, ◌∙◌, ap, subst, true, false, List, []}
-use Rattle.tide_heap.specs.tide_call.Callers.{Caller, CallsIn, MayCallNow, OwnHeaps}
-use Rattle.tide_heap.specs.tide_call.Plans.{IsPlan}
-use Rattle.tide_heap.specs.tide_call.declared.plan.Plan.{Plan}
+use Rattle.tide_heap.specs.tide_call.Callers.{Planner, CallsIn, MayCallNow, OwnHeaps}
+use Rattle.tide_heap.specs.tide_call.Actions.{IsAction}
+use Rattle.tide_heap.specs.tide_call.declared.action.Action.{Action}
 use Rattle.tide_heap.specs.tide_layout.declared.region.Region.{Region}
 use Rattle.tide_heap.specs.tide_core.machine.Moment.{Moment}
 use Rattle.tide_heap.specs.tide_core.declared.machine.view.Growth.TheVariants.{Nothing}
@@ -14,7 +14,7 @@ use Rattle.tide_model.specs.State.{State}
 use Rattle.tide_model.specs.declared.entry.Event.{Event}
 use Rattle.tide_model.specs.declared.op.Op.{Op}
 use Rattle.tide_mutator.proofs.owed_laws.Standing.{calls_there, stands_then}
-use Rattle.tide_mutator.specs.owed.Standing.{IsPlanned, StandsAt, caller_of, claims_of}
+use Rattle.tide_mutator.specs.owed.Standing.{IsPlanned, MutatorStandsAt, caller_of, claims_of}
 use Rattle.tide_mutator.specs.calls.Owning.{OwnsAt}
 use Rattle.tide_heap.specs.tide_words.heap.Heap.{Heap}
 
@@ -47,8 +47,8 @@ pub record IsCalm (v : View) : Type 0 where
   pub owed : v.owed ≡ []
   pub growth : v.growth ≡ Nothing
 
--- A mutator with this view asks for a plan, beside something else that stays.
-module _ (layout : Layout) (shapes : ShapeLists) (v : View) (Same : Type 0) (same : Same) (caller : Caller)
+-- A mutator with this view asks for an action, beside something else that stays.
+module _ (layout : Layout) (shapes : ShapeLists) (v : View) (Same : Type 0) (same : Same) (caller : Planner)
     (is : caller ≡ caller_of layout shapes v) (below : v.who < layout.mutators) where
   abbrev owns : OwnHeaps
   owns given who heap = Same × OwnsAt layout shapes v given who heap
@@ -62,7 +62,7 @@ module _ (layout : Layout) (shapes : ShapeLists) (v : View) (Same : Type 0) (sam
     is_caller = calls_there layout shapes v heap o.log below o.stands;
   }
 
-  -- so it may be asked for a plan
+  -- so it may be asked for an action
   pub asked : (heap : Heap) → OwnsAt layout shapes v layout v.who heap → MayCallNow owns caller
   asked heap o = subst (MayCallNow owns) (sym is) record {
     heap = heap;
@@ -72,16 +72,16 @@ module _ (layout : Layout) (shapes : ShapeLists) (v : View) (Same : Type 0) (sam
 
   -- where it still may call, it may stand
   pub stands_still : (may : MayCallNow owns caller) → OwnsAt layout shapes v layout v.who may.heap
-  stands_still may = subst (λ (one : Caller). OwnsAt layout shapes v one.layout one.who may.heap) is may.owned.1
+  stands_still may = subst (λ (one : Planner). OwnsAt layout shapes v one.layout one.who may.heap) is may.owned.1
 
-  -- and a plan is the call's wherever it may stand
-  pub planned_by : (op : Op) (does : Plan) → IsCalm v →
-      ((heap : Heap) (state : State) → CallsIn owns caller heap state → IsPlan caller heap state op does) →
+  -- and an action is the call's wherever it may stand
+  pub planned_by : (op : Op) (does : Action) → IsCalm v →
+      ((heap : Heap) (state : State) → CallsIn owns caller heap state → IsAction caller heap state op does) →
       IsPlanned layout shapes v op does
-  planned_by op does calm plans heap log stands =
-      subst (λ (one : Caller). IsPlan one heap (state_after layout log) op does) is
-      (plans heap (state_after layout log)
-      (subst (λ (one : Caller). CallsIn owns one heap (state_after layout log)) (sym is) (calls_where heap record {
+  planned_by op does calm actions heap log stands =
+      subst (λ (one : Planner). IsAction one heap (state_after layout log) op does) is
+      (actions heap (state_after layout log)
+      (subst (λ (one : Planner). CallsIn owns one heap (state_after layout log)) (sym is) (calls_where heap record {
         same_layout = refl;
         same_who = refl;
         runs = calm.runs;

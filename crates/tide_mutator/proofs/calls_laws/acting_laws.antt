@@ -1,4 +1,4 @@
--- The laws of acting on a plan that is no growth.
+-- The laws of carrying out an action that is no growth.
 pub mod Acted
 pub mod AppendSteps
 pub mod Asking

@@ -1,7 +1,7 @@
 -- The laws of the growth of an array.
 pub mod Calls
 pub mod Grown
-pub mod Plans
+pub mod Actions
 pub mod Reading
 pub mod Taking
 pub mod Wanting

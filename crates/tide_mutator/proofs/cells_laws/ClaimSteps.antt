@@ -3,12 +3,12 @@ use Rattle.std.proofs.Common.{ℕ, zero, suc, ◌≡◌, ◌+◌, ◌<◌, refl,
 use Rattle.std.proofs.lemmas.Bool.{ne_eqb}
 use Rattle.std.proofs.lemmas.Bool.Decides.{nat_tests}
 use Rattle.std.specs.Prelude.{if◌then◌else◌, nat_le, ◌==◌}
-use Rattle.tide_heap.proofs.tide_call.plan_laws.ClaimPlans.{claims_are_told}
-use Rattle.tide_heap.specs.tide_call.Callers.{Caller}
+use Rattle.tide_heap.proofs.tide_call.action_laws.ClaimActions.{claims_are_told}
+use Rattle.tide_heap.specs.tide_call.Callers.{Planner}
 use Rattle.tide_heap.specs.tide_call.Laws.{IsClaimTold}
-use Rattle.tide_heap.specs.tide_call.PlanWords.{PlanWords}
-use Rattle.tide_heap.specs.tide_call.Plans.{IsPlan, is_told_by_registers}
-use Rattle.tide_heap.specs.tide_call.declared.plan.Plan.TheVariants as plan
+use Rattle.tide_heap.specs.tide_call.ActionWords.{ActionWords}
+use Rattle.tide_heap.specs.tide_call.Actions.{IsAction, is_told_by_registers}
+use Rattle.tide_heap.specs.tide_call.declared.action.Action.TheVariants as action
 use Rattle.tide_heap.specs.tide_layout.declared.region.Region.TheVariants as region
 use Rattle.tide_heap.specs.tide_core.machine.Entries.{call_of, reply_of_call}
 use Rattle.tide_heap.specs.tide_core.machine.Kind.{LoadClaim, TakeClaim, Release as ReleaseStep}
@@ -42,21 +42,21 @@ use Rattle.tide_mutator.specs.cells.Claiming.{held_or, unheld_reply}
 use Rattle.tide_mutator.specs.owed.Made.{HasMade}
 use Rattle.tide_mutator.specs.owed.Standing.{IsPlanned, caller_of, claims_of}
 use Rattle.tide_heap.specs.steps.Follows.{Follows, FollowsSome, MayStep}
-use Rattle.tide_heap.proofs.tide_call.plan_laws.ClaimWords.{some_claim}
+use Rattle.tide_heap.proofs.tide_call.action_laws.ClaimWords.{some_claim}
 use Rattle.tide_heap.specs.tide_call.Needed.{IsSomeClaim}
 use Rattle.tide_heap.proofs.tide_words.heap_laws.ReadingLaws.{live_within}
 use Rattle.tide_heap.specs.tide_words.forms.Reference.{claim_word}
 use Rattle.tide_heap.specs.tide_words.heap.Heap.{Heap, write}
 
--- which operation has such a plan
-record IsClaim (caller : Caller) (state : State) (op : Op) (cell : ℕ) (full : Bool) : Type 0 where
+-- which operation has such an action
+record IsClaim (caller : Planner) (state : State) (op : Op) (cell : ℕ) (full : Bool) : Type 0 where
   src : ℕ
   same : op ≡ Claim src
   source : state.registers caller.who src ≡ Cell cell
   fullness : full ≡ nat_le claims_most (length caller.claims)
 
-is_claim : (caller : Caller) (heap : Heap) (state : State) (op : Op) (cell : ℕ) (full : Bool) →
-    is_told_by_registers op ≡ true → IsPlan caller heap state op (plan.Claim cell full) →
+is_claim : (caller : Planner) (heap : Heap) (state : State) (op : Op) (cell : ℕ) (full : Bool) →
+    is_told_by_registers op ≡ true → IsAction caller heap state op (action.Claim cell full) →
     IsClaim caller state op cell full
 is_claim caller heap state (Claim src) cell full told (source, fullness) =
     record { src = src; same = refl; source = source; fullness = fullness }
@@ -70,7 +70,7 @@ no_room full (suc holder) class is = absurd (cc)
 
 module _ (layout : Layout) (shapes : ShapeLists) (v : View) (op : Op) (cell : ℕ) (full : Bool)
     (calling : IsCalling layout v op) (told : is_told_by_registers op ≡ true)
-    (planned : IsPlanned layout shapes v op (plan.Claim cell full)) where
+    (planned : IsPlanned layout shapes v op (action.Claim cell full)) where
   module _ (log : List Event) (read : ℕ) (m : Moment layout shapes v log region.Claim cell read) where
     abbrev state : State
     state = state_after layout log
@@ -114,11 +114,11 @@ module _ (layout : Layout) (shapes : ShapeLists) (v : View) (op : Op) (cell : �
         ∙ sym is_here.fullness ∙ is))
 
   taken_words : (full ≡ false) → (log : List Event) (read : ℕ) (m : Moment layout shapes v log region.Claim cell read) →
-      (new : Heap) × PlanWords layout m.settled v.who (plan.Claim cell full) (held_or Done read) None new
+      (new : Heap) × ActionWords layout m.settled v.who (action.Claim cell full) (held_or Done read) None new
   taken_words free log read m = by read (found log read m)
     where
       by : (n : ℕ) → m.settled region.Claim cell ≡ n →
-          (new : Heap) × PlanWords layout m.settled v.who (plan.Claim cell full) (held_or Done n) None new
+          (new : Heap) × ActionWords layout m.settled v.who (action.Claim cell full) (held_or Done n) None new
       by zero is = (
         write m.settled region.Claim cell (claim_word (Some v.who)),
         (refl, is, free, λ other index inside. refl),
@@ -129,11 +129,11 @@ module _ (layout : Layout) (shapes : ShapeLists) (v : View) (op : Op) (cell : �
       )
 
   full_words : (full ≡ true) → (log : List Event) (read : ℕ) (m : Moment layout shapes v log region.Claim cell read) →
-      PlanWords layout m.settled v.who (plan.Claim cell full) (held_or (Refused ClaimsFull) read) None m.settled
+      ActionWords layout m.settled v.who (action.Claim cell full) (held_or (Refused ClaimsFull) read) None m.settled
   full_words is_full log read m = by read (found log read m)
     where
       by : (n : ℕ) → m.settled region.Claim cell ≡ n →
-          PlanWords layout m.settled v.who (plan.Claim cell full) (held_or (Refused ClaimsFull) n) None m.settled
+          ActionWords layout m.settled v.who (action.Claim cell full) (held_or (Refused ClaimsFull) n) None m.settled
       by zero is = (refl, is, is_full, λ other index inside. refl)
       by (suc holder) is =
           (refl, is ∙ (let more : suc holder ≡ holder + 1 = omega arith in more), λ other index inside. refl)
@@ -172,13 +172,13 @@ module _ (layout : Layout) (shapes : ShapeLists) (v : View) (op : Op) (cell : �
         subst (λ (o : Op). MayCall layout shapes w v.who o
             (if read == 0 then Done else reply_of_call layout shapes (state_after layout w.log) v.who o) None) here.same
             (subst (λ (r : Reply). MayCall layout shapes w v.who op r None) (sym (take_reply w.log read m))
-            (may_call layout shapes w v op (plan.Claim cell full) (held_or Done read) None region.Claim cell read is calling
+            (may_call layout shapes w v op (action.Claim cell full) (held_or Done read) None region.Claim cell read is calling
             planned m new words (λ class room. absurd (no_room false read class room)))),
       )
 
   pub taken_by : (full ≡ false) → (holder read : ℕ) (u : View) →
       Follows layout shapes (TakeClaim cell holder (Some op)) v read u →
-      HasMade layout shapes op (plan.Claim cell full) (held_or Done read) v u [] Nothing
+      HasMade layout shapes op (action.Claim cell full) (held_or Done read) v u [] Nothing
   taken_by free holder read u f =
       let (new, words) = taken_words free f.log read f.moment in
       let view : u ≡ record (with_entry f.log (Some (call_of v.who op (held_or Done read) None)) (called [] v)) {
@@ -186,7 +186,7 @@ module _ (layout : Layout) (shapes : ShapeLists) (v : View) (op : Op) (cell : �
       } =
       f.view ∙ ap (λ (r : Reply). record (with_entry f.log (Some (call_of v.who op r None)) (called [] v)) { found = read })
       (take_reply f.log read f.moment) in record {
-        made = made_by layout shapes op (plan.Claim cell full) (held_or Done read) None v u (called [] v) f.log region.Claim
+        made = made_by layout shapes op (action.Claim cell full) (held_or Done read) None v u (called [] v) f.log region.Claim
             cell read calling f.moment f.lawful f.own view new words refl refl (λ stays. refl) (λ is. absurd (cc)) (none_born v.born);
         owed = ap (λ (x : View). x.owed) view;
         duty = ap (λ (x : View). x.duty) view ∙ calling.between.duty;
@@ -211,20 +211,20 @@ module _ (layout : Layout) (shapes : ShapeLists) (v : View) (op : Op) (cell : �
         subst (λ (o : Op). MayCall layout shapes w v.who o
             (reply_of_call layout shapes (state_after layout w.log) v.who o) None) here.same
             (subst (λ (r : Reply). MayCall layout shapes w v.who op r None) (sym (load_reply is_full w.log read m))
-            (may_call layout shapes w v op (plan.Claim cell full) (held_or (Refused ClaimsFull) read) None region.Claim cell
+            (may_call layout shapes w v op (action.Claim cell full) (held_or (Refused ClaimsFull) read) None region.Claim cell
             read is calling planned m m.settled (full_words is_full w.log read m)
             (λ class room. absurd (no_room true read class room)))),
       )
 
   pub looked_by : (full ≡ true) → (read : ℕ) (u : View) → Follows layout shapes (LoadClaim cell (Some op)) v read u →
-      HasMade layout shapes op (plan.Claim cell full) (held_or (Refused ClaimsFull) read) v u [] Nothing
+      HasMade layout shapes op (action.Claim cell full) (held_or (Refused ClaimsFull) read) v u [] Nothing
   looked_by is_full read u f =
       let view : u ≡ record (with_entry f.log (Some (call_of v.who op (held_or (Refused ClaimsFull) read) None)) (called [] v)) {
         found = read;
       } =
       f.view ∙ ap (λ (r : Reply). record (with_entry f.log (Some (call_of v.who op r None)) (called [] v)) { found = read })
       (load_reply is_full f.log read f.moment) in record {
-        made = made_by layout shapes op (plan.Claim cell full) (held_or (Refused ClaimsFull) read) None v u (called [] v) f.log
+        made = made_by layout shapes op (action.Claim cell full) (held_or (Refused ClaimsFull) read) None v u (called [] v) f.log
             region.Claim cell read calling f.moment f.lawful f.own view f.moment.settled
             (full_words is_full f.log read f.moment) refl refl (λ stays. refl) (λ is. absurd (cc)) (none_born v.born);
         owed = ap (λ (x : View). x.owed) view;
@@ -232,18 +232,18 @@ module _ (layout : Layout) (shapes : ShapeLists) (v : View) (op : Op) (cell : �
       }
 
 -- giving back
-record IsRelease (caller : Caller) (state : State) (op : Op) (cell : ℕ) : Type 0 where
+record IsRelease (caller : Planner) (state : State) (op : Op) (cell : ℕ) : Type 0 where
   src : ℕ
   same : op ≡ Release src
   source : state.registers caller.who src ≡ Cell cell
 
-record IsUnclaim (caller : Caller) (op : Op) (cell : ℕ) : Type 0 where
+record IsUnclaim (caller : Planner) (op : Op) (cell : ℕ) : Type 0 where
   others : List ℕ
   same : op ≡ Unclaim
   oldest : caller.claims ≡ cell ∷ others
 
-is_release : (caller : Caller) (heap : Heap) (state : State) (op : Op) (cell : ℕ) → is_told_by_registers op ≡ true →
-    IsPlan caller heap state op (plan.Release cell) → IsRelease caller state op cell ⊎ IsUnclaim caller op cell
+is_release : (caller : Planner) (heap : Heap) (state : State) (op : Op) (cell : ℕ) → is_told_by_registers op ≡ true →
+    IsAction caller heap state op (action.Release cell) → IsRelease caller state op cell ⊎ IsUnclaim caller op cell
 is_release caller heap state (Release src) cell told (granted, (at, source, is)) =
     let this : at ≡ cell = cc in inl record { src = src; same = refl; source = source ∙ ap Cell this }
 is_release caller heap state Unclaim cell told (granted, (at, others, are, is)) =
@@ -265,7 +265,7 @@ releases layout shapes w v op cell (inr is) claims may =
     ((is.others, claims ∙ is.oldest), subst (λ (o : Op). MayCall layout shapes w v.who o Done None) is.same may)
 
 module _ (layout : Layout) (shapes : ShapeLists) (v : View) (op : Op) (cell : ℕ)
-    (calling : IsCalling layout v op) (planned : IsPlanned layout shapes v op (plan.Release cell)) where
+    (calling : IsCalling layout v op) (planned : IsPlanned layout shapes v op (action.Release cell)) where
   pub may_release : is_told_by_registers op ≡ true → MayStep layout shapes v (ReleaseStep cell (Some op))
   may_release told w running is =
       let read = w.heap region.Claim cell in
@@ -274,14 +274,14 @@ module _ (layout : Layout) (shapes : ShapeLists) (v : View) (op : Op) (cell : �
       releases layout shapes w v op cell
       (is_release (caller_of layout shapes v) m.settled (state_after layout w.log) op cell told
       (planned m.settled w.log stands)) stands.claims
-      (may_call layout shapes w v op (plan.Release cell) Done None region.Claim cell read is calling planned m
+      (may_call layout shapes w v op (action.Release cell) Done None region.Claim cell read is calling planned m
       (write m.settled region.Claim cell (claim_word None)) (refl, λ other index inside. refl)
       (λ class full. absurd (cc)))
 
   pub released_by : (u : View) → FollowsSome layout shapes (ReleaseStep cell (Some op)) v u →
-      HasMade layout shapes op (plan.Release cell) Done v u [] Nothing
+      HasMade layout shapes op (action.Release cell) Done v u [] Nothing
   released_by u f = record {
-    made = made_by layout shapes op (plan.Release cell) Done None v u (called [] v) f.1.log region.Claim cell f.0 calling
+    made = made_by layout shapes op (action.Release cell) Done None v u (called [] v) f.1.log region.Claim cell f.0 calling
         f.1.moment f.1.lawful f.1.own f.1.view (write f.1.moment.settled region.Claim cell (claim_word None))
         (refl, λ other index inside. refl) refl refl (λ stays. refl) (λ is. absurd (cc)) (none_born v.born);
     owed = ap (λ (x : View). x.owed) f.1.view;

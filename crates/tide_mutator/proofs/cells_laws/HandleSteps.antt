@@ -1,9 +1,9 @@
 -- StrongSet, StrongGet, WeakSet and WeakGet: the step on the handle makes the call.
 use Rattle.std.proofs.Common.{ℕ, ◌≡◌, ◌<◌, refl, sym, ◌∙◌, ap, subst, true, List, [], None, Some}
-use Rattle.tide_heap.specs.tide_call.Callers.{Caller}
-use Rattle.tide_heap.specs.tide_call.PlanWords.{PlanWords}
-use Rattle.tide_heap.specs.tide_call.Plans.{IsPlan, is_told_by_registers}
-use Rattle.tide_heap.specs.tide_call.declared.plan.Plan.TheVariants as plan
+use Rattle.tide_heap.specs.tide_call.Callers.{Planner}
+use Rattle.tide_heap.specs.tide_call.ActionWords.{ActionWords}
+use Rattle.tide_heap.specs.tide_call.Actions.{IsAction, is_told_by_registers}
+use Rattle.tide_heap.specs.tide_call.declared.action.Action.TheVariants as action
 use Rattle.tide_heap.specs.tide_layout.Region.{index_of_register}
 use Rattle.tide_heap.specs.tide_layout.declared.region.Region.TheVariants as region
 use Rattle.tide_heap.specs.tide_core.machine.Kind.{LoadStrong, LoadWeak, StoreStrong, StoreWeak}
@@ -35,9 +35,9 @@ use Rattle.tide_heap.specs.tide_words.forms.ValueWord.{val_word}
 use Rattle.tide_heap.specs.tide_words.heap.Heap.{Heap, write}
 use Rattle.tide_heap.specs.tide_words.heap.Reading.{IsValueOf}
 
--- which operation has such a plan
-strong_set : (caller : Caller) (heap : Heap) (state : State) (op : Op) (at : ℕ) (value : Val) →
-    is_told_by_registers op ≡ true → IsPlan caller heap state op (plan.StoreStrong at value) →
+-- which operation has such an action
+strong_set : (caller : Planner) (heap : Heap) (state : State) (op : Op) (at : ℕ) (value : Val) →
+    is_told_by_registers op ≡ true → IsAction caller heap state op (action.StoreStrong at value) →
     (val : ℕ) × (op ≡ StrongSet at val) × (value ≡ state.registers caller.who val)
 strong_set caller heap state (StrongSet a val) at value told is =
     let handle : a ≡ at = cc in
@@ -45,8 +45,8 @@ strong_set caller heap state (StrongSet a val) at value told is =
 strong_set caller heap state (Claim src) at value told is = absurd is.1
 strong_set caller heap state op at value told is = absurd (cc)
 
-weak_set : (caller : Caller) (heap : Heap) (state : State) (op : Op) (at : ℕ) (value : Val) →
-    is_told_by_registers op ≡ true → IsPlan caller heap state op (plan.StoreWeak at value) →
+weak_set : (caller : Planner) (heap : Heap) (state : State) (op : Op) (at : ℕ) (value : Val) →
+    is_told_by_registers op ≡ true → IsAction caller heap state op (action.StoreWeak at value) →
     (val : ℕ) × (op ≡ WeakSet at val) × (value ≡ state.registers caller.who val)
 weak_set caller heap state (WeakSet a val) at value told is =
     let handle : a ≡ at = cc in
@@ -54,16 +54,16 @@ weak_set caller heap state (WeakSet a val) at value told is =
 weak_set caller heap state (Claim src) at value told is = absurd is.1
 weak_set caller heap state op at value told is = absurd (cc)
 
-strong_get : (caller : Caller) (heap : Heap) (state : State) (op : Op) (dst at : ℕ) →
-    is_told_by_registers op ≡ true → IsPlan caller heap state op (plan.LoadStrong dst at) → op ≡ StrongGet dst at
+strong_get : (caller : Planner) (heap : Heap) (state : State) (op : Op) (dst at : ℕ) →
+    is_told_by_registers op ≡ true → IsAction caller heap state op (action.LoadStrong dst at) → op ≡ StrongGet dst at
 strong_get caller heap state (StrongGet d a) dst at told is =
     let handle : a ≡ at = cc in
     let register : d ≡ dst = cc in ap (λ (n : ℕ). StrongGet n a) register ∙ ap (StrongGet dst) handle
 strong_get caller heap state (Claim src) dst at told is = absurd is.1
 strong_get caller heap state op dst at told is = absurd (cc)
 
-weak_get : (caller : Caller) (heap : Heap) (state : State) (op : Op) (dst at : ℕ) →
-    is_told_by_registers op ≡ true → IsPlan caller heap state op (plan.LoadWeak dst at) → op ≡ WeakGet dst at
+weak_get : (caller : Planner) (heap : Heap) (state : State) (op : Op) (dst at : ℕ) →
+    is_told_by_registers op ≡ true → IsAction caller heap state op (action.LoadWeak dst at) → op ≡ WeakGet dst at
 weak_get caller heap state (WeakGet d a) dst at told is =
     let handle : a ≡ at = cc in
     let register : d ≡ dst = cc in ap (λ (n : ℕ). WeakGet n a) register ∙ ap (WeakGet dst) handle
@@ -73,7 +73,7 @@ weak_get caller heap state op dst at told is = absurd (cc)
 -- storing
 module _ (layout : Layout) (shapes : ShapeLists) (v : View) (op : Op) (at : ℕ) (value : Val)
     (calling : IsCalling layout v op) where
-  pub may_store_strong : IsPlanned layout shapes v op (plan.StoreStrong at value) → is_told_by_registers op ≡ true →
+  pub may_store_strong : IsPlanned layout shapes v op (action.StoreStrong at value) → is_told_by_registers op ≡ true →
       MayStep layout shapes v (StoreStrong at (val_word value) (Some op))
   may_store_strong planned told w running is =
       let m = moment_in layout shapes w v region.Strong at running is in
@@ -83,23 +83,23 @@ module _ (layout : Layout) (shapes : ShapeLists) (v : View) (op : Op) (at : ℕ)
         refl,
         ap val_word held,
         subst (λ (o : Op). MayCall layout shapes w v.who o Done None) same
-            (may_call layout shapes w v op (plan.StoreStrong at value) Done None region.Strong at (w.heap region.Strong at) is
+            (may_call layout shapes w v op (action.StoreStrong at value) Done None region.Strong at (w.heap region.Strong at) is
             calling planned m (write m.settled region.Strong at (val_word value)) (refl, λ other index below. refl)
             (λ class full. absurd (cc))),
       )
 
-  pub stored_strong : IsPlanned layout shapes v op (plan.StoreStrong at value) → (u : View) →
+  pub stored_strong : IsPlanned layout shapes v op (action.StoreStrong at value) → (u : View) →
       FollowsSome layout shapes (StoreStrong at (val_word value) (Some op)) v u →
-      HasMade layout shapes op (plan.StoreStrong at value) Done v u [] Nothing
+      HasMade layout shapes op (action.StoreStrong at value) Done v u [] Nothing
   stored_strong planned u f = record {
-    made = made_by layout shapes op (plan.StoreStrong at value) Done None v u (called [] v) f.1.log region.Strong at f.0 calling
+    made = made_by layout shapes op (action.StoreStrong at value) Done None v u (called [] v) f.1.log region.Strong at f.0 calling
         f.1.moment f.1.lawful f.1.own f.1.view (write f.1.moment.settled region.Strong at (val_word value))
         (refl, λ other index below. refl) refl refl (λ stays. refl) (λ is. absurd (cc)) (none_born v.born);
     owed = ap (λ (x : View). x.owed) f.1.view;
     duty = ap (λ (x : View). x.duty) f.1.view ∙ calling.between.duty;
   }
 
-  pub may_store_weak : IsPlanned layout shapes v op (plan.StoreWeak at value) → is_told_by_registers op ≡ true →
+  pub may_store_weak : IsPlanned layout shapes v op (action.StoreWeak at value) → is_told_by_registers op ≡ true →
       MayStep layout shapes v (StoreWeak at (val_word value) (Some op))
   may_store_weak planned told w running is =
       let m = moment_in layout shapes w v region.Weak at running is in
@@ -109,16 +109,16 @@ module _ (layout : Layout) (shapes : ShapeLists) (v : View) (op : Op) (at : ℕ)
         refl,
         ap val_word held,
         subst (λ (o : Op). MayCall layout shapes w v.who o Done None) same
-            (may_call layout shapes w v op (plan.StoreWeak at value) Done None region.Weak at (w.heap region.Weak at) is
+            (may_call layout shapes w v op (action.StoreWeak at value) Done None region.Weak at (w.heap region.Weak at) is
             calling planned m (write m.settled region.Weak at (val_word value)) (refl, λ other index below. refl)
             (λ class full. absurd (cc))),
       )
 
-  pub stored_weak : IsPlanned layout shapes v op (plan.StoreWeak at value) → (u : View) →
+  pub stored_weak : IsPlanned layout shapes v op (action.StoreWeak at value) → (u : View) →
       FollowsSome layout shapes (StoreWeak at (val_word value) (Some op)) v u →
-      HasMade layout shapes op (plan.StoreWeak at value) Done v u [] Nothing
+      HasMade layout shapes op (action.StoreWeak at value) Done v u [] Nothing
   stored_weak planned u f = record {
-    made = made_by layout shapes op (plan.StoreWeak at value) Done None v u (called [] v) f.1.log region.Weak at f.0 calling
+    made = made_by layout shapes op (action.StoreWeak at value) Done None v u (called [] v) f.1.log region.Weak at f.0 calling
         f.1.moment f.1.lawful f.1.own f.1.view (write f.1.moment.settled region.Weak at (val_word value))
         (refl, λ other index below. refl) refl refl (λ stays. refl) (λ is. absurd (cc)) (none_born v.born);
     owed = ap (λ (x : View). x.owed) f.1.view;
@@ -145,7 +145,7 @@ module _ (layout : Layout) (shapes : ShapeLists) (v : View) (op : Op) (dst at : 
 
   strong_words : at < layout.strong → (log : List Event) (read : ℕ) →
       (m : Moment layout shapes v log region.Strong at read) →
-      PlanWords layout m.settled v.who (plan.LoadStrong dst at) (Seen (value_of read)) None
+      ActionWords layout m.settled v.who (action.LoadStrong dst at) (Seen (value_of read)) None
       (write m.settled region.Registers (index_of_register layout v.who dst) (val_word (value_of read)))
   strong_words below log read m = (
     refl,
@@ -158,7 +158,7 @@ module _ (layout : Layout) (shapes : ShapeLists) (v : View) (op : Op) (dst at : 
 
   weak_words : at < layout.weak → (log : List Event) (read : ℕ) →
       (m : Moment layout shapes v log region.Weak at read) →
-      PlanWords layout m.settled v.who (plan.LoadWeak dst at) (Seen (value_of read)) None
+      ActionWords layout m.settled v.who (action.LoadWeak dst at) (Seen (value_of read)) None
       (write m.settled region.Registers (index_of_register layout v.who dst) (val_word (value_of read)))
   weak_words below log read m = (
     refl,
@@ -168,7 +168,7 @@ module _ (layout : Layout) (shapes : ShapeLists) (v : View) (op : Op) (dst at : 
     λ other index within. refl,
   )
 
-  pub may_load_strong : at < layout.strong → IsPlanned layout shapes v op (plan.LoadStrong dst at) →
+  pub may_load_strong : at < layout.strong → IsPlanned layout shapes v op (action.LoadStrong dst at) →
       is_told_by_registers op ≡ true → MayStep layout shapes v (LoadStrong at (Some op))
   may_load_strong below planned told w running is =
       let read = w.heap region.Strong at in
@@ -178,12 +178,12 @@ module _ (layout : Layout) (shapes : ShapeLists) (v : View) (op : Op) (dst at : 
       subst (λ (o : Op). MayLoadStrong layout shapes w v.who at read (Some o)) (sym same) (
         refl,
         subst (λ (o : Op). MayCall layout shapes w v.who o (Seen (value_of read)) None) same
-            (may_call layout shapes w v op (plan.LoadStrong dst at) (Seen (value_of read)) None region.Strong at read is calling
+            (may_call layout shapes w v op (action.LoadStrong dst at) (Seen (value_of read)) None region.Strong at read is calling
             planned m (write m.settled region.Registers (index_of_register layout v.who dst) (val_word (value_of read)))
             (strong_words below w.log read m) (λ class full. absurd (cc))),
       )
 
-  pub may_load_weak : at < layout.weak → IsPlanned layout shapes v op (plan.LoadWeak dst at) →
+  pub may_load_weak : at < layout.weak → IsPlanned layout shapes v op (action.LoadWeak dst at) →
       is_told_by_registers op ≡ true → MayStep layout shapes v (LoadWeak at (Some op))
   may_load_weak below planned told w running is =
       let read = w.heap region.Weak at in
@@ -193,28 +193,28 @@ module _ (layout : Layout) (shapes : ShapeLists) (v : View) (op : Op) (dst at : 
       subst (λ (o : Op). MayLoadWeak layout shapes w v.who at read (Some o)) (sym same) (
         refl,
         subst (λ (o : Op). MayCall layout shapes w v.who o (Seen (value_of read)) None) same
-            (may_call layout shapes w v op (plan.LoadWeak dst at) (Seen (value_of read)) None region.Weak at read is calling
+            (may_call layout shapes w v op (action.LoadWeak dst at) (Seen (value_of read)) None region.Weak at read is calling
             planned m (write m.settled region.Registers (index_of_register layout v.who dst) (val_word (value_of read)))
             (weak_words below w.log read m) (λ class full. absurd (cc))),
       )
 
   -- of which operation it is, where it may stand somewhere
-  op_of_strong : IsPlanned layout shapes v op (plan.LoadStrong dst at) → is_told_by_registers op ≡ true →
+  op_of_strong : IsPlanned layout shapes v op (action.LoadStrong dst at) → is_told_by_registers op ≡ true →
       (log : List Event) (read : ℕ) → Moment layout shapes v log region.Strong at read → op ≡ StrongGet dst at
   op_of_strong planned told log read m = strong_get (caller_of layout shapes v) m.settled (state_after layout log) op dst at told
       (planned m.settled log (stands_then layout shapes v log region.Strong at read calling.stays m))
 
-  op_of_weak : IsPlanned layout shapes v op (plan.LoadWeak dst at) → is_told_by_registers op ≡ true →
+  op_of_weak : IsPlanned layout shapes v op (action.LoadWeak dst at) → is_told_by_registers op ≡ true →
       (log : List Event) (read : ℕ) → Moment layout shapes v log region.Weak at read → op ≡ WeakGet dst at
   op_of_weak planned told log read m = weak_get (caller_of layout shapes v) m.settled (state_after layout log) op dst at told
       (planned m.settled log (stands_then layout shapes v log region.Weak at read calling.stays m))
 
-  pub loaded_strong : at < layout.strong → IsPlanned layout shapes v op (plan.LoadStrong dst at) →
+  pub loaded_strong : at < layout.strong → IsPlanned layout shapes v op (action.LoadStrong dst at) →
       is_told_by_registers op ≡ true → (read : ℕ) (u : View) → Follows layout shapes (LoadStrong at (Some op)) v read u →
-      HasMade layout shapes op (plan.LoadStrong dst at) (Seen (value_of read)) v u
+      HasMade layout shapes op (action.LoadStrong dst at) (Seen (value_of read)) v u
       (owed_register layout v.who (Some dst) (value_of read)) Nothing
   loaded_strong below planned told read u f = record {
-    made = made_by layout shapes op (plan.LoadStrong dst at) (Seen (value_of read)) None v u
+    made = made_by layout shapes op (action.LoadStrong dst at) (Seen (value_of read)) None v u
         (seen_view layout v.who read (Some op) v) f.log region.Strong at read calling f.moment f.lawful f.own f.view
         (write f.moment.settled region.Registers (index_of_register layout v.who dst) (val_word (value_of read)))
         (strong_words below f.log read f.moment) refl refl (λ stays. refl) (λ is. absurd (cc)) (none_born v.born);
@@ -224,12 +224,12 @@ module _ (layout : Layout) (shapes : ShapeLists) (v : View) (op : Op) (dst at : 
     duty = ap (λ (x : View). x.duty) f.view ∙ calling.between.duty;
   }
 
-  pub loaded_weak : at < layout.weak → IsPlanned layout shapes v op (plan.LoadWeak dst at) →
+  pub loaded_weak : at < layout.weak → IsPlanned layout shapes v op (action.LoadWeak dst at) →
       is_told_by_registers op ≡ true → (read : ℕ) (u : View) → Follows layout shapes (LoadWeak at (Some op)) v read u →
-      HasMade layout shapes op (plan.LoadWeak dst at) (Seen (value_of read)) v u
+      HasMade layout shapes op (action.LoadWeak dst at) (Seen (value_of read)) v u
       (owed_register layout v.who (Some dst) (value_of read)) Nothing
   loaded_weak below planned told read u f = record {
-    made = made_by layout shapes op (plan.LoadWeak dst at) (Seen (value_of read)) None v u
+    made = made_by layout shapes op (action.LoadWeak dst at) (Seen (value_of read)) None v u
         (seen_view layout v.who read (Some op) v) f.log region.Weak at read calling f.moment f.lawful f.own f.view
         (write f.moment.settled region.Registers (index_of_register layout v.who dst) (val_word (value_of read)))
         (weak_words below f.log read f.moment) refl refl (λ stays. refl) (λ is. absurd (cc)) (none_born v.born);
@@ -243,39 +243,39 @@ module _ (layout : Layout) (shapes : ShapeLists) (v : View) (op : Op) (dst at : 
 module _ (layout : Layout) (shapes : ShapeLists) (v : View) (op : Op) (at handle : ℕ) (same : handle ≡ at)
     (calling : IsCalling layout v op) (told : is_told_by_registers op ≡ true) where
   module _ (value : Val) (word : ℕ) (is : word ≡ val_word value) where
-    pub may_put_strong : IsPlanned layout shapes v op (plan.StoreStrong at value) →
+    pub may_put_strong : IsPlanned layout shapes v op (action.StoreStrong at value) →
         MayStep layout shapes v (StoreStrong handle word (Some op))
     may_put_strong planned = subst (λ (h : ℕ). MayStep layout shapes v (StoreStrong h word (Some op))) (sym same)
         (subst (λ (x : ℕ). MayStep layout shapes v (StoreStrong at x (Some op))) (sym is)
         (may_store_strong layout shapes v op at value calling planned told))
 
-    pub put_strong_by : IsPlanned layout shapes v op (plan.StoreStrong at value) → (u : View) →
+    pub put_strong_by : IsPlanned layout shapes v op (action.StoreStrong at value) → (u : View) →
         FollowsSome layout shapes (StoreStrong handle word (Some op)) v u →
-        HasMade layout shapes op (plan.StoreStrong at value) Done v u [] Nothing
+        HasMade layout shapes op (action.StoreStrong at value) Done v u [] Nothing
     put_strong_by planned u f = stored_strong layout shapes v op at value calling planned u
         (subst (λ (x : ℕ). FollowsSome layout shapes (StoreStrong at x (Some op)) v u) is
         (subst (λ (h : ℕ). FollowsSome layout shapes (StoreStrong h word (Some op)) v u) same f))
 
-    pub may_put_weak : IsPlanned layout shapes v op (plan.StoreWeak at value) →
+    pub may_put_weak : IsPlanned layout shapes v op (action.StoreWeak at value) →
         MayStep layout shapes v (StoreWeak handle word (Some op))
     may_put_weak planned = subst (λ (h : ℕ). MayStep layout shapes v (StoreWeak h word (Some op))) (sym same)
         (subst (λ (x : ℕ). MayStep layout shapes v (StoreWeak at x (Some op))) (sym is)
         (may_store_weak layout shapes v op at value calling planned told))
 
-    pub put_weak_by : IsPlanned layout shapes v op (plan.StoreWeak at value) → (u : View) →
+    pub put_weak_by : IsPlanned layout shapes v op (action.StoreWeak at value) → (u : View) →
         FollowsSome layout shapes (StoreWeak handle word (Some op)) v u →
-        HasMade layout shapes op (plan.StoreWeak at value) Done v u [] Nothing
+        HasMade layout shapes op (action.StoreWeak at value) Done v u [] Nothing
     put_weak_by planned u f = stored_weak layout shapes v op at value calling planned u
         (subst (λ (x : ℕ). FollowsSome layout shapes (StoreWeak at x (Some op)) v u) is
         (subst (λ (h : ℕ). FollowsSome layout shapes (StoreWeak h word (Some op)) v u) same f))
 
   module _ (dst : ℕ) where
-    pub may_get_strong : at < layout.strong → IsPlanned layout shapes v op (plan.LoadStrong dst at) →
+    pub may_get_strong : at < layout.strong → IsPlanned layout shapes v op (action.LoadStrong dst at) →
         MayStep layout shapes v (LoadStrong handle (Some op))
     may_get_strong below planned = subst (λ (h : ℕ). MayStep layout shapes v (LoadStrong h (Some op))) (sym same)
         (may_load_strong layout shapes v op dst at calling below planned told)
 
-    module _ (below : at < layout.strong) (planned : IsPlanned layout shapes v op (plan.LoadStrong dst at)) (read : ℕ)
+    module _ (below : at < layout.strong) (planned : IsPlanned layout shapes v op (action.LoadStrong dst at)) (read : ℕ)
         (u : View) (f : Follows layout shapes (LoadStrong handle (Some op)) v read u) where
       by_its_name : Follows layout shapes (LoadStrong at (Some op)) v read u
       by_its_name = subst (λ (h : ℕ). Follows layout shapes (LoadStrong h (Some op)) v read u) same f
@@ -283,16 +283,16 @@ module _ (layout : Layout) (shapes : ShapeLists) (v : View) (op : Op) (at handle
       pub got_strong_value : IsValueOf (value_of read) read
       got_strong_value = strong_value layout shapes v op dst at calling below by_its_name.log read by_its_name.moment
 
-      pub got_strong_by : HasMade layout shapes op (plan.LoadStrong dst at) (Seen (value_of read)) v u
+      pub got_strong_by : HasMade layout shapes op (action.LoadStrong dst at) (Seen (value_of read)) v u
           (owed_register layout v.who (Some dst) (value_of read)) Nothing
       got_strong_by = loaded_strong layout shapes v op dst at calling below planned told read u by_its_name
 
-    pub may_get_weak : at < layout.weak → IsPlanned layout shapes v op (plan.LoadWeak dst at) →
+    pub may_get_weak : at < layout.weak → IsPlanned layout shapes v op (action.LoadWeak dst at) →
         MayStep layout shapes v (LoadWeak handle (Some op))
     may_get_weak below planned = subst (λ (h : ℕ). MayStep layout shapes v (LoadWeak h (Some op))) (sym same)
         (may_load_weak layout shapes v op dst at calling below planned told)
 
-    module _ (below : at < layout.weak) (planned : IsPlanned layout shapes v op (plan.LoadWeak dst at)) (read : ℕ)
+    module _ (below : at < layout.weak) (planned : IsPlanned layout shapes v op (action.LoadWeak dst at)) (read : ℕ)
         (u : View) (f : Follows layout shapes (LoadWeak handle (Some op)) v read u) where
       by_this_name : Follows layout shapes (LoadWeak at (Some op)) v read u
       by_this_name = subst (λ (h : ℕ). Follows layout shapes (LoadWeak h (Some op)) v read u) same f
@@ -300,6 +300,6 @@ module _ (layout : Layout) (shapes : ShapeLists) (v : View) (op : Op) (at handle
       pub got_weak_value : IsValueOf (value_of read) read
       got_weak_value = weak_value layout shapes v op dst at calling below by_this_name.log read by_this_name.moment
 
-      pub got_weak_by : HasMade layout shapes op (plan.LoadWeak dst at) (Seen (value_of read)) v u
+      pub got_weak_by : HasMade layout shapes op (action.LoadWeak dst at) (Seen (value_of read)) v u
           (owed_register layout v.who (Some dst) (value_of read)) Nothing
       got_weak_by = loaded_weak layout shapes v op dst at calling below planned told read u by_this_name

@@ -2,10 +2,10 @@
 use Rattle.std.proofs.Common.{ℕ, ◌≡◌, refl, sym, ◌∙◌, ap, subst, arith, Bool, true, false, List, [], ◌∷◌, None, Option, Some, inl, inr}
 use Rattle.std.specs.Prelude.{◌&&◌, nat_le, not}
 use Rattle.tide_heap.specs.tide_call.CallWords.{HasPairAt, IsPlaceFor}
-use Rattle.tide_heap.specs.tide_call.Callers.{Caller}
-use Rattle.tide_heap.specs.tide_call.PlanWords.{PlanWords}
-use Rattle.tide_heap.specs.tide_call.Plans.{IsPlan}
-use Rattle.tide_heap.specs.tide_call.declared.plan.Plan.TheVariants as plan
+use Rattle.tide_heap.specs.tide_call.Callers.{Planner}
+use Rattle.tide_heap.specs.tide_call.ActionWords.{ActionWords}
+use Rattle.tide_heap.specs.tide_call.Actions.{IsAction}
+use Rattle.tide_heap.specs.tide_call.declared.action.Action.TheVariants as action
 use Rattle.tide_heap.specs.tide_layout.Region.{index_of_register}
 use Rattle.tide_heap.specs.tide_layout.Slots.{HasSlot, index_of_slot}
 use Rattle.tide_heap.specs.tide_layout.declared.region.Region.TheVariants as region
@@ -50,13 +50,13 @@ pair_value : (key : ℕ) (value : Val) (word : ℕ) → IsPairOf key value word 
 pair_value key value word is = ap value_of_pair (sym is.is_word) ∙ value_of_pair_word key value is.number
 
 -- the table of an operation that nothing refuses: the mutator claims it
-record HasTable (caller : Caller) (state : State) (src register table key : ℕ) : Type 0 where
+record HasTable (caller : Planner) (state : State) (src register table key : ℕ) : Type 0 where
   source : state.registers caller.who src ≡ Cell table
   is_key : state.registers caller.who register ≡ Cell key
   is_one : is_table caller.layout table ≡ true
   held : holds state caller.who table ≡ true
 
-has_table : (caller : Caller) (state : State) (src register table key : ℕ) (further : ℕ → ℕ → Option Refusal) →
+has_table : (caller : Planner) (state : State) (src register table key : ℕ) (further : ℕ → ℕ → Option Refusal) →
     state.registers caller.who src ≡ Cell table → state.registers caller.who register ≡ Cell key →
     pair_refusal caller.layout state caller.who src register further ≡ None →
     HasTable caller state src register table key
@@ -75,8 +75,8 @@ has_table caller state src register table key further source is_key none =
     by_tests true false is = absurd (cc)
     by_tests false h is = absurd (cc)
 
--- which operation has such a plan
-record IsSet (caller : Caller) (heap : Heap) (state : State) (op : Op) (table place key : ℕ) (value : Val) : Type 0 where
+-- which operation has such an action
+record IsSet (caller : Planner) (heap : Heap) (state : State) (op : Op) (table place key : ℕ) (value : Val) : Type 0 where
   src : ℕ
   register : ℕ
   val : ℕ
@@ -85,8 +85,8 @@ record IsSet (caller : Caller) (heap : Heap) (state : State) (op : Op) (table pl
   is_value : value ≡ state.registers caller.who val
   is_place : IsPlaceFor caller.layout heap state table place key
 
-is_set : (caller : Caller) (heap : Heap) (state : State) (op : Op) (table place key : ℕ) (value : Val) →
-    IsPlan caller heap state op (plan.StorePair table place key value) → IsSet caller heap state op table place key value
+is_set : (caller : Planner) (heap : Heap) (state : State) (op : Op) (table place key : ℕ) (value : Val) →
+    IsAction caller heap state op (action.StorePair table place key value) → IsSet caller heap state op table place key value
 is_set caller heap state (PairSet src register val) table place key value
     (granted, (t, k, p, source, is_key, has, stood, is)) =
     let same_table : t ≡ table = cc in
@@ -112,7 +112,7 @@ is_set caller heap state (Add src name val) table place key value is = elim is.1
 ]
 is_set caller heap state op table place key value is = absurd (cc)
 
-record IsDrop (caller : Caller) (heap : Heap) (state : State) (op : Op) (table place : ℕ) : Type 0 where
+record IsDrop (caller : Planner) (heap : Heap) (state : State) (op : Op) (table place : ℕ) : Type 0 where
   src : ℕ
   register : ℕ
   key : ℕ
@@ -120,8 +120,8 @@ record IsDrop (caller : Caller) (heap : Heap) (state : State) (op : Op) (table p
   of : HasTable caller state src register table key
   stands : HasPairAt caller.layout heap table place key
 
-is_drop : (caller : Caller) (heap : Heap) (state : State) (op : Op) (table place : ℕ) →
-    IsPlan caller heap state op (plan.ClearPair table place) → IsDrop caller heap state op table place
+is_drop : (caller : Planner) (heap : Heap) (state : State) (op : Op) (table place : ℕ) →
+    IsAction caller heap state op (action.ClearPair table place) → IsDrop caller heap state op table place
 is_drop caller heap state (PairDel src register) table place (granted, (t, k, p, source, is_key, has, stood, is)) =
     let same_table : t ≡ table = cc in
     let same_place : p ≡ place = cc in record {
@@ -141,7 +141,7 @@ is_drop caller heap state (Add src name val) table place is = elim is.1.3 [
 ]
 is_drop caller heap state op table place is = absurd (cc)
 
-record IsSeen (caller : Caller) (heap : Heap) (state : State) (op : Op) (dst table place : ℕ) (value : Val) : Type 0
+record IsSeen (caller : Planner) (heap : Heap) (state : State) (op : Op) (dst table place : ℕ) (value : Val) : Type 0
   where
     src : ℕ
     register : ℕ
@@ -150,8 +150,8 @@ record IsSeen (caller : Caller) (heap : Heap) (state : State) (op : Op) (dst tab
     of : HasTable caller state src register table key
     stands : IsPairOf key value (slot_word caller.layout heap table place)
 
-is_seen : (caller : Caller) (heap : Heap) (state : State) (op : Op) (dst table place : ℕ) (value : Val) →
-    IsPlan caller heap state op (plan.Show dst table place value) → IsSeen caller heap state op dst table place value
+is_seen : (caller : Planner) (heap : Heap) (state : State) (op : Op) (dst table place : ℕ) (value : Val) →
+    IsAction caller heap state op (action.Show dst table place value) → IsSeen caller heap state op dst table place value
 is_seen caller heap state (PairGet d src register) dst table place value
     (granted, (t, k, p, x, source, is_key, has, stood, said, is)) =
     let same_register : d ≡ dst = cc in
@@ -221,7 +221,7 @@ module _ (layout : Layout) (shapes : ShapeLists) (v : View) (op : Op) (table pla
     pair_there key (value, pair) = (value, subst (IsPairOf key value) (settled_there place has) pair)
 
   -- storing
-  module _ (key : ℕ) (value : Val) (planned : IsPlanned layout shapes v op (plan.StorePair table place key value)) where
+  module _ (key : ℕ) (value : Val) (planned : IsPlanned layout shapes v op (action.StorePair table place key value)) where
     may_set : MayStep layout shapes v (StorePair table place (pair_word key value) (Some op))
     may_set w running is =
         let read = w.heap region.Slots at in
@@ -238,15 +238,15 @@ module _ (layout : Layout) (shapes : ShapeLists) (v : View) (op : Op) (table pla
           is_word = ap (pair_word key) here.is_value;
           is_place = place_there w running is own key here.is_place;
           may = subst (λ (o : Op). MayCall layout shapes w v.who o Done None) here.same
-              (may_call layout shapes w v op (plan.StorePair table place key value) Done None region.Slots at read is calling
+              (may_call layout shapes w v op (action.StorePair table place key value) Done None region.Slots at read is calling
               planned m (write m.settled region.Slots at (pair_word key value)) (refl, λ other index within. refl)
               (λ class full. absurd (cc)));
         }
 
     set_made : (u : View) → FollowsSome layout shapes (StorePair table place (pair_word key value) (Some op)) v u →
-        HasMade layout shapes op (plan.StorePair table place key value) Done v u [] Nothing
+        HasMade layout shapes op (action.StorePair table place key value) Done v u [] Nothing
     set_made u f = record {
-      made = made_by layout shapes op (plan.StorePair table place key value) Done None v u (called [] v) f.1.log region.Slots
+      made = made_by layout shapes op (action.StorePair table place key value) Done None v u (called [] v) f.1.log region.Slots
           at f.0 calling f.1.moment f.1.lawful f.1.own f.1.view
           (write f.1.moment.settled region.Slots at (pair_word key value)) (refl, λ other index within. refl) refl refl
           (λ stays. refl) (λ is. absurd (cc)) (none_born v.born);
@@ -260,12 +260,12 @@ module _ (layout : Layout) (shapes : ShapeLists) (v : View) (op : Op) (table pla
       may_put_pair = subst (λ (x : ℕ). MayStep layout shapes v (StorePair table place x (Some op))) (sym is) may_set
 
       pub put_pair_by : (u : View) → FollowsSome layout shapes (StorePair table place word (Some op)) v u →
-          HasMade layout shapes op (plan.StorePair table place key value) Done v u [] Nothing
+          HasMade layout shapes op (action.StorePair table place key value) Done v u [] Nothing
       put_pair_by u f = set_made u
           (subst (λ (x : ℕ). FollowsSome layout shapes (StorePair table place x (Some op)) v u) is f)
 
   -- dropping
-  module _ (planned : IsPlanned layout shapes v op (plan.ClearPair table place)) where
+  module _ (planned : IsPlanned layout shapes v op (action.ClearPair table place)) where
     pub may_drop_pair : MayStep layout shapes v (StorePair table place 0 (Some op))
     may_drop_pair w running is =
         let read = w.heap region.Slots at in
@@ -281,15 +281,15 @@ module _ (layout : Layout) (shapes : ShapeLists) (v : View) (op : Op) (table pla
           is_word = refl;
           has_pair = pair_there w running is own here.key here.stands;
           may = subst (λ (o : Op). MayCall layout shapes w v.who o Done None) here.same
-              (may_call layout shapes w v op (plan.ClearPair table place) Done None region.Slots at read is calling
+              (may_call layout shapes w v op (action.ClearPair table place) Done None region.Slots at read is calling
               planned m (write m.settled region.Slots at 0) (refl, λ other index within. refl)
               (λ class full. absurd (cc)));
         }
 
     pub drop_pair_by : (u : View) → FollowsSome layout shapes (StorePair table place 0 (Some op)) v u →
-        HasMade layout shapes op (plan.ClearPair table place) Done v u [] Nothing
+        HasMade layout shapes op (action.ClearPair table place) Done v u [] Nothing
     drop_pair_by u f = record {
-      made = made_by layout shapes op (plan.ClearPair table place) Done None v u (called [] v) f.1.log region.Slots at f.0
+      made = made_by layout shapes op (action.ClearPair table place) Done None v u (called [] v) f.1.log region.Slots at f.0
           calling f.1.moment f.1.lawful f.1.own f.1.view (write f.1.moment.settled region.Slots at 0)
           (refl, λ other index within. refl) refl refl (λ stays. refl) (λ is. absurd (cc)) (none_born v.born);
       owed = ap (λ (x : View). x.owed) f.1.view;
@@ -297,7 +297,7 @@ module _ (layout : Layout) (shapes : ShapeLists) (v : View) (op : Op) (table pla
     }
 
   -- seeing
-  module _ (dst : ℕ) (value : Val) (planned : IsPlanned layout shapes v op (plan.Show dst table place value)) where
+  module _ (dst : ℕ) (value : Val) (planned : IsPlanned layout shapes v op (action.Show dst table place value)) where
     module _ (log : List Event) (read : ℕ) (m : Moment layout shapes v log region.Slots at read) where
       seen_here : IsSeen (caller_of layout shapes v) m.settled (state_after layout log) op dst table place value
       seen_here = is_seen (caller_of layout shapes v) m.settled (state_after layout log) op dst table place value
@@ -312,7 +312,7 @@ module _ (layout : Layout) (shapes : ShapeLists) (v : View) (op : Op) (table pla
       value_seen = ap value_of_pair (sym pair_found)
           ∙ pair_value seen_here.key value (slot_word layout m.settled table place) seen_here.stands
 
-      seen_words : PlanWords layout m.settled v.who (plan.Show dst table place value) (Seen (value_of_pair read)) None
+      seen_words : ActionWords layout m.settled v.who (action.Show dst table place value) (Seen (value_of_pair read)) None
           (write m.settled region.Registers (index_of_register layout v.who dst) (val_word value))
       seen_words = (refl, value_seen, λ other index within. refl)
 
@@ -325,18 +325,18 @@ module _ (layout : Layout) (shapes : ShapeLists) (v : View) (op : Op) (table pla
           own_there w here.src here.register here.key here.of,
           here.of.source,
           subst (λ (o : Op). MayCall layout shapes w v.who o (Seen (value_of_pair read)) None) here.same
-              (may_call layout shapes w v op (plan.Show dst table place value) (Seen (value_of_pair read)) None region.Slots at
+              (may_call layout shapes w v op (action.Show dst table place value) (Seen (value_of_pair read)) None region.Slots at
               read is calling planned m
               (write m.settled region.Registers (index_of_register layout v.who dst) (val_word value))
               (seen_words w.log read m) (λ class full. absurd (cc))),
         )
 
     pub got_pair_by : (read : ℕ) (u : View) → Follows layout shapes (LoadPair table place (Some op)) v read u →
-        HasMade layout shapes op (plan.Show dst table place value) (Seen value) v u
+        HasMade layout shapes op (action.Show dst table place value) (Seen value) v u
         (owed_register layout v.who (Some dst) value) Nothing
-    got_pair_by read u f = subst (λ (x : Val). HasMade layout shapes op (plan.Show dst table place value) (Seen x) v u
+    got_pair_by read u f = subst (λ (x : Val). HasMade layout shapes op (action.Show dst table place value) (Seen x) v u
         (owed_register layout v.who (Some dst) x) Nothing) (value_seen f.log read f.moment) record {
-          made = made_by layout shapes op (plan.Show dst table place value) (Seen (value_of_pair read)) None v u
+          made = made_by layout shapes op (action.Show dst table place value) (Seen (value_of_pair read)) None v u
               (paired_view layout v.who table place read (Some op) v) f.log region.Slots at read calling f.moment f.lawful
               f.own f.view
               (write f.moment.settled region.Registers (index_of_register layout v.who dst) (val_word value))

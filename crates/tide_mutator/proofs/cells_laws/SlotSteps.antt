@@ -1,10 +1,10 @@
 -- Get and Put: the step on the slot makes the call.
 use Rattle.std.proofs.Common.{ℕ, ◌≡◌, ◌<◌, refl, sym, ◌∙◌, ap, subst, Bool, true, List, [], None, Some}
 use Rattle.tide_heap.proofs.tide_call.reading_laws.CallReading.{slot_allowed}
-use Rattle.tide_heap.specs.tide_call.Callers.{Caller}
-use Rattle.tide_heap.specs.tide_call.PlanWords.{PlanWords}
-use Rattle.tide_heap.specs.tide_call.Plans.{IsPlan, is_told_by_registers}
-use Rattle.tide_heap.specs.tide_call.declared.plan.Plan.TheVariants as plan
+use Rattle.tide_heap.specs.tide_call.Callers.{Planner}
+use Rattle.tide_heap.specs.tide_call.ActionWords.{ActionWords}
+use Rattle.tide_heap.specs.tide_call.Actions.{IsAction, is_told_by_registers}
+use Rattle.tide_heap.specs.tide_call.declared.action.Action.TheVariants as action
 use Rattle.tide_heap.specs.tide_layout.Region.{index_of_register}
 use Rattle.tide_heap.specs.tide_layout.Slots.{index_of_slot}
 use Rattle.tide_heap.specs.tide_layout.declared.region.Region.TheVariants as region
@@ -34,22 +34,22 @@ use Rattle.tide_mutator.proofs.cells_laws.Unowned.{slot_found}
 use Rattle.tide_mutator.proofs.cells_laws.Values.{value_read}
 use Rattle.tide_mutator.specs.owed.Calling.{IsCalling}
 use Rattle.tide_mutator.specs.owed.Made.{HasMade}
-use Rattle.tide_mutator.specs.owed.Standing.{IsPlanned, StandsAt, caller_of}
+use Rattle.tide_mutator.specs.owed.Standing.{IsPlanned, MutatorStandsAt, caller_of}
 use Rattle.tide_heap.specs.steps.Follows.{Follows, FollowsSome, MayStep}
 use Rattle.tide_heap.proofs.tide_words.heap_laws.ReadingLaws.{live_within}
 use Rattle.tide_heap.specs.tide_words.forms.ValueWord.{val_word}
 use Rattle.tide_heap.specs.tide_words.heap.Heap.{Heap, write}
 use Rattle.tide_heap.specs.tide_words.heap.Reading.{IsValueOf, slot_word}
 
--- which operation has such a plan, and that its cell has the slot
-record IsGet (caller : Caller) (state : State) (op : Op) (dst cell slot : ℕ) : Type 0 where
+-- which operation has such an action, and that its cell has the slot
+record IsGet (caller : Planner) (state : State) (op : Op) (dst cell slot : ℕ) : Type 0 where
   src : ℕ
   same : op ≡ Get dst src slot
   source : state.registers caller.who src ≡ Cell cell
   below : slot < slots_of (class_of caller.layout cell)
 
-is_get : (caller : Caller) (heap : Heap) (state : State) (op : Op) (dst cell slot : ℕ) → is_told_by_registers op ≡ true →
-    IsPlan caller heap state op (plan.LoadSlot dst cell slot) → IsGet caller state op dst cell slot
+is_get : (caller : Planner) (heap : Heap) (state : State) (op : Op) (dst cell slot : ℕ) → is_told_by_registers op ≡ true →
+    IsAction caller heap state op (action.LoadSlot dst cell slot) → IsGet caller state op dst cell slot
 is_get caller heap state (Get d src n) dst cell slot told (granted, (at, source, has, is)) =
     let register : d ≡ dst = cc in
     let number : n ≡ slot = cc in
@@ -64,7 +64,7 @@ is_get caller heap state (Get d src n) dst cell slot told (granted, (at, source,
 is_get caller heap state (Claim src) dst cell slot told is = absurd is.1
 is_get caller heap state op dst cell slot told is = absurd (cc)
 
-record IsPut (caller : Caller) (state : State) (op : Op) (cell slot : ℕ) (value : Val) : Type 0 where
+record IsPut (caller : Planner) (state : State) (op : Op) (cell slot : ℕ) (value : Val) : Type 0 where
   src : ℕ
   val : ℕ
   same : op ≡ Put src slot val
@@ -72,8 +72,8 @@ record IsPut (caller : Caller) (state : State) (op : Op) (cell slot : ℕ) (valu
   held : value ≡ state.registers caller.who val
   below : slot < slots_of (class_of caller.layout cell)
 
-is_put : (caller : Caller) (heap : Heap) (state : State) (op : Op) (cell slot : ℕ) (value : Val) →
-    is_told_by_registers op ≡ true → IsPlan caller heap state op (plan.StoreSlot cell slot value) →
+is_put : (caller : Planner) (heap : Heap) (state : State) (op : Op) (cell slot : ℕ) (value : Val) →
+    is_told_by_registers op ≡ true → IsAction caller heap state op (action.StoreSlot cell slot value) →
     IsPut caller state op cell slot value
 is_put caller heap state (Put src n val) cell slot value told (granted, (at, source, has, is)) =
     let number : n ≡ slot = cc in
@@ -94,11 +94,11 @@ is_put caller heap state op cell slot value told is = absurd (cc)
 -- seeing
 module _ (layout : Layout) (shapes : ShapeLists) (v : View) (op : Op) (dst cell slot : ℕ)
     (calling : IsCalling layout v op) (told : is_told_by_registers op ≡ true)
-    (planned : IsPlanned layout shapes v op (plan.LoadSlot dst cell slot)) where
+    (planned : IsPlanned layout shapes v op (action.LoadSlot dst cell slot)) where
   abbrev at : ℕ
   at = index_of_slot layout cell slot
 
-  get_there : (heap : Heap) (log : List Event) → StandsAt layout shapes v heap log →
+  get_there : (heap : Heap) (log : List Event) → MutatorStandsAt layout shapes v heap log →
       IsGet (caller_of layout shapes v) (state_after layout log) op dst cell slot
   get_there heap log stands =
       is_get (caller_of layout shapes v) heap (state_after layout log) op dst cell slot told (planned heap log stands)
@@ -120,7 +120,7 @@ module _ (layout : Layout) (shapes : ShapeLists) (v : View) (op : Op) (dst cell 
       )
 
   get_words : (log : List Event) (read : ℕ) → (m : Moment layout shapes v log region.Slots at read) →
-      PlanWords layout m.settled v.who (plan.LoadSlot dst cell slot) (Seen (value_of read)) None
+      ActionWords layout m.settled v.who (action.LoadSlot dst cell slot) (Seen (value_of read)) None
       (write m.settled region.Registers (index_of_register layout v.who dst) (val_word (value_of read)))
   get_words log read m =
       let (is, found) = slot_value log read m in
@@ -135,16 +135,16 @@ module _ (layout : Layout) (shapes : ShapeLists) (v : View) (op : Op) (dst cell 
         refl,
         here.source,
         subst (λ (o : Op). MayCall layout shapes w v.who o (Seen (value_of read)) None) here.same
-            (may_call layout shapes w v op (plan.LoadSlot dst cell slot) (Seen (value_of read)) None region.Slots at read is calling
+            (may_call layout shapes w v op (action.LoadSlot dst cell slot) (Seen (value_of read)) None region.Slots at read is calling
             planned m (write m.settled region.Registers (index_of_register layout v.who dst) (val_word (value_of read)))
             (get_words w.log read m) (λ class full. absurd (cc))),
       )
 
   pub got_by : (read : ℕ) (u : View) → Follows layout shapes (LoadLink cell slot (Some op)) v read u →
-      HasMade layout shapes op (plan.LoadSlot dst cell slot) (Seen (value_of read)) v u
+      HasMade layout shapes op (action.LoadSlot dst cell slot) (Seen (value_of read)) v u
       (owed_register layout v.who (Some dst) (value_of read)) Nothing
   got_by read u f = record {
-    made = made_by layout shapes op (plan.LoadSlot dst cell slot) (Seen (value_of read)) None v u
+    made = made_by layout shapes op (action.LoadSlot dst cell slot) (Seen (value_of read)) None v u
         (seen_view layout v.who read (Some op) v) f.log region.Slots at read calling f.moment f.lawful f.own f.view
         (write f.moment.settled region.Registers (index_of_register layout v.who dst) (val_word (value_of read)))
         (get_words f.log read f.moment) refl refl (λ stays. refl) (λ is. absurd (cc)) (none_born v.born);
@@ -158,7 +158,7 @@ module _ (layout : Layout) (shapes : ShapeLists) (v : View) (op : Op) (dst cell 
 -- storing
 module _ (layout : Layout) (shapes : ShapeLists) (v : View) (op : Op) (cell slot : ℕ) (value : Val)
     (calling : IsCalling layout v op) (told : is_told_by_registers op ≡ true)
-    (planned : IsPlanned layout shapes v op (plan.StoreSlot cell slot value)) where
+    (planned : IsPlanned layout shapes v op (action.StoreSlot cell slot value)) where
   abbrev place : ℕ
   place = index_of_slot layout cell slot
 
@@ -174,15 +174,15 @@ module _ (layout : Layout) (shapes : ShapeLists) (v : View) (op : Op) (cell slot
         here.source,
         ap val_word here.held,
         subst (λ (o : Op). MayCall layout shapes w v.who o Done None) here.same
-            (may_call layout shapes w v op (plan.StoreSlot cell slot value) Done None region.Slots place read is calling
+            (may_call layout shapes w v op (action.StoreSlot cell slot value) Done None region.Slots place read is calling
             planned m (write m.settled region.Slots place (val_word value)) (refl, λ other index within. refl)
             (λ class full. absurd (cc))),
       )
 
   pub put_by : (u : View) → FollowsSome layout shapes (StoreLink cell slot (val_word value) (Some op)) v u →
-      HasMade layout shapes op (plan.StoreSlot cell slot value) Done v u [] (barrier_for cell (val_word value))
+      HasMade layout shapes op (action.StoreSlot cell slot value) Done v u [] (barrier_for cell (val_word value))
   put_by u f = record {
-    made = made_by layout shapes op (plan.StoreSlot cell slot value) Done None v u (linked_view cell (val_word value) v) f.1.log
+    made = made_by layout shapes op (action.StoreSlot cell slot value) Done None v u (linked_view cell (val_word value) v) f.1.log
         region.Slots place f.0 calling f.1.moment f.1.lawful f.1.own f.1.view
         (write f.1.moment.settled region.Slots place (val_word value)) (refl, λ other index within. refl) refl refl
         (λ stays. refl) (λ is. absurd (cc)) (none_born v.born);
@@ -196,6 +196,6 @@ module _ (layout : Layout) (shapes : ShapeLists) (v : View) (op : Op) (cell slot
 
   pub put_with : (word : ℕ) → word ≡ val_word value → (u : View) →
       FollowsSome layout shapes (StoreLink cell slot word (Some op)) v u →
-      HasMade layout shapes op (plan.StoreSlot cell slot value) Done v u [] (barrier_for cell (val_word value))
+      HasMade layout shapes op (action.StoreSlot cell slot value) Done v u [] (barrier_for cell (val_word value))
   put_with word is u f =
       put_by u (subst (λ (x : ℕ). FollowsSome layout shapes (StoreLink cell slot x (Some op)) v u) is f)

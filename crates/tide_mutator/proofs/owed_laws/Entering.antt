@@ -1,10 +1,10 @@
--- Why a call may be made where its plan is acted on, and what its view is then.
+-- Why a call may be made where its action is carried out, and what its view is then.
 use Rattle.std.proofs.Common.{ℕ, ◌≡◌, ◌≤◌, ◌+◌, sym, ◌∙◌, ap, subst, arith, true, false, List, [], ◌∷◌, ◌++◌, Option, Some}
 use Rattle.std.specs.Prelude.{filter}
-use Rattle.tide_heap.proofs.tide_call.plan_laws.Acting.{plans_are_calls}
-use Rattle.tide_heap.specs.tide_call.PlanWords.{PlanWords}
-use Rattle.tide_heap.specs.tide_call.declared.plan.Plan.{Plan}
-use Rattle.tide_heap.specs.tide_call.declared.plan.Plan.TheVariants as plan
+use Rattle.tide_heap.proofs.tide_call.action_laws.Acting.{actions_are_calls}
+use Rattle.tide_heap.specs.tide_call.ActionWords.{ActionWords}
+use Rattle.tide_heap.specs.tide_call.declared.action.Action.{Action}
+use Rattle.tide_heap.specs.tide_call.declared.action.Action.TheVariants as action
 use Rattle.tide_heap.specs.tide_layout.declared.region.Region.{Region}
 use Rattle.tide_heap.specs.tide_core.machine.Entries.{call_of}
 use Rattle.tide_heap.specs.tide_core.machine.May.{MayCall, IsBetweenCalls, RunsAsMutator}
@@ -27,7 +27,7 @@ use Rattle.tide_model.specs.declared.op.Reply.TheVariants.{Refused}
 use Rattle.tide_mutator.proofs.owed_laws.Standing.{calls_there, stands_then}
 use Rattle.tide_mutator.specs.owed.Calling.{IsCalling, Kept, kept}
 use Rattle.tide_mutator.specs.owed.Made.{IsMade, shown}
-use Rattle.tide_mutator.specs.owed.Standing.{IsPlanned, StandsAt, caller_of}
+use Rattle.tide_mutator.specs.owed.Standing.{IsPlanned, MutatorStandsAt, caller_of}
 use Rattle.tide_heap.specs.tide_words.heap.Heap.{Heap}
 
 -- the mutator with a view that is its participant's in a world runs there
@@ -36,11 +36,11 @@ pub runs_there : (layout : Layout) (w : World) (v : View) (op : Op) → w.part v
 runs_there layout w v op is calling =
     record { is_mutator = calling.is_mutator; runs = ap (λ (x : View). x.runs) is ∙ calling.runs }
 
--- a call may be made with the answer that acting on its plan gives
-pub may_call : (layout : Layout) (shapes : ShapeLists) (w : World) (v : View) (op : Op) (does : Plan) (reply : Reply)
+-- a call may be made with the answer that carrying out its action gives
+pub may_call : (layout : Layout) (shapes : ShapeLists) (w : World) (v : View) (op : Op) (does : Action) (reply : Reply)
     (took : Option ℕ) (at : Region) (index read : ℕ) → w.part v.who ≡ v → IsCalling layout v op →
     IsPlanned layout shapes v op does → (m : Moment layout shapes v w.log at index read) (new : Heap) →
-    PlanWords layout m.settled v.who does reply took new →
+    ActionWords layout m.settled v.who does reply took new →
     ((class : ℕ) → reply ≡ Refused (Full class) → StandsRefused layout w.log v.who class) →
     MayCall layout shapes w v.who op reply took
 may_call layout shapes w v op does reply took at index read is calling planned m new words room = record {
@@ -50,25 +50,25 @@ may_call layout shapes w v op does reply took at index read is calling planned m
     is_mutator = calling.is_mutator;
     is_active = stands.active;
     fits = calling.fits;
-    answers = (plans_are_calls (caller_of layout shapes v) m.settled new (state_after layout w.log) op does reply took
+    answers = (actions_are_calls (caller_of layout shapes v) m.settled new (state_after layout w.log) op does reply took
         calling.fits (calls_there layout shapes v m.settled w.log calling.is_mutator stands) stands.active calling.bare
         m.refs (ClaimsAreOwn-lawful layout shapes w.log m.lawful) m.reads (planned m.settled w.log stands) words).0;
     room = room;
   };
 }
   where
-    stands : StandsAt layout shapes v m.settled w.log
+    stands : MutatorStandsAt layout shapes v m.settled w.log
     stands = stands_then layout shapes v w.log at index read calling.stays m
 
 -- the view after the step that made it
-pub made_by : (layout : Layout) (shapes : ShapeLists) (op : Op) (does : Plan) (reply : Reply) (took : Option ℕ)
+pub made_by : (layout : Layout) (shapes : ShapeLists) (op : Op) (does : Action) (reply : Reply) (took : Option ℕ)
     (v u changed : View) (log : List Event) (at : Region) (index read : ℕ) →
     IsCalling layout v op → (m : Moment layout shapes v log at index read) → IsLawful layout shapes u.seen →
     filter (λ event. is_call_of u.who event.entry) u.seen ≡ u.mine →
     u ≡ record (with_entry log (Some (call_of v.who op reply took)) changed) { found = read } →
-    (new : Heap) → PlanWords layout m.settled v.who does reply took new →
+    (new : Heap) → ActionWords layout m.settled v.who does reply took new →
     kept changed ≡ kept v → changed.mine ≡ v.mine → (is_retire op ≡ false → changed.left ≡ v.left) →
-    (does ≡ plan.Retire → changed.left ≡ true) →
+    (does ≡ action.Retire → changed.left ≡ true) →
     changed.born ≤ v.born + 1 → IsMade layout shapes op does reply v (shown u)
 made_by layout shapes op does reply took v u changed log at index read calling m lawful own view new words same mine
     left gone born = record {

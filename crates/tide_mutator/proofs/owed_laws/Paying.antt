@@ -2,7 +2,7 @@
 use Rattle.std.proofs.Common.{ℕ, ◌≡◌, ◌<◌, refl, sym, ◌∙◌, ap, subst, true, false, Bool, List, [], ◌∷◌, length, arith, None, Some}
 use Rattle.std.proofs.lemmas.Bool.{eq-eqb}
 use Rattle.std.specs.Prelude.{Contains, if◌then◌else◌, not, ◌==◌, ◌%◌, ◌^◌}
-use Rattle.tide_heap.specs.tide_call.declared.plan.Plan.{Plan}
+use Rattle.tide_heap.specs.tide_call.declared.action.Action.{Action}
 use Rattle.tide_heap.specs.tide_layout.Region.{index_of_register}
 use Rattle.tide_heap.specs.tide_layout.declared.region.Region.TheVariants.{Registers}
 use Rattle.tide_heap.specs.tide_core.machine.Kind.{StoreCall, StoreRegister}
@@ -65,7 +65,7 @@ module _ (layout : Layout) (shapes : ShapeLists) (v : View) (dst : ℕ) (value :
       calls = ap (λ (x : View). x.calls) h.1.view ∙ sym (ap (λ (x : View). length x.mine) h.1.view);
     }
 
-module _ (layout : Layout) (shapes : ShapeLists) (op : Op) (does : Plan) (reply : Reply) (v u : View)
+module _ (layout : Layout) (shapes : ShapeLists) (op : Op) (does : Action) (reply : Reply) (v u : View)
     (calling : IsCalling layout v op) where
   -- a call that owes the value of its register, and nothing else
   pub owes_register : (dst : ℕ) (value : Val) →

@@ -2,11 +2,11 @@
 use Rattle.std.proofs.Common.{ℕ, ◌≡◌, ◌+◌, refl, sym, ◌∙◌, ap, subst, true, [], ◌∷◌, length, Option, None, Some}
 use Rattle.std.proofs.Common.{length-append}
 use Rattle.std.specs.Prelude.{◌%◌, ◌^◌}
-use Rattle.tide_heap.specs.tide_call.Callers.{Caller}
-use Rattle.tide_heap.specs.tide_call.PlanWords.{PlanWords}
-use Rattle.tide_heap.specs.tide_call.Plans.{IsPlan, is_told_by_registers}
-use Rattle.tide_heap.specs.tide_call.declared.plan.Plan.{Plan}
-use Rattle.tide_heap.specs.tide_call.declared.plan.Plan.TheVariants as plan
+use Rattle.tide_heap.specs.tide_call.Callers.{Planner}
+use Rattle.tide_heap.specs.tide_call.ActionWords.{ActionWords}
+use Rattle.tide_heap.specs.tide_call.Actions.{IsAction, is_told_by_registers}
+use Rattle.tide_heap.specs.tide_call.declared.action.Action.{Action}
+use Rattle.tide_heap.specs.tide_call.declared.action.Action.TheVariants as action
 use Rattle.tide_heap.specs.tide_layout.declared.region.Region.TheVariants.{Call as CallWord}
 use Rattle.tide_heap.specs.tide_core.machine.Entries.{call_of, class_taken, refused_or_full, reply_of_call}
 use Rattle.tide_heap.specs.tide_core.machine.Kind.{StoreCall}
@@ -30,7 +30,7 @@ use Rattle.tide_mutator.specs.owed.Calling.{IsCalling}
 use Rattle.tide_mutator.specs.owed.Made.{HasDone}
 use Rattle.tide_mutator.specs.owed.Standing.{IsPlanned, caller_of}
 use Rattle.tide_heap.specs.steps.Follows.{FollowsSome, MayStep}
-use Rattle.tide_heap.proofs.tide_call.plan_laws.NeverForRoom.{no_plan_for_room}
+use Rattle.tide_heap.proofs.tide_call.action_laws.NeverForRoom.{no_action_for_room}
 use Rattle.tide_heap.specs.tide_words.heap.Heap.{Heap}
 
 -- a refused operation is answered with its refusal at the store of the call word
@@ -41,9 +41,9 @@ refused_reply layout shapes state who op refusal is =
     ap (λ (found : Option Refusal). refused_or_full found (class_taken state who op)) is
 
 -- what the store of the call word leaves, where the call is answered so there
-pub stored_at : (layout : Layout) (shapes : ShapeLists) (v : View) (op : Op) (does : Plan) (reply : Reply) →
-    IsCalling layout v op → ((heap : Heap) → PlanWords layout heap v.who does reply None heap) →
-    (does ≡ plan.Retire → ⊥) → (word : ℕ) (u : View) →
+pub stored_at : (layout : Layout) (shapes : ShapeLists) (v : View) (op : Op) (does : Action) (reply : Reply) →
+    IsCalling layout v op → ((heap : Heap) → ActionWords layout heap v.who does reply None heap) →
+    (does ≡ action.Retire → ⊥) → (word : ℕ) (u : View) →
     (f : FollowsSome layout shapes (StoreCall word (Some op)) v u) →
     reply_of_call layout shapes (state_after layout f.1.log) v.who op ≡ reply →
     HasDone layout shapes op does reply v u
@@ -64,14 +64,14 @@ stored_at layout shapes v op does reply calling words goes_on word u f answer =
           ∙ sym (ap (λ (x : View). length x.mine) view ∙ length-append v.mine (call_of v.who op reply None ∷ []));
     }
 
-module _ (layout : Layout) (shapes : ShapeLists) (v : View) (op : Op) (does : Plan) (reply : Reply)
+module _ (layout : Layout) (shapes : ShapeLists) (v : View) (op : Op) (does : Action) (reply : Reply)
     (calling : IsCalling layout v op) (planned : IsPlanned layout shapes v op does)
-    (words : (heap : Heap) → PlanWords layout heap v.who does reply None heap)
-    (answer : (heap : Heap) (state : State) → IsPlan (caller_of layout shapes v) heap state op does →
+    (words : (heap : Heap) → ActionWords layout heap v.who does reply None heap)
+    (answer : (heap : Heap) (state : State) → IsAction (caller_of layout shapes v) heap state op does →
     reply_of_call layout shapes state v.who op ≡ reply)
-    (room : (heap : Heap) (state : State) (class : ℕ) → IsPlan (caller_of layout shapes v) heap state op does →
+    (room : (heap : Heap) (state : State) (class : ℕ) → IsAction (caller_of layout shapes v) heap state op does →
     reply ≡ Refused (Full class) → ⊥)
-    (goes_on : does ≡ plan.Retire → ⊥) where
+    (goes_on : does ≡ action.Retire → ⊥) where
   -- a call that changes no word but the call word
   may_store : (word : ℕ) → word ≡ (length v.mine + 1) % 2 ^ 64 → MayStep layout shapes v (StoreCall word (Some op))
   may_store word counts w running is =
@@ -92,42 +92,42 @@ module _ (layout : Layout) (shapes : ShapeLists) (v : View) (op : Op) (does : Pl
       (stands_then layout shapes v f.1.log CallWord v.who f.0 calling.stays f.1.moment)))
 
 module _ (layout : Layout) (shapes : ShapeLists) (v : View) (op : Op) (calling : IsCalling layout v op) where
-  pub may_refuse : (refusal : Refusal) (word : ℕ) → IsPlanned layout shapes v op (plan.Refuse refusal) →
+  pub may_refuse : (refusal : Refusal) (word : ℕ) → IsPlanned layout shapes v op (action.Refuse refusal) →
       word ≡ (length v.mine + 1) % 2 ^ 64 → MayStep layout shapes v (StoreCall word (Some op))
-  may_refuse refusal word planned = may_store layout shapes v op (plan.Refuse refusal) (Refused refusal) calling planned
+  may_refuse refusal word planned = may_store layout shapes v op (action.Refuse refusal) (Refused refusal) calling planned
       (λ heap. (refl, refl, λ region index below. refl))
       (λ heap state is. refused_reply layout shapes state v.who op refusal is)
-      (λ heap state class is full. no_plan_for_room (caller_of layout shapes v) heap state op (plan.Refuse refusal) class is
-      (ap plan.Refuse (let same : refusal ≡ Full class = cc in same))) (λ is. absurd (cc)) word
+      (λ heap state class is full. no_action_for_room (caller_of layout shapes v) heap state op (action.Refuse refusal) class is
+      (ap action.Refuse (let same : refusal ≡ Full class = cc in same))) (λ is. absurd (cc)) word
 
-  pub refused_by : (refusal : Refusal) (word : ℕ) (u : View) → IsPlanned layout shapes v op (plan.Refuse refusal) →
+  pub refused_by : (refusal : Refusal) (word : ℕ) (u : View) → IsPlanned layout shapes v op (action.Refuse refusal) →
       FollowsSome layout shapes (StoreCall word (Some op)) v u →
-      HasDone layout shapes op (plan.Refuse refusal) (Refused refusal) v u
-  refused_by refusal word u planned = stored_by layout shapes v op (plan.Refuse refusal) (Refused refusal) calling planned
+      HasDone layout shapes op (action.Refuse refusal) (Refused refusal) v u
+  refused_by refusal word u planned = stored_by layout shapes v op (action.Refuse refusal) (Refused refusal) calling planned
       (λ heap. (refl, refl, λ region index below. refl))
       (λ heap state is. refused_reply layout shapes state v.who op refusal is)
-      (λ heap state class is full. no_plan_for_room (caller_of layout shapes v) heap state op (plan.Refuse refusal) class is
-      (ap plan.Refuse (let same : refusal ≡ Full class = cc in same))) (λ is. absurd (cc)) word u
+      (λ heap state class is full. no_action_for_room (caller_of layout shapes v) heap state op (action.Refuse refusal) class is
+      (ap action.Refuse (let same : refusal ≡ Full class = cc in same))) (λ is. absurd (cc)) word u
 
 -- which operation asks
-is_collect : (caller : Caller) (heap : Heap) (state : State) (op : Op) → is_told_by_registers op ≡ true →
-    IsPlan caller heap state op plan.Ask → op ≡ Collect
+is_collect : (caller : Planner) (heap : Heap) (state : State) (op : Op) → is_told_by_registers op ≡ true →
+    IsAction caller heap state op action.Ask → op ≡ Collect
 is_collect caller heap state Collect told is = refl
 is_collect caller heap state (Claim src) told is = absurd is.1
 is_collect caller heap state op told is = absurd (cc)
 
 module _ (layout : Layout) (shapes : ShapeLists) (v : View) (op : Op) (calling : IsCalling layout v op)
-    (told : is_told_by_registers op ≡ true) (planned : IsPlanned layout shapes v op plan.Ask) where
-  asks : (heap : Heap) (state : State) → IsPlan (caller_of layout shapes v) heap state op plan.Ask →
+    (told : is_told_by_registers op ≡ true) (planned : IsPlanned layout shapes v op action.Ask) where
+  asks : (heap : Heap) (state : State) → IsAction (caller_of layout shapes v) heap state op action.Ask →
       reply_of_call layout shapes state v.who op ≡ Asked
   asks heap state is = ap (reply_of_call layout shapes state v.who)
       (is_collect (caller_of layout shapes v) heap state op told is)
 
   pub may_ask : (word : ℕ) → word ≡ (length v.mine + 1) % 2 ^ 64 → MayStep layout shapes v (StoreCall word (Some op))
-  may_ask = may_store layout shapes v op plan.Ask Asked calling planned
+  may_ask = may_store layout shapes v op action.Ask Asked calling planned
       (λ heap. (refl, λ region index below. refl)) asks (λ heap state class is full. absurd (cc)) (λ is. absurd (cc))
 
   pub asked_by : (word : ℕ) (u : View) → FollowsSome layout shapes (StoreCall word (Some op)) v u →
-      HasDone layout shapes op plan.Ask Asked v u
-  asked_by = stored_by layout shapes v op plan.Ask Asked calling planned
+      HasDone layout shapes op action.Ask Asked v u
+  asked_by = stored_by layout shapes v op action.Ask Asked calling planned
       (λ heap. (refl, λ region index below. refl)) asks (λ heap state class is full. absurd (cc)) (λ is. absurd (cc))

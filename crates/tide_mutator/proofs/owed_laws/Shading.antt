@@ -2,7 +2,7 @@
 use Rattle.std.proofs.Common.{ℕ, ◌≡◌, ◌<◌, sym, ◌∙◌, ap, subst, Bool, true, false, []}
 use Rattle.std.proofs.lemmas.Bool.{eq-eqb, ne_eqb}
 use Rattle.std.specs.Prelude.{if◌then◌else◌}
-use Rattle.tide_heap.specs.tide_call.declared.plan.Plan.{Plan}
+use Rattle.tide_heap.specs.tide_call.declared.action.Action.{Action}
 use Rattle.tide_heap.specs.tide_core.machine.Duties.{GrowsOn}
 use Rattle.tide_heap.specs.tide_core.machine.Kind.{LoadColour, PushBit, Regrey, StoreBorn}
 use Rattle.tide_heap.specs.tide_core.machine.May.{RunsAsMutator, barrier_for}
@@ -138,7 +138,7 @@ module _ (layout : Layout) (v : View) (cell word : ℕ) (owing : Owing layout v 
   }
 
 -- a call that owes a barrier, and what it is once that is paid
-module _ (layout : Layout) (shapes : ShapeLists) (op : Op) (does : Plan) (reply : Reply) (v u : View) where
+module _ (layout : Layout) (shapes : ShapeLists) (op : Op) (does : Action) (reply : Reply) (v u : View) where
   pub owing_made : (due : Duty) → IsCalling layout v op → HasMade layout shapes op does reply v u [] due →
       Owing layout u due
   owing_made due calling made = record {

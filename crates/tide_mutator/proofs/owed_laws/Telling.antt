@@ -2,7 +2,7 @@
 use Rattle.std.proofs.Common.{ℕ, ◌≡◌, ◌<◌, ◌+◌, sym, ◌∙◌, ap, subst, true, List, [], ◌∷◌, length, None}
 use Rattle.std.specs.Prelude.{◌%◌, ◌^◌}
 use Rattle.std.proofs.Common.{length-append}
-use Rattle.tide_heap.specs.tide_call.declared.plan.Plan.{Plan}
+use Rattle.tide_heap.specs.tide_call.declared.action.Action.{Action}
 use Rattle.tide_heap.specs.tide_core.machine.Entries.{call_of}
 use Rattle.tide_heap.specs.tide_core.machine.Kind.{StoreCall}
 use Rattle.tide_heap.specs.tide_core.declared.machine.view.Duty.TheVariants.{Nothing}
@@ -16,7 +16,7 @@ use Rattle.tide_mutator.specs.owed.Calling.{IsCalling, Kept}
 use Rattle.tide_mutator.specs.owed.Made.{HasDone, IsMade, Shown, shown}
 use Rattle.tide_heap.specs.steps.Follows.{FollowsSome, MayStep}
 
-module _ (layout : Layout) (shapes : ShapeLists) (op : Op) (does : Plan) (reply : Reply) (v u : View)
+module _ (layout : Layout) (shapes : ShapeLists) (op : Op) (does : Action) (reply : Reply) (v u : View)
     (calling : IsCalling layout v op) (made : IsMade layout shapes op does reply v (shown u)) where
   -- it still runs, as a mutator
   pub still_runs : u.runs ≡ true

@@ -5,8 +5,8 @@ use Rattle.tide_mutator.specs.owed.Made.{IsMade, shown}
 use Rattle.tide_mutator.specs.owed.Replacing.{grown_out}
 use Rattle.tide_mutator.specs.owed.Standing.{IsPlanned}
 use Rattle.tide_heap.specs.tide_call.ShapeWord.{whole_word}
-use Rattle.tide_heap.specs.tide_call.declared.plan.Plan.{Plan}
-use Rattle.tide_heap.specs.tide_call.declared.plan.Plan.TheVariants as plan
+use Rattle.tide_heap.specs.tide_call.declared.action.Action.{Action}
+use Rattle.tide_heap.specs.tide_call.declared.action.Action.TheVariants as action
 use Rattle.tide_mutator.specs.declared.owed.growth.Growth.{Growth}
 use Rattle.tide_heap.specs.tide_layout.Slots.{HasElement, index_of_element}
 use Rattle.tide_heap.specs.tide_layout.declared.region.Region.TheVariants as region
@@ -24,9 +24,9 @@ use Rattle.tide_heap.specs.tide_words.forms.Reference.{array_word}
 use Rattle.tide_heap.specs.tide_words.forms.ValueWord.{val_word}
 use Rattle.tide_heap.specs.tide_call.Needed.{MayGrow}
 
--- the plan of the growth
-abbrev pub plan_of : Growth → Plan
-plan_of growth = plan.Grow growth.addition growth.array growth.class growth.value
+-- the action of the growth
+abbrev pub action_of : Growth → Action
+action_of growth = action.Grow growth.addition growth.array growth.class growth.value
 
 -- the view knows more words, and nothing else of it changed but the word found last
 pub record HasRead (v u : View) : Type 0 where
@@ -45,7 +45,7 @@ KnowsElements layout v array words count =
 -- element for each property that the cell has.
 pub record IsReady (layout : Layout) (shapes : ShapeLists) (v : View) (op : Op) (growth : Growth) : Type 0 where
   pub calling : IsCalling layout v op
-  pub planned : IsPlanned layout shapes v op (plan_of growth)
+  pub planned : IsPlanned layout shapes v op (action_of growth)
   pub may : MayGrow layout growth.addition growth.array growth.class
   pub knows : Knows v region.Structure growth.addition.cell growth.old
   pub small : growth.old + 1 < 2 ^ 64
@@ -57,7 +57,7 @@ pub record IsReady (layout : Layout) (shapes : ShapeLists) (v : View) (op : Op) 
 -- elements as there are properties: what the old array held, as far as the view knew it, and the value.
 pub record HasTaken (layout : Layout) (shapes : ShapeLists) (op : Op) (growth : Growth) (v u : View) (taken : ℕ)
     : Type 0 where
-  pub made : IsMade layout shapes op (plan_of growth) Done v (shown (grown_out u))
+  pub made : IsMade layout shapes op (action_of growth) Done v (shown (grown_out u))
   pub stage : u.growth ≡ growing.Filling growth.addition.cell taken growth.old growth.next
   pub duty : u.duty ≡ barrier_for growth.addition.cell (val_word growth.value)
   pub has : HasElement layout taken growth.addition.count

@@ -1,6 +1,6 @@
 -- Where a mutator that decides may stand, by the words that it has read.
 use Rattle.std.specs.Prelude.{ℕ, ◌≡◌, true, false, List, []}
-use Rattle.tide_mutator.specs.owed.Standing.{StandsAt}
+use Rattle.tide_mutator.specs.owed.Standing.{MutatorStandsAt}
 use Rattle.tide_heap.specs.tide_core.declared.machine.view.Growth.TheVariants.{Nothing}
 use Rattle.tide_heap.specs.tide_core.declared.machine.view.View.{View}
 use Rattle.tide_model.specs.Layout.{Layout}
@@ -22,4 +22,4 @@ pub record OwnsAt (layout : Layout) (shapes : ShapeLists) (v : View) (given : La
   pub calm : v.owed ≡ []
   pub grows_not : v.growth ≡ Nothing
   pub log : List Event
-  pub stands : StandsAt layout shapes v heap log
+  pub stands : MutatorStandsAt layout shapes v heap log

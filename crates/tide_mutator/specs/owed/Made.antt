@@ -1,8 +1,8 @@
 -- What a mutator's view is once its call has its entry, while the call still owes something.
 use Rattle.std.specs.Prelude.{ℕ, ◌≡◌, ◌≤◌, ◌+◌, Bool, true, false, List, [], ◌∷◌, ◌++◌, length, Option}
-use Rattle.tide_heap.specs.tide_call.PlanWords.{PlanWords}
-use Rattle.tide_heap.specs.tide_call.declared.plan.Plan.{Plan}
-use Rattle.tide_heap.specs.tide_call.declared.plan.Plan.TheVariants as plan
+use Rattle.tide_heap.specs.tide_call.ActionWords.{ActionWords}
+use Rattle.tide_heap.specs.tide_call.declared.action.Action.{Action}
+use Rattle.tide_heap.specs.tide_call.declared.action.Action.TheVariants as action
 use Rattle.tide_heap.specs.tide_core.machine.Entries.{call_of}
 use Rattle.tide_heap.specs.tide_core.declared.machine.view.Duty.{Duty}
 use Rattle.tide_heap.specs.tide_core.declared.machine.view.Duty.TheVariants.{Nothing}
@@ -18,7 +18,7 @@ use Rattle.tide_model.specs.declared.entry.Event.{Event}
 use Rattle.tide_model.specs.declared.op.Op.{Op}
 use Rattle.tide_model.specs.declared.op.Reply.{Reply}
 use Rattle.tide_mutator.specs.owed.Calling.{Kept, kept}
-use Rattle.tide_mutator.specs.owed.Standing.{StandsAt}
+use Rattle.tide_mutator.specs.owed.Standing.{MutatorStandsAt}
 use Rattle.tide_heap.specs.tide_words.heap.Heap.{Heap}
 
 -- of a mutator's view what a call's entry changes, and nothing that the call does after it
@@ -33,15 +33,15 @@ abbrev pub shown : View → Shown
 shown v = record { kept = kept v; seen = v.seen; mine = v.mine; left = v.left; born = v.born }
 
 -- The call's entry stands right after a history in which the mutator with this view could stand, of which it had seen a
--- beginning. Acting on this plan writes the words of the heap there that make the call, and answers so.
-pub record IsMade (layout : Layout) (shapes : ShapeLists) (op : Op) (does : Plan) (reply : Reply)
+-- beginning. Carrying out this action writes the words of the heap there that make the call, and answers so.
+pub record IsMade (layout : Layout) (shapes : ShapeLists) (op : Op) (does : Action) (reply : Reply)
     (v : View) (after : Shown) : Type 0 where
   pub took : Option ℕ
   pub log : List Event
   pub heap : Heap
   pub new : Heap
-  pub stands : StandsAt layout shapes v heap log
-  pub words : PlanWords layout heap v.who does reply took new
+  pub stands : MutatorStandsAt layout shapes v heap log
+  pub words : ActionWords layout heap v.who does reply took new
   pub before : IsPrefix v.seen log
   pub seen : after.seen ≡ log ++ call_of v.who op reply took ∷ []
   pub mine : after.mine ≡ v.mine ++ call_of v.who op reply took ∷ []
@@ -49,18 +49,18 @@ pub record IsMade (layout : Layout) (shapes : ShapeLists) (op : Op) (does : Plan
   pub own : IsOwn v.who after.seen after.mine
   pub kept : after.kept ≡ kept v
   pub left : is_retire op ≡ false → after.left ≡ v.left
-  pub gone : does ≡ plan.Retire → after.left ≡ true
+  pub gone : does ≡ action.Retire → after.left ≡ true
   pub born : after.born ≤ v.born + 1
 
 -- The call has its entry. It still owes these words and this, and its call word doesn't tell it yet.
-pub record HasMade (layout : Layout) (shapes : ShapeLists) (op : Op) (does : Plan) (reply : Reply)
+pub record HasMade (layout : Layout) (shapes : ShapeLists) (op : Op) (does : Action) (reply : Reply)
     (v u : View) (debts : List Owed) (due : Duty) : Type 0 where
   pub made : IsMade layout shapes op does reply v (shown u)
   pub owed : u.owed ≡ debts
   pub duty : u.duty ≡ due
 
 -- The call owes nothing more, and its call word tells it.
-pub record HasDone (layout : Layout) (shapes : ShapeLists) (op : Op) (does : Plan) (reply : Reply)
+pub record HasDone (layout : Layout) (shapes : ShapeLists) (op : Op) (does : Action) (reply : Reply)
     (v u : View) : Type 0 where
   pub made : IsMade layout shapes op does reply v (shown u)
   pub owed : u.owed ≡ []

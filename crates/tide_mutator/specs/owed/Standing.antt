@@ -1,8 +1,8 @@
 -- Where a mutator may stand in the history, as far as its view tells.
 use Rattle.std.specs.Prelude.{ℕ, ◌≡◌, true, false, List, [], filter, ◌==◌}
-use Rattle.tide_heap.specs.tide_call.Callers.{Caller}
-use Rattle.tide_heap.specs.tide_call.Plans.{IsPlan}
-use Rattle.tide_heap.specs.tide_call.declared.plan.Plan.{Plan}
+use Rattle.tide_heap.specs.tide_call.Callers.{Planner}
+use Rattle.tide_heap.specs.tide_call.Actions.{IsAction}
+use Rattle.tide_heap.specs.tide_call.declared.action.Action.{Action}
 use Rattle.tide_heap.specs.tide_layout.Region.{tag}
 use Rattle.tide_heap.specs.tide_layout.declared.region.Region.{Region}
 use Rattle.tide_heap.specs.tide_layout.declared.region.Region.TheVariants.{Elements}
@@ -30,13 +30,13 @@ abbrev pub claims_of : View → List ℕ
 claims_of v = claims_after_calls v.who v.mine
 
 -- the mutator with this view, as one that makes a call
-abbrev pub caller_of : Layout → ShapeLists → View → Caller
+abbrev pub caller_of : Layout → ShapeLists → View → Planner
 caller_of layout shapes v = record { layout = layout; shapes = shapes; who = v.who; claims = claims_of v }
 
 -- A mutator with this view may stand after this history: it is lawful, has all calls of its own, and it hasn't retired
 -- in it. References are live, and the words of the heap read as the state. Those that the view knows are as it knows
--- them, but for elements, of which no plan asks.
-pub record StandsAt (layout : Layout) (shapes : ShapeLists) (v : View) (heap : Heap) (log : List Event)
+-- them, but for elements, of which no action asks.
+pub record MutatorStandsAt (layout : Layout) (shapes : ShapeLists) (v : View) (heap : Heap) (log : List Event)
     : Type 0 where
   pub lawful : IsLawful layout shapes log
   pub own : filter (λ event. is_call_of v.who event.entry) log ≡ v.mine
@@ -47,8 +47,8 @@ pub record StandsAt (layout : Layout) (shapes : ShapeLists) (v : View) (heap : H
   pub known : (at : Region) (index word : ℕ) → (tag at == tag Elements) ≡ false → Knows v at index word →
       heap at index ≡ word
 
--- the plan is that of the call, wherever the mutator may stand
-abbrev pub IsPlanned : Layout → ShapeLists → View → Op → Plan → Type 0
+-- the action is that of the call, wherever the mutator may stand
+abbrev pub IsPlanned : Layout → ShapeLists → View → Op → Action → Type 0
 IsPlanned layout shapes v op does =
-    (heap : Heap) (log : List Event) → StandsAt layout shapes v heap log →
-    IsPlan (caller_of layout shapes v) heap (state_after layout log) op does
+    (heap : Heap) (log : List Event) → MutatorStandsAt layout shapes v heap log →
+    IsAction (caller_of layout shapes v) heap (state_after layout log) op does

@@ -15,7 +15,7 @@ pub(crate) fn load_elements<S: HeapShapes>(
 ) -> [u64; 64]
     requires own { pass.old.seat.table_id ≡ heap.now.table.shared.table_id }
     requires ready { IsReady heap.now.key.layout (S.lists heap.now.key.shapes) pass.old.seat.me.0 op growth }
-    ensures same { (pass.new.seat.table_id ≡ pass.old.seat.table_id) × (pass.new.seat.id ≡ pass.old.seat.id) }
+    ensures same_pass { (pass.new.seat.table_id ≡ pass.old.seat.table_id) × (pass.new.seat.id ≡ pass.old.seat.id) }
     ensures read { HasRead pass.old.seat.me.0 pass.new.seat.me.0 }
     ensures knows { KnowsElements heap.now.key.layout pass.new.seat.me.0 growth.array result growth.addition.count }
 {

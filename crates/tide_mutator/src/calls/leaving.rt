@@ -1,7 +1,7 @@
 //! The call by which a mutator leaves for good.
 ghost use Rattle.std.specs.Prelude.{◌≡◌, ◌+◌, ◌%◌, ◌^◌, length, true};
-ghost use Rattle.tide_heap.specs.tide_call.Plans.{is_told_by_registers};
-ghost use Rattle.tide_heap.specs.tide_call.declared.plan.Plan.TheVariants.{Retire as Leave};
+ghost use Rattle.tide_heap.specs.tide_call.Actions.{is_told_by_registers};
+ghost use Rattle.tide_heap.specs.tide_call.declared.action.Action.TheVariants.{Retire as Leave};
 ghost use Rattle.tide_mutator.specs.owed.Calling.{IsCalling};
 ghost use Rattle.tide_mutator.specs.owed.Made.{HasDone};
 ghost use Rattle.tide_mutator.specs.owed.Standing.{IsPlanned};
@@ -16,7 +16,7 @@ pub(crate) fn leave<S: HeapShapes>(pass: &mut Pass, heap: &Heap<S>, op: Op, call
     requires told { is_told_by_registers op ≡ true }
     requires counts { calls ≡ (length pass.old.seat.me.0.mine + 1) % 2 ^ 64 }
     requires planned { IsPlanned heap.now.key.layout (S.lists heap.now.key.shapes) pass.old.seat.me.0 op Leave }
-    ensures same { (pass.new.seat.table_id ≡ pass.old.seat.table_id) × (pass.new.seat.id ≡ pass.old.seat.id) }
+    ensures same_pass { (pass.new.seat.table_id ≡ pass.old.seat.table_id) × (pass.new.seat.id ≡ pass.old.seat.id) }
     ensures done { HasDone heap.now.key.layout (S.lists heap.now.key.shapes) op Leave result
         pass.old.seat.me.0 pass.new.seat.me.0 }
 {

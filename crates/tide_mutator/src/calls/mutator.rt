@@ -4,7 +4,7 @@ ghost use Rattle.tide_mutator.specs.owed.Standing.{claims_of};
 ghost use Rattle.tide_heap.specs.tide_core.machine.May.{Rests};
 
 use crate::calls::own::OwnPass;
-use crate::cells::hints::Hints;
+use crate::cells::cursor::AllocationCursor;
 use tide_heap::Claims;
 
 /// A mutator, with its right to step on a heap. Between its calls it owes nothing.
@@ -13,7 +13,7 @@ pub struct Mutator {
     pub(crate) own: OwnPass,
     pub(crate) claims: Claims,
     /// Where its searches go on in this part.
-    pub(crate) hints: Hints,
+    pub(crate) cursor: AllocationCursor,
     /// How many calls it made, modulo 2^64.
     pub(crate) calls: u64,
     ghost rests: { Rests own.pass.seat.me.0 },

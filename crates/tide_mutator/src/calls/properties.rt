@@ -3,12 +3,12 @@ ghost use Rattle.std.specs.Prelude.{◌≡◌, ◌+◌, ◌%◌, ◌^◌, ◌<�
 ghost use Rattle.tide_mutator.specs.owed.Calling.{IsCalling};
 ghost use Rattle.tide_mutator.specs.owed.Made.{HasDone};
 ghost use Rattle.tide_mutator.specs.owed.Standing.{IsPlanned};
-ghost use Rattle.tide_heap.specs.tide_call.declared.plan.Plan.TheVariants.{Append, LoadElement, StoreElement};
+ghost use Rattle.tide_heap.specs.tide_call.declared.action.Action.TheVariants.{Append, LoadElement, StoreElement};
 ghost use Rattle.tide_heap.specs.tide_layout.Slots.{HasElement};
 ghost use Rattle.tide_model.specs.Layout.{cell_count};
 ghost use Rattle.tide_heap.specs.tide_call.Needed.{HasRoomFor};
 
-use crate::owed::{shade_for, shape_word, show};
+use crate::owed::{shape_word, show, write_barrier};
 use tide_heap::{Addition, Heap, HeapShapes, Pass, val_word};
 use tide_model::{Op, Reply, Turnstile, Val};
 
@@ -29,7 +29,7 @@ pub(crate) fn get_property<S: HeapShapes>(
     requires within { HasElement heap.now.key.layout array place }
     requires planned { IsPlanned heap.now.key.layout (S.lists heap.now.key.shapes) pass.old.seat.me.0 op
         (LoadElement dst array place) }
-    ensures same { (pass.new.seat.table_id ≡ pass.old.seat.table_id) × (pass.new.seat.id ≡ pass.old.seat.id) }
+    ensures same_pass { (pass.new.seat.table_id ≡ pass.old.seat.table_id) × (pass.new.seat.id ≡ pass.old.seat.id) }
     ensures done { HasDone heap.now.key.layout (S.lists heap.now.key.shapes) op (LoadElement dst array place) result
         pass.old.seat.me.0 pass.new.seat.me.0 }
 {
@@ -56,12 +56,12 @@ pub(crate) fn put_property<S: HeapShapes, T: Turnstile>(
     requires within { HasElement heap.now.key.layout array place }
     requires planned { IsPlanned heap.now.key.layout (S.lists heap.now.key.shapes) pass.old.seat.me.0 op
         (StoreElement cell array place value) }
-    ensures same { (pass.new.seat.table_id ≡ pass.old.seat.table_id) × (pass.new.seat.id ≡ pass.old.seat.id) }
+    ensures same_pass { (pass.new.seat.table_id ≡ pass.old.seat.table_id) × (pass.new.seat.id ≡ pass.old.seat.id) }
     ensures done { HasDone heap.now.key.layout (S.lists heap.now.key.shapes) op (StoreElement cell array place value)
         result pass.old.seat.me.0 pass.new.seat.me.0 }
 {
     pass.store_element(heap, array, place, val_word(value), Some(op));
-    shade_for(pass, heap, gate, cell, value);
+    write_barrier(pass, heap, gate, cell, value);
     pass.store_call(heap, calls, None);
     Reply::Done
 }
@@ -84,15 +84,15 @@ pub(crate) fn append<S: HeapShapes, T: Turnstile>(
     requires room { HasRoomFor heap.now.key.layout addition array }
     requires planned { IsPlanned heap.now.key.layout (S.lists heap.now.key.shapes) pass.old.seat.me.0 op
         (Append addition array value) }
-    ensures same { (pass.new.seat.table_id ≡ pass.old.seat.table_id) × (pass.new.seat.id ≡ pass.old.seat.id) }
+    ensures same_pass { (pass.new.seat.table_id ≡ pass.old.seat.table_id) × (pass.new.seat.id ≡ pass.old.seat.id) }
     ensures done { HasDone heap.now.key.layout (S.lists heap.now.key.shapes) op (Append addition array value) result
         pass.old.seat.me.0 pass.new.seat.me.0 }
 {
-    // A scan reads no place past the count of the structure that it loaded, so the element may stand there before.
-    // Once the structure tells it, it is what the array says (`ArraysStand`, tide_core/specs/machine/points/Arrays.antt).
+    // A scan reads no place past the count of the structure that it loaded, so the element may stand there before. Once
+    // the structure tells it, it is what the array says (`ArraysStand`, tide_core/specs/machine/points/Arrays.antt).
     pass.store_element(heap, array, addition.count, val_word(value), None);
     pass.store_structure(heap, addition.cell, shape_word(addition), Some(op));
-    shade_for(pass, heap, gate, addition.cell, value);
+    write_barrier(pass, heap, gate, addition.cell, value);
     pass.store_call(heap, calls, None);
     Reply::Done
 }

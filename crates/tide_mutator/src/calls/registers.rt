@@ -1,7 +1,7 @@
 //! Calls on own words alone: one fills a register, or is told by its call word.
 ghost use Rattle.std.specs.Prelude.{◌≡◌, ◌+◌, ◌%◌, ◌^◌, ◌<◌, length, true};
-ghost use Rattle.tide_heap.specs.tide_call.Plans.{is_told_by_registers};
-ghost use Rattle.tide_heap.specs.tide_call.declared.plan.Plan.TheVariants.{Ask, Fill, Refuse};
+ghost use Rattle.tide_heap.specs.tide_call.Actions.{is_told_by_registers};
+ghost use Rattle.tide_heap.specs.tide_call.declared.action.Action.TheVariants.{Ask, Fill, Refuse};
 ghost use Rattle.tide_mutator.specs.owed.Calling.{IsCalling};
 ghost use Rattle.tide_mutator.specs.owed.Made.{HasDone};
 ghost use Rattle.tide_mutator.specs.owed.Standing.{IsPlanned};
@@ -25,7 +25,7 @@ pub(crate) fn fill<S: HeapShapes>(
     requires within { dst < heap.now.key.layout.registers }
     requires planned { IsPlanned heap.now.key.layout (S.lists heap.now.key.shapes) pass.old.seat.me.0 op
         (Fill dst value) }
-    ensures same { (pass.new.seat.table_id ≡ pass.old.seat.table_id) × (pass.new.seat.id ≡ pass.old.seat.id) }
+    ensures same_pass { (pass.new.seat.table_id ≡ pass.old.seat.table_id) × (pass.new.seat.id ≡ pass.old.seat.id) }
     ensures done { HasDone heap.now.key.layout (S.lists heap.now.key.shapes) op (Fill dst value) result
         pass.old.seat.me.0 pass.new.seat.me.0 }
 {
@@ -47,7 +47,7 @@ pub(crate) fn refuse<S: HeapShapes>(
     requires counts { calls ≡ (length pass.old.seat.me.0.mine + 1) % 2 ^ 64 }
     requires planned { IsPlanned heap.now.key.layout (S.lists heap.now.key.shapes) pass.old.seat.me.0 op
         (Refuse refusal) }
-    ensures same { (pass.new.seat.table_id ≡ pass.old.seat.table_id) × (pass.new.seat.id ≡ pass.old.seat.id) }
+    ensures same_pass { (pass.new.seat.table_id ≡ pass.old.seat.table_id) × (pass.new.seat.id ≡ pass.old.seat.id) }
     ensures done { HasDone heap.now.key.layout (S.lists heap.now.key.shapes) op (Refuse refusal) result
         pass.old.seat.me.0 pass.new.seat.me.0 }
 {
@@ -62,7 +62,7 @@ pub(crate) fn ask<S: HeapShapes>(pass: &mut Pass, heap: &Heap<S>, op: Op, calls:
     requires told { is_told_by_registers op ≡ true }
     requires counts { calls ≡ (length pass.old.seat.me.0.mine + 1) % 2 ^ 64 }
     requires planned { IsPlanned heap.now.key.layout (S.lists heap.now.key.shapes) pass.old.seat.me.0 op Ask }
-    ensures same { (pass.new.seat.table_id ≡ pass.old.seat.table_id) × (pass.new.seat.id ≡ pass.old.seat.id) }
+    ensures same_pass { (pass.new.seat.table_id ≡ pass.old.seat.table_id) × (pass.new.seat.id ≡ pass.old.seat.id) }
     ensures done { HasDone heap.now.key.layout (S.lists heap.now.key.shapes) op Ask result
         pass.old.seat.me.0 pass.new.seat.me.0 }
 {

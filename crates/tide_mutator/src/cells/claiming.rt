@@ -1,7 +1,7 @@
 //! Calls on claims.
 ghost use Rattle.std.specs.Prelude.{◌≡◌, ◌+◌, ◌%◌, ◌^◌, ◌<◌, length, true};
-ghost use Rattle.tide_heap.specs.tide_call.Plans.{is_told_by_registers};
-ghost use Rattle.tide_heap.specs.tide_call.declared.plan.Plan.TheVariants.{Claim, Release};
+ghost use Rattle.tide_heap.specs.tide_call.Actions.{is_told_by_registers};
+ghost use Rattle.tide_heap.specs.tide_call.declared.action.Action.TheVariants.{Claim, Release};
 ghost use Rattle.tide_model.specs.Layout.{cell_count};
 ghost use Rattle.tide_mutator.specs.owed.Calling.{IsCalling};
 ghost use Rattle.tide_mutator.specs.cells.Claiming.{held_or};
@@ -39,7 +39,7 @@ pub fn claim<S: HeapShapes>(
     requires within { cell < cell_count heap.now.key.layout }
     requires planned { IsPlanned heap.now.key.layout (S.lists heap.now.key.shapes) pass.old.seat.me.0 op
         (Claim cell full) }
-    ensures same { (pass.new.seat.table_id ≡ pass.old.seat.table_id) × (pass.new.seat.id ≡ pass.old.seat.id) }
+    ensures same_pass { (pass.new.seat.table_id ≡ pass.old.seat.table_id) × (pass.new.seat.id ≡ pass.old.seat.id) }
     ensures done { HasDone heap.now.key.layout (S.lists heap.now.key.shapes) op (Claim cell full) result
         pass.old.seat.me.0 pass.new.seat.me.0 }
 {
@@ -72,7 +72,7 @@ pub fn release<S: HeapShapes>(
     requires within { cell < cell_count heap.now.key.layout }
     requires planned { IsPlanned heap.now.key.layout (S.lists heap.now.key.shapes) pass.old.seat.me.0 op
         (Release cell) }
-    ensures same { (pass.new.seat.table_id ≡ pass.old.seat.table_id) × (pass.new.seat.id ≡ pass.old.seat.id) }
+    ensures same_pass { (pass.new.seat.table_id ≡ pass.old.seat.table_id) × (pass.new.seat.id ≡ pass.old.seat.id) }
     ensures done { HasDone heap.now.key.layout (S.lists heap.now.key.shapes) op (Release cell) result
         pass.old.seat.me.0 pass.new.seat.me.0 }
 {

@@ -1,7 +1,7 @@
 //! Calls on strong and weak handles.
 ghost use Rattle.std.specs.Prelude.{◌≡◌, ◌+◌, ◌%◌, ◌^◌, ◌<◌, length, true};
-ghost use Rattle.tide_heap.specs.tide_call.Plans.{is_told_by_registers};
-ghost use Rattle.tide_heap.specs.tide_call.declared.plan.Plan.TheVariants.{LoadStrong, LoadWeak, StoreStrong, StoreWeak};
+ghost use Rattle.tide_heap.specs.tide_call.Actions.{is_told_by_registers};
+ghost use Rattle.tide_heap.specs.tide_call.declared.action.Action.TheVariants.{LoadStrong, LoadWeak, StoreStrong, StoreWeak};
 ghost use Rattle.tide_mutator.specs.owed.Calling.{IsCalling};
 ghost use Rattle.tide_mutator.specs.owed.Made.{HasDone};
 ghost use Rattle.tide_mutator.specs.owed.Standing.{IsPlanned};
@@ -26,7 +26,7 @@ pub fn put_strong<S: HeapShapes>(
     requires within { at < heap.now.key.layout.strong }
     requires planned { IsPlanned heap.now.key.layout (S.lists heap.now.key.shapes) pass.old.seat.me.0 op
         (StoreStrong at value) }
-    ensures same { (pass.new.seat.table_id ≡ pass.old.seat.table_id) × (pass.new.seat.id ≡ pass.old.seat.id) }
+    ensures same_pass { (pass.new.seat.table_id ≡ pass.old.seat.table_id) × (pass.new.seat.id ≡ pass.old.seat.id) }
     ensures done { HasDone heap.now.key.layout (S.lists heap.now.key.shapes) op (StoreStrong at value) result
         pass.old.seat.me.0 pass.new.seat.me.0 }
 {
@@ -51,7 +51,7 @@ pub fn put_weak<S: HeapShapes>(
     requires within { at < heap.now.key.layout.weak }
     requires planned { IsPlanned heap.now.key.layout (S.lists heap.now.key.shapes) pass.old.seat.me.0 op
         (StoreWeak at value) }
-    ensures same { (pass.new.seat.table_id ≡ pass.old.seat.table_id) × (pass.new.seat.id ≡ pass.old.seat.id) }
+    ensures same_pass { (pass.new.seat.table_id ≡ pass.old.seat.table_id) × (pass.new.seat.id ≡ pass.old.seat.id) }
     ensures done { HasDone heap.now.key.layout (S.lists heap.now.key.shapes) op (StoreWeak at value) result
         pass.old.seat.me.0 pass.new.seat.me.0 }
 {
@@ -77,7 +77,7 @@ pub fn get_strong<S: HeapShapes>(
     requires within { at < heap.now.key.layout.strong }
     requires planned { IsPlanned heap.now.key.layout (S.lists heap.now.key.shapes) pass.old.seat.me.0 op
         (LoadStrong dst at) }
-    ensures same { (pass.new.seat.table_id ≡ pass.old.seat.table_id) × (pass.new.seat.id ≡ pass.old.seat.id) }
+    ensures same_pass { (pass.new.seat.table_id ≡ pass.old.seat.table_id) × (pass.new.seat.id ≡ pass.old.seat.id) }
     ensures done { HasDone heap.now.key.layout (S.lists heap.now.key.shapes) op (LoadStrong dst at) result
         pass.old.seat.me.0 pass.new.seat.me.0 }
 {
@@ -102,7 +102,7 @@ pub fn get_weak<S: HeapShapes>(
     requires within { at < heap.now.key.layout.weak }
     requires planned { IsPlanned heap.now.key.layout (S.lists heap.now.key.shapes) pass.old.seat.me.0 op
         (LoadWeak dst at) }
-    ensures same { (pass.new.seat.table_id ≡ pass.old.seat.table_id) × (pass.new.seat.id ≡ pass.old.seat.id) }
+    ensures same_pass { (pass.new.seat.table_id ≡ pass.old.seat.table_id) × (pass.new.seat.id ≡ pass.old.seat.id) }
     ensures done { HasDone heap.now.key.layout (S.lists heap.now.key.shapes) op (LoadWeak dst at) result
         pass.old.seat.me.0 pass.new.seat.me.0 }
 {

@@ -1,6 +1,6 @@
 //! Calls on the pairs of a table that their mutator claims.
 ghost use Rattle.std.specs.Prelude.{◌≡◌, ◌+◌, ◌%◌, ◌^◌, ◌<◌, length};
-ghost use Rattle.tide_heap.specs.tide_call.declared.plan.Plan.TheVariants.{ClearPair, Show, StorePair};
+ghost use Rattle.tide_heap.specs.tide_call.declared.action.Action.TheVariants.{ClearPair, Show, StorePair};
 ghost use Rattle.tide_heap.specs.tide_layout.Slots.{HasSlot};
 ghost use Rattle.tide_mutator.specs.owed.Calling.{IsCalling};
 ghost use Rattle.tide_mutator.specs.owed.Made.{HasDone};
@@ -29,7 +29,7 @@ pub fn put_pair<S: HeapShapes>(
     requires few { key < max_cells }
     requires planned { IsPlanned heap.now.key.layout (S.lists heap.now.key.shapes) pass.old.seat.me.0 op
         (StorePair table place key value) }
-    ensures same { (pass.new.seat.table_id ≡ pass.old.seat.table_id) × (pass.new.seat.id ≡ pass.old.seat.id) }
+    ensures same_pass { (pass.new.seat.table_id ≡ pass.old.seat.table_id) × (pass.new.seat.id ≡ pass.old.seat.id) }
     ensures done { HasDone heap.now.key.layout (S.lists heap.now.key.shapes) op (StorePair table place key value) result
         pass.old.seat.me.0 pass.new.seat.me.0 }
 {
@@ -53,7 +53,7 @@ pub fn drop_pair<S: HeapShapes>(
     requires within { HasSlot heap.now.key.layout table place }
     requires planned { IsPlanned heap.now.key.layout (S.lists heap.now.key.shapes) pass.old.seat.me.0 op
         (ClearPair table place) }
-    ensures same { (pass.new.seat.table_id ≡ pass.old.seat.table_id) × (pass.new.seat.id ≡ pass.old.seat.id) }
+    ensures same_pass { (pass.new.seat.table_id ≡ pass.old.seat.table_id) × (pass.new.seat.id ≡ pass.old.seat.id) }
     ensures done { HasDone heap.now.key.layout (S.lists heap.now.key.shapes) op (ClearPair table place) result
         pass.old.seat.me.0 pass.new.seat.me.0 }
 {
@@ -80,7 +80,7 @@ pub fn get_pair<S: HeapShapes>(
     requires register { dst < heap.now.key.layout.registers }
     requires planned { IsPlanned heap.now.key.layout (S.lists heap.now.key.shapes) pass.old.seat.me.0 op
         (Show dst table place value) }
-    ensures same { (pass.new.seat.table_id ≡ pass.old.seat.table_id) × (pass.new.seat.id ≡ pass.old.seat.id) }
+    ensures same_pass { (pass.new.seat.table_id ≡ pass.old.seat.table_id) × (pass.new.seat.id ≡ pass.old.seat.id) }
     ensures done { HasDone heap.now.key.layout (S.lists heap.now.key.shapes) op (Show dst table place value) result
         pass.old.seat.me.0 pass.new.seat.me.0 }
 {

@@ -1,13 +1,13 @@
 //! Calls on slots of cells.
 ghost use Rattle.std.specs.Prelude.{◌≡◌, ◌+◌, ◌%◌, ◌^◌, ◌<◌, length, true};
-ghost use Rattle.tide_heap.specs.tide_call.Plans.{is_told_by_registers};
-ghost use Rattle.tide_heap.specs.tide_call.declared.plan.Plan.TheVariants.{LoadSlot, StoreSlot};
+ghost use Rattle.tide_heap.specs.tide_call.Actions.{is_told_by_registers};
+ghost use Rattle.tide_heap.specs.tide_call.declared.action.Action.TheVariants.{LoadSlot, StoreSlot};
 ghost use Rattle.tide_heap.specs.tide_layout.Slots.{HasSlot};
 ghost use Rattle.tide_mutator.specs.owed.Calling.{IsCalling};
 ghost use Rattle.tide_mutator.specs.owed.Made.{HasDone};
 ghost use Rattle.tide_mutator.specs.owed.Standing.{IsPlanned};
 
-use crate::owed::{shade_for, show};
+use crate::owed::{show, write_barrier};
 use tide_heap::{Heap, HeapShapes, Pass, val_word};
 use tide_model::{Op, Reply, Turnstile, Val};
 
@@ -29,7 +29,7 @@ pub fn get<S: HeapShapes>(
     requires within { HasSlot heap.now.key.layout cell slot }
     requires planned { IsPlanned heap.now.key.layout (S.lists heap.now.key.shapes) pass.old.seat.me.0 op
         (LoadSlot dst cell slot) }
-    ensures same { (pass.new.seat.table_id ≡ pass.old.seat.table_id) × (pass.new.seat.id ≡ pass.old.seat.id) }
+    ensures same_pass { (pass.new.seat.table_id ≡ pass.old.seat.table_id) × (pass.new.seat.id ≡ pass.old.seat.id) }
     ensures done { HasDone heap.now.key.layout (S.lists heap.now.key.shapes) op (LoadSlot dst cell slot) result
         pass.old.seat.me.0 pass.new.seat.me.0 }
 {
@@ -55,13 +55,13 @@ pub fn put<S: HeapShapes, T: Turnstile>(
     requires within { HasSlot heap.now.key.layout cell slot }
     requires planned { IsPlanned heap.now.key.layout (S.lists heap.now.key.shapes) pass.old.seat.me.0 op
         (StoreSlot cell slot value) }
-    ensures same { (pass.new.seat.table_id ≡ pass.old.seat.table_id) × (pass.new.seat.id ≡ pass.old.seat.id) }
+    ensures same_pass { (pass.new.seat.table_id ≡ pass.old.seat.table_id) × (pass.new.seat.id ≡ pass.old.seat.id) }
     ensures done { HasDone heap.now.key.layout (S.lists heap.now.key.shapes) op (StoreSlot cell slot value) result
         pass.old.seat.me.0 pass.new.seat.me.0 }
 {
     let word = val_word(value);
     pass.store_link(heap, cell, slot, word, Some(op));
-    shade_for(pass, heap, gate, cell, value);
+    write_barrier(pass, heap, gate, cell, value);
     pass.store_call(heap, calls, None);
     Reply::Done
 }

@@ -27,7 +27,7 @@ pub fn replace<S: HeapShapes, T: Turnstile>(
     requires holds { HasElement heap.now.key.layout taken growth.addition.count }
     requires owes { OwesGrowth heap.now.key.layout pass.old.seat.me.0 pass.old.seat.me.0 growth taken words.now
         (growth.addition.count + 1) }
-    ensures same { (pass.new.seat.table_id ≡ pass.old.seat.table_id) × (pass.new.seat.id ≡ pass.old.seat.id) }
+    ensures same_pass { (pass.new.seat.table_id ≡ pass.old.seat.table_id) × (pass.new.seat.id ≡ pass.old.seat.id) }
     ensures replaced { HasReplaced pass.old.seat.me.0 pass.new.seat.me.0 }
 {
     // The array is full before a word names it: until then the old one says what the structure tells (`ArraysStand`,
@@ -35,10 +35,10 @@ pub fn replace<S: HeapShapes, T: Turnstile>(
     for place in (0..growth.addition.count + 1).rev() {
         pass.store_element(heap, taken, place, words[usize::from(place)], None);
     }
-    // A scan loads the structure, then the array, then the structure again, and marks only where both are one word
-    // that isn't nuked. The array is stored between two changes of the structure, each stage of which the view tells
-    // (`GrowthsAreRight`, tide_core/specs/machine/points/Growths.antt), so such a scan loaded the array of its structure
-    // (`ScansAreRight`, points/Scans.antt).
+    // A scan loads the structure, then the array, then the structure again, and marks only where both are one word that
+    // isn't nuked. The array is stored between two changes of the structure, each stage of which the view tells
+    // (`GrowthsAreRight`, tide_core/specs/machine/points/Growths.antt), so such a scan loaded the array of its
+    // structure (`ScansAreRight`, points/Scans.antt).
     pass.nuke(heap, growth.addition.cell, growth.old + 1);
     gate.at(pass.who(), Place::Nuked, growth.addition.cell);
     pass.store_array(heap, growth.addition.cell, taken);

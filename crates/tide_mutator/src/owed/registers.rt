@@ -14,7 +14,7 @@ pub fn pay<S: HeapShapes>(pass: &mut Pass, heap: &Heap<S>, calls: u64, dst: u8, 
     requires owing { OwesRegister heap.now.key.layout pass.old.seat.me.0 dst value }
     requires within { dst < heap.now.key.layout.registers }
     requires counts { calls ≡ length pass.old.seat.me.0.mine % 2 ^ 64 }
-    ensures same { (pass.new.seat.table_id ≡ pass.old.seat.table_id) × (pass.new.seat.id ≡ pass.old.seat.id) }
+    ensures same_pass { (pass.new.seat.table_id ≡ pass.old.seat.table_id) × (pass.new.seat.id ≡ pass.old.seat.id) }
     ensures paid { HasPaid pass.old.seat.me.0 pass.new.seat.me.0 }
 {
     pass.store_register(heap, dst, val_word(value), None);
@@ -31,7 +31,7 @@ pub fn show<S: HeapShapes>(pass: &mut Pass, heap: &Heap<S>, calls: u64, dst: u8,
     requires owing { OwesRegister heap.now.key.layout pass.old.seat.me.0 dst (value_of word) }
     requires within { dst < heap.now.key.layout.registers }
     requires counts { calls ≡ length pass.old.seat.me.0.mine % 2 ^ 64 }
-    ensures same { (pass.new.seat.table_id ≡ pass.old.seat.table_id) × (pass.new.seat.id ≡ pass.old.seat.id) }
+    ensures same_pass { (pass.new.seat.table_id ≡ pass.old.seat.table_id) × (pass.new.seat.id ≡ pass.old.seat.id) }
     ensures reply { result ≡ Seen (value_of word) }
     ensures paid { HasPaid pass.old.seat.me.0 pass.new.seat.me.0 }
 {

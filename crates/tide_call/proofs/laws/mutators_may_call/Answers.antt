@@ -1,4 +1,4 @@
-use Rattle.tide_call.proofs.plan_laws.Callers.{mutators_may_call}
+use Rattle.tide_call.proofs.action_laws.Callers.{mutators_may_call}
 use Rattle.tide_call.proofs.laws.mutators_may_call.Goals as goal
 
 pub returns : goal.returns

@@ -5,14 +5,14 @@ use Rattle.tide_mutator.proofs.owed_laws.Entering.{made_by, may_call, none_born,
 use Rattle.tide_mutator.proofs.owed_laws.Standing.{moment_in, stands_then}
 use Rattle.tide_mutator.specs.owed.Calling.{IsCalling}
 use Rattle.tide_mutator.specs.owed.Made.{HasMade, IsMade, Shown}
-use Rattle.tide_mutator.specs.owed.Standing.{IsPlanned, StandsAt, caller_of}
-use Rattle.tide_heap.specs.tide_call.Callers.{Caller}
-use Rattle.tide_heap.specs.tide_call.PlanWords.{PlanWords}
-use Rattle.tide_heap.specs.tide_call.Plans.{HasRoomIn, IsAddition, IsPlan}
+use Rattle.tide_mutator.specs.owed.Standing.{IsPlanned, MutatorStandsAt, caller_of}
+use Rattle.tide_heap.specs.tide_call.Callers.{Planner}
+use Rattle.tide_heap.specs.tide_call.ActionWords.{ActionWords}
+use Rattle.tide_heap.specs.tide_call.Actions.{HasRoomIn, IsAddition, IsAction}
 use Rattle.tide_heap.specs.tide_call.ShapeWord.{whole_word}
-use Rattle.tide_heap.specs.tide_call.declared.additions.Addition.{Addition}
-use Rattle.tide_heap.specs.tide_call.declared.plan.Plan.{Plan}
-use Rattle.tide_heap.specs.tide_call.declared.plan.Plan.TheVariants as plan
+use Rattle.tide_heap.specs.tide_call.declared.action.Addition.{Addition}
+use Rattle.tide_heap.specs.tide_call.declared.action.Action.{Action}
+use Rattle.tide_heap.specs.tide_call.declared.action.Action.TheVariants as action
 use Rattle.tide_heap.specs.tide_layout.Region.{tag}
 use Rattle.tide_heap.specs.tide_layout.Slots.{HasElement, index_of_element}
 use Rattle.tide_heap.specs.tide_layout.declared.region.Region.{Region}
@@ -44,7 +44,7 @@ use Rattle.tide_heap.specs.tide_words.forms.ValueWord.{val_word}
 use Rattle.tide_heap.specs.tide_words.heap.Heap.{Heap, write}
 
 -- an addition that nothing refuses is to a cell that its caller claims
-held_by : (caller : Caller) (state : State) (src key val cell : ℕ) → state.registers caller.who src ≡ Cell cell →
+held_by : (caller : Planner) (state : State) (src key val cell : ℕ) → state.registers caller.who src ≡ Cell cell →
     refusal_of caller.layout caller.shapes state caller.who (Add src key val) ≡ None →
     holds state caller.who cell ≡ true
 held_by caller state src key val cell source none =
@@ -60,8 +60,8 @@ held_by caller state src key val cell source none =
     by_tests false true is = refl
     by_tests false false is = absurd (cc)
 
--- which operation has such a plan
-record IsAppend (caller : Caller) (state : State) (op : Op) (addition : Addition) (array : ℕ) (value : Val)
+-- which operation has such an action
+record IsAppend (caller : Planner) (state : State) (op : Op) (addition : Addition) (array : ℕ) (value : Val)
     : Type 0 where
   src : ℕ
   key : ℕ
@@ -73,8 +73,8 @@ record IsAppend (caller : Caller) (state : State) (op : Op) (addition : Addition
   room : HasRoomIn caller state addition.cell array
   is_value : value ≡ state.registers caller.who val
 
-is_append : (caller : Caller) (heap : Heap) (state : State) (op : Op) (addition : Addition) (array : ℕ) (value : Val) →
-    IsPlan caller heap state op (plan.Append addition array value) → IsAppend caller state op addition array value
+is_append : (caller : Planner) (heap : Heap) (state : State) (op : Op) (addition : Addition) (array : ℕ) (value : Val) →
+    IsAction caller heap state op (action.Append addition array value) → IsAppend caller state op addition array value
 is_append caller heap state (Add src key val) addition array value (granted, (one, source, adds, does)) = elim does [
   | inl (its, room, same) ↦
       let same_addition : one ≡ addition = cc in
@@ -100,12 +100,12 @@ is_append caller heap state op addition array value is = absurd (cc)
 
 module _ (layout : Layout) (shapes : ShapeLists) (v : View) (op : Op) (addition : Addition) (array : ℕ) (value : Val)
     (has : HasElement layout array addition.count) (calling : IsCalling layout v op)
-    (planned : IsPlanned layout shapes v op (plan.Append addition array value)) where
+    (planned : IsPlanned layout shapes v op (action.Append addition array value)) where
   abbrev at : ℕ
   at = index_of_element layout array addition.count
 
-  abbrev does : Plan
-  does = plan.Append addition array value
+  abbrev does : Action
+  does = action.Append addition array value
 
   abbrev whole : ℕ
   whole = whole_word addition.next (addition.count + 1)
@@ -145,7 +145,7 @@ module _ (layout : Layout) (shapes : ShapeLists) (v : View) (op : Op) (addition 
 
   -- with the element stored, the structure with one key more makes the call
   module _ (knows : Knows v region.Elements at (val_word value)) where
-    add_words : (settled : Heap) → PlanWords layout settled v.who does Done None
+    add_words : (settled : Heap) → ActionWords layout settled v.who does Done None
         (write (write settled region.Elements at (val_word value)) region.Structure addition.cell whole)
     add_words settled = (
       refl,
@@ -210,7 +210,7 @@ module _ (layout : Layout) (shapes : ShapeLists) (v : View) (op : Op) (addition 
 -- what the store of the element leaves: the call is planned as it was
 module _ (layout : Layout) (shapes : ShapeLists) (v : View) (op : Op) (addition : Addition) (array : ℕ) (value : Val)
     (has : HasElement layout array addition.count) (calling : IsCalling layout v op)
-    (planned : IsPlanned layout shapes v op (plan.Append addition array value)) (word : ℕ) (is : word ≡ val_word value)
+    (planned : IsPlanned layout shapes v op (action.Append addition array value)) (word : ℕ) (is : word ≡ val_word value)
     (u : View) (f : FollowsSome layout shapes (StoreElement array addition.count word None) v u) where
   abbrev place : ℕ
   place = index_of_element layout array addition.count
@@ -233,8 +233,8 @@ module _ (layout : Layout) (shapes : ShapeLists) (v : View) (op : Op) (addition 
       (owed_word at index x) (ap (λ (b : Bool). not (b && (index == place))) apart) knew in
       (suc k, omega (arith, below), there)
 
-  stood_before : (heap : Heap) (log : List Event) → StandsAt layout shapes stored_view heap log →
-      StandsAt layout shapes v heap log
+  stood_before : (heap : Heap) (log : List Event) → MutatorStandsAt layout shapes stored_view heap log →
+      MutatorStandsAt layout shapes v heap log
   stood_before heap log s = record {
     lawful = s.lawful;
     own = s.own;
@@ -263,8 +263,8 @@ module _ (layout : Layout) (shapes : ShapeLists) (v : View) (op : Op) (addition 
     bare = calling.bare;
   }
 
-  planned_still : IsPlanned layout shapes u op (plan.Append addition array value)
-  planned_still = subst (λ (x : View). IsPlanned layout shapes x op (plan.Append addition array value)) (sym is_stored)
+  planned_still : IsPlanned layout shapes u op (action.Append addition array value)
+  planned_still = subst (λ (x : View). IsPlanned layout shapes x op (action.Append addition array value)) (sym is_stored)
       (λ heap log s. planned heap log (stood_before heap log s))
 
   knows_it : Knows u region.Elements place (val_word value)
@@ -275,8 +275,8 @@ module _ (layout : Layout) (shapes : ShapeLists) (v : View) (op : Op) (addition 
   stored_runs = calling_still.runs
 
   -- a call that was made after it, was made of the view before it
-  made_before : (after : Shown) → IsMade layout shapes op (plan.Append addition array value) Done stored_view after →
-      IsMade layout shapes op (plan.Append addition array value) Done v after
+  made_before : (after : Shown) → IsMade layout shapes op (action.Append addition array value) Done stored_view after →
+      IsMade layout shapes op (action.Append addition array value) Done v after
   made_before after m = record {
     took = m.took;
     log = m.log;
@@ -302,10 +302,10 @@ module _ (layout : Layout) (shapes : ShapeLists) (v : View) (op : Op) (addition 
 
     pub added_by : (after : View) →
         FollowsSome layout shapes (StoreStructure addition.cell structure (Some op)) u after →
-        HasMade layout shapes op (plan.Append addition array value) Done v after []
+        HasMade layout shapes op (action.Append addition array value) Done v after []
         (barrier_for addition.cell (val_word value))
     added_by after g =
-        let made = subst (λ (x : View). HasMade layout shapes op (plan.Append addition array value) Done x after []
+        let made = subst (λ (x : View). HasMade layout shapes op (action.Append addition array value) Done x after []
         (barrier_for addition.cell (val_word value))) is_stored
         (added layout shapes u op addition array value has calling_still planned_still knows_it after
         (subst (λ (x : ℕ). FollowsSome layout shapes (StoreStructure addition.cell x (Some op)) u after) same g)) in

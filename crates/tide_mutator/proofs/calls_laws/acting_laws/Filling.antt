@@ -1,9 +1,9 @@
 -- Move, Set and Drop: the store of the register makes the call.
 use Rattle.std.proofs.Common.{ℕ, ◌≡◌, refl, sym, ◌∙◌, ap, subst, true, [], None, Some}
-use Rattle.tide_heap.specs.tide_call.Callers.{Caller}
-use Rattle.tide_heap.specs.tide_call.PlanWords.{PlanWords}
-use Rattle.tide_heap.specs.tide_call.Plans.{IsPlan, is_told_by_registers}
-use Rattle.tide_heap.specs.tide_call.declared.plan.Plan.TheVariants as plan
+use Rattle.tide_heap.specs.tide_call.Callers.{Planner}
+use Rattle.tide_heap.specs.tide_call.ActionWords.{ActionWords}
+use Rattle.tide_heap.specs.tide_call.Actions.{IsAction, is_told_by_registers}
+use Rattle.tide_heap.specs.tide_call.declared.action.Action.TheVariants as action
 use Rattle.tide_heap.specs.tide_layout.Region.{index_of_register}
 use Rattle.tide_heap.specs.tide_layout.declared.region.Region.TheVariants.{Registers}
 use Rattle.tide_heap.specs.tide_core.machine.Kind.{StoreRegister}
@@ -29,15 +29,15 @@ use Rattle.tide_heap.specs.steps.Follows.{FollowsSome, MayStep}
 use Rattle.tide_heap.specs.tide_words.forms.ValueWord.{val_word}
 use Rattle.tide_heap.specs.tide_words.heap.Heap.{Heap, write}
 
--- the words of the plan
+-- the words of the action
 fills : (layout : Layout) (heap : Heap) (who dst : ℕ) (value : Val) →
-    PlanWords layout heap who (plan.Fill dst value) Done None
+    ActionWords layout heap who (action.Fill dst value) Done None
     (write heap Registers (index_of_register layout who dst) (val_word value))
 fills layout heap who dst value = (refl, λ region index below. refl)
 
--- which operation has such a plan
-stores : (caller : Caller) (heap : Heap) (state : State) (op : Op) (dst : ℕ) (value : Val) →
-    is_told_by_registers op ≡ true → IsPlan caller heap state op (plan.Fill dst value) →
+-- which operation has such an action
+stores : (caller : Planner) (heap : Heap) (state : State) (op : Op) (dst : ℕ) (value : Val) →
+    is_told_by_registers op ≡ true → IsAction caller heap state op (action.Fill dst value) →
     StoresRegister state caller.who dst (val_word value) op
 stores caller heap state (Move d src) dst value told is =
     let register : d ≡ dst = cc in
@@ -50,22 +50,22 @@ stores caller heap state (Claim src) dst value told is = absurd is.1
 stores caller heap state op dst value told is = absurd (cc)
 
 module _ (layout : Layout) (shapes : ShapeLists) (v : View) (op : Op) (dst : ℕ) (value : Val)
-    (calling : IsCalling layout v op) (planned : IsPlanned layout shapes v op (plan.Fill dst value)) where
+    (calling : IsCalling layout v op) (planned : IsPlanned layout shapes v op (action.Fill dst value)) where
   pub may_fill : is_told_by_registers op ≡ true →
       MayStep layout shapes v (StoreRegister dst (val_word value) (Some op))
   may_fill told w running is =
       let index = index_of_register layout v.who dst in
       let m = moment_in layout shapes w v Registers index running is in (
-        may_call layout shapes w v op (plan.Fill dst value) Done None Registers index (w.heap Registers index) is calling
+        may_call layout shapes w v op (action.Fill dst value) Done None Registers index (w.heap Registers index) is calling
             planned m _ (fills layout m.settled v.who dst value) (λ class full. absurd (cc)),
         stores (caller_of layout shapes v) m.settled (state_after layout w.log) op dst value told
             (planned m.settled w.log (stands_then layout shapes v w.log Registers index _ calling.stays m)),
       )
 
   pub filled_by : (u : View) → FollowsSome layout shapes (StoreRegister dst (val_word value) (Some op)) v u →
-      HasMade layout shapes op (plan.Fill dst value) Done v u [] Nothing
+      HasMade layout shapes op (action.Fill dst value) Done v u [] Nothing
   filled_by u f = record {
-    made = made_by layout shapes op (plan.Fill dst value) Done None v u (called [] v) f.1.log Registers
+    made = made_by layout shapes op (action.Fill dst value) Done None v u (called [] v) f.1.log Registers
         (index_of_register layout v.who dst) f.0 calling f.1.moment f.1.lawful f.1.own f.1.view _
         (fills layout f.1.moment.settled v.who dst value) refl refl (λ stays. refl) (λ is. absurd (cc)) (none_born v.born);
     owed = ap (λ (x : View). x.owed) f.1.view;
@@ -80,6 +80,6 @@ module _ (layout : Layout) (shapes : ShapeLists) (v : View) (op : Op) (dst : ℕ
 
   pub filled_with : (word : ℕ) → word ≡ val_word value → (u : View) →
       FollowsSome layout shapes (StoreRegister dst word (Some op)) v u →
-      HasMade layout shapes op (plan.Fill dst value) Done v u [] Nothing
+      HasMade layout shapes op (action.Fill dst value) Done v u [] Nothing
   filled_with word is u f =
       filled_by u (subst (λ (x : ℕ). FollowsSome layout shapes (StoreRegister dst x (Some op)) v u) is f)

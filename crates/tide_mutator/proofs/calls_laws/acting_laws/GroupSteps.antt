@@ -1,8 +1,8 @@
 -- Group: the store of the group word makes the call.
 use Rattle.std.proofs.Common.{ℕ, ◌≡◌, refl, sym, ◌∙◌, ap, subst, true, [], None, Some}
-use Rattle.tide_heap.specs.tide_call.Callers.{Caller}
-use Rattle.tide_heap.specs.tide_call.Plans.{IsPlan, is_told_by_registers}
-use Rattle.tide_heap.specs.tide_call.declared.plan.Plan.TheVariants as plan
+use Rattle.tide_heap.specs.tide_call.Callers.{Planner}
+use Rattle.tide_heap.specs.tide_call.Actions.{IsAction, is_told_by_registers}
+use Rattle.tide_heap.specs.tide_call.declared.action.Action.TheVariants as action
 use Rattle.tide_heap.specs.tide_layout.declared.region.Region.TheVariants as region
 use Rattle.tide_heap.specs.tide_core.machine.Kind.{StoreGroup}
 use Rattle.tide_heap.specs.tide_core.machine.May.{MayCall, called}
@@ -25,14 +25,14 @@ use Rattle.tide_mutator.specs.owed.Standing.{IsPlanned, caller_of}
 use Rattle.tide_heap.specs.steps.Follows.{FollowsSome, MayStep}
 use Rattle.tide_heap.specs.tide_words.heap.Heap.{Heap, write}
 
--- which operation has such a plan
-record IsGroup (caller : Caller) (state : State) (op : Op) (cell group : ℕ) : Type 0 where
+-- which operation has such an action
+record IsGroup (caller : Planner) (state : State) (op : Op) (cell group : ℕ) : Type 0 where
   src : ℕ
   same : op ≡ Group src group
   source : state.registers caller.who src ≡ Cell cell
 
-is_group : (caller : Caller) (heap : Heap) (state : State) (op : Op) (cell group : ℕ) → is_told_by_registers op ≡ true →
-    IsPlan caller heap state op (plan.Join cell group) → IsGroup caller state op cell group
+is_group : (caller : Planner) (heap : Heap) (state : State) (op : Op) (cell group : ℕ) → is_told_by_registers op ≡ true →
+    IsAction caller heap state op (action.Join cell group) → IsGroup caller state op cell group
 is_group caller heap state (Group src n) cell group told (granted, (at, source, is)) =
     let number : n ≡ group = cc in
     let same : at ≡ cell = cc in record {
@@ -45,7 +45,7 @@ is_group caller heap state op cell group told is = absurd (cc)
 
 module _ (layout : Layout) (shapes : ShapeLists) (v : View) (op : Op) (cell group : ℕ)
     (calling : IsCalling layout v op) (told : is_told_by_registers op ≡ true)
-    (planned : IsPlanned layout shapes v op (plan.Join cell group)) where
+    (planned : IsPlanned layout shapes v op (action.Join cell group)) where
   may_group : MayStep layout shapes v (StoreGroup cell group (Some op))
   may_group w running is =
       let read = w.heap region.Group cell in
@@ -56,15 +56,15 @@ module _ (layout : Layout) (shapes : ShapeLists) (v : View) (op : Op) (cell grou
         here.source,
         refl,
         subst (λ (o : Op). MayCall layout shapes w v.who o Done None) here.same
-            (may_call layout shapes w v op (plan.Join cell group) Done None region.Group cell read is calling
+            (may_call layout shapes w v op (action.Join cell group) Done None region.Group cell read is calling
             planned m (write m.settled region.Group cell group) (refl, λ other index within. refl)
             (λ class full. absurd (cc))),
       )
 
   grouped : (u : View) → FollowsSome layout shapes (StoreGroup cell group (Some op)) v u →
-      HasMade layout shapes op (plan.Join cell group) Done v u [] Nothing
+      HasMade layout shapes op (action.Join cell group) Done v u [] Nothing
   grouped u f = record {
-    made = made_by layout shapes op (plan.Join cell group) Done None v u (called [] v) f.1.log region.Group cell f.0 calling
+    made = made_by layout shapes op (action.Join cell group) Done None v u (called [] v) f.1.log region.Group cell f.0 calling
         f.1.moment f.1.lawful f.1.own f.1.view (write f.1.moment.settled region.Group cell group)
         (refl, λ other index within. refl) refl refl (λ stays. refl) (λ is. absurd (cc)) (none_born v.born);
     owed = ap (λ (x : View). x.owed) f.1.view;
@@ -77,5 +77,5 @@ module _ (layout : Layout) (shapes : ShapeLists) (v : View) (op : Op) (cell grou
     may_join = subst (λ (x : ℕ). MayStep layout shapes v (StoreGroup cell x (Some op))) (sym is) may_group
 
     pub joined_by : (u : View) → FollowsSome layout shapes (StoreGroup cell word (Some op)) v u →
-        HasMade layout shapes op (plan.Join cell group) Done v u [] Nothing
+        HasMade layout shapes op (action.Join cell group) Done v u [] Nothing
     joined_by u f = grouped u (subst (λ (x : ℕ). FollowsSome layout shapes (StoreGroup cell x (Some op)) v u) is f)

@@ -9,10 +9,10 @@ use Rattle.tide_mutator.proofs.cells_laws.Values.{value_read}
 use Rattle.tide_mutator.specs.owed.Calling.{IsCalling, Kept}
 use Rattle.tide_mutator.specs.owed.Made.{HasMade}
 use Rattle.tide_mutator.specs.owed.Standing.{IsPlanned, caller_of}
-use Rattle.tide_heap.specs.tide_call.Callers.{Caller}
-use Rattle.tide_heap.specs.tide_call.PlanWords.{PlanWords}
-use Rattle.tide_heap.specs.tide_call.Plans.{IsPlan}
-use Rattle.tide_heap.specs.tide_call.declared.plan.Plan.TheVariants as plan
+use Rattle.tide_heap.specs.tide_call.Callers.{Planner}
+use Rattle.tide_heap.specs.tide_call.ActionWords.{ActionWords}
+use Rattle.tide_heap.specs.tide_call.Actions.{IsAction}
+use Rattle.tide_heap.specs.tide_call.declared.action.Action.TheVariants as action
 use Rattle.tide_heap.specs.tide_layout.Region.{index_of_register}
 use Rattle.tide_heap.specs.tide_layout.Slots.{HasElement, index_of_element}
 use Rattle.tide_heap.specs.tide_layout.declared.region.Region.TheVariants as region
@@ -46,14 +46,14 @@ use Rattle.tide_heap.specs.tide_words.heap.Heap.{Heap, write}
 use Rattle.tide_heap.specs.tide_words.heap.Reading.{IsValueOf, element_word}
 
 -- a property that nothing refuses: the mutator claims its cell, and its element is of the cell's array
-record HasProperty (caller : Caller) (state : State) (src key cell array place : ℕ) : Type 0 where
+record HasProperty (caller : Planner) (state : State) (src key cell array place : ℕ) : Type 0 where
   source : state.registers caller.who src ≡ Cell cell
   held : holds state caller.who cell ≡ true
   is_array : (state.cells cell).array ≡ Some array
   is_place : place ≡ place_of (state.cells cell).keys key
 
 -- an operation on a property that nothing refuses is on a cell that its caller claims
-held_by : (caller : Caller) (state : State) (src key cell : ℕ) → state.registers caller.who src ≡ Cell cell →
+held_by : (caller : Planner) (state : State) (src key cell : ℕ) → state.registers caller.who src ≡ Cell cell →
     property_refusal caller.layout state caller.who src key ≡ None → holds state caller.who cell ≡ true
 held_by caller state src key cell source none =
     by_tests (is_table caller.layout cell) (holds state caller.who cell) (subst (λ (v : Val). refusal_at v src (λ c.
@@ -66,16 +66,16 @@ held_by caller state src key cell source none =
     by_tests false true is = refl
     by_tests false false is = absurd (cc)
 
--- which operation has such a plan
-record IsRead (caller : Caller) (state : State) (op : Op) (dst array place : ℕ) : Type 0 where
+-- which operation has such an action
+record IsRead (caller : Planner) (state : State) (op : Op) (dst array place : ℕ) : Type 0 where
   src : ℕ
   key : ℕ
   cell : ℕ
   same : op ≡ GetProp dst src key
   of : HasProperty caller state src key cell array place
 
-is_read_op : (caller : Caller) (heap : Heap) (state : State) (op : Op) (dst array place : ℕ) →
-    IsPlan caller heap state op (plan.LoadElement dst array place) → IsRead caller state op dst array place
+is_read_op : (caller : Planner) (heap : Heap) (state : State) (op : Op) (dst array place : ℕ) →
+    IsAction caller heap state op (action.LoadElement dst array place) → IsRead caller state op dst array place
 is_read_op caller heap state (GetProp d src key) dst array place (granted, (c, a, source, its, has, is)) =
     let same_register : d ≡ dst = cc in
     let same_array : a ≡ array = cc in
@@ -98,7 +98,7 @@ is_read_op caller heap state (Add src name val) dst array place is = elim is.1.3
 ]
 is_read_op caller heap state op dst array place is = absurd (cc)
 
-record IsWrite (caller : Caller) (state : State) (op : Op) (cell array place : ℕ) (value : Val) : Type 0 where
+record IsWrite (caller : Planner) (state : State) (op : Op) (cell array place : ℕ) (value : Val) : Type 0 where
   src : ℕ
   key : ℕ
   val : ℕ
@@ -106,8 +106,8 @@ record IsWrite (caller : Caller) (state : State) (op : Op) (cell array place : �
   of : HasProperty caller state src key cell array place
   is_value : value ≡ state.registers caller.who val
 
-is_write_op : (caller : Caller) (heap : Heap) (state : State) (op : Op) (cell array place : ℕ) (value : Val) →
-    IsPlan caller heap state op (plan.StoreElement cell array place value) →
+is_write_op : (caller : Planner) (heap : Heap) (state : State) (op : Op) (cell array place : ℕ) (value : Val) →
+    IsAction caller heap state op (action.StoreElement cell array place value) →
     IsWrite caller state op cell array place value
 is_write_op caller heap state (SetProp src key val) cell array place value (granted, (c, a, source, its, has, is)) =
     let same_cell : c ≡ cell = cc in
@@ -151,7 +151,7 @@ module _ (layout : Layout) (shapes : ShapeLists) (v : View) (op : Op) (array pla
   }
 
   -- reading
-  module _ (dst : ℕ) (planned : IsPlanned layout shapes v op (plan.LoadElement dst array place)) where
+  module _ (dst : ℕ) (planned : IsPlanned layout shapes v op (action.LoadElement dst array place)) where
     module _ (log : List Event) (read : ℕ) (m : Moment layout shapes v log region.Elements at read) where
       read_here : IsRead (caller_of layout shapes v) (state_after layout log) op dst array place
       read_here = is_read_op (caller_of layout shapes v) m.settled (state_after layout log) op dst array place
@@ -166,12 +166,12 @@ module _ (layout : Layout) (shapes : ShapeLists) (v : View) (op : Op) (array pla
       -- what the element's word says
       pub element_value : IsValueOf (value_of read) read
       element_value =
-          let (value, is) = (fits_there layout shapes v op (plan.LoadElement dst array place) m.settled log calling.limits
+          let (value, is) = (fits_there layout shapes v op (action.LoadElement dst array place) m.settled log calling.limits
           calling.fits calling.is_mutator
           (stands_then layout shapes v log region.Elements at read calling.stays m) planned).2 in
           value_read value read (subst (λ (word : ℕ). IsValueOf value word) element_found is)
 
-      read_words : PlanWords layout m.settled v.who (plan.LoadElement dst array place) (Seen (value_of read)) None
+      read_words : ActionWords layout m.settled v.who (action.LoadElement dst array place) (Seen (value_of read)) None
           (write m.settled region.Registers (index_of_register layout v.who dst) (val_word (value_of read)))
       read_words = (
         refl,
@@ -189,17 +189,17 @@ module _ (layout : Layout) (shapes : ShapeLists) (v : View) (op : Op) (array pla
           source = here.of.source;
           is_place = here.of.is_place;
           may = subst (λ (o : Op). MayCall layout shapes w v.who o (Seen (value_of read)) None) here.same
-              (may_call layout shapes w v op (plan.LoadElement dst array place) (Seen (value_of read)) None region.Elements at
+              (may_call layout shapes w v op (action.LoadElement dst array place) (Seen (value_of read)) None region.Elements at
               read is calling planned m
               (write m.settled region.Registers (index_of_register layout v.who dst) (val_word (value_of read)))
               (read_words w.log read m) (λ class full. absurd (cc)));
         }
 
     pub got_property_by : (read : ℕ) (u : View) → Follows layout shapes (LoadElement array place (Some op)) v read u →
-        HasMade layout shapes op (plan.LoadElement dst array place) (Seen (value_of read)) v u
+        HasMade layout shapes op (action.LoadElement dst array place) (Seen (value_of read)) v u
         (owed_register layout v.who (Some dst) (value_of read)) Nothing
     got_property_by read u f = record {
-      made = made_by layout shapes op (plan.LoadElement dst array place) (Seen (value_of read)) None v u
+      made = made_by layout shapes op (action.LoadElement dst array place) (Seen (value_of read)) None v u
           (element_view layout v.who array place read (Some op) v) f.log region.Elements at read calling f.moment f.lawful
           f.own f.view
           (write f.moment.settled region.Registers (index_of_register layout v.who dst) (val_word (value_of read)))
@@ -211,7 +211,7 @@ module _ (layout : Layout) (shapes : ShapeLists) (v : View) (op : Op) (array pla
     }
 
   -- storing
-  module _ (cell : ℕ) (value : Val) (planned : IsPlanned layout shapes v op (plan.StoreElement cell array place value))
+  module _ (cell : ℕ) (value : Val) (planned : IsPlanned layout shapes v op (action.StoreElement cell array place value))
     where
       write_here : (log : List Event) (read : ℕ) → Moment layout shapes v log region.Elements at read →
           IsWrite (caller_of layout shapes v) (state_after layout log) op cell array place value
@@ -230,7 +230,7 @@ module _ (layout : Layout) (shapes : ShapeLists) (v : View) (op : Op) (array pla
             is_place = here.of.is_place;
             is_word = ap val_word here.is_value;
             may = subst (λ (o : Op). MayCall layout shapes w v.who o Done None) here.same
-                (may_call layout shapes w v op (plan.StoreElement cell array place value) Done None region.Elements at read is
+                (may_call layout shapes w v op (action.StoreElement cell array place value) Done None region.Elements at read is
                 calling planned m (write m.settled region.Elements at (val_word value)) (refl, λ other index within. refl)
                 (λ class full. absurd (cc)));
           }
@@ -239,7 +239,7 @@ module _ (layout : Layout) (shapes : ShapeLists) (v : View) (op : Op) (array pla
       written_view = record (called [] v) { duty = barrier_for cell (val_word value) }
 
       wrote : (u : View) → FollowsSome layout shapes (StoreElement array place (val_word value) (Some op)) v u →
-          HasMade layout shapes op (plan.StoreElement cell array place value) Done v u []
+          HasMade layout shapes op (action.StoreElement cell array place value) Done v u []
           (barrier_for cell (val_word value))
       wrote u f =
           let here = write_here f.1.log f.0 f.1.moment in
@@ -251,7 +251,7 @@ module _ (layout : Layout) (shapes : ShapeLists) (v : View) (op : Op) (array pla
           ∙ ap (λ (x : Val). record (with_entry f.1.log (Some event)
           (record (called [] v) { duty = barrier_for (cell_named x) (val_word value) })) { found = f.0 })
           here.of.source in record {
-            made = made_by layout shapes op (plan.StoreElement cell array place value) Done None v u written_view f.1.log
+            made = made_by layout shapes op (action.StoreElement cell array place value) Done None v u written_view f.1.log
                 region.Elements at f.0 calling f.1.moment f.1.lawful f.1.own view
                 (write f.1.moment.settled region.Elements at (val_word value)) (refl, λ other index within. refl) refl refl
                 (λ stays. refl) (λ is. absurd (cc)) (none_born v.born);
@@ -265,7 +265,7 @@ module _ (layout : Layout) (shapes : ShapeLists) (v : View) (op : Op) (array pla
         may_put_property = subst (λ (x : ℕ). MayStep layout shapes v (StoreElement array place x (Some op))) (sym is) may_write
 
         pub put_property_by : (u : View) → FollowsSome layout shapes (StoreElement array place word (Some op)) v u →
-            HasMade layout shapes op (plan.StoreElement cell array place value) Done v u []
+            HasMade layout shapes op (action.StoreElement cell array place value) Done v u []
             (barrier_for cell (val_word value))
         put_property_by u f =
             wrote u (subst (λ (x : ℕ). FollowsSome layout shapes (StoreElement array place x (Some op)) v u) is f)

@@ -13,7 +13,7 @@ use Rattle.tide_mutator.specs.owed.Standing.{IsPlanned}
 use Rattle.tide_heap.specs.tide_call.ShapeWord.{whole_word}
 use Rattle.tide_mutator.proofs.calls_laws.growth_laws.Reading.{calling_still, planned_still, read_twice, ready_read}
 use Rattle.tide_mutator.proofs.calls_laws.growth_laws.Taking.{elements_had, structure_known, structure_read, structure_small}
-use Rattle.tide_mutator.specs.calls.Growing.{HasRead, HasTaken, IsReady, KnowsElements, plan_of}
+use Rattle.tide_mutator.specs.calls.Growing.{HasRead, HasTaken, IsReady, KnowsElements, action_of}
 use Rattle.tide_mutator.specs.owed.Replacing.{HasReplaced, OwesGrowth, grown_out}
 use Rattle.tide_mutator.specs.declared.owed.growth.Growth.{Growth}
 use Rattle.tide_heap.specs.tide_layout.Slots.{index_of_element}
@@ -33,14 +33,14 @@ use Rattle.tide_heap.specs.tide_words.forms.ValueWord.{val_word}
 
 -- with the structure's word it is ready
 pub ready_first : (layout : Layout) (shapes : ShapeLists) (v u : View) (op : Op) (growth : Growth) →
-    IsCalling layout v op → IsPlanned layout shapes v op (plan_of growth) →
+    IsCalling layout v op → IsPlanned layout shapes v op (action_of growth) →
     MayGrow layout growth.addition growth.array growth.class →
     growth.next ≡ whole_word growth.addition.next (growth.addition.count + 1) →
     Follows layout shapes (LoadOwnStructure growth.addition.cell) v growth.old u → IsReady layout shapes u op growth
 ready_first layout shapes v u op growth calling planned may next f =
     let read = structure_read layout shapes v op growth calling planned growth.old u f in record {
       calling = calling_still v u read layout op calling;
-      planned = planned_still v u read layout op shapes (plan_of growth) planned;
+      planned = planned_still v u read layout op shapes (action_of growth) planned;
       may = may;
       knows = structure_known layout shapes v op growth calling planned growth.old u f;
       small = structure_small layout shapes v op growth calling planned growth.old u f;
@@ -50,7 +50,7 @@ ready_first layout shapes v u op growth calling planned may next f =
 
 -- and it still is once the elements are loaded
 module _ (layout : Layout) (shapes : ShapeLists) (v first loaded : View) (op : Op) (growth : Growth)
-    (calling : IsCalling layout v op) (planned : IsPlanned layout shapes v op (plan_of growth))
+    (calling : IsCalling layout v op) (planned : IsPlanned layout shapes v op (action_of growth))
     (may : MayGrow layout growth.addition growth.array growth.class)
     (next : growth.next ≡ whole_word growth.addition.next (growth.addition.count + 1))
     (f : Follows layout shapes (LoadOwnStructure growth.addition.cell) v growth.old first) (read : HasRead first loaded)
@@ -67,7 +67,7 @@ module _ (layout : Layout) (shapes : ShapeLists) (v first loaded : View) (op : O
 pub taken_before : (layout : Layout) (shapes : ShapeLists) (op : Op) (growth : Growth) (v u w : View) (taken : ℕ) →
     HasLooked v u → HasTaken layout shapes op growth u w taken → HasTaken layout shapes op growth v w taken
 taken_before layout shapes op growth v u w taken h t = record {
-  made = made_looked v u h layout op shapes (plan_of growth) Done (shown (grown_out w)) t.made;
+  made = made_looked v u h layout op shapes (action_of growth) Done (shown (grown_out w)) t.made;
   stage = t.stage;
   duty = t.duty;
   has = t.has;
@@ -104,8 +104,8 @@ module _ (layout : Layout) (shapes : ShapeLists) (op : Op) (growth : Growth) (v 
     owes_first = record {
       properties = t.properties;
       holds = record {
-        is_mutator = still_mutator layout shapes op (plan_of growth) Done v (grown_out u) calling t.made;
-        runs = still_runs layout shapes op (plan_of growth) Done v (grown_out u) calling t.made;
+        is_mutator = still_mutator layout shapes op (action_of growth) Done v (grown_out u) calling t.made;
+        runs = still_runs layout shapes op (action_of growth) Done v (grown_out u) calling t.made;
         shown = refl;
         stage = t.stage;
         owed = t.owed ∙ ap (λ (n : ℕ). owed_word region.Structure growth.addition.cell growth.next
@@ -120,13 +120,13 @@ module _ (layout : Layout) (shapes : ShapeLists) (op : Op) (growth : Growth) (v 
 
   -- once it has replaced the array, the call has its entry and owes the barrier alone
   module _ (w : View) (r : HasReplaced u w) where
-    pub made_replaced : HasMade layout shapes op (plan_of growth) Done v w []
+    pub made_replaced : HasMade layout shapes op (action_of growth) Done v w []
         (barrier_for growth.addition.cell (val_word growth.value))
     made_replaced = record {
-      made = subst (λ (s : Shown). IsMade layout shapes op (plan_of growth) Done v s) (sym r.shown) t.made;
+      made = subst (λ (s : Shown). IsMade layout shapes op (action_of growth) Done v s) (sym r.shown) t.made;
       owed = r.owed;
       duty = r.duty ∙ t.duty;
     }
 
     pub owing_replaced : Owing layout w (barrier_for growth.addition.cell (val_word growth.value))
-    owing_replaced = owing_made layout shapes op (plan_of growth) Done v w _ calling made_replaced
+    owing_replaced = owing_made layout shapes op (action_of growth) Done v w _ calling made_replaced

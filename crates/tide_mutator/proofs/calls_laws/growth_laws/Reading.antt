@@ -7,8 +7,8 @@ use Rattle.tide_mutator.specs.owed.Made.{HasDone, IsMade, Shown, shown}
 use Rattle.tide_mutator.specs.cells.Searching.{HasLooked}
 use Rattle.tide_mutator.specs.owed.Standing.{IsPlanned}
 use Rattle.tide_mutator.proofs.cells_laws.Looking.{calling_still as calling_looked, planned_still as planned_looked}
-use Rattle.tide_heap.specs.tide_call.declared.plan.Plan.{Plan}
-use Rattle.tide_mutator.specs.calls.Growing.{HasRead, IsReady, KnowsElements, plan_of}
+use Rattle.tide_heap.specs.tide_call.declared.action.Action.{Action}
+use Rattle.tide_mutator.specs.calls.Growing.{HasRead, IsReady, KnowsElements, action_of}
 use Rattle.tide_mutator.specs.declared.owed.growth.Growth.{Growth}
 use Rattle.tide_heap.specs.tide_layout.Slots.{index_of_element}
 use Rattle.tide_heap.specs.tide_layout.declared.region.Region.{Region}
@@ -72,7 +72,7 @@ module _ (v u : View) (h : HasRead v u) where
     }
 
     module _ (shapes : ShapeLists) where
-      module _ (does : Plan) where
+      module _ (does : Action) where
         pub planned_still : IsPlanned layout shapes v op does → IsPlanned layout shapes u op does
         planned_still planned = subst (λ (x : View). IsPlanned layout shapes x op does) (sym h.is)
             (λ heap log s. planned heap log record {
@@ -131,7 +131,7 @@ module _ (v u : View) (h : HasRead v u) where
       pub ready_read : (growth : Growth) → IsReady layout shapes v op growth → IsReady layout shapes u op growth
       ready_read growth r = record {
         calling = calling_still r.calling;
-        planned = planned_still (plan_of growth) r.planned;
+        planned = planned_still (action_of growth) r.planned;
         may = r.may;
         knows = knows_still region.Structure growth.addition.cell growth.old r.knows;
         small = r.small;
@@ -144,7 +144,7 @@ pub ready_looked : (layout : Layout) (shapes : ShapeLists) (v u : View) (op : Op
     IsReady layout shapes v op growth → IsReady layout shapes u op growth
 ready_looked layout shapes v u op growth h r = record {
   calling = calling_looked v u h layout op r.calling;
-  planned = planned_looked v u h layout op shapes (plan_of growth) r.planned;
+  planned = planned_looked v u h layout op shapes (action_of growth) r.planned;
   may = r.may;
   knows = knows_looked v u h region.Structure growth.addition.cell growth.old r.knows;
   small = r.small;

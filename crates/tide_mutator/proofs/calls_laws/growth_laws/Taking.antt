@@ -18,12 +18,12 @@ use Rattle.tide_mutator.specs.cells.Searching.{ClassIsSearched, HasLooked, HasSe
 use Rattle.tide_mutator.specs.owed.Standing.{IsPlanned, caller_of}
 use Rattle.tide_heap.proofs.tide_block.ArrayLaws.{block_of_arrays}
 use Rattle.tide_heap.proofs.tide_block.BitLaws.{without_bit-is}
-use Rattle.tide_heap.specs.tide_call.PlanWords.{PlanWords}
+use Rattle.tide_heap.specs.tide_call.ActionWords.{ActionWords}
 use Rattle.tide_heap.specs.tide_call.ShapeWord.{whole_word}
 use Rattle.tide_mutator.proofs.calls_laws.growth_laws.Grown.{are_grown, grown_words}
-use Rattle.tide_mutator.proofs.calls_laws.growth_laws.Plans.{IsGrowth, bare_there, claimed_there, element_there, full_reply, growth_there, structure_there}
+use Rattle.tide_mutator.proofs.calls_laws.growth_laws.Actions.{IsGrowth, bare_there, claimed_there, element_there, full_reply, growth_there, structure_there}
 use Rattle.tide_mutator.proofs.calls_laws.growth_laws.Reading.{read_once}
-use Rattle.tide_mutator.specs.calls.Growing.{HasRead, HasTaken, IsReady, plan_of}
+use Rattle.tide_mutator.specs.calls.Growing.{HasRead, HasTaken, IsReady, action_of}
 use Rattle.tide_mutator.specs.owed.Replacing.{grown_out}
 use Rattle.tide_mutator.specs.declared.owed.growth.Growth.{Growth}
 use Rattle.tide_heap.specs.tide_layout.Region.{cell_block_count}
@@ -54,7 +54,7 @@ use Rattle.tide_model.specs.declared.op.Reply.{Reply}
 use Rattle.tide_model.specs.declared.op.Reply.TheVariants.{Done, Refused}
 use Rattle.tide_model.specs.declared.val.Val.{Val}
 use Rattle.tide_heap.specs.steps.Follows.{Follows, FollowsSome, MayStep}
-use Rattle.tide_heap.proofs.tide_call.plan_laws.TakenLaws.{taken-array, wide-array}
+use Rattle.tide_heap.proofs.tide_call.action_laws.TakenLaws.{taken-array, wide-array}
 use Rattle.tide_heap.specs.tide_call.Taken.{IsTakenOf}
 use Rattle.tide_heap.proofs.tide_words.heap_laws.HeapLaws.{write-other_index, write-other_region, write-same}
 use Rattle.tide_heap.specs.tide_words.forms.ValueWord.{val_word}
@@ -76,7 +76,7 @@ cleared layout heap block k few = record {
 
 -- the load of the structure's word
 module _ (layout : Layout) (shapes : ShapeLists) (v : View) (op : Op) (growth : Growth)
-    (calling : IsCalling layout v op) (planned : IsPlanned layout shapes v op (plan_of growth)) where
+    (calling : IsCalling layout v op) (planned : IsPlanned layout shapes v op (action_of growth)) where
   abbrev its_cell : ℕ
   its_cell = growth.addition.cell
 
@@ -121,7 +121,7 @@ module _ (layout : Layout) (shapes : ShapeLists) (v : View) (op : Op) (growth : 
   abbrev calling : IsCalling layout v op
   calling = r.calling
 
-  abbrev planned : IsPlanned layout shapes v op (plan_of growth)
+  abbrev planned : IsPlanned layout shapes v op (action_of growth)
   planned = r.planned
 
   abbrev cell : ℕ
@@ -246,8 +246,8 @@ module _ (layout : Layout) (shapes : ShapeLists) (v : View) (op : Op) (growth : 
         after = grown_words layout m.settled properties cell taken block k count growth.addition.next in_block its_bit
             few has_there
 
-        grown_plan : PlanWords layout m.settled v.who (plan_of growth) Done (Some taken) after
-        grown_plan = (
+        grown_action : ActionWords layout m.settled v.who (action_of growth) Done (Some taken) after
+        grown_action = (
           taken-array layout m.settled _ growth.class block k calling.limits (is_taken m.settled set_there)
               r.may.smallest few_classes,
           are_grown layout m.settled properties cell taken block k count growth.addition.next in_block its_bit few
@@ -274,8 +274,8 @@ module _ (layout : Layout) (shapes : ShapeLists) (v : View) (op : Op) (growth : 
               is_shape = g.adds.after;
               is_word = r.next ∙ ap (λ (n : ℕ). whole_word growth.addition.next (n + 1)) g.adds.is_count;
               may = subst (λ (o : Op). MayCall layout shapes w v.who o Done (Some taken)) g.same
-                  (may_call layout shapes w v op (plan_of growth) Done (Some taken) region.Free block read is calling
-                  planned m (after w.log read m set) (grown_plan w.log read m set) (λ class full. absurd (cc)));
+                  (may_call layout shapes w v op (action_of growth) Done (Some taken) region.Free block read is calling
+                  planned m (after w.log read m set) (grown_action w.log read m set) (λ class full. absurd (cc)));
             },
           )
 
@@ -313,9 +313,9 @@ module _ (layout : Layout) (shapes : ShapeLists) (v : View) (op : Op) (growth : 
 
           pub taken_by : HasTaken layout shapes op growth v u taken
           taken_by = record {
-            made = made_by layout shapes op (plan_of growth) Done (Some taken) v (grown_out u) (grown_out its_view) f.log
+            made = made_by layout shapes op (action_of growth) Done (Some taken) v (grown_out u) (grown_out its_view) f.log
                 region.Free block read calling f.moment f.lawful f.own (ap grown_out took_view)
-                (after f.log read f.moment set) (grown_plan f.log read f.moment set) kept_out refl (λ stays. refl)
+                (after f.log read f.moment set) (grown_action f.log read f.moment set) kept_out refl (λ stays. refl)
                 (λ is. absurd (cc)) (none_born v.born);
             stage = ap (λ (x : View). x.growth) took_view;
             duty = ap (λ (x : View). x.duty) took_view;
@@ -357,7 +357,7 @@ module _ (layout : Layout) (shapes : ShapeLists) (v : View) (op : Op) (growth : 
 
   -- each block of the class was searched in vain
   module _ (searched : ClassIsSearched layout v growth.class) where
-    full_words : (heap : Heap) → PlanWords layout heap v.who (plan_of growth) (Refused (Full growth.class)) None heap
+    full_words : (heap : Heap) → ActionWords layout heap v.who (action_of growth) (Refused (Full growth.class)) None heap
     full_words heap = (refl, refl, λ region index below. refl)
 
     pub may_tell_full : (word : ℕ) → word ≡ (length v.mine + 1) % 2 ^ 64 →
@@ -369,7 +369,7 @@ module _ (layout : Layout) (shapes : ShapeLists) (v : View) (op : Op) (growth : 
         (stands_then layout shapes v w.log region.Call v.who read calling.stays m) in (
           subst (λ (reply : Reply). MayCall layout shapes w v.who op reply None)
               (sym (full_reply (caller_of layout shapes v) (state_after layout w.log) op growth g))
-              (may_call layout shapes w v op (plan_of growth) (Refused (Full growth.class)) None region.Call v.who read is
+              (may_call layout shapes w v op (action_of growth) (Refused (Full growth.class)) None region.Call v.who read is
               calling planned m m.settled (full_words m.settled)
               (λ full same. let number : growth.class ≡ full = cc in
               subst (StandsRefused layout w.log v.who) number
@@ -378,8 +378,8 @@ module _ (layout : Layout) (shapes : ShapeLists) (v : View) (op : Op) (growth : 
         )
 
     pub full_by : (word : ℕ) (u : View) → FollowsSome layout shapes (StoreCall word (Some op)) v u →
-        HasDone layout shapes op (plan_of growth) (Refused (Full growth.class)) v u
-    full_by word u f = stored_at layout shapes v op (plan_of growth) (Refused (Full growth.class)) calling full_words
+        HasDone layout shapes op (action_of growth) (Refused (Full growth.class)) v u
+    full_by word u f = stored_at layout shapes v op (action_of growth) (Refused (Full growth.class)) calling full_words
         (λ is. absurd (cc)) word u f (full_reply (caller_of layout shapes v) (state_after layout f.1.log) op growth
         (growth_there layout shapes v op growth calling planned f.1.moment.settled f.1.log
         (stands_then layout shapes v f.1.log region.Call v.who f.0 calling.stays f.1.moment)))

@@ -1,6 +1,6 @@
--- Why the mutator may be asked for a plan, and what the plan says.
+-- Why the mutator may be asked for an action, and what the action says.
 use Rattle.std.proofs.Common.{◌≡◌, ◌<◌, sym, ◌∙◌, ap, subst}
-use Rattle.tide_heap.specs.tide_call.Plans.{IsPlan}
+use Rattle.tide_heap.specs.tide_call.Actions.{IsAction}
 use Rattle.tide_heap.specs.tide_layout.Limits.{IsWithinLimits}
 use Rattle.tide_heap.specs.tide_layout.declared.region.Region.TheVariants.{Call}
 use Rattle.tide_heap.specs.tide_core.declared.machine.view.View.{View}
@@ -10,37 +10,37 @@ use Rattle.tide_model.specs.Refused.{ShapeLists}
 use Rattle.tide_mutator.proofs.calls_laws.acting_laws.Fitting.{fits_there}
 use Rattle.tide_mutator.proofs.cells_laws.BirthSteps.{is_taking}
 use Rattle.tide_mutator.proofs.calls_laws.Planning.{IsCalm, asked, owns_then, planned_by, same_caller, stands_still}
-use Rattle.tide_mutator.proofs.calls_laws.Taken.{told_by_plan}
+use Rattle.tide_mutator.proofs.calls_laws.Taken.{told_by_action}
 use Rattle.tide_mutator.proofs.calls_laws.Unread.{below_unread, calm_unread}
-use Rattle.tide_mutator.specs.calls.Plans.{is_plain}
+use Rattle.tide_mutator.specs.calls.Actions.{is_plain}
 use Rattle.tide_mutator.specs.owed.Standing.{IsPlanned, caller_of, claims_of}
 use Rattle.tide_mutator.specs.calls.Owning.{OwnsAt, unread}
 use Rattle.tide_heap.specs.tide_words.heap.Heap.{Heap}
 use Rattle.tide_mutator.proofs.calls.deciding.decide.Given.{Over}
 use Rattle.tide_mutator.proofs.calls.deciding.decide.Goals as goal
-use Rattle.tide_mutator.proofs.calls.deciding.decide.Goals.{After-plan_of}
+use Rattle.tide_mutator.proofs.calls.deciding.decide.Goals.{After-plan_call}
 
-pub plan_of-requires-clause-known : goal.plan_of-requires-clause-known
-plan_of-requires-clause-known g c = λ κs outlives.
+pub plan_call-requires-clause-known : goal.plan_call-requires-clause-known
+plan_call-requires-clause-known g c = λ κs outlives.
     let h = c.args.heap.now in
     let layout = h.key.layout in
     let shapes = g.S.ShapeTable.lists h.key.shapes in
     let v = c.args.own.now.pass.seat.me.0 in
     let u = c.load_call.new.self.seat.me.0 in
     let f = c.load_call.ensures.step.follows in
-    let caller = c.new-caller.ensures.caller
+    let caller = c.new-planner.ensures.planner
     ∙ same_caller layout c.layout-2.result.now shapes (g.S.ShapeTable.lists c.shapes.result.now) u c.who-who.result
     c.args.claims.now c.layout-2.ensures (ap g.S.ShapeTable.lists c.shapes.ensures) c.who-who.ensures
     (c.requires.claims ∙ ap claims_of (sym f.view)) in
     asked layout shapes u (c.load_call.new.self.seat.table_id ≡ h.table.shared.table_id)
-    (c.load_call.ensures.step.table ∙ c.requires.own) c.new-caller.result caller
+    (c.load_call.ensures.step.table ∙ c.requires.own) c.new-planner.result caller
     (subst (λ (x : View). x.who < layout.mutators) (sym f.view) c.requires.mutator) f.moment.settled
     (subst (λ (x : View). OwnsAt layout shapes x layout x.who f.moment.settled) (sym f.view)
     (owns_then layout shapes v f.log Call v.who c.load_call.result c.requires.stays c.requires.runs
     c.requires.between.owed c.requires.between.growth f.moment))
 
--- what the plan says
-module _ (g : Over) (c : After-plan_of g) where
+-- what the action says
+module _ (g : Over) (c : After-plan_call g) where
   abbrev layout : Layout
   layout = c.args.heap.now.key.layout
 
@@ -51,13 +51,13 @@ module _ (g : Over) (c : After-plan_of g) where
   v = c.args.own.now.pass.seat.me.0
 
   abbrev last : View
-  last = c.plan_of.new.own.pass.seat.me.0
+  last = c.plan_call.new.own.pass.seat.me.0
 
   is_unread : unread last ≡ unread v
-  is_unread = ap (λ rest. rest.2) c.plan_of.ensures.owns.2 ∙ ap unread c.load_call.ensures.step.follows.view
+  is_unread = ap (λ rest. rest.2) c.plan_call.ensures.owns.2 ∙ ap unread c.load_call.ensures.step.follows.view
 
-  same_table : c.plan_of.new.own.pass.seat.table_id ≡ c.args.heap.now.table.shared.table_id
-  same_table = ap (λ rest. rest.0) c.plan_of.ensures.owns.2 ∙ c.load_call.ensures.step.table ∙ c.requires.own
+  same_table : c.plan_call.new.own.pass.seat.table_id ≡ c.args.heap.now.table.shared.table_id
+  same_table = ap (λ rest. rest.0) c.plan_call.ensures.owns.2 ∙ c.load_call.ensures.step.table ∙ c.requires.own
 
   calm : IsCalm last
   calm = calm_unread v last is_unread record {
@@ -70,32 +70,32 @@ module _ (g : Over) (c : After-plan_of g) where
   below : last.who < layout.mutators
   below = below_unread v last is_unread layout c.requires.mutator
 
-  is_caller : c.new-caller.result ≡ caller_of layout shapes last
-  is_caller = c.new-caller.ensures.caller
+  is_caller : c.new-planner.result ≡ caller_of layout shapes last
+  is_caller = c.new-planner.ensures.planner
       ∙ same_caller layout c.layout-2.result.now shapes (g.S.ShapeTable.lists c.shapes.result.now)
       c.load_call.new.self.seat.me.0 c.who-who.result c.args.claims.now c.layout-2.ensures
       (ap g.S.ShapeTable.lists c.shapes.ensures) c.who-who.ensures
       (c.requires.claims ∙ ap claims_of (sym c.load_call.ensures.step.follows.view))
-      ∙ ap (caller_of layout shapes) (sym (ap (λ rest. rest.2) c.plan_of.ensures.owns.2))
+      ∙ ap (caller_of layout shapes) (sym (ap (λ rest. rest.2) c.plan_call.ensures.owns.2))
 
-  planned : IsPlanned layout shapes last c.args.op c.plan_of.result
+  planned : IsPlanned layout shapes last c.args.op c.plan_call.result
   planned = planned_by layout shapes last
-      (c.plan_of.new.own.pass.seat.table_id ≡ c.args.heap.now.table.shared.table_id) same_table c.new-caller.result is_caller
-      below c.args.op c.plan_of.result calm c.plan_of.ensures.plan
+      (c.plan_call.new.own.pass.seat.table_id ≡ c.args.heap.now.table.shared.table_id) same_table c.new-planner.result is_caller
+      below c.args.op c.plan_call.result calm c.plan_call.ensures.action
 
-  owns_last : OwnsAt layout shapes last layout last.who c.plan_of.ensures.owns.0.heap
+  owns_last : OwnsAt layout shapes last layout last.who c.plan_call.ensures.owns.0.heap
   owns_last = stands_still layout shapes last
-      (c.plan_of.new.own.pass.seat.table_id ≡ c.args.heap.now.table.shared.table_id) same_table c.new-caller.result is_caller
-      below c.plan_of.ensures.owns.0
+      (c.plan_call.new.own.pass.seat.table_id ≡ c.args.heap.now.table.shared.table_id) same_table c.new-planner.result is_caller
+      below c.plan_call.ensures.owns.0
 
-  plan_here : IsPlan (caller_of layout shapes last) c.plan_of.ensures.owns.0.heap (state_after layout owns_last.log) c.args.op
-      c.plan_of.result
-  plan_here = planned c.plan_of.ensures.owns.0.heap owns_last.log owns_last.stands
+  action_here : IsAction (caller_of layout shapes last) c.plan_call.ensures.owns.0.heap (state_after layout owns_last.log) c.args.op
+      c.plan_call.result
+  action_here = planned c.plan_call.ensures.owns.0.heap owns_last.log owns_last.stands
 
-pub returns-clause-same : goal.returns-clause-same
-returns-clause-same g c = (
-  ap (λ rest. rest.0) c.plan_of.ensures.owns.2 ∙ c.load_call.ensures.step.table,
-  ap (λ rest. rest.1) c.plan_of.ensures.owns.2 ∙ c.load_call.ensures.step.seat,
+pub returns-clause-same_view : goal.returns-clause-same_view
+returns-clause-same_view g c = (
+  ap (λ rest. rest.0) c.plan_call.ensures.owns.2 ∙ c.load_call.ensures.step.table,
+  ap (λ rest. rest.1) c.plan_call.ensures.owns.2 ∙ c.load_call.ensures.step.seat,
   is_unread g c,
 )
 
@@ -103,21 +103,21 @@ pub returns-clause-planned : goal.returns-clause-planned
 returns-clause-planned g c = planned g c
 
 pub returns-clause-told : goal.returns-clause-told
-returns-clause-told g c = told_by_plan (caller_of (layout g c) (shapes g c) (last g c)) c.plan_of.ensures.owns.0.heap
-    (state_after (layout g c) (owns_last g c).log) c.args.op c.plan_of.result (plan_here g c)
+returns-clause-told g c = told_by_action (caller_of (layout g c) (shapes g c) (last g c)) c.plan_call.ensures.owns.0.heap
+    (state_after (layout g c) (owns_last g c).log) c.args.op c.plan_call.result (action_here g c)
 
 pub returns-clause-fits : goal.returns-clause-fits
 returns-clause-fits g c = (
-  c.plan_of.ensures.owns.0.heap,
-  fits_there (layout g c) (shapes g c) (last g c) c.args.op c.plan_of.result c.plan_of.ensures.owns.0.heap
+  c.plan_call.ensures.owns.0.heap,
+  fits_there (layout g c) (shapes g c) (last g c) c.args.op c.plan_call.result c.plan_call.ensures.owns.0.heap
       (owns_last g c).log (subst IsWithinLimits c.layout.ensures c.mutators.ensures.limits) c.requires.fits (below g c)
       (owns_last g c).stands (planned g c),
 )
 
 pub returns-clause-births : goal.returns-clause-births
 returns-clause-births g c = λ dst class is. (is_taking (caller_of (layout g c) (shapes g c) (last g c))
-    c.plan_of.ensures.owns.0.heap (state_after (layout g c) (owns_last g c).log) c.args.op dst class
-    (told_by_plan (caller_of (layout g c) (shapes g c) (last g c)) c.plan_of.ensures.owns.0.heap
-    (state_after (layout g c) (owns_last g c).log) c.args.op c.plan_of.result (plan_here g c) (ap is_plain is))
-    (subst (IsPlan (caller_of (layout g c) (shapes g c) (last g c)) c.plan_of.ensures.owns.0.heap
-    (state_after (layout g c) (owns_last g c).log) c.args.op) is (plan_here g c))).takes
+    c.plan_call.ensures.owns.0.heap (state_after (layout g c) (owns_last g c).log) c.args.op dst class
+    (told_by_action (caller_of (layout g c) (shapes g c) (last g c)) c.plan_call.ensures.owns.0.heap
+    (state_after (layout g c) (owns_last g c).log) c.args.op c.plan_call.result (action_here g c) (ap is_plain is))
+    (subst (IsAction (caller_of (layout g c) (shapes g c) (last g c)) c.plan_call.ensures.owns.0.heap
+    (state_after (layout g c) (owns_last g c).log) c.args.op) is (action_here g c))).takes

@@ -5,11 +5,11 @@ use Rattle.std.proofs.lemmas.List.{get_or-set_other}
 use Rattle.tide_mutator.proofs.cells_laws.Looking.{counted_still as counted_looked, has_done_before as has_done_looked}
 use Rattle.tide_mutator.proofs.owed_laws.Shading.{made_shaded}
 use Rattle.tide_mutator.proofs.owed_laws.Telling.{done_by, may_tell, still_mutator, still_runs}
-use Rattle.tide_heap.specs.tide_call.declared.additions.Addition.{Addition}
+use Rattle.tide_heap.specs.tide_call.declared.action.Addition.{Addition}
 use Rattle.tide_mutator.proofs.calls_laws.growth_laws.Calls.{made_replaced, owes_first, owing_replaced, read_loaded, ready_first, ready_loaded}
 use Rattle.tide_mutator.proofs.calls_laws.growth_laws.Reading.{counted_still, has_done_before, knows_below, ready_looked}
 use Rattle.tide_mutator.proofs.calls_laws.growth_laws.Taking.{full_by, may_load_structure, may_tell_full}
-use Rattle.tide_mutator.specs.calls.Growing.{plan_of}
+use Rattle.tide_mutator.specs.calls.Growing.{action_of}
 use Rattle.tide_mutator.specs.declared.owed.growth.Growth.{Growth}
 use Rattle.tide_model.specs.declared.op.Refusal.TheVariants.{Full}
 use Rattle.tide_model.specs.declared.op.Reply.TheVariants.{Done, Refused}
@@ -81,11 +81,11 @@ store_call-requires-clause-may g c =
     let read = read_loaded layout shapes v first loaded c.args.op growth c.requires.calling c.requires.planned
     c.requires.may c.shape_word-next.ensures c.load_own_structure-old.ensures.step.follows
     c.load_elements-words.ensures.read in
-    let table = c.load_elements-words.ensures.same.0 ∙ c.load_own_structure-old.ensures.step.table ∙ c.requires.own in
+    let table = c.load_elements-words.ensures.same_pass.0 ∙ c.load_own_structure-old.ensures.step.table ∙ c.requires.own in
     let u = c.search.new.pass.seat.me.0 in
     let looked = c.in_default.ensures.looked in
     let still = ready_looked layout shapes loaded u c.args.op growth looked ready in record {
-      own = c.search.ensures.same.0 ∙ table;
+      own = c.search.ensures.same_pass.0 ∙ table;
       runs = still.calling.runs;
       may = may_tell_full layout shapes u c.args.op growth still c.in_default.ensures.searched c.args.calls
           (counted_looked loaded u looked c.args.calls (counted_still v loaded read c.args.calls c.requires.counts));
@@ -112,8 +112,8 @@ returns-in_default-clause-done g c =
     let still = ready_looked layout shapes loaded u c.args.op growth looked ready in
     let tell = c.store_call.ensures.step in
     let w = c.store_call.new.self.seat.me.0 in
-    has_done_before v loaded read layout c.args.op shapes (plan_of growth) (Refused (Full c.args.class)) w
-    (has_done_looked loaded u looked layout c.args.op shapes (plan_of growth) (Refused (Full c.args.class)) w
+    has_done_before v loaded read layout c.args.op shapes (action_of growth) (Refused (Full c.args.class)) w
+    (has_done_looked loaded u looked layout c.args.op shapes (action_of growth) (Refused (Full c.args.class)) w
     (full_by layout shapes u c.args.op growth still c.in_default.ensures.searched c.args.calls w (tell.0, tell.1.follows)))
 
 pub replace-requires-clause-small : goal.replace-requires-clause-small
@@ -159,8 +159,8 @@ replace-requires-clause-owes g c = λ κs outlives.
     (get_or-set_at words at c.args.addition.count c.val_word.result 0 (sym is_at) (omega (arith, is_at, few))
     ∙ c.val_word.ensures)
 
-pub shade_for-requires-clause-owing : goal.shade_for-requires-clause-owing
-shade_for-requires-clause-owing g c = λ κs outlives.
+pub write_barrier-requires-clause-owing : goal.write_barrier-requires-clause-owing
+write_barrier-requires-clause-owing g c = λ κs outlives.
     let h = c.args.heap.now in
     let layout = h.key.layout in
     let shapes = g.S.HeapShapes.lists h.key.shapes in
@@ -190,12 +190,12 @@ store_call-requires-2-clause-mutator g c =
     c.load_elements-words.ensures.read in
     let u = c.search.new.pass.seat.me.0 in
     let w = c.replace.new.pass.seat.me.0 in
-    let now = c.shade_for.new.pass.seat.me.0 in
+    let now = c.write_barrier.new.pass.seat.me.0 in
     let made = made_replaced layout shapes c.args.op growth loaded u c.in-Some.taken ready.calling
     c.in-Some.ensures.taken w c.replace.ensures.replaced in
-    let shaded = made_shaded layout shapes c.args.op (plan_of growth) Done loaded w now made.made
-    c.shade_for.ensures.shaded in
-    still_mutator layout shapes c.args.op (plan_of growth) Done loaded now ready.calling shaded
+    let shaded = made_shaded layout shapes c.args.op (action_of growth) Done loaded w now made.made
+    c.write_barrier.ensures.shaded in
+    still_mutator layout shapes c.args.op (action_of growth) Done loaded now ready.calling shaded
 
 pub store_call-requires-2-clause-may : goal.store_call-requires-2-clause-may
 store_call-requires-2-clause-may g c =
@@ -213,18 +213,18 @@ store_call-requires-2-clause-may g c =
     let read = read_loaded layout shapes v first loaded c.args.op growth c.requires.calling c.requires.planned
     c.requires.may c.shape_word-next.ensures c.load_own_structure-old.ensures.step.follows
     c.load_elements-words.ensures.read in
-    let table = c.load_elements-words.ensures.same.0 ∙ c.load_own_structure-old.ensures.step.table ∙ c.requires.own in
+    let table = c.load_elements-words.ensures.same_pass.0 ∙ c.load_own_structure-old.ensures.step.table ∙ c.requires.own in
     let u = c.search.new.pass.seat.me.0 in
     let w = c.replace.new.pass.seat.me.0 in
-    let now = c.shade_for.new.pass.seat.me.0 in
+    let now = c.write_barrier.new.pass.seat.me.0 in
     let made = made_replaced layout shapes c.args.op growth loaded u c.in-Some.taken ready.calling
     c.in-Some.ensures.taken w c.replace.ensures.replaced in
-    let shaded = made_shaded layout shapes c.args.op (plan_of growth) Done loaded w now made.made
-    c.shade_for.ensures.shaded in
+    let shaded = made_shaded layout shapes c.args.op (action_of growth) Done loaded w now made.made
+    c.write_barrier.ensures.shaded in
     record {
-      own = c.shade_for.ensures.same.0 ∙ c.replace.ensures.same.0 ∙ c.search.ensures.same.0 ∙ table;
-      runs = still_runs layout shapes c.args.op (plan_of growth) Done loaded now ready.calling shaded;
-      may = may_tell layout shapes c.args.op (plan_of growth) Done loaded now ready.calling shaded c.args.calls
+      own = c.write_barrier.ensures.same_pass.0 ∙ c.replace.ensures.same_pass.0 ∙ c.search.ensures.same_pass.0 ∙ table;
+      runs = still_runs layout shapes c.args.op (action_of growth) Done loaded now ready.calling shaded;
+      may = may_tell layout shapes c.args.op (action_of growth) Done loaded now ready.calling shaded c.args.calls
           (counted_still v loaded read c.args.calls c.requires.counts);
     }
 
@@ -246,13 +246,13 @@ returns-clause-done g c =
     c.load_elements-words.ensures.read in
     let u = c.search.new.pass.seat.me.0 in
     let w = c.replace.new.pass.seat.me.0 in
-    let now = c.shade_for.new.pass.seat.me.0 in
+    let now = c.write_barrier.new.pass.seat.me.0 in
     let made = made_replaced layout shapes c.args.op growth loaded u c.in-Some.taken ready.calling
     c.in-Some.ensures.taken w c.replace.ensures.replaced in
-    let shaded = made_shaded layout shapes c.args.op (plan_of growth) Done loaded w now made.made
-    c.shade_for.ensures.shaded in
+    let shaded = made_shaded layout shapes c.args.op (action_of growth) Done loaded w now made.made
+    c.write_barrier.ensures.shaded in
     let tell = c.store_call-2.ensures.step in
     let last = c.store_call-2.new.self.seat.me.0 in
-    has_done_before v loaded read layout c.args.op shapes (plan_of growth) Done last
-    (done_by layout shapes c.args.op (plan_of growth) Done loaded now ready.calling shaded c.args.calls last
-    (tell.0, tell.1.follows) (c.shade_for.ensures.shaded.owed ∙ made.owed) c.shade_for.ensures.shaded.duty)
+    has_done_before v loaded read layout c.args.op shapes (action_of growth) Done last
+    (done_by layout shapes c.args.op (action_of growth) Done loaded now ready.calling shaded c.args.calls last
+    (tell.0, tell.1.follows) (c.write_barrier.ensures.shaded.owed ∙ made.owed) c.write_barrier.ensures.shaded.duty)

@@ -1,6 +1,6 @@
 -- Why the store of the Active word makes the call, and the call word tells it.
 use Rattle.std.proofs.Common.{◌∙◌}
-use Rattle.tide_heap.specs.tide_call.declared.plan.Plan.TheVariants as plan
+use Rattle.tide_heap.specs.tide_call.declared.action.Action.TheVariants as action
 use Rattle.tide_model.specs.declared.op.Reply.TheVariants.{Done}
 use Rattle.tide_mutator.proofs.calls_laws.acting_laws.Retiring.{left_by, may_leave}
 use Rattle.tide_mutator.proofs.owed_laws.Telling.{done_by, may_tell, still_mutator, still_runs}
@@ -24,7 +24,7 @@ store_call-requires-clause-mutator g c =
     let u = c.retire.new.self.seat.me.0 in
     let made = left_by h.key.layout shapes v c.args.op c.requires.calling c.requires.told c.requires.planned u
     (step.0, step.1.follows) in
-    still_mutator h.key.layout shapes c.args.op plan.Retire Done v u c.requires.calling made.made
+    still_mutator h.key.layout shapes c.args.op action.Retire Done v u c.requires.calling made.made
 
 pub store_call-requires-clause-may : goal.store_call-requires-clause-may
 store_call-requires-clause-may g c =
@@ -36,8 +36,8 @@ store_call-requires-clause-may g c =
     let made = left_by h.key.layout shapes v c.args.op c.requires.calling c.requires.told c.requires.planned u
     (step.0, step.1.follows) in record {
       own = step.1.table ∙ c.requires.own;
-      runs = still_runs h.key.layout shapes c.args.op plan.Retire Done v u c.requires.calling made.made;
-      may = may_tell h.key.layout shapes c.args.op plan.Retire Done v u c.requires.calling made.made c.args.calls
+      runs = still_runs h.key.layout shapes c.args.op action.Retire Done v u c.requires.calling made.made;
+      may = may_tell h.key.layout shapes c.args.op action.Retire Done v u c.requires.calling made.made c.args.calls
           c.requires.counts;
     }
 
@@ -51,5 +51,5 @@ returns-clause-done g c =
     let u = c.retire.new.self.seat.me.0 in
     let made = left_by h.key.layout shapes v c.args.op c.requires.calling c.requires.told c.requires.planned u
     (step.0, step.1.follows) in
-    done_by h.key.layout shapes c.args.op plan.Retire Done v u c.requires.calling made.made c.args.calls
+    done_by h.key.layout shapes c.args.op action.Retire Done v u c.requires.calling made.made c.args.calls
     c.store_call.new.self.seat.me.0 (tell.0, tell.1.follows) made.owed made.duty

@@ -1,6 +1,6 @@
 -- Why the element may be stored, and why the store of the structure makes the call, which then pays the barrier.
 use Rattle.std.proofs.Common.{Bool, ◌∙◌, ap, subst, sym}
-use Rattle.tide_heap.specs.tide_call.declared.plan.Plan.TheVariants.{Append}
+use Rattle.tide_heap.specs.tide_call.declared.action.Action.TheVariants.{Append}
 use Rattle.tide_heap.specs.tide_core.machine.May.{barrier_for}
 use Rattle.tide_model.specs.declared.op.Reply.TheVariants.{Done}
 use Rattle.tide_mutator.proofs.calls_laws.acting_laws.AppendSteps.{added_by, may_add_stored, may_store_past, stored_runs}
@@ -37,8 +37,8 @@ store_structure-requires-clause-may g c =
           (one.0, one.1.follows) c.shape_word.result c.shape_word.ensures;
     }
 
-pub shade_for-requires-clause-owing : goal.shade_for-requires-clause-owing
-shade_for-requires-clause-owing g c = λ κs outlives.
+pub write_barrier-requires-clause-owing : goal.write_barrier-requires-clause-owing
+write_barrier-requires-clause-owing g c = λ κs outlives.
     let h = c.args.heap.now in
     let shapes = g.S.HeapShapes.lists h.key.shapes in
     let v = c.args.pass.now.seat.me.0 in
@@ -65,9 +65,9 @@ store_call-requires-clause-mutator g c =
     c.requires.room.element c.requires.calling c.requires.planned c.val_word.result c.val_word.ensures
     c.store_element.new.self.seat.me.0 (one.0, one.1.follows) c.shape_word.result c.shape_word.ensures u
     (other.0, other.1.follows) in
-    let after = made_shaded h.key.layout shapes c.args.op does Done v u c.shade_for.new.pass.seat.me.0 made.made
-    c.shade_for.ensures.shaded in
-    still_mutator h.key.layout shapes c.args.op does Done v c.shade_for.new.pass.seat.me.0 c.requires.calling after
+    let after = made_shaded h.key.layout shapes c.args.op does Done v u c.write_barrier.new.pass.seat.me.0 made.made
+    c.write_barrier.ensures.shaded in
+    still_mutator h.key.layout shapes c.args.op does Done v c.write_barrier.new.pass.seat.me.0 c.requires.calling after
 
 pub store_call-requires-clause-may : goal.store_call-requires-clause-may
 store_call-requires-clause-may g c =
@@ -82,12 +82,12 @@ store_call-requires-clause-may g c =
     c.requires.room.element c.requires.calling c.requires.planned c.val_word.result c.val_word.ensures
     c.store_element.new.self.seat.me.0 (one.0, one.1.follows) c.shape_word.result c.shape_word.ensures u
     (other.0, other.1.follows) in
-    let after = made_shaded h.key.layout shapes c.args.op does Done v u c.shade_for.new.pass.seat.me.0 made.made
-    c.shade_for.ensures.shaded in record {
-      own = c.shade_for.ensures.same.0 ∙ other.1.table ∙ one.1.table ∙ c.requires.own;
-      runs = still_runs h.key.layout shapes c.args.op does Done v c.shade_for.new.pass.seat.me.0 c.requires.calling
+    let after = made_shaded h.key.layout shapes c.args.op does Done v u c.write_barrier.new.pass.seat.me.0 made.made
+    c.write_barrier.ensures.shaded in record {
+      own = c.write_barrier.ensures.same_pass.0 ∙ other.1.table ∙ one.1.table ∙ c.requires.own;
+      runs = still_runs h.key.layout shapes c.args.op does Done v c.write_barrier.new.pass.seat.me.0 c.requires.calling
           after;
-      may = may_tell h.key.layout shapes c.args.op does Done v c.shade_for.new.pass.seat.me.0 c.requires.calling after
+      may = may_tell h.key.layout shapes c.args.op does Done v c.write_barrier.new.pass.seat.me.0 c.requires.calling after
           c.args.calls c.requires.counts;
     }
 
@@ -105,8 +105,8 @@ returns-clause-done g c =
     c.requires.room.element c.requires.calling c.requires.planned c.val_word.result c.val_word.ensures
     c.store_element.new.self.seat.me.0 (one.0, one.1.follows) c.shape_word.result c.shape_word.ensures u
     (other.0, other.1.follows) in
-    let after = made_shaded h.key.layout shapes c.args.op does Done v u c.shade_for.new.pass.seat.me.0 made.made
-    c.shade_for.ensures.shaded in
-    done_by h.key.layout shapes c.args.op does Done v c.shade_for.new.pass.seat.me.0 c.requires.calling after
+    let after = made_shaded h.key.layout shapes c.args.op does Done v u c.write_barrier.new.pass.seat.me.0 made.made
+    c.write_barrier.ensures.shaded in
+    done_by h.key.layout shapes c.args.op does Done v c.write_barrier.new.pass.seat.me.0 c.requires.calling after
     c.args.calls c.store_call.new.self.seat.me.0 (tell.0, tell.1.follows)
-    (c.shade_for.ensures.shaded.owed ∙ made.owed) c.shade_for.ensures.shaded.duty
+    (c.write_barrier.ensures.shaded.owed ∙ made.owed) c.write_barrier.ensures.shaded.duty

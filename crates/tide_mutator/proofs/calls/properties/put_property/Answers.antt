@@ -1,6 +1,6 @@
 -- Why the store of the element makes the call, which then pays the barrier.
 use Rattle.std.proofs.Common.{◌∙◌}
-use Rattle.tide_heap.specs.tide_call.declared.plan.Plan.TheVariants.{StoreElement}
+use Rattle.tide_heap.specs.tide_call.declared.action.Action.TheVariants.{StoreElement}
 use Rattle.tide_model.specs.declared.op.Reply.TheVariants.{Done}
 use Rattle.tide_mutator.proofs.calls_laws.acting_laws.PropertySteps.{may_put_property, put_property_by}
 use Rattle.tide_mutator.proofs.owed_laws.Shading.{made_shaded, owing_made}
@@ -17,8 +17,8 @@ store_element-requires-clause-may g c =
           c.val_word.result c.val_word.ensures;
     }
 
-pub shade_for-requires-clause-owing : goal.shade_for-requires-clause-owing
-shade_for-requires-clause-owing g c = λ κs outlives.
+pub write_barrier-requires-clause-owing : goal.write_barrier-requires-clause-owing
+write_barrier-requires-clause-owing g c = λ κs outlives.
     let h = c.args.heap.now in
     let step = c.store_element.ensures.step in
     let shapes = g.S.HeapShapes.lists h.key.shapes in
@@ -39,9 +39,9 @@ store_call-requires-clause-mutator g c =
     let does = StoreElement c.args.cell c.args.array c.args.place c.args.value in
     let made = put_property_by h.key.layout shapes v c.args.op c.args.array c.args.place c.requires.within
     c.requires.calling c.args.cell c.args.value c.requires.planned c.val_word.result c.val_word.ensures u (step.0, step.1.follows) in
-    let after = made_shaded h.key.layout shapes c.args.op does Done v u c.shade_for.new.pass.seat.me.0 made.made
-    c.shade_for.ensures.shaded in
-    still_mutator h.key.layout shapes c.args.op does Done v c.shade_for.new.pass.seat.me.0 c.requires.calling after
+    let after = made_shaded h.key.layout shapes c.args.op does Done v u c.write_barrier.new.pass.seat.me.0 made.made
+    c.write_barrier.ensures.shaded in
+    still_mutator h.key.layout shapes c.args.op does Done v c.write_barrier.new.pass.seat.me.0 c.requires.calling after
 
 pub store_call-requires-clause-may : goal.store_call-requires-clause-may
 store_call-requires-clause-may g c =
@@ -53,12 +53,12 @@ store_call-requires-clause-may g c =
     let does = StoreElement c.args.cell c.args.array c.args.place c.args.value in
     let made = put_property_by h.key.layout shapes v c.args.op c.args.array c.args.place c.requires.within
     c.requires.calling c.args.cell c.args.value c.requires.planned c.val_word.result c.val_word.ensures u (step.0, step.1.follows) in
-    let after = made_shaded h.key.layout shapes c.args.op does Done v u c.shade_for.new.pass.seat.me.0 made.made
-    c.shade_for.ensures.shaded in record {
-      own = c.shade_for.ensures.same.0 ∙ step.1.table ∙ c.requires.own;
-      runs = still_runs h.key.layout shapes c.args.op does Done v c.shade_for.new.pass.seat.me.0 c.requires.calling
+    let after = made_shaded h.key.layout shapes c.args.op does Done v u c.write_barrier.new.pass.seat.me.0 made.made
+    c.write_barrier.ensures.shaded in record {
+      own = c.write_barrier.ensures.same_pass.0 ∙ step.1.table ∙ c.requires.own;
+      runs = still_runs h.key.layout shapes c.args.op does Done v c.write_barrier.new.pass.seat.me.0 c.requires.calling
           after;
-      may = may_tell h.key.layout shapes c.args.op does Done v c.shade_for.new.pass.seat.me.0 c.requires.calling after
+      may = may_tell h.key.layout shapes c.args.op does Done v c.write_barrier.new.pass.seat.me.0 c.requires.calling after
           c.args.calls c.requires.counts;
     }
 
@@ -73,8 +73,8 @@ returns-clause-done g c =
     let does = StoreElement c.args.cell c.args.array c.args.place c.args.value in
     let made = put_property_by h.key.layout shapes v c.args.op c.args.array c.args.place c.requires.within
     c.requires.calling c.args.cell c.args.value c.requires.planned c.val_word.result c.val_word.ensures u (step.0, step.1.follows) in
-    let after = made_shaded h.key.layout shapes c.args.op does Done v u c.shade_for.new.pass.seat.me.0 made.made
-    c.shade_for.ensures.shaded in
-    done_by h.key.layout shapes c.args.op does Done v c.shade_for.new.pass.seat.me.0 c.requires.calling after
+    let after = made_shaded h.key.layout shapes c.args.op does Done v u c.write_barrier.new.pass.seat.me.0 made.made
+    c.write_barrier.ensures.shaded in
+    done_by h.key.layout shapes c.args.op does Done v c.write_barrier.new.pass.seat.me.0 c.requires.calling after
     c.args.calls c.store_call.new.self.seat.me.0 (tell.0, tell.1.follows)
-    (c.shade_for.ensures.shaded.owed ∙ made.owed) c.shade_for.ensures.shaded.duty
+    (c.write_barrier.ensures.shaded.owed ∙ made.owed) c.write_barrier.ensures.shaded.duty

@@ -1,6 +1,6 @@
 -- Why the store of the register makes the call, and the call word tells it.
 use Rattle.std.proofs.Common.{◌∙◌}
-use Rattle.tide_heap.specs.tide_call.declared.plan.Plan.TheVariants.{Fill}
+use Rattle.tide_heap.specs.tide_call.declared.action.Action.TheVariants.{Fill}
 use Rattle.tide_model.specs.declared.op.Reply.TheVariants.{Done}
 use Rattle.tide_mutator.proofs.calls_laws.acting_laws.Filling.{filled_with, may_fill_with}
 use Rattle.tide_mutator.proofs.owed_laws.Telling.{done_by, may_tell, still_mutator, still_runs}

@@ -1,6 +1,6 @@
 -- Why the step on the claim word makes the call, and the call word tells it.
 use Rattle.std.proofs.Common.{sym, ◌∙◌, subst}
-use Rattle.tide_heap.specs.tide_call.declared.plan.Plan.TheVariants.{Claim}
+use Rattle.tide_heap.specs.tide_call.declared.action.Action.TheVariants.{Claim}
 use Rattle.tide_model.specs.declared.op.Refusal.TheVariants.{ClaimsFull}
 use Rattle.tide_model.specs.declared.op.Reply.{Reply}
 use Rattle.tide_model.specs.declared.op.Reply.TheVariants.{Done, Refused}

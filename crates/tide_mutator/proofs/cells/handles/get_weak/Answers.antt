@@ -1,6 +1,6 @@
 -- Why the load of the handle makes the call, which then pays its register.
 use Rattle.std.proofs.Common.{sym, subst}
-use Rattle.tide_heap.specs.tide_call.declared.plan.Plan.TheVariants.{LoadWeak}
+use Rattle.tide_heap.specs.tide_call.declared.action.Action.TheVariants.{LoadWeak}
 use Rattle.tide_heap.specs.tide_core.machine.Words.{value_of}
 use Rattle.tide_model.specs.declared.op.Reply.{Reply}
 use Rattle.tide_model.specs.declared.op.Reply.TheVariants.{Seen}

@@ -1,5 +1,5 @@
 -- Why the load of the pair makes the call, which then pays its register.
-use Rattle.tide_heap.specs.tide_call.declared.plan.Plan.TheVariants.{Show}
+use Rattle.tide_heap.specs.tide_call.declared.action.Action.TheVariants.{Show}
 use Rattle.tide_model.specs.declared.op.Reply.TheVariants.{Seen}
 use Rattle.tide_mutator.proofs.cells_laws.PairSteps.{got_pair_by, may_get_pair}
 use Rattle.tide_mutator.proofs.owed_laws.Paying.{done_paid, owes_register}

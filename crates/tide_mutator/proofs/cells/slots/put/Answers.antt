@@ -1,14 +1,14 @@
 -- Why the store of the slot makes the call, which then pays the barrier.
 use Rattle.std.proofs.Common.{◌∙◌, rules}
-use Rattle.tide_heap.specs.tide_call.declared.plan.Plan.TheVariants.{StoreSlot}
+use Rattle.tide_heap.specs.tide_call.declared.action.Action.TheVariants.{StoreSlot}
 use Rattle.tide_model.specs.declared.op.Reply.TheVariants.{Done}
 use Rattle.tide_mutator.proofs.cells_laws.SlotSteps.{may_put_with, put_with}
 use Rattle.tide_mutator.proofs.owed_laws.Shading.{made_shaded, owing_made}
 use Rattle.tide_mutator.proofs.owed_laws.Telling.{done_by, may_tell, still_mutator, still_runs}
 use Rattle.tide_mutator.proofs.cells.slots.put.Goals as goal
 
-pub shade_for-requires-clause-owing : goal.shade_for-requires-clause-owing
-shade_for-requires-clause-owing g c = λ κs outlives.
+pub write_barrier-requires-clause-owing : goal.write_barrier-requires-clause-owing
+write_barrier-requires-clause-owing g c = λ κs outlives.
     let h = c.args.heap.now in
     let shapes = g.S.HeapShapes.lists h.key.shapes in
     let v = c.args.pass.now.seat.me.0 in
@@ -37,9 +37,9 @@ store_call-requires-clause-mutator g c =
     let does = StoreSlot c.args.cell c.args.slot c.args.value in
     let made = put_with h.key.layout shapes v c.args.op c.args.cell c.args.slot c.args.value c.requires.calling
     c.requires.told c.requires.planned c.val_word-word.result c.val_word-word.ensures u (step.0, step.1.follows) in
-    let after = made_shaded h.key.layout shapes c.args.op does Done v u c.shade_for.new.pass.seat.me.0 made.made
-    c.shade_for.ensures.shaded in
-    still_mutator h.key.layout shapes c.args.op does Done v c.shade_for.new.pass.seat.me.0 c.requires.calling after
+    let after = made_shaded h.key.layout shapes c.args.op does Done v u c.write_barrier.new.pass.seat.me.0 made.made
+    c.write_barrier.ensures.shaded in
+    still_mutator h.key.layout shapes c.args.op does Done v c.write_barrier.new.pass.seat.me.0 c.requires.calling after
 
 pub store_call-requires-clause-may : goal.store_call-requires-clause-may
 store_call-requires-clause-may g c =
@@ -51,12 +51,12 @@ store_call-requires-clause-may g c =
     let does = StoreSlot c.args.cell c.args.slot c.args.value in
     let made = put_with h.key.layout shapes v c.args.op c.args.cell c.args.slot c.args.value c.requires.calling
     c.requires.told c.requires.planned c.val_word-word.result c.val_word-word.ensures u (step.0, step.1.follows) in
-    let after = made_shaded h.key.layout shapes c.args.op does Done v u c.shade_for.new.pass.seat.me.0 made.made
-    c.shade_for.ensures.shaded in record {
-      own = c.shade_for.ensures.same.0 ∙ step.1.table ∙ c.requires.own;
-      runs = still_runs h.key.layout shapes c.args.op does Done v c.shade_for.new.pass.seat.me.0 c.requires.calling
+    let after = made_shaded h.key.layout shapes c.args.op does Done v u c.write_barrier.new.pass.seat.me.0 made.made
+    c.write_barrier.ensures.shaded in record {
+      own = c.write_barrier.ensures.same_pass.0 ∙ step.1.table ∙ c.requires.own;
+      runs = still_runs h.key.layout shapes c.args.op does Done v c.write_barrier.new.pass.seat.me.0 c.requires.calling
           after;
-      may = may_tell h.key.layout shapes c.args.op does Done v c.shade_for.new.pass.seat.me.0 c.requires.calling after
+      may = may_tell h.key.layout shapes c.args.op does Done v c.write_barrier.new.pass.seat.me.0 c.requires.calling after
           c.args.calls c.requires.counts;
     }
 
@@ -71,8 +71,8 @@ returns-clause-done g c =
     let does = StoreSlot c.args.cell c.args.slot c.args.value in
     let made = put_with h.key.layout shapes v c.args.op c.args.cell c.args.slot c.args.value c.requires.calling
     c.requires.told c.requires.planned c.val_word-word.result c.val_word-word.ensures u (step.0, step.1.follows) in
-    let after = made_shaded h.key.layout shapes c.args.op does Done v u c.shade_for.new.pass.seat.me.0 made.made
-    c.shade_for.ensures.shaded in
-    done_by h.key.layout shapes c.args.op does Done v c.shade_for.new.pass.seat.me.0 c.requires.calling after
+    let after = made_shaded h.key.layout shapes c.args.op does Done v u c.write_barrier.new.pass.seat.me.0 made.made
+    c.write_barrier.ensures.shaded in
+    done_by h.key.layout shapes c.args.op does Done v c.write_barrier.new.pass.seat.me.0 c.requires.calling after
     c.args.calls c.store_call.new.self.seat.me.0 (tell.0, tell.1.follows)
-    (c.shade_for.ensures.shaded.owed ∙ made.owed) c.shade_for.ensures.shaded.duty
+    (c.write_barrier.ensures.shaded.owed ∙ made.owed) c.write_barrier.ensures.shaded.duty

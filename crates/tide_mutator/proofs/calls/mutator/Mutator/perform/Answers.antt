@@ -7,7 +7,7 @@ use Rattle.tide_model.specs.Refused.{claims_most}
 use Rattle.tide_mutator.proofs.calls_laws.Ended.{called_by, claims_then, has_room, rests_after}
 use Rattle.tide_mutator.proofs.calls_laws.Unread.{called_unread, calling_unread, claims_unread, counts_unread, rests_unread}
 use Rattle.tide_mutator.specs.owed.Calling.{IsCalling}
-use Rattle.tide_heap.specs.tide_call.Claims.{claims_by_plan}
+use Rattle.tide_heap.specs.tide_call.Claims.{claims_by_action}
 use Rattle.tide_mutator.proofs.calls.mutator.Mutator.perform.Goals as goal
 
 pub act-reply-requires-clause-calling : goal.act-reply-requires-clause-calling
@@ -15,8 +15,8 @@ act-reply-requires-clause-calling g c = λ κs outlives.
     let h = c.args.heap.now in
     let layout = h.key.layout in
     let v = c.args.self.now.own.pass.seat.me.0 in
-    let w = c.decide-plan.new.own.pass.seat.me.0 in
-    let d = c.decide-plan.ensures in
+    let w = c.decide-action.new.own.pass.seat.me.0 in
+    let d = c.decide-action.ensures in
     let calling : IsCalling layout v c.args.op = record {
       limits = d.limits;
       is_mutator = c.requires.mutator;
@@ -27,16 +27,16 @@ act-reply-requires-clause-calling g c = λ κs outlives.
       fits = c.requires.fits;
       bare = c.requires.bare;
     } in
-    calling_unread v w d.same.2 layout c.args.op calling
+    calling_unread v w d.same_view.2 layout c.args.op calling
 
 pub act-reply-requires-clause-counts : goal.act-reply-requires-clause-counts
 act-reply-requires-clause-counts g c = λ κs outlives. counts_unread c.args.self.now.own.pass.seat.me.0
-    c.decide-plan.new.own.pass.seat.me.0 c.decide-plan.ensures.same.2 c.next_call-calls.result c.next_call-calls.ensures
+    c.decide-action.new.own.pass.seat.me.0 c.decide-action.ensures.same_view.2 c.next_call-calls.result c.next_call-calls.ensures
 
 pub act-reply-requires-clause-few : goal.act-reply-requires-clause-few
 act-reply-requires-clause-few g c = λ κs outlives dst class is.
-    subst (λ (x : View). x.born + 1 < 2 ^ 32) (sym c.decide-plan.ensures.same.2)
-    (c.requires.few (c.decide-plan.ensures.births dst class is))
+    subst (λ (x : View). x.born + 1 < 2 ^ 32) (sym c.decide-action.ensures.same_view.2)
+    (c.requires.few (c.decide-action.ensures.births dst class is))
 
 pub returns-clause-called : goal.returns-clause-called
 returns-clause-called g c =
@@ -44,8 +44,8 @@ returns-clause-called g c =
     let layout = h.key.layout in
     let shapes = g.S.ShapeTable.lists h.key.shapes in
     let v = c.args.self.now.own.pass.seat.me.0 in
-    let w = c.decide-plan.new.own.pass.seat.me.0 in
-    let d = c.decide-plan.ensures in
+    let w = c.decide-action.new.own.pass.seat.me.0 in
+    let d = c.decide-action.ensures in
     let calling : IsCalling layout v c.args.op = record {
       limits = d.limits;
       is_mutator = c.requires.mutator;
@@ -56,10 +56,10 @@ returns-clause-called g c =
       fits = c.requires.fits;
       bare = c.requires.bare;
     } in
-    let calling_now = calling_unread v w d.same.2 layout c.args.op calling in
+    let calling_now = calling_unread v w d.same_view.2 layout c.args.op calling in
     let u = c.act-reply.new.pass.seat.me.0 in
-    called_unread v w d.same.2 layout shapes c.args.op c.act-reply.result u
-    (called_by layout shapes c.args.op c.decide-plan.result c.act-reply.result w u calling_now d.planned
+    called_unread v w d.same_view.2 layout shapes c.args.op c.act-reply.result u
+    (called_by layout shapes c.args.op c.decide-action.result c.act-reply.result w u calling_now d.planned
     c.act-reply.ensures.done)
 
 pub invariant_of-self-clause-rests : goal.invariant_of-self-clause-rests
@@ -68,8 +68,8 @@ invariant_of-self-clause-rests g c =
     let layout = h.key.layout in
     let shapes = g.S.ShapeTable.lists h.key.shapes in
     let v = c.args.self.now.own.pass.seat.me.0 in
-    let w = c.decide-plan.new.own.pass.seat.me.0 in
-    let d = c.decide-plan.ensures in
+    let w = c.decide-action.new.own.pass.seat.me.0 in
+    let d = c.decide-action.ensures in
     let calling : IsCalling layout v c.args.op = record {
       limits = d.limits;
       is_mutator = c.requires.mutator;
@@ -80,10 +80,10 @@ invariant_of-self-clause-rests g c =
       fits = c.requires.fits;
       bare = c.requires.bare;
     } in
-    let calling_now = calling_unread v w d.same.2 layout c.args.op calling in
+    let calling_now = calling_unread v w d.same_view.2 layout c.args.op calling in
     let u = c.act-reply.new.pass.seat.me.0 in
-    rests_after layout shapes c.args.op c.decide-plan.result c.act-reply.result w u calling_now d.planned
-    c.act-reply.ensures.done (rests_unread v w d.same.2 c.args.self.now.rests)
+    rests_after layout shapes c.args.op c.decide-action.result c.act-reply.result w u calling_now d.planned
+    c.act-reply.ensures.done (rests_unread v w d.same_view.2 c.args.self.now.rests)
 
 pub invariant_of-self-clause-claimed : goal.invariant_of-self-clause-claimed
 invariant_of-self-clause-claimed g c =
@@ -91,8 +91,8 @@ invariant_of-self-clause-claimed g c =
     let layout = h.key.layout in
     let shapes = g.S.ShapeTable.lists h.key.shapes in
     let v = c.args.self.now.own.pass.seat.me.0 in
-    let w = c.decide-plan.new.own.pass.seat.me.0 in
-    let d = c.decide-plan.ensures in
+    let w = c.decide-action.new.own.pass.seat.me.0 in
+    let d = c.decide-action.ensures in
     let calling : IsCalling layout v c.args.op = record {
       limits = d.limits;
       is_mutator = c.requires.mutator;
@@ -103,22 +103,22 @@ invariant_of-self-clause-claimed g c =
       fits = c.requires.fits;
       bare = c.requires.bare;
     } in
-    let calling_now = calling_unread v w d.same.2 layout c.args.op calling in
+    let calling_now = calling_unread v w d.same_view.2 layout c.args.op calling in
     let u = c.act-reply.new.pass.seat.me.0 in
     c.keep_claims.ensures
-    ∙ ap (claims_by_plan c.act-reply.result c.args.op c.decide-plan.result)
-    (c.args.self.now.claimed ∙ sym (claims_unread v w d.same.2))
-    ∙ sym (claims_then layout shapes c.args.op c.decide-plan.result c.act-reply.result w u calling_now d.planned
+    ∙ ap (claims_by_action c.act-reply.result c.args.op c.decide-action.result)
+    (c.args.self.now.claimed ∙ sym (claims_unread v w d.same_view.2))
+    ∙ sym (claims_then layout shapes c.args.op c.decide-action.result c.act-reply.result w u calling_now d.planned
     c.act-reply.ensures.done)
 
 pub keep_claims-requires-clause-room : goal.keep_claims-requires-clause-room
-keep_claims-requires-clause-room g c = λ src cell full same_op same_plan same_reply.
+keep_claims-requires-clause-room g c = λ src cell full same_op same_action same_reply.
     let h = c.args.heap.now in
     let layout = h.key.layout in
     let shapes = g.S.ShapeTable.lists h.key.shapes in
     let v = c.args.self.now.own.pass.seat.me.0 in
-    let w = c.decide-plan.new.own.pass.seat.me.0 in
-    let d = c.decide-plan.ensures in
+    let w = c.decide-action.new.own.pass.seat.me.0 in
+    let d = c.decide-action.ensures in
     let calling : IsCalling layout v c.args.op = record {
       limits = d.limits;
       is_mutator = c.requires.mutator;
@@ -129,9 +129,9 @@ keep_claims-requires-clause-room g c = λ src cell full same_op same_plan same_r
       fits = c.requires.fits;
       bare = c.requires.bare;
     } in
-    let calling_now = calling_unread v w d.same.2 layout c.args.op calling in
+    let calling_now = calling_unread v w d.same_view.2 layout c.args.op calling in
     let u = c.act-reply.new.pass.seat.me.0 in
     subst (λ (l : List ℕ). nat_le claims_most (length l) ≡ false)
-    (claims_unread v w d.same.2 ∙ sym c.args.self.now.claimed)
-    (has_room layout shapes c.args.op c.decide-plan.result c.act-reply.result w u calling_now d.planned
-    c.act-reply.ensures.done src cell full same_op same_plan same_reply)
+    (claims_unread v w d.same_view.2 ∙ sym c.args.self.now.claimed)
+    (has_room layout shapes c.args.op c.decide-action.result c.act-reply.result w u calling_now d.planned
+    c.act-reply.ensures.done src cell full same_op same_action same_reply)
