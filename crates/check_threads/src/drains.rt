@@ -6,14 +6,20 @@
 //! rows.
 
 mod copying;
-mod drains;
 mod freezing;
-mod looks;
 mod parts;
-mod plan;
-mod running;
 mod seen;
+// over those above it
+mod looks;
+// over those above it
+mod plan;
+// over those above it
 mod sharing;
+// over those above it
+mod running;
+// over those above it
 mod trial;
+// over those above it
+mod drains;
 
 pub use drains::check_drains;

@@ -5,9 +5,10 @@
 //! It knows no program, and reads no file: `checks` calls it for the lines of its input, and hands it the rows.
 
 mod meeting;
+mod table;
+// over those above it
 mod race;
 mod rows;
-mod table;
 
 use check_heap::number;
 use race::check_race;

@@ -12,17 +12,20 @@
 //! One step makes a call's entry in the history; what the call owes then it pays, one word at a time, while others make
 //! theirs. It waits for nobody but the turnstile, has no lock, and takes no memory.
 
-mod acting;
-mod calling;
 mod copying;
-mod deciding;
 mod groups;
-mod growing;
 mod leaving;
-mod mutator;
 mod own;
 mod properties;
 mod registers;
 mod searching;
+// over those above it
+mod deciding;
+mod growing;
+mod mutator;
+// over those above it
+mod acting;
+// over those above it
+mod calling;
 
 pub use mutator::Mutator;

@@ -5,11 +5,13 @@
 //! `owed`. A search for something free begins where `cursor` says, and sweeps a block in which it took nothing, unless
 //! another does. It knows no property and no group, and which action a call has it is told.
 
-pub mod births;
 pub mod claiming;
 pub mod cursor;
 pub mod handles;
 pub mod pairs;
-pub mod searching;
 pub mod slots;
 mod sweeping;
+// over those above it
+pub mod searching;
+// over those above it
+pub mod births;

@@ -5,12 +5,13 @@
 //! may be made where its action is the call's. It knows which word says what, and no operation: who makes a call, and
 //! by which step, it is told.
 
-mod arrays;
 mod barrier;
 mod colouring;
 mod growth;
 mod registers;
 mod shape;
+// over those above it
+mod arrays;
 
 pub use arrays::replace;
 pub use barrier::write_barrier;
