@@ -53,8 +53,8 @@ abbrev pub after_period : Pace → Layout → List Event → Period → List Eve
 after_period pace layout before period = after_part pace layout before period ++ period.freeze
 
 -- A period may stand right after a history. Its part has calls, and where no cycle marks also blocks that are taken and
--- swept: each that is taken is swept there. After a forced freeze nothing is dead. (Nor is anything when a cycle begins:
--- `StandsBegin` says that.)
+-- swept: each that is taken is swept there. After a forced freeze nothing is dead. (Nor is anything when a cycle
+-- begins: `StandsBegin` says that.)
 pub record StandsPeriod (pace : Pace) (layout : Layout) (before : List Event) (period : Period) : Type 0 where
   pub goes_on : is_over layout before ≡ false
   pub entries : AllPass (λ event. is_of_part event.entry) period.part
