@@ -8,10 +8,10 @@ a trigger, and with small periods and headrooms. A text doesn't say in which fre
 some way through the freezes, in which all of this holds:
 
 - each reply is the one of a plain store from which just the cells went that the text says, and in which a block is swept by
-  the operation that finds nothing free in it, by the freeze that next begins a cycle before it does, and by a must;
+  the operation that finds nothing free in it, by the freeze that next begins a cycle before it does, and by a forced freeze;
 - a cycle frees nothing that is retained where it ends, keeps nothing that was held by nothing while it ran, and what it
-  keeps holds nothing that it frees; an Eden cycle, which begins in no must and whose number is no multiple of four, keeps
-  all that lived at the last end, as if that were held;
+  keeps holds nothing that it frees; an Eden cycle, which begins in no forced freeze and whose number is no
+  multiple of four, keeps all that lived at the last end, as if that were held;
 - what it kept and freed adds up, and so do the live cells at the end;
 - it begins where the schedule says, and ends at the latest where the schedule says.
 
@@ -68,9 +68,9 @@ def closed(roots, links, pairs, members):
         kept |= more
 
 
-def is_full_cycle(number, must):
+def is_full_cycle(number, is_forced):
     """Whether the cycle of this number is a full one where it begins in such a freeze."""
-    return must or number % 4 == 0
+    return is_forced or number % 4 == 0
 
 
 class Run:
@@ -98,9 +98,9 @@ class Run:
                 all_of |= now
 
     def part(self):
-        """A running part. Answers whether the freeze after it is a must."""
+        """A running part. Answers whether the freeze after it is forced."""
         run = self.work["period"] if self.span is None else self.shares()[1]
-        must = False
+        is_forced = False
         for who, ops in enumerate(self.work["mutators"]):
             for _ in range(run):
                 if not self.store.active[who]:
@@ -125,14 +125,14 @@ class Run:
                 if not first and not over:
                     self.done[who] += 1
                 if first or reply == "asked":
-                    must = True
+                    is_forced = True
                     break
-        return must or not any(self.store.active)
+        return is_forced or not any(self.store.active)
 
-    def begin(self, must):
+    def begin(self, is_forced):
         self.store.sweep_all()
         self.span = held(self.store)
-        self.spared = set() if is_full_cycle(self.ended + 1, must) else self.store.old
+        self.spared = set() if is_full_cycle(self.ended + 1, is_forced) else self.store.old
         self.in_cycle = 0
 
     def end(self):
@@ -174,17 +174,17 @@ def pauses(run, has_to_end):
     yield ended
 
 
-def freezes(run, must):
+def freezes(run, is_forced):
     """The ways through a freeze."""
-    marked = [run] if run.span is None else list(pauses(run, must or run.shares()[1] == 0))
+    marked = [run] if run.span is None else list(pauses(run, is_forced or run.shares()[1] == 0))
     for way in marked:
         trigger = way.work["trigger"]
         is_due = run.span is None and 0 < trigger <= run.since_end
-        if must or is_due:
+        if is_forced or is_due:
             way = copy.deepcopy(way)
-            way.begin(must)
-            for ended in pauses(way, must):
-                if must:
+            way.begin(is_forced)
+            for ended in pauses(way, is_forced):
+                if is_forced:
                     ended.store.sweep_all()
                 yield ended
         else:
@@ -211,10 +211,10 @@ def accepts(work, text):
         if looked > MOST:
             return None
         try:
-            must = run.part()
+            is_forced = run.part()
         except Wrong:
             continue
-        for way in freezes(run, must):
+        for way in freezes(run, is_forced):
             if any(way.store.active):
                 ways.append(way)
             elif way.ended == len(cycles) and len(way.store.cells) == live and way.span is None:

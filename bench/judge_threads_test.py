@@ -116,25 +116,25 @@ class Made(judge.Run):
             tried = copy.deepcopy(self)
             tried.draw, tried.store.chosen = self.draw, self.draw.choice
             tried.store.wished = lambda full: self.draw.random() < luck
-            must = tried.tried_part()
+            is_forced = tried.tried_part()
             if tried.store.is_kept():
                 vars(self).update(vars(tried))
                 self.beside += bool(self.store.promised)
-                return must
+                return is_forced
 
     def tried_part(self):
         self.store.open()
         run = self.work["period"] if self.span is None else self.shares()[1]
         left = {who: run for who in range(self.count) if self.store.active[who]}
-        must, bold, who = False, self.draw.choice([0, 0.5, 0.9]), None
+        is_forced, bold, who = False, self.draw.choice([0, 0.5, 0.9]), None
         while left:
             if who not in left or self.draw.random() > bold:
                 who = self.draw.choice(list(left))
             ended = self.call(who)
-            must, left[who] = must or ended, left[who] - 1
+            is_forced, left[who] = is_forced or ended, left[who] - 1
             if ended or left[who] == 0 or not self.store.active[who]:
                 del left[who]
-        return must or not any(self.store.active)
+        return is_forced or not any(self.store.active)
 
     def pause(self, has_to_end):
         """A pause, after which the cycle may end: it keeps what is retained, and some of what was while it ran."""
@@ -155,14 +155,14 @@ class Made(judge.Run):
 
     def text(self):
         while any(self.store.active):
-            must = self.part()
+            is_forced = self.part()
             if self.span is not None:
-                self.pause(must or self.shares()[1] == 0)
-            if must or self.span is None and 0 < self.work["trigger"] <= self.since_end:
-                self.begin(must)
+                self.pause(is_forced or self.shares()[1] == 0)
+            if is_forced or self.span is None and 0 < self.work["trigger"] <= self.since_end:
+                self.begin(is_forced)
                 self.black = 0
-                self.pause(must)
-                if must:
+                self.pause(is_forced)
+                if is_forced:
                     self.store.sweep_all()
         blocks = [f"mutator {who}\n" + "".join(line + "\n" for line in lines) for who, lines in enumerate(self.lines)]
         return "".join(blocks) + "".join(line + "\n" for line in self.cycles) + f"live {len(self.store.cells)}\n"
@@ -176,14 +176,14 @@ class Tried(judge.Run):
         self.store = Loose(work)
 
     def parts(self):
-        """All ways through a running part, each with whether the freeze after it is a must."""
+        """All ways through a running part, each with whether the freeze after it is forced."""
         run = self.work["period"] if self.span is None else self.shares()[1]
         self.store.open()
         ways, seen = [(self, [run * active for active in self.store.active], False)], set()
         while ways:
-            here, left, must = ways.pop()
+            here, left, is_forced = ways.pop()
             if not any(left) and here.store.is_kept():
-                yield here, must or not any(here.store.active)
+                yield here, is_forced or not any(here.store.active)
             for who in range(self.count):
                 if left[who]:
                     way = copy.deepcopy(here)
@@ -197,7 +197,7 @@ class Tried(judge.Run):
                                [sorted(seen) for seen in store.seen], sorted(store.promised)))
                     if ended is not None and key not in seen:
                         seen.add(key)
-                        ways.append((way, more, must or ended))
+                        ways.append((way, more, is_forced or ended))
 
     def call(self, who):
         """A mutator's next call. Answers whether it ends its share, or None where the text has another reply."""
@@ -223,11 +223,11 @@ def tries(work, text, most=2000):
         return False
     ways, looked = [Tried(work, calls, cycles)], 0
     while ways:
-        for here, must in ways.pop().parts():
+        for here, is_forced in ways.pop().parts():
             looked += 1
             if looked > most:
                 return None
-            for way in judge.freezes(here, must):
+            for way in judge.freezes(here, is_forced):
                 if any(way.store.active):
                     ways.append(way)
                 elif way.ended == len(cycles) and len(way.store.cells) == live and way.span is None:

@@ -9,7 +9,7 @@ longest of them.
 
 - `--make 7` is the generated workload: four mutators, 80,004 calls, 16,000 cells.
 - `full of live cells` is the largest heap: 16,384 cells in one chain, with a table at each of the first 4,096. It is
-  collected by a freeze that is a must, and once more at the end of the run.
+  collected by a forced freeze, and once more at the end of the run.
 - In `full of dead cells` the chain dies before it is collected.
 - In `dead cells and arrays` 16,384 cells die, and with 4,096 of them the array of their property.
 

@@ -38,7 +38,8 @@ WITH_OPERANDS = """
     alloc table get put move set drop claim release add getp setp strong sget weak wget pair pget pdel group
 """.split()
 PRINTED = re.compile(rf"`((?:(?:{'|'.join(WITH_OPERANDS)}) [^`=]+|unclaim|collect|retire) = [^`]*|live \d+)`")
-CODE = ["README.md", *(f"docs/{page}.md" for page in ("CHANGING", "EMBED", "LIFE-OF-A-CELL", "MACHINE", "MAP", "PROVED"))]
+PAGES = ("CHANGING", "EMBED", "LIFE-OF-A-CELL", "MACHINE", "MAP", "PROVED", "WORDS")
+CODE = ["README.md", *(f"docs/{page}.md" for page in PAGES)]
 WITH_CLAUSES = ("README.md", "docs/PROVED.md")
 TABLE = re.compile(r"^(.*)\n\n\| Operation \| Printed \| Why \|\n\|[-|]*\|\n((?:\|.*\n)+)", re.M)
 TOLD = re.compile(r"`(riptide: [^`]*)`")

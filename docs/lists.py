@@ -384,7 +384,7 @@ def picture_of_rooms():
     """The crates as a picture of layers, the lowest on top, with the folders of each in brackets."""
     lines = []
     for says, here in layers():
-        line, head = "", re.match(r"(?:the )?(\w+)", says).group(1)
+        line, head = "", re.match(r"(?:the )?(?:one )?(\w+)", says).group(1)
         for name, _ in here:
             folders = " ".join(folders_of(name))
             room = f"{name} ({folders})" if folders else name

@@ -39,7 +39,7 @@ pub struct Runs {
     pub must: u32,
 }
 
-/// Freezes with nothing due, and then once more as a must. Answers both, and leaves the ends in the report.
+/// Freezes with nothing due, and then once more, forced. Answers both, and leaves the ends in the report.
 pub fn freeze_twice(
     frozen: &mut Frozen<'_, Shapes>,
     layout: &Layout,

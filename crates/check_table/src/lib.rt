@@ -11,7 +11,7 @@
 //! - `calls`: the same, but that the mutators work in the first part, and retire in the second one.
 //! - `chain FACTS SMALL LARGE`: the heap that the text FACTS says is stored over a frozen heap, and marked in two
 //!   pauses within these budgets.
-//! - `freezes`: the freeze code runs twice over a frozen heap, with nothing due and as a must.
+//! - `freezes`: the freeze code runs twice over a frozen heap, with nothing due and then forced.
 #![tactic(auto)]
 
 mod callers;

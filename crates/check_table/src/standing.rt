@@ -107,8 +107,8 @@ fn freeze_over(single: Single, layout: &Layout, books: &mut Books) -> Result<Run
     freeze_twice(&mut frozen, layout, books)
 }
 
-/// Runs the freeze code twice over a frozen heap of one mutator: with nothing due, and as a must. The report tells the
-/// cycles that ended.
+/// Runs the freeze code twice over a frozen heap of one mutator: with nothing due, and then forced. The report tells
+/// the cycles that ended.
 pub fn freeze_single(alloc: Global) -> Result<Option<(Runs, Report)>, Memory> {
     let layout = Layout::new([1, 0, 0, 0, 1], [1, 0, 0, 0, 0], 4, 2, 2, 1, 0);
     let mut books = Books::new(alloc, &layout, PACING, 4, 256)?;

@@ -3,7 +3,7 @@
 //!
 //! It is a library that a program hands its runtime: `fn main(rt: HostRuntime)` calls
 //! `both_find_seven(&rt, rt.alloc())`, `four_are_kept` or `adds_in_order`. A program of one's own may begin as a copy
-//! of one of the three folders.
+//! of one of the three folders: each may touch `tide` alone, the one door, and none names another.
 #![tactic(auto)]
 
 mod two_mutators;

@@ -6,8 +6,9 @@
 //! mutator and each visitor has a `Pass`, its right to step on words; it begins a part with a `Ticket`, and hands a
 //! `Note` in at its stop. Each step keeps the rule and tells what the machine says of it.
 //!
-//! Nothing else may load or change a shared word. Who makes a heap, seats participants, freezes and opens is for the
-//! room above: of the collector it knows what its view says.
+//! It may touch `tide_core`, which it hands on, and `atomic_table`. Nothing else may load or change a shared word. Who
+//! makes a heap, seats participants, freezes and opens is for the room above: of the collector it knows what its view
+//! says.
 #![tactic(auto)]
 
 mod shapes;

@@ -2,7 +2,7 @@
 //!
 //! A heap is one list of words, parted into the regions of `Region`. A `Layout` tells how large each region is and
 //! where each word lies: `place` for any region, `slot` for a cell and `element` for an array. No two words share a
-//! place. What a word says, and that there are words at all, this crate does not know. It stands on `tide_model`.
+//! place. It may touch `tide_model`, and knows neither what a word says nor that there are words at all.
 #![tactic(auto)]
 
 mod region;

@@ -40,14 +40,14 @@ ends_its_cycle share visits freed = record {
   all = λ may. absurd (cc);
 }
 
--- a pause outside a must freeze makes its share black, no more and no less where the cycle goes on
+-- a pause outside a forced freeze makes its share black, no more and no less where the cycle goes on
 pub pause_over_its_share : IsPause false 2 (record { visits = 3; freed = Some [] }) → ⊥
 pause_over_its_share pause = let few = pause.at_most refl in omega (arith, few)
 
 pub pause_under_its_share : IsPause false 2 (record { visits = 1; freed = None }) → ⊥
 pause_under_its_share pause = let same = pause.all refl refl in omega (arith, same)
 
--- a pause of a must freeze ends its cycle
+-- a pause of a forced freeze ends its cycle
 pub must_pause_goes_on : IsPause true 2 (record { visits = 2; freed = None }) → ⊥
 must_pause_goes_on pause = let e : false ≡ true = pause.ends refl in cc
 
@@ -55,7 +55,7 @@ must_pause_goes_on pause = let e : false ≡ true = pause.ends refl in cc
 abbrev pub one_born : List Event
 one_born = plain (Open 1 8) ∷ first_calls (Alloc 0 0) (Born 0) ∷ []
 
--- a must freeze runs a whole cycle, and one that is no must and not due runs none
+-- a forced freeze runs a whole cycle, and one that isn't forced runs none where none is due
 pub must_cycle_runs : IsFreeze pace small one_born 8 true (Begin 1 true ∷ Pause 1 ∷ End 1 [] ∷ [])
 must_cycle_runs = record {
   old = [];
@@ -167,7 +167,7 @@ nobody_visited goes = by_visits goes.visits goes.one_each goes.are (goes.some (�
 abbrev second_refused : List Event
 second_refused = second_calls (Alloc 0 1) (Refused (Full 1)) ∷ []
 
--- a freeze is a must where some mutator's last call ended its share, and where none is active
+-- a freeze is forced where some mutator's last call ended its share, and where none is active
 pub musts :
     (is_forced visited [] (first_calls (Drop 0) Done ∷ second_calls Collect Asked ∷ []) ≡ true)
     × (is_forced visited [] (second_calls Collect Asked ∷ second_calls (Drop 0) Done ∷ []) ≡ false)

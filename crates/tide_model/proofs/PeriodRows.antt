@@ -171,7 +171,7 @@ periods =
     one_more after_second third
     (one_more after_first second (one_more [] first no_period first_stands) second_stands) third_stands
 
--- a schedule with a cycle that marks while its mutator runs, a must freeze that ends it and makes a whole one, and a
+-- a schedule with a cycle that marks while its mutator runs, a forced freeze that ends it and runs a whole one, and a
 -- last freeze
 pub whole_is_scheduled : IsScheduled pace small whole
 whole_is_scheduled = record {

@@ -32,7 +32,7 @@ born_and_freed = record {
   freeze = plain (Begin 1 false) ∷ plain (Pause 0) ∷ plain (End 1 (0 ∷ 1 ∷ 2 ∷ [])) ∷ [];
 }
 
--- then the next free cell is taken, and the must freeze sweeps before its cycle begins and after it
+-- then the next free cell is taken, and the forced freeze sweeps before its cycle begins and after it
 abbrev next_cell : Period
 next_cell = record {
   part = first_calls (Alloc 1 0) (Born 3) ∷ first_calls Retire Done ∷ [];
@@ -227,7 +227,7 @@ clean_block_is_taken takes = IsSwept-tested small [] refl 0 takes.has_dead
 pub block_is_taken_while_marking : StandsTaken small (opened_part ++ plain (Begin 2 true) ∷ []) 0 → ⊥
 block_is_taken_while_marking takes = let bad : marking 2 ≡ idle = takes.is_idle in cc
 
--- a must freeze sweeps what the end of its own cycle left dead
+-- a forced freeze sweeps what the end of its own cycle left dead
 abbrev left_dead : Period
 left_dead = record next_cell {
   freeze = plain (Sweep 0) ∷ plain (Begin 2 true) ∷ plain (Pause 0) ∷ plain (End 2 (3 ∷ [])) ∷ [];

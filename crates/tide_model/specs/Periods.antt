@@ -21,7 +21,7 @@ use Rattle.tide_model.specs.Since.{TakenAreSwept, born_since, visits_since, is_c
 abbrev pub is_over : Layout → List Event → Bool
 is_over layout history = not (any_below (λ who. (state_after layout history).active who) layout.mutators)
 
--- The freeze after a part is a must: some mutator's last call in the part ended its share, or no mutator is active.
+-- The freeze after a part is forced: some mutator's last call in the part ended its share, or no mutator is active.
 -- `before` is the history before the part's first call, so with its Open or without: an Open is no call.
 abbrev pub is_forced : Layout → List Event → List Event → Bool
 is_forced layout before part =
@@ -53,8 +53,8 @@ abbrev pub after_period : Pace → Layout → List Event → Period → List Eve
 after_period pace layout before period = after_part pace layout before period ++ period.freeze
 
 -- A period may stand right after a history. Its part has calls, and where no cycle marks also blocks that are taken and
--- swept: each that is taken is swept there. After a must freeze nothing is dead. (Nor is anything when a cycle begins:
--- `StandsBegin` says that.)
+-- swept: each that is taken is swept there. After a forced freeze nothing is dead. (Nor is anything when a cycle
+-- begins: `StandsBegin` says that.)
 pub record StandsPeriod (pace : Pace) (layout : Layout) (before : List Event) (period : Period) : Type 0 where
   pub goes_on : is_over layout before ≡ false
   pub entries : AllPass (λ event. is_of_part event.entry) period.part

@@ -2,8 +2,8 @@
 //!
 //! The types here are those that code passes about. What they mean stands in `specs/`: the state of a
 //! store, what an operation answers, the least fixpoint of its graph, when the entries of a cycle may stand,
-//! and which histories are lawful. Every other crate's contracts cite these definitions, and this crate
-//! stands on none.
+//! and which histories are lawful. Every other room's contracts cite these definitions, and this
+//! one may touch no room.
 #![tactic(auto)]
 
 pub mod laws;

@@ -1,8 +1,8 @@
 //! The options of a command line: which ones its words ask for, or that they are refused.
 //!
 //! The command is a simple one of the crate `clap`, which states what its words mean; what is added is that a plain run
-//! has no visitors and no snapshot, nor a generated workload a snapshot, and how many visitors there may be. It knows
-//! no workload and no run.
+//! has no visitors and no snapshot, nor a generated workload a snapshot, and how many visitors there may be. It may
+//! touch `clap`, which is used here alone, and knows no workload and no run.
 #![tactic(auto)]
 
 mod command;

@@ -12,8 +12,8 @@ use Rattle.tide_periods.specs.declared.caller.Caller.{Caller}
 use Rattle.tide_periods.specs.Part.{AreCallers}
 use Rattle.tide_periods.specs.Recorded.{IsSettled, Recorded}
 
--- A freeze did what the schedule asks for after the running part that ended, and after a must nothing is dead. Each
--- mutator has so many calls in the next part, and at least one.
+-- A freeze did what the schedule asks for after the running part that ended, and after a forced one nothing is dead.
+-- Each mutator has so many calls in the next part, and at least one.
 pub record RanFreeze (old new : Recorded) (pace : Pace) (is_forced : Bool) (run : ℕ) : Type 0 where
   pub settled : IsSettled new
   pub same : new.setting ≡ old.setting

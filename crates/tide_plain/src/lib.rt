@@ -1,7 +1,8 @@
 //! The plain store: the slow reference store, against which every other is compared. One thread, no words.
 //!
 //! `statuses` says what becomes of an array, `parts` has each list by itself, `stored` has them together with their
-//! invariant, `collect` finds what is retained, and `calls` is the operations. Each names those before it alone.
+//! invariant, `collect` finds what is retained, and `calls` is the operations. Each names those before it alone. It may
+//! touch the layout, blocks and shapes.
 #![tactic(auto)]
 
 mod statuses;

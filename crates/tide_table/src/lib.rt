@@ -1,8 +1,9 @@
 //! The collector's side of the heap of shared words: it starts a heap, seats participants, freezes, opens and closes.
 //!
 //! The `Collector` hands out tickets, takes notes in, and freezes the heap once all have stopped. A `Frozen` heap is
-//! `Words`, over which marking and sweeping run, and a `HistoryWords`. The heap, its rule and the steps of participants are
-//! those of `tide_heap`, whose names this crate hands on. It waits for nobody and has no lock.
+//! `Words`, over which marking and sweeping run, and a `HistoryWords`. The heap, its rule and the steps of participants
+//! are those of `tide_heap`, whose names this room hands on. It may touch that and `atomic_table`, knows no operation
+//! and no thread, waits for nobody and has no lock.
 #![tactic(auto)]
 
 pub mod laws;

@@ -3,7 +3,7 @@
 //! A heap is one list of words, and a `Layout` of `tide_layout` tells where each of them lies. Each value, structure,
 //! pair and colour has one word of 64 bits, and the calls here go from the one to the other (`forms`). `Words` is any
 //! such list that can be read and changed (`heap`). What a cycle says of colours is in `marking`, and `greying` changes
-//! them. What stands on this room reaches the words by these calls alone. It may touch the layout and blocks, and knows
+//! them. The rooms above reach the words by these calls alone. It may touch the layout and blocks, and knows
 //! no constraint and no thread.
 #![tactic(auto)]
 
