@@ -1,4 +1,5 @@
--- The words determine all that a graph sees: two states that they read as have the same roots, links, pairs and group mates.
+-- The words determine all that a graph sees: two states that they read as have the same roots, links, pairs and group
+-- mates.
 use Rattle.tide_words.proofs.heap_laws.ReadingLaws.{live_within}
 use Rattle.std.proofs.Common.{ℕ, ◌≡◌, ◌<◌, sym, ◌∙◌, ap, subst, arith, Bool, true, List, length, inl, inr, Option, Some, None}
 use Rattle.std.proofs.lemmas.Bool.{cases_Bool, cases_lt}
