@@ -12,7 +12,7 @@
 pub use tide_grow_shape::{
     GrowGate, GrowRefused, GrowShapes, Grower, Settled, growers_agree, settle,
 };
-pub use tide_heap::{Books, GreyList, Layout, Numbers, Pacing, Report};
+pub use tide_heap::{Books, GreyList, Layout, Numbers, Pacing, Report, fits};
 pub use tide_model::{FreePass, Memory, Op, Place, Refusal, Reply, Turnstile, Val};
 pub use tide_mutator::Mutator;
 pub use tide_shape::{Paths, ShapeTable, Shapes};

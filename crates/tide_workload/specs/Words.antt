@@ -7,7 +7,6 @@ pub use Rattle.tide_text.specs.declared.work.workload.TheConstants.{MAX_MUTATORS
 pub use Rattle.tide_text.specs.work.OpLimits.{OpLimits, limits_with}
 pub use Rattle.tide_text.specs.work.Work.{Work, AreSettings, AreKeys, ArePaths, IsOperation, IsWork, limits_of}
 pub use Rattle.tide_text.specs.work.ReadOp.{op_of}
-pub use Rattle.tide_workload.specs.declared.reading.TheConstants.{MAX_BYTES}
 unfoldable pub use Rattle.tide_workload.specs.Reading.{reads_workload}
 pub use Rattle.tide_text.specs.lines.OpText.{HasText}
 unfoldable pub use Rattle.tide_text.specs.lines.OpText.{op_text}
