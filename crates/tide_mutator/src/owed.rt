@@ -7,6 +7,7 @@
 
 mod arrays;
 mod barrier;
+mod call;
 mod colouring;
 mod growth;
 mod registers;
@@ -14,6 +15,7 @@ mod shape;
 
 pub use arrays::replace;
 pub use barrier::write_barrier;
+pub use call::Call;
 pub use colouring::colour;
 pub use growth::Growth;
 pub use registers::{pay, show};
