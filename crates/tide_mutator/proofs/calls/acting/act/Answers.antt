@@ -4,7 +4,7 @@ use Rattle.tide_mutator.proofs.owed_laws.Answering.{answered_as, may_as}
 use Rattle.tide_mutator.proofs.calls.acting.act.Goals as goal
 
 pub grow-requires : goal.grow-requires
-grow-requires g c = λ κs outlives. record { may = may_as c.in-Grow.is c.requires.may }
+grow-requires g c = (search, may_as c.in-Grow.is c.requires.may)
 
 pub returns-in-Grow : goal.returns-in-Grow
 returns-in-Grow g c = record { answered = answered_as c.in-Grow.is c.grow.ensures.answered }

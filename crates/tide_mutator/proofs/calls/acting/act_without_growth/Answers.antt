@@ -10,7 +10,7 @@ pub returns-in-Refuse : goal.returns-in-Refuse
 returns-in-Refuse g c = record { answered = answered_as c.in-Refuse.is c.refuse.ensures.answered }
 
 pub allocate-requires : goal.allocate-requires
-allocate-requires g c = λ κs outlives. record { may = may_as c.in-Allocate.is c.requires.may }
+allocate-requires g c = (search, may_as c.in-Allocate.is c.requires.may)
 
 pub returns-in-Allocate : goal.returns-in-Allocate
 returns-in-Allocate g c = record { answered = answered_as c.in-Allocate.is c.allocate.ensures.answered }
@@ -22,7 +22,7 @@ pub returns-in-LoadSlot : goal.returns-in-LoadSlot
 returns-in-LoadSlot g c = record { answered = answered_as c.in-LoadSlot.is c.get.ensures.answered }
 
 pub put-requires : goal.put-requires
-put-requires g c = λ κs outlives. record { may = may_as c.in-StoreSlot.is c.requires.may }
+put-requires g c = (search, may_as c.in-StoreSlot.is c.requires.may)
 
 pub returns-in-StoreSlot : goal.returns-in-StoreSlot
 returns-in-StoreSlot g c = record { answered = answered_as c.in-StoreSlot.is c.put.ensures.answered }
@@ -52,13 +52,13 @@ pub returns-in-LoadElement : goal.returns-in-LoadElement
 returns-in-LoadElement g c = record { answered = answered_as c.in-LoadElement.is c.get_property.ensures.answered }
 
 pub put_property-requires : goal.put_property-requires
-put_property-requires g c = λ κs outlives. record { may = may_as c.in-StoreElement.is c.requires.may }
+put_property-requires g c = (search, may_as c.in-StoreElement.is c.requires.may)
 
 pub returns-in-StoreElement : goal.returns-in-StoreElement
 returns-in-StoreElement g c = record { answered = answered_as c.in-StoreElement.is c.put_property.ensures.answered }
 
 pub append-requires : goal.append-requires
-append-requires g c = λ κs outlives. record { may = may_as c.in-Append.is c.requires.may }
+append-requires g c = (search, may_as c.in-Append.is c.requires.may)
 
 pub returns-in-Append : goal.returns-in-Append
 returns-in-Append g c = record { answered = answered_as c.in-Append.is c.append.ensures.answered }
