@@ -1,3 +1,4 @@
+pub mod Answering
 pub mod Entering
 pub mod OwnClaims
 pub mod Paying

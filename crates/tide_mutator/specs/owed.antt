@@ -1,3 +1,4 @@
+pub mod Acting
 pub mod Calling
 pub mod Made
 pub mod Paying

@@ -6,6 +6,7 @@
 //! by which step, it is told.
 
 mod barrier;
+mod call;
 mod colouring;
 mod growth;
 mod registers;
@@ -15,6 +16,7 @@ mod arrays;
 
 pub use arrays::replace;
 pub use barrier::write_barrier;
+pub use call::Call;
 pub use colouring::colour;
 pub use growth::Growth;
 pub use registers::{pay, show};

@@ -9,7 +9,7 @@ use Rattle.tide_model.specs.declared.op.Op.{Op}
 use Rattle.tide_model.specs.declared.op.Op.TheVariants.{Alloc, Table, Get, Put, Move, Set, Drop, Claim, Release, Unclaim, Add, GetProp, SetProp, StrongSet, StrongGet, WeakSet, WeakGet, PairSet, PairGet, PairDel, Group, Collect, Retire}
 use Rattle.tide_model.specs.declared.op.Refusal.{Refusal}
 use Rattle.tide_model.specs.declared.val.Val.{Val}
-use Rattle.tide_mutator.specs.calls.Actions.{is_plain}
+use Rattle.tide_mutator.specs.owed.Acting.{is_plain}
 use Rattle.tide_heap.specs.tide_words.heap.Heap.{Heap}
 
 -- an operation with a plain action is told by registers

@@ -40,15 +40,3 @@ is_rest (action.Join cell group) = true
 is_rest action.Ask = true
 is_rest action.Retire = true
 is_rest _ = false
-
--- registers alone tell of what a call with such an action is
-abbrev pub is_plain : Action → Bool
-is_plain (action.Refuse refusal) = false
-is_plain (action.LoadElement dst array place) = false
-is_plain (action.StoreElement cell array place value) = false
-is_plain (action.Append addition array value) = false
-is_plain (action.Grow addition array class value) = false
-is_plain (action.StorePair table place key value) = false
-is_plain (action.ClearPair table place) = false
-is_plain (action.Show dst table place value) = false
-is_plain _ = true

@@ -1,26 +1,17 @@
 //! The call by which a mutator leaves for good.
-ghost use Rattle.std.specs.Prelude.{◌≡◌, ◌+◌, ◌%◌, ◌^◌, length, true};
-ghost use Rattle.tide_heap.specs.tide_call.Actions.{is_told_by_registers};
 ghost use Rattle.tide_heap.specs.tide_call.declared.action.Action.TheVariants.{Retire as Leave};
-ghost use Rattle.tide_mutator.specs.owed.Calling.{IsCalling};
-ghost use Rattle.tide_mutator.specs.owed.Made.{HasDone};
-ghost use Rattle.tide_mutator.specs.owed.Standing.{IsPlanned};
+ghost use Rattle.tide_mutator.specs.owed.Acting.{HasAnswered, MayAct};
 
+use crate::owed::Call;
 use tide_heap::{Heap, HeapShapes, Pass};
-use tide_model::{Op, Reply};
+use tide_model::Reply;
 
 /// Makes its mutator inactive.
-pub(crate) fn leave<S: HeapShapes>(pass: &mut Pass, heap: &Heap<S>, op: Op, calls: u64) -> Reply
-    requires own { pass.old.seat.table_id ≡ heap.now.table.shared.table_id }
-    requires calling { IsCalling heap.now.key.layout pass.old.seat.me.0 op }
-    requires told { is_told_by_registers op ≡ true }
-    requires counts { calls ≡ (length pass.old.seat.me.0.mine + 1) % 2 ^ 64 }
-    requires planned { IsPlanned heap.now.key.layout (S.lists heap.now.key.shapes) pass.old.seat.me.0 op Leave }
-    ensures same_pass { (pass.new.seat.table_id ≡ pass.old.seat.table_id) × (pass.new.seat.id ≡ pass.old.seat.id) }
-    ensures done { HasDone heap.now.key.layout (S.lists heap.now.key.shapes) op Leave result
-        pass.old.seat.me.0 pass.new.seat.me.0 }
+pub(crate) fn leave<S: HeapShapes>(pass: &mut Pass, heap: &Heap<S>, call: Call) -> Reply
+    requires may { MayAct S.lists heap.now pass.old call Leave }
+    ensures answered { HasAnswered S.lists heap.now call Leave result pass.old pass.new }
 {
     pass.retire(heap);
-    pass.store_call(heap, calls, None);
+    pass.store_call(heap, call.number, None);
     Reply::Done
 }

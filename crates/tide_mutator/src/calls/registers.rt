@@ -1,36 +1,24 @@
 //! Calls on own words alone: one fills a register, or is told by its call word.
-ghost use Rattle.std.specs.Prelude.{◌≡◌, ◌+◌, ◌%◌, ◌^◌, ◌<◌, length, true};
-ghost use Rattle.tide_heap.specs.tide_call.Actions.{is_told_by_registers};
 ghost use Rattle.tide_heap.specs.tide_call.declared.action.Action.TheVariants.{Ask, Fill, Refuse};
-ghost use Rattle.tide_mutator.specs.owed.Calling.{IsCalling};
-ghost use Rattle.tide_mutator.specs.owed.Made.{HasDone};
-ghost use Rattle.tide_mutator.specs.owed.Standing.{IsPlanned};
+ghost use Rattle.tide_mutator.specs.owed.Acting.{HasAnswered, MayAct};
 
+use crate::owed::Call;
 use tide_heap::{Heap, HeapShapes, Pass, val_word};
-use tide_model::{Op, Refusal, Reply, Val};
+use tide_model::{Refusal, Reply, Val};
 
 /// Fills a register.
 pub(crate) fn fill<S: HeapShapes>(
     pass: &mut Pass,
     heap: &Heap<S>,
-    op: Op,
-    calls: u64,
+    call: Call,
     dst: u8,
     value: Val,
 ) -> Reply
-    requires own { pass.old.seat.table_id ≡ heap.now.table.shared.table_id }
-    requires calling { IsCalling heap.now.key.layout pass.old.seat.me.0 op }
-    requires told { is_told_by_registers op ≡ true }
-    requires counts { calls ≡ (length pass.old.seat.me.0.mine + 1) % 2 ^ 64 }
-    requires within { dst < heap.now.key.layout.registers }
-    requires planned { IsPlanned heap.now.key.layout (S.lists heap.now.key.shapes) pass.old.seat.me.0 op
-        (Fill dst value) }
-    ensures same_pass { (pass.new.seat.table_id ≡ pass.old.seat.table_id) × (pass.new.seat.id ≡ pass.old.seat.id) }
-    ensures done { HasDone heap.now.key.layout (S.lists heap.now.key.shapes) op (Fill dst value) result
-        pass.old.seat.me.0 pass.new.seat.me.0 }
+    requires may { MayAct S.lists heap.now pass.old call (Fill dst value) }
+    ensures answered { HasAnswered S.lists heap.now call (Fill dst value) result pass.old pass.new }
 {
-    pass.store_register(heap, dst, val_word(value), Some(op));
-    pass.store_call(heap, calls, None);
+    pass.store_register(heap, dst, val_word(value), Some(call.op));
+    pass.store_call(heap, call.number, None);
     Reply::Done
 }
 
@@ -38,34 +26,21 @@ pub(crate) fn fill<S: HeapShapes>(
 pub(crate) fn refuse<S: HeapShapes>(
     pass: &mut Pass,
     heap: &Heap<S>,
-    op: Op,
-    calls: u64,
+    call: Call,
     refusal: Refusal,
 ) -> Reply
-    requires own { pass.old.seat.table_id ≡ heap.now.table.shared.table_id }
-    requires calling { IsCalling heap.now.key.layout pass.old.seat.me.0 op }
-    requires counts { calls ≡ (length pass.old.seat.me.0.mine + 1) % 2 ^ 64 }
-    requires planned { IsPlanned heap.now.key.layout (S.lists heap.now.key.shapes) pass.old.seat.me.0 op
-        (Refuse refusal) }
-    ensures same_pass { (pass.new.seat.table_id ≡ pass.old.seat.table_id) × (pass.new.seat.id ≡ pass.old.seat.id) }
-    ensures done { HasDone heap.now.key.layout (S.lists heap.now.key.shapes) op (Refuse refusal) result
-        pass.old.seat.me.0 pass.new.seat.me.0 }
+    requires may { MayAct S.lists heap.now pass.old call (Refuse refusal) }
+    ensures answered { HasAnswered S.lists heap.now call (Refuse refusal) result pass.old pass.new }
 {
-    pass.store_call(heap, calls, Some(op));
+    pass.store_call(heap, call.number, Some(call.op));
     Reply::Refused(refusal)
 }
 
 /// Asks for a cycle.
-pub(crate) fn ask<S: HeapShapes>(pass: &mut Pass, heap: &Heap<S>, op: Op, calls: u64) -> Reply
-    requires own { pass.old.seat.table_id ≡ heap.now.table.shared.table_id }
-    requires calling { IsCalling heap.now.key.layout pass.old.seat.me.0 op }
-    requires told { is_told_by_registers op ≡ true }
-    requires counts { calls ≡ (length pass.old.seat.me.0.mine + 1) % 2 ^ 64 }
-    requires planned { IsPlanned heap.now.key.layout (S.lists heap.now.key.shapes) pass.old.seat.me.0 op Ask }
-    ensures same_pass { (pass.new.seat.table_id ≡ pass.old.seat.table_id) × (pass.new.seat.id ≡ pass.old.seat.id) }
-    ensures done { HasDone heap.now.key.layout (S.lists heap.now.key.shapes) op Ask result
-        pass.old.seat.me.0 pass.new.seat.me.0 }
+pub(crate) fn ask<S: HeapShapes>(pass: &mut Pass, heap: &Heap<S>, call: Call) -> Reply
+    requires may { MayAct S.lists heap.now pass.old call Ask }
+    ensures answered { HasAnswered S.lists heap.now call Ask result pass.old pass.new }
 {
-    pass.store_call(heap, calls, Some(op));
+    pass.store_call(heap, call.number, Some(call.op));
     Reply::Asked
 }

@@ -19,9 +19,9 @@ use Rattle.tide_mutator.proofs.calls.growing.grow.Goals as goal
 pub load_own_structure-old-requires-clause-may : goal.load_own_structure-old-requires-clause-may
 load_own_structure-old-requires-clause-may g c =
     let h = c.args.heap.now in record {
-      own = c.requires.own;
-      runs = c.requires.calling.runs;
-      may = may_load_structure h.key.layout (g.S.HeapShapes.lists h.key.shapes) c.args.pass.now.seat.me.0 c.args.op
+      own = c.requires.may.own;
+      runs = c.requires.may.calling.runs;
+      may = may_load_structure h.key.layout (g.S.HeapShapes.lists h.key.shapes) c.args.pass.now.seat.me.0 c.args.call.op
           (record {
             addition = c.args.addition;
             array = c.args.array;
@@ -29,14 +29,14 @@ load_own_structure-old-requires-clause-may g c =
             value = c.args.value;
             old = 0;
             next = 0;
-          }) c.requires.calling c.requires.planned;
+          }) c.requires.may.calling c.requires.may.planned;
     }
 
 pub load_elements-words-requires-clause-ready : goal.load_elements-words-requires-clause-ready
 load_elements-words-requires-clause-ready g c =
     let h = c.args.heap.now in
     ready_first h.key.layout (g.S.HeapShapes.lists h.key.shapes) c.args.pass.now.seat.me.0
-    c.load_own_structure-old.new.self.seat.me.0 c.args.op _ c.requires.calling c.requires.planned c.requires.may
+    c.load_own_structure-old.new.self.seat.me.0 c.args.call.op _ c.requires.may.calling c.requires.may.planned c.requires.may.fits
     c.shape_word-next.ensures c.load_own_structure-old.ensures.step.follows
 
 -- the growth that the call makes
@@ -60,8 +60,8 @@ search-requires-clause-ready g c = λ κs outlives.
     let loaded = c.load_elements-words.new.pass.seat.me.0 in
     let growth = growth_of c.args.addition c.args.array c.args.class c.args.value c.load_own_structure-old.result
     c.shape_word-next.result in
-    let ready = ready_loaded layout shapes v first loaded c.args.op growth c.requires.calling c.requires.planned
-    c.requires.may c.shape_word-next.ensures c.load_own_structure-old.ensures.step.follows
+    let ready = ready_loaded layout shapes v first loaded c.args.call.op growth c.requires.may.calling c.requires.may.planned
+    c.requires.may.fits c.shape_word-next.ensures c.load_own_structure-old.ensures.step.follows
     c.load_elements-words.ensures.read in
     ready
 
@@ -75,46 +75,60 @@ store_call-requires-clause-may g c =
     let loaded = c.load_elements-words.new.pass.seat.me.0 in
     let growth = growth_of c.args.addition c.args.array c.args.class c.args.value c.load_own_structure-old.result
     c.shape_word-next.result in
-    let ready = ready_loaded layout shapes v first loaded c.args.op growth c.requires.calling c.requires.planned
-    c.requires.may c.shape_word-next.ensures c.load_own_structure-old.ensures.step.follows
+    let ready = ready_loaded layout shapes v first loaded c.args.call.op growth c.requires.may.calling c.requires.may.planned
+    c.requires.may.fits c.shape_word-next.ensures c.load_own_structure-old.ensures.step.follows
     c.load_elements-words.ensures.read in
-    let read = read_loaded layout shapes v first loaded c.args.op growth c.requires.calling c.requires.planned
-    c.requires.may c.shape_word-next.ensures c.load_own_structure-old.ensures.step.follows
+    let read = read_loaded layout shapes v first loaded c.args.call.op growth c.requires.may.calling c.requires.may.planned
+    c.requires.may.fits c.shape_word-next.ensures c.load_own_structure-old.ensures.step.follows
     c.load_elements-words.ensures.read in
-    let table = c.load_elements-words.ensures.same_pass.0 ∙ c.load_own_structure-old.ensures.step.table ∙ c.requires.own in
+    let table = c.load_elements-words.ensures.same_pass.0 ∙ c.load_own_structure-old.ensures.step.table ∙ c.requires.may.own in
     let u = c.search.new.pass.seat.me.0 in
     let looked = c.in_default.ensures.looked in
-    let still = ready_looked layout shapes loaded u c.args.op growth looked ready in record {
+    let still = ready_looked layout shapes loaded u c.args.call.op growth looked ready in record {
       own = c.search.ensures.same_pass.0 ∙ table;
       runs = still.calling.runs;
-      may = may_tell_full layout shapes u c.args.op growth still c.in_default.ensures.searched c.args.calls
-          (counted_looked loaded u looked c.args.calls (counted_still v loaded read c.args.calls c.requires.counts));
+      may = may_tell_full layout shapes u c.args.call.op growth still c.in_default.ensures.searched c.args.call.number
+          (counted_looked loaded u looked c.args.call.number (counted_still v loaded read c.args.call.number c.requires.may.counts));
     }
 
-pub returns-in_default-clause-done : goal.returns-in_default-clause-done
-returns-in_default-clause-done g c =
-    let h = c.args.heap.now in
-    let layout = h.key.layout in
-    let shapes = g.S.HeapShapes.lists h.key.shapes in
-    let v = c.args.pass.now.seat.me.0 in
-    let first = c.load_own_structure-old.new.self.seat.me.0 in
-    let loaded = c.load_elements-words.new.pass.seat.me.0 in
-    let growth = growth_of c.args.addition c.args.array c.args.class c.args.value c.load_own_structure-old.result
-    c.shape_word-next.result in
-    let ready = ready_loaded layout shapes v first loaded c.args.op growth c.requires.calling c.requires.planned
-    c.requires.may c.shape_word-next.ensures c.load_own_structure-old.ensures.step.follows
-    c.load_elements-words.ensures.read in
-    let read = read_loaded layout shapes v first loaded c.args.op growth c.requires.calling c.requires.planned
-    c.requires.may c.shape_word-next.ensures c.load_own_structure-old.ensures.step.follows
-    c.load_elements-words.ensures.read in
-    let u = c.search.new.pass.seat.me.0 in
-    let looked = c.in_default.ensures.looked in
-    let still = ready_looked layout shapes loaded u c.args.op growth looked ready in
-    let tell = c.store_call.ensures.step in
-    let w = c.store_call.new.self.seat.me.0 in
-    has_done_before v loaded read layout c.args.op shapes (action_of growth) (Refused (Full c.args.class)) w
-    (has_done_looked loaded u looked layout c.args.op shapes (action_of growth) (Refused (Full c.args.class)) w
-    (full_by layout shapes u c.args.op growth still c.in_default.ensures.searched c.args.calls w (tell.0, tell.1.follows)))
+pub returns-in_default : goal.returns-in_default
+returns-in_default g c = record {
+  answered = record {
+    same_pass = (
+      c.store_call.ensures.step.1.table
+          ∙ c.search.ensures.same_pass.0
+          ∙ c.load_elements-words.ensures.same_pass.0
+          ∙ c.load_own_structure-old.ensures.step.table,
+      c.store_call.ensures.step.1.seat
+          ∙ c.search.ensures.same_pass.1
+          ∙ c.load_elements-words.ensures.same_pass.1
+          ∙ c.load_own_structure-old.ensures.step.seat,
+    );
+    done =
+        let h = c.args.heap.now in
+        let layout = h.key.layout in
+        let shapes = g.S.HeapShapes.lists h.key.shapes in
+        let v = c.args.pass.now.seat.me.0 in
+        let first = c.load_own_structure-old.new.self.seat.me.0 in
+        let loaded = c.load_elements-words.new.pass.seat.me.0 in
+        let growth = growth_of c.args.addition c.args.array c.args.class c.args.value c.load_own_structure-old.result
+        c.shape_word-next.result in
+        let ready = ready_loaded layout shapes v first loaded c.args.call.op growth c.requires.may.calling c.requires.may.planned
+        c.requires.may.fits c.shape_word-next.ensures c.load_own_structure-old.ensures.step.follows
+        c.load_elements-words.ensures.read in
+        let read = read_loaded layout shapes v first loaded c.args.call.op growth c.requires.may.calling c.requires.may.planned
+        c.requires.may.fits c.shape_word-next.ensures c.load_own_structure-old.ensures.step.follows
+        c.load_elements-words.ensures.read in
+        let u = c.search.new.pass.seat.me.0 in
+        let looked = c.in_default.ensures.looked in
+        let still = ready_looked layout shapes loaded u c.args.call.op growth looked ready in
+        let tell = c.store_call.ensures.step in
+        let w = c.store_call.new.self.seat.me.0 in
+        has_done_before v loaded read layout c.args.call.op shapes (action_of growth) (Refused (Full c.args.class)) w
+        (has_done_looked loaded u looked layout c.args.call.op shapes (action_of growth) (Refused (Full c.args.class)) w
+        (full_by layout shapes u c.args.call.op growth still c.in_default.ensures.searched c.args.call.number w (tell.0, tell.1.follows)));
+  };
+}
 
 pub replace-requires-clause-small : goal.replace-requires-clause-small
 replace-requires-clause-small g c = λ κs outlives.
@@ -126,8 +140,8 @@ replace-requires-clause-small g c = λ κs outlives.
     let loaded = c.load_elements-words.new.pass.seat.me.0 in
     let growth = growth_of c.args.addition c.args.array c.args.class c.args.value c.load_own_structure-old.result
     c.shape_word-next.result in
-    let ready = ready_loaded layout shapes v first loaded c.args.op growth c.requires.calling c.requires.planned
-    c.requires.may c.shape_word-next.ensures c.load_own_structure-old.ensures.step.follows
+    let ready = ready_loaded layout shapes v first loaded c.args.call.op growth c.requires.may.calling c.requires.may.planned
+    c.requires.may.fits c.shape_word-next.ensures c.load_own_structure-old.ensures.step.follows
     c.load_elements-words.ensures.read in
     ready.small
 
@@ -144,14 +158,14 @@ replace-requires-clause-owes g c = λ κs outlives.
     let loaded = c.load_elements-words.new.pass.seat.me.0 in
     let growth = growth_of c.args.addition c.args.array c.args.class c.args.value c.load_own_structure-old.result
     c.shape_word-next.result in
-    let ready = ready_loaded layout shapes v first loaded c.args.op growth c.requires.calling c.requires.planned
-    c.requires.may c.shape_word-next.ensures c.load_own_structure-old.ensures.step.follows
+    let ready = ready_loaded layout shapes v first loaded c.args.call.op growth c.requires.may.calling c.requires.may.planned
+    c.requires.may.fits c.shape_word-next.ensures c.load_own_structure-old.ensures.step.follows
     c.load_elements-words.ensures.read in
     let words = c.load_elements-words.result in
     let at = c.from.result in
     let is_at = c.from.ensures in
-    let few = c.requires.may.few in
-    owes_first layout shapes c.args.op growth loaded c.search.new.pass.seat.me.0 c.in-Some.taken ready.calling
+    let few = c.requires.may.fits.few in
+    owes_first layout shapes c.args.call.op growth loaded c.search.new.pass.seat.me.0 c.in-Some.taken ready.calling
     c.in-Some.ensures.taken _
     (knows_below layout loaded c.args.array words _ c.args.addition.count
     (λ place below. get_or-set_other words at place c.val_word.result 0
@@ -169,10 +183,10 @@ write_barrier-requires-clause-owing g c = λ κs outlives.
     let loaded = c.load_elements-words.new.pass.seat.me.0 in
     let growth = growth_of c.args.addition c.args.array c.args.class c.args.value c.load_own_structure-old.result
     c.shape_word-next.result in
-    let ready = ready_loaded layout shapes v first loaded c.args.op growth c.requires.calling c.requires.planned
-    c.requires.may c.shape_word-next.ensures c.load_own_structure-old.ensures.step.follows
+    let ready = ready_loaded layout shapes v first loaded c.args.call.op growth c.requires.may.calling c.requires.may.planned
+    c.requires.may.fits c.shape_word-next.ensures c.load_own_structure-old.ensures.step.follows
     c.load_elements-words.ensures.read in
-    owing_replaced layout shapes c.args.op growth loaded c.search.new.pass.seat.me.0 c.in-Some.taken ready.calling
+    owing_replaced layout shapes c.args.call.op growth loaded c.search.new.pass.seat.me.0 c.in-Some.taken ready.calling
     c.in-Some.ensures.taken c.replace.new.pass.seat.me.0 c.replace.ensures.replaced
 
 pub store_call-requires-2-clause-mutator : goal.store_call-requires-2-clause-mutator
@@ -185,17 +199,17 @@ store_call-requires-2-clause-mutator g c =
     let loaded = c.load_elements-words.new.pass.seat.me.0 in
     let growth = growth_of c.args.addition c.args.array c.args.class c.args.value c.load_own_structure-old.result
     c.shape_word-next.result in
-    let ready = ready_loaded layout shapes v first loaded c.args.op growth c.requires.calling c.requires.planned
-    c.requires.may c.shape_word-next.ensures c.load_own_structure-old.ensures.step.follows
+    let ready = ready_loaded layout shapes v first loaded c.args.call.op growth c.requires.may.calling c.requires.may.planned
+    c.requires.may.fits c.shape_word-next.ensures c.load_own_structure-old.ensures.step.follows
     c.load_elements-words.ensures.read in
     let u = c.search.new.pass.seat.me.0 in
     let w = c.replace.new.pass.seat.me.0 in
     let now = c.write_barrier.new.pass.seat.me.0 in
-    let made = made_replaced layout shapes c.args.op growth loaded u c.in-Some.taken ready.calling
+    let made = made_replaced layout shapes c.args.call.op growth loaded u c.in-Some.taken ready.calling
     c.in-Some.ensures.taken w c.replace.ensures.replaced in
-    let shaded = made_shaded layout shapes c.args.op (action_of growth) Done loaded w now made.made
+    let shaded = made_shaded layout shapes c.args.call.op (action_of growth) Done loaded w now made.made
     c.write_barrier.ensures.shaded in
-    still_mutator layout shapes c.args.op (action_of growth) Done loaded now ready.calling shaded
+    still_mutator layout shapes c.args.call.op (action_of growth) Done loaded now ready.calling shaded
 
 pub store_call-requires-2-clause-may : goal.store_call-requires-2-clause-may
 store_call-requires-2-clause-may g c =
@@ -207,52 +221,70 @@ store_call-requires-2-clause-may g c =
     let loaded = c.load_elements-words.new.pass.seat.me.0 in
     let growth = growth_of c.args.addition c.args.array c.args.class c.args.value c.load_own_structure-old.result
     c.shape_word-next.result in
-    let ready = ready_loaded layout shapes v first loaded c.args.op growth c.requires.calling c.requires.planned
-    c.requires.may c.shape_word-next.ensures c.load_own_structure-old.ensures.step.follows
+    let ready = ready_loaded layout shapes v first loaded c.args.call.op growth c.requires.may.calling c.requires.may.planned
+    c.requires.may.fits c.shape_word-next.ensures c.load_own_structure-old.ensures.step.follows
     c.load_elements-words.ensures.read in
-    let read = read_loaded layout shapes v first loaded c.args.op growth c.requires.calling c.requires.planned
-    c.requires.may c.shape_word-next.ensures c.load_own_structure-old.ensures.step.follows
+    let read = read_loaded layout shapes v first loaded c.args.call.op growth c.requires.may.calling c.requires.may.planned
+    c.requires.may.fits c.shape_word-next.ensures c.load_own_structure-old.ensures.step.follows
     c.load_elements-words.ensures.read in
-    let table = c.load_elements-words.ensures.same_pass.0 ∙ c.load_own_structure-old.ensures.step.table ∙ c.requires.own in
+    let table = c.load_elements-words.ensures.same_pass.0 ∙ c.load_own_structure-old.ensures.step.table ∙ c.requires.may.own in
     let u = c.search.new.pass.seat.me.0 in
     let w = c.replace.new.pass.seat.me.0 in
     let now = c.write_barrier.new.pass.seat.me.0 in
-    let made = made_replaced layout shapes c.args.op growth loaded u c.in-Some.taken ready.calling
+    let made = made_replaced layout shapes c.args.call.op growth loaded u c.in-Some.taken ready.calling
     c.in-Some.ensures.taken w c.replace.ensures.replaced in
-    let shaded = made_shaded layout shapes c.args.op (action_of growth) Done loaded w now made.made
+    let shaded = made_shaded layout shapes c.args.call.op (action_of growth) Done loaded w now made.made
     c.write_barrier.ensures.shaded in
     record {
       own = c.write_barrier.ensures.same_pass.0 ∙ c.replace.ensures.same_pass.0 ∙ c.search.ensures.same_pass.0 ∙ table;
-      runs = still_runs layout shapes c.args.op (action_of growth) Done loaded now ready.calling shaded;
-      may = may_tell layout shapes c.args.op (action_of growth) Done loaded now ready.calling shaded c.args.calls
-          (counted_still v loaded read c.args.calls c.requires.counts);
+      runs = still_runs layout shapes c.args.call.op (action_of growth) Done loaded now ready.calling shaded;
+      may = may_tell layout shapes c.args.call.op (action_of growth) Done loaded now ready.calling shaded c.args.call.number
+          (counted_still v loaded read c.args.call.number c.requires.may.counts);
     }
 
-pub returns-clause-done : goal.returns-clause-done
-returns-clause-done g c =
-    let h = c.args.heap.now in
-    let layout = h.key.layout in
-    let shapes = g.S.HeapShapes.lists h.key.shapes in
-    let v = c.args.pass.now.seat.me.0 in
-    let first = c.load_own_structure-old.new.self.seat.me.0 in
-    let loaded = c.load_elements-words.new.pass.seat.me.0 in
-    let growth = growth_of c.args.addition c.args.array c.args.class c.args.value c.load_own_structure-old.result
-    c.shape_word-next.result in
-    let ready = ready_loaded layout shapes v first loaded c.args.op growth c.requires.calling c.requires.planned
-    c.requires.may c.shape_word-next.ensures c.load_own_structure-old.ensures.step.follows
-    c.load_elements-words.ensures.read in
-    let read = read_loaded layout shapes v first loaded c.args.op growth c.requires.calling c.requires.planned
-    c.requires.may c.shape_word-next.ensures c.load_own_structure-old.ensures.step.follows
-    c.load_elements-words.ensures.read in
-    let u = c.search.new.pass.seat.me.0 in
-    let w = c.replace.new.pass.seat.me.0 in
-    let now = c.write_barrier.new.pass.seat.me.0 in
-    let made = made_replaced layout shapes c.args.op growth loaded u c.in-Some.taken ready.calling
-    c.in-Some.ensures.taken w c.replace.ensures.replaced in
-    let shaded = made_shaded layout shapes c.args.op (action_of growth) Done loaded w now made.made
-    c.write_barrier.ensures.shaded in
-    let tell = c.store_call-2.ensures.step in
-    let last = c.store_call-2.new.self.seat.me.0 in
-    has_done_before v loaded read layout c.args.op shapes (action_of growth) Done last
-    (done_by layout shapes c.args.op (action_of growth) Done loaded now ready.calling shaded c.args.calls last
-    (tell.0, tell.1.follows) (c.write_barrier.ensures.shaded.owed ∙ made.owed) c.write_barrier.ensures.shaded.duty)
+pub returns : goal.returns
+returns g c = record {
+  answered = record {
+    same_pass = (
+      c.store_call-2.ensures.step.1.table
+          ∙ c.write_barrier.ensures.same_pass.0
+          ∙ c.replace.ensures.same_pass.0
+          ∙ c.search.ensures.same_pass.0
+          ∙ c.load_elements-words.ensures.same_pass.0
+          ∙ c.load_own_structure-old.ensures.step.table,
+      c.store_call-2.ensures.step.1.seat
+          ∙ c.write_barrier.ensures.same_pass.1
+          ∙ c.replace.ensures.same_pass.1
+          ∙ c.search.ensures.same_pass.1
+          ∙ c.load_elements-words.ensures.same_pass.1
+          ∙ c.load_own_structure-old.ensures.step.seat,
+    );
+    done =
+        let h = c.args.heap.now in
+        let layout = h.key.layout in
+        let shapes = g.S.HeapShapes.lists h.key.shapes in
+        let v = c.args.pass.now.seat.me.0 in
+        let first = c.load_own_structure-old.new.self.seat.me.0 in
+        let loaded = c.load_elements-words.new.pass.seat.me.0 in
+        let growth = growth_of c.args.addition c.args.array c.args.class c.args.value c.load_own_structure-old.result
+        c.shape_word-next.result in
+        let ready = ready_loaded layout shapes v first loaded c.args.call.op growth c.requires.may.calling c.requires.may.planned
+        c.requires.may.fits c.shape_word-next.ensures c.load_own_structure-old.ensures.step.follows
+        c.load_elements-words.ensures.read in
+        let read = read_loaded layout shapes v first loaded c.args.call.op growth c.requires.may.calling c.requires.may.planned
+        c.requires.may.fits c.shape_word-next.ensures c.load_own_structure-old.ensures.step.follows
+        c.load_elements-words.ensures.read in
+        let u = c.search.new.pass.seat.me.0 in
+        let w = c.replace.new.pass.seat.me.0 in
+        let now = c.write_barrier.new.pass.seat.me.0 in
+        let made = made_replaced layout shapes c.args.call.op growth loaded u c.in-Some.taken ready.calling
+        c.in-Some.ensures.taken w c.replace.ensures.replaced in
+        let shaded = made_shaded layout shapes c.args.call.op (action_of growth) Done loaded w now made.made
+        c.write_barrier.ensures.shaded in
+        let tell = c.store_call-2.ensures.step in
+        let last = c.store_call-2.new.self.seat.me.0 in
+        has_done_before v loaded read layout c.args.call.op shapes (action_of growth) Done last
+        (done_by layout shapes c.args.call.op (action_of growth) Done loaded now ready.calling shaded c.args.call.number last
+        (tell.0, tell.1.follows) (c.write_barrier.ensures.shaded.owed ∙ made.owed) c.write_barrier.ensures.shaded.duty);
+  };
+}

@@ -1,55 +1,26 @@
 -- Why the store of the Active word makes the call, and the call word tells it.
-use Rattle.std.proofs.Common.{◌∙◌}
-use Rattle.tide_heap.specs.tide_call.declared.action.Action.TheVariants as action
-use Rattle.tide_model.specs.declared.op.Reply.TheVariants.{Done}
+use Rattle.std.proofs.Common.{refl}
 use Rattle.tide_mutator.proofs.calls_laws.acting_laws.Retiring.{left_by, may_leave}
-use Rattle.tide_mutator.proofs.owed_laws.Telling.{done_by, may_tell, still_mutator, still_runs}
+use Rattle.tide_mutator.proofs.owed_laws.Answering.{enters, stored_answered, stored_teller, stored_tells}
 use Rattle.tide_mutator.proofs.calls.leaving.leave.Goals as goal
 
 pub retire-requires-clause-may : goal.retire-requires-clause-may
 retire-requires-clause-may g c =
-    let h = c.args.heap.now in record {
-      own = c.requires.own;
-      runs = c.requires.calling.runs;
-      may = may_leave h.key.layout (g.S.HeapShapes.lists h.key.shapes) c.args.pass.now.seat.me.0 c.args.op
-          c.requires.calling c.requires.told c.requires.planned;
-    }
+    enters c.requires.may _ (may_leave _ _ _ _ c.requires.may.calling (c.requires.may.told refl)
+    c.requires.may.planned)
 
 pub store_call-requires-clause-mutator : goal.store_call-requires-clause-mutator
 store_call-requires-clause-mutator g c =
-    let h = c.args.heap.now in
-    let step = c.retire.ensures.step in
-    let shapes = g.S.HeapShapes.lists h.key.shapes in
-    let v = c.args.pass.now.seat.me.0 in
-    let u = c.retire.new.self.seat.me.0 in
-    let made = left_by h.key.layout shapes v c.args.op c.requires.calling c.requires.told c.requires.planned u
-    (step.0, step.1.follows) in
-    still_mutator h.key.layout shapes c.args.op action.Retire Done v u c.requires.calling made.made
+    stored_teller c.requires.may (left_by _ _ _ _ c.requires.may.calling (c.requires.may.told refl)
+    c.requires.may.planned) c.retire.ensures.step
 
 pub store_call-requires-clause-may : goal.store_call-requires-clause-may
 store_call-requires-clause-may g c =
-    let h = c.args.heap.now in
-    let step = c.retire.ensures.step in
-    let shapes = g.S.HeapShapes.lists h.key.shapes in
-    let v = c.args.pass.now.seat.me.0 in
-    let u = c.retire.new.self.seat.me.0 in
-    let made = left_by h.key.layout shapes v c.args.op c.requires.calling c.requires.told c.requires.planned u
-    (step.0, step.1.follows) in record {
-      own = step.1.table ∙ c.requires.own;
-      runs = still_runs h.key.layout shapes c.args.op action.Retire Done v u c.requires.calling made.made;
-      may = may_tell h.key.layout shapes c.args.op action.Retire Done v u c.requires.calling made.made c.args.calls
-          c.requires.counts;
-    }
+    stored_tells c.requires.may (left_by _ _ _ _ c.requires.may.calling (c.requires.may.told refl)
+    c.requires.may.planned) c.retire.ensures.step
 
-pub returns-clause-done : goal.returns-clause-done
-returns-clause-done g c =
-    let h = c.args.heap.now in
-    let tell = c.store_call.ensures.step in
-    let step = c.retire.ensures.step in
-    let shapes = g.S.HeapShapes.lists h.key.shapes in
-    let v = c.args.pass.now.seat.me.0 in
-    let u = c.retire.new.self.seat.me.0 in
-    let made = left_by h.key.layout shapes v c.args.op c.requires.calling c.requires.told c.requires.planned u
-    (step.0, step.1.follows) in
-    done_by h.key.layout shapes c.args.op action.Retire Done v u c.requires.calling made.made c.args.calls
-    c.store_call.new.self.seat.me.0 (tell.0, tell.1.follows) made.owed made.duty
+pub returns : goal.returns
+returns g c = record {
+  answered = stored_answered c.requires.may (left_by _ _ _ _ c.requires.may.calling (c.requires.may.told refl)
+      c.requires.may.planned) c.retire.ensures.step c.store_call.ensures.step;
+}

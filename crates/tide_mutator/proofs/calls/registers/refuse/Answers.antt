@@ -5,15 +5,20 @@ use Rattle.tide_mutator.proofs.calls.registers.refuse.Goals as goal
 pub store_call-requires-clause-may : goal.store_call-requires-clause-may
 store_call-requires-clause-may g c =
     let h = c.args.heap.now in record {
-      own = c.requires.own;
-      runs = c.requires.calling.runs;
-      may = may_refuse h.key.layout (g.S.HeapShapes.lists h.key.shapes) c.args.pass.now.seat.me.0 c.args.op
-          c.requires.calling c.args.refusal c.args.calls c.requires.planned c.requires.counts;
+      own = c.requires.may.own;
+      runs = c.requires.may.calling.runs;
+      may = may_refuse h.key.layout (g.S.HeapShapes.lists h.key.shapes) c.args.pass.now.seat.me.0 c.args.call.op
+          c.requires.may.calling c.args.refusal c.args.call.number c.requires.may.planned c.requires.may.counts;
     }
 
-pub returns-clause-done : goal.returns-clause-done
-returns-clause-done g c =
-    let h = c.args.heap.now in
-    let tell = c.store_call.ensures.step in
-    refused_by h.key.layout (g.S.HeapShapes.lists h.key.shapes) c.args.pass.now.seat.me.0 c.args.op c.requires.calling
-    c.args.refusal c.args.calls c.store_call.new.self.seat.me.0 c.requires.planned (tell.0, tell.1.follows)
+pub returns : goal.returns
+returns g c = record {
+  answered = record {
+    same_pass = search;
+    done =
+        let h = c.args.heap.now in
+        let tell = c.store_call.ensures.step in
+        refused_by h.key.layout (g.S.HeapShapes.lists h.key.shapes) c.args.pass.now.seat.me.0 c.args.call.op c.requires.may.calling
+        c.args.refusal c.args.call.number c.store_call.new.self.seat.me.0 c.requires.may.planned (tell.0, tell.1.follows);
+  };
+}

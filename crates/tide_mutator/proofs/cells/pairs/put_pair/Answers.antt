@@ -1,56 +1,28 @@
 -- Why the store of the pair makes the call, and the call word tells it.
-use Rattle.std.proofs.Common.{◌∙◌}
-use Rattle.tide_heap.specs.tide_call.declared.action.Action.TheVariants.{StorePair}
-use Rattle.tide_model.specs.declared.op.Reply.TheVariants.{Done}
 use Rattle.tide_mutator.proofs.cells_laws.PairSteps.{may_put_pair, put_pair_by}
-use Rattle.tide_mutator.proofs.owed_laws.Telling.{done_by, may_tell, still_mutator, still_runs}
+use Rattle.tide_mutator.proofs.owed_laws.Answering.{enters, stored_answered, stored_teller, stored_tells}
 use Rattle.tide_mutator.proofs.cells.pairs.put_pair.Goals as goal
 
 pub store_pair-requires-clause-may : goal.store_pair-requires-clause-may
 store_pair-requires-clause-may g c =
-    let h = c.args.heap.now in record {
-      own = c.requires.own;
-      runs = c.requires.calling.runs;
-      may = may_put_pair h.key.layout (g.S.HeapShapes.lists h.key.shapes) c.args.pass.now.seat.me.0 c.args.op c.args.table
-          c.args.place c.requires.within c.requires.calling c.args.key c.args.value c.requires.planned c.pair_word.result c.pair_word.ensures;
-    }
+    enters c.requires.may _ (may_put_pair _ _ _ _ c.args.table c.args.place c.requires.may.fits.0
+    c.requires.may.calling c.args.key c.args.value c.requires.may.planned c.pair_word.result c.pair_word.ensures)
 
 pub store_call-requires-clause-mutator : goal.store_call-requires-clause-mutator
 store_call-requires-clause-mutator g c =
-    let h = c.args.heap.now in
-    let step = c.store_pair.ensures.step in
-    let shapes = g.S.HeapShapes.lists h.key.shapes in
-    let v = c.args.pass.now.seat.me.0 in
-    let u = c.store_pair.new.self.seat.me.0 in
-    let made = put_pair_by h.key.layout shapes v c.args.op c.args.table c.args.place c.requires.within c.requires.calling
-    c.args.key c.args.value c.requires.planned c.pair_word.result c.pair_word.ensures u (step.0, step.1.follows) in
-    still_mutator h.key.layout shapes c.args.op (StorePair c.args.table c.args.place c.args.key c.args.value) Done v u c.requires.calling made.made
+    stored_teller c.requires.may (put_pair_by _ _ _ _ c.args.table c.args.place c.requires.may.fits.0
+    c.requires.may.calling c.args.key c.args.value c.requires.may.planned c.pair_word.result c.pair_word.ensures)
+    c.store_pair.ensures.step
 
 pub store_call-requires-clause-may : goal.store_call-requires-clause-may
 store_call-requires-clause-may g c =
-    let h = c.args.heap.now in
-    let step = c.store_pair.ensures.step in
-    let shapes = g.S.HeapShapes.lists h.key.shapes in
-    let v = c.args.pass.now.seat.me.0 in
-    let u = c.store_pair.new.self.seat.me.0 in
-    let made = put_pair_by h.key.layout shapes v c.args.op c.args.table c.args.place c.requires.within c.requires.calling
-    c.args.key c.args.value c.requires.planned c.pair_word.result c.pair_word.ensures u (step.0, step.1.follows) in
-    record {
-      own = step.1.table ∙ c.requires.own;
-      runs = still_runs h.key.layout shapes c.args.op (StorePair c.args.table c.args.place c.args.key c.args.value) Done v u c.requires.calling made.made;
-      may = may_tell h.key.layout shapes c.args.op (StorePair c.args.table c.args.place c.args.key c.args.value) Done v u c.requires.calling made.made c.args.calls
-          c.requires.counts;
-    }
+    stored_tells c.requires.may (put_pair_by _ _ _ _ c.args.table c.args.place c.requires.may.fits.0
+    c.requires.may.calling c.args.key c.args.value c.requires.may.planned c.pair_word.result c.pair_word.ensures)
+    c.store_pair.ensures.step
 
-pub returns-clause-done : goal.returns-clause-done
-returns-clause-done g c =
-    let tell = c.store_call.ensures.step in
-    let h = c.args.heap.now in
-    let step = c.store_pair.ensures.step in
-    let shapes = g.S.HeapShapes.lists h.key.shapes in
-    let v = c.args.pass.now.seat.me.0 in
-    let u = c.store_pair.new.self.seat.me.0 in
-    let made = put_pair_by h.key.layout shapes v c.args.op c.args.table c.args.place c.requires.within c.requires.calling
-    c.args.key c.args.value c.requires.planned c.pair_word.result c.pair_word.ensures u (step.0, step.1.follows) in
-    done_by h.key.layout shapes c.args.op (StorePair c.args.table c.args.place c.args.key c.args.value) Done v u c.requires.calling made.made
-    c.args.calls c.store_call.new.self.seat.me.0 (tell.0, tell.1.follows) made.owed made.duty
+pub returns : goal.returns
+returns g c = record {
+  answered = stored_answered c.requires.may (put_pair_by _ _ _ _ c.args.table c.args.place c.requires.may.fits.0
+      c.requires.may.calling c.args.key c.args.value c.requires.may.planned c.pair_word.result c.pair_word.ensures)
+      c.store_pair.ensures.step c.store_call.ensures.step;
+}

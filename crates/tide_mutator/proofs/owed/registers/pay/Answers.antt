@@ -27,7 +27,7 @@ store_call-requires-clause-may g c =
       runs = runs_still h.key.layout (g.S.HeapShapes.lists h.key.shapes) c.args.pass.now.seat.me.0 c.args.dst
           c.args.value c.requires.owing c.store_register.new.self.seat.me.0 c.val_word.result (step.0, step.1.follows);
       may = may_count h.key.layout (g.S.HeapShapes.lists h.key.shapes) c.args.pass.now.seat.me.0 c.args.dst c.args.value
-          c.requires.owing c.store_register.new.self.seat.me.0 c.val_word.result (step.0, step.1.follows) c.args.calls
+          c.requires.owing c.store_register.new.self.seat.me.0 c.val_word.result (step.0, step.1.follows) c.args.call_number
           c.requires.counts;
     }
 
@@ -37,5 +37,5 @@ returns-clause-paid g c =
     let tell = c.store_call.ensures.step in
     let step = c.store_register.ensures.step in
     paid_by h.key.layout (g.S.HeapShapes.lists h.key.shapes) c.args.pass.now.seat.me.0 c.args.dst c.args.value
-    c.requires.owing c.store_register.new.self.seat.me.0 c.val_word.result (step.0, step.1.follows) c.args.calls
+    c.requires.owing c.store_register.new.self.seat.me.0 c.val_word.result (step.0, step.1.follows) c.args.call_number
     c.store_call.new.self.seat.me.0 (tell.0, tell.1.follows)

@@ -1,42 +1,11 @@
 -- Why a call that is done stands in its caller's order, and its mutator rests again with the claims that it has.
-use Rattle.std.proofs.Common.{◌≡◌, ◌+◌, ◌<◌, ◌^◌, sym, ◌∙◌, ap, subst, false, List, length, ℕ}
+use Rattle.std.proofs.Common.{◌≡◌, sym, ◌∙◌, ap, subst, false, List, length, ℕ}
 use Rattle.std.specs.Prelude.{nat_le}
-use Rattle.tide_heap.specs.tide_core.declared.machine.view.View.{View}
-use Rattle.tide_heap.specs.tide_core.machine.kinds.TakeFree.{TakesCell}
 use Rattle.tide_model.specs.Refused.{claims_most}
 use Rattle.tide_mutator.proofs.calls_laws.Ended.{called_by, claims_then, has_room, rests_after}
-use Rattle.tide_mutator.proofs.calls_laws.Unread.{called_unread, calling_unread, claims_unread, counts_unread, rests_unread}
-use Rattle.tide_mutator.specs.owed.Calling.{IsCalling}
+use Rattle.tide_mutator.proofs.calls_laws.Unread.{called_unread, claims_unread, rests_unread}
 use Rattle.tide_heap.specs.tide_call.Claims.{claims_by_action}
 use Rattle.tide_mutator.proofs.calls.mutator.Mutator.perform.Goals as goal
-
-pub act-reply-requires-clause-calling : goal.act-reply-requires-clause-calling
-act-reply-requires-clause-calling g c = λ κs outlives.
-    let h = c.args.heap.now in
-    let layout = h.key.layout in
-    let v = c.args.self.now.own.pass.seat.me.0 in
-    let w = c.decide-action.new.own.pass.seat.me.0 in
-    let d = c.decide-action.ensures in
-    let calling : IsCalling layout v c.args.op = record {
-      limits = d.limits;
-      is_mutator = c.requires.mutator;
-      runs = c.requires.runs;
-      stays = c.requires.stays;
-      between = c.args.self.now.rests.between;
-      own = d.own_calls;
-      fits = c.requires.fits;
-      bare = c.requires.bare;
-    } in
-    calling_unread v w d.same_view.2 layout c.args.op calling
-
-pub act-reply-requires-clause-counts : goal.act-reply-requires-clause-counts
-act-reply-requires-clause-counts g c = λ κs outlives. counts_unread c.args.self.now.own.pass.seat.me.0
-    c.decide-action.new.own.pass.seat.me.0 c.decide-action.ensures.same_view.2 c.next_call-calls.result c.next_call-calls.ensures
-
-pub act-reply-requires-clause-few : goal.act-reply-requires-clause-few
-act-reply-requires-clause-few g c = λ κs outlives dst class is.
-    subst (λ (x : View). x.born + 1 < 2 ^ 32) (sym c.decide-action.ensures.same_view.2)
-    (c.requires.few (c.decide-action.ensures.births dst class is))
 
 pub returns-clause-called : goal.returns-clause-called
 returns-clause-called g c =
@@ -46,21 +15,10 @@ returns-clause-called g c =
     let v = c.args.self.now.own.pass.seat.me.0 in
     let w = c.decide-action.new.own.pass.seat.me.0 in
     let d = c.decide-action.ensures in
-    let calling : IsCalling layout v c.args.op = record {
-      limits = d.limits;
-      is_mutator = c.requires.mutator;
-      runs = c.requires.runs;
-      stays = c.requires.stays;
-      between = c.args.self.now.rests.between;
-      own = d.own_calls;
-      fits = c.requires.fits;
-      bare = c.requires.bare;
-    } in
-    let calling_now = calling_unread v w d.same_view.2 layout c.args.op calling in
     let u = c.act-reply.new.pass.seat.me.0 in
     called_unread v w d.same_view.2 layout shapes c.args.op c.act-reply.result u
-    (called_by layout shapes c.args.op c.decide-action.result c.act-reply.result w u calling_now d.planned
-    c.act-reply.ensures.done)
+    (called_by layout shapes c.args.op c.decide-action.result c.act-reply.result w u d.may.calling d.may.planned
+    c.act-reply.ensures.answered.done)
 
 pub invariant_of-self-clause-rests : goal.invariant_of-self-clause-rests
 invariant_of-self-clause-rests g c =
@@ -70,20 +28,9 @@ invariant_of-self-clause-rests g c =
     let v = c.args.self.now.own.pass.seat.me.0 in
     let w = c.decide-action.new.own.pass.seat.me.0 in
     let d = c.decide-action.ensures in
-    let calling : IsCalling layout v c.args.op = record {
-      limits = d.limits;
-      is_mutator = c.requires.mutator;
-      runs = c.requires.runs;
-      stays = c.requires.stays;
-      between = c.args.self.now.rests.between;
-      own = d.own_calls;
-      fits = c.requires.fits;
-      bare = c.requires.bare;
-    } in
-    let calling_now = calling_unread v w d.same_view.2 layout c.args.op calling in
     let u = c.act-reply.new.pass.seat.me.0 in
-    rests_after layout shapes c.args.op c.decide-action.result c.act-reply.result w u calling_now d.planned
-    c.act-reply.ensures.done (rests_unread v w d.same_view.2 c.args.self.now.rests)
+    rests_after layout shapes c.args.op c.decide-action.result c.act-reply.result w u d.may.calling d.may.planned
+    c.act-reply.ensures.answered.done (rests_unread v w d.same_view.2 c.args.self.now.rests)
 
 pub invariant_of-self-clause-claimed : goal.invariant_of-self-clause-claimed
 invariant_of-self-clause-claimed g c =
@@ -93,23 +40,12 @@ invariant_of-self-clause-claimed g c =
     let v = c.args.self.now.own.pass.seat.me.0 in
     let w = c.decide-action.new.own.pass.seat.me.0 in
     let d = c.decide-action.ensures in
-    let calling : IsCalling layout v c.args.op = record {
-      limits = d.limits;
-      is_mutator = c.requires.mutator;
-      runs = c.requires.runs;
-      stays = c.requires.stays;
-      between = c.args.self.now.rests.between;
-      own = d.own_calls;
-      fits = c.requires.fits;
-      bare = c.requires.bare;
-    } in
-    let calling_now = calling_unread v w d.same_view.2 layout c.args.op calling in
     let u = c.act-reply.new.pass.seat.me.0 in
     c.keep_claims.ensures
     ∙ ap (claims_by_action c.act-reply.result c.args.op c.decide-action.result)
     (c.args.self.now.claimed ∙ sym (claims_unread v w d.same_view.2))
-    ∙ sym (claims_then layout shapes c.args.op c.decide-action.result c.act-reply.result w u calling_now d.planned
-    c.act-reply.ensures.done)
+    ∙ sym (claims_then layout shapes c.args.op c.decide-action.result c.act-reply.result w u d.may.calling d.may.planned
+    c.act-reply.ensures.answered.done)
 
 pub keep_claims-requires-clause-room : goal.keep_claims-requires-clause-room
 keep_claims-requires-clause-room g c = λ src cell full same_op same_action same_reply.
@@ -119,19 +55,8 @@ keep_claims-requires-clause-room g c = λ src cell full same_op same_action same
     let v = c.args.self.now.own.pass.seat.me.0 in
     let w = c.decide-action.new.own.pass.seat.me.0 in
     let d = c.decide-action.ensures in
-    let calling : IsCalling layout v c.args.op = record {
-      limits = d.limits;
-      is_mutator = c.requires.mutator;
-      runs = c.requires.runs;
-      stays = c.requires.stays;
-      between = c.args.self.now.rests.between;
-      own = d.own_calls;
-      fits = c.requires.fits;
-      bare = c.requires.bare;
-    } in
-    let calling_now = calling_unread v w d.same_view.2 layout c.args.op calling in
     let u = c.act-reply.new.pass.seat.me.0 in
     subst (λ (l : List ℕ). nat_le claims_most (length l) ≡ false)
     (claims_unread v w d.same_view.2 ∙ sym c.args.self.now.claimed)
-    (has_room layout shapes c.args.op c.decide-action.result c.act-reply.result w u calling_now d.planned
-    c.act-reply.ensures.done src cell full same_op same_action same_reply)
+    (has_room layout shapes c.args.op c.decide-action.result c.act-reply.result w u d.may.calling d.may.planned
+    c.act-reply.ensures.answered.done src cell full same_op same_action same_reply)
