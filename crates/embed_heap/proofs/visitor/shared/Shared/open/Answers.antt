@@ -13,7 +13,7 @@ returns c =
     let s = c.args.self.now in
     let is = c.requires.started in
     let next = HasOpenedNext-first s.heap.key.layout (lists_of s.heap.key.shapes) 13 s.books s.collector.seat.me.0
-    c.open_first.new.collector.seat.me.0 is.started c.open_first.ensures.opened is.books in
+    c.open_first.new.self.seat.me.0 is.started c.open_first.ensures.opened is.books in
     let first = next.period in
     let none = is.started.period in
     record {
