@@ -1,7 +1,8 @@
 -- What was read decides whether it is run or refused.
 use Rattle.std.proofs.Common.{ℕ, zero, suc, ◌≡◌, ◌+◌, ◌≤◌, ◌<◌, refl, sym, ◌∙◌, ap, subst, arith, true, false, true≢false, List, [], ◌∷◌, ◌++◌, length, take, inl, inr, Option, None, Some, is_some, Result, Ok, Err}
 use Rattle.std.specs.Prelude.{◌⊎◌, IfSome, IsOk, IsErr}
-use Rattle.tide_workload.specs.Words.{Fault, MAX_BYTES, reads_workload, Work}
+use Rattle.tide_workload.specs.declared.reading.TheConstants.{MAX_BYTES}
+use Rattle.tide_workload.specs.Words.{Fault, reads_workload, Work}
 use Rattle.tide_run.specs.declared.stop.Stop.{Stop}
 use Rattle.tide_run.specs.declared.stop.Stop.TheVariants.{Usage, ReadFault, BadInput, Memory}
 use Rattle.tide_options.specs.declared.options.Options.{Options}

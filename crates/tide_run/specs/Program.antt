@@ -2,7 +2,8 @@
 use Rattle.std.specs.Prelude.{ℕ, ◌≡◌, ◌+◌, ◌≤◌, ◌⊎◌, true, List, [], ◌∷◌, length, take, Option, Ok, Err, codes, ◌==◌, if◌then◌else◌}
 use Rattle.std.specs.Io.KnownBytes.{Consumes, Appends, IsAtEnd}
 use Rattle.tide_io.specs.Faults.{Rose, AppendsPart}
-use Rattle.tide_workload.specs.Words.{Fault, MAX_BYTES, fault_line, reads_workload, Work}
+use Rattle.tide_workload.specs.declared.reading.TheConstants.{MAX_BYTES}
+use Rattle.tide_workload.specs.Words.{Fault, fault_line, reads_workload, Work}
 use Rattle.tide_model.specs.Numbers.{is_among}
 use Rattle.tide_run.specs.declared.stop.Stop.{Stop}
 use Rattle.tide_run.specs.declared.stop.Stop.TheVariants.{Usage, ReadFault, BadInput, Memory}
