@@ -12,11 +12,10 @@
 - docs/GATE.md, between `<!-- sizes -->` and `<!-- end of sizes -->`: the size of each crate. The columns of seconds are
   those of docs/seconds.txt, which docs/seconds.py measures.
 
-It prints how many ways lead through crates.txt, and also refuses
+It prints how many ways lead through crates.txt, and each module of a crate, in src/ or specs/, that names one that is
+listed after it, beside it in lib.rt or in the file of the module around both. It refuses
 
 - a crates.txt in which a crate stands above one that it stands on, or through which too many ways lead,
-- a module of a crate, in src/ or specs/, that names one that is listed after it, beside it in lib.rt or in the file of
-  the module around both,
 - a reading order that names a definition that the clauses of `riptide` don't rest on, or leaves out a fact (a name in
   CamelCase) that they do,
 - an edit that doesn't fit its file any more, and a table of edits in docs/GATE.md that names others than the files of
@@ -454,7 +453,9 @@ def main():
     if sys.argv[1:] not in ([], ["--check"]):
         sys.exit(__doc__)
     differ = 0
-    for miss in [*too_many_ways(ways()), *named_too_early(), *edits_that_miss(), *edits_told_otherwise()]:
+    for early in named_too_early():
+        print(early)
+    for miss in [*too_many_ways(ways()), *edits_that_miss(), *edits_told_otherwise()]:
         differ = 1
         print(miss)
     for path, text in pages().items():
