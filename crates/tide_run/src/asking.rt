@@ -1,13 +1,13 @@
 //! From the words of a command line to a run: the workload that they ask for, and the store that runs it.
-ghost use Rattle.std.specs.Prelude.{◌≡◌, ◌≢◌, ◌≤◌, ◌⊎◌, Some, None, IfOk, IfErr, is_some, not, true, false};
+ghost use Rattle.std.specs.Prelude.{◌≡◌, ◌≢◌, ◌≤◌, ◌⊎◌, Some, None, IfOk, IfErr, is_some, true, false};
 ghost use Rattle.std.specs.Io.KnownBytes.{Keeps};
 ghost use Rattle.tide_io.specs.Faults.{Rose};
 ghost use Rattle.tide_options.specs.Options.{asked_by};
 ghost use Rattle.tide_shape.specs.Shapes.{shapes_of_paths};
 ghost use Rattle.tide_workload.specs.Words.{Fault as FaultValue};
-ghost use Rattle.tide_run.specs.Asked.{AsksToRead, IsAskedFor, IsShownOf, RanAsked, asks_for_made, asks_for_snapshot, printed_as, printed_of, printed_with, trigger_for, visitors_for};
+ghost use Rattle.tide_run.specs.Asked.{AsksToRead, IsAskedFor, IsShownOf, RanAsked, asks_for_made, asks_for_snapshot, heap_for, printed_as, printed_of, printed_with, trigger_for, visitors_for};
 ghost use Rattle.tide_run.specs.Program.{ReadWork, RefusedInput};
-ghost use Rattle.tide_run.specs.Runs.{IsRunOf};
+ghost use Rattle.tide_run.specs.Runs.{IsRunOf, setting_of_work};
 
 use crate::counting::counts_of;
 use crate::running::{Outcome, plain, run, run_with_snapshot};
@@ -99,7 +99,7 @@ fn run_shared<R: Threads + Sync, T: Turnstile>(
 ) -> Result<(Outcome, Option<Snapshot>), Memory>
     requires { options.visitors ≤ 8 }
     ensures run { IfOk result (λ ran. IsRunOf load.now load.now.settings.trigger options.visitors ran.0) }
-    ensures heap { IfOk result (λ ran. ran.0.is_heap ≡ true) }
+    ensures heap { IfOk result (λ ran. ran.0.heap ≡ Some (setting_of_work load.now options.visitors)) }
     ensures shown { IfOk result (λ ran. IsShownOf options.snapshot (shapes_of_paths load.now.paths) ran.0 ran.1) }
 {
     if options.snapshot {
@@ -122,7 +122,7 @@ fn run_asked<R: Threads + Sync, T: Turnstile>(
     requires few { options.visitors ≤ 8 }
     requires shared { options.plain ≡ true → options.snapshot ≡ false }
     ensures run { IfOk result (λ ran. IsRunOf load.now (trigger_for options load.now) (visitors_for options) ran.0) }
-    ensures heap { IfOk result (λ ran. ran.0.is_heap ≡ not options.plain) }
+    ensures heap { IfOk result (λ ran. ran.0.heap ≡ heap_for options load.now) }
     ensures shown { IfOk result (λ ran. IsShownOf options.snapshot (shapes_of_paths load.now.paths) ran.0 ran.1) }
 {
     if options.plain {

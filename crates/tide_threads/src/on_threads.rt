@@ -17,7 +17,7 @@ ghost use Rattle.tide_shape.specs.Lists.{lists_of};
 ghost use Rattle.tide_table.specs.Started.{ArePasses};
 ghost use Rattle.tide_threads.specs.Acting.{before_all, caller_of, callers_in, is_silent, races_in};
 ghost use Rattle.tide_threads.specs.Fresh.{AreFresh};
-ghost use Rattle.tide_threads.specs.OnThreads.{callers_on, pace_on, recorded_in, setting_in};
+ghost use Rattle.tide_threads.specs.OnThreads.{callers_on, pace_on, recorded_in, setting_in, setting_left};
 ghost use Rattle.tide_threads.specs.OnThreads.{MayEnterOn, MayOpenOn, Stands};
 ghost use Rattle.tide_threads.specs.declared.participant.Participant.{Participant};
 
@@ -330,10 +330,11 @@ impl OnThreads {
 
     /// Closes a heap whose mutators have all retired: its history, the report of the cycles that ended, and each
     /// mutator's calls.
-    pub(crate) fn finish(self) -> Result<(Closed, Report, Vec<Vec<Answered>>), Memory>
+    pub(crate) fn finish(self) -> Result<(Closed<Shapes>, Report, Vec<Vec<Answered>>), Memory>
         requires stands { Stands self }
         requires retired { list_all (λ caller. caller.retired) (callers_on self) ≡ true }
         ensures history { IfOk result (λ left. left.0.seat.me.0.seen ≡ (recorded_in self).history) }
+        ensures heap { IfOk result (λ left. setting_left left.0 ≡ setting_in self) }
         ensures report { IfOk result (λ left. TellsEnds (setting_in self).layout (recorded_in self).history left.1) }
         ensures calls { IfOk result (λ left.
             map (λ own. own.items) left.2.items ≡ map (λ caller. caller.calls.items) (callers_on self)) }

@@ -10,13 +10,15 @@ ghost use Rattle.tide_periods.specs.Periods.{RanAll, RanPeriod};
 ghost use Rattle.tide_periods.specs.Recorded.{IsSettled};
 ghost use Rattle.tide_periods.specs.Run.{HasRun};
 ghost use Rattle.tide_report.specs.Ends.{TellsEnds};
-ghost use Rattle.tide_threads.specs.OnThreads.{callers_on, pace_on, recorded_in, setting_in, MayOpenOn, Stands};
+ghost use Rattle.tide_threads.specs.OnThreads.{callers_on, pace_on, recorded_in, setting_in, setting_left};
+ghost use Rattle.tide_threads.specs.OnThreads.{MayOpenOn, Stands};
 
 use crate::on_threads::OnThreads;
 use std::marker::Sync;
 use std::thread::Threads;
 use tide_model::{Memory, Turnstile};
 use tide_periods::Finished;
+use tide_shape::Shapes;
 use tide_table::Closed;
 
 /// Opens a part in which each mutator has so many calls, runs it, and freezes. Answers how many it has in the next one.
@@ -80,7 +82,7 @@ pub(crate) fn run_periods<R: Threads + Sync, T: Turnstile>(
 /// What a run on a heap leaves, and how many races its visitors met, as far as 64 bits count them.
 #[derive(Drop)]
 pub struct HeapRun {
-    pub finished: Finished<Closed>,
+    pub finished: Finished<Closed<Shapes>>,
     pub deferred: u64,
 }
 
@@ -89,6 +91,7 @@ pub(crate) fn close_run(on: OnThreads) -> Result<HeapRun, Memory>
     requires stands { Stands on }
     requires retired { list_all (λ caller. caller.retired) (callers_on on) ≡ true }
     ensures history { IfOk result (λ left. left.finished.kept.seat.me.0.seen ≡ (recorded_in on).history) }
+    ensures heap { IfOk result (λ left. setting_left left.finished.kept ≡ setting_in on) }
     ensures report { IfOk result (λ left.
         TellsEnds (setting_in on).layout (recorded_in on).history left.finished.report) }
     ensures calls { IfOk result (λ left. map (λ own. own.items) left.finished.calls.items
@@ -129,6 +132,7 @@ pub fn run_on_threads<R: Threads + Sync, T: Turnstile>(
     ensures ran { IfOk result (λ left. HasRun (setting_in on) (pace_on on) (scripts_of (callers_on on))
         left.finished.kept.seat.me.0.seen left.finished.report (map (λ own. own.items) left.finished.calls.items)
         left.finished.live) }
+    ensures heap { IfOk result (λ left. setting_left left.finished.kept ≡ setting_in on) }
     ensures none_met { IfOk result (λ left. (setting_in on).layout.visitors ≡ 0 → left.deferred ≡ 0) }
 {
     let mut on = on;

@@ -1,6 +1,6 @@
 //! A workload's heap that its mutators and visitors share, and running the workload on it, each of them on a thread of
 //! its own.
-ghost use Rattle.std.specs.Prelude.{◌≡◌, ◌≤◌, [], true, IfOk};
+ghost use Rattle.std.specs.Prelude.{◌≡◌, ◌≤◌, [], IfOk, Some};
 ghost use Rattle.tide_run.specs.running.Runs.{AreScripts, IsRunOf, setting_of_work};
 ghost use Rattle.tide_periods.specs.Asking.{scripts_of};
 ghost use Rattle.tide_periods.specs.Part.{AreCallers};
@@ -60,7 +60,7 @@ pub fn run<R: Threads + Sync, T: Turnstile>(
 ) -> Result<Outcome, Memory>
     requires { visitors ≤ 8 }
     ensures run { IfOk result (IsRunOf load.now load.now.settings.trigger visitors) }
-    ensures heap { IfOk result (λ ran. ran.is_heap ≡ true) }
+    ensures heap { IfOk result (λ ran. ran.heap ≡ Some (setting_of_work load.now visitors)) }
 {
     let settings = load.settings();
     let names = names_of(alloc, load)?;
