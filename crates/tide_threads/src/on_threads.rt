@@ -1,5 +1,5 @@
 //! `OnThreads`: what a run stands on, a heap with its mutators and visitors, each of which acts on a thread of its own.
-ghost use Rattle.std.specs.Prelude.{◌≡◌, ◌-◌, ◌^◌, ◌<◌, ◌+◌, ◌++◌, ◌∷◌, ◌⊎◌, ℕ, [], All, IfOk, OnOk, Some, length, map, min, slice_get, true};
+ghost use Rattle.std.specs.Prelude.{◌≡◌, ◌-◌, ◌^◌, ◌<◌, ◌+◌, ◌++◌, ◌∷◌, ◌⊎◌, ℕ, [], All, IfOk, OnErr, OnOk, Some, length, map, min, slice_get, true};
 ghost use Rattle.std.specs.List.{list_all};
 ghost use Rattle.atomic_table.specs.Seated.{TableId};
 ghost use Rattle.crossbeam_utils.specs.Padded.{padded_value};
@@ -277,7 +277,7 @@ impl OnThreads {
     }
 
     /// Freezes after a part, and does what the schedule asks for. Answers how many calls each mutator has in the next
-    /// part.
+    /// part. Without memory for the report nothing was done.
     pub(crate) fn freeze(&mut self, is_forced: bool) -> Result<u32, Memory>
         requires settled { IsSettled (recorded_in self.old) }
         requires stands { Stands self.old }
@@ -285,10 +285,11 @@ impl OnThreads {
         requires room { (recorded_in self.old).cycles < 2 ^ 60 }
         requires visits { MayEnterOn self.old }
         ensures ran { IfOk result (RanFreeze (recorded_in self.old) (recorded_in self.new) (pace_on self.old) is_forced) }
-        ensures stands { OnOk result (Stands self.new) }
-        ensures pacing { OnOk result (self.new.books.pacing ≡ self.old.books.pacing) }
-        ensures callers { OnOk result (callers_on self.new ≡ callers_on self.old) }
+        ensures stands { Stands self.new }
+        ensures pacing { self.new.books.pacing ≡ self.old.books.pacing }
+        ensures callers { callers_on self.new ≡ callers_on self.old }
         ensures opens { IfOk result (MayOpenOn self.new) }
+        ensures untouched { OnErr result (recorded_in self.new ≡ recorded_in self.old) }
     {
         let next = self
             .collector
