@@ -41,8 +41,8 @@ visitors_for options = if options.plain then 0 else options.visitors
 
 -- the layout and the shapes of the heap that options ask for: those of the workload, with as many visitors, and none of
 -- a plain run
-abbrev pub heap_for : Options → Work → Option Setting
-heap_for options work = if options.plain then None else Some (setting_of_work work options.visitors)
+abbrev pub setting_for : Options → Work → Option Setting
+setting_for options work = if options.plain then None else Some (setting_of_work work options.visitors)
 
 -- The run is one of the workload that the options ask for, with as many visitors. Its history is that of a heap which
 -- threads shared, of the workload's layout and shapes and with so many visitors, just where the options don't ask for
@@ -53,7 +53,7 @@ pub record RanAsked (asked : Option Options) (old new : Option (List ℕ)) (ran 
   pub work : Work
   pub is_asked_for : IsAskedFor options.make old new work
   pub is_run : IsRunOf work (trigger_for options work) (visitors_for options) ran
-  pub on_heap : ran.heap ≡ heap_for options work
+  pub on_heap : ran.heap ≡ setting_for options work
 
 -- what is printed of a run: its summary where the workload was generated, and else its text
 abbrev pub printed_as : Bool → Ran → List ℕ

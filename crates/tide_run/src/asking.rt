@@ -5,7 +5,7 @@ ghost use Rattle.tide_io.specs.Faults.{Rose};
 ghost use Rattle.tide_options.specs.Options.{asked_by};
 ghost use Rattle.tide_shape.specs.Shapes.{shapes_of_paths};
 ghost use Rattle.tide_workload.specs.Words.{Fault as FaultValue};
-ghost use Rattle.tide_run.specs.Asked.{AsksToRead, IsAskedFor, IsShownOf, RanAsked, asks_for_made, asks_for_snapshot, heap_for, printed_as, printed_of, printed_with, trigger_for, visitors_for};
+ghost use Rattle.tide_run.specs.Asked.{AsksToRead, IsAskedFor, IsShownOf, RanAsked, asks_for_made, asks_for_snapshot, printed_as, printed_of, printed_with, setting_for, trigger_for, visitors_for};
 ghost use Rattle.tide_run.specs.Program.{ReadWork, RefusedInput};
 ghost use Rattle.tide_run.specs.Runs.{IsRunOf, setting_of_work};
 
@@ -122,7 +122,7 @@ fn run_asked<R: Threads + Sync, T: Turnstile>(
     requires few { options.visitors ≤ 8 }
     requires shared { options.plain ≡ true → options.snapshot ≡ false }
     ensures run { IfOk result (λ ran. IsRunOf load.now (trigger_for options load.now) (visitors_for options) ran.0) }
-    ensures heap { IfOk result (λ ran. ran.0.heap ≡ heap_for options load.now) }
+    ensures heap { IfOk result (λ ran. ran.0.heap ≡ setting_for options load.now) }
     ensures shown { IfOk result (λ ran. IsShownOf options.snapshot (shapes_of_paths load.now.paths) ran.0 ran.1) }
 {
     if options.plain {
