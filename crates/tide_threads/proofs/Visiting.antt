@@ -63,6 +63,7 @@ HasBegunVisits-by t v u is later = subst (HasBegunVisits t v) (sym (is ∙ first
 pub FitsIn-none : (layout : Layout) → FitsIn layout []
 FitsIn-none layout = record {
   within = λ cell a. absurd (let below = a.1 in omega (arith, below));
+  once = λ cell. omega arith;
   room = omega arith;
 }
 

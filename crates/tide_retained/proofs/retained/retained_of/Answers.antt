@@ -8,7 +8,11 @@ use Rattle.tide_retained.proofs.retained.retained_of.Goals as goal
 pub invariant_of-result : goal.invariant_of-result
 invariant_of-result c = record {
   finds = c.in_ok-found.ensures.found;
-  sized = c.in_ok-found.ensures.sized;
+  least = (
+      let least = c.cells_known-cells.ensures.least in
+      let flags = c.in_ok-retained.ensures.sized in
+      let sized = c.in_ok-found.ensures.sized in
+      omega (arith, least, flags, sized));
   skips_lead = subst (λ (found : List (Option Found)). AreSkips found c.in_ok-skips.skips.items) c.as_slice.ensures.value c.in_ok-skips.ensures;
 }
 
