@@ -1,4 +1,4 @@
-//! `OnThreads`: what a run stands on, a heap with its mutators and visitors, each of which acts on a thread of its own.
+//! `OnThreads`: what a run stands on, a heap with its mutators and visitors, which act on threads.
 ghost use Rattle.std.specs.Prelude.{◌≡◌, ◌-◌, ◌^◌, ◌<◌, ◌+◌, ◌++◌, ◌∷◌, ◌⊎◌, ℕ, [], All, IfOk, OnOk, Some, length, map, min, slice_get, true};
 ghost use Rattle.std.specs.List.{list_all};
 ghost use Rattle.atomic_table.specs.Seated.{TableId};
@@ -239,10 +239,11 @@ impl OnThreads {
     }
 
     /// Opens a part in which each mutator has `run` calls, and each visitor as many visits if a cycle marks, and has it
-    /// played. Answers whether a mutator stopped before its share was over.
+    /// played on so many threads at most. Answers whether a mutator stopped before its share was over.
     pub(crate) fn run_part<R: Threads + Sync, T: Turnstile>(
         &mut self,
         rt: &R,
+        threads: usize,
         gate: &T,
         run: u32,
     ) -> Result<bool, Memory>
@@ -259,6 +260,7 @@ impl OnThreads {
     {
         let ended = run_whole_part(
             rt,
+            threads,
             &self.heap,
             gate,
             &mut self.collector,
