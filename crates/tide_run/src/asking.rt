@@ -92,6 +92,7 @@ fn asked_workload<S: Source>(
 /// Runs a workload on the heap that its mutators share, and takes a snapshot at the end if one is asked for.
 fn run_shared<R: Threads + Sync, T: Turnstile>(
     rt: &R,
+    threads: usize,
     alloc: Global,
     load: &Workload,
     options: Options,
@@ -103,10 +104,17 @@ fn run_shared<R: Threads + Sync, T: Turnstile>(
     ensures shown { IfOk result (λ ran. IsShownOf options.snapshot (shapes_of_paths load.now.paths) ran.0 ran.1) }
 {
     if options.snapshot {
-        let (outcome, snapshot) = run_with_snapshot(rt, alloc, load, options.visitors, gate)?;
+        let (outcome, snapshot) = run_with_snapshot(
+            rt,
+            threads,
+            alloc,
+            load,
+            options.visitors,
+            gate,
+        )?;
         Ok((outcome, Some(snapshot)))
     } else {
-        let outcome = run(rt, alloc, load, options.visitors, gate)?;
+        let outcome = run(rt, threads, alloc, load, options.visitors, gate)?;
         Ok((outcome, None))
     }
 }
@@ -114,6 +122,7 @@ fn run_shared<R: Threads + Sync, T: Turnstile>(
 /// Runs a workload on the store that is asked for.
 fn run_asked<R: Threads + Sync, T: Turnstile>(
     rt: &R,
+    threads: usize,
     alloc: Global,
     load: &Workload,
     options: Options,
@@ -129,7 +138,7 @@ fn run_asked<R: Threads + Sync, T: Turnstile>(
         let outcome = plain(alloc, load)?;
         Ok((outcome, None))
     } else {
-        let ran = run_shared(rt, alloc, load, options, gate)?;
+        let ran = run_shared(rt, threads, alloc, load, options, gate)?;
         Ok(ran)
     }
 }
@@ -148,6 +157,7 @@ fn asked_counts(is_made: bool, outcome: &Outcome) -> Result<Option<Counts>, Memo
 /// Runs what the options ask for.
 fn attempt_with<R: Threads + Sync, S: Source, T: Turnstile>(
     rt: &R,
+    threads: usize,
     alloc: Global,
     options: Options,
     source: &mut S,
@@ -170,7 +180,7 @@ fn attempt_with<R: Threads + Sync, S: Source, T: Turnstile>(
     ensures later { S.faults source.old ≤ S.faults source.new }
 {
     let load = asked_workload(alloc, options.make, source)?;
-    let (outcome, snapshot) = match run_asked(rt, alloc, &load, options, gate) {
+    let (outcome, snapshot) = match run_asked(rt, threads, alloc, &load, options, gate) {
         Ok(ran) => ran,
         Err(Memory) => return Err(Stop::Memory),
     };
@@ -188,6 +198,7 @@ fn attempt_with<R: Threads + Sync, S: Source, T: Turnstile>(
 /// Runs what the words ask for.
 pub fn attempt<R: Threads + Sync, S: Source, T: Turnstile>(
     rt: &R,
+    threads: usize,
     alloc: Global,
     words: &[String],
     source: &mut S,
@@ -211,5 +222,5 @@ pub fn attempt<R: Threads + Sync, S: Source, T: Turnstile>(
     ensures later { S.faults source.old ≤ S.faults source.new }
 {
     let options = asked_options(alloc, words)?;
-    attempt_with(rt, alloc, options, source, gate)
+    attempt_with(rt, threads, alloc, options, source, gate)
 }

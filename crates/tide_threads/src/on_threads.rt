@@ -1,5 +1,10 @@
+<<<<<<< HEAD
 //! `OnThreads`: what a run stands on, a heap with its mutators and visitors, each of which acts on a thread of its own.
 ghost use Rattle.std.specs.Prelude.{◌≡◌, ◌-◌, ◌^◌, ◌<◌, ◌+◌, ◌++◌, ◌∷◌, ◌⊎◌, ℕ, [], All, IfOk, OnErr, OnOk, Some, length, map, min, slice_get, true};
+=======
+//! `OnThreads`: what a run stands on, a heap with its mutators and visitors, which act on threads.
+ghost use Rattle.std.specs.Prelude.{◌≡◌, ◌-◌, ◌^◌, ◌<◌, ◌+◌, ◌++◌, ◌∷◌, ◌⊎◌, ℕ, [], All, IfOk, OnOk, Some, length, map, min, slice_get, true};
+>>>>>>> h-squares
 ghost use Rattle.std.specs.List.{list_all};
 ghost use Rattle.atomic_table.specs.Seated.{TableId};
 ghost use Rattle.crossbeam_utils.specs.Padded.{padded_value};
@@ -239,10 +244,11 @@ impl OnThreads {
     }
 
     /// Opens a part in which each mutator has `run` calls, and each visitor as many visits if a cycle marks, and has it
-    /// played. Answers whether a mutator stopped before its share was over.
+    /// played on so many threads at most. Answers whether a mutator stopped before its share was over.
     pub(crate) fn run_part<R: Threads + Sync, T: Turnstile>(
         &mut self,
         rt: &R,
+        threads: usize,
         gate: &T,
         run: u32,
     ) -> Result<bool, Memory>
@@ -259,6 +265,7 @@ impl OnThreads {
     {
         let ended = run_whole_part(
             rt,
+            threads,
             &self.heap,
             gate,
             &mut self.collector,

@@ -24,6 +24,7 @@ use tide_table::Closed;
 /// Opens a part in which each mutator has so many calls, runs it, and freezes. Answers how many it has in the next one.
 fn run_period<R: Threads + Sync, T: Turnstile>(
     rt: &R,
+    threads: usize,
     gate: &T,
     on: &mut OnThreads,
     run: u32,
@@ -46,7 +47,7 @@ fn run_period<R: Threads + Sync, T: Turnstile>(
     ensures scripts { OnOk result (scripts_of (callers_on on.new) ≡ scripts_of (callers_on on.old)) }
     ensures opens { IfOk result (MayOpenOn on.new) }
 {
-    let stopped = on.run_part(rt, gate, run)?;
+    let stopped = on.run_part(rt, threads, gate, run)?;
     let is_over = on.are_all_retired();
     let next = on.freeze(stopped || is_over)?;
     Ok(next)
@@ -55,6 +56,7 @@ fn run_period<R: Threads + Sync, T: Turnstile>(
 /// Runs periods until each mutator has retired.
 pub(crate) fn run_periods<R: Threads + Sync, T: Turnstile>(
     rt: &R,
+    threads: usize,
     gate: &T,
     on: &mut OnThreads,
 ) -> Result<(), Memory>
@@ -74,7 +76,7 @@ pub(crate) fn run_periods<R: Threads + Sync, T: Turnstile>(
 {
     let mut run = on.books.pacing.period;
     while !on.are_all_retired() {
-        run = run_period(rt, gate, on, run)?;
+        run = run_period(rt, threads, gate, on, run)?;
     }
     Ok(())
 }
@@ -114,12 +116,14 @@ pub(crate) fn close_run(on: OnThreads) -> Result<HeapRun, Memory>
 }
 
 /// Runs the scripts of a heap's mutators, on which nothing was run yet: in each part each mutator makes its calls, and
-/// each visitor its visits, on a thread of its own.
+/// each visitor its visits, on no more threads than `threads`. As far as there are as many as participants, each has one
+/// of its own; those that share one act in turn, so that none of them may be held until another has acted.
 ///
 /// In the freeze after a part the cycle that marks goes on, and a whole one is run after a part in which a mutator
 /// asked for one, was first refused for room or, as the last, retired; else one begins where the trigger asks for it.
 pub fn run_on_threads<R: Threads + Sync, T: Turnstile>(
     rt: &R,
+    threads: usize,
     gate: &T,
     on: OnThreads,
 ) -> Result<HeapRun, Memory>
@@ -136,7 +140,7 @@ pub fn run_on_threads<R: Threads + Sync, T: Turnstile>(
     ensures none_met { IfOk result (λ left. (setting_in on).layout.visitors ≡ 0 → left.deferred ≡ 0) }
 {
     let mut on = on;
-    run_periods(rt, gate, &mut on)?;
+    run_periods(rt, threads, gate, &mut on)?;
     let left = close_run(on)?;
     Ok(left)
 }

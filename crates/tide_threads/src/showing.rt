@@ -22,6 +22,7 @@ use tide_snapshot::Snapshot;
 /// end.
 pub fn run_with_snapshot<R: Threads + Sync, T: Turnstile>(
     rt: &R,
+    threads: usize,
     alloc: Global,
     gate: &T,
     on: OnThreads,
@@ -42,7 +43,7 @@ pub fn run_with_snapshot<R: Threads + Sync, T: Turnstile>(
     ensures keys { IfOk result (λ left. HasKeysOf (setting_in on).shapes left.1) }
 {
     let mut on = on;
-    run_periods(rt, gate, &mut on)?;
+    run_periods(rt, threads, gate, &mut on)?;
     let snapshot = on.snapshot(alloc)?;
     let left = close_run(on)?;
     Ok((left, snapshot))

@@ -22,6 +22,7 @@ use tide_workload::Workload;
 /// snapshot may be written under the names of this workload's keys.
 pub fn run_with_snapshot<R: Threads + Sync, T: Turnstile>(
     rt: &R,
+    threads: usize,
     alloc: Global,
     load: &Workload,
     visitors: u8,
@@ -38,7 +39,7 @@ pub fn run_with_snapshot<R: Threads + Sync, T: Turnstile>(
     let names = names_of(alloc, load)?;
     let pacing = pacing_with(settings, settings.trigger);
     let on = heap_for(alloc, load, visitors, pacing)?;
-    let (left, snapshot) = run_to_snapshot(rt, alloc, gate, on)?;
+    let (left, snapshot) = run_to_snapshot(rt, threads, alloc, gate, on)?;
     let HeapRun { finished, deferred } = left;
     let kept = kept_by_heap(finished);
     let outcome = outcome_of(load, visitors, names, kept, deferred);
