@@ -40,5 +40,6 @@ Rests-newcomer who = record {
 pub FitsIn-none : (layout : Layout) → FitsIn layout []
 FitsIn-none layout = record {
   within = λ cell a. absurd (let below = a.1 in omega (arith, below));
+  once = λ cell. omega arith;
   room = omega arith;
 }
