@@ -9,7 +9,7 @@
 #![tactic(auto)]
 
 mod name;
-// over those above it
+// these stand on those listed before
 mod facts;
 
 pub use facts::Facts;

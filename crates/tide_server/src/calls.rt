@@ -72,7 +72,7 @@ impl Member {
         rt: &R,
         standing: &Standing<S>,
         op: Op,
-        gate: &T,
+        turnstile: &T,
     ) -> Result<Reply, Memory>
         requires of { IsMemberOf standing.now.heap.key.layout standing.now.heap.table.shared.table_id
             standing.now.hands.shared.table_id self.old }
@@ -94,7 +94,7 @@ impl Member {
             ≡ self.old.seat.seat.me.0.given + (if is_over self.old then 1 else 0) }
     {
         self.come_to_work(rt, standing);
-        Ok(self.make(standing, op, gate))
+        Ok(self.make(standing, op, turnstile))
     }
 
     /// Retires, and hands its last note in. Where its share of the part is over, it first hands that note in, and waits
@@ -103,7 +103,7 @@ impl Member {
         &mut self,
         rt: &R,
         standing: &Standing<S>,
-        gate: &T,
+        turnstile: &T,
     ) -> Result<(), Memory>
         requires of { IsMemberOf standing.now.heap.key.layout standing.now.heap.table.shared.table_id
             standing.now.hands.shared.table_id self.old }
@@ -122,7 +122,7 @@ impl Member {
             ≡ self.old.seat.seat.me.0.given + (if is_over self.old then 1 else 0) + 1 }
     {
         self.come_to_work(rt, standing);
-        self.mutator.retire(&standing.heap, gate);
+        self.mutator.retire(&standing.heap, turnstile);
         self.period = stop_and_post(&mut self.mutator, &mut self.seat, standing, false);
         self.works = false;
         Ok(())

@@ -42,7 +42,7 @@ pub enum Worked {
 fn visit_part<S: HeapShapes, T: Turnstile>(
     visitor: &mut Visitor,
     heap: &Heap<S>,
-    gate: &T,
+    turnstile: &T,
     run: u32,
     marks: bool,
 )
@@ -62,7 +62,7 @@ fn visit_part<S: HeapShapes, T: Turnstile>(
     ensures room { stack_room_of visitor.new ≡ stack_room_of visitor.old }
 {
     if marks {
-        visitor.drain(heap, run, gate);
+        visitor.drain(heap, run, turnstile);
     }
 }
 
@@ -72,7 +72,7 @@ impl Helper {
         &mut self,
         standing: &Standing<S>,
         ticket: Ticket,
-        gate: &T,
+        turnstile: &T,
     )
         requires of { IsHelperOf standing.now.heap.key.layout standing.now.heap.table.shared.table_id
             standing.now.hands.shared.table_id self.old }
@@ -89,7 +89,7 @@ impl Helper {
         let run = ticket.run();
         let marks = ticket.marking();
         self.visitor.begin(&standing.heap, ticket);
-        visit_part(&mut self.visitor, &standing.heap, gate, run, marks);
+        visit_part(&mut self.visitor, &standing.heap, turnstile, run, marks);
         let note = self.visitor.stop(&standing.heap);
         self.period = note.numbers().part;
         self.seat.post_note(&standing.hands.shared, note, false);
@@ -101,7 +101,7 @@ impl Helper {
         &mut self,
         rt: &R,
         standing: &Standing<S>,
-        gate: &T,
+        turnstile: &T,
     ) -> Result<Worked, Memory>
         requires of { IsHelperOf standing.now.heap.key.layout standing.now.heap.table.shared.table_id
             standing.now.hands.shared.table_id self.old }
@@ -120,7 +120,7 @@ impl Helper {
                 Found::Ticket(ticket) => {
                     // Always so: a place has one note a ticket.
                     if ticket.period() > self.period {
-                        self.take_part(standing, ticket, gate);
+                        self.take_part(standing, ticket, turnstile);
                         return Ok(Worked::Again);
                     }
                 }

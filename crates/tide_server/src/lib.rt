@@ -12,11 +12,11 @@
 
 mod member;
 mod standing;
-// over those above it
+// these stand on those listed before
 mod helper;
 mod keeper;
 mod parts;
-// over those above it
+// these stand on those listed before
 mod calls;
 mod opening;
 

@@ -184,7 +184,7 @@ impl Member {
         &mut self,
         standing: &Standing<S>,
         op: Op,
-        gate: &T,
+        turnstile: &T,
     ) -> Reply
         requires of { IsMemberOf standing.now.heap.key.layout standing.now.heap.table.shared.table_id
             standing.now.hands.shared.table_id self.old }
@@ -205,7 +205,7 @@ impl Member {
             claims_of (view_of self.new.mutator) ≡ claims_of (view_of self.old.mutator) }
         ensures seat { self.new.seat ≡ self.old.seat }
     {
-        let reply = self.mutator.call(&standing.heap, op, gate);
+        let reply = self.mutator.call(&standing.heap, op, turnstile);
         self.left -= 1;
         self.retries = is_first_full(self.retries, reply);
         self.ended = ends(reply, self.retries);
