@@ -3,12 +3,13 @@
 # processor. The text of checks is compared with the one that the gate expects, and the scripts compare themselves. A hold of a
 # row lasts a number of turns and no time, so that a row that passes on an idle machine passes beside a load.
 #
-#   bash bench/again.sh [TIMES [CHECKS [RIPTIDE [INPUT [TEXT]]]]]
+#   bash judge/again.sh [TIMES [CHECKS [RIPTIDE [INPUT [TEXT]]]]]
 #
 # TIMES is 10 where it isn't given, CHECKS crates/checks/out/checks and RIPTIDE crates/riptide/out/riptide, which the gate
 # builds, INPUT and TEXT the stdin and the stdout of checks. Where there is no RIPTIDE the scripts are left out, and it says so.
 # It prints how long each run took, and the status is 1 where one ended otherwise than expected.
 set -u
+[ "${1-}" != --help ] || { sed -n '2,/^[^#]/s/^# \{0,1\}//p' "$0"; exit; }
 
 here=$(cd "$(dirname "$0")" && pwd)
 checks=$here/../crates/checks

@@ -1,7 +1,7 @@
 #!/usr/bin/env python3
 """Tests judge_threads.py without a program: on texts of made up runs, and on texts that are near them.
 
-    python3 bench/judge_threads_test.py [FIRST [COUNT]]
+    python3 judge/judge_threads_test.py [FIRST [COUNT]]
 
 A run is made on the store of model.py in a random order of calls, with random free cells, and with cycles that end where
 and free what the schedule and the marking allow, all by chance. Its text must be accepted. Of short runs, texts in which
@@ -18,6 +18,9 @@ import time
 import judge
 import judge_threads
 import model
+
+if __name__ == "__main__" and sys.argv[1:] == ["--help"]:
+    sys.exit(print(__doc__.strip()))
 
 
 class Loose(model.Store):

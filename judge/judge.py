@@ -1,7 +1,7 @@
 #!/usr/bin/env python3
 """Runs random workloads whose cycles begin by themselves, and judges each text by what the schedule allows.
 
-    python3 bench/judge.py PROGRAM [FIRST [COUNT]]
+    python3 judge/judge.py PROGRAM [FIRST [COUNT]]
 
 PROGRAM is a built `riptide`. The workloads are those of model.py for the seeds FIRST (0) to FIRST + COUNT (200) - 1, with
 a trigger, and with small periods and headrooms. A text doesn't say in which freeze a cycle ended, so the judge looks for
@@ -27,6 +27,9 @@ import sys
 import tempfile
 
 import model
+
+if __name__ == "__main__" and sys.argv[1:] in ([], ["--help"]):
+    sys.exit(print(__doc__.strip()) or len(sys.argv) < 2)
 
 MOST = 20000
 

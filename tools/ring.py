@@ -1,7 +1,7 @@
 #!/usr/bin/env python3
 """Draws what the heap holds in the run of ring_is_freed as an SVG picture, to standard output: docs/pictures/ring_is_freed.svg.
 
-    python3 bench/ring.py > docs/pictures/ring_is_freed.svg
+    python3 tools/ring.py > docs/pictures/ring_is_freed.svg
 
 Three moments, from left to right. It is drawn by hand, but that the calls and the cycle under it are lines of the run's text.
 """
@@ -9,6 +9,9 @@ import sys
 from pathlib import Path
 
 import svg
+
+if __name__ == "__main__" and sys.argv[1:] == ["--help"]:
+    sys.exit(print(__doc__.strip()))
 
 TEXT = Path(__file__).resolve().parent.parent / "crates" / "checks" / "data" / "workloads" / "ring_is_freed.txt"
 WIDTH, HEIGHT, PANEL = 900, 230, 300

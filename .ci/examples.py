@@ -1,7 +1,7 @@
 #!/usr/bin/env python3
 """Tells which examples of README.md and of the pages of docs/ are no files that the gate runs.
 
-    python3 docs/examples.py         prints what differs, and ends with 1 where anything does
+    python3 .ci/examples.py         prints what differs, and ends with 1 where anything does
 
 - A block of ```toml is a workload of crates/checks/data, without the comment at its head, and the block of
   text behind it, if one follows before the next, is the text of that workload's run.
@@ -9,12 +9,12 @@
   names, in order.
 - A printed call, as `drop r2 = ok`, and a printed count, as `live 1`, is a line of some workload's text.
 - The blocks of docs/READING-A-RUN.md are the texts of three workloads, in order.
-- In docs/WHY.md a block of text says what bench/why.py prints of that page's workload with the lines that it begins with,
+- In docs/WHY.md a block of text says what tools/why.py prints of that page's workload with the lines that it begins with,
   or of what the command behind its `$` prints; and each line that WORKLOAD.md tells of a refused file is in one of them.
-  That the lines with which it ends mend it, bench/why_test.py tests.
+  That the lines with which it ends mend it, tools/why_test.py tests.
 - In the pages of CODE a function or a definition that is named behind a file, as `tide_mutator/src/owed/barrier.rt`: `shade`, is
   there, and so is a clause behind a function and its crate, as `pause` of `tide_cycle`: `reached`.
-- The fields and operations of docs/WORKLOAD.md, with their limits and operands, are those that bench/why.py has.
+- The fields and operations of docs/WORKLOAD.md, with their limits and operands, are those that tools/why.py has.
 - A block that begins with `mutators` is a summary that a run is compared with, and one that begins with `cell #` is the
   lines of a run with a snapshot.
 - A line on the error output, as `riptide: not TOML`, is one that a refused input or a run that fails is compared with.
@@ -28,10 +28,13 @@ import sys
 from pathlib import Path
 
 TOP = Path(__file__).resolve().parent.parent
-sys.path.insert(0, str(TOP / "bench"))
+sys.path[:0] = [str(TOP / "tools"), str(TOP / "judge")]
 import model
 import why
 import why_test
+
+if __name__ == "__main__" and sys.argv[1:] == ["--help"]:
+    sys.exit(print(__doc__.strip()))
 
 DATA = TOP / "crates" / "checks" / "data"
 WITH_OPERANDS = """
@@ -139,7 +142,7 @@ def mistakes_differ(name):
     for text in examples:
         document, said = mistake(workload, text)
         if why.explained(document)[0] != said:
-            yield f"{name}: bench/why.py says something else of this one:\n{text}"
+            yield f"{name}: tools/why.py says something else of this one:\n{text}"
     page = (TOP / "docs" / "WORKLOAD.md").read_text()
     section = page.split("### Why a file is refused", 1)[1].split("\n## ", 1)[0]
     shown = "".join(examples)
@@ -149,15 +152,15 @@ def mistakes_differ(name):
 
 
 def forms_differ(name):
-    """The limits of fields and the operands of operations in a page, against those of bench/."""
+    """The limits of fields and the operands of operations in a page, against those of tools/ and judge/."""
     page = (TOP / name).read_text()
     for field, (least, most) in why.NUMBERS.items():
         limits = f"each {least} to {most}" if field in why.FIVES else f"{least:,} to {most:,}"
         if not re.search(rf"^\| `{field}` \| [^|]* \| {limits} \|", page, re.M):
-            yield f"{name}: the field {field} isn't told with its limits, {limits}, as bench/why.py has them"
+            yield f"{name}: the field {field} isn't told with its limits, {limits}, as tools/why.py has them"
     for operation, form in model.FORMS.items():
         if f"| `{f'{operation} {form}'.rstrip()}` |" not in page:
-            yield f"{name}: the operation {operation} {form} isn't told as bench/model.py has it"
+            yield f"{name}: the operation {operation} {form} isn't told as judge/model.py has it"
 
 
 PLACE = re.compile(r"`([\w/]+\.(?:rt|antt))`(?:: | \()((?:`\w+`(?:, )?)+)")

@@ -1,12 +1,15 @@
 #!/usr/bin/env python3
 """Draws rows for `snapshot lines`: heaps that are told by facts, and how far each cell is that is retained.
 
-    bench/snapshots.py SEED COUNT > crates/checks/data/snapshot/random.txt
+    judge/snapshots.py SEED COUNT > crates/checks/data/snapshot/random.txt
 
 What is expected is found here anew, by a fixpoint over all steps and then by rounds: it takes nothing from the program.
 """
 import random
 import sys
+
+if __name__ == "__main__" and sys.argv[1:] in ([], ["--help"]):
+    sys.exit(print(__doc__.strip()) or len(sys.argv) < 2)
 
 CELLS, TABLES, ARRAYS = range(0, 64), range(64, 128), range(0, 64)
 

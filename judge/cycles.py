@@ -1,18 +1,21 @@
 #!/usr/bin/env python3
 """Draws random histories with several collections, once for a plain store and once for a heap in words.
 
-    python3 bench/cycles.py [--check]
+    python3 judge/cycles.py [--check]
 
 It writes checks/data/plain/cycles.txt, the operations with their replies and what each collection frees, and
 checks/data/marking/cycles.txt, what the operations change in words with what each whole cycle leaves there: the cells
 that it frees and how many it keeps, the weak handles, the pairs of tables, and which cells and arrays are free. What is
-expected in both is what the model of bench/model.py says. With --check it compares in place of writing.
+expected in both is what the model of judge/model.py says. With --check it compares in place of writing.
 """
 import pathlib
 import random
 import sys
 
 from model import ROOM, SLOTS, TABLE, Refused, Store, shown, text_of
+
+if __name__ == "__main__" and sys.argv[1:] == ["--help"]:
+    sys.exit(print(__doc__.strip()))
 
 DATA = pathlib.Path(__file__).resolve().parent.parent / "crates" / "checks" / "data"
 WORK = {
@@ -181,7 +184,7 @@ def main():
         if "--check" not in sys.argv:
             path.write_text(text)
         elif path.read_text() != text:
-            print(f"{path} is not what bench/cycles.py draws")
+            print(f"{path} is not what judge/cycles.py draws")
             same = False
     sys.exit(0 if same else 1)
 

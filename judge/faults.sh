@@ -8,12 +8,13 @@
 # - Writes, in such pieces: with 5, its line and the bytes of the writes before.
 # - Reads and writes that are interrupted, 99 times each: as if nothing had been.
 #
-#   bash bench/faults.sh [PROGRAM [MOST]]
+#   bash judge/faults.sh [PROGRAM [MOST]]
 #
 # At most MOST calls of each kind are made to fail, or 300 where it isn't given. PROGRAM is crates/riptide/out/riptide
 # where it isn't given; `cd crates/riptide && rt run < stdin` builds it.
 # It needs bash and gcc, which makes a library that stands before the C library and fails at the call that it is told.
 set -u
+[ "${1-}" != --help ] || { sed -n '2,/^[^#]/s/^# \{0,1\}//p' "$0"; exit; }
 
 here=$(cd "$(dirname "$0")" && pwd)
 program=${1:-$here/../crates/riptide/out/riptide}

@@ -1,7 +1,7 @@
 #!/usr/bin/env python3
 """Runs random workloads with `--snapshot`, and judges the lines of their cells.
 
-    python3 bench/judge_lines.py PROGRAM [FIRST [COUNT]]
+    python3 judge/judge_lines.py PROGRAM [FIRST [COUNT]]
 
 PROGRAM is a built `riptide`. The workloads are those of model.py for the seeds FIRST (0) to FIRST + COUNT (200) - 1, with more
 operations behind them that build what strong handles hold; half of those of several mutators are run with visitors. How far
@@ -25,6 +25,9 @@ import sys
 import tempfile
 
 import model
+
+if __name__ == "__main__" and sys.argv[1:] in ([], ["--help"]):
+    sys.exit(print(__doc__.strip()) or len(sys.argv) < 2)
 
 VALUE = r"(?:-|#?\d+)"
 LINE = re.compile(rf"cell #(\d+) class (\d) (?:slots((?: {VALUE})*)|pairs((?: #\d+={VALUE})*))(?: props((?: [a-z]\w*={VALUE})+))?"

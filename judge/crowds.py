@@ -1,7 +1,7 @@
 #!/usr/bin/env python3
 """Runs random workloads whose mutators want blocks of dead cells at once, and judges each text as judge_threads.py does.
 
-    python3 bench/crowds.py [--facts] [--visitors=N] PROGRAM [FIRST [COUNT]]
+    python3 judge/crowds.py [--facts] [--visitors=N] PROGRAM [FIRST [COUNT]]
 
 PROGRAM is a built `riptide`. The workloads are drawn for the seeds FIRST (0) to FIRST + COUNT (200) - 1. In each part about as
 many cells are born as the classes have, of one, two or four blocks, or as there are arrays for their properties; most of them
@@ -16,9 +16,13 @@ through the freezes that was found; of a text that is undecided, its calls alone
 """
 import collections
 import random
+import sys
 
 import judge_threads
 import model
+
+if __name__ == "__main__" and sys.argv[1:] in ([], ["--help"]):
+    sys.exit(print(__doc__.strip()) or len(sys.argv) < 2)
 
 KEYS = "abcde"
 

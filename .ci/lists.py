@@ -1,8 +1,8 @@
 #!/usr/bin/env python3
 """Writes the lists that follow from the tree, or tells which of them isn't what the tree says.
 
-    python3 docs/lists.py            writes them
-    python3 docs/lists.py --check    tells what differs, and ends with 1 where anything does
+    python3 .ci/lists.py            writes them
+    python3 .ci/lists.py --check    tells what differs, and ends with 1 where anything does
 
 - docs/DEFINITIONS.md: docs/reading-order.md, then each definition of specs/ that has a comment above it: those that the
   clauses of the top call `riptide` rest on, and then the others, crate by crate.
@@ -10,7 +10,7 @@
   of each; between `<!-- map -->` and `<!-- end of map -->`: the same as tables, from crates.txt and the first sentence of
   each crate's root file.
 - docs/GATE.md, between `<!-- sizes -->` and `<!-- end of sizes -->`: the size of each crate. The columns of seconds are
-  those of docs/seconds.txt, which docs/seconds.py measures.
+  those of .ci/seconds.txt, which .ci/seconds.py measures.
 
 It prints how many ways lead through crates.txt, and each module of a crate, in src/ or specs/, that names one that is
 listed after it, beside it in lib.rt or in the file of the module around both. It refuses
@@ -406,8 +406,8 @@ def map_of_crates():
 
 
 def measured():
-    """The processor seconds of each crate, as docs/seconds.py wrote them."""
-    path = TOP / "docs" / "seconds.txt"
+    """The processor seconds of each crate, as .ci/seconds.py wrote them."""
+    path = TOP / ".ci" / "seconds.txt"
     rows = [line.split() for line in path.read_text().splitlines() if not line.startswith("#")] if path.exists() else []
     return {name: seconds for name, *seconds in rows if len(seconds) == 3}
 
@@ -451,7 +451,7 @@ def pages():
 
 def main():
     if sys.argv[1:] not in ([], ["--check"]):
-        sys.exit(__doc__)
+        sys.exit(print(__doc__.strip()) or sys.argv[1:] != ["--help"])
     differ = 0
     for early in named_too_early():
         print(early)
@@ -463,7 +463,7 @@ def main():
             continue
         if sys.argv[1:]:
             differ = 1
-            print(f"{path.name} isn't what docs/lists.py writes: run it and commit what it wrote")
+            print(f"{path.name} isn't what .ci/lists.py writes: run it and commit what it wrote")
         else:
             path.write_text(text)
             print(f"wrote {path.name}")

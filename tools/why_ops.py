@@ -1,12 +1,16 @@
-"""Why a text is no operation of a workload, or no path of property keys, and what to change. It is for bench/why.py.
+"""Why a text is no operation of a workload, or no path of property keys, and what to change. It is for tools/why.py.
 
 Each answer is None, where nothing is wrong, or two sentences: the cause and the change.
 """
 import difflib
 import re
+import sys
+from pathlib import Path
 
-from model import FORMS
 from toml_lines import seen
+
+sys.path.append(str(Path(__file__).resolve().parent.parent / "judge"))
+from model import FORMS
 
 MOST_REGISTERS, MOST_HANDLES, MOST_KEYS = 16, 256, 64
 # what the letters of a form may look like, and an example of each

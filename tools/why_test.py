@@ -1,13 +1,13 @@
 #!/usr/bin/env python3
-"""Tests bench/why.py: its first line against what the program prints, and whether a file that is mended is accepted.
+"""Tests tools/why.py: its first line against what the program prints, and whether a file that is mended is accepted.
 
-    python3 bench/why_test.py [PROGRAM [FIRST [COUNT]]]
+    python3 tools/why_test.py [PROGRAM [FIRST [COUNT]]]
 
 - The first line: of each document of crates/checks/data/inputs.txt, each beginning of the stored workload (cuts.txt), and
   each workload there. With PROGRAM, a built `riptide`, also of COUNT (200) documents for the seeds from FIRST (0) on: a
   document of these with some of its characters changed, taken out or doubled.
-- The mended file: each example of docs/WHY.md and of bench/why_cases.txt ends with lines with which the workload is taken,
-  by bench/why.py and by PROGRAM; and what is said to be changed is what the example has.
+- The mended file: each example of docs/WHY.md and of tools/why_cases.txt ends with lines with which the workload is taken,
+  by tools/why.py and by PROGRAM; and what is said to be changed is what the example has.
 
 A line is printed where a test fails, or a fault has no cause or no change, and at the end how many there were.
 """
@@ -20,9 +20,12 @@ from pathlib import Path
 
 import why
 
+if __name__ == "__main__" and sys.argv[1:] == ["--help"]:
+    sys.exit(print(__doc__.strip()))
+
 TOP = Path(__file__).resolve().parent.parent
 DATA = TOP / "crates" / "checks" / "data"
-PAGE, CASES = TOP / "docs" / "WHY.md", TOP / "bench" / "why_cases.txt"
+PAGE, CASES = TOP / "docs" / "WHY.md", TOP / "tools" / "why_cases.txt"
 PIECES = [*" \n\t\"'[]{},=#.09-_r\\é", "[[mutator]]", "r16", "1.5"]
 LINE = re.compile(r"(\d+):(?: (.*))?")
 

@@ -1,13 +1,16 @@
 #!/usr/bin/env python3
 """Draws the life of a cell and of an array as an SVG picture, to standard output: docs/pictures/life_of_a_cell.svg.
 
-    python3 bench/life.py > docs/pictures/life_of_a_cell.svg
+    python3 tools/life.py > docs/pictures/life_of_a_cell.svg
 
 The numbers at the arrows are those of the table in docs/LIFE-OF-A-CELL.md, which names the function of each.
 """
 import sys
 
 import svg
+
+if __name__ == "__main__" and sys.argv[1:] == ["--help"]:
+    sys.exit(print(__doc__.strip()))
 
 WIDTH, HEIGHT = 1000, 890
 CALL, FREEZE = "#1f5fa8", "#b8520a"

@@ -1,7 +1,7 @@
 #!/usr/bin/env python3
 """Draws the printed text of a run as an SVG picture, to standard output.
 
-    python3 bench/timeline.py TEXT > PICTURE.svg      # TEXT is a file with what riptide printed, or - for standard input
+    python3 tools/timeline.py TEXT > PICTURE.svg      # TEXT is a file with what riptide printed, or - for standard input
 
 Above, a row a mutator has a mark for each of its calls, in order, by the kind of its reply. Below, each cycle has a bar:
 the cells that it kept and, on top of them, those that it freed; the last bar is what lives at the end. A text doesn't
@@ -11,6 +11,9 @@ import re
 import sys
 
 import svg
+
+if __name__ == "__main__" and sys.argv[1:] in ([], ["--help"]):
+    sys.exit(print(__doc__.strip()) or len(sys.argv) < 2)
 
 # the kinds of replies: a name, a colour, and how high the mark is among twelve
 KINDS = {

@@ -1,7 +1,7 @@
 #!/usr/bin/env python3
 """Draws the lines of a snapshot as an SVG picture, to standard output.
 
-    python3 bench/heap.py TEXT [CELL] > PICTURE.svg      # TEXT is a file with such lines, or - for standard input
+    python3 tools/heap.py TEXT [CELL] > PICTURE.svg      # TEXT is a file with such lines, or - for standard input
 
 Lines that aren't a cell's are passed over, so the whole text of a run may be given. Each cell is a box, coloured by its
 class, in the column of its distance: how many steps the shortest path to it has. What nothing retains stands in a column
@@ -15,6 +15,9 @@ import html
 import re
 import sys
 from itertools import groupby
+
+if __name__ == "__main__" and sys.argv[1:] in ([], ["--help"]):
+    sys.exit(print(__doc__.strip()) or len(sys.argv) < 2)
 
 CLASSES = {
     0: ("class 0: 2 slots", "#dbe9f6"), 1: ("class 1: 4 slots", "#b9d7ee"), 2: ("class 2: 8 slots", "#8fbfe0"),

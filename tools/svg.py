@@ -1,4 +1,4 @@
-"""The parts of an SVG picture that bench/life.py, bench/ring.py and bench/timeline.py have in common.
+"""The parts of an SVG picture that tools/life.py, tools/ring.py and tools/timeline.py have in common.
 
 It knows nothing of runs and cells: it has words, boxes, arrows, and the page that they stand on.
 """

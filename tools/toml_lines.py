@@ -1,6 +1,6 @@
 """Reads a TOML document and keeps the line on which each value stands, or tells where it is none, why, and what to change.
 
-It is for bench/why.py, which explains why a workload is refused. It reads version 1.1, as docs/WORKLOAD.md says the program
+It is for tools/why.py, which explains why a workload is refused. It reads version 1.1, as docs/WORKLOAD.md says the program
 does: a nest may be 80 deep, a name may have 80 parts, an integer has 64 bits. A value is a `Value`, with its kind, its data
 (a Python number, text, list of values, or dictionary from name to value) and its line. A document that is none is a `NotToml`.
 """

@@ -1,10 +1,10 @@
 #!/usr/bin/env python3
 """Tells why `riptide` refuses a workload: the line that it prints, the place, the cause, and what to change.
 
-    python3 bench/why.py FILE       FILE is a workload, or - for standard input
+    python3 tools/why.py FILE       FILE is a workload, or - for standard input
 
 It ends with 0 where the workload is taken, with 1 where it is refused, and with 2 where FILE isn't named or can't be read,
-or the output can't be written. docs/WHY.md has examples, which the gate compares, and bench/why_test.py compares the first
+or the output can't be written. docs/WHY.md has examples, which the gate compares, and tools/why_test.py compares the first
 line with what the program prints. Like the program it tells the first fault alone, in the order that docs/WORKLOAD.md
 gives. What it prints is ASCII: another character of the file is told by its number, as U+00E9. It proves nothing of the
 program.
@@ -16,6 +16,9 @@ import sys
 import toml_lines
 from toml_lines import seen
 from why_ops import Limits, near, op_fault, path_fault, quoted
+
+if __name__ == "__main__" and sys.argv[1:] in ([], ["--help"]):
+    sys.exit(print(__doc__.strip()) or len(sys.argv) < 2)
 
 MAX_BYTES, MAX_PATHS, MAX_OPS, MAX_MUTATORS = 4194304, 64, 65536, 16
 # the fields with numbers in the order in which they are read: the least and the most of the number, or of each of five

@@ -1,10 +1,10 @@
 """Runs the gate and says what each crate took of the processor.
 
-    python3 docs/seconds.py [COMMAND...]
+    python3 .ci/seconds.py [COMMAND...]
 
-COMMAND is `bash .ci/run` where none is given, and its output and status are passed on. Then docs/seconds.txt is written: a
+COMMAND is `bash .ci/run` where none is given, and its output and status are passed on. Then .ci/seconds.txt is written: a
 line a crate with the processor seconds, user and system, of its proof, of building and running it, and of its edits, and a
-line for all else. docs/lists.py takes the columns of docs/GATE.md from there.
+line for all else. .ci/lists.py takes the columns of docs/GATE.md from there.
 
 The processes below the command are looked at five times a second, so what one takes after the last look is lost. The
 system's own sum of all that ended stands in the last line, and what is lost is counted there with `other`.
@@ -17,6 +17,9 @@ import re
 import subprocess
 import sys
 import threading
+
+if __name__ == "__main__" and sys.argv[1:] == ["--help"]:
+    sys.exit(print(__doc__.strip()))
 
 TOP = pathlib.Path(__file__).resolve().parent.parent
 TICKS = os.sysconf("SC_CLK_TCK")
@@ -106,10 +109,10 @@ def main():
     total = spent.children_user + spent.children_system
     table = watch.sums()
     other = total - sum(map(sum, table.values()))
-    lines = ["# crate, then processor seconds of its proof, of building and running it, and of its edits; written by docs/seconds.py"]
+    lines = ["# crate, then processor seconds of its proof, of building and running it, and of its edits; written by .ci/seconds.py"]
     lines += [f"{crate} {' '.join(str(round(one)) for one in took)}" for crate, took in table.items()]
     lines += [f"other {round(other)}", f"all {round(total)}"]
-    (TOP / "docs" / "seconds.txt").write_text("\n".join(lines) + "\n")
+    (TOP / ".ci" / "seconds.txt").write_text("\n".join(lines) + "\n")
     sys.exit(status)
 
 
