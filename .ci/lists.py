@@ -1,22 +1,24 @@
 #!/usr/bin/env python3
 """Writes the lists that follow from the tree, or tells which of them isn't what the tree says.
 
-    python3 .ci/lists.py            writes them
-    python3 .ci/lists.py --check    tells what differs, and ends with 1 where anything does
+    python3 .ci/lists.py                          writes them
+    python3 .ci/lists.py --check                  tells what differs, and ends with 1 where anything does
+    python3 .ci/lists.py --definitions [WORD..]   prints the definitions of specs/, or those that have each WORD
+    python3 .ci/lists.py --sizes                  prints the size of each crate, and what it took when it was last measured
 
-- docs/DEFINITIONS.md: docs/reading-order.md, then each definition of specs/ that has a comment above it: those that the
-  clauses of the top call `riptide` rest on, and then the others, crate by crate.
 - docs/MAP.md, between `<!-- rooms -->` and `<!-- end of rooms -->`: a picture of the crates by layers, with the folders
   of each; between `<!-- map -->` and `<!-- end of map -->`: the same as tables, from crates.txt and the first sentence of
   each crate's root file.
-- docs/GATE.md, between `<!-- sizes -->` and `<!-- end of sizes -->`: the size of each crate. The columns of seconds are
-  those of .ci/seconds.txt, which .ci/seconds.py measures.
+
+The definitions are those that have a comment above them: first those that the clauses of the top call `riptide` rest on,
+the nearest first, then the others by name, and the rows by which definitions are checked. A WORD is looked for in the name,
+in the sentence and in the file. The columns of seconds are those of out/seconds.txt, where .ci/seconds.py wrote it.
 
 It prints how many ways lead through crates.txt, and each module of a crate, in src/ or specs/, that names one that is
 listed after it, beside it in lib.rt or in the file of the module around both. It refuses
 
 - a crates.txt in which a crate stands above one that it stands on, or through which too many ways lead,
-- a reading order that names a definition that the clauses of `riptide` don't rest on, or leaves out a fact (a name in
+- a docs/STATEMENT.md whose steps name a definition that the clauses of `riptide` don't rest on, or leaves out a fact (a name in
   CamelCase) that they do,
 - an edit that doesn't fit its file any more, and a table of edits in docs/GATE.md that names others than the files of
   must-fail.
@@ -307,56 +309,57 @@ def reached(found):
     return order
 
 
-# docs/DEFINITIONS.md
+# docs/STATEMENT.md, and the definitions as a table
 
 
-def reading_order(order):
-    """The part by hand, once each of its names is one that the main statement rests on and no fact is left out.
+def statement_differs():
+    """Names of the page's steps that the main statement doesn't rest on, and facts that it does and they leave out.
 
     A sentence that begins with "No clause of" may name others."""
-    text = (TOP / "docs" / "reading-order.md").read_text().rstrip()
+    order = carrying(modules())
+    text = (TOP / "docs" / "STATEMENT.md").read_text()
     steps = "\n".join(line for line in text.splitlines() if re.match(r"\d+\. ", line))
     steps = re.sub(r"No clause of [^.]*\.", "", steps)
     named = {name for name in re.findall(r"`(\w+)`", steps) if "_" in name or name[0].isupper()}
     types = set(re.findall(r"^pub (?:struct|enum) (\w+)", "\n".join(t for c in crates() for t in code_of(c)), re.M))
     lost = sorted(named - {d.name for d in order} - types - set(crates()))
     if lost:
-        sys.exit("docs/reading-order.md names what the main statement doesn't rest on: " + ", ".join(lost))
+        yield "docs/STATEMENT.md names what the main statement doesn't rest on: " + ", ".join(lost)
     left_out = [d.name for d in order if d.name[0].isupper() and d.name not in named]
     if left_out:
-        sys.exit("docs/reading-order.md leaves out what the main statement rests on: " + ", ".join(left_out))
-    return text.splitlines()
+        yield "docs/STATEMENT.md leaves out what the main statement rests on: " + ", ".join(left_out)
 
 
-def table(definitions):
+def carrying(found):
+    """The definitions with a comment that the clauses of the top call rest on, the nearest first."""
+    return [d for d in reached(found) if d.comment and not d.is_law]
+
+
+def table(definitions, words):
     rows = ["| Definition | Says | In |", "|---|---|---|"]
     for d in definitions:
-        rows.append(f"| `{d.name}` | {d.comment} | `{shown(d.module.path)}` |".replace("||", "\\|\\|"))
-    return rows
+        row = f"| `{d.name}` | {d.comment} | `{shown(d.module.path)}` |".replace("||", "\\|\\|")
+        if all(word in row for word in words):
+            rows.append(row)
+    return rows if len(rows) > 2 else ["none"]
 
 
-def definitions_page():
+def definitions(words):
+    """The definitions that have each of these words, as tables."""
     found = modules()
-    order = [d for d in reached(found) if d.comment and not d.is_law]
-    lines = reading_order(order)
-    lines += ["", f"## What the clauses of `{TOP_CALL}` rest on", ""]
-    lines += ["Each definition that these clauses cite, or that one of these cites, the nearest first.", ""]
-    lines += table(order)
+    order = carrying(found)
     told = {id(d) for d in order}
-    lines += ["", "## The others, crate by crate"]
-    for crate in crates():
-        here = [m for m in found.values() if m.crate == crate and not is_rows(m.path)]
-        others = [d for m in here for d in m.definitions.values() if d.is_pub and d.comment and id(d) not in told]
-        if others:
-            lines += ["", f"### `{crate}`", ""] + table(others)
+    here = [m for m in found.values() if not is_rows(m.path)]
+    others = [d for m in here for d in m.definitions.values() if d.is_pub and d.comment and id(d) not in told]
+    lines = [f"## What the clauses of `{TOP_CALL}` rest on, the nearest first", "", *table(order, words)]
+    lines += ["", "## The others, by name", "", *table(sorted(others, key=lambda d: d.name.lower()), words)]
     lines += ["", "## Rows by which definitions are checked", ""]
-    for crate in crates():
-        for path in filter(is_rows, files_of(crate, "specs") + files_of(crate, "proofs")):
-            lines.append(f"- `{shown(path)}`: {sentence(comment_at_head(path.read_text()))}")
-    return "\n".join(lines) + "\n"
+    rows = [path for crate in crates() for path in filter(is_rows, files_of(crate, "specs") + files_of(crate, "proofs"))]
+    told = [f"- `{shown(path)}`: {sentence(comment_at_head(path.read_text()))}" for path in rows]
+    return "\n".join(lines + [row for row in told if all(word in row for word in words)])
 
 
-# The map in docs/MAP.md and the sizes in docs/GATE.md
+# The map in docs/MAP.md, and the sizes
 
 
 def first_sentence(crate):
@@ -406,8 +409,8 @@ def map_of_crates():
 
 
 def measured():
-    """The processor seconds of each crate, as .ci/seconds.py wrote them."""
-    path = TOP / ".ci" / "seconds.txt"
+    """The processor seconds of each crate, where .ci/seconds.py wrote them."""
+    path = TOP / "out" / "seconds.txt"
     rows = [line.split() for line in path.read_text().splitlines() if not line.startswith("#")] if path.exists() else []
     return {name: seconds for name, *seconds in rows if len(seconds) == 3}
 
@@ -441,21 +444,21 @@ def between(path, parts):
 
 
 def pages():
-    plan, gate = TOP / "docs" / "MAP.md", TOP / "docs" / "GATE.md"
-    return {
-        TOP / "docs" / "DEFINITIONS.md": definitions_page(),
-        plan: between(plan, {"rooms": picture_of_rooms(), "map": map_of_crates()}),
-        gate: between(gate, {"sizes": sizes()}),
-    }
+    plan = TOP / "docs" / "MAP.md"
+    return {plan: between(plan, {"rooms": picture_of_rooms(), "map": map_of_crates()})}
 
 
 def main():
+    if sys.argv[1:2] == ["--definitions"]:
+        return print(definitions(sys.argv[2:]))
+    if sys.argv[1:] == ["--sizes"]:
+        return print(sizes())
     if sys.argv[1:] not in ([], ["--check"]):
         sys.exit(print(__doc__.strip()) or sys.argv[1:] != ["--help"])
     differ = 0
     for early in named_too_early():
         print(early)
-    for miss in [*too_many_ways(ways()), *edits_that_miss(), *edits_told_otherwise()]:
+    for miss in [*too_many_ways(ways()), *edits_that_miss(), *edits_told_otherwise(), *statement_differs()]:
         differ = 1
         print(miss)
     for path, text in pages().items():

@@ -2,9 +2,9 @@
 
     python3 .ci/seconds.py [COMMAND...]
 
-COMMAND is `bash .ci/run` where none is given, and its output and status are passed on. Then .ci/seconds.txt is written: a
+COMMAND is `bash .ci/run` where none is given, and its output and status are passed on. Then out/seconds.txt is written: a
 line a crate with the processor seconds, user and system, of its proof, of building and running it, and of its edits, and a
-line for all else. .ci/lists.py takes the columns of docs/GATE.md from there.
+line for all else. `python3 .ci/lists.py --sizes` prints it beside the size of each crate.
 
 The processes below the command are looked at five times a second, so what one takes after the last look is lost. The
 system's own sum of all that ended stands in the last line, and what is lost is counted there with `other`.
@@ -112,7 +112,8 @@ def main():
     lines = ["# crate, then processor seconds of its proof, of building and running it, and of its edits; written by .ci/seconds.py"]
     lines += [f"{crate} {' '.join(str(round(one)) for one in took)}" for crate, took in table.items()]
     lines += [f"other {round(other)}", f"all {round(total)}"]
-    (TOP / ".ci" / "seconds.txt").write_text("\n".join(lines) + "\n")
+    (TOP / "out").mkdir(exist_ok=True)
+    (TOP / "out" / "seconds.txt").write_text("\n".join(lines) + "\n")
     sys.exit(status)
 
 
