@@ -7,6 +7,7 @@
   text behind it, if one follows before the next, is the text of that workload's run.
 - A table with the columns Operation, Printed and Why has one row for each call of the workload that the link before it
   names, in order.
+- A block of ```antt is lines of the last file of specs/ or proofs/ that the page names before it.
 - A printed call, as `drop r2 = ok`, and a printed count, as `live 1`, is a line of some workload's text.
 - The blocks of docs/READING-A-RUN.md are the texts of three workloads, in order.
 - In docs/WHY.md a block of text says what tools/why.py prints of that page's workload with the lines that it begins with,
@@ -41,7 +42,7 @@ WITH_OPERANDS = """
     alloc table get put move set drop claim release add getp setp strong sget weak wget pair pget pdel group
 """.split()
 PRINTED = re.compile(rf"`((?:(?:{'|'.join(WITH_OPERANDS)}) [^`=]+|unclaim|collect|retire) = [^`]*|live \d+)`")
-PAGES = ("CHANGING", "EMBED", "LIFE-OF-A-CELL", "MACHINE", "MAP", "PROVED", "WORDS")
+PAGES = ("ARGUMENT", "CHANGING", "EMBED", "LIFE-OF-A-CELL", "MACHINE", "MAP", "PROVED", "TOUR", "WORDS")
 CODE = ["README.md", *(f"docs/{page}.md" for page in PAGES)]
 WITH_CLAUSES = ("README.md", "docs/PROVED.md")
 TABLE = re.compile(r"^(.*)\n\n\| Operation \| Printed \| Why \|\n\|[-|]*\|\n((?:\|.*\n)+)", re.M)
@@ -191,6 +192,15 @@ def code_differs(name):
                     yield f"{name}: {function} of {crate} has no clause {clause}"
 
 
+def definitions_differ(name):
+    """The definitions and proofs that a page shows, against the files that it names before them."""
+    file = None
+    for path, shown in re.findall(r"`(\w+/(?:specs|proofs)/[\w/]+\.antt)`|^```antt\n(.*?)^```$", (TOP / name).read_text(), re.S | re.M):
+        file = TOP / "crates" / path if path else file
+        if shown and shown not in file.read_text():
+            yield f"{name}: {file.relative_to(TOP)} doesn't have these lines:\n{shown}"
+
+
 def anchors_of(page):
     """The anchors of a page's headings: what stands there in small letters, with a line for each space."""
     heads = re.findall(r"^#+ (.*)$", page.read_text(), re.M)
@@ -232,7 +242,7 @@ def main():
     for message in (*paths_differ(), *walk, *mistakes_differ("docs/WHY.md"), *forms_differ("docs/WORKLOAD.md")):
         differ = 1
         print(message)
-    for message in (message for name in CODE if (TOP / name).exists() for message in code_differs(name)):
+    for message in (message for name in CODE for differs in (code_differs, definitions_differ) for message in differs(name)):
         differ = 1
         print(message)
     for name in ("README.md", "docs/WORKLOAD.md"):

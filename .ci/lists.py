@@ -6,6 +6,9 @@
     python3 .ci/lists.py --definitions [WORD..]   prints the definitions of specs/, or those that have each WORD
     python3 .ci/lists.py --sizes                  prints the size of each crate, and what it took when it was last measured
 
+- README.md, between `<!-- totals -->` and `<!-- end of totals -->`: how large all of it is.
+- docs/PROVED.md, between `<!-- trusted -->` and `<!-- end of trusted -->`: the crates of the toolchain whose statements are
+  trusted, from crates.txt.
 - docs/MAP.md, between `<!-- rooms -->` and `<!-- end of rooms -->`: a picture of the crates by layers, with the folders
   of each; between `<!-- map -->` and `<!-- end of map -->`: the same as tables, from crates.txt and the first sentence of
   each crate's root file.
@@ -431,6 +434,38 @@ def sizes():
     return "\n".join(lines)
 
 
+def lines_of(part):
+    return sum(path.read_text().count("\n") for crate in crates() for path in files_of(crate, part))
+
+
+def totals():
+    """How large all of it is, in thousands of lines, so that few commits change it."""
+    code, definitions, proofs = (round(lines_of(part) / 1000) for part in ("src", "specs", "proofs"))
+    tried, beside = (len(list(TOP.glob(f"crates/*/{folder}/*.edit"))) for folder in ("must-fail", "wrong"))
+    return (
+        f"{len(crates())} rooms (crates) have {code} thousand lines of code with contracts, {definitions} thousand of "
+        f"definitions and {proofs} thousand of proofs. The gate sees {tried} wrong bodies refused, and a script {beside} more."
+    )
+
+
+def trusted():
+    """The crates of the toolchain that a room stands on: those that the program reaches, and the others."""
+    below = {name: others for _, here in layers() for name, others in here}
+    reached, queue = set(), [PROGRAM]
+    while queue:
+        for other in below.get(queue.pop(), []):
+            if other not in reached:
+                reached.add(other)
+                queue.append(other)
+    kits = {other: sorted(name for name in below if other in below[name]) for others in below.values() for other in others}
+    kits = {name: by for name, by in kits.items() if name not in below}
+    rows = ["| Crate of the toolchain | Listed by | `riptide` reaches it |", "|---|---|---|"]
+    for name in sorted(kits, key=lambda name: (name not in reached, name)):
+        by = ", ".join(f"`{room}`" for room in kits[name])
+        rows.append(f"| `{name}` | {by} | {'yes' if name in reached else 'no'} |")
+    return "\n".join(rows)
+
+
 def between(path, parts):
     """A page with each part that stands between two of its lines written anew."""
     text = path.read_text()
@@ -444,8 +479,12 @@ def between(path, parts):
 
 
 def pages():
-    plan = TOP / "docs" / "MAP.md"
-    return {plan: between(plan, {"rooms": picture_of_rooms(), "map": map_of_crates()})}
+    first, plan, proved = TOP / "README.md", TOP / "docs" / "MAP.md", TOP / "docs" / "PROVED.md"
+    return {
+        first: between(first, {"totals": totals()}),
+        plan: between(plan, {"rooms": picture_of_rooms(), "map": map_of_crates()}),
+        proved: between(proved, {"trusted": trusted()}),
+    }
 
 
 def main():
