@@ -20,6 +20,8 @@
   lines of a run with a snapshot.
 - A line on the error output, as `riptide: not TOML`, is one that a refused input or a run that fails is compared with.
 
+- A page with links to its own headings above the first of them has one to each heading with two marks, in their order.
+
 It also tells which links of the pages lead nowhere, to a file or to a heading, which files that they name below crates/
 aren't there, and which crates.
 """
@@ -203,8 +205,20 @@ def definitions_differ(name):
 
 def anchors_of(page):
     """The anchors of a page's headings: what stands there in small letters, with a line for each space."""
-    heads = re.findall(r"^#+ (.*)$", page.read_text(), re.M)
-    return {re.sub(r"[^\w -]", "", head).strip().lower().replace(" ", "-") for head in heads}
+    return {anchor_of(head) for head in re.findall(r"^#+ (.*)$", page.read_text(), re.M)}
+
+
+def anchor_of(head):
+    return re.sub(r"[^\w -]", "", head).strip().lower().replace(" ", "-")
+
+
+def contents_differ(page, text):
+    """The list of contents of a page, if it has one, against its headings."""
+    listed = list(dict.fromkeys(re.findall(r"\]\(#([^()]*)\)", text.partition("\n## ")[0])))
+    heads = [anchor_of(head) for head in re.findall(r"^## (.*)$", text, re.M)]
+    if listed and [anchor for anchor in listed if anchor in heads] != heads:
+        lost = [head for head in heads if head not in listed]
+        yield f"{page.relative_to(TOP)}: its list of contents " + (f"lacks {', '.join(lost)}" if lost else "has another order")
 
 
 def links_differ(page, text):
@@ -225,6 +239,7 @@ def paths_differ():
     for page in sorted(pages):
         text = page.read_text()
         yield from links_differ(page, text)
+        yield from contents_differ(page, text)
         for path in re.findall(r"`((?:\w+/)?(?:src|specs|proofs|data)/[\w/]+\.\w+)`", text):
             if "NAME" not in path and not any((folder / path).exists() for folder in folders):
                 yield f"{page.relative_to(TOP)}: no file {path} in crates/"
