@@ -7,6 +7,7 @@
   text behind it, if one follows before the next, is the text of that workload's run.
 - A table with the columns Operation, Printed and Why has one row for each call of the workload that the link before it
   names, in order.
+- A block of ```console is what the command behind its `$` prints at the top of the repository.
 - A block of ```antt is lines of the last file of specs/ or proofs/ that the page names before it.
 - A printed call, as `drop r2 = ok`, and a printed count, as `live 1`, is a line of some workload's text.
 - The blocks of docs/READING-A-RUN.md are the texts of three workloads, in order.
@@ -208,6 +209,16 @@ def anchors_of(page):
     return {anchor_of(head) for head in re.findall(r"^#+ (.*)$", page.read_text(), re.M)}
 
 
+def consoles_differ(page, text):
+    """The commands that a page shows, against what they print."""
+    for language, shown in blocks(text):
+        if language == "console":
+            command, _, said = shown.removeprefix("$ ").partition("\n")
+            ran = subprocess.run(["bash", "-c", command], capture_output=True, text=True, cwd=TOP)
+            if ran.stdout + ran.stderr != said:
+                yield f"{page.relative_to(TOP)}: this prints something else: {command}"
+
+
 def anchor_of(head):
     return re.sub(r"[^\w -]", "", head).strip().lower().replace(" ", "-")
 
@@ -240,6 +251,7 @@ def paths_differ():
         text = page.read_text()
         yield from links_differ(page, text)
         yield from contents_differ(page, text)
+        yield from consoles_differ(page, text)
         for path in re.findall(r"`((?:\w+/)?(?:src|specs|proofs|data)/[\w/]+\.\w+)`", text):
             if "NAME" not in path and not any((folder / path).exists() for folder in folders):
                 yield f"{page.relative_to(TOP)}: no file {path} in crates/"
