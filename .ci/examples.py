@@ -17,6 +17,8 @@
 - In the pages of CODE a function or a definition that is named behind a file, as `tide_mutator/src/owed/barrier.rt`: `shade`, is
   there, and so is a clause behind a function and its crate, as `pause` of `tide_cycle`: `reached`.
 - The fields and operations of docs/WORKLOAD.md, with their limits and operands, are those that tools/why.py has.
+- tools/workload.schema.json has these limits too, and its patterns take each operation and path of each workload.
+- The README names the version that stands on top of docs/CHANGELOG.md.
 - A block that begins with `mutators` is a summary that a run is compared with, and one that begins with `cell #` is the
   lines of a run with a snapshot.
 - A line on the error output, as `riptide: not TOML`, is one that a refused input or a run that fails is compared with.
@@ -26,9 +28,11 @@
 It also tells which links of the pages lead nowhere, to a file or to a heading, which files that they name below crates/
 aren't there, and which crates.
 """
+import json
 import re
 import subprocess
 import sys
+import tomllib
 from pathlib import Path
 
 TOP = Path(__file__).resolve().parent.parent
@@ -167,6 +171,30 @@ def forms_differ(name):
             yield f"{name}: the operation {operation} {form} isn't told as judge/model.py has it"
 
 
+def schema_differs():
+    """The schema of workloads for editors, against the limits of tools/why.py and the workloads."""
+    fields = json.loads((TOP / "tools" / "workload.schema.json").read_text())["properties"]
+    for field, limits in why.NUMBERS.items():
+        has = fields[field]["items"] if field in why.FIVES else fields[field]
+        if (has["minimum"], has["maximum"]) != limits:
+            yield f"workload.schema.json: {field} has other limits than tools/why.py"
+    if list(fields) != why.FIELDS:
+        yield "workload.schema.json: its fields aren't those of tools/why.py"
+    ops, path = fields["mutator"]["items"]["properties"]["ops"]["items"]["pattern"], fields["shapes"]["items"]["pattern"]
+    for file in sorted((DATA / "workloads").glob("*.toml")):
+        work = tomllib.loads(file.read_text())
+        texts = [(ops, op) for mutator in work["mutator"] for op in mutator["ops"]]
+        for pattern, text in texts + [(path, one) for one in work.get("shapes", [])]:
+            if not re.search(pattern, text):
+                yield f"workload.schema.json refuses {text!r} of {file.stem}"
+
+
+def version_differs():
+    newest = re.search(r"^## (\S+) ", (TOP / "docs" / "CHANGELOG.md").read_text(), re.M)[1]
+    if f"version {newest}" not in (TOP / "README.md").read_text():
+        yield f"README.md doesn't name the version {newest} of docs/CHANGELOG.md"
+
+
 PLACE = re.compile(r"`([\w/]+\.(?:rt|antt))`(?:: | \()((?:`\w+`(?:, )?)+)")
 CLAUSE = re.compile(r"`(\w+)` of `(\w+)(?:::\w+)*`(?:: ((?:`\w+`(?:, )?)+))?")
 
@@ -266,7 +294,7 @@ def main():
     differ = 0
     runs = ("page_with_listeners", "raced_transition_is_deferred", "eden_keeps_old_garbage")
     walk = walk_differs("docs/READING-A-RUN.md", *runs)
-    for message in (*paths_differ(), *walk, *mistakes_differ("docs/WHY.md"), *forms_differ("docs/WORKLOAD.md")):
+    for message in (*paths_differ(), *walk, *mistakes_differ("docs/WHY.md"), *forms_differ("docs/WORKLOAD.md"), *schema_differs(), *version_differs()):
         differ = 1
         print(message)
     for message in (message for name in CODE for differs in (code_differs, definitions_differ) for message in differs(name)):

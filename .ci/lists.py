@@ -9,6 +9,7 @@
 - README.md, between `<!-- totals -->` and `<!-- end of totals -->`: how large all of it is.
 - docs/PROVED.md, between `<!-- trusted -->` and `<!-- end of trusted -->`: the crates of the toolchain whose statements are
   trusted, from crates.txt.
+- docs/EXAMPLES.md: behind each workload's name the first sentence of the comment at its head.
 - docs/MAP.md, between `<!-- rooms -->` and `<!-- end of rooms -->`: a picture of the crates by layers, with the folders
   of each; between `<!-- map -->` and `<!-- end of map -->`: the same as tables, from crates.txt and the first sentence of
   each crate's root file.
@@ -466,6 +467,36 @@ def trusted():
     return "\n".join(rows)
 
 
+WORKLOADS = TOP / "crates" / "checks" / "data" / "workloads"
+
+
+def told_by(stem):
+    """The first sentence of the comment at the head of a workload."""
+    head = re.match(r"(?:#.*\n)*", (WORKLOADS / f"{stem}.toml").read_text()).group(0)
+    said = " ".join(line.lstrip("# ").strip() for line in head.splitlines())
+    return re.split(r"(?<=[.:]) (?=[A-Z]|$)", said)[0] or "The stored workload of `riptide`."
+
+
+def examples(text):
+    """The page of examples, with the sentence of each."""
+
+    def line(found):
+        stem = found.group(1)
+        if not (WORKLOADS / f"{stem}.toml").exists():
+            return found.group(0)
+        return f"- [{stem}](../{(WORKLOADS / stem).relative_to(TOP)}.toml): {told_by(stem)}"
+
+    return re.sub(r"^- \[(\w+)\].*$", line, text, flags=re.M)
+
+
+def examples_missed():
+    """Workloads that docs/EXAMPLES.md has no line of, or has several."""
+    listed = re.findall(r"^- \[(\w+)\]", (TOP / "docs" / "EXAMPLES.md").read_text(), re.M)
+    for path in sorted(WORKLOADS.glob("*.toml")):
+        if (count := listed.count(path.stem)) != 1:
+            yield f"docs/EXAMPLES.md has {count} lines of the workload {path.stem}: choose a subject for it"
+
+
 def between(path, parts):
     """A page with each part that stands between two of its lines written anew."""
     text = path.read_text()
@@ -479,11 +510,13 @@ def between(path, parts):
 
 
 def pages():
+    shown = TOP / "docs" / "EXAMPLES.md"
     first, plan, proved = TOP / "README.md", TOP / "docs" / "MAP.md", TOP / "docs" / "PROVED.md"
     return {
         first: between(first, {"totals": totals()}),
         plan: between(plan, {"rooms": picture_of_rooms(), "map": map_of_crates()}),
         proved: between(proved, {"trusted": trusted()}),
+        shown: examples(shown.read_text()),
     }
 
 
@@ -497,7 +530,7 @@ def main():
     differ = 0
     for early in named_too_early():
         print(early)
-    for miss in [*too_many_ways(ways()), *edits_that_miss(), *edits_told_otherwise(), *statement_differs()]:
+    for miss in [*too_many_ways(ways()), *edits_that_miss(), *edits_told_otherwise(), *statement_differs(), *examples_missed()]:
         differ = 1
         print(miss)
     for path, text in pages().items():

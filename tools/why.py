@@ -1,7 +1,8 @@
 #!/usr/bin/env python3
 """Tells why `riptide` refuses a workload: the line that it prints, the place, the cause, and what to change.
 
-    python3 tools/why.py FILE       FILE is a workload, or - for standard input
+    python3 tools/why.py FILE          FILE is a workload, or - for standard input
+    python3 tools/why.py -- WORD..     the words of a command line, as behind `riptide`
 
 It ends with 0 where the workload is taken, with 1 where it is refused, and with 2 where FILE isn't named or can't be read,
 or the output can't be written. docs/WHY.md has examples, which the gate compares, and tools/why_test.py compares the first
@@ -16,6 +17,7 @@ import sys
 import toml_lines
 from toml_lines import seen
 from why_ops import Limits, near, op_fault, path_fault, quoted
+from why_words import words_explained
 
 if __name__ == "__main__" and sys.argv[1:] in ([], ["--help"]):
     sys.exit(print(__doc__.strip()) or len(sys.argv) < 2)
@@ -155,6 +157,15 @@ def no_mutator(told, document):
     return Fault(told, "the end of the file", why, f"write {REQUIRED['mutator']}")
 
 
+def whole_number(text):
+    """The whole number that a float's text comes to, if it does."""
+    try:
+        number = float(str(text).replace("_", ""))
+    except ValueError:
+        return None
+    return int(number) if number.is_integer() else None
+
+
 def number_fault(field, value, what="it"):
     """The fault of a value that isn't a number which the field may have, if it isn't."""
     least, most = NUMBERS[field]
@@ -164,6 +175,8 @@ def number_fault(field, value, what="it"):
     change = f"write {limits}" if field in FIVES or field in REQUIRED else f"write {limits}, or take the line out"
     if value.kind == "string" and re.fullmatch("0|[1-9][0-9]{0,6}", value.data) and least <= int(value.data) <= most:
         change = f"take the quotes off: {value.data}"
+    elif value.kind == "float" and (whole := whole_number(value.data)) is not None and least <= whole <= most:
+        change = f"write {whole}"
     elif value.kind == "array" and len(value.data) == 1 and number_fault(field, value.data[0]) is None:
         change = f"take the brackets off: {value.data[0].data}"
     return bad(field, value.line, f"{what} is {shown(value)}, and has to be {limits}", change)
@@ -237,10 +250,24 @@ def as_text(value):
     return "take the inner brackets out"
 
 
+def option_named(name, value):
+    """What to change where a field has the name of an option of the command line, or of something that has no number."""
+    number = f" {value.data}" if value.kind == "integer" else " N"
+    if name in ("visitors", "make"):
+        return f"take it out, and run riptide --{name}{number}"
+    if name in ("plain", "snapshot"):
+        return f"take it out, and run riptide --{name}"
+    if name == "threads":
+        return "take it out: each [[mutator]] has a thread of its own; riptide --visitors N asks for visitors"
+    return None
+
+
 def only_fields(document):
     for name, value in others(document, FIELDS):
         if name == "ops":
             raise bad_other(name, value, *ops_at_the_top(value))
+        if value.origin is None and (change := option_named(name, value)):
+            raise bad_other(name, value, f"no field of the top is named `{seen(name)}`", change)
         meant, listed = near(name, FIELDS), value.kind == "array" and value.origin == "header"
         change = f"take it out; the fields are {', '.join(FIELDS)}"
         if value.origin in ("header", "implicit", "dotted"):
@@ -361,6 +388,9 @@ def tell(lines):
 
 
 def main():
+    if sys.argv[1] == "--":
+        lines, taken = words_explained(sys.argv[2:])
+        return 2 if not tell(lines) else 0 if taken else 1
     if len(sys.argv) != 2:
         print(__doc__, file=sys.stderr)
         return 2

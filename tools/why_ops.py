@@ -151,6 +151,9 @@ class Limits:
             return fault
         if int(word) == 4:
             return "class 4 is that of tables, which `alloc` doesn't take", "write table and the register alone"
+        if int(word) in (8, 16):
+            change = f"a cell of {int(word)} slots is of class {[8, 16].index(int(word)) + 2}: write that"
+            return f"no cell has class {int(word)}, and a class is no number of slots", change
         return None if int(word) < 4 else (f"no cell has class {int(word)}", "write a class from 0 to 3")
 
     def slot(self, word):
@@ -257,6 +260,19 @@ def texts_in(pieces):
     return None
 
 
+def copied(text):
+    """Of a text that was copied from a printed one: it has a reply, or a cell's number among its operands."""
+    call = re.fullmatch("([a-z]+(?: [^=#]*)?) = [^=]*", text)
+    if call and call[1].split(" ")[0] in FORMS:
+        return "it is a printed line, with its reply behind the `=`", instead(call[1], "take the reply out")
+    if cell := re.search("(?:^| )(#[0-9]+)(?: |$)", text):
+        name, *words = text[:cell.start()].split(" ")
+        if name in FORMS and len(words) < len(FORMS[name].split()):
+            return (f"`{cell[1]}` is a cell in a printed text, and a file has no names for cells",
+                    "write a register that holds it: alloc, get or wget puts it into one")
+    return None
+
+
 def text_fault(text):
     """Of the characters of a text."""
     if not text.strip(" "):
@@ -273,6 +289,8 @@ def text_fault(text):
         without = " ".join(re.sub(r"[^\x20-\x7e]", "", text).split())
         change = instead(without, "take it out") if not other[0].isprintable() else "write letters, digits and spaces alone"
         return f"the character {seen(other[0])} stands in it", change
+    if fault := copied(text):
+        return fault
     if comment := re.search("(?:^| )(#|//|--)", text):
         before = text[:comment.start()].rstrip(" ,;")
         return f"a comment stands in it, behind a `{comment[1]}`" if before else "it is a comment", \

@@ -6,6 +6,8 @@
 - The first line: of each document of crates/checks/data/inputs.txt, each beginning of the stored workload (cuts.txt), and
   each workload there. With PROGRAM, a built `riptide`, also of COUNT (200) documents for the seeds from FIRST (0) on: a
   document of these with some of its characters changed, taken out or doubled.
+- The words of a command line: whether tools/why.py takes them is whether PROGRAM ends otherwise than with 2, of those of WORDS
+  in all orders of one and two, and of random ones.
 - The mended file: each example of docs/WHY.md and of tools/why_cases.txt ends with lines with which the workload is taken,
   by tools/why.py and by PROGRAM; and what is said to be changed is what the example has.
 
@@ -19,6 +21,7 @@ import sys
 from pathlib import Path
 
 import why
+import why_words
 
 if __name__ == "__main__" and sys.argv[1:] == ["--help"]:
     sys.exit(print(__doc__.strip()))
@@ -28,6 +31,8 @@ DATA = TOP / "crates" / "checks" / "data"
 PAGE, CASES = TOP / "docs" / "WHY.md", TOP / "tools" / "why_cases.txt"
 PIECES = [*" \n\t\"'[]{},=#.09-_r\\é", "[[mutator]]", "r16", "1.5"]
 LINE = re.compile(r"(\d+):(?: (.*))?")
+WORDS = """--visitors --visitors=2 --visitors=8 --visitors=9 --visitors=+1 --visitors=-1 --visitors= --plain --plain=1 --make
+    --make=7 --make=18446744073709551616 --snapshot --snapshot= -- - -p --fast --mak 2 08 seven --help -h w.toml""".split() + [""]
 
 
 def documents():
@@ -45,7 +50,7 @@ def documents():
 def examples_of(page):
     """The workload of docs/WHY.md, and its examples."""
     (_, workload), *examples = re.findall(r"^```(\w*)\n(.*?)^```$", page, re.S | re.M)
-    return workload, [text for _, text in examples]
+    return workload, [text for language, text in examples if language != "console"]
 
 
 def parts_of(example):
@@ -109,6 +114,24 @@ def case_fails(workload, example, program):
     return 0
 
 
+def words_differ(program, words):
+    """Whether the program and why.py differ on the words of a command line."""
+    ended = subprocess.run([program, *words], stdin=subprocess.DEVNULL, capture_output=True)
+    lines, taken = why_words.words_explained(words)
+    if taken == (ended.returncode != 2) and (taken or in_full(lines) and lines[0] == ended.stderr.decode().rstrip("\n")):
+        return 0
+    print(f"{words}: the program ends with {ended.returncode}, and why.py says {lines}")
+    return 1
+
+
+def command_lines(draw, count):
+    """The words in each order of one and two, and so many random ones of three and four."""
+    yield from [[one] for one in WORDS]
+    yield from [[one, other] for one in WORDS for other in WORDS if "--make=7" not in (one, other)]
+    for _ in range(count):
+        yield draw.choices([word for word in WORDS if word != "--make=7"], k=draw.choice([3, 4]))
+
+
 def cases():
     """The examples of why_cases.txt, and those of docs/WHY.md that begin with lines of the workload."""
     workload, examples = examples_of(PAGE.read_text())
@@ -132,6 +155,11 @@ def main():
             data = changed(draw.choice(texts), draw).encode()
             failed += differs(f"seed {seed}", data, said(given.program, data))
         count += given.count
+    if given.program:
+        lines = list(command_lines(random.Random(f"words {given.first}"), given.count))
+        unlike = sum(words_differ(given.program, words) for words in lines)
+        print(f"{len(lines)} command lines, {unlike} of them explained otherwise than the program says")
+        failed += unlike
     print(f"{count} documents, {failed} of them explained otherwise than the program says")
     unmended = sum(case_fails(workload, example, given.program) for example in examples)
     print(f"{len(examples)} mistakes, {unmended} of them explained otherwise than told, or refused when mended")
