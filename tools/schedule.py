@@ -1,10 +1,10 @@
 #!/usr/bin/env python3
 """Tells in which freeze each cycle of a printed run began and ended, which were full, and why each cell was freed.
 
-    python3 tools/schedule.py [--visitors=N] WORKLOAD.toml TEXT
+    python3 tools/schedule.py [--visitors=N | --plain] WORKLOAD.toml TEXT
 
 TEXT is a file with what riptide printed of the workload, or - for standard input; N is the number of visitors that the run
-had. A text has the calls and the cycles apart. This looks for the ways through the freezes that the schedule allows, as
+had, and --plain stands for a run with that option. A text has the calls and the cycles apart. This looks for the ways through the freezes that the schedule allows, as
 judge/judge.py does, and prints each, part by part:
 
 - which calls stand in a part, as places in each mutator's block, from 1; the freeze behind it is forced where a mutator
@@ -15,7 +15,7 @@ judge/judge.py does, and prints each, part by part:
   nothing retained it any more. A cell that nothing retained at any moment of the cycle, and that is kept since its graph is
   that of all moments together, is told apart.
 
-It is of a run whose mutators called one after another: of one mutator, with --plain, or on threads that came out so. Where
+It is of a run whose mutators called one after another: of one mutator, a plain one, or on threads that came out so. Where
 several ways give the text it prints up to eight: the text doesn't tell them apart. Its status is 1 where it found none.
 """
 import copy
@@ -186,10 +186,12 @@ def read(text):
     return [[line for line in block if " = " in line and not line.startswith("cell ")] for block in blocks], cycles
 
 
-def ways_through(document, text, visitors=0):
+def ways_through(document, text, visitors=0, is_plain=False):
     """The ways through the freezes that give this text, at most so many, and whether there may be more."""
-    replies, cycles = read(text)
-    ways, found, looked = [Told(judge_threads.read_workload(document), replies, cycles, visitors)], [], 0
+    (replies, cycles), work = read(text), judge_threads.read_workload(document)
+    if is_plain:
+        work["trigger"] = 0
+    ways, found, looked = [Told(work, replies, cycles, visitors)], [], 0
     while ways and len(found) < MOST_WAYS and looked < MOST_LOOKED:
         run, looked = ways.pop(), looked + 1
         try:
@@ -235,13 +237,13 @@ def told(way):
 
 
 def main():
-    words = [word for word in sys.argv[1:] if not word.startswith("--visitors=")]
+    words = [word for word in sys.argv[1:] if not word.startswith("--")]
     visitors = next((int(word.split("=")[1]) for word in sys.argv[1:] if word.startswith("--visitors=")), 0)
     if len(words) != 2:
         sys.exit(__doc__.strip())
     document = Path(words[0]).read_text(encoding="utf-8")
     text = sys.stdin.read() if words[1] == "-" else Path(words[1]).read_text(encoding="utf-8")
-    found, may_be_more = ways_through(document, text, visitors)
+    found, may_be_more = ways_through(document, text, visitors, "--plain" in sys.argv)
     if not found:
         sys.exit("no way through the freezes was found that gives this text with the mutators one after another")
     for number, way in enumerate(found, 1):

@@ -159,11 +159,12 @@ def draw_legend(y):
 
 
 def parts_of(document, printed):
-    """The parts of the first way through the freezes that gives this text."""
-    found, _ = schedule.ways_through(document, printed)
-    if not found:
-        sys.exit("no way through the freezes was found that gives this text with the mutators one after another")
-    return found[0].parts
+    """The parts of the first way through the freezes that gives this text: of a run without visitors, with them, or plain."""
+    for visitors, is_plain in ((0, False), (8, False), (0, True)):
+        found, _ = schedule.ways_through(document, printed, visitors, is_plain)
+        if found:
+            return found[0].parts
+    sys.exit("no way through the freezes was found that gives this text with the mutators one after another")
 
 
 def picture(name, printed, document=None):
