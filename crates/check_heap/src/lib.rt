@@ -22,7 +22,7 @@ mod holds;
 
 pub use draw::Draw;
 pub use fact::{pair_text, region_of, value_of, word_of, word_text};
-pub use heap::Heap;
+pub use heap::{Heap, MOST_CELLS};
 pub use holds::Holds;
 pub use labelled::label_text;
 pub use places::{place_of_element, place_of_slot, place_of_word};

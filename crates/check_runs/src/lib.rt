@@ -7,11 +7,11 @@
 #![tactic(auto)]
 
 mod answering;
-mod ending;
-mod facts;
 mod outcomes;
 mod shelf;
 // over those above it
+mod ending;
+mod facts;
 mod real;
 mod trial;
 mod ways;

@@ -8,6 +8,7 @@ use crate::callers::{begin_part, leave, stop_part};
 use crate::pair::Pair;
 use crate::working::{Found, look, put};
 use tide_heap::{Books, Report};
+use tide_shape::Shapes;
 use tide_table::{Closed, NotOpened, Numbers};
 
 impl Pair {
@@ -97,7 +98,7 @@ impl Pair {
     }
 
     /// Freezes the last part, and closes the heap.
-    pub fn close(self) -> (Closed, Report)
+    pub fn close(self) -> (Closed<Shapes>, Report)
         requires stopped { HaveStopped self }
         requires left { self.one.seat.me.0.left ≡ true }
         ensures closed { IsClosedOf self.heap result.0 }

@@ -9,6 +9,7 @@ use crate::working::Found;
 use std::alloc::Global;
 use tide_heap::Report;
 use tide_model::Memory;
+use tide_shape::Shapes;
 use tide_table::{Closed, Numbers};
 
 /// What one mutator told of a part: its number, as its ticket has it, what it found, and its note.
@@ -25,7 +26,7 @@ pub struct Told {
 pub struct Ran {
     pub first: Option<[Told; 2]>,
     pub last: [Told; 2],
-    pub closed: Closed,
+    pub closed: Closed<Shapes>,
     pub report: Report,
 }
 

@@ -16,7 +16,7 @@ mod running;
 
 use running::{Seen, run_cycle};
 pub use shared::Shared;
-pub use starting::{layout, start};
+pub use starting::{layout, start, start_over};
 use std::alloc::Global;
 use std::marker::Sync;
 use std::thread::Threads;

@@ -1,7 +1,7 @@
 -- What the views become as participants come, stop and go on, and as the collector seats, freezes, enters and opens.
 use Rattle.std.specs.List.{list_all}
 use Rattle.std.specs.Prelude.{ℕ, Bool, Contains, ◌≡◌, ◌<◌, ◌≤◌, ◌+◌, ◌==◌, ◌&&◌, not, filter, count_by, true, false, List, [], ◌∷◌, ◌++◌, length, replicate, slice_set, if◌then◌else◌}
-use Rattle.tide_core.specs.tide_layout.Limits.{IsWithinLimits}
+use Rattle.tide_core.specs.tide_layout.Limits.{most_cells, IsWithinLimits}
 use Rattle.tide_core.specs.tide_layout.Region.{word_count}
 use Rattle.tide_core.specs.tide_layout.declared.region.Region.TheVariants as region
 use Rattle.tide_core.specs.machine.Frozen.{FrozenWith, newcomer}
@@ -151,7 +151,7 @@ pub record Freezes (layout : Layout) (shapes : ShapeLists) (v w : View) : Type 0
   pub of_part : list_all (λ event. is_of_part event.entry) part ≡ true
   pub taken : TakenAreSwept part
   pub births : v.births ≡ count_by (λ event. is_birth event.entry) part
-  pub few : v.births ≤ 20480
+  pub few : v.births ≤ most_cells
   -- what each note tells of the history is a beginning of it, and what it tells of its participant's calls are all that
   -- the history has; the same of who left for good before
   pub heard : (noted : NotedCalls) → IsParty layout noted.who → Contains v.noted_calls noted → IsPrefix noted.seen v.seen

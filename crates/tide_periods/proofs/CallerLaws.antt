@@ -9,7 +9,6 @@ use Rattle.tide_model.specs.declared.op.Op.{Op}
 use Rattle.tide_model.specs.declared.op.Op.TheVariants.{Unclaim, Retire}
 use Rattle.tide_model.specs.declared.op.Reply.{Reply}
 use Rattle.tide_model.specs.declared.op.Reply.TheVariants.{Done}
-use Rattle.tide_model.specs.declared.entry.Entry.TheVariants.{Call}
 use Rattle.tide_model.specs.declared.entry.Event.{Event}
 use Rattle.tide_model.specs.Answer.{IsAnswer}
 use Rattle.tide_model.specs.Applied.{after_call}
@@ -18,33 +17,16 @@ use Rattle.tide_model.specs.Lawful.{FitsLayout}
 use Rattle.tide_model.specs.Layout.{Layout}
 use Rattle.tide_model.specs.Refused.{ShapeLists}
 use Rattle.tide_model.specs.Script.{is_retire, retry_of}
-use Rattle.tide_model.specs.Script.{calls_of, is_full_reply, retry_after, retry_after_all, script_from, script_of}
+use Rattle.tide_model.specs.Script.{calls_of, is_full_reply, retry_after, script_from, script_of}
 use Rattle.tide_model.specs.State.{State}
-use Rattle.tide_model.proofs.Histories.{take-append-short, calls_of-append, retry_after_all-append, script_from-append, state_after-push}
+use Rattle.tide_model.proofs.Histories.{take-append-short, script_from-append, state_after-push}
 use Rattle.tide_model.proofs.Cycles.{take-all}
 use Rattle.tide_periods.specs.Asking.{IsAskable, IsAt, IsMutatorAt, Standing, WasDone, claims_after, after_reply, next_of, op_or_leave, IsAskedBy, of_script, asks_unclaim, asks_retire}
 use Rattle.tide_periods.specs.Store.{Setting}
 use Rattle.tide_periods.specs.Recorded.{IsSettled, MayAsk, Recorded}
 use Rattle.tide_model.proofs.ActiveLaws.{active_after-call}
 use Rattle.tide_model.proofs.CallLaws.{unclaim_is_done, retire_is_done, length_without_first, nothing_of_no_length}
-
--- the event of a call
-abbrev pub called : ℕ → Op → Reply → Option ℕ → Event
-called who op reply took = record { entry = Call who op reply; took = took }
-
--- one's own call
-pub calls_of-called : (who : ℕ) (op : Op) (reply : Reply) (took : Option ℕ) → calls_of who (called who op reply took ∷ []) ≡ (op, reply) ∷ []
-calls_of-called who op reply took = ap (λ (b : Bool). (if b then (op, reply) ∷ [] else []) ++ []) (eq-eqb who who refl)
-
-pub calls_of-push : (who : ℕ) (history : List Event) (op : Op) (reply : Reply) (took : Option ℕ) →
-    calls_of who (history ++ called who op reply took ∷ []) ≡ calls_of who history ++ (op, reply) ∷ []
-calls_of-push who history op reply took =
-    calls_of-append who history (called who op reply took ∷ []) ∙ ap (λ (more : List (Op × Reply)). calls_of who history ++ more) (calls_of-called who op reply took)
-
-pub retry_of-push : (who : ℕ) (history : List Event) (op : Op) (reply : Reply) (took : Option ℕ) →
-    retry_of who (history ++ called who op reply took ∷ []) ≡ retry_after (retry_of who history) (op, reply)
-retry_of-push who history op reply took =
-    ap (retry_after_all None) (calls_of-push who history op reply took) ∙ retry_after_all-append None (calls_of who history) ((op, reply) ∷ [])
+use Rattle.tide_model.proofs.OwnCalls.{called, calls_of-push, is_some-flag, retry_after-flag, retry_of-push}
 
 pub script_of-push : (who : ℕ) (history : List Event) (op : Op) (reply : Reply) (took : Option ℕ) →
     script_of who (history ++ called who op reply took ∷ []) ≡ script_of who history ++ (if is_some (retry_after (retry_of who history) (op, reply)) then [] else op ∷ [])
@@ -52,18 +34,6 @@ script_of-push who history op reply took =
     ap (script_from None) (calls_of-push who history op reply took)
     ∙ script_from-append None (calls_of who history) ((op, reply) ∷ [])
     ∙ ap (λ (more : List Op). script_of who history ++ more) (append-nil (if is_some (retry_after (retry_of who history) (op, reply)) then [] else op ∷ []))
-
--- what is to be tried again after a call, by whether it was a second try
-pub retry_after-flag : (pending : Option Op) (retry : Bool) (op : Op) (reply : Reply) → retry ≡ is_some pending →
-    retry_after pending (op, reply) ≡ (if not retry && is_full_reply reply then Some op else None)
-retry_after-flag None true op reply e = absurd (cc)
-retry_after-flag None false op reply e = refl
-retry_after-flag (Some tried) true op reply e = refl
-retry_after-flag (Some tried) false op reply e = absurd (cc)
-
-pub is_some-flag : (flag : Bool) (op : Op) → is_some (if flag then Some op else None) ≡ flag
-is_some-flag true op = refl
-is_some-flag false op = refl
 
 -- which operation is next
 pub data IsNext (ops : List Op) (done claims : ℕ) (op : Op) : Type 0 where

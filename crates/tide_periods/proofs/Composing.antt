@@ -33,10 +33,11 @@ use Rattle.tide_periods.specs.Part.{IsPartOf, RanPart}
 use Rattle.tide_periods.specs.Recorded.{IsSettled, OpenedPart, recorded_at}
 use Rattle.tide_periods.specs.Store.{Setting}
 use Rattle.tide_periods.proofs.Freezing.{calls_of-opened, one_fails}
-use Rattle.tide_periods.proofs.Lists.{prefix_of_prefix}
-use Rattle.tide_periods.proofs.OwnShares.{IsCallerAt-longer, calls_of-mine, calls_of-own, claims-longer, few_claims, is_own, quiet-rest, stands_last}
-use Rattle.tide_periods.proofs.Parting.{IsShare-by, any_below-same}
+use Rattle.tide_model.proofs.Prefixes.{prefix_of_prefix}
+use Rattle.tide_periods.proofs.OwnShares.{IsCallerAt-longer, claims-longer, few_claims, quiet-rest}
+use Rattle.tide_periods.proofs.Parting.{any_below-same}
 use Rattle.tide_periods.proofs.RecordedLaws.{IsSettled-event, OpenedPart-did}
+use Rattle.tide_model.proofs.OwnCalls.{IsShare-by, calls_of-mine, calls_of-own, is_own, stands_last}
 
 -- what a part leaves: a settled history, in which no cycle more began, and no part more was opened
 record AreSettledAfter (setting : Setting) (before over : List Event) : Type 0 where

@@ -29,7 +29,7 @@ use Rattle.tide_periods.specs.Store.{Setting}
 use Rattle.tide_sched.specs.Paces.{last_run}
 use Rattle.tide_sched.proofs.RunLaws.{last_run-opened, last_run-same}
 use Rattle.tide_periods.specs.Recorded.{IsSettled, OpenedPart, RanCycle, Recorded}
-use Rattle.tide_periods.proofs.Parting.{IsShare-by}
+use Rattle.tide_model.proofs.OwnCalls.{IsShare-by}
 
 -- no cycle marks where the state says so
 rests_after : (recorded : Recorded) → IsSettled recorded → recorded.state.phase ≡ idle → marks_after recorded.setting.layout recorded.history ≡ false

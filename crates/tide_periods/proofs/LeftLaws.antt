@@ -26,7 +26,8 @@ use Rattle.tide_periods.specs.Store.{Setting}
 use Rattle.tide_periods.specs.Recorded.{IsSettled, MadeCall, Recorded}
 use Rattle.tide_model.proofs.CallLaws.{length_without_first}
 use Rattle.tide_periods.proofs.Quiet.{calls_of-others, claims_after-quiet}
-use Rattle.tide_periods.proofs.CallerLaws.{IsNext, an_operation, unclaims, retires, called, next_cases, not_first, not_full_past}
+use Rattle.tide_periods.proofs.CallerLaws.{IsNext, an_operation, unclaims, retires, next_cases, not_first, not_full_past}
+use Rattle.tide_model.proofs.OwnCalls.{called}
 
 pub claims_after-others : (layout : Layout) (history events : List Event) (who other : ℕ) → who ≢ other → All (λ event. is_call_of other event.entry ≡ true) events →
     (state_after layout (history ++ events)).claims who ≡ (state_after layout history).claims who

@@ -5,7 +5,6 @@ pub mod CycleLaws
 pub mod Freezing
 pub mod FullCollections
 pub mod LeftLaws
-pub mod Lists
 pub mod OwnShares
 pub mod Parting
 pub mod PartLoops

@@ -2,7 +2,7 @@
 use Rattle.std.proofs.Common.{ℕ, zero, suc, ◌≡◌, ◌+◌, ◌<◌, ◌≤◌, refl, sym, ◌∙◌, ap, subst, arith, Bool, true, false, List, [], ◌∷◌, ◌++◌, length, append_assoc, append-nil, inl, inr, eq-eqb}
 use Rattle.std.proofs.lemmas.List.{append_cancel_right, length-append}
 use Rattle.std.proofs.lemmas.List.Elements.{All-nil, All-push, filter-append}
-use Rattle.std.specs.Prelude.{Option, None, Some, filter, is_some, not, ◌&&◌, ◌||◌, map, slice_get, if◌then◌else◌}
+use Rattle.std.specs.Prelude.{Option, None, filter, is_some, not, ◌&&◌, ◌||◌, map, if◌then◌else◌}
 use Rattle.tide_model.specs.declared.op.Op.{Op}
 use Rattle.tide_model.specs.declared.op.Reply.{Reply}
 use Rattle.tide_model.specs.declared.entry.Entry.{Entry}
@@ -15,12 +15,11 @@ use Rattle.tide_model.specs.Lawful.{IsLawful, Stands, StandsEntry}
 use Rattle.tide_model.specs.Layout.{Layout}
 use Rattle.tide_model.specs.Prefix.{IsPrefix, prefix_refl, prefix_trans}
 use Rattle.tide_model.specs.Refused.{ShapeLists}
-use Rattle.tide_model.specs.Script.{calls_of, is_full_reply, own_calls, retry_after_all, retry_of}
+use Rattle.tide_model.specs.Script.{calls_of, is_full_reply, retry_after_all, retry_of}
 use Rattle.tide_model.specs.Share.{HasCallLeft, ends_share, has_ended, is_asked}
 use Rattle.tide_model.specs.Each.{Each}
 use Rattle.tide_model.proofs.CallKeeps.{HasFewClaims, HasFewClaims-call}
-use Rattle.tide_model.proofs.Cycles.{take-all}
-use Rattle.tide_model.proofs.Histories.{IsLawful-elim, push_cases, state_after-push, take-append-short}
+use Rattle.tide_model.proofs.Histories.{IsLawful-elim, push_cases, state_after-push}
 use Rattle.tide_model.proofs.PeriodLaws.{Each-nil, has_ended-push}
 use Rattle.tide_periods.specs.declared.caller.Caller.{Caller}
 use Rattle.tide_periods.specs.Asking.{IsCallerAt, TookReply, claims_after, next_of, op_or_leave, standing_of}
@@ -28,29 +27,12 @@ use Rattle.tide_periods.specs.Answered.{pair_of}
 use Rattle.tide_periods.specs.Left.{left_at, left_of}
 use Rattle.tide_periods.specs.Own.{AreClaims, IsCallerWithin, RanOwnShare, left_within}
 use Rattle.tide_periods.specs.Store.{Setting}
-use Rattle.tide_periods.proofs.CallerLaws.{called, calls_of-push, retry_after-flag, is_some-flag}
 use Rattle.tide_periods.proofs.LeftLaws.{left-none, left-some, left-taken}
-use Rattle.tide_periods.proofs.Lists.{filter-rest, prefix_before}
+use Rattle.tide_model.proofs.Prefixes.{filter-rest, prefix_before}
 use Rattle.tide_periods.proofs.PartLoops.{IsSharingOwn}
-use Rattle.tide_periods.proofs.Quiet.{IsMutatorAt-quiet, claims_after-quiet, own_calls-other}
-use Rattle.tide_periods.proofs.Sharing.{IsCallerAt-took, retry_of-events}
-
--- whose entry it is
-abbrev pub is_own : ℕ → Event → Bool
-is_own who event = is_call_of who event.entry
-
--- a mutator's calls are those of its own entries
-pub calls_of-own : (who : ℕ) (history : List Event) → calls_of who (filter (is_own who) history) ≡ calls_of who history
-calls_of-own who [] = refl
-calls_of-own who (event ∷ history) = step (calls_of-own who history) (is_own who event) refl
-  where
-    step : calls_of who (filter (is_own who) history) ≡ calls_of who history → (b : Bool) → is_own who event ≡ b →
-        calls_of who (if b then event ∷ filter (is_own who) history else filter (is_own who) history) ≡ own_calls who event.entry ++ calls_of who history
-    step later true e = ap (λ (more : List (Op × Reply)). own_calls who event.entry ++ more) later
-    step later false e = later ∙ ap (λ (more : List (Op × Reply)). more ++ calls_of who history) (sym (own_calls-other who event.entry e))
-
-pub calls_of-mine : (who : ℕ) (history mine : List Event) → IsOwn who history mine → calls_of who mine ≡ calls_of who history
-calls_of-mine who history mine own = ap (calls_of who) own ∙ calls_of-own who history
+use Rattle.tide_periods.proofs.Quiet.{IsMutatorAt-quiet, claims_after-quiet}
+use Rattle.tide_periods.proofs.Sharing.{IsCallerAt-took}
+use Rattle.tide_model.proofs.OwnCalls.{called, calls_of-mine, calls_of-own, calls_of-push, is_own, is_some-flag, retry_after-flag, retry_of-events, stands_last}
 
 -- no call of a mutator comes after a beginning that has all of them
 pub quiet-rest : (who : ℕ) (known history mine : List Event) (prefix : IsPrefix known history) → IsOwn who known mine → IsOwn who history mine → calls_of who prefix.rest ≡ []
@@ -89,16 +71,6 @@ few_claims layout shapes history lawful =
         step (Taken block) took stands' = few
         step (Sweep block) took stands' = few
         step (Open number run) took stands' = few
-
--- the last event of a lawful history stands
-pub stands_last : (layout : Layout) (shapes : ShapeLists) (before : List Event) (event : Event) → IsLawful layout shapes (before ++ event ∷ []) → Stands layout shapes before event
-stands_last layout shapes before event lawful =
-    subst (λ (h : List Event). Stands layout shapes h event) (take-append-short before (event ∷ []) (length before) (omega arith) ∙ take-all before)
-    (lawful (length before) event (at_end before event))
-  where
-    at_end : (xs : List Event) (x : Event) → slice_get (xs ++ x ∷ []) (length xs) ≡ Some x
-    at_end [] x = refl
-    at_end (y ∷ xs) x = at_end xs x
 
 -- what a call was made of: a history between, which has all that its caller had made before
 pub record HasBetween (setting : Setting) (who : ℕ) (op : Op) (reply : Reply) (took : Option ℕ) (known between seen mine mine_now : List Event) : Type 0 where

@@ -30,7 +30,7 @@ use Rattle.tide_periods.specs.Part.{AreCallers, IsPartOf, RanShare}
 use Rattle.tide_periods.specs.Store.{Setting}
 use Rattle.tide_periods.specs.Recorded.{IsSettled, Recorded}
 use Rattle.tide_periods.proofs.Quiet.{IsMutatorAt-quiet, active_after-quiet, calls_of-others}
-use Rattle.tide_periods.proofs.Sharing.{retry_of-events}
+use Rattle.tide_model.proofs.OwnCalls.{IsShare-by, retry_of-events}
 
 -- what is called of one's own is a call
 is_call-own : (who : ℕ) (entry : Entry) → is_call_of who entry ≡ true → is_call entry ≡ true
@@ -49,12 +49,6 @@ any_below-same one other zero same = refl
 any_below-same one other (suc n) same =
     let here = same n (omega arith) in
     ap (λ (b : Bool). b || one n) (any_below-same one other n (λ k below. same k (omega arith))) ∙ ap (λ (b : Bool). any_below other n || b) here
-
--- a share of equal things
-pub IsShare-by : (run : ℕ) (retry retry' : Option Op) (active active' : Bool) (calls calls' : List (Op × Reply)) → retry ≡ retry' → active ≡ active' → calls ≡ calls' →
-    IsShare run retry active calls → IsShare run retry' active' calls'
-IsShare-by run retry retry' active active' calls calls' e1 e2 e3 share =
-    subst (λ (r : Option Op). IsShare run r active' calls') e1 (subst (λ (a : Bool). IsShare run retry a calls') e2 (subst (IsShare run retry active) e3 share))
 
 -- calls alone are a part
 pub IsPartOf-calls : (layout : Layout) (before part : List Event) → AllPass (λ event. is_call event.entry) part →

@@ -2,7 +2,7 @@
 use Rattle.std.proofs.Common.{ℕ, ◌≡◌, ◌+◌, ◌<◌, refl, sym, ◌∙◌, ap, subst, arith, Bool, true, false, List, [], ◌∷◌, ◌++◌, length, append_assoc, append-nil, inl, inr, eq-eqb}
 use Rattle.std.proofs.lemmas.List.{length-append, map-append}
 use Rattle.std.proofs.lemmas.List.Elements.{All-nil, All-push}
-use Rattle.std.specs.Prelude.{Option, None, is_some, not, ◌&&◌, ◌||◌, map}
+use Rattle.std.specs.Prelude.{Option, is_some, not, ◌&&◌, ◌||◌, map}
 use Rattle.tide_model.specs.declared.op.Op.{Op}
 use Rattle.tide_model.specs.declared.op.Reply.{Reply}
 use Rattle.tide_model.specs.declared.entry.Event.{Event}
@@ -12,7 +12,7 @@ use Rattle.tide_model.specs.State.{State}
 use Rattle.tide_model.specs.Script.{calls_of, is_full_reply, retry_after_all, retry_of}
 use Rattle.tide_model.specs.Share.{HasCallLeft, ends_share, has_ended, is_asked}
 use Rattle.tide_model.specs.Each.{Each}
-use Rattle.tide_model.proofs.Histories.{calls_of-append, push_cases, retry_after_all-append}
+use Rattle.tide_model.proofs.Histories.{push_cases}
 use Rattle.tide_model.proofs.PeriodLaws.{has_ended-push}
 use Rattle.tide_periods.specs.declared.caller.Caller.{Caller}
 use Rattle.tide_periods.specs.Answered.{pair_of}
@@ -22,7 +22,8 @@ use Rattle.tide_periods.proofs.PartLoops.{IsSharing}
 use Rattle.tide_periods.specs.Part.{RanShare}
 use Rattle.tide_periods.specs.Recorded.{IsSettled, MadeCall, Recorded}
 use Rattle.tide_model.proofs.PeriodLaws.{Each-nil}
-use Rattle.tide_periods.proofs.CallerLaws.{IsMutatorAt-called, called, calls_of-push, retry_after-flag, is_some-flag}
+use Rattle.tide_periods.proofs.CallerLaws.{IsMutatorAt-called}
+use Rattle.tide_model.proofs.OwnCalls.{called, calls_of-push, is_some-flag, retry_after-flag, retry_of-events}
 
 -- no call was made yet
 pub IsSharing-nothing : (old : Recorded) (run who : ℕ) → IsSettled old → IsSharing old old run who 0 false
@@ -37,10 +38,6 @@ IsSharing-nothing old run who settled = record {
   count = refl;
   stops = refl;
 }
-
--- what a mutator has to try again, in the midst of its share
-pub retry_of-events : (who : ℕ) (before events : List Event) → retry_of who (before ++ events) ≡ retry_after_all (retry_of who before) (calls_of who events)
-retry_of-events who before events = ap (retry_after_all None) (calls_of-append who before events) ∙ retry_after_all-append None (calls_of who before) (calls_of who events)
 
 -- one call more, by its mutator's standing
 pub IsSharing-called : (old now new : Recorded) (run who made : ℕ) (ops : List Op) (standing : Standing) (calls : List (Op × Reply)) (claims : ℕ) (op : Op) (reply : Reply) →

@@ -13,6 +13,7 @@ mod values;
 mod contents;
 // over those above it
 mod index;
+mod known;
 mod roots;
 // over those above it
 mod reading;

@@ -234,7 +234,7 @@ module _ (layout : Layout) (shapes : ShapeLists) (words : List ℕ) (views : Lis
       × Tabled layout shapes words (set views me (frozen_with words v)) log
       × (v.seen ≡ v.start ++ since is_open log)
       × (list_all (λ event. is_of_part event.entry) (since is_open log) ≡ true)
-      × (v.births ≡ born_since is_open log) × (born_since is_open log ≤ 20480)
+      × (v.births ≡ born_since is_open log) × (born_since is_open log ≤ 83886080)
       × ((i : ℕ) → IsParty layout i → (state_after layout v.seen).active i ≡ false → In i v.gone)
       × ((noted : NotedCalls) → IsParty layout noted.who → Contains v.noted_calls noted → IsPrefix noted.seen v.seen)
       × ((noted : NotedCalls) → IsParty layout noted.who → Contains v.noted_calls noted →

@@ -3,7 +3,7 @@ use Rattle.std.specs.Prelude.{ℕ, ◌≡◌, ◌+◌, ◌<◌, ◌≤◌, ◌^�
 use Rattle.tide_heap.specs.tide_freeze.Books.{AreBooks}
 use Rattle.tide_heap.specs.tide_freeze.Freezing.{HasFrozenWhole, HasVisited}
 use Rattle.tide_heap.specs.tide_freeze.declared.books.Books.{Books}
-use Rattle.tide_heap.specs.tide_layout.Limits.{IsWithinLimits}
+use Rattle.tide_heap.specs.tide_layout.Limits.{most_cells, IsWithinLimits}
 use Rattle.tide_heap.specs.tide_layout.Region.{word_count}
 use Rattle.tide_heap.specs.tide_layout.declared.region.Region.TheVariants.{Stopped}
 use Rattle.tide_heap.specs.tide_core.machine.Frozen.{FrozenWith, MayOpen}
@@ -37,7 +37,7 @@ pub record RunsPart (layout : Layout) (v : View) : Type 0 where
 pub record StandsStill (layout : Layout) (shapes : ShapeLists) (v : View) : Type 0 where
   pub limits : IsWithinLimits layout
   pub frozen : v.frozen ≡ true
-  pub few : v.births ≤ 20480
+  pub few : v.births ≤ most_cells
   pub period : v.period ≡ open_count v.seen
   pub run : 0 < v.period → v.run ≡ last_run v.seen
   pub long : length v.words ≡ word_count layout

@@ -8,6 +8,8 @@ use Rattle.tide_periods.specs.declared.caller.Caller.{Caller}
 use Rattle.tide_report.specs.Ends.{TellsEnds}
 use Rattle.tide_sched.specs.Paces.{pace_of}
 use Rattle.tide_shape.specs.Lists.{lists_of}
+use Rattle.tide_shape.specs.declared.shapes.Shapes.{Shapes}
+use Rattle.tide_table.specs.declared.closed.Closed.{Closed}
 use Rattle.tide_table.specs.Standing.{MayEnterVisits, StandsStill}
 use Rattle.tide_threads.specs.Acting.{callers_in}
 use Rattle.tide_threads.specs.Playing.{AllStandBy}
@@ -17,6 +19,10 @@ use Rattle.tide_threads.specs.declared.on_threads.OnThreads.{OnThreads}
 -- what never changes of a heap on which participants run on threads
 abbrev pub setting_in : OnThreads → Setting
 setting_in o = record { layout = o.heap.key.layout; shapes = lists_of o.heap.key.shapes }
+
+-- what never changed of a heap that was closed
+abbrev pub setting_left : Closed Shapes → Setting
+setting_left closed = record { layout = closed.key.layout; shapes = lists_of closed.key.shapes }
 
 -- what its history tells
 abbrev pub recorded_in : OnThreads → Recorded

@@ -1,4 +1,4 @@
-//! Runs on threads: in each part each mutator makes its calls, and each visitor marks, on a thread of its own, on one
+//! Runs on threads: in each part each mutator makes its calls, and each visitor marks, on threads, on one
 //! shared heap.
 //!
 //! A `Participant` is a mutator with what it asks for, or a visitor. In a part each begins with its ticket, makes its

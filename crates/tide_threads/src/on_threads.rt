@@ -1,5 +1,5 @@
-//! `OnThreads`: what a run stands on, a heap with its mutators and visitors, each of which acts on a thread of its own.
-ghost use Rattle.std.specs.Prelude.{◌≡◌, ◌-◌, ◌^◌, ◌<◌, ◌+◌, ◌++◌, ◌∷◌, ◌⊎◌, ℕ, [], All, IfOk, OnOk, Some, length, map, min, slice_get, true};
+//! `OnThreads`: what a run stands on, a heap with its mutators and visitors, which act on threads.
+ghost use Rattle.std.specs.Prelude.{◌≡◌, ◌-◌, ◌^◌, ◌<◌, ◌+◌, ◌++◌, ◌∷◌, ◌⊎◌, ℕ, [], All, IfOk, OnErr, OnOk, Some, length, map, min, slice_get, true};
 ghost use Rattle.std.specs.List.{list_all};
 ghost use Rattle.atomic_table.specs.Seated.{TableId};
 ghost use Rattle.crossbeam_utils.specs.Padded.{padded_value};
@@ -17,7 +17,7 @@ ghost use Rattle.tide_shape.specs.Lists.{lists_of};
 ghost use Rattle.tide_table.specs.Started.{ArePasses};
 ghost use Rattle.tide_threads.specs.Acting.{before_all, caller_of, callers_in, is_silent, races_in};
 ghost use Rattle.tide_threads.specs.Fresh.{AreFresh};
-ghost use Rattle.tide_threads.specs.OnThreads.{callers_on, pace_on, recorded_in, setting_in};
+ghost use Rattle.tide_threads.specs.OnThreads.{callers_on, pace_on, recorded_in, setting_in, setting_left};
 ghost use Rattle.tide_threads.specs.OnThreads.{MayEnterOn, MayOpenOn, Stands};
 ghost use Rattle.tide_threads.specs.declared.participant.Participant.{Participant};
 
@@ -239,10 +239,11 @@ impl OnThreads {
     }
 
     /// Opens a part in which each mutator has `run` calls, and each visitor as many visits if a cycle marks, and has it
-    /// played. Answers whether a mutator stopped before its share was over.
+    /// played on so many threads at most. Answers whether a mutator stopped before its share was over.
     pub(crate) fn run_part<R: Threads + Sync, T: Turnstile>(
         &mut self,
         rt: &R,
+        threads: usize,
         gate: &T,
         run: u32,
     ) -> Result<bool, Memory>
@@ -259,6 +260,7 @@ impl OnThreads {
     {
         let ended = run_whole_part(
             rt,
+            threads,
             &self.heap,
             gate,
             &mut self.collector,
@@ -277,7 +279,7 @@ impl OnThreads {
     }
 
     /// Freezes after a part, and does what the schedule asks for. Answers how many calls each mutator has in the next
-    /// part.
+    /// part. Without memory for the report nothing was done.
     pub(crate) fn freeze(&mut self, is_forced: bool) -> Result<u32, Memory>
         requires settled { IsSettled (recorded_in self.old) }
         requires stands { Stands self.old }
@@ -285,10 +287,11 @@ impl OnThreads {
         requires room { (recorded_in self.old).cycles < 2 ^ 60 }
         requires visits { MayEnterOn self.old }
         ensures ran { IfOk result (RanFreeze (recorded_in self.old) (recorded_in self.new) (pace_on self.old) is_forced) }
-        ensures stands { OnOk result (Stands self.new) }
-        ensures pacing { OnOk result (self.new.books.pacing ≡ self.old.books.pacing) }
-        ensures callers { OnOk result (callers_on self.new ≡ callers_on self.old) }
+        ensures stands { Stands self.new }
+        ensures pacing { self.new.books.pacing ≡ self.old.books.pacing }
+        ensures callers { callers_on self.new ≡ callers_on self.old }
         ensures opens { IfOk result (MayOpenOn self.new) }
+        ensures untouched { OnErr result (recorded_in self.new ≡ recorded_in self.old) }
     {
         let next = self
             .collector
@@ -330,10 +333,11 @@ impl OnThreads {
 
     /// Closes a heap whose mutators have all retired: its history, the report of the cycles that ended, and each
     /// mutator's calls.
-    pub(crate) fn finish(self) -> Result<(Closed, Report, Vec<Vec<Answered>>), Memory>
+    pub(crate) fn finish(self) -> Result<(Closed<Shapes>, Report, Vec<Vec<Answered>>), Memory>
         requires stands { Stands self }
         requires retired { list_all (λ caller. caller.retired) (callers_on self) ≡ true }
         ensures history { IfOk result (λ left. left.0.seat.me.0.seen ≡ (recorded_in self).history) }
+        ensures heap { IfOk result (λ left. setting_left left.0 ≡ setting_in self) }
         ensures report { IfOk result (λ left. TellsEnds (setting_in self).layout (recorded_in self).history left.1) }
         ensures calls { IfOk result (λ left.
             map (λ own. own.items) left.2.items ≡ map (λ caller. caller.calls.items) (callers_on self)) }

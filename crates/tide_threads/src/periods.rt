@@ -10,18 +10,21 @@ ghost use Rattle.tide_periods.specs.Periods.{RanAll, RanPeriod};
 ghost use Rattle.tide_periods.specs.Recorded.{IsSettled};
 ghost use Rattle.tide_periods.specs.Run.{HasRun};
 ghost use Rattle.tide_report.specs.Ends.{TellsEnds};
-ghost use Rattle.tide_threads.specs.OnThreads.{callers_on, pace_on, recorded_in, setting_in, MayOpenOn, Stands};
+ghost use Rattle.tide_threads.specs.OnThreads.{callers_on, pace_on, recorded_in, setting_in, setting_left};
+ghost use Rattle.tide_threads.specs.OnThreads.{MayOpenOn, Stands};
 
 use crate::on_threads::OnThreads;
 use std::marker::Sync;
 use std::thread::Threads;
 use tide_model::{Memory, Turnstile};
 use tide_periods::Finished;
+use tide_shape::Shapes;
 use tide_table::Closed;
 
 /// Opens a part in which each mutator has so many calls, runs it, and freezes. Answers how many it has in the next one.
 fn run_period<R: Threads + Sync, T: Turnstile>(
     rt: &R,
+    threads: usize,
     gate: &T,
     on: &mut OnThreads,
     run: u32,
@@ -44,7 +47,7 @@ fn run_period<R: Threads + Sync, T: Turnstile>(
     ensures scripts { OnOk result (scripts_of (callers_on on.new) ≡ scripts_of (callers_on on.old)) }
     ensures opens { IfOk result (MayOpenOn on.new) }
 {
-    let stopped = on.run_part(rt, gate, run)?;
+    let stopped = on.run_part(rt, threads, gate, run)?;
     let is_over = on.are_all_retired();
     let next = on.freeze(stopped || is_over)?;
     Ok(next)
@@ -53,6 +56,7 @@ fn run_period<R: Threads + Sync, T: Turnstile>(
 /// Runs periods until each mutator has retired.
 pub(crate) fn run_periods<R: Threads + Sync, T: Turnstile>(
     rt: &R,
+    threads: usize,
     gate: &T,
     on: &mut OnThreads,
 ) -> Result<(), Memory>
@@ -72,7 +76,7 @@ pub(crate) fn run_periods<R: Threads + Sync, T: Turnstile>(
 {
     let mut run = on.books.pacing.period;
     while !on.are_all_retired() {
-        run = run_period(rt, gate, on, run)?;
+        run = run_period(rt, threads, gate, on, run)?;
     }
     Ok(())
 }
@@ -80,7 +84,7 @@ pub(crate) fn run_periods<R: Threads + Sync, T: Turnstile>(
 /// What a run on a heap leaves, and how many races its visitors met, as far as 64 bits count them.
 #[derive(Drop)]
 pub struct HeapRun {
-    pub finished: Finished<Closed>,
+    pub finished: Finished<Closed<Shapes>>,
     pub deferred: u64,
 }
 
@@ -89,6 +93,7 @@ pub(crate) fn close_run(on: OnThreads) -> Result<HeapRun, Memory>
     requires stands { Stands on }
     requires retired { list_all (λ caller. caller.retired) (callers_on on) ≡ true }
     ensures history { IfOk result (λ left. left.finished.kept.seat.me.0.seen ≡ (recorded_in on).history) }
+    ensures heap { IfOk result (λ left. setting_left left.finished.kept ≡ setting_in on) }
     ensures report { IfOk result (λ left.
         TellsEnds (setting_in on).layout (recorded_in on).history left.finished.report) }
     ensures calls { IfOk result (λ left. map (λ own. own.items) left.finished.calls.items
@@ -111,12 +116,14 @@ pub(crate) fn close_run(on: OnThreads) -> Result<HeapRun, Memory>
 }
 
 /// Runs the scripts of a heap's mutators, on which nothing was run yet: in each part each mutator makes its calls, and
-/// each visitor its visits, on a thread of its own.
+/// each visitor its visits, on no more threads than `threads`. As far as there are as many as participants, each has one
+/// of its own; those that share one act in turn, so that none of them may be held until another has acted.
 ///
 /// In the freeze after a part the cycle that marks goes on, and a whole one is run after a part in which a mutator
 /// asked for one, was first refused for room or, as the last, retired; else one begins where the trigger asks for it.
 pub fn run_on_threads<R: Threads + Sync, T: Turnstile>(
     rt: &R,
+    threads: usize,
     gate: &T,
     on: OnThreads,
 ) -> Result<HeapRun, Memory>
@@ -129,10 +136,11 @@ pub fn run_on_threads<R: Threads + Sync, T: Turnstile>(
     ensures ran { IfOk result (λ left. HasRun (setting_in on) (pace_on on) (scripts_of (callers_on on))
         left.finished.kept.seat.me.0.seen left.finished.report (map (λ own. own.items) left.finished.calls.items)
         left.finished.live) }
+    ensures heap { IfOk result (λ left. setting_left left.finished.kept ≡ setting_in on) }
     ensures none_met { IfOk result (λ left. (setting_in on).layout.visitors ≡ 0 → left.deferred ≡ 0) }
 {
     let mut on = on;
-    run_periods(rt, gate, &mut on)?;
+    run_periods(rt, threads, gate, &mut on)?;
     let left = close_run(on)?;
     Ok(left)
 }

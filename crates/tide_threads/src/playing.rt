@@ -1,4 +1,4 @@
-//! A part on threads: each participant does its part on one of its own. It opens no part and freezes none.
+//! A part on threads: each participant does its part on one of them. It opens no part and freezes none.
 ghost use Rattle.std.specs.Prelude.{◌≡◌, ℕ, All, IfOk, Some, false, slice_get};
 ghost use Rattle.crossbeam_utils.specs.Padded.{padded_value};
 ghost use Rattle.crossbeam_utils.specs.declared.cache_padded.CachePadded.{CachePadded};
@@ -27,9 +27,11 @@ fn play_one<T: Turnstile>(padded: &mut CachePadded<Participant>, heap: &Heap<Sha
     participant.play_part(heap, gate);
 }
 
-/// The part of each participant, on as many threads as there are participants.
+/// The part of each participant, on as many threads as there are participants, and on no more than so many. Those of
+/// one thread do their parts in turn.
 fn play_all<R: Threads + Sync, T: Turnstile>(
     rt: &R,
+    threads: usize,
     heap: &Heap<Shapes>,
     gate: &T,
     participants: &mut [CachePadded<Participant>],
@@ -44,7 +46,7 @@ fn play_all<R: Threads + Sync, T: Turnstile>(
         thread::for_each_mut(
             rt,
             participants,
-            count,
+            count.min(threads.max(1)),
             &|_, padded|
                 requires { MayPlay heap.now.table.shared.table_id heap.now.key.layout (lists_of heap.now.key.shapes)
                     (padded_value padded.old) }
@@ -72,6 +74,7 @@ fn have_ended(participants: &[CachePadded<Participant>]) -> Result<bool, Memory>
 /// was over.
 pub(crate) fn play_part<R: Threads + Sync, T: Turnstile>(
     rt: &R,
+    threads: usize,
     heap: &Heap<Shapes>,
     gate: &T,
     collector: &mut Collector,
@@ -89,6 +92,6 @@ pub(crate) fn play_part<R: Threads + Sync, T: Turnstile>(
     ensures served { IfOk result (AllServed participants.new) }
 {
     hand_out(collector, heap, participants);
-    play_all(rt, heap, gate, participants);
+    play_all(rt, threads, heap, gate, participants);
     have_ended(participants)
 }

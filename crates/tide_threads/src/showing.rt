@@ -7,7 +7,8 @@ ghost use Rattle.tide_periods.specs.Run.{HasRun};
 ghost use Rattle.tide_retained.specs.Contents.{HasKeysOf};
 ghost use Rattle.tide_retained.specs.Holding.{IsSnapshotOf};
 ghost use Rattle.tide_shape.specs.Lists.{lists_of};
-ghost use Rattle.tide_threads.specs.OnThreads.{callers_on, pace_on, recorded_in, setting_in, MayOpenOn, Stands};
+ghost use Rattle.tide_threads.specs.OnThreads.{callers_on, pace_on, recorded_in, setting_in, setting_left};
+ghost use Rattle.tide_threads.specs.OnThreads.{MayOpenOn, Stands};
 
 use crate::on_threads::OnThreads;
 use crate::periods::{HeapRun, close_run, run_periods};
@@ -21,6 +22,7 @@ use tide_snapshot::Snapshot;
 /// end.
 pub fn run_with_snapshot<R: Threads + Sync, T: Turnstile>(
     rt: &R,
+    threads: usize,
     alloc: Global,
     gate: &T,
     on: OnThreads,
@@ -34,13 +36,14 @@ pub fn run_with_snapshot<R: Threads + Sync, T: Turnstile>(
     ensures ran { IfOk result (λ left. HasRun (setting_in on) (pace_on on) (scripts_of (callers_on on))
         left.0.finished.kept.seat.me.0.seen left.0.finished.report
         (map (λ own. own.items) left.0.finished.calls.items) left.0.finished.live) }
+    ensures heap { IfOk result (λ left. setting_left left.0.finished.kept ≡ setting_in on) }
     ensures none_met { IfOk result (λ left. (setting_in on).layout.visitors ≡ 0 → left.0.deferred ≡ 0) }
     ensures snapshot { IfOk result (λ left. IsSnapshotOf (setting_in on).layout
         (state_after (setting_in on).layout left.0.finished.kept.seat.me.0.seen) left.1) }
     ensures keys { IfOk result (λ left. HasKeysOf (setting_in on).shapes left.1) }
 {
     let mut on = on;
-    run_periods(rt, gate, &mut on)?;
+    run_periods(rt, threads, gate, &mut on)?;
     let snapshot = on.snapshot(alloc)?;
     let left = close_run(on)?;
     Ok((left, snapshot))

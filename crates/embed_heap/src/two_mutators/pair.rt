@@ -17,7 +17,7 @@ use tide::{Closed, Collector, Heap, Mutator, Pass, Shapes, Ticket};
 #[derive(Drop)]
 pub struct Ran {
     pub found: (Found, Found),
-    pub closed: Closed,
+    pub closed: Closed<Shapes>,
 }
 
 /// Each of two mutators does its part in a thread of its own.

@@ -133,9 +133,9 @@ pub fn run_cycle<R: Threads + Sync>(rt: &R, mut shared: Shared) -> Option<Seen>
 {
     shared.open();
     let mut linked = shared.run_part(rt, &LINKS);
-    linked.shared.next()?;
+    linked.shared.next(false)?;
     let mut stored = linked.shared.run_part(rt, &STORES);
-    stored.shared.next()?;
+    stored.shared.next(false)?;
     let (cycle, base) = (stored.cycle, stored.base);
     let visits = stored.visits;
     let kept = stored

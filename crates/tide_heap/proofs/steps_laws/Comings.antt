@@ -1,9 +1,9 @@
 -- Each step of a participant's coming and going keeps the rule of the table.
-use Rattle.std.proofs.Common.{◌≡◌, ℕ, ◌<◌, ◌≤◌, List, sym, refl, ap, ◌∙◌, inl, inr, subst, arith, true, false, set, get_or}
+use Rattle.std.proofs.Common.{◌≡◌, ℕ, ◌+◌, ◌<◌, ◌≤◌, List, sym, refl, ap, ◌∙◌, inl, inr, subst, arith, true, false, set, get_or}
 use Rattle.std.proofs.lemmas.Bool.{cases_Bool}
 use Rattle.std.proofs.lemmas.Bool.Decides.{nat_tests}
 use Rattle.std.specs.Prelude.{[], if◌then◌else◌, ◌==◌, Bool, nat_lt, not, ◌||◌, ◌↔◌, ◌⊎◌}
-use Rattle.atomic_table.proofs.Lists.{set_else}
+use Rattle.atomic_table.proofs.Lists.{set_else, set_here}
 use Rattle.atomic_table.specs.Table.{State, Me, keeps, stepped, Allows, Splits, Joins}
 use Rattle.tide_core.specs.tide_layout.Region.{base_of, place_in, size_of, word_count}
 use Rattle.tide_core.specs.tide_layout.declared.region.Region.TheVariants as region
@@ -15,16 +15,21 @@ use Rattle.tide_core.specs.declared.machine.view.View.{View}
 use Rattle.tide_core.specs.machine.kinds.Activate.{begun_view}
 use Rattle.tide_core.specs.machine.kinds.Split.{split_view}
 use Rattle.tide_core.specs.machine.kinds.StoreStopped.{stopped_view}
+use Rattle.tide_model.proofs.PeriodLaws.{open_count-prefix}
+use Rattle.tide_model.specs.Caller.{IsOwn}
 use Rattle.tide_model.specs.Layout.{Layout}
+use Rattle.tide_model.specs.Periods.{open_count}
 use Rattle.tide_model.specs.Prefix.{IsPrefix}
 use Rattle.tide_model.specs.Refused.{ShapeLists}
-use Rattle.tide_heap.proofs.Members.{knows_as, member_ok, spend}
-use Rattle.tide_heap.proofs.Turning.{begin_here, end_here, hear_here, note_split, period_here}
+use Rattle.tide_model.specs.declared.entry.Event.{Event}
+use Rattle.tide_heap.proofs.Members.{knows_as, member, member_ok, now_running, running, spend}
+use Rattle.tide_heap.proofs.Runs.{runs_later}
+use Rattle.tide_heap.proofs.Turning.{begin_here, below, end_here, hear_here, note_split, period_here}
 use Rattle.tide_core.specs.machine.Progress.{HasWholeRound}
 use Rattle.tide_heap.specs.Done.{HasDonePart, done_by_numbers}
 use Rattle.tide_heap.specs.Rule.{Tabled, Rule}
 use Rattle.tide_heap.specs.Turns.{heard_view, note_of, spent}
-use Rattle.tide_heap.specs.steps.Plays.{HasBegun}
+use Rattle.tide_heap.specs.steps.Plays.{HasBegun, HasStoppedPart}
 use lib.ListN.{get_elem?}
 use lib.Seq.{set-get_or}
 use mathlib.Core.Option.{some}
@@ -100,25 +105,64 @@ unmoved layout shapes s i id w r cs = subst (λ (ws : List ℕ). Rule layout sha
   views = set s.views id w;
 }) (sym (set-get_or s.words i 0)) r
 
+-- a participant that begins, by whether it began in this part before
+abbrev begun_again : Bool → View → View
+begun_again again v = if again then record v { runs = true; round = []; full = []; known = [] } else record v {
+  runs = true;
+  begun = v.ticket;
+  born = 0;
+  visits = 0;
+  races = 0;
+  round = [];
+  full = [];
+  known = [];
+}
+
 -- who begins has seen what it had, and made the calls that it had
 pub seen_begun : (v : View) → ((begun_view v).seen ≡ v.seen) × ((begun_view v).mine ≡ v.mine)
 seen_begun v = by_test (v.begun == v.ticket)
   where
-    begun : Bool → View
-    begun b = if b then record v { runs = true; round = []; full = []; known = [] } else record v {
-      runs = true;
-      begun = v.ticket;
-      born = 0;
-      visits = 0;
-      races = 0;
-      round = [];
-      full = [];
-      known = [];
-    }
-
-    by_test : (b : Bool) → ((begun b).seen ≡ v.seen) × ((begun b).mine ≡ v.mine)
+    by_test : (b : Bool) → ((begun_again b v).seen ≡ v.seen) × ((begun_again b v).mine ≡ v.mine)
     by_test true = (refl, refl)
     by_test false = (refl, refl)
+
+-- it runs, and is what it was
+runs_begun : (v : View) → ((begun_view v).role ≡ v.role) × ((begun_view v).runs ≡ true)
+runs_begun v = by_test (v.begun == v.ticket)
+  where
+    by_test : (b : Bool) → ((begun_again b v).role ≡ v.role) × ((begun_again b v).runs ≡ true)
+    by_test true = (refl, refl)
+    by_test false = (refl, refl)
+
+-- who runs has seen no more openings than its ticket tells: the Period word counts those of the history
+few_opens : (layout : Layout) (shapes : ShapeLists) (words : List ℕ) (views : List View) (log : List Event) (me : ℕ)
+    (v : View) (k : Tabled layout shapes words views log) → get_elem? views me ≡ some v → v.role ≡ Member →
+    v.runs ≡ true → open_count v.seen ≤ v.ticket
+few_opens layout shapes words views log me v k there is act =
+    let run = now_running layout shapes words views log me v k there
+    (running layout shapes words views log me v k there is act) in
+    let later = runs_later layout shapes words views log me v k there is act in
+    let mine = (member layout shapes words views log me v k there is).2 in
+    let seen : open_count v.seen ≤ open_count log = open_count-prefix v.seen log
+    (subst (λ (x : View). IsPrefix x.seen log) (sym mine) (run.wave.known.seen v.who)) in
+    let counted = run.wave.numbers.periods in
+    let word = run.period in
+    let close : k.cv.period ≤ v.period + 1 = elim (member_ok layout shapes words views log me v k there is).close [
+      | inl gone ↦ absurd (later.2 gone)
+      | inr close ↦ close
+    ] in
+    let past = later.0 in
+    omega (arith, seen, counted, word, close, past)
+
+-- what who runs has seen has no other calls of its own than those that it made
+own_calls : (layout : Layout) (shapes : ShapeLists) (words : List ℕ) (views : List View) (log : List Event) (me : ℕ)
+    (v : View) (k : Tabled layout shapes words views log) → get_elem? views me ≡ some v → v.role ≡ Member →
+    v.runs ≡ true → IsOwn v.who v.seen v.mine
+own_calls layout shapes words views log me v k there is act =
+    let run = now_running layout shapes words views log me v k there
+    (running layout shapes words views log me v k there is act) in
+    subst (λ (x : View). IsOwn v.who x.seen x.mine) (sym (member layout shapes words views log me v k there is).2)
+    (sym (run.wave.known.told v.who))
 
 module _ (layout : Layout) (shapes : ShapeLists) where
   pub begins : (slots id : ℕ) (me : M) → me.0.role ≡ Member → me.0.runs ≡ false → me.0.left ≡ false →
@@ -127,10 +171,7 @@ module _ (layout : Layout) (shapes : ShapeLists) where
     begun_view me.0,
     keeps,
     tt,
-    unmoved layout shapes s 0 id (begun_view me.0) record {
-      log = rule.log;
-      tabled = begin_here layout shapes s.words s.views rule.log id me.0 rule.tabled there is idle stays later;
-    } me.1,
+    unmoved layout shapes s 0 id (begun_view me.0) record { log = rule.log; tabled = tabled } me.1,
     record {
       view = refl;
       found = ap (λ (i : ℕ). get_or s.words i 0) (period_first layout)
@@ -139,13 +180,18 @@ module _ (layout : Layout) (shapes : ShapeLists) where
           (member_ok layout shapes s.words s.views rule.log id me.0 rule.tabled there is).earlier;
       told = subst (IsPrefix me.0.told) (sym (seen_begun me.0).0)
           (member_ok layout shapes s.words s.views rule.log id me.0 rule.tabled there is).heard;
+      own = own_calls layout shapes s.words (set s.views id (begun_view me.0)) rule.log id (begun_view me.0) tabled
+          (set_here s.views id (begun_view me.0) (below s.views id me.0 there)) ((runs_begun me.0).0 ∙ is) (runs_begun me.0).1;
     },
   )
+    where
+      tabled : Tabled layout shapes s.words (set s.views id (begun_view me.0)) rule.log
+      tabled = begin_here layout shapes s.words s.views rule.log id me.0 rule.tabled there is idle stays later
 
   pub ends : (slots id : ℕ) (me : M) (at word : ℕ) → me.0.role ≡ Member → me.0.runs ≡ true → Rests me.0 →
       at ≡ place_in layout region.Stopped (index_of_stopped layout me.0.who) →
       index_of_stopped layout me.0.who < size_of layout region.Stopped → word ≡ me.0.ticket →
-      Allows (Rule layout shapes) slots id me at (λ _. word) (λ _ b. b.0 ≡ stopped_view me.0)
+      Allows (Rule layout shapes) slots id me at (λ _. word) (λ _ b. HasStoppedPart me.0 b.0)
   ends slots id me at word is act rests place inside period s rule long there fits = (
     stopped_view me.0,
     keeps,
@@ -156,7 +202,7 @@ module _ (layout : Layout) (shapes : ShapeLists) where
           (λ i. (sym place i, sym period i))
           (end_here layout shapes s.words s.views rule.log id me.0 rule.tabled there is act rests inside);
     },
-    refl,
+    record { view = refl; opens = few_opens layout shapes s.words s.views rule.log id me.0 rule.tabled there is act },
   )
 
   -- a note that tells rightly whether its participant has done its part

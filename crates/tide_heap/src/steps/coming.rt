@@ -1,10 +1,12 @@
 //! A participant hears a ticket and begins, stops, and hands out its note. It makes no call.
-ghost use Rattle.std.specs.Prelude.{◌≡◌, ◌↔◌, ◌<◌, ◌||◌, true, false};
+ghost use Rattle.std.specs.Prelude.{◌≡◌, ◌↔◌, ◌<◌, ◌≤◌, ◌||◌, true, false};
 ghost use Rattle.tide_core.specs.machine.May.{Rests};
 ghost use Rattle.tide_core.specs.machine.Progress.{HasWholeRound};
 ghost use Rattle.tide_core.specs.machine.kinds.Activate.{begun_view};
 ghost use Rattle.tide_core.specs.machine.kinds.Split.{split_view};
 ghost use Rattle.tide_core.specs.machine.kinds.StoreStopped.{stopped_view};
+ghost use Rattle.tide_model.specs.Caller.{IsOwn};
+ghost use Rattle.tide_model.specs.Periods.{open_count};
 ghost use Rattle.tide_model.specs.Prefix.{IsPrefix};
 ghost use Rattle.tide_heap.specs.Done.{done_by_numbers, HasDonePart};
 ghost use Rattle.tide_heap.specs.Parties.{IsParty};
@@ -48,6 +50,7 @@ impl Pass {
         ensures found { result ≡ self.old.seat.me.0.ticket }
         ensures earlier { IsPrefix self.old.seat.me.0.earlier self.new.seat.me.0.seen }
         ensures told { IsPrefix self.old.seat.me.0.told self.new.seat.me.0.seen }
+        ensures own { IsOwn self.new.seat.me.0.who self.new.seat.me.0.seen self.new.seat.me.0.mine }
     {
         // The word has the number that its ticket tells: the next part is opened after a freeze, which waits for this
         // participant's note. Phase, cycle and base are those of the ticket till then (`NumbersRead`: `told`,
@@ -73,6 +76,7 @@ impl Pass {
         ensures earlier { IsPrefix self.old.seat.me.0.seen self.new.seat.me.0.seen }
         ensures told { IsPrefix ticket.seat.me.0.seen self.new.seat.me.0.seen }
         ensures mine { self.new.seat.me.0.mine ≡ self.old.seat.me.0.mine }
+        ensures own { IsOwn self.new.seat.me.0.who self.new.seat.me.0.seen self.new.seat.me.0.mine }
     {
         self.join(heap, ticket);
         self.activate(heap);
@@ -86,6 +90,7 @@ impl Pass {
         requires owes_nothing { Rests self.old.seat.me.0 }
         ensures same { (self.new.seat.table_id ≡ self.old.seat.table_id) × (self.new.seat.id ≡ self.old.seat.id) }
         ensures stopped { self.new.seat.me.0 ≡ stopped_view self.old.seat.me.0 }
+        ensures opens { open_count self.old.seat.me.0.seen ≤ self.old.seat.me.0.ticket }
     {
         let index = heap.stopped_index(self.numbers.who);
         let at = heap.layout().place(Region::Stopped, index);
@@ -145,6 +150,7 @@ impl Pass {
             ((whole ≡ true) ↔ HasWholeRound heap.now.key.layout self.old.seat.me.0) }
         ensures same { (self.new.seat.table_id ≡ self.old.seat.table_id) × (self.new.seat.id ≡ self.old.seat.id) }
         ensures stopped { self.new.seat.me.0 ≡ split_view (stopped_view self.old.seat.me.0) }
+        ensures opens { open_count self.old.seat.me.0.seen ≤ self.old.seat.me.0.ticket }
         ensures note { (result.seat.table_id ≡ self.old.seat.table_id) × (result.seat.me.0
             ≡ note_of (done_by_numbers self.old.seat.me.0 || whole) (stopped_view self.old.seat.me.0)) }
         ensures done { (result.seat.me.0.done ≡ true) ↔ HasDonePart heap.now.key.layout self.old.seat.me.0 }

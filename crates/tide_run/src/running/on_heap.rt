@@ -1,6 +1,5 @@
-//! A workload's heap that its mutators and visitors share, and running the workload on it, each of them on a thread of
-//! its own.
-ghost use Rattle.std.specs.Prelude.{◌≡◌, ◌≤◌, [], true, IfOk};
+//! A workload's heap that its mutators and visitors share, and running the workload on it, on threads.
+ghost use Rattle.std.specs.Prelude.{◌≡◌, ◌≤◌, [], IfOk, Some};
 ghost use Rattle.tide_run.specs.running.Runs.{AreScripts, IsRunOf, setting_of_work};
 ghost use Rattle.tide_periods.specs.Asking.{scripts_of};
 ghost use Rattle.tide_periods.specs.Part.{AreCallers};
@@ -48,11 +47,12 @@ pub(crate) fn heap_for(
     Ok(on)
 }
 
-/// Runs a workload on one heap, with a thread for each mutator and each visitor in each part. A cycle marks while calls
-/// go on between its pauses, and begins by itself where the workload's trigger asks for it; there may be up to 8
-/// visitors, who mark beside the calls.
+/// Runs a workload on one heap, with a thread for each mutator and each visitor in each part as far as so many threads
+/// go, and else one for several. A cycle marks while calls go on between its pauses, and begins by itself where the
+/// workload's trigger asks for it; there may be up to 8 visitors, who mark beside the calls.
 pub fn run<R: Threads + Sync, T: Turnstile>(
     rt: &R,
+    threads: usize,
     alloc: Global,
     load: &Workload,
     visitors: u8,
@@ -60,13 +60,13 @@ pub fn run<R: Threads + Sync, T: Turnstile>(
 ) -> Result<Outcome, Memory>
     requires { visitors ≤ 8 }
     ensures run { IfOk result (IsRunOf load.now load.now.settings.trigger visitors) }
-    ensures heap { IfOk result (λ ran. ran.is_heap ≡ true) }
+    ensures heap { IfOk result (λ ran. ran.heap ≡ Some (setting_of_work load.now visitors)) }
 {
     let settings = load.settings();
     let names = names_of(alloc, load)?;
     let pacing = pacing_with(settings, settings.trigger);
     let on = heap_for(alloc, load, visitors, pacing)?;
-    let HeapRun { finished, deferred } = run_on_threads(rt, gate, on)?;
+    let HeapRun { finished, deferred } = run_on_threads(rt, threads, gate, on)?;
     let kept = kept_by_heap(finished);
     Ok(outcome_of(load, visitors, names, kept, deferred))
 }

@@ -6,6 +6,7 @@ use tide_layout::Layout;
 use tide_model::Event;
 use tide_periods::{Answered, Finished};
 use tide_report::Report;
+use tide_shape::Shapes;
 use tide_table::Closed;
 
 /// A history that a run kept itself: its events, in order.
@@ -20,7 +21,7 @@ pub enum Kept {
     /// By the run itself.
     Own(Told),
     /// By a heap that threads shared, which this run opened and closed. Its history is for contracts alone.
-    Heap(Closed),
+    Heap(Closed<Shapes>),
 }
 
 /// A run's history, its replies, its cycles and what lives at its end.

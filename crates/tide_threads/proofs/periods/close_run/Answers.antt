@@ -14,6 +14,7 @@ returns c =
     let left = c.in_ok-kept in
     record {
       history = left.ensures.history ∙ ap (λ (r : Recorded). r.history) same;
+      heap = left.ensures.heap ∙ ap (λ (r : Recorded). r.setting) same;
       report = subst (λ (r : Recorded). TellsEnds r.setting.layout r.history left.report) same left.ensures.report;
       calls = left.ensures.calls ∙ ap (map (λ (x : Caller). x.calls.items)) c.live-live.ensures.callers;
       live = c.live-live.ensures.live;

@@ -41,5 +41,6 @@ returns g c =
           left.live ran.ran ran.same ran.scripts made.ensures.history
           (subst (λ (h : List Event). TellsEnds recorded.setting.layout h left.report) (sym made.ensures.history) made.ensures.report)
           made.ensures.calls made.ensures.live;
+      heap = made.ensures.heap ∙ ran.same;
       none_met = λ none. made.ensures.none_met (ap (λ (s : Setting). s.layout.visitors) ran.same ∙ none);
     }

@@ -55,6 +55,7 @@ returns g c =
           (subst (λ (r : Recorded). TellsEnds r.setting.layout r.history left.report) same made.ensures.report))
           (made.ensures.calls ∙ ap (map (λ (x : Caller). x.calls.items)) shown.ensures.callers)
           (made.ensures.live ∙ ap (λ (r : Recorded). live_count r.setting.layout r.state) same);
+      heap = made.ensures.heap ∙ ap (λ (r : Recorded). r.setting) same ∙ ran.same;
       none_met = λ none. made.ensures.none_met (ap (λ (r : Recorded). r.setting.layout.visitors) same ∙ ap (λ (s : Setting). s.layout.visitors) ran.same ∙ none);
       snapshot = subst (λ (h : List Event). IsSnapshotOf (setting_in c.args.on).layout (state_after (setting_in c.args.on).layout h) shown.snapshot) (sym history)
           (subst (λ (s : Setting). IsSnapshotOf s.layout (state_after s.layout recorded.history) shown.snapshot) ran.same shown.ensures.snapshot);

@@ -1,12 +1,12 @@
 -- Why a workload's scripts may run on a heap that threads share, and what that leaves.
-use Rattle.std.proofs.Common.{ℕ, ◌≡◌, ◌≤◌, ◌∙◌, sym, ap, arith, subst, length, map, List}
+use Rattle.std.proofs.Common.{ℕ, ◌≡◌, ◌≤◌, ◌∙◌, Some, sym, ap, arith, subst, length, map, List}
 use Rattle.std.proofs.lemmas.List.{length-map}
 use Rattle.tide_periods.specs.Asking.{scripts_of}
 use Rattle.tide_periods.specs.declared.caller.Caller.{Caller}
 use Rattle.tide_periods.specs.declared.run.Finished.{Finished}
 use Rattle.tide_threads.specs.OnThreads.{callers_on, setting_in}
 use Rattle.tide_workload.specs.Words.{Settings}
-use Rattle.tide_run.specs.running.Outcome.{HasLeft, is_heap}
+use Rattle.tide_run.specs.running.Outcome.{HasLeft, heap_of_kept}
 use Rattle.tide_run.specs.declared.running.outcome.Kept.{Kept}
 use Rattle.tide_run.specs.declared.running.outcome.Kept.TheVariants.{Heap}
 use Rattle.tide_periods.specs.Run.{HasRun}
@@ -61,4 +61,6 @@ returns-clause-run g c =
     (subst (λ (n : ℕ). HasLeft work n c.args.visitors c.kept_by_heap-kept.result) trigger (outcome_of-requires-clause-left g c.before).1)
 
 pub returns-clause-heap : goal.returns-clause-heap
-returns-clause-heap g c = c.outcome_of.ensures.heap ∙ ap (λ (x : Finished Kept). is_heap x.kept) c.kept_by_heap-kept.ensures
+returns-clause-heap g c =
+    c.outcome_of.ensures.heap ∙ ap (λ (x : Finished Kept). heap_of_kept x.kept) c.kept_by_heap-kept.ensures
+    ∙ ap Some (c.in_ok-finished.ensures.heap ∙ c.in_ok-on.ensures.setting)

@@ -9,7 +9,7 @@ use Rattle.tide_periods.specs.Run.{HasRun}
 use Rattle.tide_periods.specs.Store.{Setting}
 use Rattle.tide_periods.specs.declared.caller.Caller.{Caller}
 use Rattle.tide_periods.specs.declared.run.Finished.{Finished}
-use Rattle.tide_run.specs.running.Outcome.{HasLeft, is_heap}
+use Rattle.tide_run.specs.running.Outcome.{HasLeft, heap_of_kept}
 use Rattle.tide_run.specs.running.Runs.{AreScripts}
 use Rattle.tide_run.specs.declared.running.outcome.Kept.{Kept}
 use Rattle.tide_run.specs.declared.running.outcome.Kept.TheVariants.{Own}
@@ -80,4 +80,4 @@ unfolding outcome_of-requires-clause-left
 returns-clause-run g c = c.outcome_of.ensures.run c.args.pacing.trigger (outcome_of-requires-clause-left g c.before).1
 
 pub returns-clause-own : goal.returns-clause-own
-returns-clause-own g c = c.outcome_of.ensures.heap ∙ ap (λ (x : Finished Kept). is_heap x.kept) c.kept_itself.ensures
+returns-clause-own g c = c.outcome_of.ensures.heap ∙ ap (λ (x : Finished Kept). heap_of_kept x.kept) c.kept_itself.ensures

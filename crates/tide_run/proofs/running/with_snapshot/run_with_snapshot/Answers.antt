@@ -1,5 +1,5 @@
 -- Why a workload's scripts may run on a heap that threads share, and of which state the snapshot at the end is.
-use Rattle.std.proofs.Common.{ℕ, ◌≡◌, ◌≤◌, ◌∙◌, sym, ap, arith, subst, length, map, List}
+use Rattle.std.proofs.Common.{ℕ, ◌≡◌, ◌≤◌, ◌∙◌, Some, sym, ap, arith, subst, length, map, List}
 use Rattle.std.proofs.lemmas.List.{length-map}
 use Rattle.tide_model.specs.History.{state_after}
 use Rattle.tide_model.specs.Layout.{Layout}
@@ -11,7 +11,7 @@ use Rattle.tide_retained.specs.Contents.{HasKeysOf}
 use Rattle.tide_retained.specs.Holding.{IsSnapshotOf}
 use Rattle.tide_threads.specs.OnThreads.{callers_on, setting_in}
 use Rattle.tide_workload.specs.Words.{Settings}
-use Rattle.tide_run.specs.running.Outcome.{HasLeft, history_of, is_heap}
+use Rattle.tide_run.specs.running.Outcome.{HasLeft, heap_of_kept, history_of}
 use Rattle.tide_run.specs.running.Runs.{layout_of_work}
 use Rattle.tide_run.specs.declared.running.outcome.Kept.{Kept}
 use Rattle.tide_run.specs.declared.running.outcome.Kept.TheVariants.{Heap}
@@ -67,7 +67,9 @@ returns-clause-run g c =
     (subst (λ (n : ℕ). HasLeft work n c.args.visitors c.kept_by_heap-kept.result) trigger (outcome_of-outcome-requires-clause-left g c.before).1)
 
 pub returns-clause-heap : goal.returns-clause-heap
-returns-clause-heap g c = c.outcome_of-outcome.ensures.heap ∙ ap (λ (x : Finished Kept). is_heap x.kept) c.kept_by_heap-kept.ensures
+returns-clause-heap g c =
+    c.outcome_of-outcome.ensures.heap ∙ ap (λ (x : Finished Kept). heap_of_kept x.kept) c.kept_by_heap-kept.ensures
+    ∙ ap Some (c.in_ok-left.ensures.heap ∙ c.in_ok-on.ensures.setting)
 
 pub returns-clause-snapshot : goal.returns-clause-snapshot
 returns-clause-snapshot g c =

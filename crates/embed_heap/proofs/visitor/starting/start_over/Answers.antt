@@ -2,7 +2,7 @@
 use Rattle.std.proofs.Common.{ap, arith}
 use Rattle.tide.specs.tide_model.Layout.{cell_count}
 use Rattle.tide.specs.tide_words.marking.Greys.{Greys}
-use Rattle.embed_heap.proofs.visitor.starting.start.Goals as goal
+use Rattle.embed_heap.proofs.visitor.starting.start_over.Goals as goal
 
 pub invariant_of-result-clause-room : goal.invariant_of-result-clause-room
 invariant_of-result-clause-room c =
