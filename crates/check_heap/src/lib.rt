@@ -3,20 +3,21 @@
 //!
 //! A row is a name and lines, each of which is something to do, with the answer that is expected of it. What does them
 //! is an `Answers`; it never sees what is expected. What a check has to tell it puts at the end of a text, its
-//! `findings`. The library knows no check, and nothing of the system: the program reads the files and prints.
+//! `findings`. It may touch words. All libraries of checks use it. It knows no check, and nothing of the system: the
+//! program `checks` reads the files and prints.
 #![tactic(auto)]
 
 mod draw;
 mod places;
 mod reading;
 mod texts;
-// over those above it
+// these stand on those listed before
 mod heap;
 mod labelled;
 mod point;
 mod reply;
 mod rows;
-// over those above it
+// these stand on those listed before
 mod fact;
 mod holds;
 

@@ -28,10 +28,10 @@ impl Ending {
         source: &mut S,
         mut out: MemSink,
         mut err: MemSink,
-        gate: &T,
+        turnstile: &T,
     ) -> Self {
         let ended = riptide(
-            rt, ALL_APART, alloc, words, source, &mut out, &mut err, gate,
+            rt, ALL_APART, alloc, words, source, &mut out, &mut err, turnstile,
         );
         Ending {
             status: ended.status,

@@ -81,9 +81,9 @@ pub fn in_threads<R: Threads + Sync, T: Turnstile>(
     alloc: Global,
     load: &Workload,
     visitors: u8,
-    gate: &T,
+    turnstile: &T,
 ) -> Result<String, AllocError>
     requires { visitors ≤ 8 }
 {
-    text_of(alloc, run(rt, ALL_APART, alloc, load, visitors, gate))
+    text_of(alloc, run(rt, ALL_APART, alloc, load, visitors, turnstile))
 }

@@ -6,7 +6,7 @@ ghost use Rattle.check_table.specs.Pairs.{IsClosedOf, SameCalls};
 
 use crate::callers::{begin_part, leave, stop_part};
 use crate::pair::Pair;
-use crate::working::{Found, look, put};
+use crate::working::{LoadedWords, look, put};
 use tide_heap::{Books, Report};
 use tide_shape::Shapes;
 use tide_table::{Closed, NotOpened, Numbers};
@@ -48,7 +48,7 @@ impl Pair {
     }
 
     /// Both look at their own words, at handles, at a slot and at a claim.
-    pub fn look(&mut self) -> [Found; 2]
+    pub fn look(&mut self) -> [LoadedWords; 2]
         requires begun { HaveBegun self.old }
         ensures heap { self.new.heap ≡ self.old.heap }
         ensures begun { HaveBegun self.new }

@@ -6,11 +6,12 @@
 //! Shapes may be grown by threads before (`GrowShapes`). The definitions that contracts cite are those of the rooms
 //! below, each under its room's name: `Rattle.tide.specs.tide_model.Lawful` is `Lawful` of `tide_model`.
 //!
-//! It has no code of its own.
+//! It may touch shapes, growers, snapshots, and the heap with its collector, mutators and visitors; it has no code of
+//! its own. Programs of one's own name it alone, as `embed_heap` does.
 #![tactic(auto)]
 
 pub use tide_grow_shape::{
-    GrowGate, GrowRefused, GrowShapes, Grower, Settled, growers_agree, settle,
+    GrowHook, GrowRefused, GrowShapes, Grower, Settled, growers_agree, settle,
 };
 pub use tide_heap::{Books, GreyList, Layout, Numbers, Pacing, Report, fits};
 pub use tide_model::{FreePass, Memory, Op, Place, Refusal, Reply, Turnstile, Val};

@@ -12,14 +12,14 @@ mod found;
 mod parcel;
 mod view;
 mod words;
-// over those above it
+// these stand on those listed before
 mod table;
-// over those above it
+// these stand on those listed before
 mod steps;
-// over those above it
+// these stand on those listed before
 mod keeper;
 mod member;
-// over those above it
+// these stand on those listed before
 mod seating;
 
 pub use found::Found;

@@ -1,5 +1,5 @@
 -- The lemmas of this crate.
-pub mod CallerLaws
+pub mod CursorLaws
 pub mod Composing
 pub mod CycleLaws
 pub mod Freezing

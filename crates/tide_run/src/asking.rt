@@ -96,7 +96,7 @@ fn run_shared<R: Threads + Sync, T: Turnstile>(
     alloc: Global,
     load: &Workload,
     options: Options,
-    gate: &T,
+    turnstile: &T,
 ) -> Result<(Outcome, Option<Snapshot>), Memory>
     requires { options.visitors ≤ 8 }
     ensures run { IfOk result (λ ran. IsRunOf load.now load.now.settings.trigger options.visitors ran.0) }
@@ -110,11 +110,11 @@ fn run_shared<R: Threads + Sync, T: Turnstile>(
             alloc,
             load,
             options.visitors,
-            gate,
+            turnstile,
         )?;
         Ok((outcome, Some(snapshot)))
     } else {
-        let outcome = run(rt, threads, alloc, load, options.visitors, gate)?;
+        let outcome = run(rt, threads, alloc, load, options.visitors, turnstile)?;
         Ok((outcome, None))
     }
 }
@@ -126,7 +126,7 @@ fn run_asked<R: Threads + Sync, T: Turnstile>(
     alloc: Global,
     load: &Workload,
     options: Options,
-    gate: &T,
+    turnstile: &T,
 ) -> Result<(Outcome, Option<Snapshot>), Memory>
     requires few { options.visitors ≤ 8 }
     requires shared { options.plain ≡ true → options.snapshot ≡ false }
@@ -138,7 +138,7 @@ fn run_asked<R: Threads + Sync, T: Turnstile>(
         let outcome = plain(alloc, load)?;
         Ok((outcome, None))
     } else {
-        let ran = run_shared(rt, threads, alloc, load, options, gate)?;
+        let ran = run_shared(rt, threads, alloc, load, options, turnstile)?;
         Ok(ran)
     }
 }
@@ -161,7 +161,7 @@ fn attempt_with<R: Threads + Sync, S: Source, T: Turnstile>(
     alloc: Global,
     options: Options,
     source: &mut S,
-    gate: &T,
+    turnstile: &T,
 ) -> Result<Printable, Stop>
     requires few { options.visitors ≤ 8 }
     requires shared { options.plain ≡ true → options.snapshot ≡ false }
@@ -180,7 +180,7 @@ fn attempt_with<R: Threads + Sync, S: Source, T: Turnstile>(
     ensures later { S.faults source.old ≤ S.faults source.new }
 {
     let load = asked_workload(alloc, options.make, source)?;
-    let (outcome, snapshot) = match run_asked(rt, threads, alloc, &load, options, gate) {
+    let (outcome, snapshot) = match run_asked(rt, threads, alloc, &load, options, turnstile) {
         Ok(ran) => ran,
         Err(Memory) => return Err(Stop::Memory),
     };
@@ -202,7 +202,7 @@ pub fn attempt<R: Threads + Sync, S: Source, T: Turnstile>(
     alloc: Global,
     words: &[String],
     source: &mut S,
-    gate: &T,
+    turnstile: &T,
 ) -> Result<Printable, Stop>
     ensures ran { IfOk result (λ done.
         RanAsked (asked_by words.now) (S.left source.old) (S.left source.new) done.outcome) }
@@ -222,5 +222,5 @@ pub fn attempt<R: Threads + Sync, S: Source, T: Turnstile>(
     ensures later { S.faults source.old ≤ S.faults source.new }
 {
     let options = asked_options(alloc, words)?;
-    attempt_with(rt, threads, alloc, options, source, gate)
+    attempt_with(rt, threads, alloc, options, source, turnstile)
 }

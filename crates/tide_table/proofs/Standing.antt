@@ -264,7 +264,7 @@ HasEnteredVisits-all layout shapes v w still told marks is wave none =
       entered = none;
       words = has.words;
       rest = (λ i. record (has.rest i) { words = [] });
-      blacks = λ opened. subst (λ (x : View). is_black (heap_of layout x.words) ≡ is_black (heap_of layout x.base)) (sym is)
+      blacks = λ opened. subst (λ (x : View). is_black (heap_of layout x.words) ≡ is_black (heap_of layout x.words_at_entry)) (sym is)
           (all_entered-blacks layout 0 layout.visitors v (still.blacks opened));
     }
 

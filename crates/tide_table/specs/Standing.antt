@@ -44,7 +44,7 @@ pub record StandsStill (layout : Layout) (shapes : ShapeLists) (v : View) : Type
   pub wave : FrozenWith layout shapes (heap_of layout v.words) v.seen (unentered v.visited)
   pub ends : Each (EndsInTime layout) v.seen
   pub stopped : SameIn layout Stopped (heap_of layout v.stood) (heap_of layout v.words)
-  pub blacks : 0 < v.period → is_black (heap_of layout v.words) ≡ is_black (heap_of layout v.base)
+  pub blacks : 0 < v.period → is_black (heap_of layout v.words) ≡ is_black (heap_of layout v.words_at_entry)
 
 -- what notes told of visits may be entered where a cycle marks, and they told of none where none does
 pub record MayEnterVisits (layout : Layout) (v : View) : Type 0 where
@@ -53,7 +53,7 @@ pub record MayEnterVisits (layout : Layout) (v : View) : Type 0 where
 
 -- two views that are the same but for words, entries and the visits that are left to enter
 abbrev pub LeavesRest : View → View → Type 0
-LeavesRest v w = record w { seen = []; words = []; base = []; visited = [] } ≡ record v { seen = []; words = []; base = []; visited = [] }
+LeavesRest v w = record w { seen = []; words = []; words_at_entry = []; visited = [] } ≡ record v { seen = []; words = []; words_at_entry = []; visited = [] }
 
 -- a part runs, its number is one of 32 bits, fewer cycles began than parts were opened, and the books go with the
 -- history up to its opening
@@ -88,7 +88,7 @@ pub record HasEnteredVisits (layout : Layout) (shapes : ShapeLists) (v w : View)
   pub entered : unentered w.visited ≡ 0
   pub words : w.words ≡ v.words
   pub rest : LeavesRest v w
-  pub blacks : 0 < v.period → is_black (heap_of layout w.words) ≡ is_black (heap_of layout w.base)
+  pub blacks : 0 < v.period → is_black (heap_of layout w.words) ≡ is_black (heap_of layout w.words_at_entry)
 
 -- A freeze did what the schedule asks for after the running part that ended, and no visits are left to enter: the heap
 -- stands still, and the next part may be opened, in which each mutator has so many calls.

@@ -7,7 +7,7 @@ use Rattle.crossbeam_utils.specs.declared.cache_padded.CachePadded.{CachePadded}
 use Rattle.tide_heap.specs.Turns.{visited_of}
 use Rattle.tide_heap.specs.tide_core.machine.World.{first_visitor}
 use Rattle.tide_heap.specs.tide_core.declared.machine.view.View.{View}
-use Rattle.tide_heap.specs.tide_core.declared.machine.view.Visited.{Visited}
+use Rattle.tide_heap.specs.tide_core.declared.machine.view.NotedVisits.{NotedVisits}
 use Rattle.tide_table.proofs.VisitsTold.{HasTold, HasTold-mutator, HasTold-nothing, HasTold-visitor}
 use Rattle.tide_table.specs.VisitsTold.{HaveTold}
 use Rattle.tide_threads.specs.Acting.{before_all, noted_all, notes_in, told_in}
@@ -113,7 +113,7 @@ HaveTold-all mutators visitors most ys v none done many tells =
     let so = ToldUpTo-all mutators most ys 0 v
     (λ k y found. subst (λ (n : ℕ). TellsAt mutators most v.period n (told_in (padded_value y).note))
     (let same : k ≡ 0 + k = omega arith in same) (tells k y found)) (record {
-      told = subst (λ (l : List Visited). HasTold most (0 - mutators) l) (sym none)
+      told = subst (λ (l : List NotedVisits). HasTold most (0 - mutators) l) (sym none)
           (subst (λ (n : ℕ). HasTold most n []) (let same : 0 ≡ 0 - mutators = omega arith in same) (HasTold-nothing most));
       done = done;
     }) in (

@@ -4,14 +4,14 @@ use Rattle.tide_heap.specs.tide_freeze.Books.{AreBooks}
 use Rattle.tide_model.specs.Pace.{Pace}
 use Rattle.tide_periods.specs.Recorded.{Recorded, recorded_at}
 use Rattle.tide_periods.specs.Store.{Setting}
-use Rattle.tide_periods.specs.declared.caller.Caller.{Caller}
+use Rattle.tide_periods.specs.declared.cursor.ScriptCursor.{ScriptCursor}
 use Rattle.tide_report.specs.Ends.{TellsEnds}
 use Rattle.tide_sched.specs.Paces.{pace_of}
 use Rattle.tide_shape.specs.Lists.{lists_of}
 use Rattle.tide_shape.specs.declared.shapes.Shapes.{Shapes}
 use Rattle.tide_table.specs.declared.closed.Closed.{Closed}
 use Rattle.tide_table.specs.Standing.{MayEnterVisits, StandsStill}
-use Rattle.tide_threads.specs.Acting.{callers_in}
+use Rattle.tide_threads.specs.Acting.{cursors_in}
 use Rattle.tide_threads.specs.Playing.{AllStandBy}
 use Rattle.tide_threads.specs.Standing.{MayOpenPart}
 use Rattle.tide_threads.specs.declared.on_threads.OnThreads.{OnThreads}
@@ -29,8 +29,8 @@ abbrev pub recorded_in : OnThreads → Recorded
 recorded_in o = recorded_at (setting_in o) o.collector.seat.me.0.seen
 
 -- the mutators of a heap on threads, each by its own calls
-abbrev pub callers_on : OnThreads → List Caller
-callers_on o = callers_in o.participants.items
+abbrev pub cursors_on : OnThreads → List ScriptCursor
+cursors_on o = cursors_in o.participants.items
 
 -- how its cycles are paced
 abbrev pub pace_on : OnThreads → Pace

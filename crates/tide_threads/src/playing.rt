@@ -17,14 +17,14 @@ use tide_shape::Shapes;
 use tide_table::{Collector, Heap};
 
 /// One participant's part.
-fn play_one<T: Turnstile>(padded: &mut CachePadded<Participant>, heap: &Heap<Shapes>, gate: &T)
+fn play_one<T: Turnstile>(padded: &mut CachePadded<Participant>, heap: &Heap<Shapes>, turnstile: &T)
     requires may { MayPlay heap.now.table.shared.table_id heap.now.key.layout (lists_of heap.now.key.shapes)
         (padded_value padded.old) }
     ensures did { DidPart heap.now.table.shared.table_id heap.now.key.layout (lists_of heap.now.key.shapes)
         (padded_value padded.old) (padded_value padded.new) }
 {
     let participant: &mut Participant = padded;
-    participant.play_part(heap, gate);
+    participant.play_part(heap, turnstile);
 }
 
 /// The part of each participant, on as many threads as there are participants, and on no more than so many. Those of
@@ -33,7 +33,7 @@ fn play_all<R: Threads + Sync, T: Turnstile>(
     rt: &R,
     threads: usize,
     heap: &Heap<Shapes>,
-    gate: &T,
+    turnstile: &T,
     participants: &mut [CachePadded<Participant>],
 )
     requires may { All (λ padded. MayPlay heap.now.table.shared.table_id heap.now.key.layout
@@ -52,7 +52,7 @@ fn play_all<R: Threads + Sync, T: Turnstile>(
                     (padded_value padded.old) }
                 ensures { DidPart heap.entry.now.table.shared.table_id heap.entry.now.key.layout
                     (lists_of heap.entry.now.key.shapes) (padded_value padded.old) (padded_value padded.new) }
-            { play_one(padded, heap, gate) },
+            { play_one(padded, heap, turnstile) },
         );
     }
 }
@@ -76,7 +76,7 @@ pub(crate) fn play_part<R: Threads + Sync, T: Turnstile>(
     rt: &R,
     threads: usize,
     heap: &Heap<Shapes>,
-    gate: &T,
+    turnstile: &T,
     collector: &mut Collector,
     participants: &mut [CachePadded<Participant>],
 ) -> Result<bool, Memory>
@@ -92,6 +92,6 @@ pub(crate) fn play_part<R: Threads + Sync, T: Turnstile>(
     ensures served { IfOk result (AllServed participants.new) }
 {
     hand_out(collector, heap, participants);
-    play_all(rt, threads, heap, gate, participants);
+    play_all(rt, threads, heap, turnstile, participants);
     have_ended(participants)
 }

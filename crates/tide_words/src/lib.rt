@@ -8,13 +8,13 @@
 #![tactic(auto)]
 
 mod forms;
-// over those above it
+// these stand on those listed before
 mod heap;
-// over those above it
+// these stand on those listed before
 mod marking;
-// over those above it
+// these stand on those listed before
 mod block_bits;
-// over those above it
+// these stand on those listed before
 mod greying;
 
 pub use block_bits::{live_bits, marked_bits};

@@ -6,8 +6,8 @@ ghost use Rattle.tide_model.specs.Layout.{cell_count};
 use check_heap::Heap;
 use std::alloc::{AllocError, Global};
 use tide_heap::{
-    Colour, GreyList, Layout, Region, Solved, Words, bit_of, block_of_cell, colour_word,
-    pause, word_phase,
+    Colour, GreyList, Layout, Region, Solved, Words, bit_of, block_of_cell, colour_word, pause,
+    word_phase,
 };
 
 /// No cycle begins from this one on.

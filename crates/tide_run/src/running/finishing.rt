@@ -3,7 +3,7 @@ ghost use Rattle.std.specs.Prelude.{ℕ, ◌≡◌, ◌≤◌, map};
 ghost use Rattle.tide_run.specs.running.Outcome.{heap_of_kept, history_of, HasLeft};
 ghost use Rattle.tide_run.specs.running.Runs.{IsRunOf};
 
-use crate::running::outcome::{Kept, Outcome, Told};
+use crate::running::outcome::{Kept, Outcome, OwnHistory};
 use crate::running::starting::layout_of;
 use tide_model::Event;
 use tide_periods::Finished;
@@ -27,7 +27,7 @@ pub(crate) fn kept_itself(ran: Finished<Vec<Event>>) -> Finished<Kept>
         live,
     } = ran;
     Finished {
-        kept: Kept::Own(Told { events }),
+        kept: Kept::Own(OwnHistory { events }),
         report,
         calls,
         live,

@@ -2,8 +2,8 @@
 ghost use Rattle.std.specs.Prelude.{◌≡◌, ◌≤◌, [], IfOk, Some};
 ghost use Rattle.tide_run.specs.running.Runs.{AreScripts, IsRunOf, setting_of_work};
 ghost use Rattle.tide_periods.specs.Asking.{scripts_of};
-ghost use Rattle.tide_periods.specs.Part.{AreCallers};
-ghost use Rattle.tide_threads.specs.OnThreads.{callers_on, recorded_in, setting_in, MayOpenOn, Stands};
+ghost use Rattle.tide_periods.specs.Part.{AreCursors};
+ghost use Rattle.tide_threads.specs.OnThreads.{cursors_on, recorded_in, setting_in, MayOpenOn, Stands};
 
 use crate::running::finishing::{kept_by_heap, outcome_of};
 use crate::running::outcome::Outcome;
@@ -28,8 +28,8 @@ pub(crate) fn heap_for(
     ensures setting { IfOk result (λ on. setting_in on ≡ setting_of_work load.now visitors) }
     ensures nothing { IfOk result (λ on. (recorded_in on).history ≡ []) }
     ensures stands { IfOk result Stands }
-    ensures callers { IfOk result (λ on. AreCallers (recorded_in on) (callers_on on)) }
-    ensures scripts { IfOk result (λ on. AreScripts load.now (scripts_of (callers_on on))) }
+    ensures cursors { IfOk result (λ on. AreCursors (recorded_in on) (cursors_on on)) }
+    ensures scripts { IfOk result (λ on. AreScripts load.now (scripts_of (cursors_on on))) }
     ensures pacing { IfOk result (λ on. on.books.pacing ≡ pacing) }
     ensures opens { IfOk result (λ on. MayOpenOn on on.books.pacing.period) }
 {
@@ -56,7 +56,7 @@ pub fn run<R: Threads + Sync, T: Turnstile>(
     alloc: Global,
     load: &Workload,
     visitors: u8,
-    gate: &T,
+    turnstile: &T,
 ) -> Result<Outcome, Memory>
     requires { visitors ≤ 8 }
     ensures run { IfOk result (IsRunOf load.now load.now.settings.trigger visitors) }
@@ -66,7 +66,7 @@ pub fn run<R: Threads + Sync, T: Turnstile>(
     let names = names_of(alloc, load)?;
     let pacing = pacing_with(settings, settings.trigger);
     let on = heap_for(alloc, load, visitors, pacing)?;
-    let HeapRun { finished, deferred } = run_on_threads(rt, threads, gate, on)?;
+    let HeapRun { finished, deferred } = run_on_threads(rt, threads, turnstile, on)?;
     let kept = kept_by_heap(finished);
     Ok(outcome_of(load, visitors, names, kept, deferred))
 }

@@ -11,7 +11,7 @@ use tide_table::Closed;
 
 /// A history that a run kept itself: its events, in order.
 #[derive(Drop)]
-pub struct Told {
+pub struct OwnHistory {
     pub(crate) events: Vec<Event>,
 }
 
@@ -19,7 +19,7 @@ pub struct Told {
 #[derive(Drop)]
 pub enum Kept {
     /// By the run itself.
-    Own(Told),
+    Own(OwnHistory),
     /// By a heap that threads shared, which this run opened and closed. Its history is for contracts alone.
     Heap(Closed<Shapes>),
 }

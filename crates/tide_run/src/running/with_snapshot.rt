@@ -26,7 +26,7 @@ pub fn run_with_snapshot<R: Threads + Sync, T: Turnstile>(
     alloc: Global,
     load: &Workload,
     visitors: u8,
-    gate: &T,
+    turnstile: &T,
 ) -> Result<(Outcome, Snapshot), Memory>
     requires { visitors ≤ 8 }
     ensures run { IfOk result (λ shown. IsRunOf load.now load.now.settings.trigger visitors shown.0) }
@@ -39,7 +39,7 @@ pub fn run_with_snapshot<R: Threads + Sync, T: Turnstile>(
     let names = names_of(alloc, load)?;
     let pacing = pacing_with(settings, settings.trigger);
     let on = heap_for(alloc, load, visitors, pacing)?;
-    let (left, snapshot) = run_to_snapshot(rt, threads, alloc, gate, on)?;
+    let (left, snapshot) = run_to_snapshot(rt, threads, alloc, turnstile, on)?;
     let HeapRun { finished, deferred } = left;
     let kept = kept_by_heap(finished);
     let outcome = outcome_of(load, visitors, names, kept, deferred);

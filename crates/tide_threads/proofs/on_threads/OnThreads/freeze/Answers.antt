@@ -46,7 +46,7 @@ returns-in_err-next c =
         no_calls = stands.no_calls;
       };
       pacing = e.kept.pacing;
-      callers = refl;
+      cursors = refl;
       opens = tt;
       untouched = ap (λ (x : View). recorded_at (setting_in self) x.seen) e.untouched;
     })
@@ -77,7 +77,7 @@ returns c =
         no_calls = stands.no_calls;
       };
       pacing = e.books.pacing;
-      callers = refl;
+      cursors = refl;
       opens = MayOpenPart-collected layout shapes pace c.args.is_forced v w run e.collected;
       untouched = tt;
     }

@@ -1,0 +1,4 @@
+pub mod Lists
+pub mod Notes
+pub mod Parts
+pub mod Tickets

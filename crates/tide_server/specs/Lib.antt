@@ -1,0 +1,4 @@
+pub mod Helpers
+pub mod Keepers
+pub mod Members
+pub mod Opened
