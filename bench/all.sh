@@ -7,6 +7,7 @@
 # commit, the load of the machine and how much of its processors other work had before the script, and ends with the
 # load behind it: tables hold for a machine with nothing else to do.
 set -u
+[ "${1---help}" != --help ] || { sed -n '2,/^[^#]/s/^# \{0,1\}//p' "$0"; exit $(($# == 0)); }
 
 here=$(cd "$(dirname "$0")" && pwd)
 folder=$(mkdir -p "${1:?a folder}" && cd "$1" && pwd)

@@ -17,6 +17,9 @@ import tempfile
 
 from mutators import HERE, made_shim, part
 
+if __name__ == "__main__" and sys.argv[1:] == ["--help"]:
+    sys.exit(print(__doc__.strip()))
+
 HEAD = """registers = 4
 blocks = [64, 64, 64, 64, 64]
 period = 65536

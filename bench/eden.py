@@ -28,6 +28,9 @@ import tempfile
 
 from mutators import HERE, made_shim
 
+if __name__ == "__main__" and sys.argv[1:] == ["--help"]:
+    sys.exit(print(__doc__.strip()))
+
 OLD, NEW, CYCLES, PERIOD, PUTS, WALKS = 5120, 512, 16, 1536, 60000, 4
 HEAD = """registers = 4
 strong = 1

@@ -10,6 +10,7 @@
 # that takes less than 0.2 seconds, the mean of twenty. Microseconds are those of the program's own clock around one run of
 # a constraint, the least of 400.
 set -u
+[ "${1-}" != --help ] || { sed -n '2,/^[^#]/s/^# \{0,1\}//p' "$0"; exit; }
 
 here=$(cd "$(dirname "$0")" && pwd)
 words=${1:-$here/../crates/checks/out/checks}

@@ -17,6 +17,9 @@ import subprocess
 import sys
 import tempfile
 
+if __name__ == "__main__" and sys.argv[1:] == ["--help"]:
+    sys.exit(print(__doc__.strip()))
+
 HERE = os.path.dirname(os.path.abspath(__file__))
 HEAD = """registers = 4
 blocks = [4, 4, 4, 4, 0]

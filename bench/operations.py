@@ -19,6 +19,9 @@ import tempfile
 
 from mutators import HERE, part
 
+if __name__ == "__main__" and sys.argv[1:] == ["--help"]:
+    sys.exit(print(__doc__.strip()))
+
 HEAD = """registers = 4
 strong = 1
 blocks = [64, 64, 64, 64, 64]

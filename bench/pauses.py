@@ -24,6 +24,9 @@ import tempfile
 
 from mutators import HERE, made_shim
 
+if __name__ == "__main__" and sys.argv[1:] == ["--help"]:
+    sys.exit(print(__doc__.strip()))
+
 HEAD = """registers = 6
 blocks = [64, 64, 64, 64, 64]
 arrays = [64, 0, 0, 0, 0]

@@ -10,6 +10,7 @@
 # `--snapshot`, less one without, into /dev/null. The last row is the whole text of the chain's run without `--snapshot`, to
 # compare with: the reading of the workload and its running are in its seconds.
 set -u
+[ "${1-}" != --help ] || { sed -n '2,/^[^#]/s/^# \{0,1\}//p' "$0"; exit; }
 
 here=$(cd "$(dirname "$0")" && pwd)
 checks=${1:-$here/../crates/checks/out/checks}

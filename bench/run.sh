@@ -8,6 +8,7 @@
 # text written to a file. Memory is the most that the program held by its first line: it takes none once
 # it prints.
 set -u
+[ "${1-}" != --help ] || { sed -n '2,/^[^#]/s/^# \{0,1\}//p' "$0"; exit; }
 
 here=$(cd "$(dirname "$0")" && pwd)
 program=${1:-$here/../crates/riptide/out/riptide}

@@ -11,6 +11,9 @@ import os
 import re
 import sys
 
+if __name__ == "__main__" and sys.argv[1:] in ([], ["--help"]):
+    sys.exit(print(__doc__.strip()) or len(sys.argv) < 2)
+
 HERE = os.path.dirname(os.path.abspath(__file__))
 PAGE = os.path.join(HERE, "..", "docs", "BENCH.md")
 MARKED = re.compile(r"(<!-- (\w+)(?: (\d+))? -->\n)(.*?)(<!-- end of \2(?: \3)? -->)", re.S)

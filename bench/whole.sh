@@ -9,6 +9,7 @@
 # is the mean of many cycles, one after another: the user time of a run with them less that of a run without, the least of
 # five of each.
 set -u
+[ "${1-}" != --help ] || { sed -n '2,/^[^#]/s/^# \{0,1\}//p' "$0"; exit; }
 
 here=$(cd "$(dirname "$0")" && pwd)
 program=$(realpath "${1:-$here/../crates/checks/out/checks}")

@@ -29,6 +29,9 @@ import sys
 import tempfile
 import time
 
+if __name__ == "__main__" and sys.argv[1:] == ["--help"]:
+    sys.exit(print(__doc__.strip()))
+
 HERE = os.path.dirname(os.path.abspath(__file__))
 HEAD = """registers = 10
 strong = 256

@@ -1,0 +1,256 @@
+#!/usr/bin/env python3
+"""Tells in which freeze each cycle of a printed run began and ended, which were full, and why each cell was freed.
+
+    python3 tools/schedule.py [--visitors=N | --plain] WORKLOAD.toml TEXT
+
+TEXT is a file with what riptide printed of the workload, or - for standard input; N is the number of visitors that the run
+had, and --plain stands for a run with that option. A text has the calls and the cycles apart. This looks for the ways through the freezes that the schedule allows, as
+judge/judge.py does, and prints each, part by part:
+
+- which calls stand in a part, as places in each mutator's block, from 1; the freeze behind it is forced where a mutator
+  stopped there or all have retired;
+- where a cycle begins, its kind, how many old cells it spares, and how many its first pause has to make black of how many
+  that it may; a cycle that goes on marks beside the next part's calls;
+- where it ends, the cells that it freed, those that it kept for their age, and those that float, each with the call by which
+  nothing retained it any more. A cell that nothing retained at any moment of the cycle, and that is kept since its graph is
+  that of all moments together, is told apart.
+
+It is of a run whose mutators called one after another: of one mutator, a plain one, or on threads that came out so. Where
+several ways give the text it prints up to eight: the text doesn't tell them apart. Its status is 1 where it found none.
+"""
+import copy
+import re
+import sys
+from dataclasses import dataclass, replace
+from pathlib import Path
+
+sys.path.append(str(Path(__file__).resolve().parent.parent / "judge"))
+import judge
+import judge_threads
+import model
+
+if __name__ == "__main__" and sys.argv[1:] in ([], ["--help"]):
+    sys.exit(print(__doc__.strip()) or len(sys.argv) < 2)
+
+MOST_WAYS, MOST_LOOKED = 8, 5000
+STORES = ("put", "setp", "add")
+
+
+@dataclass
+class Begin:
+    """The beginning of a cycle, and how many cells its first pause has to make black of how many that it may."""
+
+    cycle: int
+    kind: str
+    spared: int
+    needed: int
+    budget: int
+
+
+@dataclass
+class End:
+    """The end of a cycle. `why` has, for each reason, cells and the call by which nothing retained them any more."""
+
+    cycle: int
+    kept: int
+    freed: int
+    why: list
+
+
+@dataclass
+class Part:
+    """A part with the freeze behind it. `calls` has for each mutator how many calls it had made before and after it."""
+
+    number: int
+    calls: list
+    marks: int
+    is_forced: bool
+    events: tuple = ()
+
+
+class Store(model.Store):
+    """A store that tells its last call, and whether that was refused."""
+
+    def call(self, who, op):
+        self.last, self.was_refused = (who, op), True
+        reply = super().call(who, op)
+        self.was_refused = False
+        return reply
+
+
+class Told(judge.Run):
+    """A run whose parts and freezes are told as it is followed."""
+
+    def __init__(self, work, replies, cycles, visitors):
+        super().__init__(work, replies, cycles)
+        self.store, self.visitors, self.parts = Store(work), visitors, ()
+        # what was retained after the last call, and of each other live cell the call by which it was let go
+        self.retained, self.let_go = set(), {}
+        # what was retained at some moment of the cycle; the old cells that got a reference while none marked
+        self.ever, self.stored_into = set(), set()
+        # how many cells visits of the cycle may have made black; how many were surely black, and the stores since
+        self.blackened, self.black, self.stores, self.has_to_end = 0, 0, 0, False
+
+    def part(self):
+        before, marks = list(self.told), self.span is not None
+        self.blackened += self.visitors * self.shares()[1] if marks else 0
+        is_forced = super().part()
+        calls = list(zip(before, self.told))
+        self.parts += (Part(len(self.parts) + 1, calls, self.ended + 1 if marks else 0, is_forced),)
+        return is_forced
+
+    def note(self):
+        super().note()
+        (who, op), store = self.store.last, self.store
+        now = judge.closed(*judge.held(store))
+        self.let_go = {cell: by for cell, by in self.let_go.items() if cell not in now}
+        self.let_go |= {cell: (who, self.told[who], model.text_of(op)) for cell in self.retained - now}
+        self.retained, self.ever = now, self.ever | now
+        if op[0] in STORES and not store.was_refused and isinstance(store.registers[who][op[3]], tuple):
+            self.stored_into.add(store.registers[who][op[1]][1])
+            self.stores += 1
+
+    def tell(self, event):
+        last = self.parts[-1]
+        self.parts = (*self.parts[:-1], replace(last, events=(*last.events, event)))
+
+    def begin(self, is_forced):
+        super().begin(is_forced)
+        roots, *others = judge.held(self.store)
+        self.ever = judge.closed(roots, *others)
+        old = self.spared
+        needed = len(judge.closed(roots | old, *others) - old) + len(self.stored_into & old)
+        budget = len(self.store.cells) if is_forced else self.shares()[0]
+        kind = "full" if judge.is_full_cycle(self.ended + 1, is_forced) else "Eden"
+        self.blackened, self.stores = min(needed, budget), 0
+        self.black = len(old) - len(self.stored_into & old) + self.blackened
+        self.tell(Begin(self.ended + 1, kind, len(old), needed, budget))
+
+    def end(self):
+        kept, freed = self.cycles[self.ended] if self.ended < len(self.cycles) else (0, [])
+        if not self.has_to_end and kept > self.blackened + self.in_cycle + len(self.spared):
+            raise judge.Wrong("more is kept than was made black, was born in the cycle and is old")
+        left, now, spared = set(self.store.cells) - set(freed), self.retained, self.spared
+        super().end()
+        groups = {"freed": set(freed), "kept for its age": left & spared - now, "floats": (left - spared - now) & self.ever}
+        groups["retained at no one moment of the cycle"] = left - spared - self.ever
+        why = [(reason, self.by_call(cells)) for reason, cells in groups.items() if cells]
+        self.tell(End(self.ended, kept, len(freed), why))
+        self.stored_into = set()
+
+    def most_left(self):
+        """How many cells are left to be made black at most: a store of a reference may have made one grey again."""
+        return len(self.store.cells) - self.in_cycle - self.black + self.stores
+
+    def by_call(self, cells):
+        """These cells by the calls by which they were let go, in the order of the cells."""
+        found = {}
+        for cell in sorted(cells):
+            found.setdefault(self.let_go.get(cell), []).append(cell)
+        return list(found.items())
+
+
+def pauses(run, has_to_end, least, most, budget):
+    """The ways in which a pause may leave the cycle, which has so many cells to make black at least and at most."""
+    run.has_to_end = has_to_end
+    ways = judge.pauses(run, has_to_end)
+    return [way for way in ways if has_to_end or (least <= budget if way.span is None else most > budget)]
+
+
+def freezes(run, is_forced):
+    """The ways through a freeze, as judge.freezes has them. The program's cycle ends once nothing is left to mark."""
+    marked, is_due = [run], run.span is None and 0 < run.work["trigger"] <= run.since_end
+    if run.span is not None:
+        share, calls = run.shares()
+        most = run.most_left()
+        run.blackened, run.black = run.blackened + share, run.black + share
+        marked = pauses(run, is_forced or calls == 0, 0, most, share)
+    for way in marked:
+        if not is_forced and not is_due:
+            yield way
+            continue
+        way = copy.deepcopy(way)
+        way.begin(is_forced)
+        begun = way.parts[-1].events[-1]
+        for after in pauses(way, is_forced, begun.needed, begun.needed, begun.budget):
+            if is_forced:
+                after.store.sweep_all()
+            yield after
+
+
+def read(text):
+    """The replies of each mutator, and each cycle as (kept, freed cells)."""
+    blocks = [block.splitlines() for block in re.split(r"^mutator \d+\n", text, flags=re.M)[1:]]
+    tail = [line for line in blocks[-1] if line.startswith("cycle ")] if blocks else []
+    cycles = [(int(line.split()[3]), [int(n) for n in re.findall(r"#(\d+)", line)]) for line in tail]
+    return [[line for line in block if " = " in line and not line.startswith("cell ")] for block in blocks], cycles
+
+
+def ways_through(document, text, visitors=0, is_plain=False):
+    """The ways through the freezes that give this text, at most so many, and whether there may be more."""
+    (replies, cycles), work = read(text), judge_threads.read_workload(document)
+    if is_plain:
+        work["trigger"] = 0
+    ways, found, looked = [Told(work, replies, cycles, visitors)], [], 0
+    while ways and len(found) < MOST_WAYS and looked < MOST_LOOKED:
+        run, looked = ways.pop(), looked + 1
+        try:
+            is_forced = run.part()
+        except judge.Wrong:
+            continue
+        for way in freezes(run, is_forced):
+            if any(way.store.active):
+                ways.append(way)
+            elif way.ended == len(cycles) and way.span is None:
+                found.append(way)
+    return found, bool(ways)
+
+
+def cells_of(cells):
+    return " ".join(f"#{cell}" for cell in cells)
+
+
+def lines_of(event):
+    """What is printed of a beginning or an end."""
+    if isinstance(event, Begin):
+        old = f"{event.spared} old cells are spared" if event.kind == "Eden" else "no cell is spared"
+        pause = f"its first pause has {event.needed} cells to make black, of {event.budget} that it may"
+        return [f"  cycle {event.cycle} begins, {event.kind}: {old}; {pause}"]
+    lines = [f"  cycle {event.cycle} ends: kept {event.kept}, freed {event.freed}"]
+    for reason, by_call in event.why:
+        for call, cells in by_call:
+            who, place, op = call or (None, None, None)
+            by = f", let go by call {place} of mutator {who} ({op})" if call else ", still held"
+            lines.append(f"    {reason}: {cells_of(cells)}{by}")
+    return lines
+
+
+def told(way):
+    """A way through the freezes, part by part."""
+    for part in way.parts:
+        calls = [f"mutator {who} makes calls {a + 1} to {b}" for who, (a, b) in enumerate(part.calls) if b > a]
+        marks = f"; cycle {part.marks} marks" if part.marks else ""
+        forced = "; the freeze is forced" if part.is_forced else ""
+        yield f"part {part.number}: {', '.join(calls) or 'no calls'}{marks}{forced}"
+        for event in part.events:
+            yield from lines_of(event)
+
+
+def main():
+    words = [word for word in sys.argv[1:] if not word.startswith("--")]
+    visitors = next((int(word.split("=")[1]) for word in sys.argv[1:] if word.startswith("--visitors=")), 0)
+    if len(words) != 2:
+        sys.exit(__doc__.strip())
+    document = Path(words[0]).read_text(encoding="utf-8")
+    text = sys.stdin.read() if words[1] == "-" else Path(words[1]).read_text(encoding="utf-8")
+    found, may_be_more = ways_through(document, text, visitors, "--plain" in sys.argv)
+    if not found:
+        sys.exit("no way through the freezes was found that gives this text with the mutators one after another")
+    for number, way in enumerate(found, 1):
+        if len(found) > 1 or may_be_more:
+            print(f"way {number} of {len(found)}{' or more' if may_be_more else ''}")
+        print("\n".join(told(way)))
+
+
+if __name__ == "__main__":
+    main()

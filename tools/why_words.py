@@ -1,0 +1,89 @@
+"""Why the words of a command line are refused, and what to change. It is for tools/why.py.
+
+The program's line is the same for each of them. What is taken is told in docs/WORKLOAD.md, under "The command line".
+"""
+import difflib
+import re
+
+USAGE = "riptide: usage: riptide [--visitors N] [--plain] [--make N] [--snapshot]"
+NUMBERED, FLAGS, MAX_VISITORS = ("--visitors", "--make"), ("--plain", "--snapshot"), 8
+APART = [
+    ("--plain", "--visitors", "a plain run has one thread and no visitor, be their number 0"),
+    ("--plain", "--snapshot", "a snapshot is of the heap that threads share"),
+    ("--make", "--snapshot", "a generated workload prints a summary, and no cells"),
+]
+
+
+def shown(word):
+    """A word as it is told: what isn't printable ASCII by its number."""
+    letters = ("\\x%02x" % (ord(one) - 0xDC00) if "\udc80" <= one <= "\udcff" else f"U+{ord(one):04X}" for one in word)
+    return "".join(one if " " <= one <= "~" else told for one, told in zip(word, letters))
+
+
+def number_fault(option, text):
+    """Of the text behind an option with a number."""
+    if not re.fullmatch(r"\+?[0-9]+", text):
+        what = f"`{shown(text)}` is no number from 0 on" if text else "its number is empty"
+        return what, f"write {option} 7, or another number in decimal digits" if option == "--make" else f"write {option} 2"
+    if int(text) >= 2**64:
+        return f"`{text}` is more than 18446744073709551615", "write a smaller number"
+    if option == "--visitors" and int(text) > MAX_VISITORS:
+        return f"{int(text)} visitors are more than {MAX_VISITORS}", f"write {option} {MAX_VISITORS}, or fewer"
+    return None
+
+
+def strange(word, is_behind):
+    """Why a word is none of the four options, and what to change."""
+    told = shown(word)
+    if any("\udc80" <= letter <= "\udcff" for letter in word):
+        return f"`{told}` isn't UTF-8", "write it in UTF-8"
+    if word in ("--help", "-h", "--version", "-V"):
+        return f"`{told}` isn't taken", "read docs/WORKLOAD.md, and python3 tools/why.py --help"
+    if is_behind or not word.startswith("-") or word == "-":
+        given = f": riptide < {told}" if word and word != "-" else ""
+        return f"`{told}` is no option, and no file is named", f"take it out, and give the workload on the input{given}"
+    near = difflib.get_close_matches(word.split("=")[0], [*NUMBERED, *FLAGS], 1, 0.6)
+    begun = [option for option in (*NUMBERED, *FLAGS) if option.startswith(word) or option[1:3] == word]
+    meant = (begun or near or [None])[0]
+    return f"there is no option `{told}`", f"write {meant}" if meant else "take it out"
+
+
+def words_fault(words):
+    """Of the words of a command line: which one, why, and what to change; or None where they are taken."""
+    found, at = {}, 0
+    while at < len(words):
+        place, word, at = at, words[at], at + 1
+        name, equals, text = word.partition("=")
+        if word == "--":
+            return apart_fault(found) if at == len(words) else (at, *strange(words[at], True))
+        if name not in (*NUMBERED, *FLAGS):
+            return place, *strange(word, False)
+        if name in FLAGS and equals:
+            return place, f"`{name}` has no value", f"write {name} alone"
+        if name in found:
+            return place, f"`{name}` stands here for the second time", "take one of the two out"
+        if name in NUMBERED and not equals:
+            if at == len(words) or words[at].startswith("-"):
+                return place, f"no number stands behind `{name}`", f"write {name} {7 if name == '--make' else 2}"
+            text, at = words[at], at + 1
+        if name in NUMBERED and (fault := number_fault(name, text)):
+            return place, *fault
+        found[name] = place
+    return apart_fault(found)
+
+
+def apart_fault(found):
+    """Of options that may not stand together."""
+    for one, other, why in APART:
+        if one in found and other in found:
+            return max(found[one], found[other]), f"`{one}` and `{other}` stand together: {why}", f"take {one} or {other} out"
+    return None
+
+
+def words_explained(words):
+    """What is said of a command line, line by line, and whether it is taken."""
+    fault = words_fault(words)
+    if fault is None:
+        return ["no fault: these words are taken"], True
+    place, why, change = fault
+    return [USAGE, f"where:  word {place + 1}: {shown(words[place])}", f"why:    {why}", f"change: {change}"], False
