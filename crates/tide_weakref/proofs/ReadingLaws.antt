@@ -18,7 +18,7 @@ use Rattle.tide_weakref.proofs.WeakLaws.{contains_got}
 use Rattle.tide_weakref.specs.Handles.{IsIn, is_cell}
 use Rattle.tide_weakref.specs.Jobs.{Jobs, OthersSpare, handle_of}
 use Rattle.tide_weakref.specs.Stepping.{HoldsNow, KeepsTargets, WasLoaded, cell_in}
-use Rattle.tide_weakref.specs.Uses.{held_of}
+use Rattle.tide_weakref.specs.Roles.{held_of}
 use Rattle.tide_weakref.specs.declared.weak.Role.{Role}
 use Rattle.tide_weakref.specs.declared.weak.Role.TheVariants.{Reference, Registration}
 use Rattle.tide_weakref.specs.declared.weak.Weak.{Weak}

@@ -113,6 +113,9 @@ module _ (test : Weak → Bool) (old now : List Weak) (place count : ℕ) (passe
   comes : (x : Weak) → slice_get now place ≡ Some x → (others : List Weak) × (passed.rest ≡ x ∷ others)
   comes x got = by_rest passed.rest refl
     where
+      some_same : (a b : Weak) → Some a ≡ Some b → a ≡ b
+      some_same a b is = cc
+
       by_rest : (rest : List Weak) → passed.rest ≡ rest → (others : List Weak) × (passed.rest ≡ x ∷ others)
       by_rest [] none =
           let within = contains_got now place x got in
@@ -126,9 +129,6 @@ module _ (test : Weak → Bool) (old now : List Weak) (place count : ℕ) (passe
           ∙ ap (λ (n : ℕ). slice_get (left ++ y ∷ others) n) passed.at ∙ get_between left y others in
           let same : y ≡ x = some_same y x (sym here ∙ got) in
           (others, some ∙ ap (λ (z : Weak). z ∷ others) same)
-
-      some_same : (a b : Weak) → Some a ≡ Some b → a ≡ b
-      some_same a b is = cc
 
   -- it is taken out
   pub passed_out : (x : Weak) → slice_get now place ≡ Some x → test x ≡ true → Passed test old (remove now place) place (count + 1)

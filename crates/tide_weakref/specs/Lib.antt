@@ -6,6 +6,7 @@ pub mod Handles
 pub mod Jobs
 pub mod Referenced
 pub mod Registered
+pub mod Roles
 pub mod Stepping
 pub mod Uses
 pub mod Viewed

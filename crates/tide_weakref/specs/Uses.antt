@@ -1,12 +1,10 @@
 -- What a realm may still take, and what it has once it took something.
-use Rattle.std.specs.Prelude.{ℕ, ◌≡◌, ◌≢◌, ◌==◌, Bool, false, List, [], ◌∷◌, ◌++◌, length, Contains, Option, None, Some, if◌then◌else◌}
+use Rattle.std.specs.Prelude.{ℕ, ◌≡◌, ◌≢◌, false, List, [], ◌∷◌, ◌++◌, length, Contains, if◌then◌else◌}
 use Rattle.tide_model.specs.Numbers.{is_among}
 use Rattle.tide_weakref.specs.Jobs.{Jobs}
 use Rattle.tide_weakref.specs.declared.weak.Role.{Role}
 use Rattle.tide_weakref.specs.declared.weak.Role.TheVariants.{Reference, Registration}
 use Rattle.tide_weakref.specs.declared.weak.Weak.{Weak}
-use Rattle.tide_weakref.specs.declared.weak.Chosen.{Chosen}
-use Rattle.tide_weakref.specs.declared.weak.Chosen.TheVariants.{Number, Token}
 
 -- a reference with this number and target
 abbrev pub reference : ℕ → ℕ → Weak
@@ -39,25 +37,6 @@ keeping jobs cell = record jobs { cells = with_cell jobs.cells cell }
 -- what a realm has once it uses one more weak handle
 abbrev pub using : Jobs → Weak → Jobs
 using jobs one = record jobs { uses = jobs.uses ++ one ∷ [] }
-
--- the value that is delivered once the target is gone, of a registration
-abbrev pub held_of : Role → Option ℕ
-held_of Reference = None
-held_of (Registration held token) = Some held
-
--- the role is that of a registration with this token
-abbrev pub is_of_token : ℕ → Role → Bool
-is_of_token token Reference = false
-is_of_token token (Registration held own) = own == token
-
--- the weak handle is that of a registration with this token
-abbrev pub has_token : ℕ → Weak → Bool
-has_token token one = is_of_token token one.role
-
--- the weak handle is one of those that are meant
-abbrev pub is_chosen : Chosen → Weak → Bool
-is_chosen (Number number) one = one.at == number
-is_chosen (Token token) one = has_token token one
 
 -- this is the number of a reference that was made and not given up
 abbrev pub IsReference : Jobs → ℕ → Type 0

@@ -8,7 +8,8 @@ ghost use Rattle.tide_weakref.specs.Delivered.{AllHeldCells, IsDelivered, IsFirs
 ghost use Rattle.tide_weakref.specs.Jobs.{Jobs, KeepsJobs, OthersSpare};
 ghost use Rattle.tide_weakref.specs.Registered.{IsRegistered};
 ghost use Rattle.tide_weakref.specs.Stepping.{HasHeldJobs, HasStepped, SameBut, held_in};
-ghost use Rattle.tide_weakref.specs.Uses.{GoesOn, has_token};
+ghost use Rattle.tide_weakref.specs.Roles.{has_token};
+ghost use Rattle.tide_weakref.specs.Uses.{GoesOn};
 ghost use Rattle.tide_weakref.specs.Viewed.{jobs_of, seat_of, table_of, view_of};
 ghost use Rattle.tide_weakref.specs.Worked.{HasWorked, IsReady};
 ghost use Rattle.tide_weakref.specs.declared.weak.Weak.{Weak as WeakIs};

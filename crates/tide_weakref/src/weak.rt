@@ -1,6 +1,6 @@
 //! `Weak`: what one of a realm's weak handles is used for, and which of them are meant. It knows no realm.
 ghost use Rattle.std.specs.Prelude.{◌≡◌};
-ghost use Rattle.tide_weakref.specs.Uses.{held_of, is_chosen};
+ghost use Rattle.tide_weakref.specs.Roles.{held_of, is_chosen};
 
 /// What is wanted of a weak handle's target.
 #[derive(Clone, Copy)]

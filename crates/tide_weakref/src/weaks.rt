@@ -1,7 +1,7 @@
 //! `Weaks`: a realm's weak handles, those in use and the others. It knows no heap.
 ghost use Rattle.std.specs.Prelude.{◌≡◌, ◌≢◌, ◌+◌, ◌-◌, ◌<◌, ◌≤◌, ◌==◌, ℕ, [], ◌∷◌, ◌++◌, length, count_by, filter, not, nat_lt, if◌then◌else◌, Contains, IfOk, IfSome, Some, None, slice_get, vec_len, vec_capacity};
 ghost use Rattle.std.specs.List.{remove};
-ghost use Rattle.tide_weakref.specs.Uses.{is_chosen};
+ghost use Rattle.tide_weakref.specs.Roles.{is_chosen};
 ghost use Rattle.tide_weakref.specs.declared.weak.Weak.{Weak as WeakIs};
 
 use crate::range::Range16;

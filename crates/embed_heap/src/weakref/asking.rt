@@ -1,11 +1,10 @@
 //! What a script asks of its engine: cells in registers, weak references, and registrations.
 ghost use Rattle.std.specs.Prelude.{◌≡◌, ◌≢◌, ◌<◌, ◌≤◌, ◌+◌, IfOk};
-ghost use Rattle.tide_weakref.specs.Uses.{GoesOn, IsReference};
-ghost use Rattle.tide_weakref.specs.Viewed.{jobs_of, view_of};
+ghost use Rattle.tide.specs.tide_weakref.Uses.{GoesOn, IsReference};
+ghost use Rattle.tide.specs.tide_weakref.Viewed.{jobs_of, view_of};
 
 use crate::weakref::engine::Engine;
-use tide_model::{FreePass, Op, Reply, Val};
-use tide_weakref::WeakRefused;
+use tide::{FreePass, Op, Reply, Val, WeakRefused};
 
 impl Engine {
     /// Takes a cell into a register.

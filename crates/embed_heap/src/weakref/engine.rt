@@ -2,10 +2,7 @@
 ghost use Rattle.embed_heap.specs.weakref.Engine.{IsOpen, TakesPart};
 ghost use Rattle.std.specs.Prelude.{◌≡◌, ◌≤◌};
 
-use tide_heap::Books;
-use tide_shape::Shapes;
-use tide_table::{Collector, Heap};
-use tide_weakref::Realm;
+use tide::{Books, Collector, Heap, Realm, Shapes};
 
 /// A heap of one mutator, which is a realm's, its collector, and the books of its freezes. A part is open, and the realm
 /// takes part in it.

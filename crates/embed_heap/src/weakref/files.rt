@@ -1,12 +1,12 @@
 //! A script's files: the script holds a cell for each, a cache finds that again by a weak reference, and a registry
 //! closes the file once the cell is gone.
 ghost use Rattle.std.specs.Prelude.{◌≡◌, ◌<◌, IfSome};
-ghost use Rattle.tide_weakref.specs.Uses.{GoesOn, IsReference};
-ghost use Rattle.tide_weakref.specs.Viewed.{jobs_of};
+ghost use Rattle.tide.specs.tide_weakref.Uses.{GoesOn, IsReference};
+ghost use Rattle.tide.specs.tide_weakref.Viewed.{jobs_of};
 
 use crate::weakref::engine::Engine;
 use std::alloc::Global;
-use tide_model::Val;
+use tide::Val;
 
 /// Puts the cell in a register into the cache, and has the registry close this file once the cell is gone. Answers the
 /// number of the weak reference.

@@ -2,20 +2,16 @@
 ghost use Rattle.embed_heap.specs.visitor.Parts.{IsIdleBefore};
 ghost use Rattle.embed_heap.specs.weakref.Engine.{TakesPart};
 ghost use Rattle.std.specs.Prelude.{◌≡◌, ◌≤◌, false, IfOk, IfSome};
-ghost use Rattle.tide_heap.specs.tide_core.machine.Frozen.{newcomer};
-ghost use Rattle.tide_model.specs.Layout.{Layout as LayoutIs};
-ghost use Rattle.tide_weakref.specs.Jobs.{HasKeptJobs};
-ghost use Rattle.tide_weakref.specs.Viewed.{jobs_of, table_of, view_of};
+ghost use Rattle.tide.specs.tide_core.machine.Frozen.{newcomer};
+ghost use Rattle.tide.specs.tide_model.Layout.{Layout as LayoutIs};
+ghost use Rattle.tide.specs.tide_weakref.Jobs.{HasKeptJobs};
+ghost use Rattle.tide.specs.tide_weakref.Viewed.{jobs_of, table_of, view_of};
 
 use crate::weakref::engine::Engine;
 use std::alloc::Global;
-use tide_heap::{Books, Heap, Layout};
-use tide_model::Memory;
-use tide_mutator::Mutator;
-use tide_sched::Pacing;
-use tide_shape::{Paths, Shapes};
-use tide_table::{Collector, Pass, Start};
-use tide_weakref::{Range16, Realm};
+use tide::{
+    Books, Collector, Heap, Layout, Memory, Mutator, Pacing, Pass, Paths, Range16, Realm, Shapes, Start,
+};
 
 /// How many calls the mutator has in the first part.
 const FIRST_RUN: u32 = 50;
@@ -40,16 +36,18 @@ fn begin(heap: &Heap<Shapes>, collector: &mut Collector, realm: &mut Realm)
     realm.begin(heap, ticket);
 }
 
-/// The layout of an engine's heap: a block of cells with two slots, and one mutator with four registers.
-fn layout() -> Layout
-    ensures alone { (result.mutators ≡ 1) × (result.visitors ≡ 0) }
+/// The layout of a heap for a realm: a block of cells with two slots, and so many mutators, two at most, with four
+/// registers each.
+pub fn heap_layout(mutators: u8) -> Layout
+    requires few { (1 ≤ mutators) × (mutators ≤ 2) }
+    ensures parties { (result.mutators ≡ mutators) × (result.visitors ≡ 0) }
     ensures own { (result.registers ≡ 4) × (result.strong ≡ 2) × (result.weak ≡ 4) }
 {
-    Layout::new([1, 0, 0, 0, 1], [1, 0, 0, 0, 0], 4, 2, 4, 1, 0)
+    Layout::new([1, 0, 0, 0, 1], [1, 0, 0, 0, 0], 4, 2, 4, mutators, 0)
 }
 
 /// A realm of a newcomer, with the last of four registers, and with handles from the first one on.
-fn new_realm(alloc: Global, pass: Pass, kept: u16, refs: u16) -> Result<Realm, Memory>
+pub fn new_realm(alloc: Global, pass: Pass, kept: u16, refs: u16) -> Result<Realm, Memory>
     requires newcomer { pass.seat.me.0 ≡ newcomer 0 }
     requires few { (kept ≤ 2) × (refs ≤ 4) }
     ensures table { IfOk result (λ realm. table_of realm ≡ pass.seat.table_id) }
@@ -82,7 +80,7 @@ fn start_over(
     requires few { (kept ≤ 2) × (refs ≤ 4) }
     ensures fresh { IfOk result (λ o. IfSome o (λ engine. (view_of engine.realm).born ≡ 0)) }
 {
-    let layout = layout();
+    let layout = heap_layout(1);
     let books = Books::new(alloc, &layout, pacing, 8, 512)?;
     let Start {
         heap,
@@ -127,7 +125,7 @@ impl Engine {
 
     /// Ends the part, has a full cycle where it must, else what the schedule asks for, and begins the next part. `None`
     /// where memory is wanting, or no more part can be opened.
-    pub fn next_part(self, is_must: bool) -> Option<Engine>
+    pub fn next_part(self, is_forced: bool) -> Option<Engine>
         ensures jobs { IfSome result (λ engine. jobs_of engine.realm ≡ jobs_of self.realm) }
         ensures fresh { IfSome result (λ engine. (view_of engine.realm).born ≡ 0) }
     {
@@ -139,7 +137,7 @@ impl Engine {
         } = self;
         let note = realm.stop(&heap);
         collector.take(&heap, note);
-        let Ok(()) = collector.next_part(&heap, &mut books, is_must) else {
+        let Ok(()) = collector.next_part(&heap, &mut books, is_forced) else {
             return None;
         };
         begin(&heap, &mut collector, &mut realm);

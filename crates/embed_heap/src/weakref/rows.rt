@@ -1,8 +1,7 @@
 //! Rows of weak references and registrations: what each call answers, between full cycles.
 use crate::weakref::engine::Engine;
 use std::alloc::Global;
-use tide_model::Val;
-use tide_weakref::WeakRefused;
+use tide::{Val, WeakRefused};
 
 /// A reference keeps its target for the job, and a full cycle after that frees it.
 pub fn reference_is_kept_for_a_job(alloc: Global) -> Option<bool> {

@@ -13,7 +13,8 @@ use Rattle.tide_weakref.proofs.WeakLaws.{contains_got}
 use Rattle.tide_weakref.specs.Delivered.{AllHeldCells, IsDelivered, IsFirstGone, delivers, nothing}
 use Rattle.tide_weakref.specs.Jobs.{Jobs}
 use Rattle.tide_weakref.specs.Stepping.{HoldsNow}
-use Rattle.tide_weakref.specs.Uses.{GoesOn, held_of}
+use Rattle.tide_weakref.specs.Roles.{held_of}
+use Rattle.tide_weakref.specs.Uses.{GoesOn}
 use Rattle.tide_weakref.specs.Viewed.{jobs_of, view_of}
 use Rattle.tide_weakref.specs.declared.weak.Weak.{Weak}
 use Rattle.tide_weakref.proofs.realm.Realm.deliver.Goals as goal

@@ -5,7 +5,8 @@ use Rattle.std.specs.Prelude.{filter, not}
 use Rattle.tide_weakref.proofs.ClosingLaws.{uses_are}
 use Rattle.tide_weakref.proofs.StandingLaws.{kept_fewer, stays_reference}
 use Rattle.tide_weakref.specs.Jobs.{HasKeptJobs, Jobs}
-use Rattle.tide_weakref.specs.Uses.{IsReference, is_chosen}
+use Rattle.tide_weakref.specs.Roles.{is_chosen}
+use Rattle.tide_weakref.specs.Uses.{IsReference}
 use Rattle.tide_weakref.specs.Viewed.{jobs_of, view_of}
 use Rattle.tide_weakref.specs.declared.weak.Chosen.TheVariants.{Number}
 use Rattle.tide_weakref.specs.declared.weak.Weak.{Weak}

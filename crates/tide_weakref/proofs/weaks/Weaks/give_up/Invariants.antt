@@ -1,7 +1,7 @@
 -- What is meant was taken out of what was passed.
 use Rattle.std.proofs.Common.{◌≡◌, ◌-◌, length}
 use Rattle.tide_weakref.proofs.WeakLaws.{Passed}
-use Rattle.tide_weakref.specs.Uses.{is_chosen}
+use Rattle.tide_weakref.specs.Roles.{is_chosen}
 use Rattle.tide_weakref.proofs.weaks.Weaks.give_up.Given as goal
 
 abbrev pub invariant-passing : goal.invariant-passing
