@@ -1,7 +1,8 @@
 -- Weak handles are read one after another until one holds no cell.
 use Rattle.std.proofs.Common.{ℕ, zero, suc, ◌≡◌, ◌+◌, ◌<◌, ◌≤◌, arith, refl, sym, ◌∙◌, ap, subst, Bool, true, false, List, [], ◌∷◌, ◌++◌, length, inl, inr, append_assoc}
 use Rattle.std.proofs.lemmas.List.Elements.{Contains-append_left, Contains-push, Contains-push_cases}
-use Rattle.std.specs.Prelude.{Contains, Option, None, Some, drop, slice_get, take}
+use Rattle.std.specs.Option.{is_some}
+use Rattle.std.specs.Prelude.{Contains, Option, None, Some, drop, not, slice_get, take}
 use Rattle.tide_heap.specs.tide_core.declared.machine.view.View.{View}
 use Rattle.tide_model.specs.Layout.{Layout}
 use Rattle.tide_model.specs.Prefix.{IsPrefix}
@@ -117,14 +118,23 @@ take_next [] place x got = absurd (none_got place x got)
 take_next (z ∷ xs) zero x got = let same : z ≡ x = cc in ap (λ (y : _). y ∷ []) same
 take_next (z ∷ xs) (suc place) x got = ap (λ (l : List _). z ∷ l) (take_next xs place x got)
 
--- a role with a held value is that of a registration
-pub is_registered : (role : Role) (held : ℕ) → held_of role ≡ Some held → (token : ℕ) × (role ≡ Registration held token)
-is_registered Reference held is = absurd (let e : None ≡ Some held = is in cc)
-is_registered (Registration own token) held is =
-    let same : own ≡ held = some_number own held is in (token, ap (λ (n : ℕ). Registration n token) same)
-  where
-    some_number : (a b : ℕ) → Some a ≡ Some b → a ≡ b
-    some_number a b e = cc
+-- a role of which no held value is told, and one of which some is
+module _ (told : Option ℕ) (role : Role) (none : Bool) (is : told ≡ held_of role) (some : is_some told ≡ not none) where
+  pub tells_none : none ≡ true → held_of role ≡ None
+  tells_none yes = by_role role refl
+    where
+      by_role : (r : Role) → role ≡ r → held_of role ≡ None
+      by_role Reference same = ap held_of same
+      by_role (Registration held token) same =
+          absurd (let e : true ≡ false = sym (ap is_some (is ∙ ap held_of same)) ∙ some ∙ ap not yes in cc)
+
+  pub tells_some : none ≡ false → (held : ℕ) × (token : ℕ) × (role ≡ Registration held token)
+  tells_some no = by_role role refl
+    where
+      by_role : (r : Role) → role ≡ r → (held : ℕ) × (token : ℕ) × (role ≡ Registration held token)
+      by_role Reference same =
+          absurd (let e : false ≡ true = sym (ap is_some (is ∙ ap held_of same)) ∙ some ∙ ap not no in cc)
+      by_role (Registration held token) same = (held, token, same)
 
 -- a handle at a place is passed where it is no registration's
 pub passed_other : (v w : View) (jobs : Jobs) (place : ℕ) (one : Weak) → slice_get jobs.uses place ≡ Some one →

@@ -5,7 +5,7 @@ ghost use Rattle.tide.specs.tide_weakref.Calls.{IsRunning};
 ghost use Rattle.tide.specs.tide_weakref.Viewed.{jobs_of, view_of};
 ghost use Rattle.tide.specs.tide_weakref.Worked.{IsReady};
 
-use crate::weakref::parts::{heap_layout, new_realm};
+use crate::weakref::parts::{begin, heap_layout, new_realm};
 use std::alloc::Global;
 use tide::{FreePass, Heap, Memory, Mutator, Op, Paths, Realm, Shapes, Start, Val};
 
@@ -49,12 +49,10 @@ fn run_both(alloc: Global, shapes: Shapes) -> Result<Option<bool>, Memory> {
     let mut realm = new_realm(alloc, first, 2, 4)?;
     let mut other = Mutator::new(second);
     collector.open_first(&heap, 20);
-    let ticket = collector.ticket(&heap);
-    realm.begin(&heap, ticket);
+    begin(&heap, &mut collector, &mut realm);
     let ticket = collector.ticket(&heap);
     other.begin(&heap, ticket);
-    let is_so = meddle(&heap, &mut realm, &mut other);
-    Ok(is_so)
+    Ok(meddle(&heap, &mut realm, &mut other))
 }
 
 /// Another mutator sets the handle of a realm's reference. Answers whether that led where the other one set it, and

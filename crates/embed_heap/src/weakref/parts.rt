@@ -1,7 +1,7 @@
 //! The parts of an engine: it starts, and between two parts a cycle runs.
 ghost use Rattle.embed_heap.specs.visitor.Parts.{IsIdleBefore};
 ghost use Rattle.embed_heap.specs.weakref.Engine.{TakesPart};
-ghost use Rattle.std.specs.Prelude.{◌≡◌, ◌≤◌, false, IfOk, IfSome};
+ghost use Rattle.std.specs.Prelude.{◌≡◌, ◌<◌, ◌≤◌, false, IfOk, IfSome};
 ghost use Rattle.tide.specs.tide_core.machine.Frozen.{newcomer};
 ghost use Rattle.tide.specs.tide_model.Layout.{Layout as LayoutIs};
 ghost use Rattle.tide.specs.tide_weakref.Jobs.{HasKeptJobs};
@@ -10,17 +10,18 @@ ghost use Rattle.tide.specs.tide_weakref.Viewed.{jobs_of, table_of, view_of};
 use crate::weakref::engine::Engine;
 use std::alloc::Global;
 use tide::{
-    Books, Collector, Heap, Layout, Memory, Mutator, Pacing, Pass, Paths, Range16, Realm, Shapes, Start,
+    Books, Collector, Heap, Layout, Memory, Mutator, Pacing, Pass, Paths, Range16, Realm, Shapes,
+    Start,
 };
 
 /// How many calls the mutator has in the first part.
 const FIRST_RUN: u32 = 50;
 
-/// The realm begins the open part.
-fn begin(heap: &Heap<Shapes>, collector: &mut Collector, realm: &mut Realm)
+/// The realm, of the first mutator, begins the open part.
+pub fn begin(heap: &Heap<Shapes>, collector: &mut Collector, realm: &mut Realm)
     requires own { collector.old.seat.table_id ≡ heap.now.table.shared.table_id }
     requires of_heap { table_of realm.old ≡ heap.now.table.shared.table_id }
-    requires alone { heap.now.key.layout.mutators ≡ 1 }
+    requires mutator { 0 < heap.now.key.layout.mutators }
     requires running { collector.old.seat.me.0.frozen ≡ false }
     requires idle { IsIdleBefore 0 collector.old.seat.me.0.period (view_of realm.old) }
     requires kept { HasKeptJobs heap.now.key.layout (view_of realm.old) (jobs_of realm.old) }

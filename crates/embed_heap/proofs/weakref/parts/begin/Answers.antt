@@ -29,13 +29,13 @@ returns c =
     let same = ap (λ (x : View). x.period) c.ticket-ticket.ensures.same.2 in
     let begun = has_begun 0 v t u (subst (λ (n : ℕ). IsIdleBefore 0 n v) (sym heard) c.requires.idle) c.begin.ensures.begun in
     let is = c.requires.idle.1.is in
-    let alone = c.requires.alone in
+    let some = c.requires.mutator in
     record {
       same = (c.ticket-ticket.ensures.same.0, c.ticket-ticket.ensures.same.2);
       takes_part = record {
         in_part = subst (λ (n : ℕ). IsInPart 0 n u) (heard ∙ sym same) begun.part;
         unvisited = begun.visits;
-        ready = c.begin.ensures.ready (omega (arith, is, alone)) c.requires.kept;
+        ready = c.begin.ensures.ready (omega (arith, is, some)) c.requires.kept;
         scratch = ap (λ (j : Jobs). j.scratch) c.begin.ensures.jobs ∙ c.requires.scratch;
       };
       jobs = c.begin.ensures.jobs;

@@ -66,7 +66,7 @@ begin-requires c =
     record {
       own = c.in-Ok.ensures.own ∙ c.take.ensures.same.0 ∙ engine.own;
       of_heap = c.stop-note.ensures.same.0 ∙ engine.takes_part.ready.running.own;
-      alone = engine.alone.0;
+      mutator = (let alone = engine.alone.0 in omega (arith, alone));
       running = next.runs.runs.running;
       idle = (
         v.period,
