@@ -109,31 +109,35 @@ held_push v u jobs some one all last = λ other held token has is. (elim (Contai
 ])
 
 -- those up to a place and the one there are those up to the next place
-pub take_next : {X : Type 0} (xs : List X) (place : ℕ) (x : X) → slice_get xs place ≡ Some x → take (place + 1) xs ≡ take place xs ++ x ∷ []
-take_next [] place x got = absurd (none_got place x got)
+take_suc : {X : Type 0} (xs : List X) (place : ℕ) (x : X) → slice_get xs place ≡ Some x → take (suc place) xs ≡ take place xs ++ x ∷ []
+take_suc [] place x got = absurd (none_got place x got)
   where
     none_got : {Y : Type 0} (n : ℕ) (y : Y) → slice_get [] n ≡ Some y → ⊥
     none_got zero y is = (cc)
     none_got (suc n) y is = (cc)
-take_next (z ∷ xs) zero x got = let same : z ≡ x = cc in ap (λ (y : _). y ∷ []) same
-take_next (z ∷ xs) (suc place) x got = ap (λ (l : List _). z ∷ l) (take_next xs place x got)
+take_suc (z ∷ xs) zero x got = let same : z ≡ x = cc in ap (λ (y : _). y ∷ []) same
+take_suc (z ∷ xs) (suc place) x got = ap (λ (l : List _). z ∷ l) (take_suc xs place x got)
+
+pub take_next : {X : Type 0} (xs : List X) (place : ℕ) (x : X) → slice_get xs place ≡ Some x → take (place + 1) xs ≡ take place xs ++ x ∷ []
+take_next xs place x got =
+    let next : place + 1 ≡ suc place = omega arith in ap (λ (n : ℕ). take n xs) next ∙ take_suc xs place x got
 
 -- a role of which no held value is told, and one of which some is
 module _ (told : Option ℕ) (role : Role) (none : Bool) (is : told ≡ held_of role) (some : is_some told ≡ not none) where
   pub tells_none : none ≡ true → held_of role ≡ None
-  tells_none yes = by_role role refl
+  tells_none so = by_role role refl
     where
       by_role : (r : Role) → role ≡ r → held_of role ≡ None
       by_role Reference same = ap held_of same
       by_role (Registration held token) same =
-          absurd (let e : true ≡ false = sym (ap is_some (is ∙ ap held_of same)) ∙ some ∙ ap not yes in cc)
+          absurd (let e : true ≡ false = sym (ap is_some (is ∙ ap held_of same)) ∙ some ∙ ap not so in cc)
 
   pub tells_some : none ≡ false → (held : ℕ) × (token : ℕ) × (role ≡ Registration held token)
-  tells_some no = by_role role refl
+  tells_some so = by_role role refl
     where
       by_role : (r : Role) → role ≡ r → (held : ℕ) × (token : ℕ) × (role ≡ Registration held token)
       by_role Reference same =
-          absurd (let e : false ≡ true = sym (ap is_some (is ∙ ap held_of same)) ∙ some ∙ ap not no in cc)
+          absurd (let e : false ≡ true = sym (ap is_some (is ∙ ap held_of same)) ∙ some ∙ ap not so in cc)
       by_role (Registration held token) same = (held, token, same)
 
 -- a handle at a place is passed where it is no registration's

@@ -58,3 +58,7 @@ loop-place-preserved g c =
             (stepped_seen c.loop-place.mutator c.step.new.mutator step.stepped) spare) bare n less)
       ]);
     }
+
+pub returns-clause-emptied : goal.returns-clause-emptied
+returns-clause-emptied g c = λ jobs same few spare bare place below.
+    c.loop-place.invariant.emptied jobs same few spare bare place (let over = c.loop-place-test.false in omega (arith, below, over))

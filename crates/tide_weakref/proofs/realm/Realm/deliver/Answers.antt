@@ -20,8 +20,13 @@ use Rattle.tide_weakref.specs.declared.weak.Weak.{Weak}
 use Rattle.tide_weakref.proofs.realm.Realm.deliver.Goals as goal
 
 -- what was found at a place
-found_some : {A : Type 0} {B : ℕ → Type 0} (found : Option ℕ) (place : ℕ) → found ≡ Some place → MatchOption found A B → B place
-found_some {A} {B} found place is has = subst (λ (o : Option ℕ). MatchOption o A B) is has
+found_some : (A : Type 0) (B : ℕ → Type 0) (found : Option ℕ) (place : ℕ) → found ≡ Some place → MatchOption found A B → B place
+found_some A B found place is has = subst (λ (o : Option ℕ). MatchOption o A B) is has
+
+-- and where nothing was
+found_none : (A : Type 0) (B : ℕ → Type 0) (found : Option ℕ) → ((place : ℕ) → found ≡ Some place → ⊥) → MatchOption found A B → A
+found_none A B None not has = has
+found_none A B (Some place) not has = absurd (not place refl)
 
 some_weak : (one other : Weak) → Some one ≡ Some other → one ≡ other
 some_weak one other is = cc
@@ -56,14 +61,20 @@ returns-in_default g c =
       registers = closed.registers;
       answers = nothing (held_more v w u (stepped_mine c.args.self.now.mutator c.first_gone-found.new.mutator first.stepped)
           (stepped_mine c.first_gone-found.new.mutator c.let_go.new.mutator last.stepped) jobs jobs.uses
-          (first.found jobs refl refl held));
+          (found_none (AllHeldCells v w jobs jobs.uses)
+          (λ (place : ℕ). (one : Weak) × (value : ℕ) × (token : ℕ) × IsFirstGone v w jobs place one value token)
+          c.first_gone-found.result (λ place is. c.in_default.not-Some place is) (first.found jobs refl refl held)));
     }
 
 pub remove-one-requires : goal.remove-one-requires
 remove-one-requires g c =
     let jobs = jobs_of c.args.self.now in
-    let held = held_kept c.args.heap.now.key.layout (view_of c.args.self.now) jobs c.requires.ready.kept_jobs in
-    let found = found_some c.first_gone-found.result c.in-Some.place c.in-Some.is (c.first_gone-found.ensures.found jobs refl refl held) in
+    let v = view_of c.args.self.now in
+    let w = works.view_of c.first_gone-found.new.mutator in
+    let held = held_kept c.args.heap.now.key.layout v jobs c.requires.ready.kept_jobs in
+    let found = found_some (AllHeldCells v w jobs jobs.uses)
+    (λ (place : ℕ). (one : Weak) × (value : ℕ) × (token : ℕ) × IsFirstGone v w jobs place one value token)
+    c.first_gone-found.result c.in-Some.place c.in-Some.is (c.first_gone-found.ensures.found jobs refl refl held) in
     (contains_got jobs.uses c.in-Some.place found.0 found.3.at).0
 
 pub returns : goal.returns
@@ -78,7 +89,9 @@ returns g c =
     let last = c.let_go.ensures in
     let kept = c.requires.ready.kept_jobs in
     let held = held_kept layout v jobs kept in
-    let found = found_some c.first_gone-found.result place c.in-Some.is (first.found jobs refl refl held) in
+    let found = found_some (AllHeldCells v w jobs jobs.uses)
+    (λ (at : ℕ). (one : Weak) × (value : ℕ) × (token : ℕ) × IsFirstGone v w jobs at one value token)
+    c.first_gone-found.result place c.in-Some.is (first.found jobs refl refl held) in
     let one = found.0 in
     let value = found.1 in
     let token = found.2 in

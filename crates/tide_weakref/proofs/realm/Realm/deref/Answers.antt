@@ -15,7 +15,7 @@ use Rattle.tide_weakref.proofs.KeepLaws.{may_is, may_not}
 use Rattle.tide_weakref.proofs.StandingLaws.{goes_keeping, goes_same}
 use Rattle.tide_weakref.proofs.StepLaws.{held_kept, held_now, kept_now, scratch_kept, step_dropped, step_holds, step_moved, step_targets}
 use Rattle.tide_weakref.specs.Dereferenced.{IsDereferenced, gone, kept_full, leads}
-use Rattle.tide_weakref.specs.Jobs.{Jobs, handle_of}
+use Rattle.tide_weakref.specs.Jobs.{Jobs, KeepsJobs, handle_of}
 use Rattle.tide_weakref.specs.Stepping.{held_in}
 use Rattle.tide_weakref.specs.Uses.{GoesOn, IsFullFor, keeping, reference, with_cell}
 use Rattle.tide_weakref.specs.Viewed.{jobs_of, view_of}
@@ -71,7 +71,8 @@ returns-in_default g c =
     let at_w = c.load.ensures.stands jobs (held_kept layout v jobs kept) in
     let at_x = step_holds layout shapes w x (Drop c.args.dst) c.step.result step.stepped.who step.makes jobs (held_now layout w jobs at_w)
     (record { uses = λ k d below. refl; cells = λ place below. refl }) in
-    let keeps = record { holds = c.let_go.ensures.stands jobs (held_now layout x jobs at_x); scratch = c.let_go.ensures.emptied } in
+    let keeps : KeepsJobs layout u.who jobs u.seen u.mine =
+    record { holds = c.let_go.ensures.stands jobs (held_now layout x jobs at_x); scratch = c.let_go.ensures.emptied } in
     let dropped = step_dropped layout shapes w x c.step.result step.stepped.who c.args.dst step.makes in
     let later = stepped_then c.load.new.mutator c.step.new.mutator c.let_go.new.mutator step.stepped c.let_go.ensures.stepped in
     let seen_x = stepped_seen c.step.new.mutator c.let_go.new.mutator c.let_go.ensures.stepped in
@@ -166,7 +167,7 @@ returns g c =
     let at_w = c.load.ensures.stands jobs (held_kept layout v jobs kept) in
     let at_y = step_holds layout shapes x y (Move c.args.dst jobs.scratch) c.step-2.result step.stepped.who step.makes now
     (held_now layout x now c.keep.ensures.holds) (record { uses = λ k d below. refl; cells = λ place below. refl }) in
-    let keeps = record {
+    let keeps : KeepsJobs layout u.who now u.seen u.mine = record {
       holds = let_go.ensures.stands now (held_now layout y now at_y);
       scratch = ap (held_in layout u) same ∙ let_go.ensures.emptied;
     } in

@@ -19,7 +19,7 @@ empty-requires-clause-within g c κs met =
     let holds = c.requires.ready.kept_jobs.keeps.holds in
     let few = holds.within.cells in
     let of = holds.of_layout.strong in
-    let count = c.count-count.ensures in
+    let count = c.count.ensures in
     omega (arith, few, of, count)
 
 pub returns : goal.returns
@@ -31,7 +31,7 @@ returns g c =
     let kept = c.requires.ready.kept_jobs in
     let none : Jobs = record jobs { cells = [] } in
     let same = kept_are jobs c.clear.new.self.handles c.clear.new.self.cells.items [] c.clear.ensures.handles c.clear.ensures.cells in
-    let count = c.count-count.ensures in
+    let count = c.count.ensures in
     let few = kept.keeps.holds.within.cells in
     record {
       worked = worked_by c.args.self.now _ c.empty.ensures.stepped (subst (GoesOn jobs) (sym same) (goes_keeping jobs []))
