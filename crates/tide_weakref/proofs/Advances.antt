@@ -1,23 +1,22 @@
 -- What a call tells of what came before it: from a moment on since which its mutator made no call.
-use Rattle.std.proofs.Common.{ℕ, suc, ◌≡◌, ◌≢◌, ◌+◌, refl, sym, ◌∙◌, ap, subst, arith, Bool, true, false, List, [], ◌∷◌, ◌++◌, length, inl, inr, append_assoc, append-nil, length-append}
-use Rattle.std.proofs.lemmas.Bool.{eq-eqb, eqb-true}
+use Rattle.std.proofs.Common.{ℕ, ◌≡◌, refl, sym, ◌∙◌, ap, subst, arith, Bool, true, false, List, [], ◌∷◌, ◌++◌, length, inl, inr, append_assoc, append-nil, length-append}
+use Rattle.std.proofs.lemmas.Bool.{eq-eqb}
 use Rattle.std.proofs.lemmas.List.{append_cancel_left, append_cancel_right}
-use Rattle.std.proofs.lemmas.List.Elements.{All-nil, All-cons, All-push, Contains-push_cases, filter-append}
-use Rattle.std.specs.Prelude.{All, Contains, Option, filter, if◌then◌else◌, ◌⊎◌}
+use Rattle.std.proofs.lemmas.List.Elements.{All-nil, All-cons, filter-append}
+use Rattle.std.specs.Prelude.{All, Option, filter, if◌then◌else◌, ◌⊎◌}
 use Rattle.tide_heap.proofs.tide_core.machine_laws.steps.OwnState.{own_state}
-use Rattle.tide_heap.specs.tide_core.machine.Own.{Own, own_of}
-use Rattle.tide_model.proofs.Histories.{IsLawful-prefix, take-append-short}
+use Rattle.tide_heap.specs.tide_core.machine.Own.{own_of}
+use Rattle.tide_model.proofs.Histories.{take-append-short}
 use Rattle.tide_model.specs.Caller.{IsOwn, MakesCall}
 use Rattle.tide_model.specs.History.{is_call_of, state_after}
 use Rattle.tide_model.specs.Lawful.{IsLawful, Stands, StandsCall}
 use Rattle.tide_model.specs.Layout.{Layout}
-use Rattle.tide_model.specs.Prefix.{IsPrefix, prefix_push, prefix_trans}
+use Rattle.tide_model.specs.Prefix.{IsPrefix, prefix_trans}
 use Rattle.tide_model.specs.Refused.{ShapeLists}
 use Rattle.tide_model.specs.declared.entry.Entry.TheVariants.{Call}
 use Rattle.tide_model.specs.declared.entry.Event.{Event}
 use Rattle.tide_model.specs.declared.op.Op.{Op}
 use Rattle.tide_model.specs.declared.op.Reply.{Reply}
-use Rattle.std.proofs.lemmas.Option.{slice_get_within}
 use Rattle.std.proofs.Common.{take_all}
 use Rattle.std.specs.Prelude.{slice_get, Some}
 

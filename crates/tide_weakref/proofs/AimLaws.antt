@@ -1,16 +1,14 @@
 -- A weak handle is set to what a register holds, and read.
-use Rattle.std.proofs.Common.{ℕ, ◌≡◌, ◌+◌, refl, sym, ◌∙◌, ap, subst, Bool, true, false, List, [], ◌∷◌, ◌++◌, inl, inr}
-use Rattle.std.specs.Prelude.{◌⊎◌, Option, None, Some, IfSome}
+use Rattle.std.proofs.Common.{ℕ, ◌≡◌, refl, sym, ◌∙◌, ap, subst, false, inl, inr}
+use Rattle.std.specs.Prelude.{Option, None, Some, IfSome}
 use Rattle.tide_heap.specs.tide_core.declared.machine.view.View.{View}
 use Rattle.tide_model.specs.Caller.{MakesCall}
 use Rattle.tide_model.specs.History.{state_after}
 use Rattle.tide_model.specs.Layout.{Layout}
 use Rattle.tide_model.specs.Refused.{ShapeLists}
 use Rattle.tide_model.specs.declared.entry.Entry.TheVariants.{Call}
-use Rattle.tide_model.specs.declared.entry.Event.{Event}
 use Rattle.tide_model.specs.declared.op.Op.TheVariants.{WeakSet, WeakGet}
 use Rattle.tide_model.specs.declared.op.Reply.{Reply}
-use Rattle.tide_model.specs.declared.op.Reply.TheVariants.{Seen}
 use Rattle.tide_model.specs.declared.val.Val.{Val}
 use Rattle.tide_model.specs.declared.val.Val.TheVariants.{Empty, Int, Cell}
 use Rattle.tide_weakref.proofs.Advances.{call_event}

@@ -1,37 +1,28 @@
 -- What a call on a handle or a register answers, and what it leaves, by the moment before it since which its mutator
 -- made none.
-use Rattle.std.proofs.Common.{ℕ, ◌≡◌, ◌≢◌, arith, refl, sym, ◌∙◌, ap, subst, Bool, true, false, List, [], ◌∷◌, ◌++◌, append_assoc}
-use Rattle.std.proofs.lemmas.Bool.{ne_eqb, eqb-true, eq-eqb}
-use Rattle.std.proofs.lemmas.List.Elements.{All-head, All-push, All-tail, Contains-append_left, Contains-append_right, Contains-get_or, Contains-push, Contains-push_cases}
-use Rattle.std.specs.Prelude.{◌==◌, ◌+◌, ◌<◌, ◌≤◌, All, Contains, Option, None, Some, slice_index_or}
+use Rattle.std.proofs.Common.{ℕ, ◌≡◌, refl, sym, ◌∙◌, ap, subst, Bool, true, false, List, [], ◌∷◌, ◌++◌, append_assoc}
+use Rattle.std.proofs.lemmas.Bool.{eqb-true, eq-eqb}
+use Rattle.std.proofs.lemmas.List.Elements.{All-push, Contains-append_left, Contains-append_right, Contains-get_or}
+use Rattle.std.specs.Prelude.{All, Contains, slice_index_or}
 use Rattle.tide_heap.proofs.tide_core.machine_laws.steps.OwnState.{own_after, own_call}
 use Rattle.tide_heap.specs.tide_core.machine.Own.{Own, own_of}
-use Rattle.tide_model.proofs.Histories.{IsLawful-prefix, state_after-push}
-use Rattle.tide_model.proofs.SinceLaws.{since-none}
-use Rattle.tide_model.specs.Answer.{IsAnswer, IsGranted}
-use Rattle.tide_model.specs.Applied.{after_call, slot_of}
+use Rattle.tide_model.proofs.Histories.{state_after-push}
+use Rattle.tide_model.specs.Applied.{after_call}
 use Rattle.tide_model.specs.Caller.{IsOwn}
-use Rattle.tide_model.specs.Graph.{in_register}
 use Rattle.tide_model.specs.History.{is_call_of, state_after}
-use Rattle.tide_model.specs.Lawful.{IsLawful, Stands}
+use Rattle.tide_model.specs.Lawful.{IsLawful}
 use Rattle.tide_model.specs.Layout.{Layout}
-use Rattle.tide_model.specs.Numbers.{put_at}
 use Rattle.tide_model.specs.Prefix.{IsPrefix}
-use Rattle.tide_model.specs.Refused.{ShapeLists, slot_refusal}
-use Rattle.tide_model.specs.Since.{since}
-use Rattle.tide_model.specs.State.{State}
+use Rattle.tide_model.specs.Refused.{ShapeLists}
 use Rattle.tide_model.specs.declared.entry.Entry.{Entry}
 use Rattle.tide_model.specs.declared.entry.Entry.TheVariants.{Call, Begin, Pause, Visits, End, Taken, Sweep, Open}
 use Rattle.tide_model.specs.declared.entry.Event.{Event}
 use Rattle.tide_model.specs.declared.op.Op.{Op}
-use Rattle.tide_model.specs.declared.op.Op.TheVariants.{Get, Move, Drop, StrongSet, WeakSet, WeakGet}
+use Rattle.tide_model.specs.declared.op.Op.TheVariants.{StrongSet, WeakSet}
 use Rattle.tide_model.specs.declared.op.Reply.{Reply}
-use Rattle.tide_model.specs.declared.op.Reply.TheVariants.{Done, Seen, Refused}
-use Rattle.tide_model.specs.declared.val.Val.{Val}
-use Rattle.tide_model.specs.declared.val.Val.TheVariants.{Empty, Int, Cell}
-use Rattle.tide_weakref.proofs.Advances.{Advances, call_event, same_own, stands_last}
-use Rattle.tide_weakref.proofs.HandleLaws.{IsGone-more, StrongKeeps-more, WeakStands-more, no_cell_more, strong_more}
-use Rattle.tide_weakref.specs.Handles.{IsFreedIn, IsGone, IsIn, OthersLeave, SetsOneOf, StrongKeeps, WeakStands, frees, is_cell, op_sets_strong, op_sets_weak, sets_strong, sets_weak}
+use Rattle.tide_weakref.proofs.Advances.{Advances, call_event, same_own}
+use Rattle.tide_weakref.proofs.HandleLaws.{StrongKeeps-more, WeakStands-more, no_cell_more, strong_more}
+use Rattle.tide_weakref.specs.Handles.{IsIn, OthersLeave, SetsOneOf, StrongKeeps, WeakStands, is_cell, op_sets_strong, op_sets_weak, sets_strong, sets_weak}
 use Rattle.tide_weakref.specs.declared.range.Range16.{Range16}
 
 -- what holds of a longer history that no other mutator's call spoils, holds of its beginnings

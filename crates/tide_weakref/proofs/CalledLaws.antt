@@ -1,5 +1,5 @@
 -- Calls of a realm's mutator one after another.
-use Rattle.std.proofs.Common.{ℕ, ◌≡◌, ◌+◌, ◌≤◌, arith, refl, sym, ◌∙◌, ap, subst, Bool, List, [], ◌∷◌, ◌++◌, length, length-append}
+use Rattle.std.proofs.Common.{ℕ, ◌≡◌, ◌+◌, ◌≤◌, arith, refl, sym, ◌∙◌, ap, subst, List, [], ◌∷◌, length, length-append}
 use Rattle.tide_heap.specs.tide_core.declared.machine.view.View.{View}
 use Rattle.tide_model.specs.Caller.{MakesCall}
 use Rattle.tide_model.specs.Layout.{Layout}
@@ -19,7 +19,7 @@ use Rattle.tide_weakref.specs.Jobs.{HasKeptJobs}
 use Rattle.tide_weakref.specs.Stepping.{HasStepped}
 use Rattle.tide_weakref.specs.Uses.{GoesOn}
 use Rattle.tide_weakref.specs.Viewed.{jobs_of, view_of}
-use Rattle.tide_weakref.specs.Worked.{HasWorked, IsReady}
+use Rattle.tide_weakref.specs.Worked.{HasWorked}
 use Rattle.tide_weakref.specs.declared.realm.Realm.{Realm}
 
 calls_then : (layout : Layout) (shapes : ShapeLists) (who : ℕ) (seen mine old_seen old_mine new_seen new_mine : List Event) →

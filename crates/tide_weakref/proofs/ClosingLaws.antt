@@ -1,6 +1,6 @@
 -- What a call of a realm leaves once its scratch register is empty again.
-use Rattle.std.proofs.Common.{ℕ, ◌≡◌, ◌≢◌, ◌+◌, ◌<◌, arith, refl, sym, ◌∙◌, ap, subst, Bool, true, false, List, [], ◌∷◌, ◌++◌, length, inl, inr, true≢false}
-use Rattle.std.specs.Prelude.{◌⊎◌, Contains, Option, None, Some, IfSome, Result, Ok, Err, All, if◌then◌else◌}
+use Rattle.std.proofs.Common.{ℕ, ◌≡◌, ◌≢◌, ◌+◌, ◌<◌, arith, refl, sym, ◌∙◌, ap, subst, Bool, true, false, List, [], ◌∷◌, ◌++◌, inl, inr}
+use Rattle.std.specs.Prelude.{Contains, Option, None, Some, Ok, Err, if◌then◌else◌}
 use Rattle.std.proofs.lemmas.Bool.{cases_eq}
 use Rattle.std.proofs.lemmas.List.Elements.{All-contains}
 use Rattle.tide_heap.specs.tide_core.declared.machine.view.View.{View}
@@ -15,16 +15,14 @@ use Rattle.tide_weakref.proofs.HandleLaws.{put_here}
 use Rattle.tide_weakref.proofs.OperationLaws.{put_elsewhere}
 use Rattle.tide_weakref.proofs.CallLaws.{OthersLeave-prefix}
 use Rattle.tide_weakref.proofs.StepLaws.{held_now, kept_now, same_registers, scratch_kept}
-use Rattle.tide_weakref.specs.Dereferenced.{IsDereferenced, gone, leads, kept_full}
-use Rattle.tide_weakref.specs.Handles.{IsGone, IsIn, OthersLeave, WeakStands, is_cell}
-use Rattle.tide_weakref.specs.Jobs.{HasKeptJobs, HoldsJobs, Jobs, KeepsJobs, OthersSpare, handle_of}
+use Rattle.tide_weakref.specs.Handles.{IsGone, IsIn, WeakStands, is_cell}
+use Rattle.tide_weakref.specs.Jobs.{HasKeptJobs, Jobs, KeepsJobs, OthersSpare, handle_of}
 use Rattle.tide_weakref.specs.Referenced as referenced
 use Rattle.tide_weakref.specs.Registered as registered
 use Rattle.tide_model.specs.declared.entry.Event.{Event}
 use Rattle.tide_weakref.specs.Stepping.{HoldsNow, LetsStand, SameBut, WasAimed, WasLoaded, cell_in, held_in, refusal_where_full}
 use Rattle.tide_weakref.specs.Uses.{AreAllUsed, IsFullFor, IsUnused, keeping, reference, registration, using}
 use Rattle.tide_weakref.specs.declared.range.Range16.{Range16}
-use Rattle.tide_weakref.specs.declared.refused.WeakRefused.{WeakRefused}
 use Rattle.tide_weakref.specs.declared.refused.WeakRefused.TheVariants.{NotCell, RefsFull, KeptFull}
 use Rattle.tide_weakref.specs.declared.weak.Weak.{Weak}
 

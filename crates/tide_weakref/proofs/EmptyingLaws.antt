@@ -1,19 +1,18 @@
 -- Strong handles are emptied one after another.
-use Rattle.std.proofs.Common.{ℕ, ◌≡◌, ◌≢◌, ◌<◌, arith, refl, sym, ◌∙◌, ap, subst, List, [], length}
+use Rattle.std.proofs.Common.{ℕ, ◌≡◌, ◌≢◌, arith, refl, sym, ◌∙◌, ap, List, [], length}
 use Rattle.std.proofs.lemmas.Bool.{ne_eqb}
 use Rattle.tide_heap.specs.tide_core.declared.machine.view.View.{View}
 use Rattle.tide_model.specs.Caller.{MakesCall}
 use Rattle.tide_model.specs.History.{state_after}
 use Rattle.tide_model.specs.Layout.{Layout}
 use Rattle.tide_model.specs.Refused.{ShapeLists}
-use Rattle.tide_model.specs.declared.entry.Event.{Event}
 use Rattle.tide_model.specs.declared.op.Op.TheVariants.{StrongSet}
 use Rattle.tide_model.specs.declared.op.Reply.{Reply}
 use Rattle.tide_model.specs.declared.val.Val.{Val}
 use Rattle.tide_model.specs.declared.val.Val.TheVariants.{Empty}
 use Rattle.tide_weakref.proofs.CallLaws.{strong_same}
 use Rattle.tide_weakref.proofs.OperationLaws.{strong_put}
-use Rattle.tide_weakref.proofs.StandingLaws.{LeavesJobs, holds_nothing}
+use Rattle.tide_weakref.proofs.StandingLaws.{holds_nothing}
 use Rattle.tide_weakref.proofs.StepLaws.{adv, held_kept, kept_now, scratch_kept, step_holds, step_set}
 use Rattle.tide_weakref.specs.Handles.{IsIn}
 use Rattle.tide_weakref.specs.Jobs.{HasKeptJobs, Jobs, OthersSpare}

@@ -2,7 +2,7 @@
 use Rattle.std.proofs.Common.{ℕ, ◌≡◌, ◌<◌, ◌≤◌, arith, refl, sym, ◌∙◌, ap, Bool, true, false, List, [], ◌∷◌, ◌++◌, length, inl, inr}
 use Rattle.std.proofs.lemmas.Bool.Decides.{leb_tells}
 use Rattle.std.proofs.lemmas.Bool.{ltb-false, ltb-true}
-use Rattle.std.specs.Prelude.{◌||◌, ◌⊎◌, if◌then◌else◌, nat_lt, nat_le, not}
+use Rattle.std.specs.Prelude.{◌||◌, if◌then◌else◌, nat_lt, not}
 use Rattle.tide_model.specs.Numbers.{is_among}
 use Rattle.tide_model.specs.declared.op.Refusal.TheVariants.{NotCell as NoCell}
 use Rattle.tide_model.specs.declared.op.Reply.{Reply}
@@ -13,7 +13,7 @@ use Rattle.tide_weakref.specs.Jobs.{Jobs}
 use Rattle.tide_weakref.specs.Stepping.{refusal_where_full, refuses_no_cell}
 use Rattle.tide_weakref.specs.declared.refused.WeakRefused.TheVariants.{NotCell, RefsFull}
 use Rattle.tide_weakref.specs.declared.range.Range16.{Range16}
-use Rattle.tide_weakref.specs.Uses.{IsFullFor, keeping, with_cell}
+use Rattle.tide_weakref.specs.Uses.{IsFullFor, keeping}
 
 pub keeping_same : (jobs : Jobs) (cell : ℕ) → is_among jobs.cells cell ≡ true → jobs ≡ keeping jobs cell
 keeping_same jobs cell is = ap (λ (b : Bool). record jobs { cells = if b then jobs.cells else jobs.cells ++ cell ∷ [] }) (sym is)

@@ -1,5 +1,5 @@
 -- What an operation that a realm makes of its own isn't.
-use Rattle.std.proofs.Common.{ℕ, ◌≡◌, refl, Bool, true, false}
+use Rattle.std.proofs.Common.{◌≡◌, refl, true, false}
 use Rattle.tide_heap.specs.tide_core.machine.kinds.TakeFree.{TakesCell}
 use Rattle.tide_model.specs.declared.op.Op.{Op}
 use Rattle.tide_model.specs.declared.op.Op.TheVariants.{Alloc, Table, Claim, Release, Unclaim, Retire}

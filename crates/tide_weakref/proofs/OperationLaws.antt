@@ -1,13 +1,13 @@
 -- What each operation that a realm makes answers and leaves.
-use Rattle.std.proofs.Common.{ℕ, ◌≡◌, ◌≢◌, arith, refl, sym, ◌∙◌, ap, subst, Bool, true, false, List, [], ◌∷◌, ◌++◌, append_assoc, append-nil, inl, inr, true≢false}
+use Rattle.std.proofs.Common.{ℕ, ◌≡◌, ◌≢◌, refl, sym, ◌∙◌, ap, subst, Bool, true, false, List, [], ◌∷◌, ◌++◌, append_assoc, append-nil, inl, inr, true≢false}
 use Rattle.std.proofs.lemmas.Bool.{eq-eqb, ne_eqb}
 use Rattle.std.proofs.lemmas.List.Elements.{All-head, All-tail, Contains-append_cases, Contains-push_cases, filter-append}
-use Rattle.std.specs.Prelude.{◌==◌, ◌<◌, nat_lt, All, Contains, Option, None, Some, filter, if◌then◌else◌}
+use Rattle.std.specs.Prelude.{nat_lt, All, Option, None, Some, filter, if◌then◌else◌}
 use Rattle.tide_heap.proofs.tide_core.machine_laws.steps.OwnState.{own_after, own_state}
 use Rattle.tide_heap.specs.tide_core.machine.Own.{Own, own_of}
 use Rattle.tide_model.proofs.Histories.{IsLawful-prefix}
 use Rattle.tide_model.proofs.SinceLaws.{since-none}
-use Rattle.tide_model.specs.Answer.{IsAnswer, IsAnswerUnless, IsGranted}
+use Rattle.tide_model.specs.Answer.{IsAnswerUnless, IsGranted}
 use Rattle.tide_model.specs.Caller.{IsOwn}
 use Rattle.tide_model.specs.Graph.{in_register}
 use Rattle.tide_model.specs.History.{is_call_of, state_after}

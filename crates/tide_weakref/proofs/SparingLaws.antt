@@ -1,6 +1,5 @@
 -- What a call of its mutator that spares a realm's register and handles leaves of it.
-use Rattle.std.proofs.Common.{ℕ, ◌≡◌, ◌≢◌, ◌<◌, arith, refl, sym, ◌∙◌, ap, subst, Bool, true, false, List, [], ◌∷◌, length}
-use Rattle.std.proofs.lemmas.List.Elements.{All-nil}
+use Rattle.std.proofs.Common.{ℕ, ◌≡◌, arith, refl, sym, ◌∙◌, ap, subst, Bool, true, false, List, [], ◌∷◌}
 use Rattle.std.specs.Prelude.{◌++◌, ◌==◌, Option, filter, if◌then◌else◌, not}
 use Rattle.tide_heap.specs.Turns.{heard_view}
 use Rattle.tide_heap.proofs.tide_core.machine_laws.steps.OwnState.{own_after, own_call}
@@ -20,13 +19,12 @@ use Rattle.tide_model.specs.declared.op.Op.{Op}
 use Rattle.tide_model.specs.declared.op.Op.TheVariants.{Alloc, Table, Get, Move, Set, Drop, Claim, Release, Unclaim, GetProp, StrongGet, WeakGet, PairGet, Retire}
 use Rattle.tide_model.specs.declared.op.Reply.{Reply}
 use Rattle.tide_model.specs.declared.op.Reply.TheVariants.{Done, Born, Seen}
-use Rattle.tide_model.specs.declared.val.Val.{Val}
 use Rattle.tide_model.specs.declared.val.Val.TheVariants.{Empty, Int, Cell}
 use Rattle.tide_weakref.proofs.CallLaws.{after, own_before}
 use Rattle.tide_weakref.proofs.OperationLaws.{put_elsewhere}
 use Rattle.tide_weakref.proofs.StandingLaws.{spares_leave}
 use Rattle.tide_weakref.proofs.StepLaws.{adv, held_kept, scratch_kept, step_holds}
-use Rattle.tide_weakref.specs.Jobs.{HasKeptJobs, IsOfLayout, Jobs, KeepsJobs, Spares, registers_of}
+use Rattle.tide_weakref.specs.Jobs.{HasKeptJobs, IsOfLayout, Jobs, KeepsJobs, Spares}
 use Rattle.tide_weakref.specs.Stepping.{held_in}
 use Rattle.tide_weakref.specs.declared.range.Range16.{Range16}
 

@@ -1,14 +1,14 @@
 -- What a realm has stands after a call, and after it has something more or less.
-use Rattle.std.proofs.Common.{ℕ, zero, suc, ◌≡◌, ◌≢◌, ◌+◌, ◌<◌, ◌≤◌, arith, refl, sym, ◌∙◌, ap, subst, Bool, true, false, List, [], ◌∷◌, ◌++◌, length, inl, inr, length-append}
+use Rattle.std.proofs.Common.{ℕ, zero, suc, ◌≡◌, ◌≢◌, ◌+◌, ◌<◌, arith, refl, sym, ◌∙◌, ap, subst, Bool, false, List, [], ◌∷◌, ◌++◌, length, inl, inr, length-append}
 use Rattle.std.proofs.lemmas.Bool.{ne_eqb}
 use Rattle.std.proofs.lemmas.List.{get_or_append_left, get_or_push}
 use Rattle.std.proofs.lemmas.List.Elements.{All-append, All-drop, All-filter, All-push, All-take, Contains-append_cases, Contains-append_left, Contains-append_right, Contains-get_or, Contains-push_cases}
 use Rattle.std.proofs.lemmas.Bool.Decides.{leb_tells}
 use Rattle.std.specs.List.{remove}
-use Rattle.std.specs.Prelude.{◌==◌, ◌⊎◌, All, Contains, Some, drop, filter, not, slice_get, slice_index, slice_index_or, take}
+use Rattle.std.specs.Prelude.{All, Contains, Some, drop, filter, not, slice_get, slice_index, slice_index_or, take}
 use Rattle.tide_heap.proofs.tide_core.machine_laws.steps.Paying.{in_filter}
 use Rattle.tide_heap.specs.tide_core.declared.machine.view.View.{View}
-use Rattle.tide_model.specs.Caller.{IsOwn, MakesCall}
+use Rattle.tide_model.specs.Caller.{MakesCall}
 use Rattle.tide_model.specs.Layout.{Layout}
 use Rattle.tide_model.specs.Prefix.{IsPrefix}
 use Rattle.tide_model.specs.Refused.{ShapeLists}
@@ -16,12 +16,12 @@ use Rattle.tide_model.specs.declared.entry.Event.{Event}
 use Rattle.tide_model.specs.declared.op.Op.{Op}
 use Rattle.tide_model.specs.declared.op.Op.TheVariants.{StrongSet, WeakSet}
 use Rattle.tide_model.specs.declared.op.Reply.{Reply}
-use Rattle.tide_weakref.proofs.Advances.{Advances, advances}
+use Rattle.tide_weakref.proofs.Advances.{advances}
 use Rattle.tide_weakref.proofs.CallLaws.{OthersLeave-prefix, advanced_prefix, strong_stays, weak_stays}
 use Rattle.tide_weakref.specs.Handles.{IsIn, StrongKeeps, WeakStands, op_sets_strong, op_sets_weak}
 use Rattle.tide_weakref.specs.Uses.{GoesOn, IsReference, reference, using}
 use Rattle.tide_weakref.specs.declared.weak.Role.TheVariants.{Reference, Registration}
-use Rattle.tide_weakref.specs.Jobs.{AreWithin, HasKeptJobs, HoldsJobs, KeepsJobs, IsOfLayout, Jobs, OthersSpare, Spares, Stands, handle_of}
+use Rattle.tide_weakref.specs.Jobs.{AreWithin, HasKeptJobs, HoldsJobs, Jobs, OthersSpare, Spares, handle_of}
 use Rattle.tide_weakref.specs.declared.weak.Weak.{Weak}
 
 -- an operation that sets no handle in use

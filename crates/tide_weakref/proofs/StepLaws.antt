@@ -1,7 +1,6 @@
 -- What each call of a realm leaves, by its mutator's views before it and after it.
-use Rattle.std.proofs.Common.{ℕ, ◌≡◌, ◌≢◌, ◌+◌, ◌<◌, refl, sym, ◌∙◌, ap, subst, Bool, true, false, List, [], ◌∷◌, ◌++◌, length, inl, inr}
-use Rattle.std.proofs.lemmas.Bool.{ne_eqb, eq-eqb, cases_eq}
-use Rattle.std.specs.Prelude.{◌==◌, ◌⊎◌, Contains, Option, None, Some, IfSome, if◌then◌else◌}
+use Rattle.std.proofs.Common.{ℕ, ◌≡◌, ◌≢◌, sym, ◌∙◌, ap, subst, true, false, List, inl, inr}
+use Rattle.std.proofs.lemmas.Bool.{cases_eq}
 use Rattle.tide_heap.proofs.tide_core.machine_laws.steps.OwnState.{own_after}
 use Rattle.tide_heap.specs.tide_core.machine.Own.{Own}
 use Rattle.tide_heap.specs.tide_core.declared.machine.view.View.{View}
@@ -9,9 +8,8 @@ use Rattle.tide_model.specs.Caller.{IsOwn, MakesCall}
 use Rattle.tide_model.specs.History.{state_after}
 use Rattle.tide_model.specs.Layout.{Layout}
 use Rattle.tide_model.specs.Numbers.{put_at}
-use Rattle.tide_model.specs.Prefix.{IsPrefix, prefix_refl}
+use Rattle.tide_model.specs.Prefix.{prefix_refl}
 use Rattle.tide_model.specs.Refused.{ShapeLists}
-use Rattle.tide_model.specs.Since.{since}
 use Rattle.tide_model.specs.declared.entry.Event.{Event}
 use Rattle.tide_model.specs.declared.op.Op.{Op}
 use Rattle.tide_model.specs.declared.op.Op.TheVariants.{Get, Move, Drop, StrongSet, WeakSet, WeakGet}
@@ -19,14 +17,14 @@ use Rattle.tide_model.specs.declared.op.Refusal.TheVariants.{NotCell}
 use Rattle.tide_model.specs.declared.op.Reply.{Reply}
 use Rattle.tide_model.specs.declared.op.Reply.TheVariants.{Seen, Refused}
 use Rattle.tide_model.specs.declared.val.Val.{Val}
-use Rattle.tide_model.specs.declared.val.Val.TheVariants.{Empty, Int, Cell}
-use Rattle.tide_weakref.proofs.Advances.{Advances, advances, call_event, same_own}
+use Rattle.tide_model.specs.declared.val.Val.TheVariants.{Empty, Cell}
+use Rattle.tide_weakref.proofs.Advances.{Advances, advances, same_own}
 use Rattle.tide_weakref.proofs.HandleLaws.{freed_none, put_here}
 use Rattle.tide_weakref.proofs.OperationLaws.{dropped, got, got_leaves, moved, put_elsewhere, refused_leaves, set_leaves, stays_alive, stays_gone, strong_set, weak_get, weak_set}
 use Rattle.tide_weakref.proofs.StandingLaws.{LeavesJobs, holds_called}
-use Rattle.tide_weakref.specs.Handles.{IsFreedIn, IsGone, StrongKeeps, WeakStands, is_cell, op_sets_weak, sets_weak}
-use Rattle.tide_weakref.specs.Jobs.{HasKeptJobs, HoldsJobs, Jobs, KeepsJobs, OthersSpare}
-use Rattle.tide_weakref.specs.Stepping.{HasHeldJobs, HoldsNow, KeepsTargets, SameBut, WasLoaded, cell_in, held_in}
+use Rattle.tide_weakref.specs.Handles.{IsFreedIn, IsGone, StrongKeeps, is_cell, op_sets_weak}
+use Rattle.tide_weakref.specs.Jobs.{HasKeptJobs, HoldsJobs, Jobs, KeepsJobs}
+use Rattle.tide_weakref.specs.Stepping.{HasHeldJobs, HoldsNow, KeepsTargets, SameBut, held_in}
 
 -- what stands now, stood
 pub held_now : (layout : Layout) (v : View) (jobs : Jobs) → HoldsNow layout v jobs → HasHeldJobs layout v jobs

@@ -1,12 +1,11 @@
 -- Which weak handles are in use, by how often each is counted.
-use Rattle.std.proofs.Common.{ℕ, zero, suc, ◌≡◌, ◌≢◌, ◌+◌, ◌-◌, ◌<◌, ◌≤◌, arith, refl, sym, ◌∙◌, ap, subst, Bool, true, false, List, [], ◌∷◌, ◌++◌, length, inl, inr, append_assoc, append-nil, length-append}
+use Rattle.std.proofs.Common.{ℕ, zero, suc, ◌≡◌, ◌≢◌, ◌+◌, ◌<◌, ◌≤◌, arith, refl, sym, ◌∙◌, ap, subst, Bool, true, false, List, [], ◌∷◌, ◌++◌, length, inl, inr, append_assoc, append-nil, length-append}
 use Rattle.std.proofs.lemmas.Bool.{eq-eqb, ltb-true}
-use Rattle.std.proofs.lemmas.Bool.Decides.{nat_tests}
 use Rattle.std.proofs.lemmas.List.Elements.{filter-append}
 use Rattle.std.proofs.lemmas.List.Sums.{get_or-le-sum_by, sum_by-cons, sum_by_push}
-use Rattle.std.proofs.lemmas.Option.{slice_get_cases, slice_get_within}
+use Rattle.std.proofs.lemmas.Option.{slice_get_cases}
 use Rattle.std.specs.List.{remove}
-use Rattle.std.specs.Prelude.{◌==◌, Contains, Option, None, Some, IfSome, count_by, filter, if◌then◌else◌, not, nat_lt, slice_get, slice_index_or}
+use Rattle.std.specs.Prelude.{◌==◌, Contains, Some, count_by, filter, if◌then◌else◌, not, nat_lt, slice_get, slice_index_or}
 use Rattle.tide_weakref.specs.declared.weak.Weak.{Weak}
 
 -- the one that is counted is counted once at least

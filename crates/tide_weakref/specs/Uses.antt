@@ -2,7 +2,6 @@
 use Rattle.std.specs.Prelude.{ℕ, ◌≡◌, ◌≢◌, false, List, [], ◌∷◌, ◌++◌, length, Contains, if◌then◌else◌}
 use Rattle.tide_model.specs.Numbers.{is_among}
 use Rattle.tide_weakref.specs.Jobs.{Jobs}
-use Rattle.tide_weakref.specs.declared.weak.Role.{Role}
 use Rattle.tide_weakref.specs.declared.weak.Role.TheVariants.{Reference, Registration}
 use Rattle.tide_weakref.specs.declared.weak.Weak.{Weak}
 

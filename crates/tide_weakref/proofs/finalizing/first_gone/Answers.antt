@@ -1,13 +1,12 @@
 -- One more registration is passed, or its target is gone.
-use Rattle.std.proofs.Common.{ℕ, ◌≡◌, ◌+◌, ◌<◌, ◌≤◌, ◌∙◌, arith, refl, rules, sym, ap, subst, List, [], ◌∷◌, ◌++◌, length, take_all}
-use Rattle.std.specs.Prelude.{None, Option, Some, slice_get, take}
+use Rattle.std.proofs.Common.{ℕ, ◌≡◌, ◌+◌, ◌∙◌, arith, refl, sym, ap, subst, List, length, take_all}
+use Rattle.std.specs.Prelude.{None, Some, slice_get, take}
 use Rattle.tide_mutator.specs.calls.Viewed.{view_of}
 use Rattle.tide_weakref.proofs.CalledLaws.{stepped_mine, stepped_none, stepped_then}
 use Rattle.tide_weakref.proofs.ClosingLaws.{same_but_then}
 use Rattle.tide_weakref.proofs.ReadingLaws.{first_is_gone, passed_held, passed_other, tells_none, tells_some}
 use Rattle.tide_weakref.proofs.StepLaws.{held_now}
 use Rattle.tide_weakref.specs.Delivered.{AllHeldCells}
-use Rattle.tide_weakref.specs.Jobs.{Jobs}
 use Rattle.tide_weakref.specs.Stepping.{WasLoaded}
 use Rattle.tide_weakref.specs.declared.range.Range16.{Range16}
 use Rattle.tide_weakref.specs.declared.weak.Weak.{Weak}

@@ -1,5 +1,5 @@
 -- One more handle is emptied.
-use Rattle.std.proofs.Common.{ℕ, ◌≡◌, ◌≢◌, ◌+◌, ◌<◌, ◌≤◌, ◌∙◌, arith, refl, sym, ap, subst, inl, inr}
+use Rattle.std.proofs.Common.{ℕ, ◌≡◌, ◌+◌, ◌∙◌, arith, refl, sym, ap, subst, inl, inr}
 use Rattle.std.proofs.lemmas.Bool.Decides.{leb_tells}
 use Rattle.tide_model.specs.History.{state_after}
 use Rattle.tide_model.specs.Prefix.{prefix_refl}
@@ -11,7 +11,6 @@ use Rattle.tide_weakref.proofs.ClosingLaws.{spare_before}
 use Rattle.tide_weakref.proofs.EmptyingLaws.{emptied_here, emptied_still, kept_still}
 use Rattle.tide_weakref.proofs.StepLaws.{step_set}
 use Rattle.tide_model.specs.declared.op.Op.TheVariants.{StrongSet}
-use Rattle.tide_weakref.specs.Handles.{IsIn}
 use Rattle.tide_weakref.proofs.jobs.empty.Goals as goal
 
 pub loop-place-init : goal.loop-place-init

@@ -1,5 +1,5 @@
 -- A weak handle is set to what a register holds, and read.
-use Rattle.std.proofs.Common.{refl, sym}
+use Rattle.std.proofs.Common.{refl}
 use Rattle.tide_model.specs.declared.op.Op.TheVariants.{WeakSet}
 use Rattle.tide_mutator.specs.calls.Viewed.{view_of}
 use Rattle.tide_weakref.proofs.AimLaws.{was_aimed}

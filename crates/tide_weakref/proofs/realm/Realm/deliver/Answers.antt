@@ -1,8 +1,8 @@
 -- The first registration whose target is gone is taken out.
-use Rattle.std.proofs.Common.{ℕ, ◌≡◌, ◌+◌, ◌<◌, ◌≤◌, ◌∙◌, arith, refl, sym, ap, subst, List}
+use Rattle.std.proofs.Common.{ℕ, ◌≡◌, ◌<◌, ◌∙◌, refl, sym, ap, subst}
 use Rattle.std.proofs.lemmas.List.Elements.{All-contains}
 use Rattle.std.specs.List.{remove}
-use Rattle.std.specs.Prelude.{MatchOption, None, Option, Some, slice_get}
+use Rattle.std.specs.Prelude.{MatchOption, None, Option, Some}
 use Rattle.tide_mutator.specs.calls.Viewed as works
 use Rattle.tide_weakref.proofs.CalledLaws.{stepped_mine, stepped_seen, stepped_then, worked_by}
 use Rattle.tide_weakref.proofs.ClosingLaws.{closes, is_in, same_but_then, uses_are}

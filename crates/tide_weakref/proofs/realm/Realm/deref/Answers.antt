@@ -1,9 +1,9 @@
 -- What a reference leads to is told, and kept.
-use Rattle.std.proofs.Common.{ℕ, ◌≡◌, ◌≢◌, ◌+◌, ◌<◌, ◌≤◌, ◌∙◌, arith, refl, sym, ap, subst, Bool, true, false}
+use Rattle.std.proofs.Common.{ℕ, ◌≡◌, ◌+◌, ◌<◌, ◌∙◌, arith, refl, sym, ap, subst}
 use Rattle.std.proofs.lemmas.List.Elements.{All-contains}
-use Rattle.std.specs.Prelude.{Contains, Err, None, Ok, Option, Some}
+use Rattle.std.specs.Prelude.{None, Ok, Some}
 use Rattle.tide_model.specs.Layout.{Layout}
-use Rattle.tide_model.specs.Prefix.{IsPrefix, prefix_refl, prefix_trans}
+use Rattle.tide_model.specs.Prefix.{prefix_refl}
 use Rattle.tide_model.specs.declared.op.Op.TheVariants.{Drop, Move}
 use Rattle.tide_model.specs.declared.val.Val.{Val}
 use Rattle.tide_model.specs.declared.val.Val.TheVariants.{Cell, Empty}
@@ -15,7 +15,7 @@ use Rattle.tide_weakref.proofs.KeepLaws.{may_is, may_not}
 use Rattle.tide_weakref.proofs.StandingLaws.{goes_keeping, goes_same}
 use Rattle.tide_weakref.proofs.StepLaws.{held_kept, held_now, kept_now, scratch_kept, step_dropped, step_holds, step_moved, step_targets}
 use Rattle.tide_weakref.specs.Dereferenced.{IsDereferenced, gone, kept_full, leads}
-use Rattle.tide_weakref.specs.Jobs.{Jobs, KeepsJobs, handle_of}
+use Rattle.tide_weakref.specs.Jobs.{Jobs, KeepsJobs}
 use Rattle.tide_weakref.specs.Stepping.{held_in}
 use Rattle.tide_weakref.specs.Uses.{GoesOn, IsFullFor, keeping, reference, with_cell}
 use Rattle.tide_weakref.specs.Viewed.{jobs_of, view_of}

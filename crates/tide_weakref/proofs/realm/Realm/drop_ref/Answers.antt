@@ -1,5 +1,5 @@
 -- The weak handle of a reference isn't in use any more.
-use Rattle.std.proofs.Common.{◌≡◌, ℕ, sym, subst}
+use Rattle.std.proofs.Common.{sym, subst}
 use Rattle.std.proofs.lemmas.Bool.{ne_eqb}
 use Rattle.std.specs.Prelude.{filter, not}
 use Rattle.tide_weakref.proofs.ClosingLaws.{uses_are}

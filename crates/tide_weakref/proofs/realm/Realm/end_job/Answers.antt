@@ -1,5 +1,5 @@
 -- The job ends: its cells aren't kept any more.
-use Rattle.std.proofs.Common.{ℕ, ◌≡◌, ◌+◌, ◌<◌, ◌≤◌, ◌∙◌, arith, refl, sym, ap, subst, []}
+use Rattle.std.proofs.Common.{arith, refl, sym, subst, []}
 use Rattle.tide_mutator.specs.calls.Viewed as works
 use Rattle.tide_weakref.proofs.CalledLaws.{worked_by}
 use Rattle.tide_weakref.proofs.EmptyingLaws.{kept_nothing}

@@ -1,5 +1,5 @@
 -- The cell that the scratch register holds is kept.
-use Rattle.std.proofs.Common.{ℕ, ◌≡◌, ◌+◌, ◌<◌, ◌≤◌, ◌∙◌, arith, refl, sym, ap, subst, Bool, true, false, List, [], ◌∷◌, ◌++◌, length}
+use Rattle.std.proofs.Common.{ℕ, ◌∙◌, refl, sym, subst}
 use Rattle.tide_model.specs.declared.op.Op.TheVariants.{StrongSet}
 use Rattle.tide_weakref.proofs.CalledLaws.{stepped_none}
 use Rattle.tide_weakref.proofs.KeepLaws.{has_room, kept_more, keeping_more, keeping_same}

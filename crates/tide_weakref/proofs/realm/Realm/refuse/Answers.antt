@@ -1,5 +1,5 @@
 -- Whether a register holds a cell is asked of its slot.
-use Rattle.std.proofs.Common.{ℕ, ◌≡◌, ◌<◌, ◌∙◌, refl, sym, ap, subst, Bool, true, false}
+use Rattle.std.proofs.Common.{ℕ, ◌∙◌, refl, sym, ap, true, false}
 use Rattle.std.specs.Prelude.{not}
 use Rattle.tide_model.specs.declared.op.Op.TheVariants.{Get}
 use Rattle.tide_mutator.specs.calls.Viewed as works

@@ -1,12 +1,12 @@
 -- A cell is registered, or that is refused.
-use Rattle.std.proofs.Common.{ℕ, ◌≡◌, ◌+◌, ◌-◌, ◌<◌, ◌≤◌, ◌∙◌, arith, refl, sym, ap, subst, Bool, true, false}
+use Rattle.std.proofs.Common.{ℕ, ◌+◌, arith, refl, sym, subst}
 use Rattle.std.specs.Prelude.{Err}
 use Rattle.tide_mutator.specs.calls.Viewed as works
 use Rattle.tide_weakref.proofs.CalledLaws.{stepped_seen, stepped_then, worked_by}
 use Rattle.tide_weakref.proofs.ClosingLaws.{closes_after, is_apart, is_in, registered_full, registered_not_cell, registered_one, spare_before, uses_more}
 use Rattle.tide_weakref.proofs.StandingLaws.{goes_same, goes_using, holds_using}
 use Rattle.tide_weakref.proofs.StepLaws.{held_kept}
-use Rattle.tide_weakref.specs.Jobs.{Jobs, OthersSpare}
+use Rattle.tide_weakref.specs.Jobs.{OthersSpare}
 use Rattle.tide_weakref.specs.Registered.{IsRegistered}
 use Rattle.tide_weakref.specs.Stepping.{HoldsNow, held_in}
 use Rattle.tide_weakref.specs.Uses.{GoesOn, registration}

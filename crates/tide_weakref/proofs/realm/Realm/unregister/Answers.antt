@@ -1,5 +1,5 @@
 -- Those of the registrations with the token are not in use any more.
-use Rattle.std.proofs.Common.{◌≡◌, ℕ, refl, sym, subst}
+use Rattle.std.proofs.Common.{refl, sym, subst}
 use Rattle.std.specs.Prelude.{filter, not}
 use Rattle.tide_weakref.proofs.ClosingLaws.{uses_are}
 use Rattle.tide_weakref.proofs.StandingLaws.{kept_fewer, stays_reference}

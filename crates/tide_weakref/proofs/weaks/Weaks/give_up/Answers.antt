@@ -1,6 +1,6 @@
 -- What is meant is taken out, and counted.
 use Rattle.std.proofs.lemmas.List.Edits.{length-remove}
-use Rattle.std.proofs.Common.{ℕ, ◌≡◌, ◌<◌, ◌≤◌, ◌+◌, ◌-◌, ◌∙◌, arith, refl, rules, subst, sym, ap, length, List, vec_len}
+use Rattle.std.proofs.Common.{◌<◌, ◌+◌, ◌∙◌, arith, refl, subst, sym, ap, length, List}
 use Rattle.tide_weakref.proofs.WeakLaws.{Passed, got_index, passed_all, passed_by, passed_few, passed_none, passed_out}
 use Rattle.tide_weakref.specs.Roles.{is_chosen}
 use Rattle.tide_weakref.specs.declared.weak.Weak.{Weak}

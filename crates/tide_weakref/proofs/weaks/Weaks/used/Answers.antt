@@ -1,6 +1,4 @@
 -- A handle in use is one of the range.
-use Rattle.std.proofs.Common.{ℕ, ◌≡◌, ◌<◌, ◌∙◌, refl, sym, rules}
-use Rattle.std.specs.Prelude.{Some, slice_get}
 use Rattle.tide_weakref.proofs.WeakLaws.{contains_got, got_index, used_is_below}
 use Rattle.tide_weakref.proofs.weaks.Weaks.used.Goals as goal
 
