@@ -93,8 +93,8 @@ pub record KeepsJobs (layout : Layout) (who : ℕ) (jobs : Jobs) (seen mine : Li
   pub holds : HoldsJobs layout who jobs seen mine
   pub scratch : registers_of layout who seen jobs.scratch ≡ Empty
 
--- It kept them after a beginning of what its mutator has seen, in which all of the mutator's calls are: so it does after
--- the next call.
+-- It kept them after a beginning of what its mutator has seen, in which all of the mutator's calls are: so it does
+-- after the next call.
 pub record HasKeptJobs (layout : Layout) (v : View) (jobs : Jobs) : Type 0 where
   pub at : List Event
   pub earlier : IsPrefix at v.seen

@@ -77,7 +77,8 @@ impl Realm {
             self.old self.new }
         ensures keeps_jobs { KeepsJobs heap.now.key.layout (view_of self.new).who (jobs_of self.new)
             (view_of self.new).seen (view_of self.new).mine }
-        ensures registers { held_in heap.now.key.layout (view_of self.new) ≡ held_in heap.now.key.layout (view_of self.old) }
+        ensures registers { held_in heap.now.key.layout (view_of self.new)
+            ≡ held_in heap.now.key.layout (view_of self.old) }
         ensures answers { OthersSpare (view_of self.old).who (jobs_of self.old) (view_of self.new).seen →
             IsRegistered src (held_in heap.now.key.layout (view_of self.old) src) held token (jobs_of self.old)
             (jobs_of self.new) result }
@@ -123,8 +124,10 @@ impl Realm {
             self.old self.new }
         ensures keeps_jobs { KeepsJobs heap.now.key.layout (view_of self.new).who (jobs_of self.new)
             (view_of self.new).seen (view_of self.new).mine }
-        ensures registers { held_in heap.now.key.layout (view_of self.new) ≡ held_in heap.now.key.layout (view_of self.old) }
-        ensures answers { IsDelivered (view_of self.old) (view_of self.new) (jobs_of self.old) (jobs_of self.new) result }
+        ensures registers { held_in heap.now.key.layout (view_of self.new)
+            ≡ held_in heap.now.key.layout (view_of self.old) }
+        ensures answers { IsDelivered (view_of self.old) (view_of self.new) (jobs_of self.old) (jobs_of self.new)
+            result }
     {
         let found = first_gone(&mut self.mutator, heap, self.scratch, &self.weaks, gate);
         let_go(&mut self.mutator, heap, self.scratch, gate);

@@ -34,7 +34,8 @@ fn empty<S: ShapeTable, T: Turnstile>(
         mutator.old mutator.new }
     ensures registers { held_in heap.now.key.layout (works.view_of mutator.new)
         ≡ held_in heap.now.key.layout (works.view_of mutator.old) }
-    ensures kept_jobs { (jobs : Jobs) → jobs.cells ≡ [] → HasKeptJobs heap.now.key.layout (works.view_of mutator.old) jobs →
+    ensures kept_jobs { (jobs : Jobs) → jobs.cells ≡ [] →
+        HasKeptJobs heap.now.key.layout (works.view_of mutator.old) jobs →
         HasKeptJobs heap.now.key.layout (works.view_of mutator.new) jobs }
     ensures emptied { (jobs : Jobs) → jobs.strong.first ≡ handles.first → handles.count ≤ jobs.strong.count →
         OthersSpare (works.view_of mutator.old).who jobs (works.view_of mutator.new).seen →
@@ -74,7 +75,8 @@ impl Realm {
             self.old.mutator self.new.mutator }
         ensures jobs { jobs_of self.new ≡ keeping (jobs_of self.old) cell }
         ensures holds { HoldsNow heap.now.key.layout (view_of self.new) (jobs_of self.new) }
-        ensures registers { held_in heap.now.key.layout (view_of self.new) ≡ held_in heap.now.key.layout (view_of self.old) }
+        ensures registers { held_in heap.now.key.layout (view_of self.new)
+            ≡ held_in heap.now.key.layout (view_of self.old) }
         ensures targets { TellsTargets heap.now.key.layout (view_of self.old) (view_of self.new) }
     {
         if self.kept.has(cell) {
@@ -95,10 +97,12 @@ impl Realm {
         requires ready { IsReady heap.now.table.shared.table_id heap.now.key.layout self.old }
         ensures worked { HasWorked heap.now.table.shared.table_id heap.now.key.layout (S.lists heap.now.key.shapes)
             self.old self.new }
-        ensures registers { held_in heap.now.key.layout (view_of self.new) ≡ held_in heap.now.key.layout (view_of self.old) }
+        ensures registers { held_in heap.now.key.layout (view_of self.new)
+            ≡ held_in heap.now.key.layout (view_of self.old) }
         ensures emptied { OthersSpare (view_of self.old).who (jobs_of self.old) (view_of self.new).seen →
             (place : ℕ) → place < length (jobs_of self.old).cells →
-            (state_after heap.now.key.layout (view_of self.new).seen).strong ((jobs_of self.old).strong.first + place) ≡ Empty }
+            (state_after heap.now.key.layout (view_of self.new).seen).strong ((jobs_of self.old).strong.first + place)
+            ≡ Empty }
         ensures ended { jobs_of self.new ≡ record (jobs_of self.old) { cells = [] } }
     {
         let handles = Range16 {

@@ -40,7 +40,8 @@ impl Realm {
             self.old self.new }
         ensures keeps_jobs { KeepsJobs heap.now.key.layout (view_of self.new).who (jobs_of self.new)
             (view_of self.new).seen (view_of self.new).mine }
-        ensures registers { held_in heap.now.key.layout (view_of self.new) ≡ held_in heap.now.key.layout (view_of self.old) }
+        ensures registers { held_in heap.now.key.layout (view_of self.new)
+            ≡ held_in heap.now.key.layout (view_of self.old) }
         ensures jobs { jobs_of self.new ≡ jobs_of self.old }
         ensures why { result ≡ refusal_where_full src (held_in heap.now.key.layout (view_of self.old) src) }
     {
@@ -70,9 +71,11 @@ impl Realm {
             self.old self.new }
         ensures keeps_jobs { KeepsJobs heap.now.key.layout (view_of self.new).who (jobs_of self.new)
             (view_of self.new).seen (view_of self.new).mine }
-        ensures registers { held_in heap.now.key.layout (view_of self.new) ≡ held_in heap.now.key.layout (view_of self.old) }
+        ensures registers { held_in heap.now.key.layout (view_of self.new)
+            ≡ held_in heap.now.key.layout (view_of self.old) }
         ensures answers { OthersSpare (view_of self.old).who (jobs_of self.old) (view_of self.new).seen →
-            IsReferenced src (held_in heap.now.key.layout (view_of self.old) src) (jobs_of self.old) (jobs_of self.new) result }
+            IsReferenced src (held_in heap.now.key.layout (view_of self.old) src) (jobs_of self.old)
+            (jobs_of self.new) result }
         ensures made { IfOk result (IsReference (jobs_of self.new)) }
         ensures refused { IfErr result (λ _. jobs_of self.new ≡ jobs_of self.old) }
     {
@@ -157,7 +160,8 @@ impl Realm {
           uses = filter (λ one. not (one.at == r)) (jobs_of self.old).uses;
         } }
         ensures ready { (id : TableId) → (layout : Layout) → IsReady id layout self.old → IsReady id layout self.new }
-        ensures others { (other : ℕ) → other ≢ r → IsReference (jobs_of self.old) other → IsReference (jobs_of self.new) other }
+        ensures others { (other : ℕ) → other ≢ r → IsReference (jobs_of self.old) other →
+            IsReference (jobs_of self.new) other }
     {
         self.weaks.give_up(Chosen::Number(r));
     }

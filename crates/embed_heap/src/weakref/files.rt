@@ -1,5 +1,6 @@
 //! A script's files: the script holds a cell for each, a cache finds that again by a weak reference, and a registry
 //! closes the file once the cell is gone.
+ghost use Rattle.embed_heap.specs.weakref.Works.{Works};
 ghost use Rattle.std.specs.Prelude.{◌≡◌, ◌<◌, IfSome};
 ghost use Rattle.tide.specs.tide_weakref.Uses.{GoesOn, IsReference};
 ghost use Rattle.tide.specs.tide_weakref.Viewed.{jobs_of};
@@ -11,7 +12,9 @@ use tide::Val;
 /// Puts the cell in a register into the cache, and has the registry close this file once the cell is gone. Answers the
 /// number of the weak reference.
 fn enter(engine: &mut Engine, src: u8, file: u32) -> Option<u32>
+    requires works { Works engine.old }
     requires register { src < 3 }
+    ensures works { Works engine.new }
     ensures made { IfSome result (IsReference (jobs_of engine.new.realm)) }
     ensures goes_on { GoesOn (jobs_of engine.old.realm) (jobs_of engine.new.realm) }
 {
@@ -28,6 +31,8 @@ fn enter(engine: &mut Engine, src: u8, file: u32) -> Option<u32>
 
 /// The files that are to be closed now, two at most.
 fn to_close(engine: &mut Engine) -> [Option<u32>; 2]
+    requires works { Works engine.old }
+    ensures works { Works engine.new }
     ensures goes_on { GoesOn (jobs_of engine.old.realm) (jobs_of engine.new.realm) }
 {
     let first = engine.deliver();

@@ -112,7 +112,8 @@ pub fn number_is_used_again(alloc: Global) -> Option<bool> {
     Some(full && again == r && leads)
 }
 
-/// An old cell that was let go isn't freed by an Eden cycle, and is by a full one: only then its registration is delivered.
+/// An old cell that was let go isn't freed by an Eden cycle, and is by a full one: only then its registration is
+/// delivered.
 pub fn old_target_waits_for_a_full_cycle(alloc: Global) -> Option<bool> {
     let mut engine = Engine::start(alloc, 0, 1, 1)?;
     engine.alloc(0);

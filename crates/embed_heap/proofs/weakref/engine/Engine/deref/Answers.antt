@@ -3,8 +3,8 @@ use Rattle.embed_heap.proofs.weakref_laws.Engines.{part_worked}
 use Rattle.tide.specs.tide_shape.Lists.{lists_of}
 use Rattle.embed_heap.proofs.weakref.engine.Engine.deref.Goals as goal
 
-pub invariant_of-self-clause-takes_part : goal.invariant_of-self-clause-takes_part
-invariant_of-self-clause-takes_part c =
+pub returns-clause-works : goal.returns-clause-works
+returns-clause-works c =
     let engine = c.args.self.now in
     part_worked engine.heap.table.shared.table_id engine.heap.key.layout (lists_of engine.heap.key.shapes)
-    engine.collector.seat.me.0.period engine.realm c.deref.new.self c.deref.ensures.worked engine.takes_part
+    engine.collector.seat.me.0.period engine.realm c.deref.new.self c.deref.ensures.worked c.requires.works

@@ -6,10 +6,10 @@ use Rattle.tide.specs.tide_mutator.owed.Calling.{kept}
 use Rattle.tide.specs.tide_weakref.Jobs.{Jobs}
 use Rattle.embed_heap.proofs.weakref.engine.Engine.unregister.Goals as goal
 
-pub invariant_of-self-clause-takes_part : goal.invariant_of-self-clause-takes_part
-invariant_of-self-clause-takes_part c =
+pub returns-clause-works : goal.returns-clause-works
+returns-clause-works c =
     let engine = c.args.self.now in
     let id = engine.heap.table.shared.table_id in
     let layout = engine.heap.key.layout in
     part_kept id layout engine.collector.seat.me.0.period engine.realm c.unregister.new.self (ap kept c.unregister.ensures.same.2)
-    (c.unregister.ensures.ready id layout engine.takes_part.ready) (ap (λ (j : Jobs). j.scratch) c.unregister.ensures.jobs) engine.takes_part
+    (c.unregister.ensures.ready id layout c.requires.works.ready) (ap (λ (j : Jobs). j.scratch) c.unregister.ensures.jobs) c.requires.works
