@@ -1,5 +1,5 @@
 -- A new table meets the rule: nothing lies there, and a ticket is due everywhere.
-use Rattle.std.proofs.Common.{ℕ, zero, suc, ◌≡◌, ◌<◌, Bool, true, false, arith, refl, sym, ◌∙◌, ap, subst, List, [], ◌∷◌, length, map, replicate, inl, true≢false}
+use Rattle.std.proofs.Common.{ℕ, zero, suc, ◌≡◌, ◌<◌, Bool, false, arith, refl, sym, ◌∙◌, ap, subst, List, [], ◌∷◌, length, map, replicate, inl, true≢false}
 use Rattle.std.proofs.lemmas.List.{length-map, length-replicate}
 use Rattle.std.specs.Prelude.{slice_index}
 use lib.ListN.{get_elem?}

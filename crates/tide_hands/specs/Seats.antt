@@ -1,5 +1,5 @@
 -- A seat between two calls, and what a call tells of it.
-use Rattle.std.specs.Prelude.{ℕ, ◌≡◌, ◌+◌, Bool, true, false, [], Option, None, Some}
+use Rattle.std.specs.Prelude.{ℕ, ◌≡◌, ◌+◌, true, false, [], Option, None, Some}
 use Rattle.atomic_table.specs.Table.{Me}
 use Rattle.tide_hands.specs.declared.found.Found.{Found}
 use Rattle.tide_hands.specs.declared.found.Found.TheVariants.{Nothing, Ticket, End}
