@@ -66,7 +66,7 @@ returns-clause-of g c =
 pub returns-clause-begun : goal.returns-clause-begun
 returns-clause-begun g c =
     let run = c.run-self.ensures in
-    let some = c.requires.ticket.tells.some in (refl, (omega (arith, run, some)), refl)
+    let some = c.requires.ticket.tells.some in (refl, ((omega (arith, run, some)), refl))
 
 pub returns-clause-same : goal.returns-clause-same
 returns-clause-same g c =
