@@ -10,10 +10,11 @@
 //! `tide_hands`. It knows no step.
 #![tactic(auto)]
 
+mod helper;
 mod member;
 mod standing;
 // over those above it
-mod helper;
+mod helping;
 mod keeper;
 mod parts;
 // over those above it
