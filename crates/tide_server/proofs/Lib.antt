@@ -1,4 +1,4 @@
 pub mod Lists
 pub mod Notes
-pub mod Parts
 pub mod Tickets
+pub mod Working

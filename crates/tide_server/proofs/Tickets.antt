@@ -22,6 +22,6 @@ TicketTells-first layout shapes v run started some = record {
         ∙ sym (ap (λ (n : ℕ). n + 1) started.period);
   };
   some = some;
-  marking = marks_read layout shapes (heap_of layout v.words) [] started.wave.marking.reads
+  marking = sym (marks_read layout shapes (heap_of layout v.words) [] started.wave.marking.reads)
       ∙ sym (ap (λ (h : List Event). marks_after layout (h ++ open_entry run v ∷ [])) started.seen);
 }

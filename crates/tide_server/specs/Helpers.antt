@@ -1,5 +1,5 @@
 -- A helper of a standing heap: a visitor between two of its calls.
-use Rattle.std.specs.Prelude.{ℕ, ◌≡◌, ◌≤◌}
+use Rattle.std.specs.Prelude.{◌≡◌, ◌≤◌}
 use Rattle.atomic_table.specs.Seated.{TableId}
 use Rattle.tide_model.specs.Layout.{Layout, cell_count}
 use Rattle.tide_posts.specs.Name.{who_at}

@@ -1,5 +1,5 @@
 -- The keeper of a standing heap.
-use Rattle.std.specs.Prelude.{◌≡◌, false}
+use Rattle.std.specs.Prelude.{◌≡◌}
 use Rattle.atomic_table.specs.Seated.{TableId}
 use Rattle.tide_model.specs.Layout.{Layout}
 use Rattle.tide_server.specs.declared.keeper.Keeper.{Keeper}

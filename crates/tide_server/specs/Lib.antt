@@ -1,3 +1,4 @@
+pub mod AtWork
 pub mod Helpers
 pub mod Keepers
 pub mod Members

@@ -1,45 +1,24 @@
 -- A member of a standing heap: a mutator between two of its calls.
-use Rattle.std.specs.Prelude.{ℕ, ◌≡◌, ◌+◌, ◌<◌, ◌≤◌, ◌==◌, ◌&&◌, ◌||◌, ◌⊎◌, Bool, true, false, List, Some}
+use Rattle.std.specs.Prelude.{ℕ, ◌≡◌, ◌<◌, ◌==◌, ◌&&◌, ◌||◌, ◌⊎◌, Bool, true, false, List, MatchBool, Some}
 use Rattle.atomic_table.specs.Seated.{TableId}
 use Rattle.tide_posts.specs.tide_heap.tide_core.declared.machine.view.View.{View}
-use Rattle.tide_model.specs.Caller.{IsOwn}
 use Rattle.tide_model.specs.Layout.{Layout}
-use Rattle.tide_model.specs.Periods.{open_count}
 use Rattle.tide_model.specs.Script.{retry_of}
 use Rattle.tide_model.specs.declared.entry.Event.{Event}
 use Rattle.tide_model.specs.declared.op.Op.{Op}
 use Rattle.tide_mutator.specs.calls.Viewed.{table_of, view_of}
 use Rattle.tide_mutator.specs.owed.Standing.{claims_of}
-use Rattle.tide_posts.specs.Shares.{IsSharing}
+use Rattle.tide_server.specs.AtWork.{IsAtWork, IsParked}
 use Rattle.tide_server.specs.declared.member.Member.{Member}
 
--- It stands still between two parts: it has stopped in the part of its last note, what it has seen has no other calls of
--- its own than those that it made, and no more openings than that part's number.
-pub record IsParked (v : View) : Type 0 where
-  pub rests : v.runs ≡ false
-  pub begun : v.begun ≤ v.period
-  pub own : IsOwn v.who v.seen v.mine
-  pub opens : open_count v.seen ≤ v.period
-
--- It is in the midst of its part: it has made some calls of it, and has so many left; `ended` says whether the last one
--- ended its share.
-pub record IsAtWork (v : View) (left : ℕ) (ended : Bool) : Type 0 where
-  pub runs : v.runs ≡ true
-  pub begun : v.begun ≡ v.ticket
-  pub once : v.period < v.ticket
-  pub made : ℕ
-  pub count : made + left ≡ v.run
-  pub few : v.run ≤ 4294967295
-  pub sharing : IsSharing v.who v.ticket v.run v.seen v.mine made ended
-  pub born : v.born ≤ made
-  pub visits : v.visits ≡ 0
-
--- a mutator of the heap with this layout and this table, which has a seat of this table of hands
+-- A mutator of the heap with this layout and this table, which has a seat of this table of hands. It is in the midst of
+-- its part, or parked.
 pub record IsMemberOf (layout : Layout) (heap hands : TableId) (m : Member) : Type 0 where
   pub table : table_of m.mutator ≡ heap
   pub seated : m.seat.seat.table_id ≡ hands
   pub named : m.seat.seat.me.0.name ≡ record { layout = layout; table_id = heap }
   pub is_mutator : (view_of m.mutator).who < layout.mutators
+  pub stands : MatchBool m.works (IsAtWork (view_of m.mutator) m.left m.ended) (IsParked (view_of m.mutator))
 
 -- it may make one more call of its part
 abbrev pub MayMake : Member → Type 0

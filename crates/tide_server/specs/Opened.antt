@@ -1,8 +1,7 @@
 -- What a standing heap begins with.
-use Rattle.std.specs.Prelude.{ℕ, suc, ◌≡◌, ◌+◌, false, List, [], ◌∷◌}
+use Rattle.std.specs.Prelude.{ℕ, suc, ◌≡◌, List, [], ◌∷◌}
 use Rattle.atomic_table.specs.Seated.{TableId}
 use Rattle.tide_posts.specs.tide_heap.tide_core.machine.Frozen.{newcomer}
-use Rattle.tide_posts.specs.tide_heap.tide_core.machine.World.{first_visitor}
 use Rattle.tide_model.specs.Layout.{Layout}
 use Rattle.tide_mutator.specs.calls.Viewed.{view_of}
 use Rattle.tide_server.specs.Helpers.{IsHelperOf}

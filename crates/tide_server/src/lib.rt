@@ -10,10 +10,11 @@
 //! `tide_hands`. It knows no step.
 #![tactic(auto)]
 
+mod helper;
 mod member;
 mod standing;
 // these stand on those listed before
-mod helper;
+mod helping;
 mod keeper;
 mod parts;
 // these stand on those listed before

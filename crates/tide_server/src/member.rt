@@ -1,9 +1,8 @@
 //! `Member`: a mutator of a standing heap, on a thread of its caller's. It makes no call.
-ghost use Rattle.std.specs.Prelude.{◌≡◌, is_some, length, true, MatchBool};
+ghost use Rattle.std.specs.Prelude.{◌≡◌, is_some, length, true};
 ghost use Rattle.tide_model.specs.Script.{retry_of};
 ghost use Rattle.tide_mutator.specs.owed.Standing.{claims_of};
 ghost use Rattle.tide_mutator.specs.calls.Viewed.{view_of};
-ghost use Rattle.tide_server.specs.Members.{IsAtWork, IsParked};
 
 use tide_mutator::Mutator;
 use tide_posts::{HeapName, MemberSeat, Note, Ticket};
@@ -27,7 +26,6 @@ pub struct Member {
     ghost period_is: { period ≡ (view_of mutator).period },
     ghost retries_is: { retries ≡ is_some (retry_of (view_of mutator).who (view_of mutator).mine) },
     ghost owes: { works ≡ true → seat.seat.me.0.due ≡ true },
-    ghost stands: { MatchBool works (IsAtWork (view_of mutator) left ended) (IsParked (view_of mutator)) },
 }
 
 impl Member {

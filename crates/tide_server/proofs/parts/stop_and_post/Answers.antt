@@ -20,4 +20,4 @@ post_note-requires-clause-note g c =
     c.requires.still c.requires.shared)
 
 pub returns-clause-part : goal.returns-clause-part
-returns-clause-part g c = c.numbers.ensures.part ∙ ap (λ (u : View). u.ticket) c.stop-note.ensures.note.1
+returns-clause-part g c = c.numbers-part.ensures.part ∙ ap (λ (u : View). u.ticket) c.stop-note.ensures.note.1

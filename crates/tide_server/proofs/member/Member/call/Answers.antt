@@ -2,7 +2,7 @@
 use Rattle.std.proofs.Common.{◌∙◌, ap, sym, subst, ℕ}
 use Rattle.tide_model.specs.Caller.{MakesCall}
 use Rattle.tide_mutator.specs.calls.Viewed.{view_of}
-use Rattle.tide_server.proofs.Parts.{MakesCall-later, owns}
+use Rattle.tide_server.proofs.Working.{MakesCall-later, owns}
 use Rattle.tide_server.specs.Members.{Calling}
 use Rattle.tide_server.proofs.member.Member.call.Goals as goal
 
@@ -25,7 +25,7 @@ returns-clause-makes g c =
     let shapes = g.S.ShapeTable.lists c.args.standing.now.heap.key.shapes in
     let same = c.come_to_work.ensures.same in
     MakesCall-later layout shapes v.who c.args.op c.make.result v.seen mid.seen w.seen v.mine mid.mine w.mine
-    c.come_to_work.ensures.seen (ap (λ (k : Calling). k.mine) same) (owns m.works v m.left m.ended m.stands)
+    c.come_to_work.ensures.seen (ap (λ (k : Calling). k.mine) same) (owns m.works v m.left m.ended c.requires.of.stands)
     (subst (λ (n : ℕ). MakesCall layout shapes n c.args.op c.make.result mid.seen w.seen mid.mine w.mine)
     (ap (λ (k : Calling). k.who) same) c.make.ensures.makes)
 

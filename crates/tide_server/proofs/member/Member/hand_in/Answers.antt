@@ -7,7 +7,7 @@ use Rattle.tide_mutator.specs.owed.Standing.{claims_of}
 use Rattle.tide_posts.proofs.Sharing.{HasShared-over}
 use Rattle.tide_posts.specs.Shares.{HasShared}
 use Rattle.tide_posts.specs.tide_heap.tide_core.declared.machine.view.View.{View}
-use Rattle.tide_server.proofs.Parts.{IsParked-stopped, at_work}
+use Rattle.tide_server.proofs.Working.{IsParked-stopped, at_work}
 use Rattle.tide_server.proofs.member.Member.hand_in.Goals as goal
 
 -- who made fewer calls than its run has ended its share
@@ -19,7 +19,7 @@ pub stop_and_post-self-requires : goal.stop_and_post-self-requires
 stop_and_post-self-requires g c =
     let m = c.args.self.now in
     let v = view_of m.mutator in
-    let works = at_work m.works v m.left m.ended m.stands c.requires.works in
+    let works = at_work m.works v m.left m.ended c.requires.of.stands c.requires.works in
     let of = c.requires.of in
     record {
       own = of.table;
@@ -40,25 +40,28 @@ pub invariant_of-self : goal.invariant_of-self
 invariant_of-self g c =
     let m = c.args.self.now in
     let v = view_of m.mutator in
-    let works = at_work m.works v m.left m.ended m.stands c.requires.works in
+    let works = at_work m.works v m.left m.ended c.requires.of.stands c.requires.works in
     let told = c.stop_and_post-self.ensures in
     record {
       its = ap (λ (x : View). x.who) told.stopped ∙ m.its ∙ sym told.seated.1;
       period_is = told.part ∙ sym (ap (λ (x : View). x.period) told.stopped);
       retries_is = m.retries_is ∙ ap (λ (x : View). is_some (retry_of x.who x.mine)) (sym told.stopped);
       owes = λ is. absurd (cc);
-      stands = IsParked-stopped v (view_of c.stop_and_post-self.new.mutator) told.stopped works.begun works.sharing.own told.opens;
     }
 
 pub returns-clause-of : goal.returns-clause-of
 returns-clause-of g c =
     let of = c.requires.of in
     let told = c.stop_and_post-self.ensures in
+    let m = c.args.self.now in
+    let v = view_of m.mutator in
+    let works = at_work m.works v m.left m.ended of.stands c.requires.works in
     record {
       table = told.same ∙ of.table;
       seated = told.seated.0 ∙ of.seated;
       named = told.named ∙ of.named;
       is_mutator = subst (λ (x : View). x.who < c.args.standing.now.heap.key.layout.mutators) (sym told.stopped) of.is_mutator;
+      stands = IsParked-stopped v (view_of c.stop_and_post-self.new.mutator) told.stopped works.begun works.sharing.own told.opens;
     }
 
 pub returns-clause-same : goal.returns-clause-same

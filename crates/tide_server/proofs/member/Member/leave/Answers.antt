@@ -16,8 +16,9 @@ use Rattle.tide_mutator.specs.owed.Calling.{Kept}
 use Rattle.tide_posts.proofs.Sharing.{HasShared-retired, IsSharing-more}
 use Rattle.tide_posts.specs.Shares.{HasShared, IsSharing}
 use Rattle.tide_posts.specs.tide_heap.tide_core.declared.machine.view.View.{View}
-use Rattle.tide_server.proofs.Parts.{IsParked-stopped, MakesCall-later, at_work, owns}
-use Rattle.tide_server.specs.Members.{Calling, IsAtWork}
+use Rattle.tide_server.proofs.Working.{IsParked-stopped, MakesCall-later, at_work, owns}
+use Rattle.tide_server.specs.AtWork.{IsAtWork}
+use Rattle.tide_server.specs.Members.{Calling}
 use Rattle.tide_server.proofs.member.Member.leave.Goals as goal
 
 -- with its last call a mutator that had nothing to try again has made its share
@@ -42,7 +43,7 @@ pub retire-requires : goal.retire-requires
 retire-requires g c =
     let n = c.come_to_work.new.self in
     let come = c.come_to_work.ensures in
-    let works = at_work n.works (view_of n.mutator) n.left n.ended n.stands come.works.0 in
+    let works = at_work n.works (view_of n.mutator) n.left n.ended come.of.stands come.works.0 in
     record {
       own = come.of.table;
       mutator = come.of.is_mutator;
@@ -58,7 +59,7 @@ stop_and_post-self-requires g c =
     let v = view_of n.mutator in
     let w = view_of c.retire.new.self in
     let told = c.retire.ensures in
-    let works = at_work n.works v n.left n.ended n.stands come.works.0 in
+    let works = at_work n.works v n.left n.ended come.of.stands come.works.0 in
     let who = ap (λ (k : Kept). k.who) told.kept in
     let ticket = ap (λ (k : Kept). k.ticket) told.kept in
     let period = ap (λ (k : Kept). k.period) told.kept in
@@ -90,7 +91,7 @@ invariant_of-self g c =
     let w = view_of c.retire.new.self in
     let made = c.retire.ensures in
     let told = c.stop_and_post-self.ensures in
-    let works = at_work n.works v n.left n.ended n.stands come.works.0 in
+    let works = at_work n.works v n.left n.ended come.of.stands come.works.0 in
     let who = ap (λ (k : Kept). k.who) made.kept in
     record {
       its = ap (λ (x : View). x.who) told.stopped ∙ who ∙ n.its ∙ sym told.seated.1;
@@ -101,21 +102,27 @@ invariant_of-self g c =
           ∙ ap (λ (o : Option Op). is_some o) (settled v w c.retire.result made.done made.makes.took who made.makes.adds
           (ap (λ (k : Calling). retry_of k.who k.mine) come.same ∙ c.requires.settled)));
       owes = λ is. absurd (cc);
-      stands = IsParked-stopped w (view_of c.stop_and_post-self.new.mutator) told.stopped
-          (ap (λ (k : Kept). k.begun) made.kept ∙ works.begun ∙ sym (ap (λ (k : Kept). k.ticket) made.kept))
-          (subst (λ (k : ℕ). IsOwn k w.seen w.mine) (sym who) made.makes.are_own) told.opens;
     }
 
 pub returns-clause-of : goal.returns-clause-of
 returns-clause-of g c =
     let come = c.come_to_work.ensures in
     let told = c.stop_and_post-self.ensures in
+    let v = view_of c.come_to_work.new.self.mutator in
+    let n = c.come_to_work.new.self in
+    let w = view_of c.retire.new.self in
+    let made = c.retire.ensures in
+    let works = at_work n.works v n.left n.ended come.of.stands come.works.0 in
+    let who = ap (λ (k : Kept). k.who) made.kept in
     record {
       table = told.same ∙ c.retire.ensures.same.0 ∙ come.of.table;
       seated = told.seated.0 ∙ come.of.seated;
       named = told.named ∙ come.of.named;
       is_mutator = subst (λ (k : ℕ). k < c.args.standing.now.heap.key.layout.mutators)
           (sym (ap (λ (x : View). x.who) told.stopped ∙ ap (λ (k : Kept). k.who) c.retire.ensures.kept)) come.of.is_mutator;
+      stands = IsParked-stopped w (view_of c.stop_and_post-self.new.mutator) told.stopped
+          (ap (λ (k : Kept). k.begun) made.kept ∙ works.begun ∙ sym (ap (λ (k : Kept). k.ticket) made.kept))
+          (subst (λ (k : ℕ). IsOwn k w.seen w.mine) (sym who) made.makes.are_own) told.opens;
     }
 
 pub returns-clause-makes : goal.returns-clause-makes
@@ -130,7 +137,7 @@ returns-clause-makes g c =
     subst (λ (x : View). MakesCall layout shapes v.who Retire Done v.seen x.seen v.mine x.mine)
     (sym c.stop_and_post-self.ensures.stopped)
     (MakesCall-later layout shapes v.who Retire Done v.seen mid.seen w.seen v.mine mid.mine w.mine
-    c.come_to_work.ensures.seen (ap (λ (k : Calling). k.mine) same) (owns m.works v m.left m.ended m.stands)
+    c.come_to_work.ensures.seen (ap (λ (k : Calling). k.mine) same) (owns m.works v m.left m.ended c.requires.of.stands)
     (subst (λ (n : ℕ). MakesCall layout shapes n Retire Done mid.seen w.seen mid.mine w.mine)
     (ap (λ (k : Calling). k.who) same)
     (subst (λ (r : Reply). MakesCall layout shapes mid.who Retire r mid.seen w.seen mid.mine w.mine) c.retire.ensures.done

@@ -24,7 +24,8 @@ use Rattle.tide_posts.specs.tide_heap.tide_core.declared.machine.view.View.{View
 use Rattle.tide_posts.specs.tide_heap.tide_core.machine.kinds.Activate.{begun_view}
 use Rattle.tide_posts.specs.tide_heap.tide_core.machine.kinds.Split.{split_view}
 use Rattle.tide_posts.specs.tide_heap.tide_core.machine.kinds.StoreStopped.{stopped_view}
-use Rattle.tide_server.specs.Members.{IsAtWork, IsParked, Retries}
+use Rattle.tide_server.specs.AtWork.{IsAtWork, IsParked}
+use Rattle.tide_server.specs.Members.{Retries}
 
 module _ (works : Bool) (v : View) (left : ℕ) (ended : Bool)
     (stands : MatchBool works (IsAtWork v left ended) (IsParked v)) where

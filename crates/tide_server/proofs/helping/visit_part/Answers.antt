@@ -4,7 +4,7 @@ use Rattle.std.specs.Prelude.{if◌then◌else◌}
 use Rattle.tide_posts.proofs.tide_heap.Newcomers.{FitsIn-none}
 use Rattle.tide_posts.specs.tide_heap.tide_core.machine.Visiting.{FitsIn}
 use Rattle.tide_visitor.specs.Viewed.{view_of}
-use Rattle.tide_server.proofs.helper.visit_part.Goals as goal
+use Rattle.tide_server.proofs.helping.visit_part.Goals as goal
 
 pub drain-requires-clause-marks : goal.drain-requires-clause-marks
 drain-requires-clause-marks g c κs within = sym c.requires.marks ∙ c.if-marks.true
