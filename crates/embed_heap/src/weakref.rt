@@ -5,10 +5,10 @@
 //! docs/WEAKREF.md, `rows` has what each call answers, and `foreign` what becomes of a handle that another one sets.
 
 mod engine;
-// over those above it
+// these stand on those listed before
 mod asking;
 mod parts;
-// over those above it
+// these stand on those listed before
 mod files;
 mod foreign;
 mod rows;

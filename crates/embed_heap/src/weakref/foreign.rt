@@ -17,21 +17,21 @@ fn meddle(heap: &Heap<Shapes>, realm: &mut Realm, other: &mut Mutator) -> Option
     requires registers { (heap.now.key.layout.registers ≡ 4) × ((jobs_of realm.old).scratch ≡ 3) }
     requires fresh { ((view_of realm.old).born ≡ 0) × ((works.view_of other.old).born ≡ 0) }
 {
-    let gate = &FreePass;
-    realm.call(heap, Op::Alloc { dst: 0, class: 0 }, gate);
-    let Ok(r) = realm.make_ref(heap, 0, gate) else {
+    let turnstile = &FreePass;
+    realm.call(heap, Op::Alloc { dst: 0, class: 0 }, turnstile);
+    let Ok(r) = realm.make_ref(heap, 0, turnstile) else {
         return None;
     };
-    other.try_call(heap, Op::WeakSet { at: 0, val: 0 }, gate);
-    let lost = realm.deref(heap, r, 1, gate) == Ok(Val::Empty);
-    other.try_call(heap, Op::Alloc { dst: 0, class: 0 }, gate);
-    other.try_call(heap, Op::WeakSet { at: 0, val: 0 }, gate);
-    let foreign = realm.deref(heap, r, 1, gate) == Ok(Val::Cell(1));
-    let Ok(own) = realm.make_ref(heap, 0, gate) else {
+    other.try_call(heap, Op::WeakSet { at: 0, val: 0 }, turnstile);
+    let lost = realm.deref(heap, r, 1, turnstile) == Ok(Val::Empty);
+    other.try_call(heap, Op::Alloc { dst: 0, class: 0 }, turnstile);
+    other.try_call(heap, Op::WeakSet { at: 0, val: 0 }, turnstile);
+    let foreign = realm.deref(heap, r, 1, turnstile) == Ok(Val::Cell(1));
+    let Ok(own) = realm.make_ref(heap, 0, turnstile) else {
         return None;
     };
-    let found = realm.deref(heap, own, 1, gate) == Ok(Val::Cell(0));
-    realm.end_job(heap, gate);
+    let found = realm.deref(heap, own, 1, turnstile) == Ok(Val::Cell(0));
+    realm.end_job(heap, turnstile);
     Some(lost && foreign && found)
 }
 
