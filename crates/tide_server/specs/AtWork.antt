@@ -5,8 +5,8 @@ use Rattle.tide_model.specs.Periods.{open_count}
 use Rattle.tide_posts.specs.Shares.{IsSharing}
 use Rattle.tide_posts.specs.tide_heap.tide_core.declared.machine.view.View.{View}
 
--- It stands still between two parts: it has stopped in the part of its last note, what it has seen has no other calls of
--- its own than those that it made, and no more openings than that part's number.
+-- It stands still between two parts: it has stopped in the part of its last note, what it has seen has no other calls
+-- of its own than those that it made, and no more openings than that part's number.
 pub record IsParked (v : View) : Type 0 where
   pub rests : v.runs ≡ false
   pub begun : v.begun ≤ v.period

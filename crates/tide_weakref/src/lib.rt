@@ -4,8 +4,8 @@
 //! A `Realm` has a mutator of its own, a scratch register, and ranges of strong and of weak handles. A reference or a
 //! registration takes a weak handle (`weaks`); what a job got out of a reference is kept in a strong handle until the
 //! job ends (`kept`, `jobs`). What it does on the heap are calls of its mutator (`stepping`). It may touch
-//! `tide_mutator`, the heap and shapes, and knows no thread, no other mutator, and nothing of the collector. Programs of
-//! one's own have it by `tide`, as a runtime for a script language; no command of `riptide` does.
+//! `tide_mutator`, the heap and shapes, and knows no thread, no other mutator, and nothing of the collector. Programs
+//! of one's own have it by `tide`, as a runtime for a script language; no command of `riptide` does.
 #![tactic(auto)]
 
 mod range;

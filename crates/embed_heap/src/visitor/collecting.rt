@@ -17,8 +17,8 @@ impl Shared {
     }
 
     /// Freezes the part in which both have stopped, enters what the visitor's note told, does what the schedule asks
-    /// for, a whole full cycle where the freeze is forced, and opens the next part. `None` where memory is wanting, or no
-    /// more part can be opened.
+    /// for, a whole full cycle where the freeze is forced, and opens the next part. `None` where memory is wanting, or
+    /// no more part can be opened.
     pub fn next(&mut self, is_forced: bool) -> Option<()>
         requires stopped { HaveStopped self.old }
         ensures opened { IfSome result (λ _. HasOpened self.new) }

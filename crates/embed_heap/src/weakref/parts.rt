@@ -107,7 +107,8 @@ fn start_over(
 
 impl Engine {
     /// A heap without cells, whose realm has the last of four registers, and so many strong and weak handles, two and
-    /// four at most. A cycle begins by itself once as many cells were born as `trigger` says, and never where that is 0.
+    /// four at most. A cycle begins by itself once as many cells were born as `trigger` says, and never where that is
+    /// 0.
     pub fn start(alloc: Global, kept: u16, refs: u16, trigger: u32) -> Option<Engine>
         requires few { (kept ≤ 2) × (refs ≤ 4) }
         ensures works { IfSome result Works }
