@@ -1,0 +1,182 @@
+-- A store that gives a slot home keeps the rule: the word says what lies there. A member says that there is an end only
+-- where it has found one.
+use Rattle.std.proofs.Common.{ℕ, suc, ◌≡◌, ◌≢◌, ◌<◌, Bool, true, false, arith, refl, sym, ◌∙◌, ap, subst, List, [], ◌∷◌, inl, inr}
+use Rattle.std.proofs.lemmas.Bool.{cases_eq, cases_Bool, eqb-true, or_cases, or_left, or_right}
+use Rattle.std.proofs.lemmas.List.{get_or-set_other, get_or-set_same}
+use Rattle.std.specs.Prelude.{slice_index, slice_set, ◌||◌, ◌&&◌, if◌then◌else◌}
+use lib.ListN.{get_elem?, length-set}
+use mathlib.Core.Option.{none, some, some-injective}
+use Rattle.atomic_table.proofs.Lists.{at_set, set_here, set_else}
+use Rattle.atomic_table.specs.Table.{State, step, Allows, gives}
+use Rattle.tide_hands.proofs.Turns.{or_false, same_seat}
+use Rattle.tide_hands.specs.declared.parcel.Parcel.{Parcel}
+use Rattle.tide_hands.specs.declared.view.HandView.{HandView}
+use Rattle.tide_hands.specs.Rule.{is_end, is_keepers, is_turn, resting, Content, SeatOk, Rule, Gave}
+
+-- whose turn it is by a word, the keeper's or a member's
+abbrev turn_of : Bool → ℕ → Bool
+turn_of keeper word = if keeper then is_keepers word else (if is_keepers word then false else true)
+
+module _ {T N I : Type 0} (ticket_ok : I → T → Type 0) (note_ok : I → ℕ → N → Bool → Type 0) (name : I) (count : ℕ)
+    (slots id place word : ℕ) (me : HandView I) (parcel : Parcel T N) (holds : me.out ≡ suc place)
+    (its : me.keeper ≡ false → place ≡ me.place) (content : Content ticket_ok note_ok me.name place word parcel)
+    (ends : me.keeper ≡ false → is_end word ≡ true → me.over ≡ true) where
+  abbrev S : Type 0
+  S = State (Parcel T N) (HandView I)
+
+  abbrev R : S → Type 0
+  R = Rule ticket_ok note_ok name count
+
+  abbrev Ok : ℕ → Bool → (ℕ → ℕ) → List ℕ → ℕ → HandView I → Type 0
+  Ok = SeatOk ticket_ok note_ok name count
+
+  abbrev after : HandView I
+  after = resting word me
+
+  given : (s : S) → R s → place < count → get_elem? s.views id ≡ some me → R record {
+    words = slice_set s.words place word;
+    homes = slice_set s.homes place (some parcel);
+    views = slice_set s.views id after;
+  }
+  given s r within at = record {
+    seats = r.seats;
+    next = r.next;
+    over = over;
+    words = length-set s.words place word ∙ r.words;
+    homes = length-set s.homes place (some parcel) ∙ r.homes;
+    each = λ seat view is. elim (at_set s.views id seat after view is) [
+      | inl here ↦ subst (λ (v : HandView I). Ok r.next over r.seats words seat v) here.1
+          (subst (λ (k : ℕ). Ok r.next over r.seats words k after) (sym here.0) mine)
+      | inr there ↦ theirs seat view there.0 there.1
+    ];
+    place = λ q in_q. elim (cases_eq q place) [
+      | inl same ↦ inl record {
+        parcel = parcel;
+        at = ap (get_elem? (slice_set s.homes place (some parcel))) same
+            ∙ set_here s.homes place (some parcel) (let h = r.homes in omega (arith, h, within));
+        content = subst (λ k. Content ticket_ok note_ok name k (slice_index words k) parcel) (sym same)
+            (subst (λ n. Content ticket_ok note_ok name place n parcel) (sym stored)
+            (subst (λ (n : I). Content ticket_ok note_ok n place word parcel) old.named content));
+      }
+      | inr other ↦ elim (r.place q in_q) [
+        | inl home ↦ inl record {
+          parcel = home.parcel;
+          at = set_else s.homes place q (some parcel) other ∙ home.at;
+          content = subst (λ n. Content ticket_ok note_ok name q n home.parcel) (sym (elsewhere q other)) home.content;
+        }
+        | inr out ↦ elim (cases_eq out.seat id) [
+          | inl same ↦ absurd (not_both out.view q other
+              (some-injective out.view me (sym out.is ∙ ap (get_elem? s.views) same ∙ at)) out.out)
+          | inr apart ↦ inr record {
+            seat = out.seat;
+            view = out.view;
+            is = set_else s.views id out.seat after apart ∙ out.is;
+            out = out.out;
+          }
+        ]
+      ]
+    ];
+    ended = λ q in_q is. elim (cases_eq q place) [
+      | inl same ↦ ending (sym (ap is_end stored) ∙ ap (λ (k : ℕ). is_end (slice_index words k)) (sym same) ∙ is)
+      | inr other ↦ or_left r.over (me.keeper && is_end word)
+          (r.ended q in_q (sym (ap is_end (elsewhere q other)) ∙ is))
+    ];
+  }
+    where
+      words : List ℕ
+      words = slice_set s.words place word
+
+      over : Bool
+      over = r.over || (me.keeper && is_end word)
+
+      stored : slice_index words place ≡ word
+      stored = get_or-set_same s.words place word 0 (let h = r.words in omega (arith, h, within))
+
+      elsewhere : (q : ℕ) → q ≢ place → slice_index words q ≡ slice_index s.words q
+      elsewhere q other = get_or-set_other s.words place q word 0 other
+
+      old : Ok r.next r.over r.seats s.words id me
+      old = r.each id me at
+
+      none_out : (q : ℕ) → 0 ≡ suc q → ⊥
+      none_out q is = omega (arith, is)
+
+      -- an end that is said was posted
+      ending : is_end word ≡ true → over ≡ true
+      ending is = elim (cases_Bool me.keeper) [
+        | inl k ↦ or_right r.over (me.keeper && is_end word) (ap (λ (b : Bool). b && is_end word) k ∙ is)
+        | inr k ↦ or_left r.over (me.keeper && is_end word) (old.heard (ends k is))
+      ]
+
+      mine : Ok r.next over r.seats words id after
+      mine = record {
+        named = old.named;
+        keeper = λ k. let was = old.keeper k in (
+          was.0,
+          was.1,
+          ap (λ (b : Bool). b || is_end word) was.2
+              ∙ ap (λ (b : Bool). r.over || (b && is_end word)) (sym k),
+        );
+        member = old.member;
+        heard = λ h. elim (or_cases me.over (is_end word) h) [
+          | inl before ↦ or_left r.over (me.keeper && is_end word) (old.heard before)
+          | inr now ↦ ending now
+        ];
+        own = λ q is. absurd (none_out q is);
+        its = λ q k is. absurd (none_out q is);
+        due = λ k is. ap (slice_index words) (sym (its k)) ∙ stored ∙ eqb-true word 2 is;
+      }
+
+      theirs : (seat : ℕ) (view : HandView I) → seat ≢ id → get_elem? s.views seat ≡ some view →
+          Ok r.next over r.seats words seat view
+      theirs seat view apart is_at =
+          let was = r.each seat view is_at in record {
+            named = was.named;
+            keeper = λ k. let w = was.keeper k in (w.0, w.1, w.2 ∙ sym (other_keeper w.0));
+            member = was.member;
+            heard = λ h. or_left r.over (me.keeper && is_end word) (was.heard h);
+            own = λ q out. elim (cases_eq q place) [
+              | inl same ↦ absurd (apart (same_seat ticket_ok note_ok name count s r seat id place view me is_at at
+                  (λ k. sym same ∙ was.its q k out) its
+                  (subst (λ k. is_turn view (slice_index s.words k) ≡ true) same (was.own q out).1) (old.own place holds).1))
+              | inr other ↦ (
+                (was.own q out).0,
+                subst (λ n. is_turn view n ≡ true) (sym (elsewhere q other)) (was.own q out).1,
+              )
+            ];
+            its = was.its;
+            due = λ k is. elim (cases_eq view.place place) [
+              | inl same ↦ absurd (apart (same_seat ticket_ok note_ok name count s r seat id place view me is_at at
+                  (λ _. sym same) its (its_turn k same (was.due k is)) (old.own place holds).1))
+              | inr other ↦ elsewhere view.place other ∙ was.due k is
+            ];
+          }
+        where
+          -- where its note is due it is this member's turn
+          its_turn : view.keeper ≡ false → view.place ≡ place → slice_index s.words view.place ≡ 2 →
+              is_turn view (slice_index s.words place) ≡ true
+          its_turn k same two = ap (λ (b : Bool). turn_of b (slice_index s.words place)) k
+              ∙ ap (turn_of false) (ap (slice_index s.words) (sym same) ∙ two)
+
+          -- this seat is no keeper's where another one is
+          other_keeper : seat ≡ 0 → over ≡ r.over
+          other_keeper first = elim (cases_Bool me.keeper) [
+            | inl k ↦ absurd (apart (first ∙ sym (old.keeper k).0))
+            | inr k ↦ ap (λ (b : Bool). r.over || (b && is_end word)) k ∙ or_false r.over
+          ]
+
+      not_both : (v : HandView I) (q : ℕ) → q ≢ place → v ≡ me → v.out ≡ suc q → ⊥
+      not_both v q other same out =
+          let two : suc place ≡ suc q = sym holds ∙ ap (λ (u : HandView I). u.out) (sym same) ∙ out in
+          other (omega (arith, two))
+
+  -- the seat can give
+  pub give_allowed : place < slots → Allows R slots id (me, (place, parcel) ∷ []) place (λ _. word)
+      (λ _. Gave ticket_ok note_ok name (step slots place word 0 none) (me, (place, parcel) ∷ []) word)
+  give_allowed inside = λ s r long at small. (
+    after,
+    gives,
+    tt,
+    given s r (let a = r.homes in omega (arith, a, long, inside)) at,
+    refl,
+  )

@@ -1,0 +1,6 @@
+pub mod Giving
+pub mod Lists
+pub mod Looking
+pub mod Opening
+pub mod Splitting
+pub mod Turns

@@ -1,0 +1,12 @@
+-- Nothing came yet.
+use Rattle.std.proofs.Common.{◌≡◌}
+use Rattle.tide_hands.specs.Seats.{frame}
+use Rattle.tide_hands.proofs.member.MemberSeat.await_ticket.Given as goal
+
+abbrev pub invariant-loop : goal.invariant-loop
+invariant-loop g l =
+    (l.self.seat.table_id ≡ l.initial.self.seat.table_id) × (l.self.seat.id ≡ l.initial.self.seat.id)
+    × (l.self.place ≡ l.initial.self.place)
+    × (frame l.self.seat.me.0 ≡ frame l.initial.self.seat.me.0)
+    × (l.self.seat.me.0.given ≡ l.initial.self.seat.me.0.given)
+    × (l.self.seat.me.0.taken ≡ l.initial.self.seat.me.0.taken)

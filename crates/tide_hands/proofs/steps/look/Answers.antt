@@ -1,0 +1,27 @@
+-- A look is allowed.
+use Rattle.std.proofs.Common.{ℕ, List, sym, subst}
+use mathlib.Core.Option.{none}
+use Rattle.atomic_table.specs.Table.{step, Allows}
+use Rattle.tide_hands.specs.declared.parcel.Parcel.{Parcel}
+use Rattle.tide_hands.specs.Rule.{Rule, Looked}
+use Rattle.tide_hands.proofs.Looking.{look_allowed}
+use Rattle.tide_hands.proofs.steps.look.Goals as goal
+
+pub load-requires : goal.load-requires
+load-requires g c =
+    let ticket_ok = g.P.Parcels.ticket_ok in
+    let note_ok = g.P.Parcels.note_ok in
+    let name = g.K.Keyed.name c.args.table.now.key in
+    let count = g.K.Keyed.count c.args.table.now.key in
+    let slots = c.args.table.now.table_id.slots in
+    let id = c.args.seat.now.id in
+    let me = c.args.seat.now.me.0 in
+    let place = c.args.place in (
+      c.requires.own,
+      c.requires.within.0,
+      subst (λ (carried : List (ℕ × Parcel g.row.T.Denot g.row.N.Denot)).
+          Allows (Rule ticket_ok note_ok name count) slots id (me, carried) place (λ n. n)
+          (Looked ticket_ok note_ok me.name (step slots place 0 0 none) (me, carried)))
+          (sym c.requires.idle.1)
+          (look_allowed ticket_ok note_ok name count slots id place me c.requires.idle.0 c.requires.its c.requires.within.1),
+    )

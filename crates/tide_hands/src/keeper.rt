@@ -1,0 +1,161 @@
+//! The keeper's side: it posts tickets and ends, and takes notes.
+ghost use Rattle.std.specs.Prelude.{◌≡◌, ◌<◌, ◌+◌, IfSome, None, true, false};
+ghost use Rattle.tide_hands.specs.Seats.{IsIdle, IsPosted, frame};
+
+use crate::parcel::Parcel;
+use crate::steps::{give, look, put};
+use crate::table::{HandTable, Keyed, Parcels};
+use crate::view::HandView;
+use crate::words::{ENDED, NOTE_DUE, NOTE_LIES, TICKET_DUE, TICKET_LIES};
+use atomic_table::Seat;
+use std::sync::Wait;
+
+/// The keeper's seat, between two calls.
+#[derive(Drop)]
+pub struct KeeperSeat<T, N, I> {
+    pub(crate) seat: Seat<Parcel<T, N>, HandView<I>>,
+    ghost keeper: { seat.me.0.keeper ≡ true },
+    ghost idle: { IsIdle seat.me },
+}
+
+impl<T: Drop, N: Drop, I> KeeperSeat<T, N, I> {
+    /// Posts a ticket at a place, where one is due; else the ticket comes back. Who waits for it is woken.
+    pub fn post_ticket<P: Parcels<T, N, I>, K: Keyed<I>>(
+        &mut self,
+        table: &HandTable<T, N, I, P, K>,
+        place: usize,
+        ticket: T,
+    ) -> Option<T>
+        requires own { self.old.seat.table_id ≡ table.now.table_id }
+        requires within { (place < table.now.table_id.words) × (place < table.now.table_id.slots) }
+        requires ticket { P.ticket_ok self.old.seat.me.0.name ticket }
+        ensures same { (self.new.seat.table_id ≡ self.old.seat.table_id) × (self.new.seat.id ≡ self.old.seat.id) }
+        ensures kept { frame self.new.seat.me.0 ≡ frame self.old.seat.me.0 }
+        ensures over { self.new.seat.me.0.over ≡ self.old.seat.me.0.over }
+        ensures taken { self.new.seat.me.0.taken ≡ self.old.seat.me.0.taken }
+        ensures posted { IsPosted place ticket self.old.seat.me.0 self.new.seat.me.0 result }
+    {
+        match look(table, &mut self.seat, place) {
+            TICKET_DUE => {
+                drop(put(
+                    table,
+                    &mut self.seat,
+                    place,
+                    Parcel::Ticket(ticket),
+                    TICKET_LIES,
+                ));
+                table.wake_one(place);
+                None
+            }
+            NOTE_LIES => {
+                give(table, &mut self.seat, place, NOTE_LIES);
+                Some(ticket)
+            }
+            _ => Some(ticket),
+        }
+    }
+
+    /// Says at a place that no ticket comes any more, where one is due. Answers whether it was.
+    pub fn post_end<P: Parcels<T, N, I>, K: Keyed<I>>(
+        &mut self,
+        table: &HandTable<T, N, I, P, K>,
+        place: usize,
+    ) -> bool
+        requires own { self.old.seat.table_id ≡ table.now.table_id }
+        requires within { (place < table.now.table_id.words) × (place < table.now.table_id.slots) }
+        ensures same { (self.new.seat.table_id ≡ self.old.seat.table_id) × (self.new.seat.id ≡ self.old.seat.id) }
+        ensures kept { frame self.new.seat.me.0 ≡ frame self.old.seat.me.0 }
+        ensures taken { self.new.seat.me.0.taken ≡ self.old.seat.me.0.taken }
+        ensures posted { result ≡ true → (self.new.seat.me.0.over ≡ true)
+            × (self.new.seat.me.0.given ≡ self.old.seat.me.0.given + 1) × (self.new.seat.me.0.at ≡ place) }
+        ensures stays { result ≡ false → (self.new.seat.me.0.over ≡ self.old.seat.me.0.over)
+            × (self.new.seat.me.0.given ≡ self.old.seat.me.0.given) }
+    {
+        match look(table, &mut self.seat, place) {
+            TICKET_DUE => {
+                drop(put(table, &mut self.seat, place, Parcel::Nothing, ENDED));
+                table.wake_one(place);
+                true
+            }
+            NOTE_LIES => {
+                give(table, &mut self.seat, place, NOTE_LIES);
+                false
+            }
+            _ => false,
+        }
+    }
+
+    /// The note that lies at a place, with its flag, where one does. A ticket is due then.
+    pub fn take_note<P: Parcels<T, N, I>, K: Keyed<I>>(
+        &mut self,
+        table: &HandTable<T, N, I, P, K>,
+        place: usize,
+    ) -> Option<(N, bool)>
+        requires own { self.old.seat.table_id ≡ table.now.table_id }
+        requires within { (place < table.now.table_id.words) × (place < table.now.table_id.slots) }
+        ensures same { (self.new.seat.table_id ≡ self.old.seat.table_id) × (self.new.seat.id ≡ self.old.seat.id) }
+        ensures kept { frame self.new.seat.me.0 ≡ frame self.old.seat.me.0 }
+        ensures over { self.new.seat.me.0.over ≡ self.old.seat.me.0.over }
+        ensures given { self.new.seat.me.0.given ≡ self.old.seat.me.0.given }
+        ensures note { IfSome result (λ note. P.note_ok self.old.seat.me.0.name place note.0 note.1) }
+        ensures taken { IfSome result (λ note. self.new.seat.me.0.taken ≡ self.old.seat.me.0.taken + 1) }
+        ensures none { result ≡ None → self.new.seat.me.0.taken ≡ self.old.seat.me.0.taken }
+    {
+        match look(table, &mut self.seat, place) {
+            NOTE_LIES => match put(table, &mut self.seat, place, Parcel::Nothing, TICKET_DUE) {
+                Parcel::Note(note, flag) => Some((note, flag)),
+                Parcel::Nothing => unreachable!(),
+                Parcel::Ticket(_) => unreachable!(),
+            },
+            TICKET_DUE => {
+                give(table, &mut self.seat, place, TICKET_DUE);
+                None
+            }
+            _ => None,
+        }
+    }
+
+    /// Waits while it is the member's turn at a place. It may return before, and wait for ever.
+    pub fn wait_for_note<R: Wait, P: Parcels<T, N, I>, K: Keyed<I>>(
+        &self,
+        rt: &R,
+        table: &HandTable<T, N, I, P, K>,
+        place: usize,
+    )
+        requires own { self.now.seat.table_id ≡ table.now.table_id }
+        requires within { place < table.now.table_id.words }
+    {
+        // The member wakes who waits once its note lies there (`post_note`), and not where it takes its ticket. A word
+        // that was changed since it was seen is not parked on.
+        match table.peek(place) {
+            TICKET_LIES => table.park(rt, place, TICKET_LIES as u32),
+            NOTE_DUE => table.park(rt, place, NOTE_DUE as u32),
+            _ => {}
+        }
+    }
+
+    /// The note of a place, with its flag. It waits for it, maybe for ever.
+    pub fn await_note<R: Wait, P: Parcels<T, N, I>, K: Keyed<I>>(
+        &mut self,
+        rt: &R,
+        table: &HandTable<T, N, I, P, K>,
+        place: usize,
+    ) -> (N, bool)
+        requires own { self.old.seat.table_id ≡ table.now.table_id }
+        requires within { (place < table.now.table_id.words) × (place < table.now.table_id.slots) }
+        ensures same { (self.new.seat.table_id ≡ self.old.seat.table_id) × (self.new.seat.id ≡ self.old.seat.id) }
+        ensures kept { frame self.new.seat.me.0 ≡ frame self.old.seat.me.0 }
+        ensures over { self.new.seat.me.0.over ≡ self.old.seat.me.0.over }
+        ensures given { self.new.seat.me.0.given ≡ self.old.seat.me.0.given }
+        ensures note { P.note_ok self.old.seat.me.0.name place result.0 result.1 }
+        ensures taken { self.new.seat.me.0.taken ≡ self.old.seat.me.0.taken + 1 }
+    {
+        for _ in rt.forever() {
+            if let Some(found) = self.take_note(table, place) {
+                return found;
+            }
+            self.wait_for_note(rt, table, place);
+        }
+        unreachable!()
+    }
+}

@@ -1,0 +1,31 @@
+//! How one keeper and its members hand parcels to each other, through one slot and one word a member.
+//!
+//! The keeper posts a ticket, its member takes it and posts a note, and the keeper takes that. Instead of a ticket the
+//! keeper may post an end. What a ticket and a note are the caller says, by `Parcels`: whoever takes one has what its
+//! poster showed. Each call but `await_ticket` and `await_note` returns at once; those two park on the member's word.
+//!
+//! It may touch `atomic_table` alone: it knows no heap. The room above keeps a table of a heap's tickets and notes, and
+//! gives each thread its seat.
+#![tactic(auto)]
+
+mod found;
+mod parcel;
+mod view;
+mod words;
+// over those above it
+mod table;
+// over those above it
+mod steps;
+// over those above it
+mod keeper;
+mod member;
+// over those above it
+mod seating;
+
+pub use found::Found;
+pub use keeper::KeeperSeat;
+pub use member::MemberSeat;
+pub use parcel::Parcel;
+pub use seating::open_table;
+pub use table::{HandTable, Hands, Keyed, Parcels};
+pub use view::HandView;

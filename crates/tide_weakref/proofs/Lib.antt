@@ -1,0 +1,15 @@
+pub mod Advances
+pub mod AimLaws
+pub mod CallLaws
+pub mod CalledLaws
+pub mod ClosingLaws
+pub mod EmptyingLaws
+pub mod HandleLaws
+pub mod KeepLaws
+pub mod OfRealm
+pub mod OperationLaws
+pub mod ReadingLaws
+pub mod SparingLaws
+pub mod StandingLaws
+pub mod StepLaws
+pub mod WeakLaws
