@@ -7,9 +7,7 @@
 //! `Store`, and the plain store is the first such. A `ScriptCursor` tells what a mutator asks next by its own calls
 //! alone, so that others may make theirs meanwhile; `laws` says what such shares make. It may touch the schedule, the
 //! report, the layout and, for one run over it, the plain store. `tide_run` runs a plain store by it, and
-//! `tide_threads` takes its cursors and laws for runs on threads. It may touch the schedule, the report, the layout
-//! and, for one run over it, the plain store. `tide_run` runs a plain store by it, and `tide_threads` takes its cursors
-//! and laws for runs on threads.
+//! `tide_threads` takes its cursors and laws for runs on threads.
 #![tactic(auto)]
 
 mod answered;

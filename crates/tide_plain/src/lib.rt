@@ -2,7 +2,7 @@
 //!
 //! `statuses` says what becomes of an array, `parts` has each list by itself, `stored` has them together with their
 //! invariant, `collect` finds what is retained, and `calls` is the operations. Each names those before it alone. It may
-//! touch the layout, blocks and shapes. `tide_periods` runs it for `tide_run`. `tide_periods` runs it for `tide_run`.
+//! touch the layout, blocks and shapes. `tide_periods` runs it for `tide_run`.
 #![tactic(auto)]
 
 mod statuses;
