@@ -1,5 +1,5 @@
 -- One more cell is known, with the keys of its pairs.
-use Rattle.std.proofs.Common.{ℕ, ◌≡◌, ◌<◌, ◌≤◌, ◌∙◌, sym, ap, subst, arith, inl, inr, length, List, [], None}
+use Rattle.std.proofs.Common.{ℕ, sym, ap, subst, arith, inl, inr, length, List, None}
 use Rattle.std.specs.Prelude.{Contains}
 use Rattle.std.proofs.lemmas.Bool.{cases_eq, cases_lt}
 use Rattle.std.proofs.lemmas.List.{get_or_past}
