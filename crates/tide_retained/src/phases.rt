@@ -19,8 +19,8 @@ fn no_flags(alloc: Global, cells: usize) -> Result<Vec<bool>, Memory>
     Ok(flags)
 }
 
-/// Which of so many cells are retained, all that the contents are of and all keys of pairs. Each that is found is visited
-/// once: as a cell that holds others, and as the key of pairs.
+/// Which of so many cells are retained, all that the contents are of and all keys of pairs. Each that is found is
+/// visited once: as a cell that holds others, and as the key of pairs.
 pub(crate) fn retained(
     alloc: Global,
     contents: &Contents,

@@ -1,7 +1,8 @@
 -- One more key is below the number.
-use Rattle.std.proofs.Common.{ℕ, ◌≡◌, ◌<◌, ◌≤◌, ◌∙◌, sym, ap, subst, arith, get_or, inl, inr, length, List}
+use Rattle.std.proofs.Common.{ℕ, ◌<◌, ◌∙◌, sym, ap, subst, arith, get_or, inl, inr, length}
 use Rattle.std.proofs.lemmas.Bool.{cases_eq}
 use Rattle.std.proofs.lemmas.List.{get_or_default}
+use Rattle.tide_model.specs.declared.val.Val.TheVariants.{Empty}
 use Rattle.tide_retained.specs.declared.contents.Keyed.{Keyed}
 use Rattle.tide_retained.proofs.known.behind_keys.Goals as goal
 
@@ -9,15 +10,16 @@ pub loop-pair-preserved : goal.loop-pair-preserved
 loop-pair-preserved c =
     let pairs = c.args.pairs.now in
     let at = c.loop-pair.pair-index in
-    let pair = c.pair-item.result in
+    let none : Keyed = record { key = 0; value = Empty } in
+    let pair = get_or pairs at none in
     let within : at < length pairs = c.loop-pair-test.true in
-    let few = c.requires.few pair (at, within, sym c.pair-item.is) in
+    let few = c.requires.few pair (at, within, get_or_default pairs at pair none within) in
     let key = c.behind-known.ensures.cell in
     let least = c.behind-known.ensures.least in
     record {
       keys = λ k d below inside. elim (cases_eq k at) [
         | inl same ↦ subst (λ (p : Keyed). p.key < c.behind-known.result)
-            (c.pair-item.is ∙ sym (ap (λ (i : ℕ). get_or pairs i pair) same) ∙ get_or_default pairs k pair d inside) key
+            (sym (ap (λ (i : ℕ). get_or pairs i none) same) ∙ get_or_default pairs k none d inside) key
         | inr apart ↦ (let old = c.loop-pair.invariant.keys k d (omega (arith, below, apart)) inside in omega (arith, old, least))
       ];
       least = (let before = c.loop-pair.invariant.least in omega (arith, before, least));

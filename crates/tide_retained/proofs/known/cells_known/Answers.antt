@@ -1,5 +1,5 @@
 -- One more cell is known, with the keys of its pairs.
-use Rattle.std.proofs.Common.{ℕ, ◌≡◌, ◌<◌, ◌≤◌, ◌∙◌, sym, ap, subst, arith, inl, inr, length, List, [], None}
+use Rattle.std.proofs.Common.{ℕ, sym, ap, subst, arith, inl, inr, length, List, None}
 use Rattle.std.specs.Prelude.{Contains}
 use Rattle.std.proofs.lemmas.Bool.{cases_eq, cases_lt}
 use Rattle.std.proofs.lemmas.List.{get_or_past}
@@ -8,12 +8,12 @@ use Rattle.tide_retained.specs.Holding.{AreKeysBelow}
 use Rattle.tide_retained.specs.declared.contents.Keyed.{Keyed}
 use Rattle.tide_retained.proofs.known.cells_known.Goals as goal
 
-pub behind_keys-requires-clause-few : goal.behind_keys-requires-clause-few
-behind_keys-requires-clause-few c =
+pub behind_keys-known-requires-clause-few : goal.behind_keys-known-requires-clause-few
+behind_keys-known-requires-clause-few c =
     subst (AreKeysBelow 83886080) (sym c.pairs.ensures) (c.requires.few c.loop-cell.cell)
 
-pub behind_keys-requires-clause-most : goal.behind_keys-requires-clause-most
-behind_keys-requires-clause-most c = elim c.behind.ensures.one [
+pub behind_keys-known-requires-clause-most : goal.behind_keys-known-requires-clause-most
+behind_keys-known-requires-clause-most c = elim c.behind.ensures.one [
   | inl same ↦ (let before = c.loop-cell.invariant.most in omega (arith, before, same))
   | inr next ↦
       let test = c.loop-cell-test.true in

@@ -14,6 +14,11 @@ invariant_of-result c = record {
       let flags = c.in_ok-retained.ensures.sized in
       let sized = c.in_ok-found.ensures.sized in
       omega (arith, least, flags, sized));
+  most = (
+      let most = c.cells_known-cells.ensures.most in
+      let flags = c.in_ok-retained.ensures.sized in
+      let sized = c.in_ok-found.ensures.sized in
+      omega (arith, most, flags, sized));
   skips_lead = subst (λ (found : List (Option Found)). AreSkips found c.in_ok-skips.skips.items) c.as_slice.ensures.value c.in_ok-skips.ensures;
 }
 
