@@ -4,8 +4,8 @@
 //! A `Realm` has a mutator of its own, a scratch register, and ranges of strong and of weak handles. A reference or a
 //! registration takes a weak handle (`weaks`); what a job got out of a reference is kept in a strong handle until the
 //! job ends (`kept`, `jobs`). What it does on the heap are calls of its mutator (`stepping`). It knows no thread, no
-//! other mutator, and nothing of the collector. A runtime for a script language stands on it; no command of `riptide`
-//! does.
+//! other mutator, and nothing of the collector. It is for a runtime of a script language; nobody
+//! stands on it yet, and no command of `riptide` does.
 #![tactic(auto)]
 
 mod range;
