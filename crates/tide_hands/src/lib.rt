@@ -4,8 +4,8 @@
 //! keeper may post an end. What a ticket and a note are the caller says, by `Parcels`: whoever takes one has what its
 //! poster showed. Each call but `await_ticket` and `await_note` returns at once; those two park on the member's word.
 //!
-//! It may touch `atomic_table` alone: it knows no heap. The room above keeps a table of a heap's tickets and notes, and
-//! gives each thread its seat.
+//! It may touch `atomic_table` alone: it knows no heap. It is for a heap's tickets and notes, where each thread has a
+//! seat; no room stands on it yet.
 #![tactic(auto)]
 
 mod found;
