@@ -1,4 +1,0 @@
-pub mod Lists
-pub mod Notes
-pub mod Tickets
-pub mod Working

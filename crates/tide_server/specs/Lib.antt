@@ -1,5 +1,0 @@
-pub mod AtWork
-pub mod Helpers
-pub mod Keepers
-pub mod Members
-pub mod Opened
