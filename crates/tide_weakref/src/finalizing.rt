@@ -46,7 +46,7 @@ fn first_gone<S: ShapeTable, T: Turnstile>(
         (λ place. (one : WeakIs) × (held : ℕ) × (token : ℕ)
         × IsFirstGone (works.view_of mutator.old) (works.view_of mutator.new) jobs place one held token) }
 {
-    prove!(heap.layout().weak() <= 65535);
+    prove!(heap.layout().weak() <= 65_535);
     for place in 0..weaks.count() {
         let one = weaks.used(place);
         if held_of(one.role).is_none() {
@@ -87,7 +87,7 @@ impl Realm {
         let Some(at) = self.weaks.next() else {
             return Err(self.refuse(heap, src, turnstile));
         };
-        prove!(heap.layout().weak() <= 65535);
+        prove!(heap.layout().weak() <= 65_535);
         let scratch = self.scratch;
         let handle = self.weaks.handles.first + at;
         let Some(target) = aim(&mut self.mutator, heap, scratch, handle, src, turnstile) else {

@@ -42,7 +42,7 @@ fn empty<S: ShapeTable, T: Turnstile>(
         IsBare heap.now.key.layout (works.view_of mutator.old) scratch → (place : ℕ) → place < handles.count →
         (state_after heap.now.key.layout (works.view_of mutator.new).seen).strong (handles.first + place) ≡ Empty }
 {
-    prove!(heap.layout().strong() <= 65535);
+    prove!(heap.layout().strong() <= 65_535);
     for place in 0..handles.count {
         step(
             mutator,
@@ -87,7 +87,7 @@ impl Realm {
         if self.kept.has(cell) {
             return;
         }
-        prove!(heap.layout().strong() <= 65535);
+        prove!(heap.layout().strong() <= 65_535);
         let at = self.kept.next();
         let set = Op::StrongSet {
             at,

@@ -82,7 +82,7 @@ impl Realm {
         let Some(at) = self.weaks.next() else {
             return Err(self.refuse(heap, src, turnstile));
         };
-        prove!(heap.layout().weak() <= 65535);
+        prove!(heap.layout().weak() <= 65_535);
         let scratch = self.scratch;
         let handle = self.weaks.handles.first + at;
         let Some(target) = aim(&mut self.mutator, heap, scratch, handle, src, turnstile) else {
@@ -127,7 +127,7 @@ impl Realm {
         ensures refused { IfErr result (λ _. (jobs_of self.new ≡ jobs_of self.old)
             × (held_in heap.now.key.layout (view_of self.new) ≡ held_in heap.now.key.layout (view_of self.old))) }
     {
-        prove!(heap.layout().weak() <= 65535);
+        prove!(heap.layout().weak() <= 65_535);
         let scratch = self.scratch;
         let at = r as u16;
         let handle = self.weaks.handles.first + at;
