@@ -16,9 +16,11 @@ mod rows;
 use files::files_are_closed;
 use foreign::foreign_handle_breaks_no_other;
 use rows::{
+    delivered_in_order, each_handle_is_in_use_once, gone_target_is_no_other_cell,
     held_value_is_delivered_once, nothing_is_kept_without_handles, nothing_is_made_without_handles,
     number_is_used_again, old_target_waits_for_a_full_cycle, reference_is_kept_for_a_job,
-    second_registration_is_refused, second_target_is_refused, unregistered_is_not_delivered,
+    second_registration_is_refused, second_target_is_not_told, second_target_is_refused,
+    taken_back_is_not_delivered, unregistered_is_not_delivered,
 };
 use std::alloc::Global;
 
@@ -30,10 +32,15 @@ pub fn check_weakref(alloc: Global, name: &str) -> bool {
         "second_target_is_refused" => second_target_is_refused(alloc),
         "held_value_is_delivered_once" => held_value_is_delivered_once(alloc),
         "unregistered_is_not_delivered" => unregistered_is_not_delivered(alloc),
+        "taken_back_is_not_delivered" => taken_back_is_not_delivered(alloc),
+        "delivered_in_order" => delivered_in_order(alloc),
         "second_registration_is_refused" => second_registration_is_refused(alloc),
         "nothing_is_made_without_handles" => nothing_is_made_without_handles(alloc),
         "nothing_is_kept_without_handles" => nothing_is_kept_without_handles(alloc),
+        "each_handle_is_in_use_once" => each_handle_is_in_use_once(alloc),
         "number_is_used_again" => number_is_used_again(alloc),
+        "gone_target_is_no_other_cell" => gone_target_is_no_other_cell(alloc),
+        "second_target_is_not_told" => second_target_is_not_told(alloc),
         "old_target_waits_for_a_full_cycle" => old_target_waits_for_a_full_cycle(alloc),
         "foreign_handle_breaks_no_other" => foreign_handle_breaks_no_other(alloc),
         _ => None,
