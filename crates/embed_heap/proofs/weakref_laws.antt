@@ -1,2 +1,0 @@
--- The proofs that several functions share.
-pub mod Engines
