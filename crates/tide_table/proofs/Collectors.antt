@@ -40,7 +40,7 @@ use Rattle.tide_model.specs.declared.entry.Event.{Event}
 use Rattle.tide_heap.proofs.Beginnings.{longer_ok, same_lists}
 use Rattle.tide_heap.proofs.Births.{all_pass, born_to-none, born_to-quiet, births_few, born_to_all, start-opened, start-push, told_all, told_more, told_none, total_same}
 use Rattle.tide_heap.specs.Births.{births_in, born_to, told_births}
-use Rattle.tide_model.specs.Since.{TakenAreSwept, born_since, is_of_part, since}
+use Rattle.tide_model.specs.Since.{SweptWereTaken, TakenAreSwept, born_since, is_of_part, since}
 use Rattle.tide_table.proofs.FrozenWords.{FrozenWith-read, FrozenWith-more}
 use Rattle.tide_table.proofs.Heeding.{own, mode_of, ok_of, prefix_of, collector_step, continue_part}
 use Rattle.tide_heap.proofs.Leaving.{inactive-push, active-push}
@@ -243,14 +243,15 @@ module _ (layout : Layout) (shapes : ShapeLists) (words : List ℕ) (views : Lis
       × ((i : ℕ) → IsParty layout i → In i v.notes →
       heap_of layout words region.Stopped (index_of_stopped layout i) ≡ v.period)
       × (v.marks ≡ is_marking (heap_of layout words))
-      × TakenAreSwept (since is_open log)
+      × TakenAreSwept (since is_open log) × SweptWereTaken (since is_open log)
   freeze_all thawed all_in =
       let run = running_mode thawed in
       let seen = all_seen all_in in
       let machine : FrozenMachine layout shapes (record { heap = run.heap; part = k.part; log = log })
       (total (counted_in (run.heap region.Period 0)) k.part) =
       FrozenMachine-running layout shapes (record { heap = run.heap; part = k.part; log = log }) run.wave
-      (all_parked all_in) in (
+      (all_parked all_in) in
+      let parts = parts_sweep layout shapes (record { heap = run.heap; part = k.part; log = log }) run.wave (all_parked all_in) in (
         FrozenWith-more layout shapes (heap_of layout words) v.seen (total (counted_in v.period) k.part) v.visits_told
             (enough all_in)
             (subst (λ (n : ℕ). FrozenWith layout shapes (heap_of layout words) v.seen (total (counted_in n) k.part))
@@ -312,7 +313,8 @@ module _ (layout : Layout) (shapes : ShapeLists) (words : List ℕ) (views : Lis
         λ i party a. run.reads.each region.Stopped (index_of_stopped layout i) (stop_within layout i party)
             ∙ run.wave.stops i party ∙ (ok_of layout shapes words views log me v k there is i party).halted a,
         run.marks ∙ sym (ap marks_by (run.reads.each region.Phase 0 (omega arith))),
-        parts_sweep layout shapes (record { heap = run.heap; part = k.part; log = log }) run.wave (all_parked all_in),
+        parts.0,
+        parts.1,
       )
 
   -- a store of the collector while frozen

@@ -100,6 +100,7 @@ module _ (layout : Layout) (shapes : ShapeLists) where
           since = h.3;
           of_part = h.4;
           taken = h.13;
+          swept = h.14;
           births = h.5;
           few = (let same = h.5 in let most = h.6 in omega (arith, same, most));
           gone = h.7;
