@@ -19,7 +19,7 @@ use Rattle.tide_model.specs.Refused.{ShapeLists}
 use Rattle.tide_model.specs.Since.{SweptWereTaken, TakenAreSwept, is_birth, is_of_part}
 use Rattle.tide_model.specs.declared.entry.Entry.TheVariants.{Open, Visits}
 use Rattle.tide_model.specs.declared.entry.Event.{Event}
-use Rattle.tide_heap.specs.Parties.{In, IsParty, longer, up_to}
+use Rattle.tide_heap.specs.Parties.{HasNoted, In, IsParty, longer, up_to}
 use Rattle.tide_core.specs.tide_words.heap.Heap.{heap_of}
 use Rattle.tide_core.specs.tide_words.marking.Colours.{is_marking, running_cycle}
 use Rattle.tide_core.specs.tide_words.marking.Marked.{base_cycle}
@@ -153,8 +153,9 @@ pub record Freezes (layout : Layout) (shapes : ShapeLists) (v w : View) : Type 0
   pub swept : SweptWereTaken part
   pub births : v.births ≡ count_by (λ event. is_birth event.entry) part
   pub few : v.births ≤ most_cells
-  -- what each note tells of the history is a beginning of it, and what it tells of its participant's calls are all that
-  -- the history has; the same of who left for good before
+  -- a note of each participant is in, or was before it left for good: what it tells of the history is a beginning of it,
+  -- and what it tells of its participant's calls are all that the history has, so that this is the whole history
+  pub all : (i : ℕ) → IsParty layout i → HasNoted v i
   pub heard : (noted : NotedCalls) → IsParty layout noted.who → Contains v.noted_calls noted → IsPrefix noted.seen v.seen
   pub own : (noted : NotedCalls) → IsParty layout noted.who → Contains v.noted_calls noted →
       filter (λ event. is_call_of noted.who event.entry) v.seen ≡ noted.mine
