@@ -41,7 +41,7 @@ seen_once layout shapes v u log at index found m block read view = record {
 
 module _ (layout : Layout) (shapes : ShapeLists) (v : View) (block : ℕ) where
   pub may_load : v.who < layout.mutators → v.runs ≡ true → block < block_count layout →
-      MayStep layout shapes v (LoadFree block None)
+      MayStep layout shapes v (LoadFree block)
   may_load is_mutator runs within w running is = (
     record {
       is_mutator = is_mutator;
@@ -50,7 +50,7 @@ module _ (layout : Layout) (shapes : ShapeLists) (v : View) (block : ℕ) where
     within,
   )
 
-  module _ (read : ℕ) (u : View) (f : Follows layout shapes (LoadFree block None) v read u) where
+  module _ (read : ℕ) (u : View) (f : Follows layout shapes (LoadFree block) v read u) where
     pub looked_free : HasLooked v u
     looked_free = looked_once v u (record { block = block; moment = length f.log; word = read }) read f.view
 

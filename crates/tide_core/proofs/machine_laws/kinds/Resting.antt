@@ -9,7 +9,7 @@ use Rattle.tide_core.proofs.machine_laws.steps.Lists.{from_none, nothing_in}
 use Rattle.tide_core.proofs.machine_laws.steps.Quiet.{quiet_step}
 use Rattle.tide_core.proofs.machine_laws.steps.Steps.{any_step}
 use Rattle.tide_core.proofs.machine_laws.steps.StopPlaces.{stop_apart}
-use Rattle.tide_core.proofs.machine_laws.steps.SweepsKept.{owed_kept, sweeping_same, sweeps_same}
+use Rattle.tide_core.proofs.machine_laws.steps.SweepsKept.{owed_kept, sweeping_same, sweeps_same, took_kept}
 use Rattle.tide_core.proofs.machine_laws.steps.Waiting.{left_quiet}
 use Rattle.tide_core.proofs.machine_laws.steps.Unsettled.{given_put, unsettles_put}
 use Rattle.tide_core.specs.machine.Duties.{GrowsAndOwes}
@@ -110,6 +110,8 @@ module _ (layout : Layout) (shapes : ShapeLists) (heap : Heap) (part : ℕ → V
       };
       told = right.told;
       taken = owed_kept part me later log refl right.taken;
+      took = took_kept part me later log refl right.took;
+      swept = right.swept;
       cleared = each_put (λ p u. (block moment : ℕ) →
           Contains u.cleared (record { block = block; moment = moment }) → (moment ≤ length log)
           × ((later : ℕ) → moment ≤ later → later ≤ length log → DeadIsTaken layout (take later log) block)) part me later

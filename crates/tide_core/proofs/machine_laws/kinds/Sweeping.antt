@@ -34,7 +34,7 @@ use Rattle.tide_core.specs.machine.kinds.Sweep.{IsSweeping, MayClaimBlock, MayFi
 use Rattle.tide_core.specs.declared.machine.view.Saw.{Saw}
 use Rattle.tide_core.specs.machine.points.Arrays.{ArrayStands, ArraysStand}
 use Rattle.tide_core.specs.machine.points.SettledWords.{RunningWordsRead}
-use Rattle.tide_core.specs.machine.points.Sweeps.{IsTaken, SawStands, SweptAreBelow}
+use Rattle.tide_core.specs.machine.points.Sweeps.{IsTaken, SawStands, Sweeps, SweptAreBelow}
 use Rattle.tide_model.proofs.Histories.{state_after-push}
 use Rattle.tide_model.proofs.LawfulReferences.{RefsAreLive-event}
 use Rattle.tide_model.proofs.ReferenceLaws.{put_at_elim}
@@ -236,6 +236,13 @@ module _ (layout : Layout) (shapes : ShapeLists) (w : World) (me : ℕ) (inside 
       ungiven = t.ungiven;
     }
 
+    -- it sweeps the block that it swept before
+    was : (b : ℕ) → Sweeps later_z b → Sweeps (w.part me) b
+    was b t =
+        let one : Some t.sweeping ≡ Some (record s_z { zeroed = owed_word at index 0 ∷ s_z.zeroed }) = sym t.is ∙ goes_on in
+        let same : t.sweeping ≡ record s_z { zeroed = owed_word at index 0 ∷ s_z.zeroed } = cc in
+        record { sweeping = s_z; is = may.sweeps.is; of_block = sym (ap (λ (o : Sweeping). o.block) same) ∙ t.of_block }
+
     zero_word : RunningWave layout shapes (stepped layout shapes w me (ZeroWord at index))
     zero_word = idle_step layout shapes w me inside wave may.runner.runs idle_z zeroed
         (in_sweep (w.part me).sweeping (λ s_z. record s_z { zeroed = owed_word at index 0 ∷ s_z.zeroed })) (w.part me).saw
@@ -250,7 +257,7 @@ module _ (layout : Layout) (shapes : ShapeLists) (w : World) (me : ℕ) (inside 
               (λ c x o. o) (λ c x o. o) (λ i x o. o) (w.part p).growth (wave.growths.knows p);
           swept = swept_kept layout w.heap zeroed (zero_else region.Phase 0 refl) (λ b within. zero_else region.Swept b refl) wave.swept;
           sweeps = right_on layout shapes w.heap w.part w.log wave.words wave.sweeps idle_z me later_z zeroed (zero_else region.Phase 0 refl)
-              (λ b. zero_else region.Swept b refl) refl still named_now_z;
+              (λ b. zero_else region.Swept b refl) refl still was named_now_z;
         }
 
   -- the bits of what was dead are given
@@ -401,7 +408,7 @@ module _ (layout : Layout) (shapes : ShapeLists) (w : World) (me : ℕ) (inside 
           sweeps = right_on layout shapes w.heap w.part w.log wave.words wave.sweeps idle_f me later_f new_f refl (λ b. refl) refl
               (λ b t. absurd (let one : Some t.sweeping ≡ Some s_f = sym t.is ∙ may.is in let same : t.sweeping ≡ s_f = cc in
               let waits = t.ungiven in let bad : false ≡ true = sym waits ∙ ap (λ (o : Sweeping). o.given) same ∙ may.given in cc))
-              (named_finished layout shapes w.heap w.part state wave.words wave.sweeps.named wave.refs me later_f refl refl refl refl s_f
+              (λ b t. absurd (let none = t.is in cc)) (named_finished layout shapes w.heap w.part state wave.words wave.sweeps.named wave.refs me later_f refl refl refl refl s_f
               may.is may.given refl);
         })
 

@@ -1,7 +1,7 @@
 -- The steps of a sweep, as far as blocks and the history go: dead bits are loaded, a block is claimed, and what is said
 -- of sweeps after each step.
 use Rattle.std.proofs.Common.{ℕ, ◌≡◌, ◌≢◌, ◌+◌, ◌<◌, ◌≤◌, ◌⊎◌, refl, sym, ◌∙◌, ap, subst, arith, Bool, true, false, List, [], ◌∷◌, ◌++◌, inl, inr, Option, Some, None, length, length-append, take}
-use Rattle.std.proofs.lemmas.Bool.{cases_eq, eq-eqb, ne_eqb}
+use Rattle.std.proofs.lemmas.Bool.{cases_eq, eq-eqb, eqb-true, ne_eqb}
 use Rattle.std.proofs.lemmas.List.Elements.{Contains-append_cases}
 use Rattle.std.specs.Prelude.{Contains, if◌then◌else◌}
 use Rattle.tide_words.specs.tide_layout.Region.{block_count, tag}
@@ -9,7 +9,7 @@ use Rattle.tide_words.specs.tide_layout.declared.region.Region.{Region}
 use Rattle.tide_words.specs.tide_layout.declared.region.Region.TheVariants as region
 use Rattle.tide_core.proofs.machine_laws.steps.Frames.{each_put, put_here}
 use Rattle.tide_core.proofs.machine_laws.steps.Lists.{nothing_in, in_one}
-use Rattle.tide_core.proofs.machine_laws.steps.SweepsKept.{cleared_kept, cleared_push, named_kept, owed_kept, sweeping_same, sweeps_same, told_kept}
+use Rattle.tide_core.proofs.machine_laws.steps.SweepsKept.{behind_push, cleared_kept, cleared_push, named_kept, owed_kept, sweeping_same, sweeps_same, told_kept, took_kept, took_push}
 use Rattle.tide_core.proofs.machine_laws.steps.Unsettled.{own_is_not_dead, unsettled_word}
 use Rattle.tide_core.specs.machine.Owed.{IsOwnWord, Knows, Owes, Unsettles, owed_word, unsettled}
 use Rattle.tide_core.specs.declared.machine.view.Cleared.{Cleared}
@@ -19,9 +19,9 @@ use Rattle.tide_core.specs.declared.machine.view.Sweeping.{Sweeping}
 use Rattle.tide_core.specs.declared.machine.view.View.{View}
 use Rattle.tide_core.specs.machine.kinds.Sweep.{IsSweeping}
 use Rattle.tide_core.specs.machine.points.SettledWords.{RunningWordsRead}
-use Rattle.tide_core.specs.machine.points.Sweeps.{ClearedAreClean, IsTaken, SawStands, SweepStands, Sweeps, SweepsAreNamed, SweepsAreRight, SweptAreTold}
+use Rattle.tide_core.specs.machine.points.Sweeps.{ClearedAreClean, IsTaken, SawStands, SweepStands, Sweeps, SweepsAreNamed, SweepsAreRight, SweepersTook, SweptAreTold}
 use Rattle.tide_model.proofs.Cycles.{take-all}
-use Rattle.tide_model.proofs.DeadLaws.{TakenAreSwept-now, TakenAreSwept-push, WasTaken-before, WasTaken-now, WasTaken-push}
+use Rattle.tide_model.proofs.DeadLaws.{TakenAreSwept-now, TakenAreSwept-push, WasTaken-before, WasTaken-now, WasTaken-push, taken-now}
 use Rattle.tide_model.proofs.Histories.{state_after-push}
 use Rattle.tide_model.proofs.ReferenceLaws.{put_at_elim}
 use Rattle.tide_model.proofs.SinceLaws.{since-push}
@@ -114,6 +114,8 @@ module _ (layout : Layout) (shapes : ShapeLists) (heap : Heap) (part : ℕ → V
         (λ b has. has) right.named;
     told = right.told;
     taken = owed_kept part me w log same right.taken;
+    took = took_kept part me w log same right.took;
+    swept = right.swept;
     cleared = cleared_now me w block clean is right.cleared;
   }
 
@@ -145,6 +147,8 @@ module _ (layout : Layout) (shapes : ShapeLists) (heap : Heap) (part : ℕ → V
     };
     told = right.told;
     taken = owed_kept part me w log same right.taken;
+    took = took_kept part me w log same right.took;
+    swept = right.swept;
     cleared = cleared_kept layout part me w log is right.cleared;
   }
 
@@ -329,6 +333,13 @@ module _ (layout : Layout) (shapes : ShapeLists) (heap : Heap) (part : ℕ → V
           )
         ]
       ];
+      took = each_put (λ p u. (b : ℕ) → Sweeps u b →
+          0 < moment_after_last (λ e. is_taken_of b e.entry) (since is_open longer)) part me w
+          (λ b t. subst (λ (l : List Event). 0 < moment_after_last (λ e. is_taken_of b e.entry) l)
+          (sym (since-push is_open log (plain (Taken block)) refl))
+          (taken-now (since is_open log) (plain (Taken block)) b (eq-eqb block b (mine_is b t))))
+          (took_push part log (plain (Taken block)) refl right.took);
+      swept = behind_push log (plain (Taken block)) refl right.swept (λ b sweeps. absurd (cc));
       cleared = each_put (λ p u. (b moment : ℕ) → Contains u.cleared (record { block = b; moment = moment }) →
           (moment ≤ length longer)
           × ((n : ℕ) → moment ≤ n → n ≤ length longer → DeadIsTaken layout (take n longer) b)) part me w mine_cleared earlier;
@@ -389,14 +400,30 @@ module _ (layout : Layout) (shapes : ShapeLists) (heap : Heap) (part : ℕ → V
           )
         ]
       ];
+      took = each_put (λ p u. (b : ℕ) → Sweeps u b →
+          0 < moment_after_last (λ e. is_taken_of b e.entry) (since is_open (log ++ plain (Sweep s.block) ∷ []))) part me w
+          (λ b t. longer_took me b (still_mine b t)) longer_took;
+      swept = behind_push log (plain (Sweep s.block)) refl right.swept (λ b sweeps.
+          right.took me b (record { sweeping = s; is = is; of_block = eqb-true s.block b sweeps }));
       cleared = cleared_kept layout part me w (log ++ plain (Sweep s.block) ∷ []) same_cleared
           (cleared_push layout part log (plain (Sweep s.block)) refl right.cleared);
     }
+      where
+        longer_took : SweepersTook part (log ++ plain (Sweep s.block) ∷ [])
+        longer_took = took_push part log (plain (Sweep s.block)) refl right.took
+
+        -- it goes on with the block that it swept
+        still_mine : (b : ℕ) → Sweeps w b → Sweeps (part me) b
+        still_mine b t =
+            let one : Some t.sweeping ≡ Some (record s { given = true }) = sym t.is ∙ gave in
+            let same : t.sweeping ≡ record s { given = true } = cc in
+            record { sweeping = s; is = is; of_block = sym (ap (λ (o : Sweeping). o.block) same) ∙ t.of_block }
 
   -- a step that makes no entry, and goes on with its sweep or finishes it
   module _ (me : ℕ) (w : View) (new : Heap) (phase : new region.Phase 0 ≡ heap region.Phase 0)
       (swept_words : (b : ℕ) → new region.Swept b ≡ heap region.Swept b) (same_cleared : w.cleared ≡ (part me).cleared)
       (still : (b : ℕ) → IsSweeping (part me) b → IsSweeping w b)
+      (was : (b : ℕ) → Sweeps w b → Sweeps (part me) b)
       (named : SweepsAreNamed layout new (put_at part me w) state) where
     pub right_on : SweepsAreRight layout new (put_at part me w) log
     right_on = record {
@@ -410,5 +437,9 @@ module _ (layout : Layout) (shapes : ShapeLists) (heap : Heap) (part : ℕ → V
               (λ p other t. t) owes.0 owes.1,
         )
       ];
+      took = each_put (λ p u. (b : ℕ) → Sweeps u b →
+          0 < moment_after_last (λ e. is_taken_of b e.entry) (since is_open log)) part me w
+          (λ b t. right.took me b (was b t)) right.took;
+      swept = right.swept;
       cleared = cleared_kept layout part me w log same_cleared right.cleared;
     }

@@ -12,7 +12,7 @@ use Rattle.tide_model.specs.Cycle.{HasDead}
 use Rattle.tide_model.specs.History.{is_open, moment_after_last, state_after}
 use Rattle.tide_model.specs.Layout.{Layout}
 use Rattle.tide_model.specs.Room.{DeadIsTaken}
-use Rattle.tide_model.specs.Since.{WasTaken, is_sweep_of, is_taken_of, since}
+use Rattle.tide_model.specs.Since.{SweptWereTaken, WasTaken, is_sweep_of, is_taken_of, since}
 use Rattle.tide_model.specs.State.{State}
 use Rattle.tide_model.specs.declared.entry.Event.{Event}
 use Rattle.tide_sweep.specs.Zeroed.{IsDeadWord}
@@ -81,6 +81,11 @@ TakenAreOwed part log = (block : ℕ) →
     ≤ moment_after_last (λ event. is_sweep_of block event.entry) (since is_open log))
     ⊎ ((p : ℕ) × IsSweeping (part p) block)
 
+-- who sweeps a block took it in the part
+abbrev pub SweepersTook : (ℕ → View) → List Event → Type 0
+SweepersTook part log = (p block : ℕ) → Sweeps (part p) block →
+    0 < moment_after_last (λ event. is_taken_of block event.entry) (since is_open log)
+
 -- from the moment on at which a view says a block to be cleared, what is dead there, if anything is, was taken
 abbrev pub ClearedAreClean : Layout → (ℕ → View) → List Event → Type 0
 ClearedAreClean layout part log = (p block moment : ℕ) →
@@ -93,4 +98,6 @@ pub record SweepsAreRight (layout : Layout) (heap : Heap) (part : ℕ → View) 
   pub named : SweepsAreNamed layout heap part (state_after layout log)
   pub told : SweptAreTold layout heap log
   pub taken : TakenAreOwed part log
+  pub took : SweepersTook part log
+  pub swept : SweptWereTaken (since is_open log)
   pub cleared : ClearedAreClean layout part log
