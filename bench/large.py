@@ -1,13 +1,13 @@
 """What a large heap costs: how long it takes to open and to collect, and what it takes in memory, beside Boehm's collector.
 
-    python3 bench/large.py [--write] PROGRAM [MOST]
+    python3 bench/large.py PROGRAM [MOST]
 
-PROGRAM is bench/large/main.rt, built as a crate of its own: docs/EMBED.md says how. It isn't proved, and the gate doesn't
-build it. Heaps of 10^4 cells to MOST (10^7) are filled by one mutator but for a 64th of their places, with cells of 2, 4, 8
-and 16 slots in turn. Boehm's collector is Debian's libgc-dev, built by gcc, with one marker; it makes the same cells.
-Where it isn't installed it has no row. The two run in turn, three times each, and medians are printed; all times are the
-processor's, so that other work on the machine lengthens none but by its use of caches and memory. With --write the tables go
-into docs/BENCH.md, between their marks.
+PROGRAM is bench/large/main.rt, built. That file is a program of one's own over the door `tide`: it isn't proved, and the
+gate doesn't build it. Heaps of 10^4 cells to MOST (10^7) are filled by one mutator but for a 64th of their places, with
+cells of 2, 4, 8 and 16 slots in turn. Boehm's collector is Debian's libgc-dev, built by gcc, with one marker; it makes the
+same cells. Where it isn't installed, its columns are empty. The two run in turn, three times each, and medians are printed
+as three tables. All times are the processor's, so that other work on the machine lengthens them only by its use of caches
+and memory.
 """
 import os
 import statistics
@@ -19,7 +19,6 @@ if __name__ == "__main__" and sys.argv[1:] in ([], ["--help"]):
     sys.exit(print(__doc__.strip()))
 
 HERE = os.path.dirname(os.path.abspath(__file__))
-PAGE = os.path.join(HERE, "..", "docs", "BENCH.md")
 KINDS = ["drawn", "chain"]
 TIMES = 3
 HEADS = [
@@ -84,26 +83,15 @@ def line_of(row):
 
 
 def main():
-    words = [word for word in sys.argv[1:] if word != "--write"]
-    most = int(words[1]) if len(words) > 1 else 10 ** 7
-    sizes = [size for size in (10 ** 4, 10 ** 5, 10 ** 6, 10 ** 7) if size <= most]
+    most = int(sys.argv[2]) if len(sys.argv) > 2 else 10 ** 7
     tables = [[line_of(head), "|" + "---|" * len(head)] for head in HEADS]
     with tempfile.TemporaryDirectory() as room:
         boehm = built(room)
-        for cells in sizes:
-            for kind in KINDS:
-                for table, row in zip(tables, rows(words[0], boehm, kind, cells)):
+        for cells in (10 ** 4, 10 ** 5, 10 ** 6, 10 ** 7):
+            for kind in KINDS if cells <= most else []:
+                for table, row in zip(tables, rows(sys.argv[1], boehm, kind, cells)):
                     table.append(line_of(row))
-                    print(table[-1], flush=True)
-    if "--write" in sys.argv:
-        with open(PAGE) as file:
-            text = file.read()
-        for number, table in enumerate(tables, 1):
-            marks = f"<!-- large {number} -->\n", f"<!-- end of large {number} -->\n"
-            before, rest = text.split(marks[0])
-            text = before + marks[0] + "\n".join(table) + "\n" + marks[1] + rest.split(marks[1])[1]
-        with open(PAGE, "w") as file:
-            file.write(text)
+    print("\n\n".join("\n".join(table) for table in tables))
 
 
 if __name__ == "__main__":
