@@ -25,6 +25,9 @@ const TIMES: u32 = 7;
 /// How many cells are born before an Eden cycle, at most.
 const YOUNG: u32 = 10_000;
 
+/// How many freezes a cycle may take that begins by itself.
+const MOST_FREEZES: u32 = 100_000;
+
 /// A period of the schedule: the first pause of a cycle makes a quarter of so many cells black.
 const PERIOD: u32 = 65_536;
 
@@ -201,7 +204,7 @@ fn time_full<R: CpuClock + Print>(rt: &R, measured: &mut Measured) -> io::Result
 /// Times Eden cycles: the freezes from the part in which young cells were born to the one in which the cycle ended.
 fn time_eden<R: CpuClock + Print>(rt: &R, measured: &mut Measured, young: u32) -> io::Result<()> {
     measured.freeze(rt, true)?;
-    let (mut ended, _) = measured.last();
+    measured.books.report.forget();
     measured.books.pacing = Pacing {
         period: PERIOD,
         headroom: 1,
@@ -216,18 +219,17 @@ fn time_eden<R: CpuClock + Print>(rt: &R, measured: &mut Measured, young: u32) -
         }
         let mut took = measured.freeze(rt, false)?;
         let mut freezes = 1;
-        while measured.books.report.cycles().is_empty() && freezes < 9 {
+        while measured.books.report.cycles().is_empty() && freezes < MOST_FREEZES {
             took += measured.freeze(rt, false)?;
             freezes += 1;
         }
         let (number, kept) = measured.last();
-        let kind = if number % 4 == 0 { "begun_full" } else { "eden" };
+        let kind = if number % 4 == 0 { "in_turn" } else { "eden" };
         println!(rt; "{kind} {took}")?;
         println!(rt; "{kind}_freezes {freezes}")?;
         println!(rt; "{kind}_kept {kept}")?;
-        ended = number;
     }
-    println!(rt; "cycles {ended}")
+    Ok(())
 }
 
 fn measure<R: CpuClock + Print>(
