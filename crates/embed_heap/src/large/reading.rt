@@ -44,14 +44,17 @@ const VALUE: [Op; 3] = [
     Op::WeakGet { dst: 3, at: 0 },
 ];
 
-/// A table that the last strong handle holds: under the key it has the value, which nothing else holds then.
-const TABLE: [Op; 6] = [
+/// A table that the last strong handle holds: under the key it has the value, which nothing else holds then. Its pairs
+/// are for the mutator that claims it.
+const TABLE: [Op; 8] = [
     Op::Table { dst: 4 },
+    Op::Claim { src: 4 },
     Op::PairSet {
         src: 4,
         key: 249,
         val: 3,
     },
+    Op::Release { src: 4 },
     Op::StrongSet { at: 999, val: 4 },
     Op::Drop { dst: 3 },
     Op::Drop { dst: 2 },
@@ -59,14 +62,21 @@ const TABLE: [Op; 6] = [
 ];
 
 /// The value under the key.
-const PAIR: [Op; 1] = [Op::PairGet {
-    dst: 3,
-    src: 4,
-    key: 249,
-}];
+const PAIR: [Op; 2] = [
+    Op::Claim { src: 4 },
+    Op::PairGet {
+        dst: 3,
+        src: 4,
+        key: 249,
+    },
+];
 
-/// The key and the value are let go.
-const LET_GO: [Op; 2] = [Op::Drop { dst: 249 }, Op::Drop { dst: 3 }];
+/// The claim, the key and the value are let go.
+const LET_GO: [Op; 3] = [
+    Op::Release { src: 4 },
+    Op::Drop { dst: 249 },
+    Op::Drop { dst: 3 },
+];
 
 /// Where the weak handle leads.
 const LOOK: [Op; 1] = [Op::WeakGet { dst: 3, at: 0 }];
