@@ -125,6 +125,16 @@ HasFrozenNext-by layout shapes pace is_forced run v u w x froze did is = record 
       ∙ (λ i. w.seen ++ plain (Open (sym (ap (λ (y : View). y.period) is) i) (did.next i)) ∷ []);
 }
 
+-- books in which births alone were counted, and which were kept then, were kept since before
+pub WereKept-counted : (layout : Layout) (history : List Event) (old counted books : Books) →
+    counted ≡ record old { births = counted.births } → WereKept layout history history counted books →
+    WereKept layout history history old books
+WereKept-counted layout history old counted books others kept = record {
+  are = kept.are;
+  pacing = kept.pacing ∙ ap (λ (b : Books). b.pacing) others;
+  told = subst (λ (b : Books). AddsEnds layout history history b.report books.report) others kept.told;
+}
+
 -- and the report has just the ends that came
 pub AddsEnds-next : (layout : Layout) (shapes : ShapeLists) (run : ℕ) (report longer : Reported) (v u w x : View) →
     Freezes layout shapes v u → AddsEnds layout u.seen w.seen report longer → x ≡ opened layout run w →
