@@ -7,9 +7,10 @@ gate doesn't build it. Heaps of 10^4 cells to MOST (10^7) are filled by one muta
 cells of 2, 4, 8 and 16 slots in turn. Boehm's collector is Debian's libgc-dev, built by gcc, with one marker; it makes the
 same cells. Where it isn't installed, its columns are empty. The two run in turn, three times each, and medians are printed
 as three tables. All times are the processor's, so that other work on the machine lengthens them only by its use of caches
-and memory.
+and memory. A peak that isn't above this script's own can't be told, and is left out.
 """
 import os
+import resource
 import statistics
 import subprocess
 import sys
@@ -66,12 +67,14 @@ def rows(program, boehm, kind, cells):
         if boehm:
             theirs.append(run([boehm, kind, str(live)]))
     peak = statistics.median(memory for _, memory in ours)
+    is_told = peak > 1.1 * 1024 * resource.getrusage(resource.RUSAGE_SELF).ru_maxrss
     room, own = ours[0][0]["room"][0], 8 * ours[0][0]["words"][0]
     full, eden = median(ours, "full"), median(ours, "eden")
     other = median(theirs, "full") if theirs else None
     name = [f"{live:,}", kind]
     return [
-        name + [f"{median(ours, 'opening') / 1e6:.2f}", f"{peak / 1e6:.1f}", f"{own / 1e6:.1f}", f"{peak / room:.0f}"],
+        name + [f"{median(ours, 'opening') / 1e6:.2f}", f"{peak / 1e6:.1f}" if is_told else "", f"{own / 1e6:.1f}",
+                f"{peak / room:.0f}" if is_told else ""],
         name + [f"{full / 1e6:.2f}", f"{full / live:.0f}", f"{other / 1e6:.2f}" if other else "",
                 f"{full / other:.2f}" if other else "", f"{eden / 1e6:.2f}", f"{median(ours, 'longest') / 1e6:.2f}"],
         name + [f"{median(ours, 'part_empty') / 1e6:.3f}", f"{median(ours, 'part') / 1e6:.3f}"],
