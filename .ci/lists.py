@@ -147,7 +147,7 @@ def order_of(text):
     """The modules that a file lists, lowest first, and whose the names are that it hands on from them."""
     handed_on = {}
     for module, one, several in HANDED_ON.findall(text):
-        for item in (one or several).split(","):
+        for item in filter(str.strip, (one or several).split(",")):
             handed_on[item.split(" as ")[-1].strip()] = module
     return MODULE.findall(text), handed_on
 
