@@ -1,9 +1,13 @@
 -- Members and helpers are seated one after another.
-use Rattle.std.proofs.Common.{ℕ, suc, ◌≡◌, ◌+◌, ◌∙◌, arith, ap, refl, subst, List, [], ◌∷◌, ◌++◌, length}
+use Rattle.std.proofs.Common.{ℕ, suc, ◌≡◌, ◌+◌, ◌-◌, ◌<◌, ◌≤◌, ◌∙◌, arith, ap, refl, subst, sym, Bool, false, List, [], ◌∷◌, ◌++◌, length, le-ltb}
+use Rattle.std.specs.Prelude.{MatchBool, if◌then◌else◌}
 use Rattle.atomic_table.specs.Seated.{TableId}
-use Rattle.tide_model.specs.Layout.{Layout}
-use Rattle.tide_mutator.specs.calls.Viewed.{view_of}
+use Rattle.tide_model.specs.Layout.{Layout, cell_count}
+use Rattle.tide_mutator.specs.calls.Viewed.{table_of, view_of}
+use Rattle.tide_posts.specs.tide_heap.tide_core.declared.machine.view.View.{View}
 use Rattle.tide_posts.specs.tide_heap.tide_core.machine.Frozen.{newcomer}
+use Rattle.tide_posts.specs.tide_heap.tide_core.machine.World.{first_visitor}
+use Rattle.tide_server.specs.AtWork.{IsAtWork, IsParked}
 use Rattle.tide_server.specs.Helpers.{IsHelperOf}
 use Rattle.tide_server.specs.Members.{IsMemberOf}
 use Rattle.tide_server.specs.Opened.{AreHelpers, AreMembers}
@@ -11,7 +15,56 @@ use Rattle.tide_server.specs.declared.helper.Helper.{Helper}
 use Rattle.tide_server.specs.declared.member.Member.{Member}
 use Rattle.tide_visitor.specs.Viewed as visiting
 
+-- who knows nothing yet stands still
+IsParked-newcomer : (who : ℕ) → IsParked (newcomer who)
+IsParked-newcomer who = record {
+  rests = refl;
+  begun = (let e : 0 ≤ 0 = omega arith in e);
+  own = refl;
+  opens = (let e : 0 ≤ 0 = omega arith in e);
+}
+
 module _ (layout : Layout) (heap hands : TableId) where
+  -- a mutator that has made no call is a member
+  pub IsMemberOf-newcomer : (m : Member) (who : ℕ) → table_of m.mutator ≡ heap → m.seat.seat.table_id ≡ hands →
+      m.seat.seat.me.0.name ≡ record { layout = layout; table_id = heap } → view_of m.mutator ≡ newcomer who →
+      m.works ≡ false → who < layout.mutators → IsMemberOf layout heap hands m
+  IsMemberOf-newcomer m who table seated named new rests below = record {
+    table = table;
+    seated = seated;
+    named = named;
+    is_mutator = subst (λ (v : View). v.who < layout.mutators) (sym new) below;
+    stands = subst (λ (b : Bool). MatchBool b (IsAtWork (view_of m.mutator) m.left m.ended) (IsParked (view_of m.mutator)))
+        (sym rests) (subst IsParked (sym new) (IsParked-newcomer who));
+  }
+
+  -- a visitor that has made no visit is a helper
+  pub IsHelperOf-newcomer : (h : Helper) (n : ℕ) → visiting.table_of h.visitor ≡ heap → h.seat.seat.table_id ≡ hands →
+      h.seat.seat.me.0.name ≡ record { layout = layout; table_id = heap } →
+      visiting.view_of h.visitor ≡ newcomer (first_visitor + n) → n < layout.visitors →
+      h.seat.place ≡ layout.mutators + n → cell_count layout ≤ visiting.stack_room_of h.visitor →
+      IsHelperOf layout heap hands h
+  IsHelperOf-newcomer h n table seated named new below at room = record {
+    table = table;
+    seated = seated;
+    named = named;
+    is_visitor = record {
+      is_visitor = (let who = number in omega (arith, who));
+      within = (let who = number in omega (arith, who, below));
+    };
+    behind = behind;
+    who = number ∙ (let e : first_visitor + n ≡ first_visitor + (h.seat.place - layout.mutators) = omega (arith, at) in e)
+        ∙ sym (ap (λ (b : Bool). if b then h.seat.place else first_visitor + (h.seat.place - layout.mutators))
+        (le-ltb h.seat.place layout.mutators behind));
+    room = room;
+  }
+    where
+      number : (visiting.view_of h.visitor).who ≡ first_visitor + n
+      number = ap (λ (v : View). v.who) new
+
+      behind : layout.mutators ≤ h.seat.place
+      behind = omega (arith, at)
+
   pub AreMembers-push : (first : ℕ) (ms : List Member) (m : Member) → AreMembers layout heap hands first ms →
       IsMemberOf layout heap hands m → view_of m.mutator ≡ newcomer (first + length ms) →
       AreMembers layout heap hands first (ms ++ m ∷ [])

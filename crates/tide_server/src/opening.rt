@@ -1,6 +1,7 @@
 //! A standing heap is opened: its members, its helpers and its keeper get their seats, and the first part its tickets.
-ghost use Rattle.std.specs.Prelude.{◌≡◌, ◌+◌, ◌≤◌, IfOk, OnOk, length, vec_len};
+ghost use Rattle.std.specs.Prelude.{◌≡◌, ◌+◌, ◌≤◌, [], IfOk, OnOk, length, vec_len};
 ghost use Rattle.tide_posts.specs.tide_heap.Turns.{opened};
+ghost use Rattle.tide_posts.specs.tide_heap.tide_freeze.Books.{AreBooks};
 ghost use Rattle.tide_posts.specs.Name.{places};
 ghost use Rattle.tide_server.specs.Keepers.{IsKeeperOf};
 ghost use Rattle.tide_server.specs.Opened.{AreHelpers, AreMembers};
@@ -14,14 +15,12 @@ use crate::standing::Standing;
 use std::alloc::Global;
 use std::sync::atomic::AtomicBool;
 use tide_model::Memory;
-use tide_mutator::Mutator;
 use tide_posts::{
-    Books, GreyList, HeapName, HeapShapes, KeeperSeat, Note, Pacing, Pass, Ticket, open_table,
+    Books, GreyList, Heap, HeapName, HeapShapes, KeeperSeat, Note, Pacing, Pass, Ticket, open_table,
 };
 use tide_shape::ShapeTable;
 use tide_table::Start;
 use tide_text::Settings;
-use tide_visitor::Visitor;
 
 /// A heap that stands, with the right to each of its seats.
 #[derive(Drop)]
@@ -32,6 +31,31 @@ pub struct Opened<S: HeapShapes> {
     pub members: Vec<Member>,
     /// A helper for each visitor, in the order of their numbers.
     pub helpers: Vec<Helper>,
+}
+
+/// A heap that stands, in which a ticket is due at each place, and its keeper's seat. No member is seated yet.
+fn stand<S: HeapShapes + Drop>(
+    alloc: Global,
+    heap: Heap<S>,
+) -> Result<(Standing<S>, KeeperSeat<Ticket, Note, HeapName>), Memory>
+    ensures heap { IfOk result (λ made. made.0.heap ≡ heap) }
+    ensures own { IfOk result (λ made. made.1.seat.table_id ≡ made.0.hands.shared.table_id) }
+    ensures named { IfOk result (λ made. made.1.seat.me.0.name ≡ record {
+      layout = heap.key.layout;
+      table_id = heap.table.shared.table_id;
+    }) }
+    ensures first { IfOk result (λ made. made.1.seat.me.0.next ≡ 0) }
+{
+    let places = usize::from(heap.layout().mutators()) + usize::from(heap.layout().visitors());
+    let Ok((hands, seat)) = open_table(alloc, &heap, places) else {
+        return Err(Memory);
+    };
+    let standing = Standing {
+        heap,
+        hands,
+        wanted: AtomicBool::new(false),
+    };
+    Ok((standing, seat))
 }
 
 /// A member for each mutator's pass.
@@ -59,15 +83,8 @@ fn seat_members<S: HeapShapes>(
     let mut members = Vec::new(alloc);
     for pass in passes {
         let own = seat.seat_member(&standing.hands.shared, members.len());
-        members.push(Member {
-            mutator: Mutator::new(pass),
-            seat: own,
-            period: 0,
-            left: 0,
-            retries: false,
-            ended: false,
-            works: false,
-        })?;
+        let member = Member::new(pass, own);
+        members.push(member)?;
     }
     Ok(members)
 }
@@ -99,11 +116,8 @@ fn seat_helpers<S: HeapShapes>(
     for pass in passes {
         let stack = GreyList::without_notes(alloc, layout.cells())?;
         let own = seat.seat_member(&standing.hands.shared, mutators + helpers.len());
-        helpers.push(Helper {
-            visitor: Visitor::new(pass, stack),
-            seat: own,
-            period: 0,
-        })?;
+        let helper = Helper::new(pass, stack, own);
+        helpers.push(helper)?;
     }
     Ok(helpers)
 }
@@ -127,6 +141,10 @@ pub fn open<S: ShapeTable + Drop>(
         made.standing.hands.shared.table_id made.keeper) }
     ensures opened { IfOk result (λ made. made.keeper.collector.seat.me.0
         ≡ opened start.heap.key.layout settings.period start.collector.seat.me.0) }
+    ensures books { IfOk result (λ made. AreBooks start.heap.key.layout [] made.keeper.books) }
+    ensures pacing { IfOk result (λ made. (made.keeper.books.pacing.period ≡ settings.period)
+        × (made.keeper.books.pacing.headroom ≡ settings.headroom)
+        × (made.keeper.books.pacing.trigger ≡ settings.trigger)) }
     ensures members { IfOk result (λ made. (length made.members.items ≡ start.heap.key.layout.mutators)
         × AreMembers start.heap.key.layout start.heap.table.shared.table_id
         made.standing.hands.shared.table_id 0 made.members.items) }
@@ -146,15 +164,7 @@ pub fn open<S: ShapeTable + Drop>(
         trigger: settings.trigger,
     };
     let books = Books::new(alloc, heap.layout(), pacing, 0, 0)?;
-    let places = usize::from(heap.layout().mutators()) + usize::from(heap.layout().visitors());
-    let Ok((hands, mut seat)) = open_table(alloc, &heap, places) else {
-        return Err(Memory);
-    };
-    let standing = Standing {
-        heap,
-        hands,
-        wanted: AtomicBool::new(false),
-    };
+    let (standing, mut seat) = stand(alloc, heap)?;
     let members = seat_members(alloc, &standing, &mut seat, mutators)?;
     let helpers = seat_helpers(alloc, &standing, &mut seat, visitors)?;
     let mut keeper = Keeper {

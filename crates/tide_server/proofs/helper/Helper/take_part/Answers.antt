@@ -18,26 +18,55 @@ begin-requires g c = record {
   later = c.requires.later;
 }
 
-pub visit_part-requires : goal.visit_part-requires
-visit_part-requires g c =
+pub visit_part-requires-clause-own : goal.visit_part-requires-clause-own
+visit_part-requires-clause-own g c κs within = c.begin.ensures.same.0 ∙ c.requires.of.table
+
+pub visit_part-requires-clause-visitor : goal.visit_part-requires-clause-visitor
+visit_part-requires-clause-visitor g c κs within =
     let h = c.args.self.now in
-    let v = view_of h.visitor in
-    let t = c.args.ticket.seat.me.0 in
-    let of = c.requires.of in
     let noted = h.visitor.between.noted h.rests in
     let later = c.requires.later in
-    let first = c.begin.ensures.begun ∙ begun_view-first v t (omega (arith, noted, later)) in
-    record {
-      own = c.begin.ensures.same.0 ∙ of.table;
-      visitor = subst (IsVisitorOf c.args.standing.now.heap.key.layout) (sym first)
-          (record { is_visitor = of.is_visitor.is_visitor; within = of.is_visitor.within });
-      begun = ap (λ (x : View). x.runs) first;
-      run = c.run-run.ensures ∙ sym (ap (λ (x : View). x.run) first);
-      marks = c.marking-marks.ensures ∙ sym (ap (λ (x : View). x.marks) first);
-      none_yet = c.begin.ensures.counts.0;
-      bare = c.begin.ensures.bare;
-      room = subst (λ (n : ℕ). cell_count c.args.standing.now.heap.key.layout ≤ n) (sym c.begin.ensures.room) of.room;
-    }
+    let first = c.begin.ensures.begun
+    ∙ begun_view-first (view_of h.visitor) c.args.ticket.seat.me.0 (omega (arith, noted, later)) in
+    subst (IsVisitorOf c.args.standing.now.heap.key.layout) (sym first)
+    (record { is_visitor = c.requires.of.is_visitor.is_visitor; within = c.requires.of.is_visitor.within })
+
+pub visit_part-requires-clause-begun : goal.visit_part-requires-clause-begun
+visit_part-requires-clause-begun g c κs within =
+    let h = c.args.self.now in
+    let noted = h.visitor.between.noted h.rests in
+    let later = c.requires.later in
+    let first = c.begin.ensures.begun
+    ∙ begun_view-first (view_of h.visitor) c.args.ticket.seat.me.0 (omega (arith, noted, later)) in
+    ap (λ (x : View). x.runs) first
+
+pub visit_part-requires-clause-run : goal.visit_part-requires-clause-run
+visit_part-requires-clause-run g c κs within =
+    let h = c.args.self.now in
+    let noted = h.visitor.between.noted h.rests in
+    let later = c.requires.later in
+    let first = c.begin.ensures.begun
+    ∙ begun_view-first (view_of h.visitor) c.args.ticket.seat.me.0 (omega (arith, noted, later)) in
+    c.run-run.ensures ∙ sym (ap (λ (x : View). x.run) first)
+
+pub visit_part-requires-clause-marks : goal.visit_part-requires-clause-marks
+visit_part-requires-clause-marks g c κs within =
+    let h = c.args.self.now in
+    let noted = h.visitor.between.noted h.rests in
+    let later = c.requires.later in
+    let first = c.begin.ensures.begun
+    ∙ begun_view-first (view_of h.visitor) c.args.ticket.seat.me.0 (omega (arith, noted, later)) in
+    c.marking-marks.ensures ∙ sym (ap (λ (x : View). x.marks) first)
+
+pub visit_part-requires-clause-none_yet : goal.visit_part-requires-clause-none_yet
+visit_part-requires-clause-none_yet g c κs within = c.begin.ensures.counts.0
+
+pub visit_part-requires-clause-bare : goal.visit_part-requires-clause-bare
+visit_part-requires-clause-bare g c κs within = c.begin.ensures.bare
+
+pub visit_part-requires-clause-room : goal.visit_part-requires-clause-room
+visit_part-requires-clause-room g c κs within =
+    subst (λ (n : ℕ). cell_count c.args.standing.now.heap.key.layout ≤ n) (sym c.begin.ensures.room) c.requires.of.room
 
 pub stop-note-requires : goal.stop-note-requires
 stop-note-requires g c =

@@ -7,10 +7,10 @@ use Rattle.tide_server.specs.Members.{Calling}
 use Rattle.tide_server.proofs.member.Member.call.Goals as goal
 
 pub make-requires-clause-stays : goal.make-requires-clause-stays
-make-requires-clause-stays g c = ap (λ (k : Calling). k.has_left) c.come_to_work.ensures.same ∙ c.requires.stays
+make-requires-clause-stays g c κs within = ap (λ (k : Calling). k.has_left) c.come_to_work.ensures.same ∙ c.requires.stays
 
 pub make-requires-clause-retries : goal.make-requires-clause-retries
-make-requires-clause-retries g c other pending =
+make-requires-clause-retries g c κs within other pending =
     let same = c.come_to_work.ensures.same in
     c.requires.retries other
     (sym (ap (λ (k : Calling). Rattle.tide_model.specs.Script.retry_of k.who k.mine) same) ∙ pending)

@@ -39,18 +39,19 @@ settled v w reply done took who adds none =
     ap (λ (n : ℕ). retry_of n w.mine) who ∙ ap (retry_of v.who) adds ∙ retry_of-push v.who v.mine Retire reply took
     ∙ ap (λ (o : Option Op). retry_after o (Retire, reply)) none ∙ ap (λ (r : Reply). retry_after None (Retire, r)) done
 
-pub retire-requires : goal.retire-requires
-retire-requires g c =
+pub retire-requires-clause-begun : goal.retire-requires-clause-begun
+retire-requires-clause-begun g c κs within =
     let n = c.come_to_work.new.self in
     let come = c.come_to_work.ensures in
-    let works = at_work n.works (view_of n.mutator) n.left n.ended come.of.stands come.works.0 in
-    record {
-      own = come.of.table;
-      mutator = come.of.is_mutator;
-      begun = works.runs;
-      stays = ap (λ (k : Calling). k.has_left) come.same ∙ c.requires.stays;
-      bare = ap (λ (k : Calling). k.claims) come.same ∙ c.requires.bare;
-    }
+    (at_work n.works (view_of n.mutator) n.left n.ended come.of.stands come.works.0).runs
+
+pub retire-requires-clause-stays : goal.retire-requires-clause-stays
+retire-requires-clause-stays g c κs within =
+    ap (λ (k : Calling). k.has_left) c.come_to_work.ensures.same ∙ c.requires.stays
+
+pub retire-requires-clause-bare : goal.retire-requires-clause-bare
+retire-requires-clause-bare g c κs within =
+    ap (λ (k : Calling). k.claims) c.come_to_work.ensures.same ∙ c.requires.bare
 
 pub stop_and_post-self-requires : goal.stop_and_post-self-requires
 stop_and_post-self-requires g c =

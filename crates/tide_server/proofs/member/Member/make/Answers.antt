@@ -14,11 +14,11 @@ use Rattle.tide_server.specs.AtWork.{IsAtWork, IsParked}
 use Rattle.tide_server.proofs.member.Member.make.Goals as goal
 
 pub call-reply-requires-clause-begun : goal.call-reply-requires-clause-begun
-call-reply-requires-clause-begun g c =
+call-reply-requires-clause-begun g c κs within =
     let m = c.args.self.now in (at_work m.works (view_of m.mutator) m.left m.ended c.requires.of.stands c.requires.works).runs
 
 pub call-reply-requires-clause-few : goal.call-reply-requires-clause-few
-call-reply-requires-clause-few g c takes =
+call-reply-requires-clause-few g c κs within takes =
     let m = c.args.self.now in
     let works = at_work m.works (view_of m.mutator) m.left m.ended c.requires.of.stands c.requires.works in
     let born = works.born in
