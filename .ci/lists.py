@@ -21,7 +21,9 @@ in the sentence and in the file. The columns of seconds are those of out/seconds
 It prints how many ways lead through crates.txt, and each module of a crate, in src/ or specs/, that names one that is
 listed after it, beside it in lib.rt or in the file of the module around both. It refuses
 
-- a crates.txt in which a crate stands above one that it stands on, or through which too many ways lead,
+- a crates.txt in which a crate is listed before one that it stands on, or through which too many ways lead,
+- the first lines of a room's root file, where they say that it may touch a room that neither its line of crates.txt nor
+  a room of that line names,
 - a docs/STATEMENT.md whose steps name a definition that the clauses of `riptide` don't rest on, or leaves out a fact (a name in
   CamelCase) that they do,
 - an edit that doesn't fit its file any more, and a table of edits in docs/GATE.md that names others than the files of
@@ -45,6 +47,7 @@ HANDED_ON = re.compile(r"^pub(?:\(crate\))? use (\w+)::(?:(\w+)|\{([^}]*)\});", 
 HANDED_ROOM = re.compile(r"^Rattle\..*\.(tide_\w+)")
 IN_CODE = re.compile(r"\bcrate((?:::\w+)*)(?:::\{([^{}]*)\})?")
 IN_SPECS = re.compile(r"\bRattle\.(\w+)\.specs\.(?:declared\.)?([\w.]*)")
+MAY_TOUCH = re.compile(r"\bmay touch\b.*?(?=[.:;](?: |$)|,? and (?:knows|not)\b|, (?:knows|has)\b|$)")
 FUNCTION = re.compile(r"^\s*(?:pub(?:\(crate\))? )?(?:const )?fn ", re.M)
 UNKNOWN = "—"
 
@@ -63,7 +66,7 @@ def layers():
             name, below = name.split()[0], below.split()
             for other in below:
                 if (TOP / "crates" / other).is_dir() and other not in listed:
-                    sys.exit(f"crates.txt: {name} stands on {other}, which is not above it")
+                    sys.exit(f"crates.txt: {name} stands on {other}, which is not listed before it")
             listed.append(name)
             found[-1][1].append((name, below))
     return [layer for layer in found if layer[1]]
@@ -144,7 +147,7 @@ def order_of(text):
     """The modules that a file lists, lowest first, and whose the names are that it hands on from them."""
     handed_on = {}
     for module, one, several in HANDED_ON.findall(text):
-        for item in (one or several).split(","):
+        for item in filter(str.strip, (one or several).split(",")):
             handed_on[item.split(" as ")[-1].strip()] = module
     return MODULE.findall(text), handed_on
 
@@ -402,12 +405,50 @@ def picture_of_rooms():
     return "```\n" + "\n".join(lines) + "\n```"
 
 
+def handed_on():
+    """The rooms that each crate hands on whole: the definitions of specs/ that one reaches through it."""
+    found = {}
+    for crate in crates():
+        path = TOP / "crates" / crate / "specs" / "Lib.antt"
+        text = path.read_text() if path.exists() else ""
+        found[crate] = set(re.findall(r"^pub use Rattle\.(?:\w+\.specs\.)?(\w+)(?:\.specs as \w+)?$", text, re.M))
+    return found
+
+
+def namers():
+    """Of each crate those that list it, and which of these hand it on to who lists them."""
+    rows, hands, found = [row for _, here in layers() for row in here], handed_on(), {}
+    for name in crates():
+        first = [other for other, below in rows if name in below]
+        by = [other for other in crates() if name in hands[other]]
+        lacking = [other for other in crates() if other not in first and other != name]
+        said = ", ".join(first) if len(first) < len(lacking) else f"all but {', '.join(lacking)}"
+        found[name] = said + (f"; and who names {' or '.join(filter(None, (', '.join(by[:-1]), by[-1])))}" if by else "")
+    return found
+
+
+def touched_unlisted():
+    """Rooms that a root file's first lines say its crate may touch, and that neither crates.txt nor a room there names."""
+    hands = handed_on()
+    for name, below in (row for _, here in layers() for row in here):
+        for file in ("lib.rt", "main.rt"):
+            path = TOP / "crates" / name / "src" / file
+            text = path.read_text() if path.exists() else ""
+            head = " ".join(line[3:].strip() for line in text.splitlines() if line.startswith("//!"))
+            reach = {name, *below}.union(*(hands.get(room, set()) for room in below))
+            for said in MAY_TOUCH.findall(head):
+                for room in sorted(set(re.findall(r"`(\w+)`", said)) & {*crates()} - reach):
+                    yield f"{shown(path)} says that it may touch {room}, which crates.txt doesn't list for it"
+
+
 def map_of_crates():
     lines = []
+    named_by = namers()
     for says, here in layers():
-        lines += [f"**{says[0].upper()}{says[1:]}**", "", "| Crate | What it is | Stands on |", "|---|---|---|"]
+        lines += [f"**{says[0].upper()}{says[1:]}**", "", "| Crate | What it is | Stands on | Named by |", "|---|---|---|---|"]
         for name, below in here:
-            lines.append(f"| [`{name}`](../crates/{name}) | {first_sentence(name)} | {', '.join(below)} |")
+            row = [f"[`{name}`](../crates/{name})", first_sentence(name), ", ".join(below), named_by.get(name, "")]
+            lines.append(f"| {' | '.join(row)} |")
         lines.append("")
     return "\n".join(lines).rstrip()
 
@@ -445,7 +486,7 @@ def totals():
     tried, beside = (len(list(TOP.glob(f"crates/*/{folder}/*.edit"))) for folder in ("must-fail", "wrong"))
     return (
         f"{len(crates())} rooms (crates) have {code} thousand lines of code with contracts, {definitions} thousand of "
-        f"definitions and {proofs} thousand of proofs. The gate sees {tried} wrong bodies refused, and a script {beside} more."
+        f"definitions and {proofs} thousand of proofs. The gate has the prover refuse {tried} bodies with a mistake in them, and a script {beside} more."
     )
 
 
@@ -530,7 +571,8 @@ def main():
     differ = 0
     for early in named_too_early():
         print(early)
-    for miss in [*too_many_ways(ways()), *edits_that_miss(), *edits_told_otherwise(), *statement_differs(), *examples_missed()]:
+    misses = [*too_many_ways(ways()), *touched_unlisted(), *edits_that_miss(), *edits_told_otherwise()]
+    for miss in [*misses, *statement_differs(), *examples_missed()]:
         differ = 1
         print(miss)
     for path, text in pages().items():

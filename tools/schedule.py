@@ -1,11 +1,11 @@
 #!/usr/bin/env python3
 """Tells in which freeze each cycle of a printed run began and ended, which were full, and why each cell was freed.
 
-    python3 tools/schedule.py [--visitors=N | --plain] WORKLOAD.toml TEXT
+    python3 tools/schedule.py [--cycles] [--visitors=N | --plain] WORKLOAD.toml TEXT
 
 TEXT is a file with what riptide printed of the workload, or - for standard input; N is the number of visitors that the run
-had, and --plain stands for a run with that option. A text has the calls and the cycles apart. This looks for the ways through the freezes that the schedule allows, as
-judge/judge.py does, and prints each, part by part:
+had, and --plain stands for a run with that option. A text has the calls and the cycles apart. This looks for the ways
+through the freezes that the schedule allows, as judge/judge.py does, and prints each, part by part:
 
 - which calls stand in a part, as places in each mutator's block, from 1; the freeze behind it is forced where a mutator
   stopped there or all have retired;
@@ -14,6 +14,10 @@ judge/judge.py does, and prints each, part by part:
 - where it ends, the cells that it freed, those that it kept for their age, and those that float, each with the call by which
   nothing retained it any more. A cell that nothing retained at any moment of the cycle, and that is kept since its graph is
   that of all moments together, is told apart.
+
+With --cycles it prints a line a cycle in their place: its kind, from which freeze to which it marked (freeze 3 is the one
+behind part 3), how many cells were born since the end before it until it began, how many while it marked, and how many it
+kept and freed.
 
 It is of a run whose mutators called one after another: of one mutator, a plain one, or on threads that came out so. Where
 several ways give the text it prints up to eight: the text doesn't tell them apart. Its status is 1 where it found none.
@@ -236,6 +240,27 @@ def told(way):
             yield from lines_of(event)
 
 
+def is_birth(reply):
+    """Whether a line of a mutator's block tells of a new cell."""
+    return reply.startswith(("alloc ", "table ")) and " = #" in reply
+
+
+def cycles_told(way):
+    """A way through the freezes, a line a cycle."""
+    born, begun = 0, None
+    for part in way.parts:
+        born += sum(is_birth(reply) for own, (a, b) in zip(way.replies, part.calls) for reply in own[a:b])
+        for event in part.events:
+            if isinstance(event, Begin):
+                begun = event.kind, part.number, born
+                continue
+            kind, first, before = begun
+            freezes = f"freeze {first}" if first == part.number else f"freezes {first} to {part.number}"
+            births = f"born {before} before it, {born - before} while it marked"
+            yield f"cycle {event.cycle}, {kind}, {freezes}: {births}; kept {event.kept}, freed {event.freed}"
+            born = 0
+
+
 def main():
     words = [word for word in sys.argv[1:] if not word.startswith("--")]
     visitors = next((int(word.split("=")[1]) for word in sys.argv[1:] if word.startswith("--visitors=")), 0)
@@ -249,7 +274,7 @@ def main():
     for number, way in enumerate(found, 1):
         if len(found) > 1 or may_be_more:
             print(f"way {number} of {len(found)}{' or more' if may_be_more else ''}")
-        print("\n".join(told(way)))
+        print("\n".join(cycles_told(way) if "--cycles" in sys.argv else told(way)))
 
 
 if __name__ == "__main__":

@@ -1,12 +1,12 @@
 //! The facts of a heap as text: a line that says what one or more of its words are.
 
-use crate::Heap;
+use crate::heap::{Heap, MOST_CELLS};
 use crate::reading::{behind, large_number, number, pair_of_numbers};
 use crate::reply::value_text;
 use crate::texts::{joined, number_between, number_text, text};
 use std::alloc::{AllocError, Global};
 use tide_model::Val;
-use tide_words::{MAX_CELLS, Region, pair_word, val_word, word_pair, word_phase, word_val};
+use tide_words::{Region, pair_word, val_word, word_pair, word_phase, word_val};
 
 /// The region of a name, if its words go by their number.
 pub fn region_of(name: &str) -> Option<Region> {
@@ -134,7 +134,7 @@ impl Heap {
         let (table, place) = pair_of_numbers(at)?;
         let key = number(key)?;
         let value = value_of(value)?;
-        if key >= MAX_CELLS {
+        if key >= MOST_CELLS {
             return None;
         }
         self.set_slot(table, place, pair_word(key, value));

@@ -9,6 +9,9 @@ use tide_words::{
     structure_word,
 };
 
+/// No check says a heap that has more cells, nor a key of a pair from there on: as many as a workload's heap has.
+pub const MOST_CELLS: u32 = 20_480;
+
 /// The words of a heap, and where they lie.
 #[derive(Drop)]
 pub struct Heap {

@@ -3,26 +3,27 @@
 //!
 //! A row is a name and lines, each of which is something to do, with the answer that is expected of it. What does them
 //! is an `Answers`; it never sees what is expected. What a check has to tell it puts at the end of a text, its
-//! `findings`. The library knows no check, and nothing of the system: the program reads the files and prints.
+//! `findings`. It may touch words. All libraries of checks use it. It knows no check, and nothing of the system: the
+//! program `checks` reads the files and prints.
 #![tactic(auto)]
 
 mod draw;
 mod places;
 mod reading;
 mod texts;
-// over those above it
+// these stand on those listed before
 mod heap;
 mod labelled;
 mod point;
 mod reply;
 mod rows;
-// over those above it
+// these stand on those listed before
 mod fact;
 mod holds;
 
 pub use draw::Draw;
 pub use fact::{pair_text, region_of, value_of, word_of, word_text};
-pub use heap::Heap;
+pub use heap::{Heap, MOST_CELLS};
 pub use holds::Holds;
 pub use labelled::label_text;
 pub use places::{place_of_element, place_of_slot, place_of_word};

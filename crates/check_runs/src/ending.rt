@@ -1,6 +1,7 @@
 //! How a run ended, and the texts of it.
 ghost use Rattle.std.specs.Prelude.{◌≡◌, true};
 
+use crate::outcomes::ALL_APART;
 use check_heap::{joined, number_between, number_text, text};
 use std::alloc::{AllocError, Global};
 use std::marker::Sync;
@@ -27,9 +28,11 @@ impl Ending {
         source: &mut S,
         mut out: MemSink,
         mut err: MemSink,
-        gate: &T,
+        turnstile: &T,
     ) -> Self {
-        let ended = riptide(rt, alloc, words, source, &mut out, &mut err, gate);
+        let ended = riptide(
+            rt, ALL_APART, alloc, words, source, &mut out, &mut err, turnstile,
+        );
         Ending {
             status: ended.status,
             has_outcome: ended.outcome.is_some(),

@@ -7,13 +7,13 @@
 
 mod drawn;
 mod held;
-// over those above it
+// these stand on those listed before
 mod facts;
-// over those above it
+// these stand on those listed before
 mod doctored;
-// over those above it
+// these stand on those listed before
 mod counts;
-// over those above it
+// these stand on those listed before
 mod runs;
 
 pub use runs::check_facts;

@@ -7,15 +7,15 @@
 #![tactic(auto)]
 
 mod answering;
-mod ending;
-mod facts;
 mod outcomes;
 mod shelf;
-// over those above it
+// these stand on those listed before
+mod ending;
+mod facts;
 mod real;
 mod trial;
 mod ways;
-// over those above it
+// these stand on those listed before
 mod ends;
 mod runs;
 

@@ -9,6 +9,9 @@ use tide_model::{Memory, Turnstile};
 use tide_run::{Answered, Outcome, Report, plain, run};
 use tide_workload::Workload;
 
+/// So many threads that each of 16 mutators and 8 visitors has one of its own: who is held then holds nobody else.
+pub const ALL_APART: usize = 24;
+
 /// Puts a number with a text before it and one behind it at the end of a text.
 fn add_number(
     alloc: Global,
@@ -78,9 +81,9 @@ pub fn in_threads<R: Threads + Sync, T: Turnstile>(
     alloc: Global,
     load: &Workload,
     visitors: u8,
-    gate: &T,
+    turnstile: &T,
 ) -> Result<String, AllocError>
     requires { visitors ≤ 8 }
 {
-    text_of(alloc, run(rt, alloc, load, visitors, gate))
+    text_of(alloc, run(rt, ALL_APART, alloc, load, visitors, turnstile))
 }

@@ -70,7 +70,8 @@ pub record HasStarted (p : Pair) : Type 0 where
   pub other : p.other.seat.me.0 ≡ newcomer 1
   pub books : AreBooks p.heap.key.layout [] p.books
 
--- what the heap of two mutators leaves: a lawful history, in which both have retired
-pub record IsClosedOf (heap : Heap Shapes) (closed : Closed) : Type 0 where
+-- what the heap of two mutators leaves: its layout and shapes, and a lawful history, in which both have retired
+pub record IsClosedOf (heap : Heap Shapes) (closed : Closed Shapes) : Type 0 where
+  pub of_heap : closed.key ≡ heap.key
   pub lawful : IsLawful heap.key.layout (lists_of heap.key.shapes) closed.seat.me.0.seen
   pub retired : (i : ℕ) → i < 2 → (state_after heap.key.layout closed.seat.me.0.seen).active i ≡ false

@@ -21,7 +21,7 @@ opened_once run = plain (Open 1 run) ∷ []
 pub record StandsStill (layout : Layout) (shapes : ShapeLists) (run : ℕ) (v : View) : Type 0 where
   pub frozen : v.frozen ≡ true
   pub seen : v.seen ≡ opened_once run
-  pub base : v.base ≡ v.words
+  pub words_at_entry : v.words_at_entry ≡ v.words
   pub stood : v.stood ≡ v.words
   pub long : length v.words ≡ word_count layout
   pub wave : FrozenWith layout shapes (heap_of layout v.words) (opened_once run) 0

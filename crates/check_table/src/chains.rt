@@ -1,9 +1,10 @@
 //! A chain that is stored word by word over words that stand still, and then marked in two pauses.
 ghost use Rattle.std.specs.Prelude.{◌≡◌, ◌≤◌, [], length};
 ghost use Rattle.tide_heap.specs.tide_layout.Region.{word_count};
+ghost use Rattle.tide_model.specs.Layout.{cell_count};
 
 use check_heap::Heap;
-use tide_heap::{GreyList, Layout, MAX_CELLS, Region, Solved, Words, begin, pause, word_phase};
+use tide_heap::{GreyList, Layout, Region, Solved, Words, begin, pause, word_phase};
 
 /// No cycle begins from this one on.
 const LAST_CYCLE: u64 = 1 << 60;
@@ -50,7 +51,7 @@ fn pause_over<W: Words>(
 ) -> Option<Solved>
     requires all_words { length (W.words words.old) ≡ word_count layout.now }
     requires empty { list.old.cells ≡ [] }
-    requires room { 20480 ≤ list.old.cap }
+    requires room { cell_count layout.now ≤ list.old.cap }
     ensures all_words { length (W.words words.new) ≡ word_count layout.now }
     ensures same_list { list.new ≡ list.old }
 {
@@ -58,8 +59,6 @@ fn pause_over<W: Words>(
     if !marks {
         return None;
     }
-    let cells = layout.cells();
-    prove!(cells <= MAX_CELLS);
     Some(pause(words, layout, list, budget))
 }
 
@@ -72,7 +71,7 @@ pub fn mark_in_two<W: Words>(
 ) -> Marked
     requires all_words { length (W.words words.old) ≡ word_count layout.now }
     requires empty { list.old.cells ≡ [] }
-    requires room { 20480 ≤ list.old.cap }
+    requires room { cell_count layout.now ≤ list.old.cap }
 {
     let [small, large] = budgets;
     Marked {

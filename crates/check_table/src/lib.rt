@@ -4,7 +4,8 @@
 //! wants it; the rows of `rows.rt` put them together, one part after the other, from the heap's start to its close.
 //! Between two parts the freeze code runs over the words.
 //!
-//! It knows no program: `checks` calls it for the lines of its input that begin with `table`:
+//! It may touch the heap and its collector, and knows no mutator of `tide_mutator`, no thread and no program: `checks`
+//! calls it for the lines of its input that begin with `table`:
 //!
 //! - `part`: two mutators begin a part, work, retire and stop; it is frozen and closed.
 //! - `parts`: the same after a part in which nobody makes a call, and a whole cycle.
@@ -18,15 +19,15 @@ mod callers;
 mod chains;
 mod pacing;
 mod pair;
-// over those above it
+// these stand on those listed before
 mod freezing;
 mod starting;
 mod working;
-// over those above it
+// these stand on those listed before
 mod pairs;
 mod rows;
 mod standing;
-// over those above it
+// these stand on those listed before
 mod telling;
 
 use check_heap::number;

@@ -6,8 +6,9 @@ ghost use Rattle.check_table.specs.Pairs.{IsClosedOf, SameCalls};
 
 use crate::callers::{begin_part, leave, stop_part};
 use crate::pair::Pair;
-use crate::working::{Found, look, put};
+use crate::working::{LoadedWords, look, put};
 use tide_heap::{Books, Report};
+use tide_shape::Shapes;
 use tide_table::{Closed, NotOpened, Numbers};
 
 impl Pair {
@@ -47,7 +48,7 @@ impl Pair {
     }
 
     /// Both look at their own words, at handles, at a slot and at a claim.
-    pub fn look(&mut self) -> [Found; 2]
+    pub fn look(&mut self) -> [LoadedWords; 2]
         requires begun { HaveBegun self.old }
         ensures heap { self.new.heap ≡ self.old.heap }
         ensures begun { HaveBegun self.new }
@@ -97,7 +98,7 @@ impl Pair {
     }
 
     /// Freezes the last part, and closes the heap.
-    pub fn close(self) -> (Closed, Report)
+    pub fn close(self) -> (Closed<Shapes>, Report)
         requires stopped { HaveStopped self }
         requires left { self.one.seat.me.0.left ≡ true }
         ensures closed { IsClosedOf self.heap result.0 }

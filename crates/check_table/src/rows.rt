@@ -5,40 +5,41 @@ ghost use Rattle.check_table.specs.Pairs.{no_calls, HasOpened, HasStarted, HaveC
 
 use crate::pair::Pair;
 use crate::starting::start_pair;
-use crate::working::Found;
+use crate::working::LoadedWords;
 use std::alloc::Global;
 use tide_heap::Report;
 use tide_model::Memory;
+use tide_shape::Shapes;
 use tide_table::{Closed, Numbers};
 
 /// What one mutator told of a part: its number, as its ticket has it, what it found, and its note.
 #[derive(Clone, Copy)]
-pub struct Told {
+pub struct PartTold {
     pub period: u32,
-    pub found: Found,
+    pub found: LoadedWords,
     pub note: Numbers,
 }
 
 /// What both mutators told of their last part, and of one before it where they made calls there, and what their heap
 /// left.
 #[derive(Drop)]
-pub struct Ran {
-    pub first: Option<[Told; 2]>,
-    pub last: [Told; 2],
-    pub closed: Closed,
+pub struct PairRun {
+    pub first: Option<[PartTold; 2]>,
+    pub last: [PartTold; 2],
+    pub closed: Closed<Shapes>,
     pub report: Report,
 }
 
 /// What both told.
-fn both_told(periods: [u32; 2], found: [Found; 2], notes: [Numbers; 2]) -> [Told; 2] {
+fn both_told(periods: [u32; 2], found: [LoadedWords; 2], notes: [Numbers; 2]) -> [PartTold; 2] {
     let ([one, other], [first, second], [early, late]) = (periods, found, notes);
     [
-        Told {
+        PartTold {
             period: one,
             found: first,
             note: early,
         },
-        Told {
+        PartTold {
             period: other,
             found: second,
             note: late,
@@ -47,7 +48,7 @@ fn both_told(periods: [u32; 2], found: [Found; 2], notes: [Numbers; 2]) -> [Told
 }
 
 /// The last part, in which both mutators work and retire, and the close.
-fn work_and_close(mut pair: Pair) -> Ran
+fn work_and_close(mut pair: Pair) -> PairRun
     requires opened { HasOpened pair }
     requires calls { HaveCalled no_calls false pair }
     ensures closed { IsClosedOf pair.heap result.closed }
@@ -58,7 +59,7 @@ fn work_and_close(mut pair: Pair) -> Ran
     pair.leave();
     let last = both_told(periods, found, pair.stop());
     let (closed, report) = pair.close();
-    Ran {
+    PairRun {
         first: None,
         last,
         closed,
@@ -67,7 +68,7 @@ fn work_and_close(mut pair: Pair) -> Ran
 }
 
 /// The last part, in which both mutators look at what they have and retire, and the close.
-fn leave_and_close(mut pair: Pair, first: [Told; 2]) -> Ran
+fn leave_and_close(mut pair: Pair, first: [PartTold; 2]) -> PairRun
     requires opened { HasOpened pair }
     requires calls { HaveCalled put_calls false pair }
     ensures closed { IsClosedOf pair.heap result.closed }
@@ -77,7 +78,7 @@ fn leave_and_close(mut pair: Pair, first: [Told; 2]) -> Ran
     pair.leave();
     let last = both_told(periods, found, pair.stop());
     let (closed, report) = pair.close();
-    Ran {
+    PairRun {
         first: Some(first),
         last,
         closed,
@@ -86,7 +87,7 @@ fn leave_and_close(mut pair: Pair, first: [Told; 2]) -> Ran
 }
 
 /// One part, in which both mutators work and retire.
-fn run_one(mut pair: Pair) -> Ran
+fn run_one(mut pair: Pair) -> PairRun
     requires started { HasStarted pair }
     ensures closed { IsClosedOf pair.heap result.closed }
 {
@@ -95,7 +96,7 @@ fn run_one(mut pair: Pair) -> Ran
 }
 
 /// The same after a part in which nobody makes a call, and a whole cycle.
-fn run_two(mut pair: Pair) -> Option<Ran>
+fn run_two(mut pair: Pair) -> Option<PairRun>
     requires started { HasStarted pair }
     ensures closed { IfSome result (λ ran. IsClosedOf pair.heap ran.closed) }
 {
@@ -109,7 +110,7 @@ fn run_two(mut pair: Pair) -> Option<Ran>
 }
 
 /// Two parts and a whole cycle between them: both mutators work in the first one, and retire in the second one.
-fn run_calls(mut pair: Pair) -> Option<Ran>
+fn run_calls(mut pair: Pair) -> Option<PairRun>
     requires started { HasStarted pair }
     ensures closed { IfSome result (λ ran. IsClosedOf pair.heap ran.closed) }
 {
@@ -125,7 +126,7 @@ fn run_calls(mut pair: Pair) -> Option<Ran>
 }
 
 /// Runs one part of two mutators on a small heap.
-pub fn one_part(alloc: Global) -> Result<Option<Ran>, Memory> {
+pub fn one_part(alloc: Global) -> Result<Option<PairRun>, Memory> {
     match start_pair(alloc)? {
         Some(pair) => Ok(Some(run_one(pair))),
         None => Ok(None),
@@ -133,7 +134,7 @@ pub fn one_part(alloc: Global) -> Result<Option<Ran>, Memory> {
 }
 
 /// Runs two parts on a small heap, and a whole cycle between them. All calls are made in the second one.
-pub fn two_parts(alloc: Global) -> Result<Option<Ran>, Memory> {
+pub fn two_parts(alloc: Global) -> Result<Option<PairRun>, Memory> {
     match start_pair(alloc)? {
         Some(pair) => Ok(run_two(pair)),
         None => Ok(None),
@@ -141,7 +142,7 @@ pub fn two_parts(alloc: Global) -> Result<Option<Ran>, Memory> {
 }
 
 /// Runs two parts on a small heap, and a whole cycle between them. There are calls in both.
-pub fn called_parts(alloc: Global) -> Result<Option<Ran>, Memory> {
+pub fn called_parts(alloc: Global) -> Result<Option<PairRun>, Memory> {
     match start_pair(alloc)? {
         Some(pair) => Ok(run_calls(pair)),
         None => Ok(None),

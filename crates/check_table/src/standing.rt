@@ -2,6 +2,7 @@
 ghost use Rattle.std.specs.Prelude.{◌≡◌, ◌≤◌, []};
 ghost use Rattle.check_table.specs.Standing.{opened_once};
 ghost use Rattle.tide_heap.specs.tide_freeze.Books.{AreBooks};
+ghost use Rattle.tide_model.specs.Layout.{cell_count};
 ghost use Rattle.tide_shape.specs.Lists.{lists_of};
 ghost use Rattle.tide_table.specs.Started.{IsStarted};
 
@@ -11,7 +12,7 @@ use crate::pacing::PACING;
 use crate::starting::{Single, start_single};
 use check_heap::{Heap, layout_of, words_of};
 use std::alloc::{AllocError, Global};
-use tide_heap::{Books, GreyList, Layout, MAX_CELLS, Report};
+use tide_heap::{Books, GreyList, Layout, Report};
 use tide_model::Memory;
 
 /// The layout that words say.
@@ -62,7 +63,7 @@ fn mark_over(
     requires started { IsStarted layout.now (lists_of single.heap.key.shapes) single.collector.seat.me.0 }
     requires one { (layout.now.mutators ≡ 1) × (layout.now.visitors ≡ 0) }
     requires empty { list.old.cells ≡ [] }
-    requires room { 20480 ≤ list.old.cap }
+    requires room { cell_count layout.now ≤ list.old.cap }
 {
     let Single {
         heap,
@@ -84,7 +85,7 @@ pub fn mark_chain(
     if layout.mutators() != 1 || layout.visitors() != 0 {
         return Ok(None);
     }
-    let mut list = GreyList::new(alloc, MAX_CELLS)?;
+    let mut list = GreyList::new(alloc, layout.cells())?;
     match start_single(alloc, layout)? {
         Some(single) => Ok(Some(mark_over(single, &layout, chain, &mut list, budgets))),
         None => Ok(None),

@@ -2,9 +2,9 @@
 
 use crate::chains::Marked;
 use crate::freezing::Runs;
-use crate::rows::{Ran, Told, called_parts, one_part, two_parts};
+use crate::rows::{PairRun, PartTold, called_parts, one_part, two_parts};
 use crate::standing::{freeze_single, heap_of_facts, mark_chain};
-use crate::working::Found;
+use crate::working::LoadedWords;
 use check_heap::{number_text, tell, text, word_text};
 use std::alloc::{AllocError, Global};
 use tide_heap::{Report, Solved};
@@ -76,7 +76,7 @@ fn note_pieces(period: u32, note: Numbers, calls: u64) -> [(&'static str, Piece)
 }
 
 /// The words that a mutator found.
-fn found_pieces(found: Found) -> [(&'static str, Piece); 5] {
+fn found_pieces(found: LoadedWords) -> [(&'static str, Piece); 5] {
     [
         ("it found ", Piece::Word(found.register)),
         (" ", Piece::Word(found.strong)),
@@ -103,7 +103,7 @@ fn tell_cycles(alloc: Global, findings: &mut String, report: &Report) -> Result<
 }
 
 /// Tells what both mutators told of a part: their notes, and the words that they found.
-fn tell_both(alloc: Global, findings: &mut String, both: &[Told; 2]) -> Result<(), AllocError> {
+fn tell_both(alloc: Global, findings: &mut String, both: &[PartTold; 2]) -> Result<(), AllocError> {
     for one in both {
         tell_pieces(
             alloc,
@@ -116,7 +116,7 @@ fn tell_both(alloc: Global, findings: &mut String, both: &[Told; 2]) -> Result<(
 }
 
 /// Tells what a row ran: what was told of its parts, and between them the cycles that ended.
-fn tell_parts_of(alloc: Global, findings: &mut String, ran: &Ran) -> Result<bool, AllocError> {
+fn tell_parts_of(alloc: Global, findings: &mut String, ran: &PairRun) -> Result<bool, AllocError> {
     if let Some(first) = &ran.first {
         tell_both(alloc, findings, first)?;
     }
@@ -129,7 +129,7 @@ fn tell_parts_of(alloc: Global, findings: &mut String, ran: &Ran) -> Result<bool
 fn tell_ran(
     alloc: Global,
     findings: &mut String,
-    ran: Result<Option<Ran>, Memory>,
+    ran: Result<Option<PairRun>, Memory>,
 ) -> Result<bool, AllocError> {
     match &ran {
         Ok(Some(ran)) => tell_parts_of(alloc, findings, ran),

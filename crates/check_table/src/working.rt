@@ -9,7 +9,7 @@ use tide_table::{Heap, HeapShapes, Pass};
 
 /// The words that a mutator found: its register, its call word, two handles, a slot and a claim.
 #[derive(Clone, Copy)]
-pub struct Found {
+pub struct LoadedWords {
     pub register: u64,
     pub calls: u64,
     pub strong: u64,
@@ -19,7 +19,7 @@ pub struct Found {
 }
 
 /// Looks at its own words, at the handles, and at the first slot and the claim of the first cell, without a call.
-pub fn look<S: HeapShapes>(heap: &Heap<S>, pass: &mut Pass) -> Found
+pub fn look<S: HeapShapes>(heap: &Heap<S>, pass: &mut Pass) -> LoadedWords
     requires own { pass.old.seat.table_id ≡ heap.now.table.shared.table_id }
     requires runs { pass.old.seat.me.0.runs ≡ true }
     requires mutator { pass.old.seat.me.0.who < heap.now.key.layout.mutators }
@@ -27,7 +27,7 @@ pub fn look<S: HeapShapes>(heap: &Heap<S>, pass: &mut Pass) -> Found
     ensures same { pass.new.seat.table_id ≡ pass.old.seat.table_id }
     ensures looked { HasLooked pass.old.seat.me.0 pass.new.seat.me.0 }
 {
-    Found {
+    LoadedWords {
         register: pass.load_register(heap, 0),
         calls: pass.load_call(heap),
         strong: pass.load_strong(heap, 0, None),

@@ -9,17 +9,17 @@ mod copying;
 mod freezing;
 mod parts;
 mod seen;
-// over those above it
+// these stand on those listed before
 mod looks;
-// over those above it
+// these stand on those listed before
 mod plan;
-// over those above it
+// these stand on those listed before
 mod sharing;
-// over those above it
+// these stand on those listed before
 mod running;
-// over those above it
+// these stand on those listed before
 mod trial;
-// over those above it
+// these stand on those listed before
 mod drains;
 
 pub use drains::check_drains;

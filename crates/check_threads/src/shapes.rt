@@ -6,7 +6,7 @@
 
 mod meeting;
 mod table;
-// over those above it
+// these stand on those listed before
 mod race;
 mod rows;
 

@@ -2,14 +2,15 @@
 //! them, compared with what is expected.
 //!
 //! `plain` makes calls on plain stores and collects them, `marking` marks heaps of words and runs single constraints
-//! and whole cycles, and `snapshot` takes snapshots. It knows no program, and reads no file: `checks` calls it for the
-//! lines of its input, and hands it the rows.
+//! and whole cycles, and `snapshot` takes snapshots. It may touch rooms without threads, from the layout to snapshots
+//! and `tide_core`. `check_threads` uses how it reads an operation. It knows no program, and reads no file: `checks`
+//! calls it for the lines of its input, and hands it the rows.
 #![tactic(auto)]
 
 mod plain;
-// over those above it
+// these stand on those listed before
 mod marking;
-// over those above it
+// these stand on those listed before
 mod snapshot;
 
 pub use marking::{check_marking, time_runs};

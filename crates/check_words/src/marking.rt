@@ -17,15 +17,15 @@
 //! - `cycles ROWS`: heaps that are collected, step by step or a whole cycle at a time (`cycles.rt`).
 
 mod marking;
-// over those above it
+// these stand on those listed before
 mod chains;
 mod heaps;
-// over those above it
+// these stand on those listed before
 mod bench;
-// over those above it
+// these stand on those listed before
 mod collecting;
 mod runs;
-// over those above it
+// these stand on those listed before
 mod cycles;
 
 use bench::Bench;

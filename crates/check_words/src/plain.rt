@@ -8,9 +8,9 @@
 
 mod op;
 mod shapes;
-// over those above it
-mod caller;
-// over those above it
+// these stand on those listed before
+mod guarded_store;
+// these stand on those listed before
 mod trial;
 
 use check_heap::check_rows;

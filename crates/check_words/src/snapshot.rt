@@ -11,12 +11,12 @@
 //! `time_large` tells how long a snapshot of such a heap takes, by the clock, which `check_snapshot` isn't handed.
 
 mod naming;
-// over those above it
+// these stand on those listed before
 mod shot;
-// over those above it
+// these stand on those listed before
 mod large;
 mod lines;
-// over those above it
+// these stand on those listed before
 mod timing;
 
 use check_heap::check_rows;

@@ -19,20 +19,21 @@
 //! - `ends ROWS`: rows of sources and sinks alone (`check_runs`).
 //! - `shapes CHECK`: on tables of shapes that threads grow (`check_threads`).
 //! - `embed`: two mutators on a heap of their own, each of which finds what it stored (`embed_heap`).
+//! - `embed large BLOCKS`: a heap with so many blocks of each class, of which a mutator fills one (`embed_heap`).
 //! - `embed shapes`: a heap over a table that two threads grew, whose mutator adds properties (`embed_heap`).
 //! - `embed visitor`: a cycle that a visitor marks beside a mutator, and what it keeps (`embed_heap`).
 //!
 //! Of each check it prints what ended otherwise than expected, once the check is over, and then a line. Where one was
-//! not as expected, the status is 1. The workloads and the refused documents of its folder `data` are run by
-//! `.ci/workloads`.
+//! not as expected, the status is 1. It may touch the libraries of checks and `embed_heap`, files and the outputs. The
+//! workloads and the refused documents of its folder `data` are run by `.ci/workloads`.
 #![tactic(auto)]
 
-use check_heap::{check_rows, joined, text, words_of};
+use check_heap::{check_rows, joined, number, text, words_of};
 use check_runs::{Ends, Shelf, check_facts, check_runs, check_ways};
 use check_table::check_table;
 use check_threads::{check_drains, check_shapes};
 use check_words::{check_marking, check_plain, check_snapshot, time_large, time_runs};
-use embed_heap::{adds_in_order, both_find_seven, four_are_kept};
+use embed_heap::{adds_in_order, both_find_seven, four_are_kept, is_read_back};
 use std::alloc::{AllocError, Global};
 use std::marker::Sync;
 use std::process::ExitCode;
@@ -70,6 +71,14 @@ fn check_rows_of_runs<R: Runtime + AllocGlobal + Threads + Sync>(
         text(alloc, made)?,
     )?;
     Ok(check_runs(rt, alloc, findings, &shelf, rows)?)
+}
+
+/// Whether all is read back of a heap with so many blocks of each class. None has more than 262,144.
+fn is_large_read_back<R: Threads + Sync>(rt: &R, alloc: Global, blocks: &str) -> bool {
+    match number(blocks) {
+        Some(blocks) if blocks <= 262_144 => is_read_back(rt, alloc, blocks),
+        _ => false,
+    }
 }
 
 /// Makes a check that needs no thread, nor anything else of the system.
@@ -120,6 +129,7 @@ fn check_words<R: Runtime + AllocGlobal + Threads + Wait + Sync>(
         ["shapes", check @ ..] => Ok(check_shapes(rt, alloc, findings, check)?),
         ["embed"] => Ok(both_find_seven(rt, alloc)),
         ["embed", "visitor"] => Ok(four_are_kept(rt, alloc)),
+        ["embed", "large", blocks] => Ok(is_large_read_back(rt, alloc, blocks)),
         ["embed", "shapes"] => Ok(adds_in_order(rt, alloc)),
         _ => Ok(check_without_system(alloc, findings, words)?),
     }

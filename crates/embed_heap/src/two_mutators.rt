@@ -5,9 +5,9 @@
 //! `both_find_seven(&rt, rt.alloc())`.
 
 mod working;
-// over those above it
+// these stand on those listed before
 mod pair;
-// over those above it
+// these stand on those listed before
 mod starting;
 
 use starting::run;
@@ -15,10 +15,10 @@ use std::alloc::Global;
 use std::marker::Sync;
 use std::thread::Threads;
 use tide::{Reply, Val};
-use working::Found;
+use working::Replies;
 
 /// A mutator read the number that it had stored, and an operation that doesn't fit its heap was not made.
-fn is_seven(found: Found) -> bool {
+fn is_seven(found: Replies) -> bool {
     matches!(found.seen, Some(Reply::Seen(Val::Int(7)))) && found.foreign.is_none()
 }
 

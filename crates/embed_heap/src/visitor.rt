@@ -7,27 +7,27 @@
 mod shared;
 mod visiting;
 mod working;
-// over those above it
+// these stand on those listed before
 mod beside;
 mod collecting;
 mod starting;
-// over those above it
+// these stand on those listed before
 mod running;
 
 use running::{Seen, run_cycle};
 pub use shared::Shared;
-pub use starting::{layout, start};
+pub use starting::{layout, start, start_over};
 use std::alloc::Global;
 use std::marker::Sync;
 use std::thread::Threads;
 use tide::{Paths, Reply, Shapes, Val};
-pub use working::{Worked, work};
+pub use working::{MutatorAfterPart, make_calls};
 
 /// The cycle that began after the first part ended after the second one: the visitor made some cell black in it, it
 /// kept the four cells of the chain, and emptied the weak handle to the fifth one.
 fn is_kept(seen: Seen) -> bool {
     let emptied = matches!(seen.weak, Some(Reply::Seen(Val::Empty)));
-    let is_first = seen.cycle == 1 && seen.base == 1;
+    let is_first = seen.cycle == 1 && seen.mark_version == 1;
     is_first && seen.visits > 0 && seen.kept == Some(4) && emptied
 }
 

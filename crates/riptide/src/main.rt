@@ -1,7 +1,8 @@
 //! The program `riptide`: reads a workload from standard input, runs it and prints its calls and cycles.
 //!
 //! `main` makes what is outside, the words of the command line, standard input, output and error, and hands it to
-//! `answer` of `tide_run`, with whose exit status it ends. Nothing is decided here.
+//! `answer` of `tide_run`, with whose exit status it ends. It may touch `tide_run`, the options, and of what is outside
+//! `tide_io` and std. Nothing is decided here.
 #![tactic(auto)]
 
 mod words;

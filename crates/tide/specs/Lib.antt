@@ -10,5 +10,7 @@ pub use Rattle.tide_heap.specs.tide_layout
 pub use Rattle.tide_table.specs as tide_table
 pub use Rattle.tide_mutator.specs as tide_mutator
 pub use Rattle.tide_visitor.specs as tide_visitor
+pub use Rattle.tide_weakref.specs as tide_weakref
+pub use Rattle.atomic_table.specs as atomic_table
 pub use Rattle.tide_snapshot.specs as tide_snapshot
 pub use Rattle.tide_snapshot.specs.tide_retained

@@ -32,11 +32,11 @@ pub fn bit_of(id: u32) -> u32
 pub fn first_block_of(layout: &Layout, class: u8) -> u32
     requires { class < 10 }
     ensures first { result ≡ first_block_of layout.now class }
-    ensures few { result ≤ 64 * class }
+    ensures few { result ≤ 262144 * class }
 {
     let mut block = 0;
     for smaller in 0..class {
-        block += u32::from(layout.blocks(smaller));
+        block += layout.blocks(smaller);
     }
     block
 }
@@ -87,7 +87,7 @@ fn class_from(layout: &Layout, first: u8, block: u32) -> u8
     let mut class = first;
     let mut end = first_block_of(layout, first);
     for earlier in 0..4 {
-        end += u32::from(layout.blocks(first + earlier));
+        end += layout.blocks(first + earlier);
         if end <= block {
             class += 1;
         }

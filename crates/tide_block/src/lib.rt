@@ -3,8 +3,8 @@
 //! A block's words have one bit for each of its 64 cells or arrays. `lowest`, `after` and `without_lowest` walk the set
 //! bits of a word, and four more calls ask for one bit, or give the word with bits the other way. The other calls go
 //! from an id to its class, its block and its bit, and from a class to its first block and its first id, in the order
-//! that a `Layout` of `tide_layout` gives. `proofs/` has the laws that tie these together, for the rooms above. It may
-//! touch the layout alone, and knows no word's meaning.
+//! that a `Layout` of `tide_layout` gives. `proofs/` has the laws that tie these together. Words and the plain store
+//! use it. It may touch the layout, and knows no word's meaning.
 #![tactic(auto)]
 
 mod bits;

@@ -7,17 +7,17 @@
 #![tactic(auto)]
 
 mod claims;
-// over those above it
+// these stand on those listed before
 mod action;
 mod own;
 mod planner;
-// over those above it
+// these stand on those listed before
 mod additions;
 mod claiming;
 mod pairs;
 mod properties;
 mod slots;
-// over those above it
+// these stand on those listed before
 mod planning;
 // what the words say once an action's are written
 pub mod laws;

@@ -5,16 +5,17 @@
 //! what a participant may do to one word while a part runs, what it knows (`View`), and that each step keeps
 //! `RunningWave`. They speak of functions, lists and histories.
 //!
-//! It knows no thread, no table of words and no handle, and takes no memory. The heap of shared words (`tide_heap`)
-//! has this invariant as its rule, and freezes (`tide_freeze`) its other half.
+//! It may touch words, calls, the solver, sweeping and cycles, which it hands on. It knows no thread, no table of words
+//! and no handle, and takes no memory. The heap of shared words (`tide_heap`) has this invariant as its rule, and a
+//! freeze (`tide_freeze`) shows that its entries keep it.
 #![tactic(auto)]
 
 pub mod wave;
-// over those above it
+// these stand on those listed before
 pub mod machine;
 
 pub use machine::{
-    Act, Cleared, Duty, Found, Growth, Owed, Role, Round, Saw, Scan, Sweeping, Target, View,
+    Act, Cleared, Duty, FullBlock, Growth, Owed, Role, Round, Saw, Scan, Sweeping, Target, View,
 };
 pub use tide_call::{Action, Addition, Claims, OwnRegisters, OwnWords, Planner};
 pub use tide_cycle::{Report, begin, end, pause};

@@ -7,16 +7,16 @@
 mod known;
 mod refused;
 mod table;
-// over those above it
+// these stand on those listed before
 mod maker;
-// over those above it
+// these stand on those listed before
 mod grower;
-// over those above it
+// these stand on those listed before
 mod agreeing;
 mod numbered;
-// over those above it
+// these stand on those listed before
 mod settled;
-// over those above it
+// these stand on those listed before
 mod settling;
 
 pub use agreeing::growers_agree;

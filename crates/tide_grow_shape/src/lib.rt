@@ -4,12 +4,13 @@
 //! grows them by a key more. `settle` leaves a `Settled` of what some growers know: a `ShapeTable`, over which a heap
 //! is opened. `transitions` has the cells of a table and what a grower has read of them, `growers` the calls.
 //!
-//! It may touch shapes, and knows no heap and no word. `boxcar` is used here alone.
+//! It may touch shapes, and `boxcar`, which is used here alone; it knows no heap and no word. Programs of one's own
+//! have it by `tide`, and no run of `tide_run` uses it.
 #![tactic(auto)]
 
 mod transitions;
-// over those above it
+// these stand on those listed before
 mod growers;
 
 pub use growers::{GrowRefused, GrowShapes, Grower, Settled, growers_agree, settle};
-pub use transitions::GrowGate;
+pub use transitions::GrowHook;

@@ -6,19 +6,19 @@
 //! keys.
 
 mod cells;
-mod gate;
+mod hook;
 mod places;
-// over those above it
+// these stand on those listed before
 mod sight;
 mod unmade;
-// over those above it
+// these stand on those listed before
 mod sights;
-// over those above it
+// these stand on those listed before
 mod merging;
 mod walking;
 
 pub use cells::{Cells, ShownItem};
-pub use gate::GrowGate;
+pub use hook::GrowHook;
 pub use places::Places;
 pub use sight::Sight;
 pub use sights::Sights;

@@ -1,4 +1,5 @@
--- The rule of a table by which one keeper and its members hand parcels to each other: a slot and a word for each member.
+-- The rule of a table by which one keeper and its members hand parcels to each other: a slot and a word for each
+-- member.
 use Rattle.std.specs.Prelude.{ℕ, suc, ◌≡◌, ◌+◌, ◌<◌, ◌==◌, ◌&&◌, ◌||◌, ◌⊎◌, Bool, true, false, List, [], ◌∷◌, length, slice_index, if◌then◌else◌, MatchBool}
 use mathlib.Core.Option.{some}
 use lib.ListN.{get_elem?}

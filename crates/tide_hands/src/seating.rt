@@ -24,7 +24,8 @@ pub fn open_table<T: Drop, N: Drop, I, P: Parcels<T, N, I>, K: Keyed<I>>(
 >
     requires count { count ≡ K.count key.now }
     ensures key { IfOk result (λ made. made.0.shared.key ≡ key.now) }
-    ensures sized { IfOk result (λ made. (made.0.shared.table_id.words ≡ count) × (made.0.shared.table_id.slots ≡ count)) }
+    ensures sized { IfOk result (λ made. (made.0.shared.table_id.words ≡ count)
+        × (made.0.shared.table_id.slots ≡ count)) }
     ensures own { IfOk result (λ made. made.1.seat.table_id ≡ made.0.shared.table_id) }
     ensures keeper { IfOk result (λ made. made.1.seat.me ≡ (keeper_view (K.name key.now), [])) }
 {

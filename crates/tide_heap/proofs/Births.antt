@@ -360,7 +360,7 @@ module _ (layout : Layout) (shapes : ShapeLists) (limits : IsWithinLimits layout
       ])
 
   -- so their number is far from 2 to the power of 32
-  pub births_few : (log : List Event) → IsLawful layout shapes log → HasPartAlone log → born_since is_open log ≤ 20480
+  pub births_few : (log : List Event) → IsLawful layout shapes log → HasPartAlone log → born_since is_open log ≤ 83886080
   births_few log lawful alone =
       let few = since_end log lawful alone in
       let live = (HasFewBirths-lawful layout shapes log limits.five_cell_classes lawful).since_end in

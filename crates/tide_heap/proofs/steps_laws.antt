@@ -1,5 +1,5 @@
 pub mod Works
-pub mod Comings
+pub mod BeginsAndStops
 pub mod EntryBirths
 pub mod Allowing
 pub mod Ties

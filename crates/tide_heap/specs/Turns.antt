@@ -1,7 +1,7 @@
 -- What the views become as participants come, stop and go on, and as the collector seats, freezes, enters and opens.
 use Rattle.std.specs.List.{list_all}
 use Rattle.std.specs.Prelude.{ℕ, Bool, Contains, ◌≡◌, ◌<◌, ◌≤◌, ◌+◌, ◌==◌, ◌&&◌, not, filter, count_by, true, false, List, [], ◌∷◌, ◌++◌, length, replicate, slice_set, if◌then◌else◌}
-use Rattle.tide_core.specs.tide_layout.Limits.{IsWithinLimits}
+use Rattle.tide_core.specs.tide_layout.Limits.{most_cells, IsWithinLimits}
 use Rattle.tide_core.specs.tide_layout.Region.{word_count}
 use Rattle.tide_core.specs.tide_layout.declared.region.Region.TheVariants as region
 use Rattle.tide_core.specs.machine.Frozen.{FrozenWith, newcomer}
@@ -10,7 +10,7 @@ use Rattle.tide_core.specs.machine.World.{first_visitor, parties}
 use Rattle.tide_core.specs.declared.machine.view.NotedCalls.{NotedCalls}
 use Rattle.tide_core.specs.declared.machine.view.Role.TheVariants.{Collector, Note, Ticket, Spent}
 use Rattle.tide_core.specs.declared.machine.view.View.{View}
-use Rattle.tide_core.specs.declared.machine.view.Visited.{Visited}
+use Rattle.tide_core.specs.declared.machine.view.NotedVisits.{NotedVisits}
 use Rattle.tide_core.specs.machine.kinds.Join.{joined_view}
 use Rattle.tide_model.specs.History.{is_call_of, plain, state_after}
 use Rattle.tide_model.specs.Layout.{Layout}
@@ -31,7 +31,7 @@ first_view layout = record (newcomer 0) {
   frozen = true;
   notes = up_to parties;
   words = replicate (word_count layout) 0;
-  base = replicate (word_count layout) 0;
+  words_at_entry = replicate (word_count layout) 0;
   stood = replicate (word_count layout) 0;
 }
 
@@ -69,7 +69,7 @@ abbrev pub spent : View
 spent = record (newcomer 0) { role = Spent }
 
 -- what a note tells of visits in the part
-abbrev pub visited_of : ℕ → View → Visited
+abbrev pub visited_of : ℕ → View → NotedVisits
 visited_of period u = record { who = u.who; visits = if u.begun == period then u.visits else 0; done = u.done }
 
 -- what a note tells of calls
@@ -91,7 +91,7 @@ noted v u = record v {
 
 -- the collector freezes the heap, with the words as they are then
 abbrev pub frozen_with : List ℕ → View → View
-frozen_with words v = record v { frozen = true; words = words; base = words; stood = words }
+frozen_with words v = record v { frozen = true; words = words; words_at_entry = words; stood = words }
 
 -- the collector stores a word while the heap is frozen
 abbrev pub restored : ℕ → ℕ → View → View
@@ -99,7 +99,7 @@ restored at word v = record v { words = slice_set v.words at word }
 
 -- the collector makes an entry of its own
 abbrev pub entered_with : Event → View → View
-entered_with event v = record v { seen = v.seen ++ event ∷ []; base = v.words }
+entered_with event v = record v { seen = v.seen ++ event ∷ []; words_at_entry = v.words }
 
 -- the collector makes an entry with which nothing is left to enter of this participant's visits
 abbrev pub visits_over : ℕ → Event → View → View
@@ -133,7 +133,7 @@ opened layout run v = record v {
   seen = v.seen ++ open_entry run v ∷ [];
   start = v.seen ++ open_entry run v ∷ [];
   words = [];
-  base = [];
+  words_at_entry = [];
   stood = [];
 }
 
@@ -151,7 +151,7 @@ pub record Freezes (layout : Layout) (shapes : ShapeLists) (v w : View) : Type 0
   pub of_part : list_all (λ event. is_of_part event.entry) part ≡ true
   pub taken : TakenAreSwept part
   pub births : v.births ≡ count_by (λ event. is_birth event.entry) part
-  pub few : v.births ≤ 20480
+  pub few : v.births ≤ most_cells
   -- what each note tells of the history is a beginning of it, and what it tells of its participant's calls are all that
   -- the history has; the same of who left for good before
   pub heard : (noted : NotedCalls) → IsParty layout noted.who → Contains v.noted_calls noted → IsPrefix noted.seen v.seen

@@ -6,15 +6,15 @@
 //! mutator and each visitor has a `Pass`, its right to step on words; it begins a part with a `Ticket`, and hands a
 //! `Note` in at its stop. Each step keeps the rule and tells what the machine says of it.
 //!
-//! It may touch `tide_core`, which it hands on, and `atomic_table`. Nothing else may load or change a shared word. Who
-//! makes a heap, seats participants, freezes and opens is for the room above: of the collector it knows what its view
-//! says.
+//! It may touch `tide_core` and `tide_freeze`, which it hands on, shapes, and `atomic_table`. `tide_mutator` and
+//! `tide_visitor` step by it, and `tide_table` makes, freezes and opens a heap; of the collector this room knows what
+//! its view says. Outside these rooms nobody may step on a shared word.
 #![tactic(auto)]
 
 mod shapes;
-// over those above it
+// these stand on those listed before
 mod heap;
-// over those above it
+// these stand on those listed before
 mod steps;
 
 pub use heap::{Heap, Key, Waves};

@@ -7,14 +7,14 @@
 mod pass;
 mod plays;
 mod step;
-// over those above it
+// these stand on those listed before
 mod acting;
 mod notes;
 mod pairs;
 mod properties;
 mod sweeps;
-// over those above it
-mod coming;
+// these stand on those listed before
+mod begin_and_stop;
 mod own;
 mod slots;
 mod visits;

@@ -1,16 +1,16 @@
 //! Where a program's bytes come from and go to.
 //!
-//! A `Source` and a `Sink` each have a count of faults that never falls, and a call answers that it failed only
-//! where the count rose. Where they tell it, contracts also name the bytes that are left and those that are
-//! held. There are two of each: one in memory, which can be told to fail, and one over std's reader or writer.
-//! `read_up_to` and `write_all` work over any of them. Of the crates below, this one needs `tide_model` for
-//! its `Memory` alone.
+//! A `Source` and a `Sink` each have a count of faults that never falls, and a call answers that it failed only where
+//! the count rose. Where they tell it, contracts also name the bytes that are left and those that are held. There are
+//! two of each: one in memory, which can be told to fail, and one over std's reader or writer. `read_up_to` and
+//! `write_all` work over any of them. Texts and snapshots are written to a `Sink`, and `tide_run` reads and prints by
+//! both. It may touch `tide_model`, for its `Memory`, and `arrayvec`.
 #![tactic(auto)]
 
 mod calls;
 mod sink;
 mod source;
-// over those above it
+// these stand on those listed before
 mod gathering;
 mod mem_sink;
 mod mem_source;

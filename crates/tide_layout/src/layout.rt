@@ -1,5 +1,6 @@
 //! `Layout`: how large a heap is, and the place of each of its words. It knows no word.
 ghost use Rattle.std.specs.Prelude.{◌≡◌, ◌≤◌, ℕ, slice_index, sum, take};
+ghost use Rattle.tide_layout.specs.Limits.{most_words};
 
 use crate::numbers::Numbers;
 use crate::region::Region;
@@ -43,9 +44,22 @@ impl Model for Layout {
     ghost inverse_ok = { λ a h. ap (λ starts. record { numbers = a.numbers; starts = starts }) (sym h.begins) };
 }
 
+/// The same numbers, with room for larger ones.
+fn wide(blocks: [u8; 5]) -> [u32; 5]
+    ensures { result ≡ blocks }
+{
+    [
+        u32::from(blocks[0]),
+        u32::from(blocks[1]),
+        u32::from(blocks[2]),
+        u32::from(blocks[3]),
+        u32::from(blocks[4]),
+    ]
+}
+
 /// Where each of some regions begins that take so many words, and last where all of them end.
 fn starts_of(rooms: &[u32; 22]) -> [u32; 23]
-    requires { sum rooms.now ≤ 771163 }
+    requires { sum rooms.now ≤ most_words }
     ensures { (k : ℕ) → k ≤ 22 → slice_index result k ≡ sum (take k rooms.now) }
 {
     let mut starts = [0; 23];
@@ -58,7 +72,7 @@ fn starts_of(rooms: &[u32; 22]) -> [u32; 23]
 impl Layout {
     ghost use Rattle.std.specs.Prelude.{◌≡◌, ◌≢◌, ◌<◌, ◌≤◌, All, ℕ};
     ghost use Rattle.tide_model.specs.Layout.{array_count, blocks_of, cell_count};
-    ghost use Rattle.tide_layout.specs.Limits.{IsWithinLimits};
+    ghost use Rattle.tide_layout.specs.Limits.{most_blocks, most_cells, most_words, HasFewBlocks, IsWithinLimits};
     ghost use Rattle.tide_layout.specs.Region.{AreApart, block_count, index_of_register, owner_of, place_in};
     ghost use Rattle.tide_layout.specs.Region.{place_of_element, place_of_slot, size_of, word_count};
     ghost use Rattle.tide_layout.specs.Slots.{index_of_element, index_of_slot, width_of_array, width_of_cell, HasElement, HasSlot};
@@ -96,6 +110,44 @@ impl Layout {
         } }
         ensures limits { IsWithinLimits result }
     {
+        Layout::large(
+            wide(blocks),
+            wide(arrays),
+            registers,
+            strong,
+            weak,
+            mutators,
+            visitors,
+        )
+    }
+
+    /// A layout of these numbers: at most 262,144 blocks of each class, 250 registers, 65,535 strong and as many weak
+    /// handles, 16 mutators and 8 visitors. `blocks` and `arrays` are those of `new`.
+    pub fn large(
+        blocks: [u32; 5],
+        arrays: [u32; 5],
+        registers: u8,
+        strong: u16,
+        weak: u16,
+        mutators: u8,
+        visitors: u8,
+    ) -> Layout
+        requires few_blocks { HasFewBlocks blocks }
+        requires few_arrays { HasFewBlocks arrays }
+        requires few_registers { registers ≤ 250 }
+        requires few_mutators { mutators ≤ 16 }
+        requires few_visitors { visitors ≤ 8 }
+        ensures layout { result ≡ record {
+          cell_blocks = blocks;
+          array_blocks = arrays;
+          registers = registers;
+          strong = strong;
+          weak = weak;
+          mutators = mutators;
+          visitors = visitors;
+        } }
+        ensures limits { IsWithinLimits result }
+    {
         let numbers = Numbers {
             cell_blocks: blocks,
             array_blocks: arrays,
@@ -112,7 +164,7 @@ impl Layout {
     /// How many cells there are.
     pub fn cells(&self) -> u32
         ensures count { result ≡ cell_count self.now }
-        ensures few { result ≤ 20480 }
+        ensures few { result ≤ most_cells }
         ensures limits { IsWithinLimits self.now }
     {
         self.numbers.cells()
@@ -121,7 +173,7 @@ impl Layout {
     /// How many arrays there are.
     pub fn arrays(&self) -> u32
         ensures count { result ≡ array_count self.now }
-        ensures few { result ≤ 20480 }
+        ensures few { result ≤ most_cells }
         ensures limits { IsWithinLimits self.now }
     {
         self.numbers.arrays()
@@ -130,17 +182,17 @@ impl Layout {
     /// How many blocks there are: those of cells, and then those of arrays.
     pub fn block_count(&self) -> u32
         ensures count { result ≡ block_count self.now }
-        ensures few { result ≤ 640 }
+        ensures few { result ≤ 2621440 }
         ensures limits { IsWithinLimits self.now }
     {
         self.numbers.block_count()
     }
 
     /// How many blocks a class has, the classes 0 to 4 being those of cells and 5 to 9 those of arrays.
-    pub fn blocks(&self, class: u8) -> u8
+    pub fn blocks(&self, class: u8) -> u32
         requires { class < 10 }
         ensures count { result ≡ blocks_of self.now class }
-        ensures few { result ≤ 64 }
+        ensures few { result ≤ most_blocks }
         ensures limits { IsWithinLimits self.now }
     {
         if class < 5 {
@@ -193,7 +245,7 @@ impl Layout {
     /// How many words there are, with those in the gaps.
     pub fn words(&self) -> usize
         ensures words { result ≡ word_count self.now }
-        ensures few { result ≤ 771163 }
+        ensures few { result ≤ most_words }
     {
         self.starts[22] as usize
     }

@@ -2,16 +2,17 @@
 //!
 //! A heap is one list of words, parted into the regions of `Region`. A `Layout` tells how large each region is and
 //! where each word lies: `place` for any region, `slot` for a cell and `element` for an array. No two words share a
-//! place. It may touch `tide_model`, and knows neither what a word says nor that there are words at all.
+//! place. Blocks, words and the plain store use it. It may touch `tide_model`, has no word, and doesn't know what one
+//! says.
 #![tactic(auto)]
 
 mod region;
 mod sizes;
-// over those above it
+// these stand on those listed before
 mod numbers;
-// over those above it
+// these stand on those listed before
 mod layout;
-// over those above it
+// these stand on those listed before
 mod operands;
 
 pub use layout::Layout;

@@ -2,6 +2,7 @@
 ghost use Rattle.std.specs.Prelude.{◌≡◌, ◌*◌, ◌+◌, ◌<◌, ◌≤◌, map, sum};
 ghost use Rattle.tide_model.specs.Layout.{array_count, cell_count};
 ghost use Rattle.tide_layout.specs.Layout.{layout_of};
+ghost use Rattle.tide_layout.specs.Limits.{HasFewBlocks};
 ghost use Rattle.tide_layout.specs.Region.{block_count, gap, gaps_before, regions, room_of, size_of};
 ghost use Rattle.tide_layout.specs.Slots.{words_among, words_before_array, words_before_cell};
 
@@ -11,8 +12,8 @@ use crate::sizes::{BLOCK_SIZE, GAP, width};
 /// The numbers that a layout is made of.
 #[derive(Clone, Copy, Debug, PartialEq, Eq)]
 pub(crate) struct Numbers {
-    pub(crate) cell_blocks: [u8; 5],
-    pub(crate) array_blocks: [u8; 5],
+    pub(crate) cell_blocks: [u32; 5],
+    pub(crate) array_blocks: [u32; 5],
     pub(crate) registers: u8,
     pub(crate) strong: u16,
     pub(crate) weak: u16,
@@ -21,28 +22,30 @@ pub(crate) struct Numbers {
 }
 
 /// How many blocks five classes have together.
-fn blocks_of_all(blocks: &[u8; 5]) -> u32
+fn blocks_of_all(blocks: &[u32; 5]) -> u32
+    requires few { HasFewBlocks blocks.now }
     ensures count { result ≡ sum blocks.now }
-    ensures small { result ≤ 1275 }
+    ensures small { result ≤ 1310720 }
 {
     let mut count = 0;
     for of_class in blocks {
-        count += u32::from(*of_class);
+        count += *of_class;
     }
     count
 }
 
 /// How many words the first ids of five classes from `first` on have together.
-fn words_among(blocks: &[u8; 5], first: u8, ids: u32) -> u32
+fn words_among(blocks: &[u32; 5], first: u8, ids: u32) -> u32
+    requires few_blocks { HasFewBlocks blocks.now }
     requires few { first ≤ 5 }
     requires within { ids ≤ 64 * sum blocks.now }
     ensures words { result ≡ words_among blocks.now first ids }
-    ensures small { result ≤ 20808000 }
+    ensures small { result ≤ 2080374784 }
 {
     let mut rest = ids;
     let mut words = 0;
     for class in 0u8..5 {
-        let of_class = rest.min(BLOCK_SIZE * u32::from(blocks[usize::from(class)]));
+        let of_class = rest.min(BLOCK_SIZE * blocks[usize::from(class)]);
         words += of_class * u32::from(width(first + class));
         rest -= of_class;
     }
@@ -52,7 +55,7 @@ fn words_among(blocks: &[u8; 5], first: u8, ids: u32) -> u32
 /// How many words a region takes that has so many, in rows of so many participants: a gap lies behind each row, and one
 /// behind the region.
 fn room(words: u32, owners: u32) -> u32
-    requires few_words { words ≤ 20808000 }
+    requires few_words { words ≤ 2080374784 }
     requires few_owners { owners ≤ 510 }
     ensures { result ≡ words + gap * (owners + 1) }
 {
@@ -62,42 +65,48 @@ fn room(words: u32, owners: u32) -> u32
 impl Numbers {
     /// How many cells there are.
     pub(crate) fn cells(&self) -> u32
+        requires { HasFewBlocks self.now.cell_blocks }
         ensures count { result ≡ cell_count (layout_of self.now) }
-        ensures small { result ≤ 81600 }
+        ensures small { result ≤ 83886080 }
     {
         BLOCK_SIZE * blocks_of_all(&self.cell_blocks)
     }
 
     /// How many arrays there are.
     pub(crate) fn arrays(&self) -> u32
+        requires { HasFewBlocks self.now.array_blocks }
         ensures count { result ≡ array_count (layout_of self.now) }
-        ensures small { result ≤ 81600 }
+        ensures small { result ≤ 83886080 }
     {
         BLOCK_SIZE * blocks_of_all(&self.array_blocks)
     }
 
     /// How many blocks there are.
     pub(crate) fn block_count(&self) -> u32
+        requires few_cells { HasFewBlocks self.now.cell_blocks }
+        requires few_arrays { HasFewBlocks self.now.array_blocks }
         ensures count { result ≡ block_count (layout_of self.now) }
-        ensures small { result ≤ 2550 }
+        ensures small { result ≤ 2621440 }
     {
         blocks_of_all(&self.cell_blocks) + blocks_of_all(&self.array_blocks)
     }
 
     /// How many words the slots and pairs of the cells before this one take.
     pub(crate) fn words_before_cell(&self, cell: u32) -> u32
-        requires { cell ≤ cell_count (layout_of self.now) }
+        requires within { cell ≤ cell_count (layout_of self.now) }
+        requires few { HasFewBlocks self.now.cell_blocks }
         ensures words { result ≡ words_before_cell (layout_of self.now) cell }
-        ensures small { result ≤ 20808000 }
+        ensures small { result ≤ 2080374784 }
     {
         words_among(&self.cell_blocks, 0, cell)
     }
 
     /// How many words the elements of the arrays before this one take.
     pub(crate) fn words_before_array(&self, array: u32) -> u32
-        requires { array ≤ array_count (layout_of self.now) }
+        requires within { array ≤ array_count (layout_of self.now) }
+        requires few { HasFewBlocks self.now.array_blocks }
         ensures words { result ≡ words_before_array (layout_of self.now) array }
-        ensures small { result ≤ 20808000 }
+        ensures small { result ≤ 2080374784 }
     {
         words_among(&self.array_blocks, 5, array)
     }
@@ -116,6 +125,8 @@ impl Numbers {
 
     /// How many words each region takes, in the order of the regions.
     pub(crate) fn rooms(&self) -> [u32; 22]
+        requires few_cells { HasFewBlocks self.now.cell_blocks }
+        requires few_arrays { HasFewBlocks self.now.array_blocks }
         ensures { result ≡ map (room_of (layout_of self.now)) regions }
     {
         let mutators = u32::from(self.mutators);

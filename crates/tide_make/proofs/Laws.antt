@@ -6,13 +6,13 @@ use Rattle.std.proofs.lemmas.Nat.{mod_below}
 use Rattle.std.specs.Prelude.{All, ◌==◌, if◌then◌else◌}
 use Rattle.tide_model.specs.declared.op.Op.{Op}
 use Rattle.tide_model.specs.declared.op.Op.TheVariants.{Alloc, Get, Put, Move, StrongSet}
-use Rattle.tide_text.specs.work.OpLimits.{OpLimits, limits_with}
+use Rattle.tide_text.specs.work.OpArguments.{OpArguments, limits_with}
 use Rattle.tide_text.specs.work.Work.{AreOperations, AreSettings, IsOperation, IsSized}
 use Rattle.tide_make.specs.Made.{rounds_of, script_of, scripts_below, settings}
 use Rattle.tide_make.specs.Rounds.{back, handle_of, last_op, linked_register, next_seed, own_register, place_in_chain, round_ops, seed_after}
 
 -- what the operations of a generated workload may name
-abbrev pub limits : OpLimits
+abbrev pub limits : OpArguments
 limits = limits_with settings []
 
 -- what holds of each operation of the five of a round

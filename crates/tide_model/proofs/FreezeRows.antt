@@ -32,15 +32,15 @@ abbrev pub second_calls : Op → Reply → Event
 second_calls op reply = plain (Call 1 op reply)
 
 -- a pause after which its cycle has to end
-pub ends_its_cycle : (share visits : ℕ) (freed : List ℕ) →
-    IsPause true share (record { visits = visits; freed = Some freed })
-ends_its_cycle share visits freed = record {
+pub ends_its_cycle : (budget visits : ℕ) (freed : List ℕ) →
+    IsPause true budget (record { visits = visits; freed = Some freed })
+ends_its_cycle budget visits freed = record {
   ends = λ must. refl;
   at_most = λ may. absurd (cc);
   all = λ may. absurd (cc);
 }
 
--- a pause outside a forced freeze makes its share black, no more and no less where the cycle goes on
+-- a pause outside a forced freeze makes its budget black, no more and no less where the cycle goes on
 pub pause_over_its_share : IsPause false 2 (record { visits = 3; freed = Some [] }) → ⊥
 pause_over_its_share pause = let few = pause.at_most refl in omega (arith, few)
 

@@ -16,11 +16,13 @@ pub mod Histories
 pub mod LawfulReferences
 pub mod NumberLaws
 pub mod OldLaws
+pub mod OwnCalls
 pub mod PeriodLaws
 pub mod PeriodRows
 pub mod PeriodTests
 pub mod PhaseLaws
 pub mod PositionLaws
+pub mod Prefixes
 pub mod QuietEnds
 pub mod ReferenceLaws
 pub mod ReferenceSteps

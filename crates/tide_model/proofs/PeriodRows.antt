@@ -11,7 +11,7 @@ use Rattle.tide_model.specs.declared.entry.Event.{Event}
 use Rattle.tide_model.specs.Freeze.{IsFreeze}
 use Rattle.tide_model.specs.History.{plain}
 use Rattle.tide_model.specs.Layout.{Layout}
-use Rattle.tide_model.specs.Pace.{stopped_share, running_share}
+use Rattle.tide_model.specs.Pace.{mark_budget, call_quota}
 use Rattle.tide_model.specs.Periods.{Period, StandsPeriod, ArePeriods, no_period, one_more, IsScheduled, EndsInTime, after_period, next_run}
 use Rattle.tide_model.specs.Rows.{small, kept_then_freed}
 use Rattle.tide_model.specs.Since.{is_call, is_of_part}
@@ -22,12 +22,12 @@ use Rattle.tide_model.proofs.PeriodTests.{Each-tested, EndsInTime-tested, IsSwep
 
 -- the shares of a period of 16 calls and a headroom of 32, once 0, 8, 16, 31, 32 and 40 cells were born
 pub shares_of_sixteen :
-    (stopped_share (record { period = 16; headroom = 32; trigger = 0 }) 0 ≡ 4)
-    × (running_share (record { period = 16; headroom = 32; trigger = 0 }) 8 ≡ 12)
-    × (stopped_share (record { period = 16; headroom = 32; trigger = 0 }) 16 ≡ 8)
-    × (stopped_share (record { period = 16; headroom = 32; trigger = 0 }) 31 ≡ 16)
-    × (running_share (record { period = 16; headroom = 32; trigger = 0 }) 31 ≡ 0)
-    × (stopped_share (record { period = 16; headroom = 32; trigger = 0 }) 40 ≡ 16)
+    (mark_budget (record { period = 16; headroom = 32; trigger = 0 }) 0 ≡ 4)
+    × (call_quota (record { period = 16; headroom = 32; trigger = 0 }) 8 ≡ 12)
+    × (mark_budget (record { period = 16; headroom = 32; trigger = 0 }) 16 ≡ 8)
+    × (mark_budget (record { period = 16; headroom = 32; trigger = 0 }) 31 ≡ 16)
+    × (call_quota (record { period = 16; headroom = 32; trigger = 0 }) 31 ≡ 0)
+    × (mark_budget (record { period = 16; headroom = 32; trigger = 0 }) 40 ≡ 16)
 shares_of_sixteen = (refl, refl, refl, refl, refl, refl)
 
 -- eight calls, and a cycle that begins by itself
@@ -199,7 +199,7 @@ first_run_is_whole are = elim (first_opens pace small (plain (Open 1 7) ∷ []) 
       cc
 ]
 
--- a cycle that is marked whole in its first pause may not report that pause's share alone
+-- a cycle that is marked whole in its first pause may not report that pause's budget alone
 pub ends_too_early : EndsInTime small (take 11 whole) (plain (End 1 [])) → ⊥
 ends_too_early stands = let few = stands.kept 1 [] refl in omega (arith, few)
 

@@ -11,7 +11,7 @@ use Rattle.tide_model.specs.Lawful.{IsLawful}
 use Rattle.tide_model.specs.Layout.{Layout}
 use Rattle.tide_model.specs.Numbers.{any_below}
 use Rattle.tide_model.specs.Old.{spared_count}
-use Rattle.tide_model.specs.Pace.{Pace, running_share}
+use Rattle.tide_model.specs.Pace.{Pace, call_quota}
 use Rattle.tide_model.specs.Refused.{ShapeLists}
 use Rattle.tide_model.specs.Script.{calls_of, retry_of}
 use Rattle.tide_model.specs.Share.{IsShare, has_ended}
@@ -29,7 +29,7 @@ is_forced layout before part =
 
 -- how many calls each mutator has in the part that opens after a history
 abbrev pub next_run : Pace → Layout → List Event → ℕ
-next_run pace layout history = if marks_after layout history then running_share pace (born_since is_begin history) else pace.period
+next_run pace layout history = if marks_after layout history then call_quota pace (born_since is_begin history) else pace.period
 
 -- how many parts were opened
 abbrev pub open_count : List Event → ℕ

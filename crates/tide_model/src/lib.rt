@@ -10,9 +10,9 @@ pub mod laws;
 mod memory;
 mod turnstile;
 mod val;
-// over those above it
+// these stand on those listed before
 mod op;
-// over those above it
+// these stand on those listed before
 mod entry;
 
 pub use entry::{Entry, Event, Ids};

@@ -11,7 +11,7 @@ pub mod handles;
 pub mod pairs;
 pub mod slots;
 mod sweeping;
-// over those above it
+// these stand on those listed before
 pub mod searching;
-// over those above it
+// these stand on those listed before
 pub mod births;

@@ -12,9 +12,9 @@
 #![tactic(auto)]
 
 mod owed;
-// over those above it
+// these stand on those listed before
 mod cells;
-// over those above it
+// these stand on those listed before
 mod calls;
 
 pub use calls::Mutator;

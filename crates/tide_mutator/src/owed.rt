@@ -11,7 +11,7 @@ mod colouring;
 mod growth;
 mod registers;
 mod shape;
-// over those above it
+// these stand on those listed before
 mod arrays;
 
 pub use arrays::replace;

@@ -2,7 +2,8 @@
 //!
 //! The command is a simple one of the crate `clap`, which states what its words mean; what is added is that a plain run
 //! has no visitors and no snapshot, nor a generated workload a snapshot, and how many visitors there may be. It may
-//! touch `clap`, which is used here alone, and knows no workload and no run.
+//! touch `clap`, which is used here alone, and not even `tide_model`. `tide_run` asks it; it knows no workload and no
+//! run.
 #![tactic(auto)]
 
 mod command;

@@ -24,8 +24,8 @@ use Rattle.tide_model.proofs.DeadLaws.{calls_where_marking}
 use Rattle.tide_model.proofs.Histories.{IsLawful-prefix, state_after-push}
 use Rattle.tide_model.proofs.PeriodLaws.{Each-nil}
 use Rattle.tide_model.proofs.SinceLaws.{count-push}
-use Rattle.tide_periods.specs.declared.caller.Caller.{Caller}
-use Rattle.tide_periods.specs.Asking.{IsCallerAt, scripts_of, standing_of}
+use Rattle.tide_periods.specs.declared.cursor.ScriptCursor.{ScriptCursor}
+use Rattle.tide_periods.specs.Asking.{IsCursorAt, scripts_of, standing_of}
 use Rattle.tide_periods.specs.Laws.{SharesMakePart, with_open}
 use Rattle.tide_periods.specs.Left.{left_at, left_of, total_by}
 use Rattle.tide_periods.specs.Own.{RanOwnShare, TookPart, had_retired, left_within, made_share}
@@ -33,10 +33,11 @@ use Rattle.tide_periods.specs.Part.{IsPartOf, RanPart}
 use Rattle.tide_periods.specs.Recorded.{IsSettled, OpenedPart, recorded_at}
 use Rattle.tide_periods.specs.Store.{Setting}
 use Rattle.tide_periods.proofs.Freezing.{calls_of-opened, one_fails}
-use Rattle.tide_periods.proofs.Lists.{prefix_of_prefix}
-use Rattle.tide_periods.proofs.OwnShares.{IsCallerAt-longer, calls_of-mine, calls_of-own, claims-longer, few_claims, is_own, quiet-rest, stands_last}
-use Rattle.tide_periods.proofs.Parting.{IsShare-by, any_below-same}
+use Rattle.tide_model.proofs.Prefixes.{prefix_of_prefix}
+use Rattle.tide_periods.proofs.OwnShares.{IsCursorAt-longer, claims-longer, few_claims, quiet-rest}
+use Rattle.tide_periods.proofs.Parting.{any_below-same}
 use Rattle.tide_periods.proofs.RecordedLaws.{IsSettled-event, OpenedPart-did}
+use Rattle.tide_model.proofs.OwnCalls.{IsShare-by, calls_of-mine, calls_of-own, is_own, stands_last}
 
 -- what a part leaves: a settled history, in which no cycle more began, and no part more was opened
 record AreSettledAfter (setting : Setting) (before over : List Event) : Type 0 where
@@ -96,12 +97,12 @@ settled-part setting before (event ∷ part) settled lawful all =
     }
 
 -- what comes of one mutator's part in the whole
-record HasShared (setting : Setting) (run : ℕ) (history calls : List Event) (old new : Caller) (stopped : Bool) : Type 0 where
+record HasShared (setting : Setting) (run : ℕ) (history calls : List Event) (old new : ScriptCursor) (stopped : Bool) : Type 0 where
   pub share : IsShare run (retry_of old.who (with_open history run)) ((state_after setting.layout (with_open history run ++ calls)).active old.who) (calls_of old.who calls)
   pub stops : stopped ≡ has_ended (retry_of old.who (with_open history run)) (calls_of old.who calls)
   pub who : new.who ≡ old.who
   pub ops : new.ops ≡ old.ops
-  pub caller : IsCallerAt setting (with_open history run ++ calls) new
+  pub cursor : IsCursorAt setting (with_open history run ++ calls) new
   pub left : left_of (state_after setting.layout (with_open history run ++ calls)).claims new ≤ left_of (state_after setting.layout history).claims old
   pub fewer : 0 < run → old.retired ≡ false →
       left_of (state_after setting.layout (with_open history run ++ calls)).claims new < left_of (state_after setting.layout history).claims old
@@ -114,14 +115,14 @@ follows history calls run = record {
 }
 
 -- a mutator that had retired made no call
-shared-retired : (setting : Setting) (run : ℕ) (history calls mine : List Event) (old new : Caller) → IsCallerAt setting history old → old.retired ≡ true → new ≡ old →
+shared-retired : (setting : Setting) (run : ℕ) (history calls mine : List Event) (old new : ScriptCursor) → IsCursorAt setting history old → old.retired ≡ true → new ≡ old →
     IsOwn old.who history mine → IsOwn old.who (with_open history run ++ calls) mine → HasShared setting run history calls old new false
-shared-retired setting run history calls mine old new at retired same own all = subst (λ (c : Caller). HasShared setting run history calls old c false) (sym same) (record {
-  share = subst (IsShare run retry active) (sym quiet) (record { each = Each-nil (HasCallLeft run retry); fewer = λ few. inl (caller.active ∙ ap not retired) });
+shared-retired setting run history calls mine old new at retired same own all = subst (λ (c : ScriptCursor). HasShared setting run history calls old c false) (sym same) (record {
+  share = subst (IsShare run retry active) (sym quiet) (record { each = Each-nil (HasCallLeft run retry); fewer = λ few. inl (cursor.active ∙ ap not retired) });
   stops = ap (has_ended retry) (sym quiet);
   who = refl;
   ops = refl;
-  caller = caller;
+  cursor = cursor;
   left = omega (arith, held);
   fewer = λ some stays. (let clash : true ≡ false = sym retired ∙ stays in absurd (cc));
 })
@@ -138,8 +139,8 @@ shared-retired setting run history calls mine old new at retired same own all = 
     quiet : calls_of old.who calls ≡ []
     quiet = quiet-rest old.who history over mine (follows history calls run) own all
 
-    caller : IsCallerAt setting over old
-    caller = IsCallerAt-longer setting history over mine old (follows history calls run) own all at
+    cursor : IsCursorAt setting over old
+    cursor = IsCursorAt-longer setting history over mine old (follows history calls run) own all at
 
     held : left_of (state_after setting.layout over).claims old ≡ left_of (state_after setting.layout history).claims old
     held = ap (λ (l : List ℕ). left_at old.ops.items (standing_of old) (length l)) (claims-longer setting.layout old.who history over mine (follows history calls run) own all)
@@ -153,17 +154,17 @@ claims-same layout who one other history mine first second own own' = elim (pref
 ]
 
 -- a mutator that made its share
-shared-made : (setting : Setting) (run : ℕ) (history calls seen seen_now mine mine_now : List Event) (old new : Caller) (ended : Bool) →
+shared-made : (setting : Setting) (run : ℕ) (history calls seen seen_now mine mine_now : List Event) (old new : ScriptCursor) (ended : Bool) →
     IsOwn old.who history mine → IsOwn old.who (with_open history run ++ calls) mine_now → IsPrefix seen_now (with_open history run ++ calls) →
     RanOwnShare setting run seen seen_now mine mine_now old new ended → HasShared setting run history calls old new ended
 shared-made setting run history calls seen seen_now mine mine_now old new ended own all within ran = record {
   share = IsShare-by run (retry_of old.who mine) (retry_of old.who (with_open history run)) (not new.retired) ((state_after setting.layout over).active old.who)
       (calls_of old.who ran.more) (calls_of old.who calls) same_retry
-      (sym (ap (state_after setting.layout over).active (sym ran.who) ∙ caller.active)) same_calls ran.share;
+      (sym (ap (state_after setting.layout over).active (sym ran.who) ∙ cursor.active)) same_calls ran.share;
   stops = ran.stops ∙ ap (λ (r : Option Op). has_ended r (calls_of old.who ran.more)) same_retry ∙ ap (has_ended (retry_of old.who (with_open history run))) same_calls;
   who = ran.who;
   ops = ran.ops;
-  caller = caller;
+  cursor = cursor;
   left = (let left = ran.left in omega (arith, left, held_now, held));
   fewer = λ some stays. (let left = ran.fewer some stays in omega (arith, left, held_now, held));
 }
@@ -180,8 +181,8 @@ shared-made setting run history calls seen seen_now mine mine_now old new ended 
     all_new : IsOwn new.who over mine_now
     all_new = subst (λ (w : ℕ). IsOwn w over mine_now) (sym ran.who) all
 
-    caller : IsCallerAt setting over new
-    caller = IsCallerAt-longer setting ran.after.known over mine_now new known ran.after.own all_new ran.after.at
+    cursor : IsCursorAt setting over new
+    cursor = IsCursorAt-longer setting ran.after.known over mine_now new known ran.after.own all_new ran.after.at
 
     more : ran.more ≡ filter (is_own old.who) calls
     more = append_cancel_left mine ran.more (filter (is_own old.who) calls)
@@ -203,15 +204,15 @@ shared-made setting run history calls seen seen_now mine mine_now old new ended 
         (claims-same setting.layout old.who history ran.before.known over mine (follows history calls run)
         (prefix_trans ran.before.known seen over ran.before.earlier (prefix_trans seen seen_now over ran.grows within)) own ran.before.own)
 
-shared-of : (setting : Setting) (run : ℕ) (history calls : List Event) (old new : Caller) (stopped : Bool) → IsCallerAt setting history old →
+shared-of : (setting : Setting) (run : ℕ) (history calls : List Event) (old new : ScriptCursor) (stopped : Bool) → IsCursorAt setting history old →
     TookPart setting run history (with_open history run ++ calls) old new stopped → HasShared setting run history calls old new stopped
 shared-of setting run history calls old new _ at (had_retired mine retired same own all) = shared-retired setting run history calls mine old new at retired same own all
 shared-of setting run history calls old new _ at (made_share seen seen_now mine mine_now ended own all within ran) =
     shared-made setting run history calls seen seen_now mine mine_now old new ended own all within ran
 
--- the scripts stay where each caller's does
-scripts-same : (old new : List Caller) → length new ≡ length old →
-    ((k : ℕ) (c d : Caller) → slice_get old k ≡ Some c → slice_get new k ≡ Some d → d.ops ≡ c.ops) → scripts_of new ≡ scripts_of old
+-- the scripts stay where each cursor's does
+scripts-same : (old new : List ScriptCursor) → length new ≡ length old →
+    ((k : ℕ) (c d : ScriptCursor) → slice_get old k ≡ Some c → slice_get new k ≡ Some d → d.ops ≡ c.ops) → scripts_of new ≡ scripts_of old
 scripts-same [] [] many each = refl
 scripts-same [] (d ∷ ds) many each = absurd (omega (arith, many))
 scripts-same (c ∷ cs) [] many each = absurd (omega (arith, many))
@@ -219,9 +220,9 @@ scripts-same (c ∷ cs) (d ∷ ds) many each =
     ap (λ ops. ops.items ∷ scripts_of ds) (each 0 c d refl refl)
     ∙ ap (λ (rest : List (List Op)). c.ops.items ∷ rest) (scripts-same cs ds (omega (arith, many)) (λ k x y at to. each (suc k) x y at to))
 
--- no more calls are left together where no caller has more left, and fewer where one has fewer
-total-each : (one other : ℕ → List ℕ) (old new : List Caller) → length new ≡ length old →
-    ((k : ℕ) (c d : Caller) → slice_get old k ≡ Some c → slice_get new k ≡ Some d → left_of other d ≤ left_of one c) → total_by other new ≤ total_by one old
+-- no more calls are left together where no cursor has more left, and fewer where one has fewer
+total-each : (one other : ℕ → List ℕ) (old new : List ScriptCursor) → length new ≡ length old →
+    ((k : ℕ) (c d : ScriptCursor) → slice_get old k ≡ Some c → slice_get new k ≡ Some d → left_of other d ≤ left_of one c) → total_by other new ≤ total_by one old
 total-each one other [] [] many each = omega arith
 total-each one other [] (d ∷ ds) many each = absurd (omega (arith, many))
 total-each one other (c ∷ cs) [] many each = absurd (omega (arith, many))
@@ -230,15 +231,15 @@ total-each one other (c ∷ cs) (d ∷ ds) many each =
     let later = total-each one other cs ds (omega (arith, many)) (λ k x y at to. each (suc k) x y at to) in
     omega (arith, here, later)
 
-total-some : (one other : ℕ → List ℕ) (old new : List Caller) (k : ℕ) (c d : Caller) → length new ≡ length old →
-    ((n : ℕ) (x y : Caller) → slice_get old n ≡ Some x → slice_get new n ≡ Some y → left_of other y ≤ left_of one x) →
+total-some : (one other : ℕ → List ℕ) (old new : List ScriptCursor) (k : ℕ) (c d : ScriptCursor) → length new ≡ length old →
+    ((n : ℕ) (x y : ScriptCursor) → slice_get old n ≡ Some x → slice_get new n ≡ Some y → left_of other y ≤ left_of one x) →
     slice_get old k ≡ Some c → slice_get new k ≡ Some d → left_of other d < left_of one c → total_by other new < total_by one old
 total-some one other [] new k c d many each at to fewer = absurd (cc)
 total-some one other (x ∷ xs) [] k c d many each at to fewer = absurd (omega (arith, many))
 total-some one other (x ∷ xs) (y ∷ ys) zero c d many each at to fewer =
     let from : x ≡ c = cc in
     let into : y ≡ d = cc in
-    let here : left_of other y < left_of one x = subst (λ (w : Caller). left_of other w < left_of one x) (sym into) (subst (λ (w : Caller). left_of other d < left_of one w) (sym from) fewer) in
+    let here : left_of other y < left_of one x = subst (λ (w : ScriptCursor). left_of other w < left_of one x) (sym into) (subst (λ (w : ScriptCursor). left_of other d < left_of one w) (sym from) fewer) in
     let later = total-each one other xs ys (omega (arith, many)) (λ n v w at' to'. each (suc n) v w at' to') in
     omega (arith, here, later)
 total-some one other (x ∷ xs) (y ∷ ys) (suc k) c d many each at to fewer =
@@ -258,17 +259,17 @@ found_beside xs ys k x many at =
 pub shares-make-part : SharesMakePart
 shares-make-part setting run history part old new stopped settled are lawful all taken took = record {
   ran = record { begun = recorded_at setting opened; opened = opens; ran = ran };
-  callers = record {
+  cursors = record {
     one_each = took.as_many ∙ are.one_each;
     each = λ k d to.
         let before = found_beside new old k d (sym took.as_many) to in
         let one = shared k before.0 d before.1 to in
-        (one.who ∙ (are.each k before.0 before.1).0, one.caller);
+        (one.who ∙ (are.each k before.0 before.1).0, one.cursor);
   };
   scripts = scripts-same old new took.as_many (λ k c d at to. (shared k c d at to).ops);
   left = total-each claims claims_now old new took.as_many (λ k c d at to. (shared k c d at to).left);
   fewer = λ some not_all.
-      let one = one_fails (λ (c : Caller). c.retired) old not_all in
+      let one = one_fails (λ (c : ScriptCursor). c.retired) old not_all in
       let now = found_beside old new one.0 one.1 took.as_many one.2 in
       total-some claims claims_now old new one.0 one.1 now.0 took.as_many (λ k c d at to. (shared k c d at to).left) one.2 now.1
       ((shared one.0 one.1 now.0 one.2 now.1).fewer some one.3);
@@ -307,10 +308,10 @@ shares-make-part setting run history part old new stopped settled are lawful all
       taken = taken;
     }
 
-    shared : (k : ℕ) (c d : Caller) → slice_get old k ≡ Some c → slice_get new k ≡ Some d → HasShared setting run history part c d (stopped k)
+    shared : (k : ℕ) (c d : ScriptCursor) → slice_get old k ≡ Some c → slice_get new k ≡ Some d → HasShared setting run history part c d (stopped k)
     shared k c d at to = shared-of setting run history part c d (stopped k) (are.each k c at).1 (took.each k c d at to)
 
-    at_place : (who : ℕ) → who < setting.layout.mutators → (c : Caller) × (d : Caller) × (c.who ≡ who) × HasShared setting run history part c d (stopped who)
+    at_place : (who : ℕ) → who < setting.layout.mutators → (c : ScriptCursor) × (d : ScriptCursor) × (c.who ≡ who) × HasShared setting run history part c d (stopped who)
     at_place who below = elim (slice_get_cases old who).1 [
       | inl there ↦
           let now = found_beside old new who there.0 took.as_many there.2 in

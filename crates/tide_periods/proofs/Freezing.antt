@@ -13,7 +13,7 @@ use Rattle.tide_model.specs.Cycle.{IsSwept, begin_count}
 use Rattle.tide_model.specs.Freeze.{IsFreeze, is_due, is_marking_phase, marks_after, marks_of}
 use Rattle.tide_model.specs.History.{is_begin, is_open, plain, state_after}
 use Rattle.tide_model.specs.Layout.{Layout}
-use Rattle.tide_model.specs.Pace.{Pace, running_share}
+use Rattle.tide_model.specs.Pace.{Pace, call_quota}
 use Rattle.tide_model.specs.Numbers.{any_below}
 use Rattle.tide_model.specs.Periods.{is_forced, is_over, next_run, open_count, opened, after_part, Period}
 use Rattle.tide_model.specs.Script.{calls_of, retry_after_all, retry_of}
@@ -22,14 +22,14 @@ use Rattle.tide_model.specs.Since.{born_since, is_end, is_of_part}
 use Rattle.tide_model.specs.State.{State, idle}
 use Rattle.tide_model.proofs.Histories.{calls_of-append}
 use Rattle.tide_model.proofs.PeriodLaws.{marks_of-append}
-use Rattle.tide_periods.specs.declared.caller.Caller.{Caller}
-use Rattle.tide_periods.specs.Part.{AreCallers, RanPart}
+use Rattle.tide_periods.specs.declared.cursor.ScriptCursor.{ScriptCursor}
+use Rattle.tide_periods.specs.Part.{AreCursors, RanPart}
 use Rattle.tide_periods.specs.Periods.{RanFreeze, RanPeriod}
 use Rattle.tide_periods.specs.Store.{Setting}
 use Rattle.tide_sched.specs.Paces.{last_run}
 use Rattle.tide_sched.proofs.RunLaws.{last_run-opened, last_run-same}
 use Rattle.tide_periods.specs.Recorded.{IsSettled, OpenedPart, RanCycle, Recorded}
-use Rattle.tide_periods.proofs.Parting.{IsShare-by}
+use Rattle.tide_model.proofs.OwnCalls.{IsShare-by}
 
 -- no cycle marks where the state says so
 rests_after : (recorded : Recorded) → IsSettled recorded → recorded.state.phase ≡ idle → marks_after recorded.setting.layout recorded.history ≡ false
@@ -39,7 +39,7 @@ rests_after recorded settled rests = ap (λ (s : State). is_marking_phase s.phas
 run_at_rest : (pace : Pace) (recorded : Recorded) → IsSettled recorded → recorded.state.phase ≡ idle →
     pace.period ≡ next_run pace recorded.setting.layout recorded.history
 run_at_rest pace recorded settled rests =
-    sym (ap (λ (b : Bool). if b then running_share pace (born_since is_begin recorded.history) else pace.period) (rests_after recorded settled rests))
+    sym (ap (λ (b : Bool). if b then call_quota pace (born_since is_begin recorded.history) else pace.period) (rests_after recorded settled rests))
 
 -- none is due by itself where the trigger is 0
 no_trigger : (pace : Pace) (layout : Layout) (history : List Event) → pace.trigger ≡ 0 → is_due pace layout history ≡ false
@@ -247,29 +247,29 @@ one_fails {X} test (x ∷ xs) e = step (test x) refl e (λ rest. one_fails test 
     step true is rest later = let at = later rest in (suc at.0, at.1, at.2, at.3)
     step false is rest later = (0, x, refl, is)
 
--- no mutator is active where each caller has retired
-pub is_over-callers : (recorded : Recorded) (callers : List Caller) → AreCallers recorded callers →
-    list_all (λ caller. caller.retired) callers ≡ is_over recorded.setting.layout recorded.history
-is_over-callers recorded callers are = step (list_all (λ caller. caller.retired) callers) refl
+-- no mutator is active where each cursor has retired
+pub is_over-cursors : (recorded : Recorded) (cursors : List ScriptCursor) → AreCursors recorded cursors →
+    list_all (λ cursor. cursor.retired) cursors ≡ is_over recorded.setting.layout recorded.history
+is_over-cursors recorded cursors are = step (list_all (λ cursor. cursor.retired) cursors) refl
   where
     active : ℕ → Bool
     active = (state_after recorded.setting.layout recorded.history).active
 
-    step : (all : Bool) → list_all (λ caller. caller.retired) callers ≡ all → list_all (λ caller. caller.retired) callers ≡ is_over recorded.setting.layout recorded.history
+    step : (all : Bool) → list_all (λ cursor. cursor.retired) cursors ≡ all → list_all (λ cursor. cursor.retired) cursors ≡ is_over recorded.setting.layout recorded.history
     step true e = e ∙ sym (ap not (any_below-none active recorded.setting.layout.mutators none))
       where
         none : (k : ℕ) → k < recorded.setting.layout.mutators → active k ≡ false
-        none k below = elim (slice_get_cases callers k).1 [
+        none k below = elim (slice_get_cases cursors k).1 [
           | inl at ↦
               let known = are.each k at.0 at.2 in
-              let retired = subst (λ (c : Caller). c.retired ≡ true) at.3
-              (All-get_or (λ (c : Caller). c.retired ≡ true) callers k at.0 at.1 (AllPass-from_list_all (λ (c : Caller). c.retired) callers e)) in
+              let retired = subst (λ (c : ScriptCursor). c.retired ≡ true) at.3
+              (All-get_or (λ (c : ScriptCursor). c.retired ≡ true) cursors k at.0 at.1 (AllPass-from_list_all (λ (c : ScriptCursor). c.retired) cursors e)) in
               ap active (sym known.0) ∙ known.1.active ∙ ap not retired
           | inr past ↦ absurd (let short = past.0 in let same = are.one_each in omega (arith, short, same, below))
         ]
     step false e =
-        let one = one_fails (λ (c : Caller). c.retired) callers e in
+        let one = one_fails (λ (c : ScriptCursor). c.retired) cursors e in
         let known = are.each one.0 one.1 one.2 in
-        let within = slice_get_within callers one.0 one.1 one.2 in
+        let within = slice_get_within cursors one.0 one.1 one.2 in
         let below : one.0 < recorded.setting.layout.mutators = (let same = are.one_each in omega (arith, within, same)) in
         e ∙ sym (ap not (any_below-some active recorded.setting.layout.mutators one.0 below (ap active (sym known.0) ∙ known.1.active ∙ ap not one.3)))

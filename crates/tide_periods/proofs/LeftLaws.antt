@@ -17,16 +17,17 @@ use Rattle.tide_model.specs.Script.{is_full_reply}
 use Rattle.tide_model.specs.Script.{is_retire}
 use Rattle.tide_model.specs.State.{State}
 use Rattle.tide_model.proofs.Histories.{state_after-push}
-use Rattle.tide_periods.specs.declared.caller.Caller.{Caller}
+use Rattle.tide_periods.specs.declared.cursor.ScriptCursor.{ScriptCursor}
 use Rattle.tide_periods.specs.Answered.{pair_of}
-use Rattle.tide_periods.specs.Asking.{IsAskable, IsCaller, IsCallerAt, IsMutatorAt, Standing, after_reply, claims_after, TookReply, next_of, standing_of}
+use Rattle.tide_periods.specs.Asking.{IsAskable, IsCursor, IsCursorAt, IsMutatorAt, Standing, after_reply, claims_after, TookReply, next_of, standing_of}
 use Rattle.tide_periods.specs.Left.{left_at, left_by, left_of, total_by}
 use Rattle.tide_periods.specs.Part.{RanShare}
 use Rattle.tide_periods.specs.Store.{Setting}
 use Rattle.tide_periods.specs.Recorded.{IsSettled, MadeCall, Recorded}
 use Rattle.tide_model.proofs.CallLaws.{length_without_first}
 use Rattle.tide_periods.proofs.Quiet.{calls_of-others, claims_after-quiet}
-use Rattle.tide_periods.proofs.CallerLaws.{IsNext, an_operation, unclaims, retires, called, next_cases, not_first, not_full_past}
+use Rattle.tide_periods.proofs.CursorLaws.{IsNext, an_operation, unclaims, retires, next_cases, not_first, not_full_past}
+use Rattle.tide_model.proofs.OwnCalls.{called}
 
 pub claims_after-others : (layout : Layout) (history events : List Event) (who other : ℕ) → who ≢ other → All (λ event. is_call_of other event.entry ≡ true) events →
     (state_after layout (history ++ events)).claims who ≡ (state_after layout history).claims who
@@ -141,65 +142,65 @@ left-called setting history who ops standing calls op reply took at stays is ans
         leaving (nat_lt standing.done (length ops)) refl (not standing.retry && is_full_reply reply) (is_retire op) (not_first standing.retry reply (done_past over)) over
         (λ stays'. (let clash : true ≡ false = sym (ap is_retire is_retire') ∙ stays' in absurd (cc)))
 
--- the sum where one caller made its calls
-pub total_by-share : (one other : ℕ → List ℕ) (callers : List Caller) (at : ℕ) (caller old : Caller) → slice_get callers at ≡ Some old →
-    ((k : ℕ) (c : Caller) → k ≢ at → slice_get callers k ≡ Some c → other c.who ≡ one c.who) →
-    total_by other (set callers at caller) + left_of one old ≡ total_by one callers + left_of other caller
-total_by-share one other [] at caller old found same = absurd (cc)
-total_by-share one other (first ∷ callers) zero caller old found same =
+-- the sum where one cursor made its calls
+pub total_by-share : (one other : ℕ → List ℕ) (cursors : List ScriptCursor) (at : ℕ) (cursor old : ScriptCursor) → slice_get cursors at ≡ Some old →
+    ((k : ℕ) (c : ScriptCursor) → k ≢ at → slice_get cursors k ≡ Some c → other c.who ≡ one c.who) →
+    total_by other (set cursors at cursor) + left_of one old ≡ total_by one cursors + left_of other cursor
+total_by-share one other [] at cursor old found same = absurd (cc)
+total_by-share one other (first ∷ cursors) zero cursor old found same =
     let is : first ≡ old = cc in
-    let rest = total_by-same one other callers (λ k c there. same (suc k) c (λ clash. absurd (cc)) there) in
+    let rest = total_by-same one other cursors (λ k c there. same (suc k) c (λ clash. absurd (cc)) there) in
     let head : left_of one first ≡ left_of one old = ap (left_of one) is in
     omega (arith, rest, head)
   where
-    total_by-same : (one other : ℕ → List ℕ) (cs : List Caller) → ((k : ℕ) (c : Caller) → slice_get cs k ≡ Some c → other c.who ≡ one c.who) → total_by other cs ≡ total_by one cs
+    total_by-same : (one other : ℕ → List ℕ) (cs : List ScriptCursor) → ((k : ℕ) (c : ScriptCursor) → slice_get cs k ≡ Some c → other c.who ≡ one c.who) → total_by other cs ≡ total_by one cs
     total_by-same one other [] each = refl
     total_by-same one other (c ∷ cs) each =
         let here : left_of other c ≡ left_of one c = ap (λ (claims : List ℕ). left_at c.ops.items (standing_of c) (length claims)) (each 0 c refl) in
         let later = total_by-same one other cs (λ k d there. each (suc k) d there) in
         omega (arith, here, later)
-total_by-share one other (first ∷ callers) (suc at) caller old found same =
+total_by-share one other (first ∷ cursors) (suc at) cursor old found same =
     let here : left_of other first ≡ left_of one first = ap (λ (claims : List ℕ). left_at first.ops.items (standing_of first) (length claims)) (same 0 first (λ clash. absurd (cc)) refl) in
-    let later = total_by-share one other callers at caller old found (λ k c apart there. same (suc k) c (λ clash. apart (cc)) there) in
+    let later = total_by-share one other cursors at cursor old found (λ k c apart there. same (suc k) c (λ clash. apart (cc)) there) in
     omega (arith, here, later)
 
--- a caller's, after it recorded the reply
-pub left-taken : (setting : Setting) (history : List Event) (caller taken : Caller) (op : Op) (reply : Reply) (took : Option ℕ) → IsCallerAt setting history caller → caller.retired ≡ false →
-    op ≡ next_of caller.ops.items (standing_of caller) (claims_after setting.layout history caller.who) →
-    IsAnswer setting.layout setting.shapes (state_after setting.layout history) caller.who op reply took →
-    claims_after setting.layout (history ++ called caller.who op reply took ∷ []) caller.who ≤ 8 → TookReply caller taken op reply →
-    left_of (state_after setting.layout (history ++ called caller.who op reply took ∷ [])).claims taken + 1 ≤ left_of (state_after setting.layout history).claims caller
-left-taken setting history caller taken op reply took at stays is answers few record' =
-    subst (λ (w : ℕ). left_at taken.ops.items (standing_of taken) (length ((state_after setting.layout (history ++ called caller.who op reply took ∷ [])).claims w)) + 1 ≤ left) (sym record'.who)
+-- a cursor's, after it recorded the reply
+pub left-taken : (setting : Setting) (history : List Event) (cursor taken : ScriptCursor) (op : Op) (reply : Reply) (took : Option ℕ) → IsCursorAt setting history cursor → cursor.retired ≡ false →
+    op ≡ next_of cursor.ops.items (standing_of cursor) (claims_after setting.layout history cursor.who) →
+    IsAnswer setting.layout setting.shapes (state_after setting.layout history) cursor.who op reply took →
+    claims_after setting.layout (history ++ called cursor.who op reply took ∷ []) cursor.who ≤ 8 → TookReply cursor taken op reply →
+    left_of (state_after setting.layout (history ++ called cursor.who op reply took ∷ [])).claims taken + 1 ≤ left_of (state_after setting.layout history).claims cursor
+left-taken setting history cursor taken op reply took at stays is answers few record' =
+    subst (λ (w : ℕ). left_at taken.ops.items (standing_of taken) (length ((state_after setting.layout (history ++ called cursor.who op reply took ∷ [])).claims w)) + 1 ≤ left) (sym record'.who)
     (subst (λ (o : List Op). left_at o (standing_of taken) held + 1 ≤ left) (ap (λ ops. ops.items) (sym record'.ops))
-    (subst (λ (s : Standing). left_at caller.ops.items s held + 1 ≤ left) (sym record'.standing)
-    (left-called setting history caller.who caller.ops.items (standing_of caller) (map pair_of caller.calls.items) op reply took at stays is answers few)))
+    (subst (λ (s : Standing). left_at cursor.ops.items s held + 1 ≤ left) (sym record'.standing)
+    (left-called setting history cursor.who cursor.ops.items (standing_of cursor) (map pair_of cursor.calls.items) op reply took at stays is answers few)))
   where
     left : ℕ
-    left = left_of (state_after setting.layout history).claims caller
+    left = left_of (state_after setting.layout history).claims cursor
 
     held : ℕ
-    held = claims_after setting.layout (history ++ called caller.who op reply took ∷ []) caller.who
+    held = claims_after setting.layout (history ++ called cursor.who op reply took ∷ []) cursor.who
 
 -- the same of what a recorder's store claims
-pub left-took : (old new : Recorded) (caller took : Caller) (op : Op) (reply : Reply) → IsSettled old → IsCaller old caller → caller.retired ≡ false →
-    op ≡ next_of caller.ops.items (standing_of caller) (length (old.state.claims caller.who)) → MadeCall old new caller.who op reply → TookReply caller took op reply →
-    left_of new.state.claims took + 1 ≤ left_of old.state.claims caller
-left-took old new caller taken op reply settled at stays is made record' =
-    subst (λ (s : State). left_of new.state.claims taken + 1 ≤ left_of s.claims caller) settled.leaves
-    (subst (λ (s : State). left_of s.claims taken + 1 ≤ left_of (state_after old.setting.layout old.history).claims caller) leaves
-    (left-taken old.setting old.history caller taken op reply made.took at stays
-    (is ∙ ap (λ (s : State). next_of caller.ops.items (standing_of caller) (length (s.claims caller.who))) (sym settled.leaves))
-    (subst (λ (s : State). IsAnswer old.setting.layout old.setting.shapes s caller.who op reply made.took) (sym settled.leaves) made.answers)
-    (subst (λ (s : State). length (s.claims caller.who) ≤ 8) (sym leaves) (made.settled.few caller.who)) record'))
+pub left-took : (old new : Recorded) (cursor took : ScriptCursor) (op : Op) (reply : Reply) → IsSettled old → IsCursor old cursor → cursor.retired ≡ false →
+    op ≡ next_of cursor.ops.items (standing_of cursor) (length (old.state.claims cursor.who)) → MadeCall old new cursor.who op reply → TookReply cursor took op reply →
+    left_of new.state.claims took + 1 ≤ left_of old.state.claims cursor
+left-took old new cursor taken op reply settled at stays is made record' =
+    subst (λ (s : State). left_of new.state.claims taken + 1 ≤ left_of s.claims cursor) settled.leaves
+    (subst (λ (s : State). left_of s.claims taken + 1 ≤ left_of (state_after old.setting.layout old.history).claims cursor) leaves
+    (left-taken old.setting old.history cursor taken op reply made.took at stays
+    (is ∙ ap (λ (s : State). next_of cursor.ops.items (standing_of cursor) (length (s.claims cursor.who))) (sym settled.leaves))
+    (subst (λ (s : State). IsAnswer old.setting.layout old.setting.shapes s cursor.who op reply made.took) (sym settled.leaves) made.answers)
+    (subst (λ (s : State). length (s.claims cursor.who) ≤ 8) (sym leaves) (made.settled.few cursor.who)) record'))
   where
-    leaves : state_after old.setting.layout (old.history ++ called caller.who op reply made.took ∷ []) ≡ new.state
+    leaves : state_after old.setting.layout (old.history ++ called cursor.who op reply made.took ∷ []) ≡ new.state
     leaves = sym (ap (λ (s : Setting). state_after s.layout new.history) made.same ∙ ap (state_after old.setting.layout) made.history) ∙ made.settled.leaves
 
--- nothing is left of a caller that has retired
-pub left-none : (claims : ℕ → List ℕ) (caller : Caller) → caller.retired ≡ true → left_of claims caller ≡ 0
-left-none claims caller retired =
-    ap (λ (r : Bool). left_by r (nat_lt caller.done (length caller.ops.items)) caller.retry (length caller.ops.items - caller.done) (length (claims caller.who))) retired
+-- nothing is left of a cursor that has retired
+pub left-none : (claims : ℕ → List ℕ) (cursor : ScriptCursor) → cursor.retired ≡ true → left_of claims cursor ≡ 0
+left-none claims cursor retired =
+    ap (λ (r : Bool). left_by r (nat_lt cursor.done (length cursor.ops.items)) cursor.retry (length cursor.ops.items - cursor.done) (length (claims cursor.who))) retired
 
 pub slice_get-set_other : {X : Type 0} (xs : List X) (at k : ℕ) (x : X) → k ≢ at → slice_get (set xs at x) k ≡ slice_get xs k
 slice_get-set_other [] at k x apart = refl

@@ -1,11 +1,10 @@
 -- The lemmas of this crate.
-pub mod CallerLaws
+pub mod CursorLaws
 pub mod Composing
 pub mod CycleLaws
 pub mod Freezing
 pub mod FullCollections
 pub mod LeftLaws
-pub mod Lists
 pub mod OwnShares
 pub mod Parting
 pub mod PartLoops

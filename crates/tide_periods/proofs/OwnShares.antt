@@ -2,7 +2,7 @@
 use Rattle.std.proofs.Common.{ℕ, zero, suc, ◌≡◌, ◌+◌, ◌<◌, ◌≤◌, refl, sym, ◌∙◌, ap, subst, arith, Bool, true, false, List, [], ◌∷◌, ◌++◌, length, append_assoc, append-nil, inl, inr, eq-eqb}
 use Rattle.std.proofs.lemmas.List.{append_cancel_right, length-append}
 use Rattle.std.proofs.lemmas.List.Elements.{All-nil, All-push, filter-append}
-use Rattle.std.specs.Prelude.{Option, None, Some, filter, is_some, not, ◌&&◌, ◌||◌, map, slice_get, if◌then◌else◌}
+use Rattle.std.specs.Prelude.{Option, None, filter, is_some, not, ◌&&◌, ◌||◌, map, if◌then◌else◌}
 use Rattle.tide_model.specs.declared.op.Op.{Op}
 use Rattle.tide_model.specs.declared.op.Reply.{Reply}
 use Rattle.tide_model.specs.declared.entry.Entry.{Entry}
@@ -15,55 +15,37 @@ use Rattle.tide_model.specs.Lawful.{IsLawful, Stands, StandsEntry}
 use Rattle.tide_model.specs.Layout.{Layout}
 use Rattle.tide_model.specs.Prefix.{IsPrefix, prefix_refl, prefix_trans}
 use Rattle.tide_model.specs.Refused.{ShapeLists}
-use Rattle.tide_model.specs.Script.{calls_of, is_full_reply, own_calls, retry_after_all, retry_of}
+use Rattle.tide_model.specs.Script.{calls_of, is_full_reply, retry_after_all, retry_of}
 use Rattle.tide_model.specs.Share.{HasCallLeft, ends_share, has_ended, is_asked}
 use Rattle.tide_model.specs.Each.{Each}
 use Rattle.tide_model.proofs.CallKeeps.{HasFewClaims, HasFewClaims-call}
-use Rattle.tide_model.proofs.Cycles.{take-all}
-use Rattle.tide_model.proofs.Histories.{IsLawful-elim, push_cases, state_after-push, take-append-short}
+use Rattle.tide_model.proofs.Histories.{IsLawful-elim, push_cases, state_after-push}
 use Rattle.tide_model.proofs.PeriodLaws.{Each-nil, has_ended-push}
-use Rattle.tide_periods.specs.declared.caller.Caller.{Caller}
-use Rattle.tide_periods.specs.Asking.{IsCallerAt, TookReply, claims_after, next_of, op_or_leave, standing_of}
+use Rattle.tide_periods.specs.declared.cursor.ScriptCursor.{ScriptCursor}
+use Rattle.tide_periods.specs.Asking.{IsCursorAt, TookReply, claims_after, next_of, op_or_leave, standing_of}
 use Rattle.tide_periods.specs.Answered.{pair_of}
 use Rattle.tide_periods.specs.Left.{left_at, left_of}
-use Rattle.tide_periods.specs.Own.{AreClaims, IsCallerWithin, RanOwnShare, left_within}
+use Rattle.tide_periods.specs.Own.{AreClaims, IsCursorWithin, RanOwnShare, left_within}
 use Rattle.tide_periods.specs.Store.{Setting}
-use Rattle.tide_periods.proofs.CallerLaws.{called, calls_of-push, retry_after-flag, is_some-flag}
 use Rattle.tide_periods.proofs.LeftLaws.{left-none, left-some, left-taken}
-use Rattle.tide_periods.proofs.Lists.{filter-rest, prefix_before}
+use Rattle.tide_model.proofs.Prefixes.{filter-rest, prefix_before}
 use Rattle.tide_periods.proofs.PartLoops.{IsSharingOwn}
-use Rattle.tide_periods.proofs.Quiet.{IsMutatorAt-quiet, claims_after-quiet, own_calls-other}
-use Rattle.tide_periods.proofs.Sharing.{IsCallerAt-took, retry_of-events}
-
--- whose entry it is
-abbrev pub is_own : ℕ → Event → Bool
-is_own who event = is_call_of who event.entry
-
--- a mutator's calls are those of its own entries
-pub calls_of-own : (who : ℕ) (history : List Event) → calls_of who (filter (is_own who) history) ≡ calls_of who history
-calls_of-own who [] = refl
-calls_of-own who (event ∷ history) = step (calls_of-own who history) (is_own who event) refl
-  where
-    step : calls_of who (filter (is_own who) history) ≡ calls_of who history → (b : Bool) → is_own who event ≡ b →
-        calls_of who (if b then event ∷ filter (is_own who) history else filter (is_own who) history) ≡ own_calls who event.entry ++ calls_of who history
-    step later true e = ap (λ (more : List (Op × Reply)). own_calls who event.entry ++ more) later
-    step later false e = later ∙ ap (λ (more : List (Op × Reply)). more ++ calls_of who history) (sym (own_calls-other who event.entry e))
-
-pub calls_of-mine : (who : ℕ) (history mine : List Event) → IsOwn who history mine → calls_of who mine ≡ calls_of who history
-calls_of-mine who history mine own = ap (calls_of who) own ∙ calls_of-own who history
+use Rattle.tide_periods.proofs.Quiet.{IsMutatorAt-quiet, claims_after-quiet}
+use Rattle.tide_periods.proofs.Sharing.{IsCursorAt-took}
+use Rattle.tide_model.proofs.OwnCalls.{called, calls_of-mine, calls_of-own, calls_of-push, is_own, is_some-flag, retry_after-flag, retry_of-events, stands_last}
 
 -- no call of a mutator comes after a beginning that has all of them
 pub quiet-rest : (who : ℕ) (known history mine : List Event) (prefix : IsPrefix known history) → IsOwn who known mine → IsOwn who history mine → calls_of who prefix.rest ≡ []
 quiet-rest who known history mine prefix own all =
     sym (calls_of-own who prefix.rest) ∙ ap (calls_of who) (filter-rest (is_own who) known history prefix (sym own ∙ all))
 
--- so its caller stands at the longer history as it stands at the beginning
-pub IsCallerAt-longer : (setting : Setting) (known history mine : List Event) (caller : Caller) (prefix : IsPrefix known history) → IsOwn caller.who known mine → IsOwn caller.who history mine →
-    IsCallerAt setting known caller → IsCallerAt setting history caller
-IsCallerAt-longer setting known history mine caller prefix own all at =
-    subst (λ (h : List Event). IsCallerAt setting h caller) prefix.joins
-    (IsMutatorAt-quiet setting known prefix.rest caller.who caller.ops.items (standing_of caller) (map pair_of caller.calls.items)
-    (quiet-rest caller.who known history mine prefix own all) at)
+-- so its cursor stands at the longer history as it stands at the beginning
+pub IsCursorAt-longer : (setting : Setting) (known history mine : List Event) (cursor : ScriptCursor) (prefix : IsPrefix known history) → IsOwn cursor.who known mine → IsOwn cursor.who history mine →
+    IsCursorAt setting known cursor → IsCursorAt setting history cursor
+IsCursorAt-longer setting known history mine cursor prefix own all at =
+    subst (λ (h : List Event). IsCursorAt setting h cursor) prefix.joins
+    (IsMutatorAt-quiet setting known prefix.rest cursor.who cursor.ops.items (standing_of cursor) (map pair_of cursor.calls.items)
+    (quiet-rest cursor.who known history mine prefix own all) at)
 
 pub claims-longer : (layout : Layout) (who : ℕ) (known history mine : List Event) (prefix : IsPrefix known history) → IsOwn who known mine → IsOwn who history mine →
     (state_after layout history).claims who ≡ (state_after layout known).claims who
@@ -90,17 +72,7 @@ few_claims layout shapes history lawful =
         step (Sweep block) took stands' = few
         step (Open number run) took stands' = few
 
--- the last event of a lawful history stands
-pub stands_last : (layout : Layout) (shapes : ShapeLists) (before : List Event) (event : Event) → IsLawful layout shapes (before ++ event ∷ []) → Stands layout shapes before event
-stands_last layout shapes before event lawful =
-    subst (λ (h : List Event). Stands layout shapes h event) (take-append-short before (event ∷ []) (length before) (omega arith) ∙ take-all before)
-    (lawful (length before) event (at_end before event))
-  where
-    at_end : (xs : List Event) (x : Event) → slice_get (xs ++ x ∷ []) (length xs) ≡ Some x
-    at_end [] x = refl
-    at_end (y ∷ xs) x = at_end xs x
-
--- what a call was made of: a history between, which has all that its caller had made before
+-- what a call was made of: a history between, which has all that its cursor had made before
 pub record HasBetween (setting : Setting) (who : ℕ) (op : Op) (reply : Reply) (took : Option ℕ) (known between seen mine mine_now : List Event) : Type 0 where
   pub prefix : IsPrefix known between
   pub own : IsOwn who between mine
@@ -132,13 +104,13 @@ between_of setting who op reply known seen seen_now mine mine_now earlier knows 
     lawful = subst (IsLawful setting.layout setting.shapes) makes.ends makes.lawful
 
 -- no call was made yet
-pub IsSharingOwn-nothing : (setting : Setting) (run : ℕ) (seen mine : List Event) (caller : Caller) → IsCallerWithin setting seen mine caller → IsSharingOwn setting run seen seen mine mine caller caller 0 false
-IsSharingOwn-nothing setting run seen mine caller within = record {
+pub IsSharingOwn-nothing : (setting : Setting) (run : ℕ) (seen mine : List Event) (cursor : ScriptCursor) → IsCursorWithin setting seen mine cursor → IsSharingOwn setting run seen seen mine mine cursor cursor 0 false
+IsSharingOwn-nothing setting run seen mine cursor within = record {
   grows = prefix_refl seen;
   more = [];
   adds = sym (append-nil mine);
-  own = All-nil (λ event. is_call_of caller.who event.entry ≡ true);
-  each = Each-nil (HasCallLeft run (retry_of caller.who mine));
+  own = All-nil (λ event. is_call_of cursor.who event.entry ≡ true);
+  each = Each-nil (HasCallLeft run (retry_of cursor.who mine));
   count = refl;
   stops = refl;
   who = refl;
@@ -149,16 +121,16 @@ IsSharingOwn-nothing setting run seen mine caller within = record {
 }
 
 -- one call more
-pub IsSharingOwn-called : (setting : Setting) (run made : ℕ) (seen seen_then seen_now mine mine_then mine_now : List Event) (old caller taken : Caller) (claims : List ℕ) (op : Op) (reply : Reply) →
-    IsSharingOwn setting run seen seen_then mine mine_then old caller made false → made < run → caller.retired ≡ false →
-    AreClaims setting.layout caller.who mine_then claims → op ≡ next_of caller.ops.items (standing_of caller) (length claims) →
-    MakesCall setting.layout setting.shapes caller.who op reply seen_then seen_now mine_then mine_now → TookReply caller taken op reply →
-    IsSharingOwn setting run seen seen_now mine mine_now old taken (made + 1) (is_asked reply || (not caller.retry && is_full_reply reply))
-IsSharingOwn-called setting run made seen seen_then seen_now mine mine_then mine_now old caller taken claims op reply sharing below stays are is makes record' = record {
+pub IsSharingOwn-called : (setting : Setting) (run made : ℕ) (seen seen_then seen_now mine mine_then mine_now : List Event) (old cursor taken : ScriptCursor) (claims : List ℕ) (op : Op) (reply : Reply) →
+    IsSharingOwn setting run seen seen_then mine mine_then old cursor made false → made < run → cursor.retired ≡ false →
+    AreClaims setting.layout cursor.who mine_then claims → op ≡ next_of cursor.ops.items (standing_of cursor) (length claims) →
+    MakesCall setting.layout setting.shapes cursor.who op reply seen_then seen_now mine_then mine_now → TookReply cursor taken op reply →
+    IsSharingOwn setting run seen seen_now mine mine_now old taken (made + 1) (is_asked reply || (not cursor.retry && is_full_reply reply))
+IsSharingOwn-called setting run made seen seen_then seen_now mine mine_then mine_now old cursor taken claims op reply sharing below stays are is makes record' = record {
   grows = prefix_trans seen seen_then seen_now sharing.grows makes.seen;
   more = sharing.more ++ event ∷ [];
   adds = makes.adds ∙ ap (λ (l : List Event). l ++ event ∷ []) sharing.adds ∙ append_assoc mine sharing.more (event ∷ []);
-  own = All-push (λ e. is_call_of old.who e.entry ≡ true) sharing.more event sharing.own (eq-eqb caller.who old.who sharing.who);
+  own = All-push (λ e. is_call_of old.who e.entry ≡ true) sharing.more event sharing.own (eq-eqb cursor.who old.who sharing.who);
   each = subst (Each (HasCallLeft run retry)) (sym grown)
       (push_cases (HasCallLeft run retry) own (op, reply) sharing.each (record {
         left = let count = sharing.count in omega (arith, count, below);
@@ -168,8 +140,8 @@ IsSharingOwn-called setting run made seen seen_then seen_now mine mine_then mine
   count = ap length grown ∙ length-append own ((op, reply) ∷ []) ∙ ap (λ (n : ℕ). n + 1) sharing.count;
   stops = ap (has_ended retry) grown ∙ has_ended-push false retry own (op, reply)
       ∙ ap (λ (o : Option Op). ends_share o (op, reply)) (sym still)
-      ∙ ap (λ (o : Option Op). is_asked reply || is_some o) (retry_after-flag (retry_of caller.who known) caller.retry op reply at.retry)
-      ∙ ap (λ (b : Bool). is_asked reply || b) (is_some-flag (not caller.retry && is_full_reply reply) op);
+      ∙ ap (λ (o : Option Op). is_asked reply || is_some o) (retry_after-flag (retry_of cursor.who known) cursor.retry op reply at.retry)
+      ∙ ap (λ (b : Bool). is_asked reply || b) (is_some-flag (not cursor.retry && is_full_reply reply) op);
   who = record'.who ∙ sharing.who;
   ops = record'.ops ∙ sharing.ops;
   before = sharing.before;
@@ -178,21 +150,21 @@ IsSharingOwn-called setting run made seen seen_then seen_now mine mine_then mine
     earlier = prefix_refl seen_now;
     lawful = makes.lawful;
     own = subst (λ (w : ℕ). IsOwn w seen_now mine_now) (sym record'.who) makes.are_own;
-    at = subst (λ (h : List Event). IsCallerAt setting h taken) (sym makes.ends)
-        (IsCallerAt-took setting makes.between caller taken op reply makes.took at_between stays next between.answers record');
+    at = subst (λ (h : List Event). IsCursorAt setting h taken) (sym makes.ends)
+        (IsCursorAt-took setting makes.between cursor taken op reply makes.took at_between stays next between.answers record');
   };
-  left = (let fewer = subst (λ (h : List Event). left_of (state_after setting.layout h).claims taken + 1 ≤ left_of (state_after setting.layout makes.between).claims caller) (sym makes.ends)
-      (left-taken setting makes.between caller taken op reply makes.took at_between stays next between.answers between.few record') in
+  left = (let fewer = subst (λ (h : List Event). left_of (state_after setting.layout h).claims taken + 1 ≤ left_of (state_after setting.layout makes.between).claims cursor) (sym makes.ends)
+      (left-taken setting makes.between cursor taken op reply makes.took at_between stays next between.answers between.few record') in
       let so_far = sharing.left in omega (arith, fewer, so_far, same_left));
 }
   where
     event : Event
-    event = called caller.who op reply makes.took
+    event = called cursor.who op reply makes.took
 
     known : List Event
     known = sharing.after.known
 
-    at : IsCallerAt setting known caller
+    at : IsCursorAt setting known cursor
     at = sharing.after.at
 
     retry : Option Op
@@ -204,25 +176,25 @@ IsSharingOwn-called setting run made seen seen_then seen_now mine mine_then mine
     grown : calls_of old.who (sharing.more ++ event ∷ []) ≡ own ++ (op, reply) ∷ []
     grown = ap (λ (w : ℕ). calls_of old.who (sharing.more ++ called w op reply makes.took ∷ [])) sharing.who ∙ calls_of-push old.who sharing.more op reply makes.took
 
-    still : retry_of caller.who known ≡ retry_after_all retry own
-    still = ap (retry_after_all None) (sym (calls_of-mine caller.who known mine_then sharing.after.own))
+    still : retry_of cursor.who known ≡ retry_after_all retry own
+    still = ap (retry_after_all None) (sym (calls_of-mine cursor.who known mine_then sharing.after.own))
         ∙ ap (λ (w : ℕ). retry_of w mine_then) sharing.who ∙ ap (retry_of old.who) sharing.adds ∙ retry_of-events old.who mine sharing.more
 
-    between : HasBetween setting caller.who op reply makes.took known makes.between seen_now mine_then mine_now
-    between = between_of setting caller.who op reply known seen_then seen_now mine_then mine_now sharing.after.earlier sharing.after.own makes
+    between : HasBetween setting cursor.who op reply makes.took known makes.between seen_now mine_then mine_now
+    between = between_of setting cursor.who op reply known seen_then seen_now mine_then mine_now sharing.after.earlier sharing.after.own makes
 
-    at_between : IsCallerAt setting makes.between caller
-    at_between = IsCallerAt-longer setting known makes.between mine_then caller between.prefix sharing.after.own between.own at
+    at_between : IsCursorAt setting makes.between cursor
+    at_between = IsCursorAt-longer setting known makes.between mine_then cursor between.prefix sharing.after.own between.own at
 
-    next : op ≡ next_of caller.ops.items (standing_of caller) (claims_after setting.layout makes.between caller.who)
-    next = is ∙ ap (λ (l : List ℕ). next_of caller.ops.items (standing_of caller) (length l)) (are makes.between between.own)
+    next : op ≡ next_of cursor.ops.items (standing_of cursor) (claims_after setting.layout makes.between cursor.who)
+    next = is ∙ ap (λ (l : List ℕ). next_of cursor.ops.items (standing_of cursor) (length l)) (are makes.between between.own)
 
-    same_left : left_of (state_after setting.layout makes.between).claims caller ≡ left_within sharing.after
-    same_left = ap (λ (l : List ℕ). left_at caller.ops.items (standing_of caller) (length l))
-        (claims-longer setting.layout caller.who known makes.between mine_then between.prefix sharing.after.own between.own)
+    same_left : left_of (state_after setting.layout makes.between).claims cursor ≡ left_within sharing.after
+    same_left = ap (λ (l : List ℕ). left_at cursor.ops.items (standing_of cursor) (length l))
+        (claims-longer setting.layout cursor.who known makes.between mine_then between.prefix sharing.after.own between.own)
 
 -- all calls were made, or the mutator has retired
-pub RanOwnShare-over : (setting : Setting) (run made : ℕ) (seen seen_now mine mine_now : List Event) (old new : Caller) → IsSharingOwn setting run seen seen_now mine mine_now old new made false →
+pub RanOwnShare-over : (setting : Setting) (run made : ℕ) (seen seen_now mine mine_now : List Event) (old new : ScriptCursor) → IsSharingOwn setting run seen seen_now mine mine_now old new made false →
     (made < run → new.retired ≡ true) → RanOwnShare setting run seen seen_now mine mine_now old new false
 RanOwnShare-over setting run made seen seen_now mine mine_now old new sharing retires = record {
   grows = sharing.grows;
@@ -247,7 +219,7 @@ RanOwnShare-over setting run made seen seen_now mine mine_now old new sharing re
     fewer (suc n) is some stays = (let left = sharing.left in omega (arith, left, is))
 
 -- the last call ended the share
-pub RanOwnShare-stops : (setting : Setting) (run made : ℕ) (seen seen_now mine mine_now : List Event) (old new : Caller) → IsSharingOwn setting run seen seen_now mine mine_now old new (made + 1) true →
+pub RanOwnShare-stops : (setting : Setting) (run made : ℕ) (seen seen_now mine mine_now : List Event) (old new : ScriptCursor) → IsSharingOwn setting run seen seen_now mine mine_now old new (made + 1) true →
     RanOwnShare setting run seen seen_now mine mine_now old new true
 RanOwnShare-stops setting run made seen seen_now mine mine_now old new sharing = record {
   grows = sharing.grows;

@@ -9,8 +9,8 @@ use Rattle.tide_model.specs.Share.{IsShare, HasCallLeft, has_ended}
 use Rattle.tide_model.specs.Each.{Each}
 use Rattle.tide_model.specs.Since.{is_call}
 use Rattle.tide_model.specs.Prefix.{IsPrefix}
-use Rattle.tide_periods.specs.declared.caller.Caller.{Caller}
-use Rattle.tide_periods.specs.Own.{IsCallerWithin, left_within}
+use Rattle.tide_periods.specs.declared.cursor.ScriptCursor.{ScriptCursor}
+use Rattle.tide_periods.specs.Own.{IsCursorWithin, left_within}
 use Rattle.tide_periods.specs.Part.{IsPartOf}
 use Rattle.tide_periods.specs.Store.{Setting}
 use Rattle.tide_periods.specs.Recorded.{HasSameCounts, IsSettled, Recorded}
@@ -42,7 +42,7 @@ pub record IsPartway (old now : Recorded) (run count : ℕ) (ended : Bool) : Typ
   pub stops : ended ≡ any_below (λ who. has_ended (retry_of who old.history) (calls_of who part)) count
 
 -- the calls that a mutator made so far in a part in which others make theirs, the last of which ended its share or not
-pub record IsSharingOwn (setting : Setting) (run : ℕ) (seen seen_now mine mine_now : List Event) (old new : Caller) (made : ℕ) (ended : Bool) : Type 0 where
+pub record IsSharingOwn (setting : Setting) (run : ℕ) (seen seen_now mine mine_now : List Event) (old new : ScriptCursor) (made : ℕ) (ended : Bool) : Type 0 where
   pub grows : IsPrefix seen seen_now
   pub more : List Event
   pub adds : mine_now ≡ mine ++ more
@@ -52,6 +52,6 @@ pub record IsSharingOwn (setting : Setting) (run : ℕ) (seen seen_now mine mine
   pub stops : has_ended (retry_of old.who mine) (calls_of old.who more) ≡ ended
   pub who : new.who ≡ old.who
   pub ops : new.ops ≡ old.ops
-  pub before : IsCallerWithin setting seen mine old
-  pub after : IsCallerWithin setting seen_now mine_now new
+  pub before : IsCursorWithin setting seen mine old
+  pub after : IsCursorWithin setting seen_now mine_now new
   pub left : left_within after + made ≤ left_within before

@@ -22,15 +22,15 @@ use Rattle.tide_model.specs.Layout.{Layout}
 use Rattle.tide_model.specs.Since.{is_call, is_of_part, is_sweep, is_taken}
 use Rattle.tide_model.proofs.DeadLaws.{TakenAreSwept-calls}
 use Rattle.tide_model.proofs.Histories.{calls_of-append}
-use Rattle.tide_periods.specs.declared.caller.Caller.{Caller}
+use Rattle.tide_periods.specs.declared.cursor.ScriptCursor.{ScriptCursor}
 use Rattle.tide_periods.specs.Answered.{pair_of}
-use Rattle.tide_periods.specs.Asking.{IsCaller, IsMutatorAt, Standing, standing_of}
+use Rattle.tide_periods.specs.Asking.{IsCursor, IsMutatorAt, Standing, standing_of}
 use Rattle.tide_periods.proofs.PartLoops.{IsPartway}
-use Rattle.tide_periods.specs.Part.{AreCallers, IsPartOf, RanShare}
+use Rattle.tide_periods.specs.Part.{AreCursors, IsPartOf, RanShare}
 use Rattle.tide_periods.specs.Store.{Setting}
 use Rattle.tide_periods.specs.Recorded.{IsSettled, Recorded}
 use Rattle.tide_periods.proofs.Quiet.{IsMutatorAt-quiet, active_after-quiet, calls_of-others}
-use Rattle.tide_periods.proofs.Sharing.{retry_of-events}
+use Rattle.tide_model.proofs.OwnCalls.{IsShare-by, retry_of-events}
 
 -- what is called of one's own is a call
 is_call-own : (who : ℕ) (entry : Entry) → is_call_of who entry ≡ true → is_call entry ≡ true
@@ -49,12 +49,6 @@ any_below-same one other zero same = refl
 any_below-same one other (suc n) same =
     let here = same n (omega arith) in
     ap (λ (b : Bool). b || one n) (any_below-same one other n (λ k below. same k (omega arith))) ∙ ap (λ (b : Bool). any_below other n || b) here
-
--- a share of equal things
-pub IsShare-by : (run : ℕ) (retry retry' : Option Op) (active active' : Bool) (calls calls' : List (Op × Reply)) → retry ≡ retry' → active ≡ active' → calls ≡ calls' →
-    IsShare run retry active calls → IsShare run retry' active' calls'
-IsShare-by run retry retry' active active' calls calls' e1 e2 e3 share =
-    subst (λ (r : Option Op). IsShare run r active' calls') e1 (subst (λ (a : Bool). IsShare run retry a calls') e2 (subst (IsShare run retry active) e3 share))
 
 -- calls alone are a part
 pub IsPartOf-calls : (layout : Layout) (before part : List Event) → AllPass (λ event. is_call event.entry) part →
@@ -155,36 +149,36 @@ pub IsMutatorAt-others : (now new : Recorded) (run who other : ℕ) (stopped : B
 IsMutatorAt-others now new run who other stopped ops standing calls apart ran at =
     IsMutatorAt-same now new ran.events who ops standing calls ran.same ran.history (calls_of-others who other ran.events apart ran.own) at
 
--- the callers stand where they stood, after entries of which none is a call
-pub AreCallers-same : (now new : Recorded) (callers : List Caller) (events : List Event) → new.setting ≡ now.setting → new.history ≡ now.history ++ events →
-    ((who : ℕ) → calls_of who events ≡ []) → AreCallers now callers → AreCallers new callers
-AreCallers-same now new callers events same history quiet are = record {
+-- the cursors stand where they stood, after entries of which none is a call
+pub AreCursors-same : (now new : Recorded) (cursors : List ScriptCursor) (events : List Event) → new.setting ≡ now.setting → new.history ≡ now.history ++ events →
+    ((who : ℕ) → calls_of who events ≡ []) → AreCursors now cursors → AreCursors new cursors
+AreCursors-same now new cursors events same history quiet are = record {
   one_each = are.one_each ∙ ap (λ (s : Setting). s.layout.mutators) (sym same);
   each = λ k c found.
       let known = are.each k c found in
       (known.0, IsMutatorAt-same now new events c.who c.ops.items (standing_of c) (map pair_of c.calls.items) same history (quiet c.who) known.1);
 }
 
--- the callers after one of them made its calls
-pub AreCallers-share : (now new : Recorded) (callers : List Caller) (run at : ℕ) (stopped : Bool) (caller : Caller) → AreCallers now callers → at < length callers →
-    RanShare now new run at stopped → caller.who ≡ at → IsCaller new caller → AreCallers new (set callers at caller)
-AreCallers-share now new callers run at stopped caller are below ran who is = record {
-  one_each = length-set callers at caller ∙ are.one_each ∙ ap (λ (s : Setting). s.layout.mutators) (sym ran.same);
+-- the cursors after one of them made its calls
+pub AreCursors-share : (now new : Recorded) (cursors : List ScriptCursor) (run at : ℕ) (stopped : Bool) (cursor : ScriptCursor) → AreCursors now cursors → at < length cursors →
+    RanShare now new run at stopped → cursor.who ≡ at → IsCursor new cursor → AreCursors new (set cursors at cursor)
+AreCursors-share now new cursors run at stopped cursor are below ran who is = record {
+  one_each = length-set cursors at cursor ∙ are.one_each ∙ ap (λ (s : Setting). s.layout.mutators) (sym ran.same);
   each = λ k c found. step k c (k == at) refl found;
 }
   where
-    step : (k : ℕ) (c : Caller) (same : Bool) → (k == at) ≡ same → slice_get (set callers at caller) k ≡ Some c → (c.who ≡ k) × IsCaller new c
+    step : (k : ℕ) (c : ScriptCursor) (same : Bool) → (k == at) ≡ same → slice_get (set cursors at cursor) k ≡ Some c → (c.who ≡ k) × IsCursor new c
     step k c true e found =
         let here = eqb-true k at e in
-        let within : at < length (set callers at caller) = subst (λ (n : ℕ). at < n) (sym (length-set callers at caller)) below in
-        let both : Some caller ≡ Some c = sym (ap (slice_get (set callers at caller)) here ∙ slice_get-get_or (set callers at caller) at caller within
-        ∙ ap Some (get_or-set_same callers at caller caller below)) ∙ found in
-        let one : caller ≡ c = cc in
-        subst (λ (x : Caller). (x.who ≡ k) × IsCaller new x) one (who ∙ sym here, is)
+        let within : at < length (set cursors at cursor) = subst (λ (n : ℕ). at < n) (sym (length-set cursors at cursor)) below in
+        let both : Some cursor ≡ Some c = sym (ap (slice_get (set cursors at cursor)) here ∙ slice_get-get_or (set cursors at cursor) at cursor within
+        ∙ ap Some (get_or-set_same cursors at cursor cursor below)) ∙ found in
+        let one : cursor ≡ c = cc in
+        subst (λ (x : ScriptCursor). (x.who ≡ k) × IsCursor new x) one (who ∙ sym here, is)
     step k c false e found =
         let apart = eqb-false k at e in
-        let within : k < length callers = subst (λ (n : ℕ). k < n) (length-set callers at caller) (slice_get_within (set callers at caller) k c found) in
-        let old : slice_get callers k ≡ Some c = slice_get-get_or callers k c within
-        ∙ ap Some (sym (get_or-set_other callers at k caller c apart) ∙ get_or_from_slice_get (set callers at caller) k c c found) in
+        let within : k < length cursors = subst (λ (n : ℕ). k < n) (length-set cursors at cursor) (slice_get_within (set cursors at cursor) k c found) in
+        let old : slice_get cursors k ≡ Some c = slice_get-get_or cursors k c within
+        ∙ ap Some (sym (get_or-set_other cursors at k cursor c apart) ∙ get_or_from_slice_get (set cursors at cursor) k c c found) in
         let known = are.each k c old in
         (known.0, IsMutatorAt-others now new run c.who at stopped c.ops.items (standing_of c) (map pair_of c.calls.items) (λ same. apart (sym known.0 ∙ same)) ran known.1)

@@ -24,7 +24,8 @@ use Rattle.tide_model.proofs.Histories.{calls_of-append, state_after-append, tak
 use Rattle.tide_model.proofs.ReferenceLaws.{after_call-refused}
 use Rattle.tide_periods.specs.Asking.{IsAt, IsMutatorAt, Standing, claims_after}
 use Rattle.tide_periods.specs.Store.{Setting}
-use Rattle.tide_periods.proofs.Lists.{none_joins}
+use Rattle.tide_model.proofs.Prefixes.{none_joins}
+use Rattle.tide_model.proofs.OwnCalls.{own_calls-other}
 
 claims_at-cell : (state : State) (who : ℕ) (value : Val) (change : ℕ → State) → ((cell : ℕ) → (change cell).claims who ≡ state.claims who) → (at_cell state value change).claims who ≡ state.claims who
 claims_at-cell state who Empty change same = refl
@@ -91,18 +92,6 @@ active-others state who other op reply took apart = step (is_retire op) refl
     step : (b : Bool) → is_retire op ≡ b → (after_call state other op reply took).active who ≡ state.active who
     step true e = ap (λ (o : Op). (after_call state other o reply took).active who) (retire_from_test op e) ∙ retiring reply
     step false e = ap (λ (a : ℕ → Bool). a who) (active_after-call state other op reply took e)
-
--- an entry that is no call of a mutator
-pub own_calls-other : (who : ℕ) (entry : Entry) → is_call_of who entry ≡ false → own_calls who entry ≡ []
-own_calls-other who (Call w op reply) other =
-    ap (λ (b : Bool). if◌then◌else◌ {A = List (Op × Reply)} b ((op, reply) ∷ []) []) other
-own_calls-other who (Begin cycle full) other = refl
-own_calls-other who (Pause visits) other = refl
-own_calls-other who (Visits w visits) other = refl
-own_calls-other who (End cycle freed) other = refl
-own_calls-other who (Taken block) other = refl
-own_calls-other who (Sweep block) other = refl
-own_calls-other who (Open number run) other = refl
 
 is_other-no_calls : (who : ℕ) (entry : Entry) → own_calls who entry ≡ [] → is_call_of who entry ≡ false
 is_other-no_calls who (Call w op reply) none = step (w == who) refl none

@@ -32,7 +32,7 @@ use Rattle.tide_periods.specs.Recorded.{IsSettled, MadeCall, MayAsk, OpenedPart,
 use Rattle.tide_model.proofs.PhaseLaws.{phase_after-call}
 use Rattle.tide_model.proofs.Windows.{StandsFull-now}
 use Rattle.tide_model.proofs.CallKeeps.{HasFewClaims, HasFewClaims-call, HasNoNewDead, HasNoNewDead-call}
-use Rattle.tide_periods.proofs.CallerLaws.{called}
+use Rattle.tide_model.proofs.OwnCalls.{called}
 
 -- what contracts see of a store and of its history
 abbrev pub recorded_of : Setting → State → List Event → ℕ → ℕ → ℕ → Recorded

@@ -15,18 +15,18 @@ use Rattle.tide_model.specs.Pace.{Pace}
 use Rattle.tide_model.specs.Periods.{ArePeriods, IsLegal, next_run, one_more}
 use Rattle.tide_model.specs.Script.{calls_of}
 use Rattle.tide_model.specs.Whole.{IsWhole}
-use Rattle.tide_periods.specs.declared.caller.Caller.{Caller}
+use Rattle.tide_periods.specs.declared.cursor.ScriptCursor.{ScriptCursor}
 use Rattle.tide_periods.specs.declared.answered.Answered.{Answered}
 use Rattle.tide_report.specs.Ends.{TellsEnds}
 use Rattle.tide_report.specs.Reports.{Reported}
 use Rattle.tide_periods.specs.Asking.{IsAskedBy, claims_after, scripts_of}
-use Rattle.tide_periods.specs.Part.{AreCallers}
+use Rattle.tide_periods.specs.Part.{AreCursors}
 use Rattle.tide_periods.specs.Periods.{RanAll, RanPeriod}
 use Rattle.tide_periods.specs.Run.{HasRun}
 use Rattle.tide_periods.specs.Store.{Setting}
 use Rattle.tide_periods.specs.Answered.{pair_of}
 use Rattle.tide_periods.specs.Recorded.{IsSettled, Recorded}
-use Rattle.tide_periods.proofs.Freezing.{is_over-callers}
+use Rattle.tide_periods.proofs.Freezing.{is_over-cursors}
 
 -- one more period
 pub ArePeriods-ran : (old new : Recorded) (pace : Pace) (run : ℕ) → RanPeriod old new pace run → ArePeriods pace old.setting.layout old.history → ArePeriods pace new.setting.layout new.history
@@ -35,37 +35,37 @@ ArePeriods-ran old new pace run ran periods =
     (subst (ArePeriods pace old.setting.layout) (sym ran.history) (one_more old.history ran.period periods ran.stands))
 
 -- all mutators have retired
-pub RanAll-over : (recorded : Recorded) (pace : Pace) (callers : List Caller) → IsSettled recorded → AreCallers recorded callers → ArePeriods pace recorded.setting.layout recorded.history →
-    list_all (λ caller. caller.retired) callers ≡ true → RanAll recorded pace callers
-RanAll-over recorded pace callers settled are periods all = record {
+pub RanAll-over : (recorded : Recorded) (pace : Pace) (cursors : List ScriptCursor) → IsSettled recorded → AreCursors recorded cursors → ArePeriods pace recorded.setting.layout recorded.history →
+    list_all (λ cursor. cursor.retired) cursors ≡ true → RanAll recorded pace cursors
+RanAll-over recorded pace cursors settled are periods all = record {
   settled = settled;
-  callers' = are;
-  scheduled = record { periods = periods; ends = settled.ends; over = sym (is_over-callers recorded callers are) ∙ all };
+  cursors' = are;
+  scheduled = record { periods = periods; ends = settled.ends; over = sym (is_over-cursors recorded cursors are) ∙ all };
   scripts = scripts;
 }
   where
-    scripts : (who : ℕ) (caller : Caller) → slice_get callers who ≡ Some caller → IsWhole recorded.setting.layout recorded.history who caller.ops.items
-    scripts who caller found =
-        let known = are.each who caller found in
+    scripts : (who : ℕ) (cursor : ScriptCursor) → slice_get cursors who ≡ Some cursor → IsWhole recorded.setting.layout recorded.history who cursor.ops.items
+    scripts who cursor found =
+        let known = are.each who cursor found in
         let here = known.1 in
         let at = here.at in
-        let within = slice_get_within callers who caller found in
-        let retired : caller.retired ≡ true = subst (λ (c : Caller). c.retired ≡ true) (get_or_from_slice_get callers who caller caller found)
-        (All-get_or (λ (c : Caller). c.retired ≡ true) callers who caller within (AllPass-from_list_all (λ (c : Caller). c.retired) callers all)) in
+        let within = slice_get_within cursors who cursor found in
+        let retired : cursor.retired ≡ true = subst (λ (c : ScriptCursor). c.retired ≡ true) (get_or_from_slice_get cursors who cursor cursor found)
+        (All-get_or (λ (c : ScriptCursor). c.retired ≡ true) cursors who cursor within (AllPass-from_list_all (λ (c : ScriptCursor). c.retired) cursors all)) in
         let done = at.at_end retired in
         let was = here.was_done done in
-        let unclaims : at.unclaims ≡ claims_after recorded.setting.layout (take here.moment recorded.history) caller.who =
+        let unclaims : at.unclaims ≡ claims_after recorded.setting.layout (take here.moment recorded.history) cursor.who =
         (let given = at.given done in let none = at.released retired in let total = was.claims in omega (arith, given, none, total)) in
-        subst (λ (w : ℕ). IsWhole recorded.setting.layout recorded.history w caller.ops.items) known.0 (record {
+        subst (λ (w : ℕ). IsWhole recorded.setting.layout recorded.history w cursor.ops.items) known.0 (record {
           moment = here.moment;
           within = here.in_history;
           done = was.script;
           script = at.is_script
-              ∙ ap (λ (r : Bool). (take caller.done caller.ops.items ++ replicate at.unclaims Unclaim) ++ (if r then Retire ∷ [] else [])) retired
+              ∙ ap (λ (r : Bool). (take cursor.done cursor.ops.items ++ replicate at.unclaims Unclaim) ++ (if r then Retire ∷ [] else [])) retired
               ∙ ap (λ (ops : List Op). (ops ++ replicate at.unclaims Unclaim) ++ Retire ∷ [])
-              (ap (λ (n : ℕ). take n caller.ops.items) done ∙ take_all (length caller.ops.items) caller.ops.items (omega arith))
-              ∙ append_assoc caller.ops.items (replicate at.unclaims Unclaim) (Retire ∷ [])
-              ∙ ap (λ (n : ℕ). caller.ops.items ++ (replicate n Unclaim ++ Retire ∷ [])) unclaims;
+              (ap (λ (n : ℕ). take n cursor.ops.items) done ∙ take_all (length cursor.ops.items) cursor.ops.items (omega arith))
+              ∙ append_assoc cursor.ops.items (replicate at.unclaims Unclaim) (Retire ∷ [])
+              ∙ ap (λ (n : ℕ). cursor.ops.items ++ (replicate n Unclaim ++ Retire ∷ [])) unclaims;
         })
 
 -- what stands at a place of a list that was mapped, before it was
@@ -76,25 +76,25 @@ found_before f (x ∷ xs) zero y is = (x, refl, (let same : Some (f x) ≡ Some 
 found_before f (x ∷ xs) (suc place) y is = found_before f xs place y is
 
 -- what a run leaves, from the mutators when all have retired
-pub HasRun-over : (setting : Setting) (pace : Pace) (scripts : List (List Op)) (recorded : Recorded) (callers : List Caller) (history : List Event) (report : Reported) (calls : List (List Answered)) (live : ℕ) →
-    RanAll recorded pace callers → recorded.setting ≡ setting → scripts_of callers ≡ scripts → history ≡ recorded.history → TellsEnds recorded.setting.layout history report → calls ≡ map (λ caller. caller.calls.items) callers →
+pub HasRun-over : (setting : Setting) (pace : Pace) (scripts : List (List Op)) (recorded : Recorded) (cursors : List ScriptCursor) (history : List Event) (report : Reported) (calls : List (List Answered)) (live : ℕ) →
+    RanAll recorded pace cursors → recorded.setting ≡ setting → scripts_of cursors ≡ scripts → history ≡ recorded.history → TellsEnds recorded.setting.layout history report → calls ≡ map (λ cursor. cursor.calls.items) cursors →
     live ≡ live_count recorded.setting.layout recorded.state → HasRun setting pace scripts history report calls live
-HasRun-over setting pace scripts recorded callers history report calls live ran same own_scripts is told are living =
+HasRun-over setting pace scripts recorded cursors history report calls live ran same own_scripts is told are living =
     subst (λ (s : Setting). HasRun s pace scripts history report calls live) same (record {
       legal = subst (IsLegal pace recorded.setting.layout recorded.setting.shapes) (sym is) (record { lawful = ran.settled.lawful; scheduled = ran.scheduled });
       told = told;
       whole = λ who ops found.
-          let one = found_before (λ (c : Caller). c.ops.items) callers who ops (ap (λ (lists : List (List Op)). slice_get lists who) own_scripts ∙ found) in
+          let one = found_before (λ (c : ScriptCursor). c.ops.items) cursors who ops (ap (λ (lists : List (List Op)). slice_get lists who) own_scripts ∙ found) in
           subst (λ (h : List Event). IsWhole recorded.setting.layout h who ops) (sym is)
           (subst (IsWhole recorded.setting.layout recorded.history who) one.2 (ran.scripts who one.0 one.1));
-      one_each = ap length are ∙ length-map callers (λ (c : Caller). c.calls.items) ∙ ran.callers'.one_each;
+      one_each = ap length are ∙ length-map cursors (λ (c : ScriptCursor). c.calls.items) ∙ ran.cursors'.one_each;
       calls_are = λ who own found.
-          let one = found_before (λ (c : Caller). c.calls.items) callers who own (ap (λ (lists : List (List Answered)). slice_get lists who) (sym are) ∙ found) in
-          let known = ran.callers'.each who one.0 one.1 in
+          let one = found_before (λ (c : ScriptCursor). c.calls.items) cursors who own (ap (λ (lists : List (List Answered)). slice_get lists who) (sym are) ∙ found) in
+          let known = ran.cursors'.each who one.0 one.1 in
           ap (map pair_of) (sym one.2) ∙ sym known.1.are ∙ ap (λ (w : ℕ). calls_of w recorded.history) known.0 ∙ ap (calls_of who) (sym is);
       asked = λ who ops found.
-          let one = found_before (λ (c : Caller). c.ops.items) callers who ops (ap (λ (lists : List (List Op)). slice_get lists who) own_scripts ∙ found) in
-          let known = ran.callers'.each who one.0 one.1 in
+          let one = found_before (λ (c : ScriptCursor). c.ops.items) cursors who ops (ap (λ (lists : List (List Op)). slice_get lists who) own_scripts ∙ found) in
+          let known = ran.cursors'.each who one.0 one.1 in
           subst (λ (o : List Op). All (λ call. IsAskedBy o call.0) (calls_of who history)) one.2
           (subst (All (λ call. IsAskedBy one.0.ops.items call.0))
           (sym known.1.are ∙ ap (λ (w : ℕ). calls_of w recorded.history) known.0 ∙ ap (calls_of who) (sym is)) known.1.asked);

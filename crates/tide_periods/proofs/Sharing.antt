@@ -2,7 +2,7 @@
 use Rattle.std.proofs.Common.{ℕ, ◌≡◌, ◌+◌, ◌<◌, refl, sym, ◌∙◌, ap, subst, arith, Bool, true, false, List, [], ◌∷◌, ◌++◌, length, append_assoc, append-nil, inl, inr, eq-eqb}
 use Rattle.std.proofs.lemmas.List.{length-append, map-append}
 use Rattle.std.proofs.lemmas.List.Elements.{All-nil, All-push}
-use Rattle.std.specs.Prelude.{Option, None, is_some, not, ◌&&◌, ◌||◌, map}
+use Rattle.std.specs.Prelude.{Option, is_some, not, ◌&&◌, ◌||◌, map}
 use Rattle.tide_model.specs.declared.op.Op.{Op}
 use Rattle.tide_model.specs.declared.op.Reply.{Reply}
 use Rattle.tide_model.specs.declared.entry.Event.{Event}
@@ -12,17 +12,18 @@ use Rattle.tide_model.specs.State.{State}
 use Rattle.tide_model.specs.Script.{calls_of, is_full_reply, retry_after_all, retry_of}
 use Rattle.tide_model.specs.Share.{HasCallLeft, ends_share, has_ended, is_asked}
 use Rattle.tide_model.specs.Each.{Each}
-use Rattle.tide_model.proofs.Histories.{calls_of-append, push_cases, retry_after_all-append}
+use Rattle.tide_model.proofs.Histories.{push_cases}
 use Rattle.tide_model.proofs.PeriodLaws.{has_ended-push}
-use Rattle.tide_periods.specs.declared.caller.Caller.{Caller}
+use Rattle.tide_periods.specs.declared.cursor.ScriptCursor.{ScriptCursor}
 use Rattle.tide_periods.specs.Answered.{pair_of}
-use Rattle.tide_periods.specs.Asking.{IsCaller, IsCallerAt, IsMutatorAt, Standing, TookReply, after_reply, claims_after, next_of, op_or_leave, standing_of}
+use Rattle.tide_periods.specs.Asking.{IsCursor, IsCursorAt, IsMutatorAt, Standing, TookReply, after_reply, claims_after, next_of, op_or_leave, standing_of}
 use Rattle.tide_periods.specs.Store.{Setting}
 use Rattle.tide_periods.proofs.PartLoops.{IsSharing}
 use Rattle.tide_periods.specs.Part.{RanShare}
 use Rattle.tide_periods.specs.Recorded.{IsSettled, MadeCall, Recorded}
 use Rattle.tide_model.proofs.PeriodLaws.{Each-nil}
-use Rattle.tide_periods.proofs.CallerLaws.{IsMutatorAt-called, called, calls_of-push, retry_after-flag, is_some-flag}
+use Rattle.tide_periods.proofs.CursorLaws.{IsMutatorAt-called}
+use Rattle.tide_model.proofs.OwnCalls.{called, calls_of-push, is_some-flag, retry_after-flag, retry_of-events}
 
 -- no call was made yet
 pub IsSharing-nothing : (old : Recorded) (run who : ℕ) → IsSettled old → IsSharing old old run who 0 false
@@ -37,10 +38,6 @@ IsSharing-nothing old run who settled = record {
   count = refl;
   stops = refl;
 }
-
--- what a mutator has to try again, in the midst of its share
-pub retry_of-events : (who : ℕ) (before events : List Event) → retry_of who (before ++ events) ≡ retry_after_all (retry_of who before) (calls_of who events)
-retry_of-events who before events = ap (retry_after_all None) (calls_of-append who before events) ∙ retry_after_all-append None (calls_of who before) (calls_of who events)
 
 -- one call more, by its mutator's standing
 pub IsSharing-called : (old now new : Recorded) (run who made : ℕ) (ops : List Op) (standing : Standing) (calls : List (Op × Reply)) (claims : ℕ) (op : Op) (reply : Reply) →
@@ -117,25 +114,25 @@ IsMutatorAt-by setting history who who' ops ops' standing standing' calls calls'
     (subst (λ (s : Standing). IsMutatorAt setting history who ops s calls') e3
     (subst (IsMutatorAt setting history who ops standing) e4 at)))
 
--- a caller that took the reply to its call
-pub IsCallerAt-took : (setting : Setting) (history : List Event) (caller taken : Caller) (op : Op) (reply : Reply) (took : Option ℕ) → IsCallerAt setting history caller → caller.retired ≡ false →
-    op ≡ next_of caller.ops.items (standing_of caller) (claims_after setting.layout history caller.who) →
-    IsAnswer setting.layout setting.shapes (state_after setting.layout history) caller.who op reply took → TookReply caller taken op reply →
-    IsCallerAt setting (history ++ called caller.who op reply took ∷ []) taken
-IsCallerAt-took setting history caller taken op reply took at stays is answers record' =
-    IsMutatorAt-by setting (history ++ called caller.who op reply took ∷ []) caller.who taken.who caller.ops.items taken.ops.items (after_reply caller.ops.items (standing_of caller) op reply) (standing_of taken)
-    (map pair_of caller.calls.items ++ (op, reply) ∷ []) (map pair_of taken.calls.items)
+-- a cursor that took the reply to its call
+pub IsCursorAt-took : (setting : Setting) (history : List Event) (cursor taken : ScriptCursor) (op : Op) (reply : Reply) (took : Option ℕ) → IsCursorAt setting history cursor → cursor.retired ≡ false →
+    op ≡ next_of cursor.ops.items (standing_of cursor) (claims_after setting.layout history cursor.who) →
+    IsAnswer setting.layout setting.shapes (state_after setting.layout history) cursor.who op reply took → TookReply cursor taken op reply →
+    IsCursorAt setting (history ++ called cursor.who op reply took ∷ []) taken
+IsCursorAt-took setting history cursor taken op reply took at stays is answers record' =
+    IsMutatorAt-by setting (history ++ called cursor.who op reply took ∷ []) cursor.who taken.who cursor.ops.items taken.ops.items (after_reply cursor.ops.items (standing_of cursor) op reply) (standing_of taken)
+    (map pair_of cursor.calls.items ++ (op, reply) ∷ []) (map pair_of taken.calls.items)
     (sym record'.who) (ap (λ ops. ops.items) (sym record'.ops)) (sym record'.standing)
-    (sym (ap (map pair_of) record'.calls ∙ map-append pair_of caller.calls.items (record { op = op; reply = reply } ∷ [])))
-    (IsMutatorAt-called setting history caller.who caller.ops.items (standing_of caller) (map pair_of caller.calls.items) op reply took at stays is answers)
+    (sym (ap (map pair_of) record'.calls ∙ map-append pair_of cursor.calls.items (record { op = op; reply = reply } ∷ [])))
+    (IsMutatorAt-called setting history cursor.who cursor.ops.items (standing_of cursor) (map pair_of cursor.calls.items) op reply took at stays is answers)
 
 -- so where a recorder made the call
-pub IsCaller-took : (old new : Recorded) (caller took : Caller) (op : Op) (reply : Reply) → IsSettled old → IsCaller old caller → caller.retired ≡ false →
-    op ≡ next_of caller.ops.items (standing_of caller) (length (old.state.claims caller.who)) → MadeCall old new caller.who op reply → TookReply caller took op reply →
-    IsCaller new took
-IsCaller-took old new caller taken op reply settled at stays is made record' =
-    subst (λ (s : Setting). IsCallerAt s new.history taken) (sym made.same)
-    (subst (λ (h : List Event). IsCallerAt old.setting h taken) (sym made.history)
-    (IsCallerAt-took old.setting old.history caller taken op reply made.took at stays
-    (is ∙ ap (λ (s : State). next_of caller.ops.items (standing_of caller) (length (s.claims caller.who))) (sym settled.leaves))
-    (subst (λ (s : State). IsAnswer old.setting.layout old.setting.shapes s caller.who op reply made.took) (sym settled.leaves) made.answers) record'))
+pub IsCursor-took : (old new : Recorded) (cursor took : ScriptCursor) (op : Op) (reply : Reply) → IsSettled old → IsCursor old cursor → cursor.retired ≡ false →
+    op ≡ next_of cursor.ops.items (standing_of cursor) (length (old.state.claims cursor.who)) → MadeCall old new cursor.who op reply → TookReply cursor took op reply →
+    IsCursor new took
+IsCursor-took old new cursor taken op reply settled at stays is made record' =
+    subst (λ (s : Setting). IsCursorAt s new.history taken) (sym made.same)
+    (subst (λ (h : List Event). IsCursorAt old.setting h taken) (sym made.history)
+    (IsCursorAt-took old.setting old.history cursor taken op reply made.took at stays
+    (is ∙ ap (λ (s : State). next_of cursor.ops.items (standing_of cursor) (length (s.claims cursor.who))) (sym settled.leaves))
+    (subst (λ (s : State). IsAnswer old.setting.layout old.setting.shapes s cursor.who op reply made.took) (sym settled.leaves) made.answers) record'))

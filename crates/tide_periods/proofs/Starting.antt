@@ -11,10 +11,10 @@ use Rattle.tide_model.specs.Lawful.{Stands}
 use Rattle.tide_model.specs.Periods.{EndsInTime}
 use Rattle.tide_model.specs.State.{State, empty_state}
 use Rattle.tide_model.proofs.PeriodLaws.{Each-nil}
-use Rattle.tide_periods.specs.declared.caller.Caller.{Caller}
+use Rattle.tide_periods.specs.declared.cursor.ScriptCursor.{ScriptCursor}
 use Rattle.tide_periods.specs.Asking.{AreNew, IsAskable, IsMutatorAt, IsNew, Standing, standing_of, IsAskedBy}
 use Rattle.tide_periods.specs.Left.{left_by, left_of, total_by}
-use Rattle.tide_periods.specs.Part.{AreCallers}
+use Rattle.tide_periods.specs.Part.{AreCursors}
 use Rattle.tide_periods.specs.Recorded.{IsSettled, Recorded, StandsIdle, TookNone}
 use Rattle.tide_periods.specs.Store.{Setting, blocks_in}
 use Rattle.tide_model.specs.Layout.{Layout}
@@ -32,14 +32,14 @@ slice_get-push (first ∷ xs) x (suc k) y is = elim (slice_get-push xs x k y is)
 ]
 
 -- one mutator more
-pub AreNew-push : (callers : List Caller) (scripts : List (List Op)) (caller : Caller) (ops : List Op) → AreNew callers scripts → IsNew (length callers) caller → caller.ops.items ≡ ops →
-    AreNew (callers ++ caller ∷ []) (scripts ++ ops ∷ [])
-AreNew-push callers scripts caller ops are new is = record {
-  scripts_are = map-append (λ (c : Caller). c.ops.items) callers (caller ∷ []) ∙ ap (λ (s : List (List Op)). s ++ caller.ops.items ∷ []) are.scripts_are
+pub AreNew-push : (cursors : List ScriptCursor) (scripts : List (List Op)) (cursor : ScriptCursor) (ops : List Op) → AreNew cursors scripts → IsNew (length cursors) cursor → cursor.ops.items ≡ ops →
+    AreNew (cursors ++ cursor ∷ []) (scripts ++ ops ∷ [])
+AreNew-push cursors scripts cursor ops are new is = record {
+  scripts_are = map-append (λ (c : ScriptCursor). c.ops.items) cursors (cursor ∷ []) ∙ ap (λ (s : List (List Op)). s ++ cursor.ops.items ∷ []) are.scripts_are
       ∙ ap (λ (o : List Op). scripts ++ o ∷ []) is;
-  each = λ who other found. elim (slice_get-push callers caller who other found) [
+  each = λ who other found. elim (slice_get-push cursors cursor who other found) [
     | inl old ↦ are.each who other old
-    | inr last ↦ subst (λ (n : ℕ). IsNew n other) (sym last.0) (subst (IsNew (length callers)) last.1 new)
+    | inr last ↦ subst (λ (n : ℕ). IsNew n other) (sym last.0) (subst (IsNew (length cursors)) last.1 new)
   ];
 }
 
@@ -74,29 +74,29 @@ IsMutatorAt-nothing setting history who ops nothing below askable =
     no_ops [] none = refl
     no_ops (x ∷ xs) none = absurd (omega arith)
 
--- the callers before anything was run
-pub AreCallers-nothing : (recorded : Recorded) (callers : List Caller) (scripts : List (List Op)) → recorded.history ≡ [] → AreNew callers scripts → length callers ≡ recorded.setting.layout.mutators →
-    All (All (IsAskable recorded.setting.layout)) scripts → AreCallers recorded callers
-AreCallers-nothing recorded callers scripts nothing are one_each askable = record {
+-- the cursors before anything was run
+pub AreCursors-nothing : (recorded : Recorded) (cursors : List ScriptCursor) (scripts : List (List Op)) → recorded.history ≡ [] → AreNew cursors scripts → length cursors ≡ recorded.setting.layout.mutators →
+    All (All (IsAskable recorded.setting.layout)) scripts → AreCursors recorded cursors
+AreCursors-nothing recorded cursors scripts nothing are one_each askable = record {
   one_each = one_each;
-  each = λ who caller found.
-      let new = are.each who caller found in
-      let within = slice_get_within callers who caller found in
-      let lists = map (λ (c : Caller). c.ops.items) callers in
-      let at = slice_get-map (λ (c : Caller). c.ops.items) callers who ∙ ap (option_map (λ (c : Caller). c.ops.items)) found in
+  each = λ who cursor found.
+      let new = are.each who cursor found in
+      let within = slice_get_within cursors who cursor found in
+      let lists = map (λ (c : ScriptCursor). c.ops.items) cursors in
+      let at = slice_get-map (λ (c : ScriptCursor). c.ops.items) cursors who ∙ ap (option_map (λ (c : ScriptCursor). c.ops.items)) found in
       let all = subst (All (All (IsAskable recorded.setting.layout))) (sym are.scripts_are) askable in
-      let ops = subst (All (IsAskable recorded.setting.layout)) (get_or_from_slice_get lists who caller.ops.items caller.ops.items at)
-      (All-get_or (All (IsAskable recorded.setting.layout)) lists who caller.ops.items (slice_get_within lists who caller.ops.items at) all) in (
+      let ops = subst (All (IsAskable recorded.setting.layout)) (get_or_from_slice_get lists who cursor.ops.items cursor.ops.items at)
+      (All-get_or (All (IsAskable recorded.setting.layout)) lists who cursor.ops.items (slice_get_within lists who cursor.ops.items at) all) in (
         new.number,
-        subst (IsMutatorAt recorded.setting recorded.history caller.who caller.ops.items (standing_of caller)) (ap (map pair_of) (sym new.no_calls))
-            (subst (λ (s : Standing). IsMutatorAt recorded.setting recorded.history caller.who caller.ops.items s []) (sym new.standing)
-            (IsMutatorAt-nothing recorded.setting recorded.history caller.who caller.ops.items nothing (let n = new.number in omega (arith, n, within, one_each)) ops)),
+        subst (IsMutatorAt recorded.setting recorded.history cursor.who cursor.ops.items (standing_of cursor)) (ap (map pair_of) (sym new.no_calls))
+            (subst (λ (s : Standing). IsMutatorAt recorded.setting recorded.history cursor.who cursor.ops.items s []) (sym new.standing)
+            (IsMutatorAt-nothing recorded.setting recorded.history cursor.who cursor.ops.items nothing (let n = new.number in omega (arith, n, within, one_each)) ops)),
       );
 }
 
-left-few : (claims : ℕ → List ℕ) (caller : Caller) → ((who : ℕ) → length (claims who) ≤ 8) → length caller.ops.items ≤ 65536 → left_of claims caller ≤ 131081
-left-few claims caller few short =
-    step caller.retired (nat_lt caller.done (length caller.ops.items)) caller.retry (length caller.ops.items - caller.done) (length (claims caller.who)) (few caller.who) (omega (arith, short))
+left-few : (claims : ℕ → List ℕ) (cursor : ScriptCursor) → ((who : ℕ) → length (claims who) ≤ 8) → length cursor.ops.items ≤ 65536 → left_of claims cursor ≤ 131081
+left-few claims cursor few short =
+    step cursor.retired (nat_lt cursor.done (length cursor.ops.items)) cursor.retry (length cursor.ops.items - cursor.done) (length (claims cursor.who)) (few cursor.who) (omega (arith, short))
   where
     step : (retired within retry : Bool) (more held : ℕ) → held ≤ 8 → more ≤ 65536 → left_by retired within retry more held ≤ 131081
     step true within retry more held few' short' = omega arith
@@ -105,12 +105,12 @@ left-few claims caller few short =
     step false false retry more held few' short' = omega (arith, few')
 
 -- so few calls can be left
-pub total-few : (claims : ℕ → List ℕ) (callers : List Caller) → ((who : ℕ) → length (claims who) ≤ 8) → All (λ (ops : List Op). length ops ≤ 65536) (map (λ (c : Caller). c.ops.items) callers) →
-    total_by claims callers ≤ length callers * 131081
+pub total-few : (claims : ℕ → List ℕ) (cursors : List ScriptCursor) → ((who : ℕ) → length (claims who) ≤ 8) → All (λ (ops : List Op). length ops ≤ 65536) (map (λ (c : ScriptCursor). c.ops.items) cursors) →
+    total_by claims cursors ≤ length cursors * 131081
 total-few claims [] few short = omega arith
-total-few claims (caller ∷ callers) few short =
-    let here = left-few claims caller few (All-head (λ (ops : List Op). length ops ≤ 65536) caller.ops.items (map (λ (c : Caller). c.ops.items) callers) short) in
-    let later = total-few claims callers few (All-tail (λ (ops : List Op). length ops ≤ 65536) caller.ops.items (map (λ (c : Caller). c.ops.items) callers) short) in
+total-few claims (cursor ∷ cursors) few short =
+    let here = left-few claims cursor few (All-head (λ (ops : List Op). length ops ≤ 65536) cursor.ops.items (map (λ (c : ScriptCursor). c.ops.items) cursors) short) in
+    let later = total-few claims cursors few (All-tail (λ (ops : List Op). length ops ≤ 65536) cursor.ops.items (map (λ (c : ScriptCursor). c.ops.items) cursors) short) in
     omega (arith, here, later)
 
 -- a store on which nothing was run is settled

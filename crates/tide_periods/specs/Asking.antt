@@ -10,7 +10,7 @@ use Rattle.tide_model.specs.Layout.{Layout}
 use Rattle.tide_model.specs.Lawful.{FitsLayout}
 use Rattle.tide_model.specs.Script.{is_retire, retry_of}
 use Rattle.tide_model.specs.Script.{calls_of, is_full_reply, script_of}
-use Rattle.tide_periods.specs.declared.caller.Caller.{Caller}
+use Rattle.tide_periods.specs.declared.cursor.ScriptCursor.{ScriptCursor}
 use Rattle.tide_periods.specs.Recorded.{Recorded}
 use Rattle.tide_periods.specs.Store.{Setting}
 use Rattle.tide_periods.specs.Answered.{pair_of}
@@ -71,9 +71,9 @@ pub data IsAskedBy (ops : List Op) : Op → Type 0 where
   asks_unclaim : IsAskedBy ops Unclaim
   asks_retire : IsAskedBy ops Retire
 
--- how far a caller's mutator is
-abbrev pub standing_of : Caller → Standing
-standing_of caller = record { done = caller.done; retry = caller.retry; retired = caller.retired }
+-- how far a cursor's mutator is
+abbrev pub standing_of : ScriptCursor → Standing
+standing_of cursor = record { done = cursor.done; retry = cursor.retry; retired = cursor.retired }
 
 -- a mutator is so far in a history, with these calls
 pub record IsMutatorAt (setting : Setting) (history : List Event) (who : ℕ) (ops : List Op) (standing : Standing)
@@ -91,33 +91,33 @@ pub record IsMutatorAt (setting : Setting) (history : List Event) (who : ℕ) (o
   pub are : calls_of who history ≡ calls
   pub asked : All (λ call. IsAskedBy ops call.0) calls
 
--- what a caller has of its mutator's calls is what this history has
-abbrev pub IsCallerAt : Setting → List Event → Caller → Type 0
-IsCallerAt setting history caller =
-    IsMutatorAt setting history caller.who caller.ops.items (standing_of caller) (map pair_of caller.calls.items)
+-- what a cursor has of its mutator's calls is what this history has
+abbrev pub IsCursorAt : Setting → List Event → ScriptCursor → Type 0
+IsCursorAt setting history cursor =
+    IsMutatorAt setting history cursor.who cursor.ops.items (standing_of cursor) (map pair_of cursor.calls.items)
 
--- what a caller has of its mutator's calls is what the history has
-abbrev pub IsCaller : Recorded → Caller → Type 0
-IsCaller recorded caller = IsCallerAt recorded.setting recorded.history caller
+-- what a cursor has of its mutator's calls is what the history has
+abbrev pub IsCursor : Recorded → ScriptCursor → Type 0
+IsCursor recorded cursor = IsCursorAt recorded.setting recorded.history cursor
 
--- a caller recorded a reply
-pub record TookReply (old new : Caller) (op : Op) (reply : Reply) : Type 0 where
+-- a cursor recorded a reply
+pub record TookReply (old new : ScriptCursor) (op : Op) (reply : Reply) : Type 0 where
   pub who : new.who ≡ old.who
   pub ops : new.ops ≡ old.ops
   pub standing : standing_of new ≡ after_reply old.ops.items (standing_of old) op reply
   pub calls : new.calls.items ≡ old.calls.items ++ record { op = op; reply = reply } ∷ []
 
 -- a mutator with these operations that has made no call
-pub record IsNew (who : ℕ) (caller : Caller) : Type 0 where
-  pub number : caller.who ≡ who
-  pub standing : standing_of caller ≡ record { done = 0; retry = false; retired = false }
-  pub no_calls : caller.calls.items ≡ []
+pub record IsNew (who : ℕ) (cursor : ScriptCursor) : Type 0 where
+  pub number : cursor.who ≡ who
+  pub standing : standing_of cursor ≡ record { done = 0; retry = false; retired = false }
+  pub no_calls : cursor.calls.items ≡ []
 
--- the scripts of some callers
-abbrev pub scripts_of : List Caller → List (List Op)
-scripts_of callers = map (λ caller. caller.ops.items) callers
+-- the scripts of some cursors
+abbrev pub scripts_of : List ScriptCursor → List (List Op)
+scripts_of cursors = map (λ cursor. cursor.ops.items) cursors
 
 -- a mutator for each list of operations, in order
-pub record AreNew (callers : List Caller) (scripts : List (List Op)) : Type 0 where
-  pub scripts_are : scripts_of callers ≡ scripts
-  pub each : (who : ℕ) (caller : Caller) → slice_get callers who ≡ Some caller → IsNew who caller
+pub record AreNew (cursors : List ScriptCursor) (scripts : List (List Op)) : Type 0 where
+  pub scripts_are : scripts_of cursors ≡ scripts
+  pub each : (who : ℕ) (cursor : ScriptCursor) → slice_get cursors who ≡ Some cursor → IsNew who cursor

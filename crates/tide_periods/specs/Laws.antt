@@ -8,9 +8,9 @@ use Rattle.tide_model.specs.Lawful.{IsLawful}
 use Rattle.tide_model.specs.Numbers.{any_below}
 use Rattle.tide_model.specs.Periods.{open_count}
 use Rattle.tide_model.specs.Since.{TakenAreSwept, is_of_part}
-use Rattle.tide_periods.specs.declared.caller.Caller.{Caller}
+use Rattle.tide_periods.specs.declared.cursor.ScriptCursor.{ScriptCursor}
 use Rattle.tide_periods.specs.Own.{AllTookPart}
-use Rattle.tide_periods.specs.Part.{AreCallers, RanPartBy}
+use Rattle.tide_periods.specs.Part.{AreCursors, RanPartBy}
 use Rattle.tide_periods.specs.Recorded.{IsSettled, recorded_at}
 use Rattle.tide_periods.specs.Store.{Setting}
 
@@ -19,10 +19,10 @@ abbrev pub with_open : List Event → ℕ → List Event
 with_open history run = history ++ plain (Open (open_count history + 1) run) ∷ []
 
 -- A history was settled, and its next part was opened. Where what follows is of a part, each block that was taken in it
--- was swept, the whole is lawful, and each caller's mutator took part, the part was run by these callers.
+-- was swept, the whole is lawful, and each cursor's mutator took part, the part was run by these cursors.
 abbrev pub SharesMakePart : Type 0
-SharesMakePart = (setting : Setting) (run : ℕ) (history part : List Event) (old new : List Caller)
-    (stopped : ℕ → Bool) → IsSettled (recorded_at setting history) → AreCallers (recorded_at setting history) old →
+SharesMakePart = (setting : Setting) (run : ℕ) (history part : List Event) (old new : List ScriptCursor)
+    (stopped : ℕ → Bool) → IsSettled (recorded_at setting history) → AreCursors (recorded_at setting history) old →
     IsLawful setting.layout setting.shapes (with_open history run ++ part) →
     AllPass (λ event. is_of_part event.entry) part → TakenAreSwept part →
     AllTookPart setting run history (with_open history run ++ part) old new stopped →

@@ -1,7 +1,7 @@
 -- How many calls a mutator may still make.
 use Rattle.std.specs.Prelude.{ℕ, ◌+◌, ◌-◌, ◌*◌, Bool, List, [], ◌∷◌, length, nat_lt, if◌then◌else◌}
 use Rattle.tide_model.specs.declared.op.Op.{Op}
-use Rattle.tide_periods.specs.declared.caller.Caller.{Caller}
+use Rattle.tide_periods.specs.declared.cursor.ScriptCursor.{ScriptCursor}
 use Rattle.tide_periods.specs.Asking.{Standing, standing_of}
 use Rattle.tide_periods.specs.Recorded.{Recorded}
 
@@ -15,15 +15,15 @@ abbrev pub left_at : List Op → Standing → ℕ → ℕ
 left_at ops standing claims =
     left_by standing.retired (nat_lt standing.done (length ops)) standing.retry (length ops - standing.done) claims
 
--- a caller's, where the mutators claim these cells
-abbrev pub left_of : (ℕ → List ℕ) → Caller → ℕ
-left_of claims caller = left_at caller.ops.items (standing_of caller) (length (claims caller.who))
+-- a cursor's, where the mutators claim these cells
+abbrev pub left_of : (ℕ → List ℕ) → ScriptCursor → ℕ
+left_of claims cursor = left_at cursor.ops.items (standing_of cursor) (length (claims cursor.who))
 
--- all callers' together
-abbrev pub total_by : (ℕ → List ℕ) → List Caller → ℕ
+-- all cursors' together
+abbrev pub total_by : (ℕ → List ℕ) → List ScriptCursor → ℕ
 total_by claims [] = 0
-total_by claims (caller ∷ callers) = left_of claims caller + total_by claims callers
+total_by claims (cursor ∷ cursors) = left_of claims cursor + total_by claims cursors
 
--- all callers' together, after what was recorded
-abbrev pub total_left : Recorded → List Caller → ℕ
-total_left recorded callers = total_by recorded.state.claims callers
+-- all cursors' together, after what was recorded
+abbrev pub total_left : Recorded → List ScriptCursor → ℕ
+total_left recorded cursors = total_by recorded.state.claims cursors

@@ -9,8 +9,8 @@ use Rattle.tide_model.specs.Numbers.{any_below}
 use Rattle.tide_model.specs.Script.{calls_of, retry_of}
 use Rattle.tide_model.specs.Share.{IsShare, has_ended}
 use Rattle.tide_model.specs.Since.{TakenAreSwept, is_call, is_of_part}
-use Rattle.tide_periods.specs.declared.caller.Caller.{Caller}
-use Rattle.tide_periods.specs.Asking.{IsCaller, scripts_of}
+use Rattle.tide_periods.specs.declared.cursor.ScriptCursor.{ScriptCursor}
+use Rattle.tide_periods.specs.Asking.{IsCursor, scripts_of}
 use Rattle.tide_periods.specs.Left.{total_left}
 use Rattle.tide_periods.specs.Recorded.{HasSameCounts, IsSettled, OpenedPart, Recorded}
 
@@ -26,11 +26,11 @@ pub record RanShare (old new : Recorded) (run who : ℕ) (ended : Bool) : Type 0
       ((state_after new.setting.layout new.history).active who) (calls_of who events)
   pub stops : ended ≡ has_ended (retry_of who old.history) (calls_of who events)
 
--- the callers are those of the mutators in order
-pub record AreCallers (recorded : Recorded) (callers : List Caller) : Type 0 where
-  pub one_each : length callers ≡ recorded.setting.layout.mutators
-  pub each : (who : ℕ) (caller : Caller) → slice_get callers who ≡ Some caller →
-      (caller.who ≡ who) × IsCaller recorded caller
+-- the cursors are those of the mutators in order
+pub record AreCursors (recorded : Recorded) (cursors : List ScriptCursor) : Type 0 where
+  pub one_each : length cursors ≡ recorded.setting.layout.mutators
+  pub each : (who : ℕ) (cursor : ScriptCursor) → slice_get cursors who ≡ Some cursor →
+      (cursor.who ≡ who) × IsCursor recorded cursor
 
 -- What a running part may have after a history: calls, and where no cycle marks also blocks that are taken and swept.
 -- Each that is taken is swept in it.
@@ -59,12 +59,12 @@ pub record RanOpenedPart (old new : Recorded) (run : ℕ) (ended : Bool) : Type 
   pub opened : OpenedPart old begun run
   pub ran : RanPart begun new run ended
 
--- A part was opened and run by these callers. They have what the history has of their mutators' calls, and together
+-- A part was opened and run by these cursors. They have what the history has of their mutators' calls, and together
 -- they have no more calls left, and fewer where one of them made any.
-pub record RanPartBy (old new : Recorded) (run : ℕ) (before after : List Caller) (ended : Bool) : Type 0 where
+pub record RanPartBy (old new : Recorded) (run : ℕ) (before after : List ScriptCursor) (ended : Bool) : Type 0 where
   pub ran : RanOpenedPart old new run ended
-  pub callers : AreCallers new after
+  pub cursors : AreCursors new after
   pub scripts : scripts_of after ≡ scripts_of before
   pub left : total_left new after ≤ total_left old before
-  pub fewer : 0 < run → list_all (λ caller. caller.retired) before ≡ false →
+  pub fewer : 0 < run → list_all (λ cursor. cursor.retired) before ≡ false →
       total_left new after < total_left old before

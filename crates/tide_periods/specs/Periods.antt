@@ -8,8 +8,8 @@ use Rattle.tide_model.specs.Periods.{IsScheduled, Period, StandsPeriod, after_pe
 use Rattle.tide_model.specs.Script.{calls_of}
 use Rattle.tide_model.specs.Whole.{IsWhole}
 use Rattle.tide_sched.specs.Paces.{last_run}
-use Rattle.tide_periods.specs.declared.caller.Caller.{Caller}
-use Rattle.tide_periods.specs.Part.{AreCallers}
+use Rattle.tide_periods.specs.declared.cursor.ScriptCursor.{ScriptCursor}
+use Rattle.tide_periods.specs.Part.{AreCursors}
 use Rattle.tide_periods.specs.Recorded.{IsSettled, Recorded}
 
 -- A freeze did what the schedule asks for after the running part that ended, and after a forced one nothing is dead.
@@ -42,9 +42,9 @@ pub record RanPeriod (old new : Recorded) (pace : Pace) (run : ℕ) : Type 0 whe
   pub some : 0 < run
 
 -- all was run
-pub record RanAll (recorded : Recorded) (pace : Pace) (callers : List Caller) : Type 0 where
+pub record RanAll (recorded : Recorded) (pace : Pace) (cursors : List ScriptCursor) : Type 0 where
   pub settled : IsSettled recorded
-  pub callers' : AreCallers recorded callers
+  pub cursors' : AreCursors recorded cursors
   pub scheduled : IsScheduled pace recorded.setting.layout recorded.history
-  pub scripts : (who : ℕ) (caller : Caller) → slice_get callers who ≡ Some caller →
-      IsWhole recorded.setting.layout recorded.history who caller.ops.items
+  pub scripts : (who : ℕ) (cursor : ScriptCursor) → slice_get cursors who ≡ Some cursor →
+      IsWhole recorded.setting.layout recorded.history who cursor.ops.items

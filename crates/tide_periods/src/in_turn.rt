@@ -1,11 +1,11 @@
 //! A recorder with its mutators, which make their shares of a part one after another.
 ghost use Rattle.std.specs.Prelude.{◌≡◌, ◌≤◌, [], All, length, map, IfOk};
 ghost use Rattle.tide_periods.specs.Asking.{IsAskable, scripts_of};
-ghost use Rattle.tide_periods.specs.Part.{AreCallers};
+ghost use Rattle.tide_periods.specs.Part.{AreCursors};
 ghost use Rattle.tide_periods.specs.Recorded.{IsSettled};
 
 use crate::answered::Answered;
-use crate::caller::{Caller, callers_of};
+use crate::cursor::{ScriptCursor, cursors_of};
 use crate::part::make_shares;
 use crate::parts::Parts;
 use crate::recorder::{Recorder, append, with_room};
@@ -18,23 +18,23 @@ use tide_sched::Pacing;
 #[derive(Drop)]
 pub struct InTurn<T: Recorder> {
     recorder: T,
-    callers: Vec<Caller>,
+    cursors: Vec<ScriptCursor>,
     /// Room for each mutator's calls, of which none is in it yet.
     calls: Vec<Vec<Answered>>,
 }
 
-/// Each caller's calls, in a list that is empty yet.
+/// Each cursor's calls, in a list that is empty yet.
 fn calls_of_each(
     list: Vec<Vec<Answered>>,
-    callers: Vec<Caller>,
+    cursors: Vec<ScriptCursor>,
 ) -> Result<Vec<Vec<Answered>>, Memory>
     requires { list.items ≡ [] }
     ensures { IfOk result (λ calls.
-        map (λ own. own.items) calls.items ≡ map (λ caller. caller.calls.items) callers.items) }
+        map (λ own. own.items) calls.items ≡ map (λ cursor. cursor.calls.items) cursors.items) }
 {
     let mut calls = list;
-    for caller in callers {
-        append(&mut calls, caller.into_calls())?;
+    for cursor in cursors {
+        append(&mut calls, cursor.into_calls())?;
     }
     Ok(calls)
 }
@@ -51,16 +51,16 @@ impl<T: Recorder + Drop> InTurn<T> {
             (map (λ ops. ops.items) scripts.items) }
         ensures recorded { IfOk result (λ new. ⟦<InTurn<T> as Parts>⟧.recorded new ≡ T.recorded recorder) }
         ensures stands { IfOk result (λ new. ⟦<InTurn<T> as Parts>⟧.stands new) }
-        ensures callers { IfOk result (λ new.
-            AreCallers (⟦<InTurn<T> as Parts>⟧.recorded new) (⟦<InTurn<T> as Parts>⟧.callers new)) }
+        ensures cursors { IfOk result (λ new.
+            AreCursors (⟦<InTurn<T> as Parts>⟧.recorded new) (⟦<InTurn<T> as Parts>⟧.cursors new)) }
         ensures scripts { IfOk result (λ new.
-            scripts_of (⟦<InTurn<T> as Parts>⟧.callers new) ≡ map (λ ops. ops.items) scripts.items) }
+            scripts_of (⟦<InTurn<T> as Parts>⟧.cursors new) ≡ map (λ ops. ops.items) scripts.items) }
     {
         let calls = with_room(alloc, scripts.len())?;
-        let callers = callers_of(alloc, scripts)?;
+        let cursors = cursors_of(alloc, scripts)?;
         Ok(InTurn {
             recorder,
-            callers,
+            cursors,
             calls,
         })
     }
@@ -75,18 +75,18 @@ impl<T: Recorder + Drop> Parts for InTurn<T> {
 
     ghost stands = { λ s. T.stands s.recorder × (s.calls.items ≡ []) };
 
-    ghost callers = { λ s. s.callers.items };
+    ghost cursors = { λ s. s.cursors.items };
 
     ghost paces = { T.paces };
 
     fn run_part(&mut self, run: u32) -> Result<bool, Memory> {
         self.recorder.open(run)?;
-        let ended = make_shares(&mut self.recorder, self.callers.as_mut_slice(), run)?;
+        let ended = make_shares(&mut self.recorder, self.cursors.as_mut_slice(), run)?;
         Ok(ended)
     }
 
     fn are_all_retired(&self) -> bool {
-        self.callers.iter().all(Caller::has_retired)
+        self.cursors.iter().all(ScriptCursor::has_retired)
     }
 
     fn freeze(&mut self, is_forced: bool, pacing: Pacing, alloc: Global) -> Result<u32, Memory> {
@@ -100,11 +100,11 @@ impl<T: Recorder + Drop> Parts for InTurn<T> {
     fn finish(self) -> Result<(Vec<Event>, Report, Vec<Vec<Answered>>), Memory> {
         let InTurn {
             recorder,
-            callers,
+            cursors,
             calls,
         } = self;
         let (events, report) = recorder.into_parts();
-        let calls = calls_of_each(calls, callers)?;
+        let calls = calls_of_each(calls, cursors)?;
         Ok((events, report, calls))
     }
 }

@@ -1,42 +1,42 @@
 //! A running part: each mutator in turn makes its share of calls. It knows no cycle.
 ghost use Rattle.std.specs.Prelude.{◌≡◌, ◌<◌, ◌≤◌, false, IfOk};
 ghost use Rattle.std.specs.List.{list_all};
-ghost use Rattle.tide_periods.specs.Asking.{scripts_of, IsCaller};
+ghost use Rattle.tide_periods.specs.Asking.{scripts_of, IsCursor};
 ghost use Rattle.tide_periods.specs.Left.{left_of, total_left};
-ghost use Rattle.tide_periods.specs.Part.{AreCallers, RanPart, RanShare};
+ghost use Rattle.tide_periods.specs.Part.{AreCursors, RanPart, RanShare};
 ghost use Rattle.tide_periods.specs.Recorded.{IsSettled};
 
-use crate::caller::Caller;
+use crate::cursor::ScriptCursor;
 use crate::recorder::Recorder;
 use tide_model::Memory;
 
 /// Makes a mutator's calls of a part: `run`, or fewer where it retires or stops. Answers whether it stopped.
 pub(crate) fn run_share<T: Recorder>(
     recorder: &mut T,
-    caller: &mut Caller,
+    cursor: &mut ScriptCursor,
     run: u32,
 ) -> Result<bool, Memory>
     requires settled { IsSettled (T.recorded recorder.old) }
     requires stands { T.stands recorder.old }
-    requires caller { IsCaller (T.recorded recorder.old) caller.old }
-    ensures ran { IfOk result (RanShare (T.recorded recorder.old) (T.recorded recorder.new) run caller.old.who) }
+    requires cursor { IsCursor (T.recorded recorder.old) cursor.old }
+    ensures ran { IfOk result (RanShare (T.recorded recorder.old) (T.recorded recorder.new) run cursor.old.who) }
     ensures stands { IfOk result (λ ended. T.stands recorder.new) }
-    ensures caller { IfOk result (λ ended. IsCaller (T.recorded recorder.new) caller.new) }
-    ensures who { IfOk result (λ ended. caller.new.who ≡ caller.old.who) }
-    ensures ops { IfOk result (λ ended. caller.new.ops ≡ caller.old.ops) }
-    ensures left { IfOk result (λ ended. left_of (T.recorded recorder.new).state.claims caller.new
-        ≤ left_of (T.recorded recorder.old).state.claims caller.old) }
-    ensures fewer { IfOk result (λ ended. 0 < run → caller.old.retired ≡ false →
-        left_of (T.recorded recorder.new).state.claims caller.new
-        < left_of (T.recorded recorder.old).state.claims caller.old) }
+    ensures cursor { IfOk result (λ ended. IsCursor (T.recorded recorder.new) cursor.new) }
+    ensures who { IfOk result (λ ended. cursor.new.who ≡ cursor.old.who) }
+    ensures ops { IfOk result (λ ended. cursor.new.ops ≡ cursor.old.ops) }
+    ensures left { IfOk result (λ ended. left_of (T.recorded recorder.new).state.claims cursor.new
+        ≤ left_of (T.recorded recorder.old).state.claims cursor.old) }
+    ensures fewer { IfOk result (λ ended. 0 < run → cursor.old.retired ≡ false →
+        left_of (T.recorded recorder.new).state.claims cursor.new
+        < left_of (T.recorded recorder.old).state.claims cursor.old) }
 {
     for _made in 0..run {
-        if caller.retired {
+        if cursor.retired {
             return Ok(false);
         }
-        let op = caller.next(recorder.claims(caller.who));
-        let reply = recorder.call(caller.who, op)?;
-        if caller.take(op, reply)? {
+        let op = cursor.next(recorder.claims(cursor.who));
+        let reply = recorder.call(cursor.who, op)?;
+        if cursor.take(op, reply)? {
             return Ok(true);
         }
     }
@@ -46,24 +46,24 @@ pub(crate) fn run_share<T: Recorder>(
 /// Each mutator in turn makes its calls of a part. Answers whether one of them stopped.
 pub(crate) fn make_shares<T: Recorder>(
     recorder: &mut T,
-    callers: &mut [Caller],
+    cursors: &mut [ScriptCursor],
     run: u32,
 ) -> Result<bool, Memory>
     requires settled { IsSettled (T.recorded recorder.old) }
     requires stands { T.stands recorder.old }
-    requires callers { AreCallers (T.recorded recorder.old) callers.old }
+    requires cursors { AreCursors (T.recorded recorder.old) cursors.old }
     ensures ran { IfOk result (RanPart (T.recorded recorder.old) (T.recorded recorder.new) run) }
     ensures stands { IfOk result (λ ended. T.stands recorder.new) }
-    ensures callers { IfOk result (λ ended. AreCallers (T.recorded recorder.new) callers.new) }
-    ensures scripts { IfOk result (λ ended. scripts_of callers.new ≡ scripts_of callers.old) }
+    ensures cursors { IfOk result (λ ended. AreCursors (T.recorded recorder.new) cursors.new) }
+    ensures scripts { IfOk result (λ ended. scripts_of cursors.new ≡ scripts_of cursors.old) }
     ensures left { IfOk result (λ ended.
-        total_left (T.recorded recorder.new) callers.new ≤ total_left (T.recorded recorder.old) callers.old) }
-    ensures fewer { IfOk result (λ ended. 0 < run → list_all (λ caller. caller.retired) callers.old ≡ false →
-        total_left (T.recorded recorder.new) callers.new < total_left (T.recorded recorder.old) callers.old) }
+        total_left (T.recorded recorder.new) cursors.new ≤ total_left (T.recorded recorder.old) cursors.old) }
+    ensures fewer { IfOk result (λ ended. 0 < run → list_all (λ cursor. cursor.retired) cursors.old ≡ false →
+        total_left (T.recorded recorder.new) cursors.new < total_left (T.recorded recorder.old) cursors.old) }
 {
     let mut ended = false;
-    for caller in callers.iter_mut() {
-        if run_share(recorder, caller, run)? {
+    for cursor in cursors.iter_mut() {
+        if run_share(recorder, cursor, run)? {
             ended = true;
         }
     }

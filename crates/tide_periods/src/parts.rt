@@ -3,10 +3,10 @@ ghost use Rattle.std.specs.Prelude.{◌≡◌, ◌-◌, ◌^◌, ◌<◌, List, 
 ghost use Rattle.std.specs.List.{list_all};
 ghost use Rattle.tide_model.specs.Cycle.{live_count};
 ghost use Rattle.tide_model.specs.declared.entry.Event.{Event};
-ghost use Rattle.tide_periods.specs.declared.caller.Caller.{Caller};
+ghost use Rattle.tide_periods.specs.declared.cursor.ScriptCursor.{ScriptCursor};
 ghost use Rattle.tide_sched.specs.Paces.{pace_of};
 ghost use Rattle.tide_sched.specs.declared.pacing.Pacing.{Pacing};
-ghost use Rattle.tide_periods.specs.Part.{AreCallers, RanPartBy};
+ghost use Rattle.tide_periods.specs.Part.{AreCursors, RanPartBy};
 ghost use Rattle.tide_periods.specs.Periods.{RanFreeze};
 ghost use Rattle.tide_periods.specs.Recorded.{IsSettled, Recorded};
 ghost use Rattle.tide_report.specs.Ends.{TellsEnds};
@@ -32,7 +32,7 @@ pub trait Parts {
     ghost stands: { Self → Type 0 };
 
     /// Its mutators, in order, each by its own calls.
-    ghost callers: { Self → List Caller };
+    ghost cursors: { Self → List ScriptCursor };
 
     /// With which numbers the store can be run.
     ghost paces: { Pacing → Type 0 };
@@ -42,15 +42,15 @@ pub trait Parts {
     fn run_part(&mut self, run: u32) -> Result<bool, Memory>
         requires settled { IsSettled (recorded self.old) }
         requires stands { stands self.old }
-        requires callers { AreCallers (recorded self.old) (callers self.old) }
+        requires cursors { AreCursors (recorded self.old) (cursors self.old) }
         requires few { (recorded self.old).parts < 2 ^ 32 - 1 }
         ensures ran { IfOk result (RanPartBy (recorded self.old) (recorded self.new) run
-            (callers self.old) (callers self.new)) }
+            (cursors self.old) (cursors self.new)) }
         ensures stands { IfOk result (λ ended. stands self.new) };
 
     /// Whether each mutator has retired.
     fn are_all_retired(&self) -> bool
-        ensures { result ≡ list_all (λ caller. caller.retired) (callers self.now) };
+        ensures { result ≡ list_all (λ cursor. cursor.retired) (cursors self.now) };
 
     /// Freezes after a part, does what the schedule asks for, and records it. Answers how many calls each mutator has
     /// in the next part.
@@ -62,14 +62,14 @@ pub trait Parts {
         ensures ran { IfOk result (λ run.
             RanFreeze (recorded self.old) (recorded self.new) (pace_of pacing) is_forced run) }
         ensures stands { IfOk result (λ run. stands self.new) }
-        ensures callers { IfOk result (λ run. callers self.new ≡ callers self.old) };
+        ensures cursors { IfOk result (λ run. cursors self.new ≡ cursors self.old) };
 
     /// How many cells live.
     fn live(&mut self) -> u32
         requires stands { stands self.old }
         ensures live { result ≡ live_count (recorded self.old).setting.layout (recorded self.old).state }
         ensures same { recorded self.new ≡ recorded self.old }
-        ensures callers { callers self.new ≡ callers self.old }
+        ensures cursors { cursors self.new ≡ cursors self.old }
         ensures stands { stands self.new };
 
     /// What keeps the history, the report of the cycles that ended, and each mutator's calls.
@@ -80,5 +80,5 @@ pub trait Parts {
         ensures report { IfOk result (λ left.
             TellsEnds (recorded self).setting.layout (recorded self).history left.1) }
         ensures calls { IfOk result (λ left.
-            map (λ own. own.items) left.2.items ≡ map (λ caller. caller.calls.items) (callers self)) };
+            map (λ own. own.items) left.2.items ≡ map (λ cursor. cursor.calls.items) (cursors self)) };
 }

@@ -3,7 +3,7 @@ ghost use Rattle.std.specs.Prelude.{◌≡◌, ◌-◌, ◌<◌, ◌^◌, false,
 ghost use Rattle.tide_model.specs.Periods.{is_over, next_run};
 ghost use Rattle.tide_periods.specs.Asking.{scripts_of};
 ghost use Rattle.tide_periods.specs.Left.{total_left};
-ghost use Rattle.tide_periods.specs.Part.{AreCallers};
+ghost use Rattle.tide_periods.specs.Part.{AreCursors};
 ghost use Rattle.tide_periods.specs.Periods.{RanAll, RanPeriod};
 ghost use Rattle.tide_sched.specs.Paces.{pace_of};
 ghost use Rattle.tide_periods.specs.Recorded.{IsSettled};
@@ -22,7 +22,7 @@ pub(crate) fn run_period<T: Parts>(
 ) -> Result<u32, Memory>
     requires settled { IsSettled (T.recorded parts.old) }
     requires stands { T.stands parts.old }
-    requires callers { AreCallers (T.recorded parts.old) (T.callers parts.old) }
+    requires cursors { AreCursors (T.recorded parts.old) (T.cursors parts.old) }
     requires goes_on { is_over (T.recorded parts.old).setting.layout (T.recorded parts.old).history ≡ false }
     requires room { (T.recorded parts.old).cycles < 2 ^ 60 }
     requires few { (T.recorded parts.old).parts < 2 ^ 32 - 1 }
@@ -33,10 +33,10 @@ pub(crate) fn run_period<T: Parts>(
     ensures ran { IfOk result (λ next.
         RanPeriod (T.recorded parts.old) (T.recorded parts.new) (pace_of pacing) next) }
     ensures stands { IfOk result (λ next. T.stands parts.new) }
-    ensures left { IfOk result (λ next. total_left (T.recorded parts.new) (T.callers parts.new)
-        < total_left (T.recorded parts.old) (T.callers parts.old)) }
-    ensures callers { IfOk result (λ next. AreCallers (T.recorded parts.new) (T.callers parts.new)) }
-    ensures scripts { IfOk result (λ next. scripts_of (T.callers parts.new) ≡ scripts_of (T.callers parts.old)) }
+    ensures left { IfOk result (λ next. total_left (T.recorded parts.new) (T.cursors parts.new)
+        < total_left (T.recorded parts.old) (T.cursors parts.old)) }
+    ensures cursors { IfOk result (λ next. AreCursors (T.recorded parts.new) (T.cursors parts.new)) }
+    ensures scripts { IfOk result (λ next. scripts_of (T.cursors parts.new) ≡ scripts_of (T.cursors parts.old)) }
 {
     let stopped = parts.run_part(run)?;
     let is_over = parts.are_all_retired();
@@ -52,17 +52,17 @@ pub(crate) fn run_periods<T: Parts>(
 ) -> Result<(), Memory>
     requires settled { IsSettled (T.recorded parts.old) }
     requires stands { T.stands parts.old }
-    requires callers { AreCallers (T.recorded parts.old) (T.callers parts.old) }
+    requires cursors { AreCursors (T.recorded parts.old) (T.cursors parts.old) }
     requires nothing { (T.recorded parts.old).history ≡ [] }
     requires paces { T.paces pacing }
     requires cycles { (T.recorded parts.old).cycles ≡ 0 }
     requires parts { (T.recorded parts.old).parts ≡ 0 }
-    requires room { total_left (T.recorded parts.old) (T.callers parts.old) < 2 ^ 32 - 1 }
-    requires some { 0 < length (T.callers parts.old) }
-    ensures ran { OnOk result (RanAll (T.recorded parts.new) (pace_of pacing) (T.callers parts.new)) }
+    requires room { total_left (T.recorded parts.old) (T.cursors parts.old) < 2 ^ 32 - 1 }
+    requires some { 0 < length (T.cursors parts.old) }
+    ensures ran { OnOk result (RanAll (T.recorded parts.new) (pace_of pacing) (T.cursors parts.new)) }
     ensures stands { OnOk result (T.stands parts.new) }
     ensures same { OnOk result ((T.recorded parts.new).setting ≡ (T.recorded parts.old).setting) }
-    ensures scripts { OnOk result (scripts_of (T.callers parts.new) ≡ scripts_of (T.callers parts.old)) }
+    ensures scripts { OnOk result (scripts_of (T.cursors parts.new) ≡ scripts_of (T.cursors parts.old)) }
 {
     let mut run = pacing.period;
     while !parts.are_all_retired() {

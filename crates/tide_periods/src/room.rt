@@ -5,7 +5,7 @@
 ghost use Rattle.std.specs.Prelude.{◌≡◌, ◌≤◌, ◌*◌, All, length, map};
 ghost use Rattle.tide_periods.specs.Room.{events_in, longest_in, operations_in};
 
-use crate::caller::most_calls;
+use crate::cursor::most_calls;
 use tide_model::Op;
 
 /// How many cycles may end in one freeze.

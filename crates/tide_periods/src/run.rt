@@ -1,7 +1,7 @@
 //! A whole run: from a store on which nothing was run, with its mutators, to what it leaves.
 ghost use Rattle.std.specs.Prelude.{◌≡◌, ◌≤◌, ◌<◌, [], All, length, map, IfOk};
 ghost use Rattle.tide_periods.specs.Asking.{scripts_of};
-ghost use Rattle.tide_periods.specs.Part.{AreCallers};
+ghost use Rattle.tide_periods.specs.Part.{AreCursors};
 ghost use Rattle.tide_sched.specs.Paces.{pace_of};
 ghost use Rattle.tide_periods.specs.Recorded.{IsSettled};
 ghost use Rattle.tide_periods.specs.Run.{HasRun};
@@ -39,12 +39,12 @@ pub fn run_on<T: Parts + Drop>(
     requires settled { IsSettled (T.recorded parts) }
     requires stands { T.stands parts }
     requires nothing { (T.recorded parts).history ≡ [] }
-    requires callers { AreCallers (T.recorded parts) (T.callers parts) }
-    requires some { 0 < length (T.callers parts) }
-    requires few { length (T.callers parts) ≤ 16 }
-    requires short { All (λ ops. length ops ≤ 65536) (scripts_of (T.callers parts)) }
+    requires cursors { AreCursors (T.recorded parts) (T.cursors parts) }
+    requires some { 0 < length (T.cursors parts) }
+    requires few { length (T.cursors parts) ≤ 16 }
+    requires short { All (λ ops. length ops ≤ 65536) (scripts_of (T.cursors parts)) }
     requires paces { T.paces pacing }
-    ensures { IfOk result (λ finished. HasRun (T.recorded parts).setting (pace_of pacing) (scripts_of (T.callers parts))
+    ensures { IfOk result (λ finished. HasRun (T.recorded parts).setting (pace_of pacing) (scripts_of (T.cursors parts))
         (T.history_of finished.kept) finished.report (map (λ own. own.items) finished.calls.items) finished.live) }
 {
     let mut parts = parts;

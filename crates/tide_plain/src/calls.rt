@@ -10,16 +10,16 @@
 mod allocation;
 mod handles;
 mod registers;
-// over those above it
+// these stand on those listed before
 mod claims;
 mod groups;
 mod slots;
-// over those above it
+// these stand on those listed before
 mod pairs;
 mod properties;
-// over those above it
+// these stand on those listed before
 mod calling;
-// over those above it
+// these stand on those listed before
 mod store;
 
 pub use store::PlainStore;

@@ -2,17 +2,17 @@
 //!
 //! `statuses` says what becomes of an array, `parts` has each list by itself, `stored` has them together with their
 //! invariant, `collect` finds what is retained, and `calls` is the operations. Each names those before it alone. It may
-//! touch the layout, blocks and shapes.
+//! touch the layout, blocks and shapes. `tide_periods` runs it for `tide_run`.
 #![tactic(auto)]
 
 mod statuses;
-// over those above it
+// these stand on those listed before
 mod parts;
-// over those above it
+// these stand on those listed before
 mod stored;
-// over those above it
+// these stand on those listed before
 mod collect;
-// over those above it
+// these stand on those listed before
 mod calls;
 
 pub use calls::PlainStore;

@@ -7,12 +7,12 @@
 mod mutators;
 mod stored_cell;
 mod taken;
-// over those above it
+// these stand on those listed before
 mod sweeping;
-// over those above it
+// these stand on those listed before
 mod cells;
 mod handles;
-// over those above it
+// these stand on those listed before
 mod arrays;
 mod pairs;
 

@@ -196,7 +196,7 @@ no_cells layout shapes heap = record {
 -- one more cell
 pub one_more_cell : (layout : Layout) (shapes : ShapeLists) (heap : Heap) (count : ℕ) (list : List (Option Held)) (found : Option Held) → AreCellsRead layout shapes heap count list →
     ((held : CellState) → CellReads layout shapes heap count held → IsHeldOf layout count held found) →
-    AreKeysBelow 20480 (pairs_of found) → AreKeysOf shapes (properties_in found) → AreCellsRead layout shapes heap (count + 1) (list ++ found ∷ [])
+    AreKeysBelow 83886080 (pairs_of found) → AreKeysOf shapes (properties_in found) → AreCellsRead layout shapes heap (count + 1) (list ++ found ∷ [])
 one_more_cell layout shapes heap count list found read is few keys = record {
   counted = length-append list (found ∷ []) ∙ (let c = read.counted in omega (arith, c));
   each = λ cell held below reads. elim (cases_lt cell count) [
@@ -205,7 +205,7 @@ one_more_cell layout shapes heap count list found read is few keys = record {
         let this : count ≡ cell = omega (arith, below, last) in
         subst (IsHeldOf layout cell held) (sym (at_last cell this)) (subst (λ (c : ℕ). (h : CellState) → CellReads layout shapes heap c h → IsHeldOf layout c h found) this is held reads)
   ];
-  few = λ cell. at_each (λ o. AreKeysBelow 20480 (pairs_of o)) cell (read.few cell) few (λ pair at. absurd (nowhere pair at));
+  few = λ cell. at_each (λ o. AreKeysBelow 83886080 (pairs_of o)) cell (read.few cell) few (λ pair at. absurd (nowhere pair at));
   keys = λ cell. at_each (λ o. AreKeysOf shapes (properties_in o)) cell (read.keys cell) keys (λ property at. absurd (nowhere property at));
 }
   where
@@ -242,7 +242,7 @@ snapshot_is_read layout shapes heap state contents reads cells roots = record {
     free_isnt_live same = cc
 
 -- the keys of pairs that were read are those of words
-pub keys_are_few : (layout : Layout) (heap : Heap) (table count : ℕ) (list : List Keyed) → ArePairsBefore layout heap table count list → AreKeysBelow 20480 list
+pub keys_are_few : (layout : Layout) (heap : Heap) (table count : ℕ) (list : List Keyed) → ArePairsBefore layout heap table count list → AreKeysBelow 83886080 list
 keys_are_few layout heap table count list before entry at = (let (place, below, is) = (before.each entry.key entry.value).0 at in is.few)
 
 -- the keys of properties that were read are those of their shape

@@ -112,5 +112,5 @@ pub record PutsPair (word : ℕ) (old new : List Keyed) : Type 0 where
 pub record AreCellsRead (layout : Layout) (shapes : ShapeLists) (heap : Heap) (count : ℕ) (list : List (Option Held)) : Type 0 where
   pub counted : length list ≡ count
   pub each : (cell : ℕ) (held : CellState) → cell < count → CellReads layout shapes heap cell held → IsHeldOf layout cell held (slice_index_or list cell None)
-  pub few : (cell : ℕ) → AreKeysBelow 20480 (pairs_of (slice_index_or list cell None))
+  pub few : (cell : ℕ) → AreKeysBelow 83886080 (pairs_of (slice_index_or list cell None))
   pub keys : (cell : ℕ) → AreKeysOf shapes (properties_in (slice_index_or list cell None))

@@ -48,8 +48,10 @@ abbrev pub AreOnWay : List (Option Found) → ℕ → ℕ → List ℕ → Type 
 AreOnWay found cell distance cells =
     (k : ℕ) → k < length cells → distance + k ≤ distance_of found cell → slice_index cells k ≡ above found (distance_of found cell - (distance + k)) cell
 
--- what is kept of paths: each cell that is retained was found at its distance, and skips lead along the ways to them
+-- what is kept of paths: each cell that is retained was found at its distance, of 20,480 cells at least, whatever the
+-- heap has, and of no more than a heap may have; and skips lead along the ways to them
 pub record HasPaths (contents : Contents) (found : List (Option Found)) (skips : List ℕ) : Type 0 where
   pub finds : FindsAll contents found
-  pub sized : length found ≡ 20480
+  pub least : 20480 ≤ length found
+  pub most : length found ≤ 83886080
   pub skips_lead : AreSkips found skips

@@ -57,7 +57,7 @@ fn push_group(entries: &mut Vec<Entry>, contents: &Contents, cell: u32) -> Resul
 
 /// Each cell under its group, if it is in one.
 fn group_entries(alloc: Global, contents: &Contents) -> Result<Vec<Entry>, Memory>
-    requires { length contents.now.cells.items ≤ 20480 }
+    requires { length contents.now.cells.items ≤ 83886080 }
     ensures { IfOk result (λ entries. entries.items ≡
         flat_map (group_entries contents.now) (up_to (length contents.now.cells.items))) }
 {
@@ -81,7 +81,7 @@ fn push_keys(entries: &mut Vec<Entry>, table: u32, pairs: &[Keyed]) -> Result<()
 
 /// Each table under the key of each of its pairs.
 fn key_entries(alloc: Global, contents: &Contents) -> Result<Vec<Entry>, Memory>
-    requires { length contents.now.cells.items ≤ 20480 }
+    requires { length contents.now.cells.items ≤ 83886080 }
     ensures { IfOk result (λ entries. entries.items ≡
         flat_map (key_entries contents.now) (up_to (length contents.now.cells.items))) }
 {
@@ -114,7 +114,7 @@ impl Index {
 
 /// The cells that are in groups, under these.
 pub(crate) fn groups_of(alloc: Global, contents: &Contents) -> Result<Index, Memory>
-    requires { length contents.now.cells.items ≤ 20480 }
+    requires { length contents.now.cells.items ≤ 83886080 }
     ensures { IfOk result (λ groups. HasGroups contents.now groups) }
 {
     let entries = group_entries(alloc, contents)?;
@@ -123,7 +123,7 @@ pub(crate) fn groups_of(alloc: Global, contents: &Contents) -> Result<Index, Mem
 
 /// The tables, under the keys of their pairs.
 pub(crate) fn keys_of(alloc: Global, contents: &Contents) -> Result<Index, Memory>
-    requires { length contents.now.cells.items ≤ 20480 }
+    requires { length contents.now.cells.items ≤ 83886080 }
     ensures { IfOk result (λ keys. HasKeys contents.now keys) }
 {
     let entries = key_entries(alloc, contents)?;

@@ -9,9 +9,6 @@ use crate::search::{Found, Search};
 use std::alloc::Global;
 use tide_model::Memory;
 
-/// No heap has more cells, and no pair a key beyond them.
-const CELLS: usize = 20_480;
-
 /// A flag for each of so many cells, none of them set.
 fn no_flags(alloc: Global, cells: usize) -> Result<Vec<bool>, Memory>
     ensures { IfOk result (λ flags. flags.items ≡ replicate cells false) }
@@ -22,21 +19,24 @@ fn no_flags(alloc: Global, cells: usize) -> Result<Vec<bool>, Memory>
     Ok(flags)
 }
 
-/// Which cells are retained. Each that is found is visited once: as a cell that holds others, and as the key of pairs.
+/// Which of so many cells are retained, all that the contents are of and all keys of pairs. Each that is found is
+/// visited once: as a cell that holds others, and as the key of pairs.
 pub(crate) fn retained(
     alloc: Global,
     contents: &Contents,
     groups: &Index,
     keys: &Index,
+    cells: usize,
 ) -> Result<Vec<bool>, Memory>
-    requires cells { length contents.now.cells.items ≤ 20480 }
-    requires few { HasKeysBelow 20480 contents.now }
+    requires most { cells ≤ 83886080 }
+    requires cells { length contents.now.cells.items ≤ cells }
+    requires few { HasKeysBelow cells contents.now }
     requires groups { HasGroups contents.now groups.now }
     requires keys { HasKeys contents.now keys.now }
-    ensures sized { IfOk result (λ flags. length flags.items ≡ 20480) }
+    ensures sized { IfOk result (λ flags. length flags.items ≡ cells) }
     ensures retained { IfOk result (λ flags. AreRetained contents.now flags.items) }
 {
-    let none = no_flags(alloc, CELLS)?;
+    let none = no_flags(alloc, cells)?;
     let mut search = Search::new(alloc, none)?;
     search.enter_roots(contents.roots.as_slice())?;
     let mut at = 0;
@@ -56,12 +56,12 @@ pub(crate) fn found(
     groups: &Index,
     retained: Vec<bool>,
 ) -> Result<(Vec<Option<Found>>, Vec<u32>), Memory>
-    requires cells { length contents.now.cells.items ≤ 20480 }
-    requires few { HasKeysBelow 20480 contents.now }
+    requires most { length retained.items ≤ 83886080 }
+    requires cells { length contents.now.cells.items ≤ length retained.items }
+    requires few { HasKeysBelow (length retained.items) contents.now }
     requires groups { HasGroups contents.now groups.now }
-    requires sized { length retained.items ≡ 20480 }
     requires retained { AreRetained contents.now retained.items }
-    ensures sized { IfOk result (λ found. length found.0.items ≡ 20480) }
+    ensures sized { IfOk result (λ found. length found.0.items ≡ length retained.items) }
     ensures found { IfOk result (λ found. FindsAll contents.now found.0.items) }
 {
     let mut search = Search::new(alloc, retained)?;

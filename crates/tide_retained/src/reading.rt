@@ -185,7 +185,7 @@ fn read_pairs<W: Words>(
     requires table { is_table layout.now table ≡ true }
     ensures pairs { IfOk result (λ list. (pairs : ℕ → Option Value) →
         IsTableOf layout.now (heap_of layout.now (W.words words.old)) table pairs → ArePairs pairs list.items) }
-    ensures few { IfOk result (λ list. AreKeysBelow 20480 list.items) }
+    ensures few { IfOk result (λ list. AreKeysBelow 83886080 list.items) }
     ensures same { W.words words.new ≡ W.words words.old }
     ensures same_rest { W.rest words.new ≡ W.rest words.old }
 {
@@ -209,7 +209,7 @@ fn read_pairs_of<W: Words>(
     ensures pairs { IfOk result (λ list. (shapes : ShapeLists) (held : CellState) →
         TakenReads layout.now shapes (heap_of layout.now (W.words words.old)) cell held →
         ArePairs held.pairs list.items) }
-    ensures few { IfOk result (λ list. AreKeysBelow 20480 list.items) }
+    ensures few { IfOk result (λ list. AreKeysBelow 83886080 list.items) }
     ensures same { W.words words.new ≡ W.words words.old }
     ensures same_rest { W.rest words.new ≡ W.rest words.old }
 {
@@ -246,7 +246,7 @@ fn read_live<W: Words, S: ShapeTable>(
     ensures held { IfOk result (λ held. (state : CellState) → CellReads layout.now (S.lists shapes.now)
         (heap_of layout.now (W.words words.old)) cell state → state.status ≡ live →
         HoldsSame layout.now cell state held) }
-    ensures few { IfOk result (λ held. AreKeysBelow 20480 held.pairs.items) }
+    ensures few { IfOk result (λ held. AreKeysBelow 83886080 held.pairs.items) }
     ensures keys { IfOk result (λ held. AreKeysOf (S.lists shapes.now) held.properties.items) }
     ensures same { W.words words.new ≡ W.words words.old }
     ensures same_rest { W.rest words.new ≡ W.rest words.old }
@@ -278,7 +278,7 @@ pub(crate) fn read_cell<W: Words, S: ShapeTable>(
         NamesShape (S.lists shapes.now) (heap_of layout.now (W.words words.old) Structure cell) }
     ensures held { IfOk result (λ found. (held : CellState) → CellReads layout.now (S.lists shapes.now)
         (heap_of layout.now (W.words words.old)) cell held → IsHeldOf layout.now cell held found) }
-    ensures few { IfOk result (λ found. AreKeysBelow 20480 (pairs_of found)) }
+    ensures few { IfOk result (λ found. AreKeysBelow 83886080 (pairs_of found)) }
     ensures keys { IfOk result (λ found. AreKeysOf (S.lists shapes.now) (properties_in found)) }
     ensures same { W.words words.new ≡ W.words words.old }
     ensures same_rest { W.rest words.new ≡ W.rest words.old }
@@ -301,7 +301,7 @@ fn read_cells<W: Words, S: ShapeTable>(
     requires names { HasShapes layout.now (S.lists shapes.now) (heap_of layout.now (W.words words.old)) }
     ensures cells { IfOk result (λ cells. AreCellsRead layout.now (S.lists shapes.now)
         (heap_of layout.now (W.words words.old)) (cell_count layout.now) cells.items) }
-    ensures few { IfOk result (λ cells. length cells.items ≤ 20480) }
+    ensures few { IfOk result (λ cells. length cells.items ≤ 83886080) }
     ensures same { W.words words.new ≡ W.words words.old }
     ensures same_rest { W.rest words.new ≡ W.rest words.old }
 {
@@ -324,8 +324,8 @@ pub(crate) fn read_contents<W: Words, S: ShapeTable>(
     requires names { HasShapes layout.now (S.lists shapes.now) (heap_of layout.now (W.words words.old)) }
     ensures contents { IfOk result (λ contents. (state : State) → ReadsAs layout.now (S.lists shapes.now)
         (heap_of layout.now (W.words words.old)) state → IsSnapshotOf layout.now state contents) }
-    ensures few { IfOk result (λ contents. length contents.cells.items ≤ 20480) }
-    ensures pairs { IfOk result (λ contents. HasKeysBelow 20480 contents) }
+    ensures few { IfOk result (λ contents. length contents.cells.items ≤ 83886080) }
+    ensures pairs { IfOk result (λ contents. HasKeysBelow 83886080 contents) }
     ensures keys { IfOk result (λ contents. HasKeysOf (S.lists shapes.now) contents) }
     ensures same { W.words words.new ≡ W.words words.old }
     ensures same_rest { W.rest words.new ≡ W.rest words.old }

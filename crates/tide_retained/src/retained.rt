@@ -1,6 +1,6 @@
 //! `Retained`: what a heap held at one moment, and a shortest path to each cell that was retained. It keeps no word of
 //! the heap.
-ghost use Rattle.std.specs.Prelude.{◌≡◌, ◌↔◌, ◌<◌, ◌≤◌, IfNone, IfOk, IfSome, IsTrue, None, Some, length, option_map};
+ghost use Rattle.std.specs.Prelude.{◌≡◌, ◌↔◌, ◌<◌, ◌≤◌, IfNone, IfOk, IfSome, IsTrue, None, Some, length, max, option_map};
 ghost use Rattle.tide_words.specs.tide_layout.Region.{word_count};
 ghost use Rattle.tide_model.specs.Graph.{graph_of};
 ghost use Rattle.tide_model.specs.Layout.{Layout as PlainLayout};
@@ -16,6 +16,7 @@ ghost use Rattle.tide_retained.specs.Searching.{HasKeysBelow};
 use crate::Root;
 use crate::contents::{Contents, Held};
 use crate::index::{groups_of, keys_of};
+use crate::known::cells_known;
 use crate::phases::{found, retained};
 use crate::reading::read_contents;
 use crate::search::Found;
@@ -54,14 +55,15 @@ pub struct Way {
 
 /// What is retained of what contents hold.
 fn retained_of(alloc: Global, contents: Contents) -> Result<Retained, Memory>
-    requires cells { length contents.cells.items ≤ 20480 }
-    requires few { HasKeysBelow 20480 contents }
+    requires cells { length contents.cells.items ≤ 83886080 }
+    requires few { HasKeysBelow 83886080 contents }
     ensures contents { IfOk result (λ kept. kept.contents ≡ contents) }
     ensures paths { IfOk result HasShortestPaths }
 {
     let groups = groups_of(alloc, &contents)?;
     let keys = keys_of(alloc, &contents)?;
-    let retained = retained(alloc, &contents, &groups, &keys)?;
+    let cells = cells_known(&contents);
+    let retained = retained(alloc, &contents, &groups, &keys, cells)?;
     let (found, order) = found(alloc, &contents, &groups, retained)?;
     let skips = skips(alloc, found.as_slice(), order.as_slice())?;
     Ok(Retained {
@@ -101,9 +103,10 @@ impl Retained {
         self.contents.cells.len() as u32
     }
 
-    /// How many steps the shortest path to a cell has, or `None` where the cell isn't retained.
+    /// How many steps the shortest path to a cell has, or `None` where the cell isn't retained. A root may hold a cell
+    /// that the heap doesn't have: of any below 20,480 it is told, too.
     pub fn distance(&self, cell: u32) -> Option<u32>
-        requires { cell < 20480 }
+        requires { cell < max 20480 (length self.now.contents.cells.items) }
         ensures { (layout : PlainLayout) (state : State) → IsSnapshotOf layout state self.now.contents →
             IsDistanceOf (graph_of state) cell result }
     {

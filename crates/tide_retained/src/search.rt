@@ -46,7 +46,7 @@ impl Model for Search {
     } };
 
     ghost invariant = { λ s. (length s.retained.items ≡ length s.found.items)
-        × (length s.mated.items ≡ length s.found.items) × (length s.found.items ≤ 20480) };
+        × (length s.mated.items ≡ length s.found.items) × (length s.found.items ≤ 83886080) };
 }
 
 /// Sets the flags of some items.
@@ -64,7 +64,7 @@ fn set_flags(flags: &mut [bool], items: &[Entry])
 impl Search {
     /// A search that has found nothing, where these cells are known to be retained.
     pub fn new(alloc: Global, retained: Vec<bool>) -> Result<Search, Memory>
-        requires { length retained.items ≤ 20480 }
+        requires { length retained.items ≤ 83886080 }
         ensures { IfOk result (λ search. search ≡ unsearched retained.items) }
     {
         let cells = retained.len();

@@ -69,7 +69,7 @@ fn skip_for(found: &[Option<Found>], skips: &[u32], cell: u32) -> u32
 
 /// The cell before each cell.
 fn parents(alloc: Global, found: &[Option<Found>]) -> Result<Vec<u32>, Memory>
-    requires few { length found.now ≤ 20480 }
+    requires few { length found.now ≤ 83886080 }
     requires way { IsWay found.now }
     ensures { IfOk result (λ parents. AreSkips found.now parents.items) }
 {
@@ -99,7 +99,7 @@ pub(crate) fn skips(
     found: &[Option<Found>],
     order: &[u32],
 ) -> Result<Vec<u32>, Memory>
-    requires few { length found.now ≤ 20480 }
+    requires few { length found.now ≤ 83886080 }
     requires way { IsWay found.now }
     ensures { IfOk result (λ skips. AreSkips found.now skips.items) }
 {

@@ -1,5 +1,5 @@
 -- What the words of a command line ask for, and what that comes to.
-use Rattle.std.specs.Prelude.{ℕ, ◌≡◌, Bool, true, false, not, List, [], ◌++◌, Option, Some, None, is_some, if◌then◌else◌}
+use Rattle.std.specs.Prelude.{ℕ, ◌≡◌, Bool, true, false, List, [], ◌++◌, Option, Some, None, is_some, if◌then◌else◌}
 use Rattle.std.specs.Option.{option_map_or}
 use Rattle.std.specs.Io.KnownBytes.{Appends, Keeps}
 use Rattle.tide_io.specs.Faults.{AppendsPart}
@@ -7,13 +7,14 @@ use Rattle.tide_make.specs.Made.{made}
 use Rattle.tide_model.specs.History.{state_after}
 use Rattle.tide_model.specs.Refused.{ShapeLists}
 use Rattle.tide_options.specs.declared.options.Options.{Options}
+use Rattle.tide_periods.specs.Store.{Setting}
 use Rattle.tide_retained.specs.declared.contents.Contents.{Contents}
 use Rattle.tide_retained.specs.Contents.{HasKeysOf}
 use Rattle.tide_retained.specs.Holding.{IsSnapshotOf}
 use Rattle.tide_snapshot.specs.Line.{AreLines}
 use Rattle.tide_workload.specs.Words.{Counts, Work, summary_of, summary_text, text_of}
 use Rattle.tide_run.specs.Program.{ReadWork}
-use Rattle.tide_run.specs.Runs.{IsRunOf, Ran}
+use Rattle.tide_run.specs.Runs.{IsRunOf, Ran, setting_of_work}
 
 -- the options ask for the generated workload of a number
 abbrev pub asks_for_made : Option Options → Bool
@@ -38,15 +39,21 @@ trigger_for options work = if options.plain then 0 else work.settings.trigger
 abbrev pub visitors_for : Options → ℕ
 visitors_for options = if options.plain then 0 else options.visitors
 
--- The run is one of the workload that the options ask for, with as many visitors. A heap that threads shared kept its
--- history just where the options don't ask for the plain store.
+-- the layout and the shapes of the heap that options ask for: those of the workload, with as many visitors, and none of
+-- a plain run
+abbrev pub setting_for : Options → Work → Option Setting
+setting_for options work = if options.plain then None else Some (setting_of_work work options.visitors)
+
+-- The run is one of the workload that the options ask for, with as many visitors. Its history is that of a heap which
+-- threads shared, of the workload's layout and shapes and with so many visitors, just where the options don't ask for
+-- the plain store.
 pub record RanAsked (asked : Option Options) (old new : Option (List ℕ)) (ran : Ran) : Type 0 where
   pub options : Options
   pub are_asked : asked ≡ Some options
   pub work : Work
   pub is_asked_for : IsAskedFor options.make old new work
   pub is_run : IsRunOf work (trigger_for options work) (visitors_for options) ran
-  pub on_heap : ran.is_heap ≡ not options.plain
+  pub on_heap : ran.heap ≡ setting_for options work
 
 -- what is printed of a run: its summary where the workload was generated, and else its text
 abbrev pub printed_as : Bool → Ran → List ℕ

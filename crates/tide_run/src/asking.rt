@@ -1,13 +1,13 @@
 //! From the words of a command line to a run: the workload that they ask for, and the store that runs it.
-ghost use Rattle.std.specs.Prelude.{◌≡◌, ◌≢◌, ◌≤◌, ◌⊎◌, Some, None, IfOk, IfErr, is_some, not, true, false};
+ghost use Rattle.std.specs.Prelude.{◌≡◌, ◌≢◌, ◌≤◌, ◌⊎◌, Some, None, IfOk, IfErr, is_some, true, false};
 ghost use Rattle.std.specs.Io.KnownBytes.{Keeps};
 ghost use Rattle.tide_io.specs.Faults.{Rose};
 ghost use Rattle.tide_options.specs.Options.{asked_by};
 ghost use Rattle.tide_shape.specs.Shapes.{shapes_of_paths};
 ghost use Rattle.tide_workload.specs.Words.{Fault as FaultValue};
-ghost use Rattle.tide_run.specs.Asked.{AsksToRead, IsAskedFor, IsShownOf, RanAsked, asks_for_made, asks_for_snapshot, printed_as, printed_of, printed_with, trigger_for, visitors_for};
+ghost use Rattle.tide_run.specs.Asked.{AsksToRead, IsAskedFor, IsShownOf, RanAsked, asks_for_made, asks_for_snapshot, printed_as, printed_of, printed_with, setting_for, trigger_for, visitors_for};
 ghost use Rattle.tide_run.specs.Program.{ReadWork, RefusedInput};
-ghost use Rattle.tide_run.specs.Runs.{IsRunOf};
+ghost use Rattle.tide_run.specs.Runs.{IsRunOf, setting_of_work};
 
 use crate::counting::counts_of;
 use crate::running::{Outcome, plain, run, run_with_snapshot};
@@ -92,21 +92,29 @@ fn asked_workload<S: Source>(
 /// Runs a workload on the heap that its mutators share, and takes a snapshot at the end if one is asked for.
 fn run_shared<R: Threads + Sync, T: Turnstile>(
     rt: &R,
+    threads: usize,
     alloc: Global,
     load: &Workload,
     options: Options,
-    gate: &T,
+    turnstile: &T,
 ) -> Result<(Outcome, Option<Snapshot>), Memory>
     requires { options.visitors ≤ 8 }
     ensures run { IfOk result (λ ran. IsRunOf load.now load.now.settings.trigger options.visitors ran.0) }
-    ensures heap { IfOk result (λ ran. ran.0.is_heap ≡ true) }
+    ensures heap { IfOk result (λ ran. ran.0.heap ≡ Some (setting_of_work load.now options.visitors)) }
     ensures shown { IfOk result (λ ran. IsShownOf options.snapshot (shapes_of_paths load.now.paths) ran.0 ran.1) }
 {
     if options.snapshot {
-        let (outcome, snapshot) = run_with_snapshot(rt, alloc, load, options.visitors, gate)?;
+        let (outcome, snapshot) = run_with_snapshot(
+            rt,
+            threads,
+            alloc,
+            load,
+            options.visitors,
+            turnstile,
+        )?;
         Ok((outcome, Some(snapshot)))
     } else {
-        let outcome = run(rt, alloc, load, options.visitors, gate)?;
+        let outcome = run(rt, threads, alloc, load, options.visitors, turnstile)?;
         Ok((outcome, None))
     }
 }
@@ -114,22 +122,23 @@ fn run_shared<R: Threads + Sync, T: Turnstile>(
 /// Runs a workload on the store that is asked for.
 fn run_asked<R: Threads + Sync, T: Turnstile>(
     rt: &R,
+    threads: usize,
     alloc: Global,
     load: &Workload,
     options: Options,
-    gate: &T,
+    turnstile: &T,
 ) -> Result<(Outcome, Option<Snapshot>), Memory>
     requires few { options.visitors ≤ 8 }
     requires shared { options.plain ≡ true → options.snapshot ≡ false }
     ensures run { IfOk result (λ ran. IsRunOf load.now (trigger_for options load.now) (visitors_for options) ran.0) }
-    ensures heap { IfOk result (λ ran. ran.0.is_heap ≡ not options.plain) }
+    ensures heap { IfOk result (λ ran. ran.0.heap ≡ setting_for options load.now) }
     ensures shown { IfOk result (λ ran. IsShownOf options.snapshot (shapes_of_paths load.now.paths) ran.0 ran.1) }
 {
     if options.plain {
         let outcome = plain(alloc, load)?;
         Ok((outcome, None))
     } else {
-        let ran = run_shared(rt, alloc, load, options, gate)?;
+        let ran = run_shared(rt, threads, alloc, load, options, turnstile)?;
         Ok(ran)
     }
 }
@@ -148,10 +157,11 @@ fn asked_counts(is_made: bool, outcome: &Outcome) -> Result<Option<Counts>, Memo
 /// Runs what the options ask for.
 fn attempt_with<R: Threads + Sync, S: Source, T: Turnstile>(
     rt: &R,
+    threads: usize,
     alloc: Global,
     options: Options,
     source: &mut S,
-    gate: &T,
+    turnstile: &T,
 ) -> Result<Printable, Stop>
     requires few { options.visitors ≤ 8 }
     requires shared { options.plain ≡ true → options.snapshot ≡ false }
@@ -170,7 +180,7 @@ fn attempt_with<R: Threads + Sync, S: Source, T: Turnstile>(
     ensures later { S.faults source.old ≤ S.faults source.new }
 {
     let load = asked_workload(alloc, options.make, source)?;
-    let (outcome, snapshot) = match run_asked(rt, alloc, &load, options, gate) {
+    let (outcome, snapshot) = match run_asked(rt, threads, alloc, &load, options, turnstile) {
         Ok(ran) => ran,
         Err(Memory) => return Err(Stop::Memory),
     };
@@ -188,10 +198,11 @@ fn attempt_with<R: Threads + Sync, S: Source, T: Turnstile>(
 /// Runs what the words ask for.
 pub fn attempt<R: Threads + Sync, S: Source, T: Turnstile>(
     rt: &R,
+    threads: usize,
     alloc: Global,
     words: &[String],
     source: &mut S,
-    gate: &T,
+    turnstile: &T,
 ) -> Result<Printable, Stop>
     ensures ran { IfOk result (λ done.
         RanAsked (asked_by words.now) (S.left source.old) (S.left source.new) done.outcome) }
@@ -211,5 +222,5 @@ pub fn attempt<R: Threads + Sync, S: Source, T: Turnstile>(
     ensures later { S.faults source.old ≤ S.faults source.new }
 {
     let options = asked_options(alloc, words)?;
-    attempt_with(rt, alloc, options, source, gate)
+    attempt_with(rt, threads, alloc, options, source, turnstile)
 }

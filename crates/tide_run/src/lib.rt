@@ -10,19 +10,19 @@
 #![tactic(auto)]
 
 mod running;
-// over those above it
+// these stand on those listed before
 mod counting;
 mod stop;
-// over those above it
+// these stand on those listed before
 mod asking;
 mod printing;
-// over those above it
+// these stand on those listed before
 mod program;
-// over those above it
+// these stand on those listed before
 mod process;
 
 pub use process::answer;
 pub use program::{Ended, riptide};
 pub use running::{
-    Answered, CycleLine, Kept, Outcome, Report, Told, plain, run, run_with_snapshot,
+    Answered, CycleLine, Kept, Outcome, OwnHistory, Report, plain, run, run_with_snapshot,
 };

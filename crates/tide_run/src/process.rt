@@ -15,6 +15,9 @@ use std::thread::Threads;
 use tide_io::{Sink, Source, write_all};
 use tide_model::FreePass;
 
+/// On how many threads a part runs at most. Starting one takes as long as many calls, and a part starts them anew.
+const THREADS: usize = 4;
+
 /// Does what the words of the command line ask for, and answers how it ended, with the exit status. `Err` for want of
 /// memory for the words.
 pub fn answer<R: Threads + Sync, S: Source, K: Sink, E: Sink>(
@@ -87,5 +90,6 @@ pub fn answer<R: Threads + Sync, S: Source, K: Sink, E: Sink>(
             outcome: None,
         };
     };
-    riptide(rt, alloc, words.as_slice(), source, out, err, &FreePass)
+    let words = words.as_slice();
+    riptide(rt, THREADS, alloc, words, source, out, err, &FreePass)
 }

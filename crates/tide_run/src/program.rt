@@ -65,18 +65,19 @@ fn print<K: Sink, E: Sink>(out: &mut K, err: &mut E, done: Printable) -> Ended
 /// Runs the program.
 ///
 /// `words` are those of the command line, of which the first is the program's name. A workload is read from `source`,
-/// run on the store that the words ask for, and the text of the run is printed to `out`. Where the words ask for the
-/// generated workload of a number, nothing is read, and a summary is printed in place of the text; where they ask for a
-/// snapshot, a line of each cell that lives at the end follows the text. Where one of these fails, a line on `err` says
-/// why.
+/// run on the store that the words ask for, on no more than so many threads, and the text of the run is printed to
+/// `out`. Where the words ask for the generated workload of a number, nothing is read, and a summary is printed in
+/// place of the text; where they ask for a snapshot, a line of each cell that lives at the end follows the text. Where
+/// one of these fails, a line on `err` says why.
 pub fn riptide<R: Threads + Sync, S: Source, K: Sink, E: Sink, T: Turnstile>(
     rt: &R,
+    threads: usize,
     alloc: Global,
     words: &[String],
     source: &mut S,
     out: &mut K,
     err: &mut E,
-    gate: &T,
+    turnstile: &T,
 ) -> Ended
     ensures status { IsStatus result.status }
 
@@ -128,7 +129,7 @@ pub fn riptide<R: Threads + Sync, S: Source, K: Sink, E: Sink, T: Turnstile>(
     ensures out_faults { K.faults out.old ≤ K.faults out.new }
     ensures err_faults { E.faults err.old ≤ E.faults err.new }
 {
-    match attempt(rt, alloc, words, source, gate) {
+    match attempt(rt, threads, alloc, words, source, turnstile) {
         Ok(done) => print(out, err, done),
         Err(stop) => {
             stop.tell(err);

@@ -7,17 +7,17 @@
 
 mod outcome;
 mod starting;
-// over those above it
+// these stand on those listed before
 mod finishing;
-// over those above it
+// these stand on those listed before
 mod on_heap;
 mod on_plain;
-// over those above it
+// these stand on those listed before
 mod with_snapshot;
 
 pub use on_heap::run;
 pub use on_plain::plain;
-pub use outcome::{Kept, Outcome, Told};
+pub use outcome::{Kept, Outcome, OwnHistory};
 pub use tide_periods::Answered;
 pub use tide_report::{CycleLine, Report};
 pub use with_snapshot::run_with_snapshot;

@@ -2,12 +2,13 @@
 //!
 //! `take` reads words that stand still, over any `Words`, and keeps what they say; `Snapshot::distance`, `is_live` and
 //! `write_cell` answer from that: how far a cell is from a root, and its line, with a path than which none is shorter;
-//! `write_lines` writes the lines of all that are live. It may touch `tide_retained`, which finds the paths,
-//! text and sinks, and knows no thread, no run and no cycle.
+//! `write_lines` writes the lines of all that are live. It may touch `tide_retained`, which finds the paths, words,
+//! shapes, text and sinks, and knows no thread, no run and no cycle. `tide_threads` takes a snapshot, `tide_run` prints
+//! it, and programs of one's own have it by `tide`.
 #![tactic(auto)]
 
 mod writing;
-// over those above it
+// these stand on those listed before
 mod snapshot;
 
 pub use snapshot::{Snapshot, take};

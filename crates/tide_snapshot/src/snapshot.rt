@@ -1,5 +1,5 @@
 //! `Snapshot`: the lines of a heap's cells at one moment. It keeps no word of the heap.
-ghost use Rattle.std.specs.Prelude.{ℕ, ◌≡◌, ◌↔◌, ◌<◌, ◌≤◌, true, List, IsTrue, IfOk, OnErr, OnOk, length};
+ghost use Rattle.std.specs.Prelude.{ℕ, ◌≡◌, ◌↔◌, ◌<◌, ◌≤◌, true, List, IsTrue, IfOk, OnErr, OnOk, length, max};
 ghost use Rattle.std.specs.Io.KnownBytes.{Appends};
 ghost use Rattle.tide_io.specs.Faults.{AppendsPart, HasCause};
 ghost use Rattle.tide_words.specs.tide_layout.Region.{word_count};
@@ -66,7 +66,7 @@ pub fn take<W: Words, S: ShapeTable>(
 impl Snapshot {
     /// How many steps the shortest path to a cell has, or `None` where the cell isn't retained.
     pub fn distance(&self, cell: u32) -> Option<u32>
-        requires { cell < 20480 }
+        requires { cell < max 20480 (length self.now.cells.items) }
         ensures { (layout : PlainLayout) (state : State) → IsSnapshotOf layout state self.now →
             IsDistanceOf (graph_of state) cell result }
     {

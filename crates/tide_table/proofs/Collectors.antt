@@ -23,7 +23,7 @@ use Rattle.tide_heap.specs.tide_core.machine.World.{parties, total}
 use Rattle.tide_heap.specs.tide_core.declared.machine.view.NotedCalls.{NotedCalls}
 use Rattle.tide_heap.specs.tide_core.declared.machine.view.Role.TheVariants.{Collector, Note}
 use Rattle.tide_heap.specs.tide_core.declared.machine.view.View.{View}
-use Rattle.tide_heap.specs.tide_core.declared.machine.view.Visited.{Visited}
+use Rattle.tide_heap.specs.tide_core.declared.machine.view.NotedVisits.{NotedVisits}
 use Rattle.tide_heap.specs.tide_core.machine.points.Marks.{counted_in}
 use Rattle.tide_heap.specs.tide_core.machine.points.Seen.{WhoLeftIsInactive}
 use Rattle.tide_heap.specs.tide_core.machine.points.Sweeps.{SweptAreBelow, SweptAreTold, TakenAreClean}
@@ -234,7 +234,7 @@ module _ (layout : Layout) (shapes : ShapeLists) (words : List ℕ) (views : Lis
       × Tabled layout shapes words (set views me (frozen_with words v)) log
       × (v.seen ≡ v.start ++ since is_open log)
       × (list_all (λ event. is_of_part event.entry) (since is_open log) ≡ true)
-      × (v.births ≡ born_since is_open log) × (born_since is_open log ≤ 20480)
+      × (v.births ≡ born_since is_open log) × (born_since is_open log ≤ 83886080)
       × ((i : ℕ) → IsParty layout i → (state_after layout v.seen).active i ≡ false → In i v.gone)
       × ((noted : NotedCalls) → IsParty layout noted.who → Contains v.noted_calls noted → IsPrefix noted.seen v.seen)
       × ((noted : NotedCalls) → IsParty layout noted.who → Contains v.noted_calls noted →
@@ -360,7 +360,7 @@ module _ (layout : Layout) (shapes : ShapeLists) (words : List ℕ) (views : Lis
       })
 
   -- an entry of the collector's own, which leaves some visits to be entered
-  pub enter : (event : Event) (left : List Visited) → v.frozen ≡ true → Stands layout shapes v.seen event →
+  pub enter : (event : Event) (left : List NotedVisits) → v.frozen ≡ true → Stands layout shapes v.seen event →
       ((p : ℕ) → is_call_of p event.entry ≡ false) → is_open event.entry ≡ false →
       Tabled layout shapes words (set views me (record (entered_with event v) { visited = left })) (log ++ event ∷ [])
   enter event left shut stands no_call no_open =

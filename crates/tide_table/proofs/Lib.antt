@@ -11,3 +11,4 @@ pub mod Openings
 pub mod Standing
 pub mod Telling
 pub mod Visits
+pub mod VisitsTold

@@ -264,7 +264,7 @@ HasEnteredVisits-all layout shapes v w still told marks is wave none =
       entered = none;
       words = has.words;
       rest = (λ i. record (has.rest i) { words = [] });
-      blacks = λ opened. subst (λ (x : View). is_black (heap_of layout x.words) ≡ is_black (heap_of layout x.base)) (sym is)
+      blacks = λ opened. subst (λ (x : View). is_black (heap_of layout x.words) ≡ is_black (heap_of layout x.words_at_entry)) (sym is)
           (all_entered-blacks layout 0 layout.visitors v (still.blacks opened));
     }
 
@@ -329,7 +329,7 @@ module _ (layout : Layout) (shapes : ShapeLists) (v u : View) (still : StandsSti
           still = record {
             limits = still.limits;
             frozen = ap (λ (x : View). x.frozen) rest ∙ still.frozen;
-            few = subst (λ (n : ℕ). n ≤ 20480) (sym (ap (λ (x : View). x.births) rest)) still.few;
+            few = subst (λ (n : ℕ). n ≤ 83886080) (sym (ap (λ (x : View). x.births) rest)) still.few;
             period = ap (λ (x : View). x.period) rest ∙ still.period ∙ sym (seen_runs open_count open_count-quiet);
             run = λ some. ap (λ (x : View). x.run) rest ∙ still.run opened
                 ∙ sym (seen_runs last_run (λ history events all. last_run-same history events (quiet_opens events all)));

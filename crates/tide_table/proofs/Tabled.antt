@@ -16,7 +16,7 @@ use Rattle.tide_heap.specs.tide_words.heap.Heap.{SameIn, heap_of}
 use Rattle.tide_heap.specs.tide_core.machine.World.{parties}
 use Rattle.tide_heap.specs.tide_core.declared.machine.view.Role.TheVariants.{Collector, Note, Spent}
 use Rattle.tide_heap.specs.tide_core.declared.machine.view.View.{View}
-use Rattle.tide_heap.specs.tide_core.declared.machine.view.Visited.{Visited}
+use Rattle.tide_heap.specs.tide_core.declared.machine.view.NotedVisits.{NotedVisits}
 use Rattle.tide_model.proofs.Histories.{IsLawful-nil}
 use Rattle.tide_model.specs.History.{is_call_of, is_open, state_after}
 use Rattle.tide_model.specs.Lawful.{IsLawful, Stands}
@@ -27,7 +27,7 @@ use Rattle.tide_model.specs.Since.{since}
 use Rattle.tide_model.specs.declared.entry.Event.{Event}
 use Rattle.tide_table.proofs.Collectors.{freeze_all, frozen_store, frozen_mode, enter, open_next, note_in, ticket_split}
 use Rattle.tide_table.proofs.Heeding.{own}
-use Rattle.tide_heap.proofs.steps_laws.Comings.{unmoved}
+use Rattle.tide_heap.proofs.steps_laws.BeginsAndStops.{unmoved}
 use Rattle.tide_heap.proofs.Members.{knows_as, known_as, spend, few_parties}
 use Rattle.tide_table.proofs.Seating.{seat_member}
 use Rattle.tide_table.proofs.Starting.{zero_word}
@@ -142,7 +142,7 @@ module _ (layout : Layout) (shapes : ShapeLists) where
     refl,
   )
 
-  pub enters_as : (slots id : ℕ) (me : M) (event : Event) (left : List Visited) → me.0.role ≡ Collector →
+  pub enters_as : (slots id : ℕ) (me : M) (event : Event) (left : List NotedVisits) → me.0.role ≡ Collector →
       me.0.frozen ≡ true → Stands layout shapes me.0.seen event → ((p : ℕ) → is_call_of p event.entry ≡ false) →
       is_open event.entry ≡ false →
       Allows (Rule layout shapes) slots id me 0 (λ x. x)

@@ -5,7 +5,7 @@ use Rattle.std.specs.Prelude.{All, Option, if◌then◌else◌, sum}
 use Rattle.tide_heap.specs.Turns.{Freezes}
 use Rattle.tide_heap.specs.tide_core.machine.World.{first_visitor}
 use Rattle.tide_heap.specs.tide_core.declared.machine.view.View.{View}
-use Rattle.tide_heap.specs.tide_core.declared.machine.view.Visited.{Visited}
+use Rattle.tide_heap.specs.tide_core.declared.machine.view.NotedVisits.{NotedVisits}
 use Rattle.tide_model.specs.Freeze.{marks_after}
 use Rattle.tide_model.specs.Layout.{Layout}
 use Rattle.tide_model.specs.Refused.{ShapeLists}
@@ -16,17 +16,17 @@ use Rattle.tide_heap.specs.tide_words.heap.Heap.{heap_of}
 use Rattle.tide_heap.specs.tide_words.marking.Colours.{is_marking}
 
 -- what the numbers told come to
-length-visits_told : (visited : List Visited) (from count : ℕ) → length (visits_told visited from count) ≡ count
+length-visits_told : (visited : List NotedVisits) (from count : ℕ) → length (visits_told visited from count) ≡ count
 length-visits_told visited from zero = refl
 length-visits_told visited from (suc count) = ap suc (length-visits_told visited (from + 1) count)
 
-sum-visits_told : (visited : List Visited) (from count : ℕ) → sum (visits_told visited from count) ≡ visits_left visited from count
+sum-visits_told : (visited : List NotedVisits) (from count : ℕ) → sum (visits_told visited from count) ≡ visits_left visited from count
 sum-visits_told visited from zero = refl
 sum-visits_told visited from (suc count) =
     sum_by-cons (λ (k : ℕ). k) (visits_in (told_by (first_visitor + from) visited)) (visits_told visited (from + 1) count)
     ∙ ap (λ (n : ℕ). visits_in (told_by (first_visitor + from) visited) + n) (sum-visits_told visited (from + 1) count)
 
-most-visits_told : (visited : List Visited) (most from count : ℕ) →
+most-visits_told : (visited : List NotedVisits) (most from count : ℕ) →
     ((i : ℕ) → i < count → visits_in (told_by (first_visitor + (from + i)) visited) ≤ most) →
     All (λ k. k ≤ most) (visits_told visited from count)
 most-visits_told visited most from zero each = λ k d below. absurd (omega (arith, below))
@@ -42,7 +42,7 @@ most-visits_told visited most from (suc count) each = λ k d below. by
         (let same : from + 0 ≡ from = omega arith in same) (each 0 (omega arith))
     by rest (suc k) below d = rest k d (omega (arith, below))
 
-none-visits_left : (visited : List Visited) (from count : ℕ) →
+none-visits_left : (visited : List NotedVisits) (from count : ℕ) →
     ((i : ℕ) → i < count → visits_in (told_by (first_visitor + (from + i)) visited) ≤ 0) → visits_left visited from count ≡ 0
 none-visits_left visited from zero each = refl
 none-visits_left visited from (suc count) each =
@@ -54,16 +54,16 @@ none-visits_left visited from (suc count) each =
     omega (arith, rest, here)
 
 -- each visitor told no more than this
-told_most : (most count : ℕ) (visited : List Visited) → HaveTold most count visited → (i : ℕ) → i < count →
+told_most : (most count : ℕ) (visited : List NotedVisits) → HaveTold most count visited → (i : ℕ) → i < count →
     visits_in (told_by (first_visitor + (0 + i)) visited) ≤ most
 told_most most count visited has i below =
     let e = has.each i below in
     let same : i ≡ 0 + i = omega arith in
     subst (λ (n : ℕ). visits_in (told_by (first_visitor + n) visited) ≤ most) same
-    (subst (λ (o : Option Visited). visits_in o ≤ most) (sym e.2) e.1)
+    (subst (λ (o : Option NotedVisits). visits_in o ≤ most) (sym e.2) e.1)
 
 -- so what was told may be entered, if some cell was made black where there are visitors
-pub AreTold-all : (layout : Layout) (run : ℕ) (visited : List Visited) → HaveTold run layout.visitors visited →
+pub AreTold-all : (layout : Layout) (run : ℕ) (visited : List NotedVisits) → HaveTold run layout.visitors visited →
     (0 < layout.visitors → 0 < unentered visited) → AreTold layout run visited
 AreTold-all layout run visited has some = record {
   each = λ visitor below. let e = has.each visitor below in (e.0, e.2);
@@ -80,7 +80,7 @@ AreTold-all layout run visited has some = record {
 }
 
 -- and nothing is left to enter where none was to make any black
-pub unentered-none : (count : ℕ) (visited : List Visited) → HaveTold 0 count visited → unentered visited ≡ 0
+pub unentered-none : (count : ℕ) (visited : List NotedVisits) → HaveTold 0 count visited → unentered visited ≡ 0
 unentered-none count visited has = has.all ∙ none-visits_left visited 0 count (told_most 0 count visited has)
 
 -- where there are no visitors nothing has to come in

@@ -8,7 +8,7 @@ use Rattle.tide_heap.specs.tide_core.machine.Frozen.{FrozenWith}
 use Rattle.tide_heap.specs.tide_core.machine.Schedule.{visits}
 use Rattle.tide_heap.specs.tide_core.machine.World.{first_visitor}
 use Rattle.tide_heap.specs.tide_core.declared.machine.view.View.{View}
-use Rattle.tide_heap.specs.tide_core.declared.machine.view.Visited.{Visited}
+use Rattle.tide_heap.specs.tide_core.declared.machine.view.NotedVisits.{NotedVisits}
 use Rattle.tide_model.specs.declared.entry.Entry.TheVariants.{Visits}
 use Rattle.tide_model.specs.Freeze.{visits_entries}
 use Rattle.tide_model.specs.History.{plain}
@@ -20,11 +20,11 @@ use Rattle.tide_heap.specs.tide_words.heap.Heap.{heap_of}
 use Rattle.tide_heap.specs.tide_words.marking.Colours.{is_black}
 
 -- the notes of others than one
-abbrev pub without : ℕ → List Visited → List Visited
-without who visited = filter (λ (told : Visited). not (told.who == who)) visited
+abbrev pub without : ℕ → List NotedVisits → List NotedVisits
+without who visited = filter (λ (told : NotedVisits). not (told.who == who)) visited
 
 -- what stands of them
-told_by-others : (who other : ℕ) → (who ≡ other → ⊥) → (visited : List Visited) →
+told_by-others : (who other : ℕ) → (who ≡ other → ⊥) → (visited : List NotedVisits) →
     told_by other (without who visited) ≡ told_by other visited
 told_by-others who other apart [] = refl
 told_by-others who other apart (told ∷ visited) = by (told_by-others who other apart visited) (told.who == who) refl
@@ -39,10 +39,10 @@ told_by-others who other apart (told ∷ visited) = by (told_by-others who other
         (ne_eqb told.who other (λ e. apart (sym (eqb-true told.who who is) ∙ e))))
     by rest false is =
         ap (λ (b : Bool). told_by other (if not b then told ∷ without who visited else without who visited)) is
-        ∙ ap (λ (more : Option Visited). if told.who == other then Some told else more) rest
+        ∙ ap (λ (more : Option NotedVisits). if told.who == other then Some told else more) rest
 
 -- nothing stands of one's own
-told_by-none : (who : ℕ) (visited : List Visited) → told_by who (without who visited) ≡ None
+told_by-none : (who : ℕ) (visited : List NotedVisits) → told_by who (without who visited) ≡ None
 told_by-none who [] = refl
 told_by-none who (told ∷ visited) = by (told_by-none who visited) (told.who == who) refl
   where
@@ -55,7 +55,7 @@ told_by-none who (told ∷ visited) = by (told_by-none who visited) (told.who ==
         ∙ ap (λ (b : Bool). if b then Some told else told_by who (without who visited)) is ∙ rest
 
 -- no more is left of others than of all
-unentered-others : (who : ℕ) (visited : List Visited) → unentered (without who visited) ≤ unentered visited
+unentered-others : (who : ℕ) (visited : List NotedVisits) → unentered (without who visited) ≤ unentered visited
 unentered-others who [] = omega arith
 unentered-others who (told ∷ visited) = by (unentered-others who visited) (told.who == who)
   where
@@ -65,7 +65,7 @@ unentered-others who (told ∷ visited) = by (unentered-others who visited) (tol
     by less false = omega (arith, less)
 
 -- what one's note told isn't left, where the newest note is this one's or another's
-unentered-over : (who : ℕ) (visited : List Visited) → unentered (without who visited) + visits_in (told_by who visited) ≤ unentered visited
+unentered-over : (who : ℕ) (visited : List NotedVisits) → unentered (without who visited) + visits_in (told_by who visited) ≤ unentered visited
 unentered-over who [] = omega arith
 unentered-over who (told ∷ visited) = by (unentered-others who visited) (unentered-over who visited) (told.who == who)
   where
@@ -77,12 +77,12 @@ unentered-over who (told ∷ visited) = by (unentered-others who visited) (unent
     by less over false = omega (arith, over)
 
 -- what a note told isn't left, once all of its visitor are entered
-pub unentered-entered : (who : ℕ) (visited : List Visited) (told : Visited) → Contains visited told → told.who ≡ who →
+pub unentered-entered : (who : ℕ) (visited : List NotedVisits) (told : NotedVisits) → Contains visited told → told.who ≡ who →
     unentered (without who visited) + told.visits ≤ unentered visited
 unentered-entered who [] told (k, below, at) is = absurd (omega (arith, below))
 unentered-entered who (one ∷ visited) told (zero, below, at) is =
     here (unentered-others who visited) (one.who == who)
-    (eq-eqb one.who who (ap (λ (x : Visited). x.who) at ∙ is)) (ap (λ (x : Visited). x.visits) at)
+    (eq-eqb one.who who (ap (λ (x : NotedVisits). x.who) at ∙ is)) (ap (λ (x : NotedVisits). x.visits) at)
   where
     here : unentered (without who visited) ≤ unentered visited → (b : Bool) → b ≡ true → one.visits ≡ told.visits →
         unentered (if not b then one ∷ without who visited else without who visited) + told.visits
@@ -99,15 +99,15 @@ unentered-entered who (one ∷ visited) told (suc k, below, at) is =
     later less false = omega (arith, less)
 
 -- what the newest note told is told
-some_is : (one told : Visited) → Some one ≡ Some told → one ≡ told
+some_is : (one told : NotedVisits) → Some one ≡ Some told → one ≡ told
 some_is one told same = ap from same
   where
-    from : Option Visited → Visited
+    from : Option NotedVisits → NotedVisits
     from None = one
     from (Some x) = x
 
 -- a note that told is one of them
-pub told_stands : (who : ℕ) (visited : List Visited) (told : Visited) → told_by who visited ≡ Some told → Contains visited told
+pub told_stands : (who : ℕ) (visited : List NotedVisits) (told : NotedVisits) → told_by who visited ≡ Some told → Contains visited told
 told_stands who [] told is = absurd (cc)
 told_stands who (one ∷ visited) told is = by (λ later. told_stands who visited told later) (one.who == who) refl
   where
@@ -119,7 +119,7 @@ told_stands who (one ∷ visited) told is = by (λ later. told_stands who visite
         (suc k, omega (arith, below), at)
 
 -- the numbers told go on as they are
-pub AreNumbersTold-over : (who : ℕ) (numbers : List ℕ) (visited : List Visited) → AreNumbersTold numbers visited →
+pub AreNumbersTold-over : (who : ℕ) (numbers : List ℕ) (visited : List NotedVisits) → AreNumbersTold numbers visited →
     AreNumbersTold numbers (without who visited)
 AreNumbersTold-over who numbers visited are visitor told below is = by (who == first_visitor + visitor) refl
   where
@@ -132,14 +132,14 @@ AreNumbersTold-over who numbers visited are visitor told below is = by (who == f
         (eqb-false who (first_visitor + visitor) e) visited) ∙ is)
 
 -- what visitors behind one told
-visits_told-over : (visitor from count : ℕ) (visited : List Visited) → visitor < from →
+visits_told-over : (visitor from count : ℕ) (visited : List NotedVisits) → visitor < from →
     visits_told (without (first_visitor + visitor) visited) from count ≡ visits_told visited from count
 visits_told-over visitor from zero visited later = refl
 visits_told-over visitor from (suc count) visited later = λ i.
     visits_in ((told_by-others (first_visitor + visitor) (first_visitor + from) (λ e. omega (arith, e, later)) visited) i)
     ∷ (visits_told-over visitor (from + 1) count visited (omega (arith, later))) i
 
-visits_left-over : (visitor from count : ℕ) (visited : List Visited) → visitor < from →
+visits_left-over : (visitor from count : ℕ) (visited : List NotedVisits) → visitor < from →
     visits_left (without (first_visitor + visitor) visited) from count ≡ visits_left visited from count
 visits_left-over visitor from zero visited later = refl
 visits_left-over visitor from (suc count) visited later = λ i.
@@ -148,12 +148,12 @@ visits_left-over visitor from (suc count) visited later = λ i.
 
 -- Below, the visits of some visitors are left to enter: each has told and is done, and no more is left than what they
 -- told.
-pub record AreLeft (visitor count : ℕ) (visited : List Visited) : Type 0 where
+pub record AreLeft (visitor count : ℕ) (visited : List NotedVisits) : Type 0 where
   pub each : (i : ℕ) → i < count → (k : ℕ) × (told_by (first_visitor + (visitor + i)) visited
       ≡ Some (record { who = first_visitor + (visitor + i); visits = k; done = true }))
   pub all : unentered visited ≤ visits_left visited visitor count
 
-pub AreLeft-over : (visitor count : ℕ) (visited : List Visited) → AreLeft visitor (suc count) visited →
+pub AreLeft-over : (visitor count : ℕ) (visited : List NotedVisits) → AreLeft visitor (suc count) visited →
     AreLeft (visitor + 1) count (without (first_visitor + visitor) visited)
 AreLeft-over visitor count visited left = record {
   each = λ i below.
@@ -171,14 +171,14 @@ AreLeft-over visitor count visited left = record {
 }
 
 -- once none is left, nothing is
-pub AreLeft-none : (visitor : ℕ) (visited : List Visited) → AreLeft visitor 0 visited → unentered visited ≡ 0
+pub AreLeft-none : (visitor : ℕ) (visited : List NotedVisits) → AreLeft visitor 0 visited → unentered visited ≡ 0
 AreLeft-none visitor visited left = (let most = left.all in omega (arith, most))
 
 -- what entering leaves of the view, and what it adds to the history
 pub record HasEntered (v w : View) (visits : List ℕ) (visitor : ℕ) : Type 0 where
   pub seen : w.seen ≡ v.seen ++ map plain (visits_entries visitor visits)
   pub words : w.words ≡ v.words
-  pub rest : record w { seen = []; base = []; visited = [] } ≡ record v { seen = []; base = []; visited = [] }
+  pub rest : record w { seen = []; words_at_entry = []; visited = [] } ≡ record v { seen = []; words_at_entry = []; visited = [] }
 
 pub all_entered-has : (visitor count : ℕ) (v : View) →
     HasEntered v (all_entered visitor count v) (visits_told v.visited visitor count) visitor
@@ -195,7 +195,7 @@ all_entered-has visitor (suc count) v =
     }
 
 -- what notes told may all be entered
-pub AreLeft-told : (layout : Layout) (run : ℕ) (visited : List Visited) → AreTold layout run visited →
+pub AreLeft-told : (layout : Layout) (run : ℕ) (visited : List NotedVisits) → AreTold layout run visited →
     AreLeft 0 layout.visitors visited
 AreLeft-told layout run visited told = record {
   each = λ i below.
@@ -206,7 +206,7 @@ AreLeft-told layout run visited told = record {
 }
 
 -- what the next visitor told
-pub first_left : (visitor count : ℕ) (visited : List Visited) → AreLeft visitor (suc count) visited →
+pub first_left : (visitor count : ℕ) (visited : List NotedVisits) → AreLeft visitor (suc count) visited →
     (k : ℕ) × (told_by (first_visitor + visitor) visited ≡ Some (record { who = first_visitor + visitor; visits = k; done = true }))
 first_left visitor count visited left =
     let same : visitor + 0 ≡ visitor = omega arith in
@@ -234,13 +234,13 @@ pub entered_rest : (visitor count k : ℕ) (v : View) → visits_in (told_by (fi
 entered_rest visitor count k v is = ap (λ (n : ℕ). all_entered (visitor + 1) count (visits_entered visitor n v)) (sym is)
 
 -- two views that are the same but for words and entries, and in these too
-pub view_back : (u v : View) → bare u ≡ bare v → u.seen ≡ v.seen → u.words ≡ v.words → u.base ≡ v.base → u ≡ v
-view_back u v same seen words base = λ i. record (same i) { seen = seen i; words = words i; base = base i }
+pub view_back : (u v : View) → bare u ≡ bare v → u.seen ≡ v.seen → u.words ≡ v.words → u.words_at_entry ≡ v.words_at_entry → u ≡ v
+view_back u v same seen words words_at_entry = λ i. record (same i) { seen = seen i; words = words i; words_at_entry = words_at_entry i }
 
 -- the black cells are those of the last entry still
 pub all_entered-blacks : (layout : Layout) (visitor count : ℕ) (v : View) →
-    is_black (heap_of layout v.words) ≡ is_black (heap_of layout v.base) →
-    is_black (heap_of layout (all_entered visitor count v).words) ≡ is_black (heap_of layout (all_entered visitor count v).base)
+    is_black (heap_of layout v.words) ≡ is_black (heap_of layout v.words_at_entry) →
+    is_black (heap_of layout (all_entered visitor count v).words) ≡ is_black (heap_of layout (all_entered visitor count v).words_at_entry)
 all_entered-blacks layout visitor zero v same = same
 all_entered-blacks layout visitor (suc count) v same =
     all_entered-blacks layout (visitor + 1) count
@@ -253,7 +253,7 @@ pub record HasEnteredOne (layout : Layout) (shapes : ShapeLists) (visitor count 
   pub wave : FrozenWith layout shapes (heap_of layout w.words) w.seen (visits_left w.visited (visitor + 1) count)
 
 -- what is kept of the next visitor is what it told
-pub number_told : (visitor count k : ℕ) (numbers : List ℕ) (visited : List Visited) → AreLeft visitor (suc count) visited →
+pub number_told : (visitor count k : ℕ) (numbers : List ℕ) (visited : List NotedVisits) → AreLeft visitor (suc count) visited →
     AreNumbersTold numbers visited → k ≡ slice_index numbers visitor → visitor < 8 →
     told_by (first_visitor + visitor) visited ≡ Some (record { who = first_visitor + visitor; visits = k; done = true })
 number_told visitor count k numbers visited left are kept below =

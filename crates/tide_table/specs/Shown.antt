@@ -22,11 +22,11 @@ pub record Whose : Type 0 where
 pub record Besides : Type 0 where
   pub whose : Whose
   pub seen : List Event
-  pub base : List ℕ
+  pub words_at_entry : List ℕ
 
 -- the collector's view without words and history
 abbrev pub bare : View → View
-bare v = record v { seen = []; words = []; base = [] }
+bare v = record v { seen = []; words = []; words_at_entry = [] }
 
 abbrev pub whose : MutBor Collector → Layout → ShapeLists → Whose
 whose collector layout shapes = record {
@@ -42,5 +42,5 @@ abbrev pub besides : MutBor Collector → Layout → ShapeLists → Besides
 besides collector layout shapes = record {
   whose = whose collector layout shapes;
   seen = collector.now.seat.me.0.seen;
-  base = collector.now.seat.me.0.base;
+  words_at_entry = collector.now.seat.me.0.words_at_entry;
 }

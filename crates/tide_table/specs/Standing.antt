@@ -3,7 +3,7 @@ use Rattle.std.specs.Prelude.{ℕ, ◌≡◌, ◌+◌, ◌<◌, ◌≤◌, ◌^�
 use Rattle.tide_heap.specs.tide_freeze.Books.{AreBooks}
 use Rattle.tide_heap.specs.tide_freeze.Freezing.{HasFrozenWhole, HasVisited}
 use Rattle.tide_heap.specs.tide_freeze.declared.books.Books.{Books}
-use Rattle.tide_heap.specs.tide_layout.Limits.{IsWithinLimits}
+use Rattle.tide_heap.specs.tide_layout.Limits.{most_cells, IsWithinLimits}
 use Rattle.tide_heap.specs.tide_layout.Region.{word_count}
 use Rattle.tide_heap.specs.tide_layout.declared.region.Region.TheVariants.{Stopped}
 use Rattle.tide_heap.specs.tide_core.machine.Frozen.{FrozenWith, MayOpen}
@@ -37,14 +37,14 @@ pub record RunsPart (layout : Layout) (v : View) : Type 0 where
 pub record StandsStill (layout : Layout) (shapes : ShapeLists) (v : View) : Type 0 where
   pub limits : IsWithinLimits layout
   pub frozen : v.frozen ≡ true
-  pub few : v.births ≤ 20480
+  pub few : v.births ≤ most_cells
   pub period : v.period ≡ open_count v.seen
   pub run : 0 < v.period → v.run ≡ last_run v.seen
   pub long : length v.words ≡ word_count layout
   pub wave : FrozenWith layout shapes (heap_of layout v.words) v.seen (unentered v.visited)
   pub ends : Each (EndsInTime layout) v.seen
   pub stopped : SameIn layout Stopped (heap_of layout v.stood) (heap_of layout v.words)
-  pub blacks : 0 < v.period → is_black (heap_of layout v.words) ≡ is_black (heap_of layout v.base)
+  pub blacks : 0 < v.period → is_black (heap_of layout v.words) ≡ is_black (heap_of layout v.words_at_entry)
 
 -- what notes told of visits may be entered where a cycle marks, and they told of none where none does
 pub record MayEnterVisits (layout : Layout) (v : View) : Type 0 where
@@ -53,7 +53,7 @@ pub record MayEnterVisits (layout : Layout) (v : View) : Type 0 where
 
 -- two views that are the same but for words, entries and the visits that are left to enter
 abbrev pub LeavesRest : View → View → Type 0
-LeavesRest v w = record w { seen = []; words = []; base = []; visited = [] } ≡ record v { seen = []; words = []; base = []; visited = [] }
+LeavesRest v w = record w { seen = []; words = []; words_at_entry = []; visited = [] } ≡ record v { seen = []; words = []; words_at_entry = []; visited = [] }
 
 -- a part runs, its number is one of 32 bits, fewer cycles began than parts were opened, and the books go with the
 -- history up to its opening
@@ -88,7 +88,7 @@ pub record HasEnteredVisits (layout : Layout) (shapes : ShapeLists) (v w : View)
   pub entered : unentered w.visited ≡ 0
   pub words : w.words ≡ v.words
   pub rest : LeavesRest v w
-  pub blacks : 0 < v.period → is_black (heap_of layout w.words) ≡ is_black (heap_of layout w.base)
+  pub blacks : 0 < v.period → is_black (heap_of layout w.words) ≡ is_black (heap_of layout w.words_at_entry)
 
 -- A freeze did what the schedule asks for after the running part that ended, and no visits are left to enter: the heap
 -- stands still, and the next part may be opened, in which each mutator has so many calls.

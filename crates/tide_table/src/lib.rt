@@ -1,22 +1,22 @@
 //! The collector's side of the heap of shared words: it starts a heap, seats participants, freezes, opens and closes.
 //!
 //! The `Collector` hands out tickets, takes notes in, and freezes the heap once all have stopped. A `Frozen` heap is
-//! `Words`, over which marking and sweeping run, and a `HistoryWords`. The heap, its rule and the steps of participants
-//! are those of `tide_heap`, whose names this room hands on. It may touch that and `atomic_table`, knows no operation
-//! and no thread, waits for nobody and has no lock.
+//! `Words`, over which marking and sweeping run, and a `HistoryWords`. It may touch `tide_heap`, some of whose names it
+//! hands on, `atomic_table`, shapes, the schedule and the report. It knows no operation and no thread, waits for nobody
+//! and has no lock. `tide_threads` runs its parts by it, and programs of one's own have it by `tide`.
 #![tactic(auto)]
 
 pub mod laws;
 mod plays;
 mod zeros;
-// over those above it
+// these stand on those listed before
 mod collector;
-// over those above it
+// these stand on those listed before
 mod closed;
 mod frozen;
 mod opening;
 mod start;
-// over those above it
+// these stand on those listed before
 mod collecting;
 mod counting;
 mod history_words;

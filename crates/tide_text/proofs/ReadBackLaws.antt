@@ -7,7 +7,7 @@ use Rattle.std.specs.Prelude.{All, codes, decimal, option_map, slice_index_or}
 use Rattle.tide_model.specs.declared.op.Op.{Op}
 use Rattle.tide_model.specs.declared.op.Op.TheVariants.{Alloc, Table, Get, Put, Move, Set, Drop, Claim, Release, Unclaim, Add, GetProp, SetProp, StrongSet, StrongGet, WeakSet, WeakGet, PairSet, PairGet, PairDel, Group, Collect, Retire}
 use Rattle.tide_text.specs.declared.work.settings.Settings.{Settings}
-use Rattle.tide_text.specs.work.OpLimits.{OpLimits, limits_with}
+use Rattle.tide_text.specs.work.OpArguments.{OpArguments, limits_with}
 use Rattle.tide_text.specs.work.ReadOp.{register_of, key_of, one, two, three, op_named, property_op_named, handle_op_named, pair_op_named, op_of}
 use Rattle.tide_text.specs.work.Words.{is_trimmed, is_word_byte, words_in, number_of, number_below}
 use Rattle.tide_text.specs.work.Work.{AreKeys, AreSettings, IsOperation}
@@ -18,7 +18,7 @@ use Rattle.tide_text.specs.lines.OpText.{op_text}
 use Rattle.tide_text.specs.ReadBack.{AreReadBack, IsReadBack}
 
 -- a text that is a name with arguments behind it reads as what they name
-by_words : (limits : OpLimits) (op : Op) (name : List ℕ) (arguments : List (List ℕ)) → IsWord name → All IsWord arguments
+by_words : (limits : OpArguments) (op : Op) (name : List ℕ) (arguments : List (List ℕ)) → IsWord name → All IsWord arguments
     → op_named limits name arguments ≡ Some op → op_of limits (spaced name arguments) ≡ Some op
 by_words limits op name arguments is all named =
     let trimmed : is_trimmed (spaced name arguments) ≡ true = (spaced-trimmed arguments name (word-trimmed name is) all).trimmed in
@@ -41,22 +41,22 @@ name-word name is =
     record { some = ltb-true 0 (length name) some; spaceless = spaceless }
 
 -- a text of a name and no argument, or of one, two or three that are read
-by_none : (limits : OpLimits) (name : List ℕ) (op : Op) → IsName name → op_named limits name [] ≡ Some op → op_of limits name ≡ Some op
+by_none : (limits : OpArguments) (name : List ℕ) (op : Op) → IsName name → op_named limits name [] ≡ Some op → op_of limits name ≡ Some op
 by_none limits name op is named = by_words limits op name [] (name-word name is) (All-nil IsWord) named
 
-by_one : (limits : OpLimits) (name : List ℕ) {A : Type 0} (first : List ℕ → Option A) (make : A → Op) {u : List ℕ} {a : A} → IsName name
+by_one : (limits : OpArguments) (name : List ℕ) {A : Type 0} (first : List ℕ → Option A) (make : A → Op) {u : List ℕ} {a : A} → IsName name
     → Reads first u a → op_named limits name (u ∷ []) ≡ option_map make (one first (u ∷ [])) → op_of limits (spaced name (u ∷ [])) ≡ Some (make a)
 by_one limits name first make {u} {a} is one named =
     by_words limits (make a) name (u ∷ []) (name-word name is) (All-cons IsWord u [] one.word (All-nil IsWord)) (named ∙ rw one.names refl)
 
-by_two : (limits : OpLimits) (name : List ℕ) {A B : Type 0} (first : List ℕ → Option A) (second : List ℕ → Option B) (make : A × B → Op)
+by_two : (limits : OpArguments) (name : List ℕ) {A B : Type 0} (first : List ℕ → Option A) (second : List ℕ → Option B) (make : A × B → Op)
     {u v : List ℕ} {a : A} {b : B} → IsName name → Reads first u a → Reads second v b
     → op_named limits name (u ∷ v ∷ []) ≡ option_map make (two first second (u ∷ v ∷ [])) → op_of limits (spaced name (u ∷ v ∷ [])) ≡ Some (make (a, b))
 by_two limits name first second make {u} {v} {a} {b} is one other named =
     by_words limits (make (a, b)) name (u ∷ v ∷ []) (name-word name is) (All-cons IsWord u (v ∷ []) one.word (All-cons IsWord v [] other.word (All-nil IsWord)))
     (named ∙ rw (one.names, other.names) refl)
 
-by_three : (limits : OpLimits) (name : List ℕ) {A B C : Type 0} (first : List ℕ → Option A) (second : List ℕ → Option B) (third : List ℕ → Option C)
+by_three : (limits : OpArguments) (name : List ℕ) {A B C : Type 0} (first : List ℕ → Option A) (second : List ℕ → Option B) (third : List ℕ → Option C)
     (make : A × B × C → Op) {u v w : List ℕ} {a : A} {b : B} {c : C} → IsName name → Reads first u a → Reads second v b → Reads third w c
     → op_named limits name (u ∷ v ∷ w ∷ []) ≡ option_map make (three first second third (u ∷ v ∷ w ∷ []))
     → op_of limits (spaced name (u ∷ v ∷ w ∷ [])) ≡ Some (make (a, b, c))
@@ -76,13 +76,13 @@ below limit n fits within =
     record { word = decimal-word n small; names = number_below-decimal limit n within small }
 
 -- limits with numbers that fit 32 bits, and keys
-record AreNumbered (limits : OpLimits) : Type 0 where
+record AreNumbered (limits : OpArguments) : Type 0 where
   pub registers : limits.registers ≤ 2 ^ 32
   pub strong : limits.strong ≤ 2 ^ 32
   pub weak : limits.weak ≤ 2 ^ 32
   pub keys : AreKeys limits.keys
 
-module _ (limits : OpLimits) (are : AreNumbered limits) where
+module _ (limits : OpArguments) (are : AreNumbered limits) where
   register : (r : ℕ) → r < limits.registers → Reads (register_of limits) (114 ∷ decimal r) r
   register r within =
       let digits = below limits.registers r are.registers within in

@@ -1,7 +1,7 @@
 pub mod Examples
 pub mod FieldNames
 pub mod Keys
-pub mod OpLimits
+pub mod OpArguments
 pub mod ReadOp
 pub mod Words
 pub mod Work

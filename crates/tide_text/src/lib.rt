@@ -6,16 +6,17 @@
 //! that what is printed of an operation reads as that operation.
 //!
 //! It may touch what an operation is, shapes and sinks. It takes no memory for a line, and knows nothing of the
-//! document that a workload is read from. Users name it by `tide_workload`, which reads the document.
+//! document that a workload is read from. `tide_workload`, which reads that, hands its names on to `tide_run`; who
+//! wants a workload or a line and no document, as `tide_make` and `tide_snapshot`, names it itself.
 #![tactic(auto)]
 
 mod work;
-// over those above it
+// these stand on those listed before
 mod lines;
-// over those above it
+// these stand on those listed before
 mod counts;
 mod writing;
-// over those above it
+// these stand on those listed before
 mod read_back;
 mod summary;
 mod worked;
@@ -28,7 +29,7 @@ pub use lines::{
 pub use read_back::texts_read_back;
 pub use summary::{LONGEST_COUNTS, write_summary};
 pub use work::{
-    Fault, Field, Keys, MAX_KEY_BYTES, MAX_KEYS, MAX_MUTATORS, MAX_OPS, OpLimits, Settings,
+    Fault, Field, Keys, MAX_KEY_BYTES, MAX_KEYS, MAX_MUTATORS, MAX_OPS, OpArguments, Settings,
     Workload, is_key, is_trimmed, next_word, op_of,
 };
 pub use writing::{write_call, write_cycle, write_fault_line, write_live, write_mutator};

@@ -4,7 +4,7 @@
 //! no document that a workload is read from.
 
 mod line;
-// over those above it
+// these stand on those listed before
 mod call;
 mod fault;
 

@@ -8,17 +8,17 @@ mod field;
 mod keys;
 mod settings;
 mod words;
-// over those above it
+// these stand on those listed before
 mod fault;
-mod op_limits;
+mod op_arguments;
 mod workload;
-// over those above it
+// these stand on those listed before
 mod read_op;
 
 pub use fault::Fault;
 pub use field::Field;
 pub use keys::{Keys, MAX_KEY_BYTES, MAX_KEYS, is_key};
-pub use op_limits::OpLimits;
+pub use op_arguments::OpArguments;
 pub use read_op::op_of;
 pub use settings::Settings;
 pub use words::{is_trimmed, next_word};

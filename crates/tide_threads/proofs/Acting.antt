@@ -1,4 +1,4 @@
--- What the callers, the notes and the races of participants are, place by place. Mutators come first.
+-- What the cursors, the notes and the races of participants are, place by place. Mutators come first.
 use Rattle.std.proofs.Common.{ℕ, zero, suc, ◌≡◌, ◌+◌, ◌<◌, ◌≤◌, ◌∙◌, refl, sym, ap, arith, List, [], ◌∷◌, ◌++◌, length, get_or, take}
 use Rattle.std.proofs.lemmas.List.{take_more}
 use Rattle.std.proofs.lemmas.List.Elements.{Contains-append_right}
@@ -7,9 +7,9 @@ use Rattle.std.specs.Prelude.{Bool, ◌&&◌, Contains, Option, None, Some, slic
 use Rattle.crossbeam_utils.specs.Padded.{padded_value}
 use Rattle.crossbeam_utils.specs.declared.cache_padded.CachePadded.{CachePadded}
 use Rattle.tide_heap.specs.tide_core.declared.machine.view.View.{View}
-use Rattle.tide_periods.specs.declared.caller.Caller.{Caller}
+use Rattle.tide_periods.specs.declared.cursor.ScriptCursor.{ScriptCursor}
 use Rattle.tide_heap.specs.declared.steps.notes.Note.{Note}
-use Rattle.tide_threads.specs.Acting.{before_all, caller_of, callers_in, is_silent, notes_in, races_in, races_of, told_in}
+use Rattle.tide_threads.specs.Acting.{before_all, cursor_of, cursors_in, is_silent, notes_in, races_in, races_of, told_in}
 use Rattle.tide_threads.specs.declared.participant.Participant.{Participant}
 use Rattle.tide_threads.specs.declared.worker.Worker.{Worker}
 use Rattle.tide_threads.specs.declared.worker.Worker.TheVariants.{Mutator, Visitor}
@@ -18,11 +18,11 @@ before_all-append : {X : Type 0} (one : Option X) (xs ys : List X) → before_al
 before_all-append None xs ys = refl
 before_all-append (Some x) xs ys = refl
 
-pub callers_in-append : (xs ys : List (CachePadded Participant)) → callers_in (xs ++ ys) ≡ callers_in xs ++ callers_in ys
-callers_in-append [] ys = refl
-callers_in-append (x ∷ xs) ys =
-    ap (before_all (caller_of (padded_value x).worker)) (callers_in-append xs ys)
-    ∙ before_all-append (caller_of (padded_value x).worker) (callers_in xs) (callers_in ys)
+pub cursors_in-append : (xs ys : List (CachePadded Participant)) → cursors_in (xs ++ ys) ≡ cursors_in xs ++ cursors_in ys
+cursors_in-append [] ys = refl
+cursors_in-append (x ∷ xs) ys =
+    ap (before_all (cursor_of (padded_value x).worker)) (cursors_in-append xs ys)
+    ∙ before_all-append (cursor_of (padded_value x).worker) (cursors_in xs) (cursors_in ys)
 
 pub notes_in-append : (xs ys : List (CachePadded Participant)) → notes_in (xs ++ ys) ≡ notes_in xs ++ notes_in ys
 notes_in-append [] ys = refl
@@ -52,71 +52,71 @@ IsParted-none : (at : ℕ) (w : Worker) → IsParted 0 (suc at) w → IsParted 0
 IsParted-none at (Mutator x) parted = absurd (omega (arith, parted))
 IsParted-none at (Visitor x) parted = omega arith
 
--- without mutators there are no callers
-callers_in-none : (xs : List (CachePadded Participant)) → AreParted 0 xs → callers_in xs ≡ []
-callers_in-none [] parted = refl
-callers_in-none (x ∷ xs) parted = by (padded_value x).worker (parted 0 x refl)
-    (callers_in-none xs (λ at y found. IsParted-none at (padded_value y).worker (parted (suc at) y found)))
+-- without mutators there are no cursors
+cursors_in-none : (xs : List (CachePadded Participant)) → AreParted 0 xs → cursors_in xs ≡ []
+cursors_in-none [] parted = refl
+cursors_in-none (x ∷ xs) parted = by (padded_value x).worker (parted 0 x refl)
+    (cursors_in-none xs (λ at y found. IsParted-none at (padded_value y).worker (parted (suc at) y found)))
   where
-    by : (w : Worker) → IsParted 0 0 w → callers_in xs ≡ [] → before_all (caller_of w) (callers_in xs) ≡ []
+    by : (w : Worker) → IsParted 0 0 w → cursors_in xs ≡ [] → before_all (cursor_of w) (cursors_in xs) ≡ []
     by (Mutator o) near none = absurd (omega (arith, near))
     by (Visitor o) far none = none
 
--- a caller is that of the mutator at its place
-pub caller_at : (mutators : ℕ) (xs : List (CachePadded Participant)) → AreParted mutators xs → (who : ℕ) (c : Caller) →
-    slice_get (callers_in xs) who ≡ Some c →
-    (x : CachePadded Participant) × (slice_get xs who ≡ Some x) × (caller_of (padded_value x).worker ≡ Some c)
-caller_at zero xs parted who c at =
-    let none : None ≡ Some c = sym (ap (λ (l : List Caller). slice_get l who) (callers_in-none xs parted)) ∙ at in
+-- a cursor is that of the mutator at its place
+pub cursor_at : (mutators : ℕ) (xs : List (CachePadded Participant)) → AreParted mutators xs → (who : ℕ) (c : ScriptCursor) →
+    slice_get (cursors_in xs) who ≡ Some c →
+    (x : CachePadded Participant) × (slice_get xs who ≡ Some x) × (cursor_of (padded_value x).worker ≡ Some c)
+cursor_at zero xs parted who c at =
+    let none : None ≡ Some c = sym (ap (λ (l : List ScriptCursor). slice_get l who) (cursors_in-none xs parted)) ∙ at in
     absurd (cc)
-caller_at (suc mutators) [] parted who c at = absurd (cc)
-caller_at (suc mutators) (x ∷ xs) parted who c at =
+cursor_at (suc mutators) [] parted who c at = absurd (cc)
+cursor_at (suc mutators) (x ∷ xs) parted who c at =
     by (padded_value x).worker refl (parted 0 x refl) who at
-    (λ k later. caller_at mutators xs (λ p y found. IsParted-shift mutators p (padded_value y).worker (parted (suc p) y found)) k c later)
+    (λ k later. cursor_at mutators xs (λ p y found. IsParted-shift mutators p (padded_value y).worker (parted (suc p) y found)) k c later)
   where
     by : (w : Worker) → (padded_value x).worker ≡ w → IsParted (suc mutators) 0 w → (k : ℕ) →
-        slice_get (before_all (caller_of w) (callers_in xs)) k ≡ Some c →
-        ((j : ℕ) → slice_get (callers_in xs) j ≡ Some c →
-        (y : CachePadded Participant) × (slice_get xs j ≡ Some y) × (caller_of (padded_value y).worker ≡ Some c)) →
-        (y : CachePadded Participant) × (slice_get (x ∷ xs) k ≡ Some y) × (caller_of (padded_value y).worker ≡ Some c)
+        slice_get (before_all (cursor_of w) (cursors_in xs)) k ≡ Some c →
+        ((j : ℕ) → slice_get (cursors_in xs) j ≡ Some c →
+        (y : CachePadded Participant) × (slice_get xs j ≡ Some y) × (cursor_of (padded_value y).worker ≡ Some c)) →
+        (y : CachePadded Participant) × (slice_get (x ∷ xs) k ≡ Some y) × (cursor_of (padded_value y).worker ≡ Some c)
     by (Visitor o) is far k found rec = absurd (omega (arith, far))
-    by (Mutator o) is near zero found rec = (x, refl, ap caller_of is ∙ found)
+    by (Mutator o) is near zero found rec = (x, refl, ap cursor_of is ∙ found)
     by (Mutator o) is near (suc k) found rec = rec k found
 
--- and a mutator has its caller there
-pub callers_at : (mutators : ℕ) (xs : List (CachePadded Participant)) → AreParted mutators xs → (who : ℕ)
-    (x : CachePadded Participant) (c : Caller) → slice_get xs who ≡ Some x → caller_of (padded_value x).worker ≡ Some c →
-    slice_get (callers_in xs) who ≡ Some c
-callers_at mutators [] parted who x c found is = absurd (cc)
-callers_at zero (y ∷ xs) parted who x c found is = absurd (by (padded_value x).worker refl (parted who x found))
+-- and a mutator has its cursor there
+pub cursors_at : (mutators : ℕ) (xs : List (CachePadded Participant)) → AreParted mutators xs → (who : ℕ)
+    (x : CachePadded Participant) (c : ScriptCursor) → slice_get xs who ≡ Some x → cursor_of (padded_value x).worker ≡ Some c →
+    slice_get (cursors_in xs) who ≡ Some c
+cursors_at mutators [] parted who x c found is = absurd (cc)
+cursors_at zero (y ∷ xs) parted who x c found is = absurd (by (padded_value x).worker refl (parted who x found))
   where
     by : (w : Worker) → (padded_value x).worker ≡ w → IsParted 0 who w → ⊥
     by (Mutator o) same near = omega (arith, near)
-    by (Visitor o) same far = (let none : None ≡ Some c = sym (ap caller_of same) ∙ is in absurd (cc))
-callers_at (suc mutators) (y ∷ xs) parted who x c found is =
+    by (Visitor o) same far = (let none : None ≡ Some c = sym (ap cursor_of same) ∙ is in absurd (cc))
+cursors_at (suc mutators) (y ∷ xs) parted who x c found is =
     by (padded_value y).worker refl (parted 0 y refl) who found
-    (λ k later. callers_at mutators xs (λ p z at. IsParted-shift mutators p (padded_value z).worker (parted (suc p) z at)) k x c later is)
+    (λ k later. cursors_at mutators xs (λ p z at. IsParted-shift mutators p (padded_value z).worker (parted (suc p) z at)) k x c later is)
   where
     by : (w : Worker) → (padded_value y).worker ≡ w → IsParted (suc mutators) 0 w → (k : ℕ) → slice_get (y ∷ xs) k ≡ Some x →
-        ((j : ℕ) → slice_get xs j ≡ Some x → slice_get (callers_in xs) j ≡ Some c) →
-        slice_get (before_all (caller_of w) (callers_in xs)) k ≡ Some c
+        ((j : ℕ) → slice_get xs j ≡ Some x → slice_get (cursors_in xs) j ≡ Some c) →
+        slice_get (before_all (cursor_of w) (cursors_in xs)) k ≡ Some c
     by (Visitor o) same far k at rec = absurd (omega (arith, far))
     by (Mutator o) same near zero at rec =
         let here : y ≡ x = (let e : Some y ≡ Some x = at in cc) in
-        ap caller_of (sym same ∙ ap (λ (p : CachePadded Participant). (padded_value p).worker) here) ∙ is
+        ap cursor_of (sym same ∙ ap (λ (p : CachePadded Participant). (padded_value p).worker) here) ∙ is
     by (Mutator o) same near (suc k) at rec = rec k at
 
 -- there is one for each mutator
-pub callers_many : (mutators : ℕ) (xs : List (CachePadded Participant)) → AreParted mutators xs → mutators ≤ length xs →
-    length (callers_in xs) ≡ mutators
-callers_many zero xs parted within = ap length (callers_in-none xs parted)
-callers_many (suc mutators) [] parted within = absurd (omega (arith, within))
-callers_many (suc mutators) (x ∷ xs) parted within =
-    by (padded_value x).worker (parted 0 x refl) (callers_many mutators xs
+pub cursors_many : (mutators : ℕ) (xs : List (CachePadded Participant)) → AreParted mutators xs → mutators ≤ length xs →
+    length (cursors_in xs) ≡ mutators
+cursors_many zero xs parted within = ap length (cursors_in-none xs parted)
+cursors_many (suc mutators) [] parted within = absurd (omega (arith, within))
+cursors_many (suc mutators) (x ∷ xs) parted within =
+    by (padded_value x).worker (parted 0 x refl) (cursors_many mutators xs
     (λ p y found. IsParted-shift mutators p (padded_value y).worker (parted (suc p) y found)) (omega (arith, within)))
   where
-    by : (w : Worker) → IsParted (suc mutators) 0 w → length (callers_in xs) ≡ mutators →
-        length (before_all (caller_of w) (callers_in xs)) ≡ suc mutators
+    by : (w : Worker) → IsParted (suc mutators) 0 w → length (cursors_in xs) ≡ mutators →
+        length (before_all (cursor_of w) (cursors_in xs)) ≡ suc mutators
     by (Visitor o) far rest = absurd (omega (arith, far))
     by (Mutator o) near rest = ap suc rest
 
@@ -140,18 +140,18 @@ note_among (y ∷ xs) (suc at) x note found out =
     later None a = a
     later (Some v) a = Contains-append_right (v ∷ []) (notes_in xs) note.seat.me.0 a
 
--- where each makes no call any more, all callers have retired
-pub list_all-callers : (xs : List (CachePadded Participant)) →
+-- where each makes no call any more, all cursors have retired
+pub list_all-cursors : (xs : List (CachePadded Participant)) →
     list_all (λ (x : CachePadded Participant). is_silent (padded_value x).worker) xs
-    ≡ list_all (λ (caller : Caller). caller.retired) (callers_in xs)
-list_all-callers [] = refl
-list_all-callers (x ∷ xs) = by (padded_value x).worker (list_all-callers xs)
+    ≡ list_all (λ (cursor : ScriptCursor). cursor.retired) (cursors_in xs)
+list_all-cursors [] = refl
+list_all-cursors (x ∷ xs) = by (padded_value x).worker (list_all-cursors xs)
   where
     by : (w : Worker) → list_all (λ (y : CachePadded Participant). is_silent (padded_value y).worker) xs
-        ≡ list_all (λ (caller : Caller). caller.retired) (callers_in xs) →
+        ≡ list_all (λ (cursor : ScriptCursor). cursor.retired) (cursors_in xs) →
         (is_silent w && list_all (λ (y : CachePadded Participant). is_silent (padded_value y).worker) xs)
-        ≡ list_all (λ (caller : Caller). caller.retired) (before_all (caller_of w) (callers_in xs))
-    by (Mutator o) rest = ap (λ (b : Bool). o.caller.retired && b) rest
+        ≡ list_all (λ (cursor : ScriptCursor). cursor.retired) (before_all (cursor_of w) (cursors_in xs))
+    by (Mutator o) rest = ap (λ (b : Bool). o.cursor.retired && b) rest
     by (Visitor o) rest = rest
 
 -- no mutator met a race

@@ -114,7 +114,7 @@ module _ (layout : Layout) (shapes : ShapeLists) (pace : Pace) (is_forced : Bool
         table = by.table;
         is_mutator = by.is_mutator;
         number = by.number;
-        parked = IsParked-collected at o.caller.retired (view_of o.mutator) by.parked;
+        parked = IsParked-collected at o.cursor.retired (view_of o.mutator) by.parked;
       }
       worker (Visitor o) by = record {
         table = by.table;

@@ -19,13 +19,13 @@ use Rattle.tide_periods.proofs.Starting.{IsSettled-nothing}
 use Rattle.tide_periods.specs.Asking.{AreNew, Standing}
 use Rattle.tide_periods.specs.Recorded.{IsSettled, recorded_at}
 use Rattle.tide_periods.specs.Store.{Setting, blocks_in}
-use Rattle.tide_periods.specs.declared.caller.Caller.{Caller}
+use Rattle.tide_periods.specs.declared.cursor.ScriptCursor.{ScriptCursor}
 use Rattle.tide_table.proofs.Standing.{marks_still}
 use Rattle.tide_table.specs.Standing.{StandsStill}
 use Rattle.tide_table.specs.Started.{IsStarted}
 use Rattle.tide_table.specs.VisitsTold.{unentered}
-use Rattle.tide_threads.proofs.Acting.{AreParted, IsParted, callers_at}
-use Rattle.tide_threads.specs.Acting.{caller_of, callers_in}
+use Rattle.tide_threads.proofs.Acting.{AreParted, IsParted, cursors_at}
+use Rattle.tide_threads.specs.Acting.{cursor_of, cursors_in}
 use Rattle.tide_threads.specs.Fresh.{AreFresh, IsFreshWorker}
 use Rattle.tide_threads.specs.Parked.{IsParked}
 use Rattle.tide_threads.specs.Playing.{AllStandBy, WorkerStandsBy}
@@ -70,13 +70,13 @@ AreParted-fresh id mutators cells xs fresh at x found =
 module _ (id : TableId) (layout : Layout) (v : View) (none : v.seen ≡ []) where
   -- so a participant that knows nothing stands by
   worker_stands : (at : ℕ) (w : Worker) → at < layout.mutators + layout.visitors →
-      ((c : Caller) → caller_of w ≡ Some c → c.retired ≡ false) →
+      ((c : ScriptCursor) → cursor_of w ≡ Some c → c.retired ≡ false) →
       IsFreshWorker id layout.mutators (cell_count layout) at w → WorkerStandsBy id layout v at w
   worker_stands at (Mutator x) within active fresh = record {
     table = fresh.table;
     is_mutator = fresh.is_mutator;
     number = fresh.number;
-    parked = subst (λ (b : Bool). IsParked v at b (view_of x.mutator)) (sym (active x.caller refl))
+    parked = subst (λ (b : Bool). IsParked v at b (view_of x.mutator)) (sym (active x.cursor refl))
         (IsParked-newcomer v (view_of x.mutator) at none fresh.view);
   }
   worker_stands at (Visitor x) within active fresh = record {
@@ -92,9 +92,9 @@ module _ (id : TableId) (layout : Layout) (v : View) (none : v.seen ≡ []) wher
     room = (let room = fresh.room in omega (arith, room));
   }
 
-  -- all of them do at the start, each mutator with a caller that has made no call
+  -- all of them do at the start, each mutator with a cursor that has made no call
   pub AllStandBy-fresh : (xs : List (CachePadded Participant)) (scripts : List (List Op)) →
-      length xs ≡ layout.mutators + layout.visitors → AreNew (callers_in xs) scripts →
+      length xs ≡ layout.mutators + layout.visitors → AreNew (cursors_in xs) scripts →
       AreFresh id layout.mutators (cell_count layout) xs → AllStandBy id layout v xs
   AllStandBy-fresh xs scripts many are fresh = record {
     one_each = many;
@@ -102,7 +102,7 @@ module _ (id : TableId) (layout : Layout) (v : View) (none : v.seen ≡ []) wher
       worker = worker_stands at (padded_value x).worker
           (let within = slice_get_within xs at x found in omega (arith, within, many))
           (λ c is. ap (λ (s : Standing). s.retired) (are.each at c
-          (callers_at layout.mutators xs (AreParted-fresh id layout.mutators (cell_count layout) xs fresh) at x c found is)).standing)
+          (cursors_at layout.mutators xs (AreParted-fresh id layout.mutators (cell_count layout) xs fresh) at x c found is)).standing)
           (fresh at x found).worker;
       no_ticket = (fresh at x found).no_ticket;
       no_note = (fresh at x found).no_note;

@@ -1,7 +1,6 @@
 -- A mutator's part, by its view: from its ticket to its note.
-use Rattle.std.proofs.Common.{ℕ, ◌≡◌, ◌<◌, ◌∙◌, refl, sym, ap, subst, arith, Bool, true, []}
-use Rattle.std.proofs.lemmas.Bool.{ne_eqb}
-use Rattle.std.specs.Prelude.{if◌then◌else◌}
+use Rattle.std.proofs.Common.{ℕ, ◌≡◌, ◌<◌, ◌∙◌, refl, sym, ap, subst, Bool, true}
+use Rattle.tide_heap.proofs.Newcomers.{begun_view-first}
 use Rattle.tide_heap.specs.Turns.{heard_view, note_of}
 use Rattle.tide_heap.specs.tide_core.declared.machine.view.View.{View}
 use Rattle.tide_heap.specs.tide_core.machine.kinds.Activate.{begun_view}
@@ -12,7 +11,7 @@ use Rattle.tide_threads.specs.Parked.{HasBegunPart, HasPlayed}
 
 -- the first beginning in a part
 pub HasBegunPart-by : (t v u : View) → u ≡ begun_view (heard_view v t) → v.begun < t.period → HasBegunPart t v u
-HasBegunPart-by t v u is later = subst (HasBegunPart t v) (sym (is ∙ first)) (record {
+HasBegunPart-by t v u is later = subst (HasBegunPart t v) (sym (is ∙ begun_view-first v t later)) (record {
   who = refl;
   runs = refl;
   left = refl;
@@ -22,28 +21,6 @@ HasBegunPart-by t v u is later = subst (HasBegunPart t v) (sym (is ∙ first)) (
   born = refl;
   visits = refl;
 })
-  where
-    first : begun_view (heard_view v t) ≡ record (heard_view v t) {
-      runs = true;
-      begun = t.period;
-      born = 0;
-      visits = 0;
-      races = 0;
-      round = [];
-      full = [];
-      known = [];
-    }
-    first = ap (λ (b : Bool). if b then record (heard_view v t) { runs = true; round = []; full = []; known = [] }
-        else record (heard_view v t) {
-          runs = true;
-          begun = t.period;
-          born = 0;
-          visits = 0;
-          races = 0;
-          round = [];
-          full = [];
-          known = [];
-        }) (ne_eqb v.begun t.period (λ e. omega (arith, e, later)))
 
 -- what its view and its note are when it has stopped
 pub HasPlayed-stopped : (t v u0 u1 w n : View) (who : ℕ) (retired : Bool) → HasBegunPart t v u0 → kept u1 ≡ kept u0 →

@@ -1,7 +1,7 @@
 -- Participants are made one after another.
 use Rattle.std.proofs.Common.{ℕ, zero, suc, ◌≡◌, ◌∙◌, refl, sym, ap, List, [], ◌∷◌, ◌++◌, length, inl, inr, ◌⊎◌}
 use Rattle.std.specs.Prelude.{Some, slice_get}
-use Rattle.tide_periods.specs.declared.caller.Caller.{Caller}
+use Rattle.tide_periods.specs.declared.cursor.ScriptCursor.{ScriptCursor}
 
 pub length_push : {X : Type 0} (xs : List X) (x : X) → length (xs ++ x ∷ []) ≡ suc (length xs)
 length_push [] x = refl
@@ -23,10 +23,10 @@ found_pushed (first ∷ xs) x (suc k) y is = elim (found_pushed xs x k y is) [
   | inr new ↦ inr (ap suc new.0, new.1)
 ]
 
--- each caller has the number of its place
-pub number_at : (callers yielded left : List Caller) (caller : Caller) →
-    ((who : ℕ) (k : Caller) → slice_get callers who ≡ Some k → k.who ≡ who) → yielded ++ caller ∷ left ≡ callers →
-    caller.who ≡ length yielded
-number_at callers yielded left caller numbers whole =
-    numbers (length yielded) caller (ap (λ (l : List Caller). slice_get l (length yielded)) (sym whole)
-    ∙ found_at yielded caller left)
+-- each cursor has the number of its place
+pub number_at : (cursors yielded left : List ScriptCursor) (cursor : ScriptCursor) →
+    ((who : ℕ) (k : ScriptCursor) → slice_get cursors who ≡ Some k → k.who ≡ who) → yielded ++ cursor ∷ left ≡ cursors →
+    cursor.who ≡ length yielded
+number_at cursors yielded left cursor numbers whole =
+    numbers (length yielded) cursor (ap (λ (l : List ScriptCursor). slice_get l (length yielded)) (sym whole)
+    ∙ found_at yielded cursor left)

@@ -24,17 +24,17 @@ use Rattle.tide_model.specs.declared.entry.Event.{Event}
 use Rattle.tide_mutator.specs.calls.Viewed.{view_of}
 use Rattle.tide_periods.specs.Laws.{SharesMakePart, with_open}
 use Rattle.tide_periods.specs.Own.{AllTookPart, RanOwnShare, TookPart}
-use Rattle.tide_periods.specs.Part.{AreCallers, RanPartBy}
+use Rattle.tide_periods.specs.Part.{AreCursors, RanPartBy}
 use Rattle.tide_periods.specs.Recorded.{IsSettled, recorded_at}
 use Rattle.tide_periods.specs.Store.{Setting}
-use Rattle.tide_periods.specs.declared.caller.Caller.{Caller}
+use Rattle.tide_periods.specs.declared.cursor.ScriptCursor.{ScriptCursor}
 use Rattle.tide_heap.specs.declared.steps.notes.Note.{Note}
 use Rattle.tide_table.specs.Standing.{StandsStill}
-use Rattle.tide_threads.proofs.Acting.{caller_at, callers_many}
+use Rattle.tide_threads.proofs.Acting.{cursor_at, cursors_many}
 use Rattle.tide_threads.proofs.Standing.{seen_part}
 use Rattle.tide_threads.proofs.Taking.{IsTold, TookNotes}
 use Rattle.tide_threads.proofs.Turns.{AreParted-standing, Both-left, Both-right, StandsBy-frozen, TookTurn-did, mutator_in, visitor_in}
-use Rattle.tide_threads.specs.Acting.{caller_of, callers_in, has_left}
+use Rattle.tide_threads.specs.Acting.{cursor_of, cursors_in, has_left}
 use Rattle.tide_threads.specs.Playing.{AllServed, AllStandBy, Both, DidPart, GaveNote, HasDoneShare, MayHear, StandsBy, TookTurn, WasHanded}
 use Rattle.tide_threads.specs.Playing.{WorkerStandsBy, ended_by, stopped_in}
 use Rattle.tide_threads.specs.declared.participant.Participant.{Participant}
@@ -51,41 +51,41 @@ module _ (id : TableId) (layout : Layout) (shapes : ShapeLists) (v0 v1 v3 : View
   here = record { layout = layout; shapes = shapes }
 
   -- a mutator that had retired made no call
-  took_none : (who : ℕ) (w u : Worker) (c d : Caller) → u ≡ w → caller_of w ≡ Some c → caller_of u ≡ Some d →
+  took_none : (who : ℕ) (w u : Worker) (c d : ScriptCursor) → u ≡ w → cursor_of w ≡ Some c → cursor_of u ≡ Some d →
       WorkerStandsBy id layout v0 who w → WorkerStandsBy id layout v3 who u → has_left w ≡ true →
       TookPart here run v0.seen v3.seen c d false
   took_none who (Visitor o) u c d same is now by then left = absurd (cc)
   took_none who (Mutator o) u c d same is now by at_last left =
-      let of_old : o.caller ≡ c = (let e : Some o.caller ≡ Some c = is in cc) in
-      let of_new : d ≡ o.caller = (let e : Some d ≡ Some o.caller = sym now ∙ ap caller_of same in cc) in
+      let of_old : o.cursor ≡ c = (let e : Some o.cursor ≡ Some c = is in cc) in
+      let of_new : d ≡ o.cursor = (let e : Some d ≡ Some o.cursor = sym now ∙ ap cursor_of same in cc) in
       let stands : WorkerStandsBy id layout v3 who (Mutator o) = subst (WorkerStandsBy id layout v3 who) same at_last in
-      subst (λ (k : Caller). TookPart here run v0.seen v3.seen k d false) of_old
+      subst (λ (k : ScriptCursor). TookPart here run v0.seen v3.seen k d false) of_old
       (TookPart.had_retired (view_of o.mutator).mine left of_new
       (subst (λ (n : ℕ). IsOwn n v0.seen (view_of o.mutator).mine) (sym by.number) by.parked.own)
       (subst (λ (n : ℕ). IsOwn n v3.seen (view_of o.mutator).mine) (sym stands.number) stands.parked.own))
 
   -- one that hadn't made its share
-  took_share : (who : ℕ) (w u : Worker) (c d : Caller) (note : Note) (ended : Bool) → caller_of w ≡ Some c →
-      caller_of u ≡ Some d → WorkerStandsBy id layout v0 who w → WorkerStandsBy id layout v3 who u →
+  took_share : (who : ℕ) (w u : Worker) (c d : ScriptCursor) (note : Note) (ended : Bool) → cursor_of w ≡ Some c →
+      cursor_of u ≡ Some d → WorkerStandsBy id layout v0 who w → WorkerStandsBy id layout v3 who u →
       HasDoneShare id layout shapes (ticket_of v1) w u note ended → TookPart here run v0.seen v3.seen c d ended
   took_share who (Mutator o) (Mutator p) c d note ended is now by at_last did =
-      let of_old : o.caller ≡ c = (let e : Some o.caller ≡ Some c = is in cc) in
-      let of_new : p.caller ≡ d = (let e : Some p.caller ≡ Some d = now in cc) in
-      subst (λ (k : Caller). TookPart here run v0.seen v3.seen k d ended) of_old
-      (subst (λ (k : Caller). TookPart here run v0.seen v3.seen o.caller k ended) of_new
+      let of_old : o.cursor ≡ c = (let e : Some o.cursor ≡ Some c = is in cc) in
+      let of_new : p.cursor ≡ d = (let e : Some p.cursor ≡ Some d = now in cc) in
+      subst (λ (k : ScriptCursor). TookPart here run v0.seen v3.seen k d ended) of_old
+      (subst (λ (k : ScriptCursor). TookPart here run v0.seen v3.seen o.cursor k ended) of_new
       (TookPart.made_share did.seen (view_of p.mutator).seen (view_of o.mutator).mine (view_of p.mutator).mine ended
       (subst (λ (n : ℕ). IsOwn n v0.seen (view_of o.mutator).mine) (sym by.number) by.parked.own)
       (subst (λ (n : ℕ). IsOwn n v3.seen (view_of p.mutator).mine) (sym by.number) at_last.parked.own)
       at_last.parked.seen
       (subst (λ (n : ℕ). RanOwnShare here n did.seen (view_of p.mutator).seen (view_of o.mutator).mine
-      (view_of p.mutator).mine o.caller p.caller ended) (ap (λ (v : View). v.run) is_opened) did.ran)))
+      (view_of p.mutator).mine o.cursor p.cursor ended) (ap (λ (v : View). v.run) is_opened) did.ran)))
   took_share who (Visitor o) (Visitor p) c d note ended is now by at_last did = absurd (cc)
   took_share who (Mutator o) (Visitor p) c d note ended is now by at_last did = absurd did
   took_share who (Visitor o) (Mutator p) c d note ended is now by at_last did = absurd did
 
   -- one participant's part, from where it stood by to where it does again
-  pub TookPart-turn : (who : ℕ) (x y z : Participant) (c d : Caller) (stopped : Bool) → caller_of x.worker ≡ Some c →
-      caller_of z.worker ≡ Some d → StandsBy id layout v0 who x → TookTurn id layout shapes v1 x y → GaveNote y z →
+  pub TookPart-turn : (who : ℕ) (x y z : Participant) (c d : ScriptCursor) (stopped : Bool) → cursor_of x.worker ≡ Some c →
+      cursor_of z.worker ≡ Some d → StandsBy id layout v0 who x → TookTurn id layout shapes v1 x y → GaveNote y z →
       StandsBy id layout v3 who z → y.outcome ≡ Ok stopped → TookPart here run v0.seen v3.seen c d stopped
   TookPart-turn who x y z c d stopped is now by turn gave at_last served = elim (cases_Bool (has_left x.worker)) [
     | inl left ↦
@@ -186,34 +186,34 @@ module _ (id : TableId) (layout : Layout) (shapes : ShapeLists) (v0 v1 v2 v3 : V
   setting = record { layout = layout; shapes = shapes }
 
   took_part : (ended : Bool) → AllServed ys ended →
-      AllTookPart setting run v0.seen v3.seen (callers_in xs) (callers_in zs) (stopped_in ys)
+      AllTookPart setting run v0.seen v3.seen (cursors_in xs) (cursors_in zs) (stopped_in ys)
   took_part ended served = record {
-    as_many = callers_many layout.mutators zs (AreParted-standing id layout v3 zs AllStandBy-frozen)
+    as_many = cursors_many layout.mutators zs (AreParted-standing id layout v3 zs AllStandBy-frozen)
         (let many = AllStandBy-frozen.one_each in omega (arith, many))
-        ∙ sym (callers_many layout.mutators xs (AreParted-standing id layout v0 xs by) (let many = by.one_each in omega (arith, many)));
+        ∙ sym (cursors_many layout.mutators xs (AreParted-standing id layout v0 xs by) (let many = by.one_each in omega (arith, many)));
     each = λ who c d at at'.
-        let x = caller_at layout.mutators xs (AreParted-standing id layout v0 xs by) who c at in
-        let z = caller_at layout.mutators zs (AreParted-standing id layout v3 zs AllStandBy-frozen) who d at' in
+        let x = cursor_at layout.mutators xs (AreParted-standing id layout v0 xs by) who c at in
+        let z = cursor_at layout.mutators zs (AreParted-standing id layout v3 zs AllStandBy-frozen) who d at' in
         let y = Both-left GaveNote ys zs gave who z.0 z.1 in
         TookPart-turn id layout shapes v0 v1 v3 run is_opened who (padded_value x.0) (padded_value y.0) (padded_value z.0) c d
         (stopped_in ys who) x.2 z.2 (by.each who x.0 x.1) (turns.each who x.0 y.0 x.1 y.1) y.2
         (AllStandBy-frozen.each who z.0 z.1) (served.served who y.0 y.1);
   }
 
-  -- the part was run by these callers
+  -- the part was run by these cursors
   pub RanPartBy-frozen : SharesMakePart → (ended : Bool) → AllServed ys ended → IsSettled (recorded_at setting v0.seen) →
-      AreCallers (recorded_at setting v0.seen) (callers_in xs) →
-      RanPartBy (recorded_at setting v0.seen) (recorded_at setting v3.seen) run (callers_in xs) (callers_in zs) ended
+      AreCursors (recorded_at setting v0.seen) (cursors_in xs) →
+      RanPartBy (recorded_at setting v0.seen) (recorded_at setting v3.seen) run (cursors_in xs) (cursors_in zs) ended
   RanPartBy-frozen law ended served settled are =
-      subst (λ (h : List Event). RanPartBy (recorded_at setting v0.seen) (recorded_at setting h) run (callers_in xs)
-      (callers_in zs) ended) (sym whole)
+      subst (λ (h : List Event). RanPartBy (recorded_at setting v0.seen) (recorded_at setting h) run (cursors_in xs)
+      (cursors_in zs) ended) (sym whole)
       (subst (RanPartBy (recorded_at setting v0.seen) (recorded_at setting (with_open v0.seen run ++ freezes.part)) run
-      (callers_in xs) (callers_in zs)) (sym is_ended)
-      (law setting run v0.seen freezes.part (callers_in xs) (callers_in zs) (stopped_in ys) settled are
+      (cursors_in xs) (cursors_in zs)) (sym is_ended)
+      (law setting run v0.seen freezes.part (cursors_in xs) (cursors_in zs) (stopped_in ys) settled are
       (subst (IsLawful layout shapes) whole
       (subst (IsLawful layout shapes) (sym (ap (λ (x : View). x.seen) freezes.view)) freezes.wave.lawful))
       (AllPass-from_list_all (λ (e : Event). is_of_part e.entry) freezes.part freezes.of_part) freezes.taken
-      (subst (λ (h : List Event). AllTookPart setting run v0.seen h (callers_in xs) (callers_in zs) (stopped_in ys)) whole
+      (subst (λ (h : List Event). AllTookPart setting run v0.seen h (cursors_in xs) (cursors_in zs) (stopped_in ys)) whole
       (took_part ended served))))
     where
       whole : v3.seen ≡ with_open v0.seen run ++ freezes.part

@@ -20,8 +20,8 @@ use Rattle.tide_model.specs.Refused.{ShapeLists}
 use Rattle.tide_model.specs.declared.Memory.{Memory}
 use Rattle.tide_model.specs.declared.entry.Event.{Event}
 use Rattle.tide_mutator.specs.calls.Viewed.{view_of}
-use Rattle.tide_periods.specs.Asking.{IsCallerAt}
-use Rattle.tide_periods.specs.declared.caller.Caller.{Caller}
+use Rattle.tide_periods.specs.Asking.{IsCursorAt}
+use Rattle.tide_periods.specs.declared.cursor.ScriptCursor.{ScriptCursor}
 use Rattle.tide_heap.specs.declared.steps.notes.Note.{Note}
 use Rattle.tide_heap.specs.declared.steps.notes.Ticket.{Ticket}
 use Rattle.tide_table.specs.Standing.{StandsStill}
@@ -29,7 +29,7 @@ use Rattle.tide_threads.proofs.Acting.{AreParted, IsParted}
 use Rattle.tide_threads.proofs.Parking.{IsParked-left, IsParked-played}
 use Rattle.tide_threads.proofs.Taking.{IsNoted-told, IsTold, TookNotes}
 use Rattle.tide_threads.proofs.Visits.{TellsAt}
-use Rattle.tide_threads.specs.Acting.{caller_of, has_left, told_in}
+use Rattle.tide_threads.specs.Acting.{cursor_of, has_left, told_in}
 use Rattle.tide_table.specs.VisitsTold.{most_visits}
 use Rattle.tide_threads.specs.Parked.{HasLeft, HasPlayed, IsParked}
 use Rattle.tide_threads.specs.Playing.{AllStandBy, Both, DidPart, GaveNote, HasDoneShare, HasMadePart, MayBeginPart, IsTicketOf, MayHear}
@@ -120,7 +120,7 @@ module _ (id : TableId) (layout : Layout) (shapes : ShapeLists) where
   -- with a ticket of the part that was opened whoever stands by may begin it
   ready_by : (v0 v1 : View) (run at : ℕ) (w : Worker) → StandsStill layout shapes v0 → v1 ≡ opened layout run v0 →
       WorkerStandsBy id layout v0 at w →
-      ((c : Caller) → caller_of w ≡ Some c → IsCallerAt (record { layout = layout; shapes = shapes }) v0.seen c) →
+      ((c : ScriptCursor) → cursor_of w ≡ Some c → IsCursorAt (record { layout = layout; shapes = shapes }) v0.seen c) →
       has_left w ≡ false → (ticket : Ticket) → IsTicketOf id v1 ticket → MayBeginPart id layout shapes ticket w
   ready_by v0 v1 run at (Mutator x) still is_opened by knows active ticket of =
       let period : ticket.seat.me.0.period ≡ v0.period + 1 = ap (λ (v : View). v.period) of.tells
@@ -142,7 +142,7 @@ module _ (id : TableId) (layout : Layout) (shapes : ShapeLists) where
           earlier = subst (λ (h : List Event). IsPrefix v0.seen h) (sym seen) (prefix_push v0.seen (open_entry run v0));
           lawful = still.wave.lawful;
           own = subst (λ (n : ℕ). IsOwn n v0.seen (view_of x.mutator).mine) (sym by.number) by.parked.own;
-          at = knows x.caller refl;
+          at = knows x.cursor refl;
         };
       }
   ready_by v0 v1 run at (Visitor x) still is_opened by knows active ticket of =
@@ -161,8 +161,8 @@ module _ (id : TableId) (layout : Layout) (shapes : ShapeLists) where
 
   pub MayHear-opened : (v0 v1 : View) (run at : ℕ) (x : Participant) → StandsStill layout shapes v0 →
       v1 ≡ opened layout run v0 → StandsBy id layout v0 at x →
-      ((c : Caller) → caller_of x.worker ≡ Some c →
-      IsCallerAt (record { layout = layout; shapes = shapes }) v0.seen c) → MayHear id layout shapes v1 x
+      ((c : ScriptCursor) → cursor_of x.worker ≡ Some c →
+      IsCursorAt (record { layout = layout; shapes = shapes }) v0.seen c) → MayHear id layout shapes v1 x
   MayHear-opened v0 v1 run at x still is_opened by knows = record {
     no_ticket = by.no_ticket;
     ready = ready_by v0 v1 run at x.worker still is_opened by.worker knows;
@@ -351,9 +351,9 @@ module _ (id : TableId) (layout : Layout) (shapes : ShapeLists) where
         table = did.table;
         is_mutator = b.is_mutator;
         number = did.ran.who ∙ b.number;
-        parked = IsParked-played layout shapes (ticket_of v1) v2 v3 freezes (sym taken.period) at p.caller.retired (view_of p.mutator)
+        parked = IsParked-played layout shapes (ticket_of v1) v2 v3 freezes (sym taken.period) at p.cursor.retired (view_of p.mutator)
             note.seat.me.0 b.is_mutator
-            (subst (λ (n : ℕ). HasPlayed (ticket_of v1) n p.caller.retired (view_of p.mutator) note.seat.me.0) b.number did.played)
+            (subst (λ (n : ℕ). HasPlayed (ticket_of v1) n p.cursor.retired (view_of p.mutator) note.seat.me.0) b.number did.played)
             (IsNoted-told v2 (view_of p.mutator) note.seat.me.0 at (did.played.is ∙ b.number) did.played.told is);
       }
       did_by (Visitor o) (Visitor p) note ended b did is = record {

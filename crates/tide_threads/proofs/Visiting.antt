@@ -1,12 +1,9 @@
 -- A visitor's part, by its view: from its ticket to its note.
 use Rattle.std.proofs.Common.{ℕ, ◌≡◌, ◌<◌, ◌≤◌, ◌+◌, ◌-◌, ◌^◌, ◌∙◌, refl, sym, ap, subst, arith, Bool, true, []}
-use Rattle.std.proofs.lemmas.Bool.{ne_eqb}
 use Rattle.std.specs.Prelude.{if◌then◌else◌, min}
 use Rattle.atomic_table.specs.Seated.{TableId}
+use Rattle.tide_heap.proofs.Newcomers.{begun_view-first}
 use Rattle.tide_heap.specs.Turns.{heard_view}
-use Rattle.tide_heap.specs.tide_core.machine.Frozen.{newcomer}
-use Rattle.tide_heap.specs.tide_core.machine.May.{Rests}
-use Rattle.tide_heap.specs.tide_core.machine.Visiting.{FitsIn}
 use Rattle.tide_heap.specs.tide_core.declared.machine.view.View.{View}
 use Rattle.tide_heap.specs.tide_core.machine.kinds.Activate.{begun_view}
 use Rattle.tide_model.specs.Layout.{Layout}
@@ -28,7 +25,7 @@ pub record HasBegunVisits (tells v u : View) : Type 0 where
   pub begun : u.begun ≡ tells.period
 
 pub HasBegunVisits-by : (t v u : View) → u ≡ begun_view (heard_view v t) → v.begun < t.period → HasBegunVisits t v u
-HasBegunVisits-by t v u is later = subst (HasBegunVisits t v) (sym (is ∙ first)) (record {
+HasBegunVisits-by t v u is later = subst (HasBegunVisits t v) (sym (is ∙ begun_view-first v t later)) (record {
   who = refl;
   runs = refl;
   ticket = refl;
@@ -36,35 +33,6 @@ HasBegunVisits-by t v u is later = subst (HasBegunVisits t v) (sym (is ∙ first
   marks = refl;
   begun = refl;
 })
-  where
-    first : begun_view (heard_view v t) ≡ record (heard_view v t) {
-      runs = true;
-      begun = t.period;
-      born = 0;
-      visits = 0;
-      races = 0;
-      round = [];
-      full = [];
-      known = [];
-    }
-    first = ap (λ (b : Bool). if b then record (heard_view v t) { runs = true; round = []; full = []; known = [] }
-        else record (heard_view v t) {
-          runs = true;
-          begun = t.period;
-          born = 0;
-          visits = 0;
-          races = 0;
-          round = [];
-          full = [];
-          known = [];
-        }) (ne_eqb v.begun t.period (λ e. omega (arith, e, later)))
-
--- nothing that it holds is of the layout
-pub FitsIn-none : (layout : Layout) → FitsIn layout []
-FitsIn-none layout = record {
-  within = λ cell a. absurd (let below = a.1 in omega (arith, below));
-  room = omega arith;
-}
 
 -- as many visits as the part has calls for each mutator, where a cycle marks
 pub most_marking : (t : View) → t.marks ≡ true → t.run ≡ most_visits t
@@ -101,14 +69,6 @@ module _ (layout : Layout) (id : TableId) (t : View) (x y : CountingVisitor) (no
 
       same : most_visits u ≡ most_visits t
       same = λ i. if began.marks i then began.run i else 0
-
--- a newcomer holds, scans and owes nothing
-pub Rests-newcomer : (who : ℕ) → Rests (newcomer who)
-Rests-newcomer who = record {
-  held = refl;
-  scan = refl;
-  between = record { owed = refl; duty = refl; growth = refl; sweeping = refl; calls = refl };
-}
 
 -- whoever has a visitor's number is one
 pub IsVisitorOf-same : (layout : Layout) (v u : View) → u.who ≡ v.who → IsVisitorOf layout v → IsVisitorOf layout u

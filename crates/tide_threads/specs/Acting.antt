@@ -1,10 +1,10 @@
--- Who acts in a part, and what participants have: the mutators among them their callers, and each a note that is out.
+-- Who acts in a part, and what participants have: the mutators among them their cursors, and each a note that is out.
 use Rattle.std.specs.Prelude.{ℕ, ◌+◌, Bool, true, false, List, [], ◌∷◌, Option, None, Some}
 use Rattle.crossbeam_utils.specs.Padded.{padded_value}
 use Rattle.crossbeam_utils.specs.declared.cache_padded.CachePadded.{CachePadded}
 use Rattle.tide_heap.specs.Turns.{noted}
 use Rattle.tide_heap.specs.tide_core.declared.machine.view.View.{View}
-use Rattle.tide_periods.specs.declared.caller.Caller.{Caller}
+use Rattle.tide_periods.specs.declared.cursor.ScriptCursor.{ScriptCursor}
 use Rattle.tide_heap.specs.declared.steps.notes.Note.{Note}
 use Rattle.tide_threads.specs.declared.participant.Participant.{Participant}
 use Rattle.tide_threads.specs.declared.worker.Worker.{Worker}
@@ -12,18 +12,18 @@ use Rattle.tide_threads.specs.declared.worker.Worker.TheVariants.{Mutator, Visit
 
 -- who has left for good: a mutator that has retired
 abbrev pub has_left : Worker → Bool
-has_left (Mutator calling) = calling.caller.retired
+has_left (Mutator calling) = calling.cursor.retired
 has_left (Visitor counting) = false
 
 -- who makes no call any more: a mutator that has retired, and a visitor, which makes none
 abbrev pub is_silent : Worker → Bool
-is_silent (Mutator calling) = calling.caller.retired
+is_silent (Mutator calling) = calling.cursor.retired
 is_silent (Visitor counting) = true
 
--- a mutator's caller
-abbrev pub caller_of : Worker → Option Caller
-caller_of (Mutator calling) = Some calling.caller
-caller_of (Visitor counting) = None
+-- a mutator's cursor
+abbrev pub cursor_of : Worker → Option ScriptCursor
+cursor_of (Mutator calling) = Some calling.cursor
+cursor_of (Visitor counting) = None
 
 -- how many races a visitor met in all parts
 abbrev pub races_of : Worker → ℕ
@@ -35,10 +35,10 @@ abbrev pub before_all : {X : Type 0} → Option X → List X → List X
 before_all None others = others
 before_all (Some one) others = one ∷ others
 
--- the callers of some participants: those of the mutators among them, in their order
-abbrev pub callers_in : List (CachePadded Participant) → List Caller
-callers_in [] = []
-callers_in (padded ∷ others) = before_all (caller_of (padded_value padded).worker) (callers_in others)
+-- the cursors of some participants: those of the mutators among them, in their order
+abbrev pub cursors_in : List (CachePadded Participant) → List ScriptCursor
+cursors_in [] = []
+cursors_in (padded ∷ others) = before_all (cursor_of (padded_value padded).worker) (cursors_in others)
 
 -- the races that all of them met
 abbrev pub races_in : List (CachePadded Participant) → ℕ

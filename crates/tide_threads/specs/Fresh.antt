@@ -13,11 +13,11 @@ use Rattle.tide_threads.specs.declared.worker.Worker.{Worker}
 use Rattle.tide_threads.specs.declared.worker.Worker.TheVariants.{Mutator, Visitor}
 use Rattle.tide_visitor.specs.Viewed as visiting
 
--- a mutator of this table that knows nothing yet, with its caller, at a place among so many mutators
+-- a mutator of this table that knows nothing yet, with its cursor, at a place among so many mutators
 pub record IsFreshMutator (id : TableId) (mutators at : ℕ) (x : CallingMutator) : Type 0 where
   pub table : table_of x.mutator ≡ id
   pub is_mutator : at < mutators
-  pub number : x.caller.who ≡ at
+  pub number : x.cursor.who ≡ at
   pub view : view_of x.mutator ≡ newcomer at
 
 -- a visitor of this table that knows nothing yet, at a place behind so many mutators, with a stack for so many cells

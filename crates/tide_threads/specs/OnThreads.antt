@@ -4,12 +4,14 @@ use Rattle.tide_heap.specs.tide_freeze.Books.{AreBooks}
 use Rattle.tide_model.specs.Pace.{Pace}
 use Rattle.tide_periods.specs.Recorded.{Recorded, recorded_at}
 use Rattle.tide_periods.specs.Store.{Setting}
-use Rattle.tide_periods.specs.declared.caller.Caller.{Caller}
+use Rattle.tide_periods.specs.declared.cursor.ScriptCursor.{ScriptCursor}
 use Rattle.tide_report.specs.Ends.{TellsEnds}
 use Rattle.tide_sched.specs.Paces.{pace_of}
 use Rattle.tide_shape.specs.Lists.{lists_of}
+use Rattle.tide_shape.specs.declared.shapes.Shapes.{Shapes}
+use Rattle.tide_table.specs.declared.closed.Closed.{Closed}
 use Rattle.tide_table.specs.Standing.{MayEnterVisits, StandsStill}
-use Rattle.tide_threads.specs.Acting.{callers_in}
+use Rattle.tide_threads.specs.Acting.{cursors_in}
 use Rattle.tide_threads.specs.Playing.{AllStandBy}
 use Rattle.tide_threads.specs.Standing.{MayOpenPart}
 use Rattle.tide_threads.specs.declared.on_threads.OnThreads.{OnThreads}
@@ -18,13 +20,17 @@ use Rattle.tide_threads.specs.declared.on_threads.OnThreads.{OnThreads}
 abbrev pub setting_in : OnThreads → Setting
 setting_in o = record { layout = o.heap.key.layout; shapes = lists_of o.heap.key.shapes }
 
+-- what never changed of a heap that was closed
+abbrev pub setting_left : Closed Shapes → Setting
+setting_left closed = record { layout = closed.key.layout; shapes = lists_of closed.key.shapes }
+
 -- what its history tells
 abbrev pub recorded_in : OnThreads → Recorded
 recorded_in o = recorded_at (setting_in o) o.collector.seat.me.0.seen
 
 -- the mutators of a heap on threads, each by its own calls
-abbrev pub callers_on : OnThreads → List Caller
-callers_on o = callers_in o.participants.items
+abbrev pub cursors_on : OnThreads → List ScriptCursor
+cursors_on o = cursors_in o.participants.items
 
 -- how its cycles are paced
 abbrev pub pace_on : OnThreads → Pace

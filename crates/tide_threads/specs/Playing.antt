@@ -13,7 +13,7 @@ use Rattle.tide_model.specs.Refused.{ShapeLists}
 use Rattle.tide_model.specs.declared.entry.Event.{Event}
 use Rattle.tide_model.specs.declared.Memory.{Memory}
 use Rattle.tide_mutator.specs.calls.Viewed.{table_of, view_of}
-use Rattle.tide_periods.specs.Own.{IsCallerWithin, RanOwnShare}
+use Rattle.tide_periods.specs.Own.{IsCursorWithin, RanOwnShare}
 use Rattle.tide_heap.specs.declared.steps.notes.Note.{Note}
 use Rattle.tide_heap.specs.declared.steps.notes.Ticket.{Ticket}
 use Rattle.tide_threads.specs.Acting.{has_left}
@@ -26,13 +26,13 @@ use Rattle.tide_threads.specs.declared.worker.Worker.{Worker}
 use Rattle.tide_threads.specs.declared.worker.Worker.TheVariants.{Mutator, Visitor}
 use Rattle.tide_visitor.specs.Viewed as visiting
 
--- Between two parts the mutator at this place of the participants is of this table and parked, and its caller is its
+-- Between two parts the mutator at this place of the participants is of this table and parked, and its cursor is its
 -- own. Mutators come first, in the order of their numbers.
 pub record MutatorStandsBy (id : TableId) (layout : Layout) (collector : View) (at : ℕ) (x : CallingMutator) : Type 0 where
   pub table : table_of x.mutator ≡ id
   pub is_mutator : at < layout.mutators
-  pub number : x.caller.who ≡ at
-  pub parked : IsParked collector at x.caller.retired (view_of x.mutator)
+  pub number : x.cursor.who ≡ at
+  pub parked : IsParked collector at x.cursor.retired (view_of x.mutator)
 
 -- Between two parts the visitor at this place is of this table and stands still, and its stack has room for each cell.
 -- Visitors come after the mutators, in the order of their numbers.
@@ -74,7 +74,7 @@ pub record WasHanded (id : TableId) (collector : View) (x y : Participant) : Typ
   pub left : has_left x.worker ≡ true → y.ticket ≡ x.ticket
   pub ticket : has_left x.worker ≡ false → (ticket : Ticket) × (y.ticket ≡ Some ticket) × IsTicketOf id collector ticket
 
--- A mutator may begin its part with this ticket: the ticket is of a later part than its last one, and its caller knows
+-- A mutator may begin its part with this ticket: the ticket is of a later part than its last one, and its cursor knows
 -- of it what the ticket tells of the history.
 pub record MayBeginShare (id : TableId) (layout : Layout) (shapes : ShapeLists) (ticket : Ticket) (x : CallingMutator)
     : Type 0 where
@@ -85,10 +85,10 @@ pub record MayBeginShare (id : TableId) (layout : Layout) (shapes : ShapeLists) 
   pub stays : (view_of x.mutator).left ≡ false
   pub period : (view_of x.mutator).period < ticket.seat.me.0.period
   pub begun : (view_of x.mutator).begun < ticket.seat.me.0.period
-  pub number : x.caller.who ≡ (view_of x.mutator).who
-  pub active : x.caller.retired ≡ false
-  pub knows : IsCallerWithin (record { layout = layout; shapes = shapes }) ticket.seat.me.0.seen (view_of x.mutator).mine
-      x.caller
+  pub number : x.cursor.who ≡ (view_of x.mutator).who
+  pub active : x.cursor.retired ≡ false
+  pub knows : IsCursorWithin (record { layout = layout; shapes = shapes }) ticket.seat.me.0.seen (view_of x.mutator).mine
+      x.cursor
 
 -- whoever acts, a mutator or a visitor, may begin its part with this ticket
 abbrev pub MayBeginPart : TableId → Layout → ShapeLists → Ticket → Worker → Type 0
@@ -105,10 +105,10 @@ pub record HasMadeShare (id : TableId) (layout : Layout) (shapes : ShapeLists) (
     (note : Note) (ended : Bool) : Type 0 where
   pub table : table_of y.mutator ≡ id
   pub of_heap : note.seat.table_id ≡ id
-  pub played : HasPlayed ticket x.caller.who y.caller.retired (view_of y.mutator) note.seat.me.0
+  pub played : HasPlayed ticket x.cursor.who y.cursor.retired (view_of y.mutator) note.seat.me.0
   pub seen : List Event
   pub ran : RanOwnShare (record { layout = layout; shapes = shapes }) ticket.run seen (view_of y.mutator).seen
-      (view_of x.mutator).mine (view_of y.mutator).mine x.caller y.caller ended
+      (view_of x.mutator).mine (view_of y.mutator).mine x.cursor y.cursor ended
 
 -- a visitor did its part, and never stops before that is over
 pub record HasDoneVisits (id : TableId) (ticket : View) (x y : CountingVisitor) (note : Note) (ended : Bool) : Type 0 where

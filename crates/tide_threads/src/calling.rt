@@ -10,7 +10,7 @@ ghost use Rattle.tide_threads.specs.Playing.{HasMadeShare, MayBeginShare};
 use crate::share::make_share;
 use tide_model::{Memory, Turnstile};
 use tide_mutator::Mutator;
-use tide_periods::Caller;
+use tide_periods::ScriptCursor;
 use tide_shape::Shapes;
 use tide_table::{Heap, Note, Pass, Ticket};
 
@@ -21,11 +21,11 @@ pub(crate) struct Played {
     pub(crate) note: Note,
 }
 
-/// A mutator with its caller, which says what it asks for.
+/// A mutator with its cursor, which says what it asks for.
 #[derive(Drop)]
 pub struct CallingMutator {
     pub(crate) mutator: Mutator,
-    pub(crate) caller: Caller,
+    pub(crate) cursor: ScriptCursor,
 }
 
 /// Begins a part with its ticket.
@@ -45,32 +45,32 @@ fn begin(mutator: &mut Mutator, heap: &Heap<Shapes>, ticket: Ticket)
 }
 
 impl CallingMutator {
-    /// The mutator with this pass, which has made no call yet, and its caller.
-    pub(crate) fn new(pass: Pass, caller: Caller) -> CallingMutator
-        requires newcomer { pass.seat.me.0 ≡ newcomer caller.who }
+    /// The mutator with this pass, which has made no call yet, and its cursor.
+    pub(crate) fn new(pass: Pass, cursor: ScriptCursor) -> CallingMutator
+        requires newcomer { pass.seat.me.0 ≡ newcomer cursor.who }
         ensures table { table_of result.mutator ≡ pass.seat.table_id }
-        ensures view { view_of result.mutator ≡ newcomer caller.who }
-        ensures caller { result.caller ≡ caller }
+        ensures view { view_of result.mutator ≡ newcomer cursor.who }
+        ensures cursor { result.cursor ≡ cursor }
     {
         CallingMutator {
             mutator: Mutator::new(pass),
-            caller,
+            cursor,
         }
     }
 
-    /// Its caller, when all is run.
-    pub(crate) fn into_caller(self) -> Caller
-        ensures { result ≡ self.caller }
+    /// Its cursor, when all is run.
+    pub(crate) fn into_cursor(self) -> ScriptCursor
+        ensures { result ≡ self.cursor }
     {
-        let CallingMutator { mutator: _, caller } = self;
-        caller
+        let CallingMutator { mutator: _, cursor } = self;
+        cursor
     }
 
     /// Begins a part with its ticket, makes its share of calls, and stops.
     pub(crate) fn play<T: Turnstile>(
         &mut self,
         heap: &Heap<Shapes>,
-        gate: &T,
+        turnstile: &T,
         ticket: Ticket,
     ) -> Result<Played, Memory>
         requires ready { MayBeginShare heap.now.table.shared.table_id heap.now.key.layout (lists_of heap.now.key.shapes)
@@ -80,7 +80,7 @@ impl CallingMutator {
     {
         let run = ticket.run();
         begin(&mut self.mutator, heap, ticket);
-        let ended = make_share(&mut self.mutator, heap, gate, &mut self.caller, run)?;
+        let ended = make_share(&mut self.mutator, heap, turnstile, &mut self.cursor, run)?;
         let note = self.mutator.stop(heap);
         Ok(Played { ended, note })
     }

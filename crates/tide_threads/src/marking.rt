@@ -27,7 +27,7 @@ pub struct CountingVisitor {
 fn visit_part<T: Turnstile>(
     visitor: &mut Visitor,
     heap: &Heap<Shapes>,
-    gate: &T,
+    turnstile: &T,
     run: u32,
     marks: bool,
 )
@@ -47,7 +47,7 @@ fn visit_part<T: Turnstile>(
     ensures room { stack_room_of visitor.new ≡ stack_room_of visitor.old }
 {
     if marks {
-        visitor.drain(heap, run, gate);
+        visitor.drain(heap, run, turnstile);
     }
 }
 
@@ -72,7 +72,7 @@ impl CountingVisitor {
     pub(crate) fn play<T: Turnstile>(
         &mut self,
         heap: &Heap<Shapes>,
-        gate: &T,
+        turnstile: &T,
         ticket: Ticket,
     ) -> Note
         requires ready { MayBeginVisits heap.now.table.shared.table_id heap.now.key.layout ticket self.old }
@@ -81,7 +81,7 @@ impl CountingVisitor {
         let run = ticket.run();
         let marks = ticket.marking();
         self.visitor.begin(heap, ticket);
-        visit_part(&mut self.visitor, heap, gate, run, marks);
+        visit_part(&mut self.visitor, heap, turnstile, run, marks);
         let note = self.visitor.stop(heap);
         let met = u64::from(self.visitor.deferred());
         self.deferred = self.deferred.saturating_add(met);

@@ -1,27 +1,27 @@
-//! `OnThreads`: what a run stands on, a heap with its mutators and visitors, each of which acts on a thread of its own.
-ghost use Rattle.std.specs.Prelude.{◌≡◌, ◌-◌, ◌^◌, ◌<◌, ◌+◌, ◌++◌, ◌∷◌, ◌⊎◌, ℕ, [], All, IfOk, OnOk, Some, length, map, min, slice_get, true};
+//! `OnThreads`: what a run stands on, a heap with its mutators and visitors, which act on threads.
+ghost use Rattle.std.specs.Prelude.{◌≡◌, ◌-◌, ◌^◌, ◌<◌, ◌+◌, ◌++◌, ◌∷◌, ◌⊎◌, ℕ, [], All, IfOk, OnErr, OnOk, Some, length, map, min, slice_get, true};
 ghost use Rattle.std.specs.List.{list_all};
 ghost use Rattle.atomic_table.specs.Seated.{TableId};
 ghost use Rattle.crossbeam_utils.specs.Padded.{padded_value};
 ghost use Rattle.crossbeam_utils.specs.declared.cache_padded.CachePadded.{CachePadded};
 ghost use Rattle.tide_model.specs.Cycle.{live_count};
 ghost use Rattle.tide_periods.specs.Asking.{scripts_of, IsAskable};
-ghost use Rattle.tide_periods.specs.Part.{AreCallers, RanPartBy};
+ghost use Rattle.tide_periods.specs.Part.{AreCursors, RanPartBy};
 ghost use Rattle.tide_periods.specs.Periods.{RanFreeze};
 ghost use Rattle.tide_periods.specs.Recorded.{IsSettled};
-ghost use Rattle.tide_periods.specs.declared.caller.Caller.{Caller};
+ghost use Rattle.tide_periods.specs.declared.cursor.ScriptCursor.{ScriptCursor};
 ghost use Rattle.tide_report.specs.Ends.{TellsEnds};
 ghost use Rattle.tide_retained.specs.Contents.{HasKeysOf};
 ghost use Rattle.tide_retained.specs.Holding.{IsSnapshotOf};
 ghost use Rattle.tide_shape.specs.Lists.{lists_of};
 ghost use Rattle.tide_table.specs.Started.{ArePasses};
-ghost use Rattle.tide_threads.specs.Acting.{before_all, caller_of, callers_in, is_silent, races_in};
+ghost use Rattle.tide_threads.specs.Acting.{before_all, cursor_of, cursors_in, is_silent, races_in};
 ghost use Rattle.tide_threads.specs.Fresh.{AreFresh};
-ghost use Rattle.tide_threads.specs.OnThreads.{callers_on, pace_on, recorded_in, setting_in};
+ghost use Rattle.tide_threads.specs.OnThreads.{cursors_on, pace_on, recorded_in, setting_in, setting_left};
 ghost use Rattle.tide_threads.specs.OnThreads.{MayEnterOn, MayOpenOn, Stands};
 ghost use Rattle.tide_threads.specs.declared.participant.Participant.{Participant};
 
-use crate::living::{count_live, snapshot_of};
+use crate::contents::{count_live, snapshot_of};
 use crate::part::run_whole_part;
 use crate::participant::Participant;
 use crate::worker::Worker;
@@ -31,7 +31,7 @@ use std::marker::Sync;
 use std::thread::Threads;
 use tide_heap::{Books, GreyList, Layout};
 use tide_model::{Memory, Op, Turnstile};
-use tide_periods::{Answered, Caller, Room, callers_of};
+use tide_periods::{Answered, Room, ScriptCursor, cursors_of};
 use tide_report::Report;
 use tide_sched::Pacing;
 use tide_shape::Shapes;
@@ -70,27 +70,28 @@ fn append<T: Drop>(list: &mut Vec<T>, item: T) -> Result<(), Memory>
     Ok(())
 }
 
-/// A participant for each mutator's pass, with its caller, in a list that is empty yet.
+/// A participant for each mutator's pass, with its cursor, in a list that is empty yet.
 fn seat_mutators(
     participants: &mut Vec<CachePadded<Participant>>,
     passes: Vec<Pass>,
-    callers: Vec<Caller>,
+    cursors: Vec<ScriptCursor>,
 ) -> Result<(), Memory>
     requires none { participants.old.items ≡ [] }
-    requires as_many { length callers.items ≡ length passes.items }
+    requires as_many { length cursors.items ≡ length passes.items }
     requires passes { (id : TableId) × ArePasses id 0 passes.items }
-    requires numbers { (who : ℕ) (caller : Caller) → slice_get callers.items who ≡ Some caller → caller.who ≡ who }
-    ensures callers { OnOk result (callers_in participants.new.items ≡ callers.items) }
+    requires numbers { (who : ℕ) (cursor : ScriptCursor) →
+        slice_get cursors.items who ≡ Some cursor → cursor.who ≡ who }
+    ensures cursors { OnOk result (cursors_in participants.new.items ≡ cursors.items) }
     ensures one_each { OnOk result (length participants.new.items ≡ length passes.items) }
     ensures fresh { OnOk result ((id : TableId) (cells : ℕ) → ArePasses id 0 passes.items →
         AreFresh id (length passes.items) cells participants.new.items) }
 {
     let mut rest = passes.into_iter();
-    for caller in callers {
+    for cursor in cursors {
         let Some(pass) = rest.next() else {
             unreachable!()
         };
-        let participant = Participant::of_mutator(pass, caller);
+        let participant = Participant::of_mutator(pass, cursor);
         append(participants, CachePadded::new(participant))?;
     }
     Ok(())
@@ -104,7 +105,7 @@ fn seat_visitors(
     cells: u32,
 ) -> Result<(), Memory>
     requires passes { (id : TableId) × ArePasses id 16 passes.items }
-    ensures callers { OnOk result (callers_in participants.new.items ≡ callers_in participants.old.items) }
+    ensures cursors { OnOk result (cursors_in participants.new.items ≡ cursors_in participants.old.items) }
     ensures one_each { OnOk result (length participants.new.items ≡ length participants.old.items + length passes.items) }
     ensures fresh { OnOk result ((id : TableId) → ArePasses id 16 passes.items →
         AreFresh id (length participants.old.items) cells participants.old.items →
@@ -118,25 +119,26 @@ fn seat_visitors(
     Ok(())
 }
 
-/// A participant for each mutator, with its caller, and then one for each visitor, with a stack for so many cells.
+/// A participant for each mutator, with its cursor, and then one for each visitor, with a stack for so many cells.
 fn participants_of(
     alloc: Global,
     mutators: Vec<Pass>,
-    callers: Vec<Caller>,
+    cursors: Vec<ScriptCursor>,
     visitors: Vec<Pass>,
     cells: u32,
 ) -> Result<Vec<CachePadded<Participant>>, Memory>
-    requires as_many { length callers.items ≡ length mutators.items }
+    requires as_many { length cursors.items ≡ length mutators.items }
     requires passes { (id : TableId) × ArePasses id 0 mutators.items × ArePasses id 16 visitors.items }
-    requires numbers { (who : ℕ) (caller : Caller) → slice_get callers.items who ≡ Some caller → caller.who ≡ who }
+    requires numbers { (who : ℕ) (cursor : ScriptCursor) →
+        slice_get cursors.items who ≡ Some cursor → cursor.who ≡ who }
     requires few { length mutators.items + length visitors.items < 2 ^ 32 }
-    ensures callers { IfOk result (λ made. callers_in made.items ≡ callers.items) }
+    ensures cursors { IfOk result (λ made. cursors_in made.items ≡ cursors.items) }
     ensures one_each { IfOk result (λ made. length made.items ≡ length mutators.items + length visitors.items) }
     ensures fresh { IfOk result (λ made. (id : TableId) → ArePasses id 0 mutators.items →
         ArePasses id 16 visitors.items → AreFresh id (length mutators.items) cells made.items) }
 {
-    let mut participants = with_room(alloc, callers.len() + visitors.len())?;
-    seat_mutators(&mut participants, mutators, callers)?;
+    let mut participants = with_room(alloc, cursors.len() + visitors.len())?;
+    seat_mutators(&mut participants, mutators, cursors)?;
     seat_visitors(alloc, &mut participants, visitors, cells)?;
     Ok(participants)
 }
@@ -144,10 +146,10 @@ fn participants_of(
 /// Puts the calls of who acted at the end, if it is a mutator.
 fn append_calls(calls: &mut Vec<Vec<Answered>>, worker: Worker) -> Result<(), Memory>
     ensures { OnOk result (map (λ own. own.items) calls.new.items ≡ map (λ own. own.items) calls.old.items
-        ++ map (λ caller. caller.calls.items) (before_all (caller_of worker) [])) }
+        ++ map (λ cursor. cursor.calls.items) (before_all (cursor_of worker) [])) }
 {
-    match worker.into_caller() {
-        Some(caller) => append(calls, caller.into_calls()),
+    match worker.into_cursor() {
+        Some(cursor) => append(calls, cursor.into_calls()),
         None => Ok(()),
     }
 }
@@ -159,7 +161,7 @@ fn calls_of_each(
 ) -> Result<Vec<Vec<Answered>>, Memory>
     requires { list.items ≡ [] }
     ensures { IfOk result (λ calls. map (λ own. own.items) calls.items
-        ≡ map (λ caller. caller.calls.items) (callers_in participants.items)) }
+        ≡ map (λ cursor. cursor.calls.items) (cursors_in participants.items)) }
 {
     let mut calls = list;
     for padded in participants {
@@ -211,14 +213,14 @@ impl OnThreads {
         ensures setting { IfOk result (λ new. setting_in new ≡ record { layout = layout; shapes = lists_of shapes }) }
         ensures nothing { IfOk result (λ new. (recorded_in new).history ≡ []) }
         ensures stands { IfOk result Stands }
-        ensures callers { IfOk result (λ new. AreCallers (recorded_in new) (callers_on new)) }
-        ensures scripts { IfOk result (λ new. scripts_of (callers_on new) ≡ map (λ ops. ops.items) scripts.items) }
+        ensures cursors { IfOk result (λ new. AreCursors (recorded_in new) (cursors_on new)) }
+        ensures scripts { IfOk result (λ new. scripts_of (cursors_on new) ≡ map (λ ops. ops.items) scripts.items) }
         ensures pacing { IfOk result (λ new. new.books.pacing ≡ pacing) }
         ensures opens { IfOk result (λ new. (run : ℕ) → MayOpenOn new run) }
     {
         prove!(layout.mutators() <= 16);
         let calls = with_room(alloc, scripts.len())?;
-        let callers = callers_of(alloc, scripts)?;
+        let cursors = cursors_of(alloc, scripts)?;
         let freed = capped(room.births).saturating_add(2 * layout.cells());
         let books = Books::new(alloc, &layout, pacing, capped(room.ends), freed)?;
         let cells = layout.cells();
@@ -228,7 +230,7 @@ impl OnThreads {
             mutators,
             visitors,
         } = Start::new(alloc, layout, shapes)?;
-        let participants = participants_of(alloc, mutators, callers, visitors, cells)?;
+        let participants = participants_of(alloc, mutators, cursors, visitors, cells)?;
         Ok(OnThreads {
             heap,
             collector,
@@ -239,28 +241,30 @@ impl OnThreads {
     }
 
     /// Opens a part in which each mutator has `run` calls, and each visitor as many visits if a cycle marks, and has it
-    /// played. Answers whether a mutator stopped before its share was over.
+    /// played on so many threads at most. Answers whether a mutator stopped before its share was over.
     pub(crate) fn run_part<R: Threads + Sync, T: Turnstile>(
         &mut self,
         rt: &R,
-        gate: &T,
+        threads: usize,
+        turnstile: &T,
         run: u32,
     ) -> Result<bool, Memory>
         requires settled { IsSettled (recorded_in self.old) }
         requires stands { Stands self.old }
-        requires callers { AreCallers (recorded_in self.old) (callers_on self.old) }
+        requires cursors { AreCursors (recorded_in self.old) (cursors_on self.old) }
         requires few { (recorded_in self.old).parts < 2 ^ 32 - 1 }
         requires opens { MayOpenOn self.old run }
         ensures ran { IfOk result (RanPartBy (recorded_in self.old) (recorded_in self.new) run
-            (callers_on self.old) (callers_on self.new)) }
+            (cursors_on self.old) (cursors_on self.new)) }
         ensures stands { OnOk result (Stands self.new) }
         ensures visits { OnOk result (MayEnterOn self.new) }
         ensures pacing { OnOk result (self.new.books.pacing ≡ self.old.books.pacing) }
     {
         let ended = run_whole_part(
             rt,
+            threads,
             &self.heap,
-            gate,
+            turnstile,
             &mut self.collector,
             self.participants.as_mut_slice(),
             &mut self.books,
@@ -271,13 +275,13 @@ impl OnThreads {
 
     /// Whether each mutator has retired.
     pub(crate) fn are_all_retired(&self) -> bool
-        ensures { result ≡ list_all (λ caller. caller.retired) (callers_on self.now) }
+        ensures { result ≡ list_all (λ cursor. cursor.retired) (cursors_on self.now) }
     {
         have_retired(self.participants.as_slice())
     }
 
     /// Freezes after a part, and does what the schedule asks for. Answers how many calls each mutator has in the next
-    /// part.
+    /// part. Without memory for the report nothing was done.
     pub(crate) fn freeze(&mut self, is_forced: bool) -> Result<u32, Memory>
         requires settled { IsSettled (recorded_in self.old) }
         requires stands { Stands self.old }
@@ -285,10 +289,11 @@ impl OnThreads {
         requires room { (recorded_in self.old).cycles < 2 ^ 60 }
         requires visits { MayEnterOn self.old }
         ensures ran { IfOk result (RanFreeze (recorded_in self.old) (recorded_in self.new) (pace_on self.old) is_forced) }
-        ensures stands { OnOk result (Stands self.new) }
-        ensures pacing { OnOk result (self.new.books.pacing ≡ self.old.books.pacing) }
-        ensures callers { OnOk result (callers_on self.new ≡ callers_on self.old) }
+        ensures stands { Stands self.new }
+        ensures pacing { self.new.books.pacing ≡ self.old.books.pacing }
+        ensures cursors { cursors_on self.new ≡ cursors_on self.old }
         ensures opens { IfOk result (MayOpenOn self.new) }
+        ensures untouched { OnErr result (recorded_in self.new ≡ recorded_in self.old) }
     {
         let next = self
             .collector
@@ -301,7 +306,7 @@ impl OnThreads {
         requires stands { Stands self.old }
         ensures live { result ≡ live_count (setting_in self.old).layout (recorded_in self.old).state }
         ensures same { recorded_in self.new ≡ recorded_in self.old }
-        ensures callers { callers_on self.new ≡ callers_on self.old }
+        ensures cursors { cursors_on self.new ≡ cursors_on self.old }
         ensures stands { Stands self.new }
     {
         count_live(&self.heap, &mut self.collector)
@@ -313,7 +318,7 @@ impl OnThreads {
         ensures snapshot { IfOk result (IsSnapshotOf (setting_in self.old).layout (recorded_in self.old).state) }
         ensures keys { IfOk result (HasKeysOf (setting_in self.old).shapes) }
         ensures same { recorded_in self.new ≡ recorded_in self.old }
-        ensures callers { callers_on self.new ≡ callers_on self.old }
+        ensures cursors { cursors_on self.new ≡ cursors_on self.old }
         ensures stands { Stands self.new }
     {
         snapshot_of(alloc, &self.heap, &mut self.collector)
@@ -330,13 +335,14 @@ impl OnThreads {
 
     /// Closes a heap whose mutators have all retired: its history, the report of the cycles that ended, and each
     /// mutator's calls.
-    pub(crate) fn finish(self) -> Result<(Closed, Report, Vec<Vec<Answered>>), Memory>
+    pub(crate) fn finish(self) -> Result<(Closed<Shapes>, Report, Vec<Vec<Answered>>), Memory>
         requires stands { Stands self }
-        requires retired { list_all (λ caller. caller.retired) (callers_on self) ≡ true }
+        requires retired { list_all (λ cursor. cursor.retired) (cursors_on self) ≡ true }
         ensures history { IfOk result (λ left. left.0.seat.me.0.seen ≡ (recorded_in self).history) }
+        ensures heap { IfOk result (λ left. setting_left left.0 ≡ setting_in self) }
         ensures report { IfOk result (λ left. TellsEnds (setting_in self).layout (recorded_in self).history left.1) }
         ensures calls { IfOk result (λ left.
-            map (λ own. own.items) left.2.items ≡ map (λ caller. caller.calls.items) (callers_on self)) }
+            map (λ own. own.items) left.2.items ≡ map (λ cursor. cursor.calls.items) (cursors_on self)) }
     {
         let OnThreads {
             heap,

@@ -3,7 +3,7 @@ ghost use Rattle.std.specs.Prelude.{◌≡◌, ◌<◌, ◌+◌, ℕ, [], IfOk, 
 ghost use Rattle.tide_heap.specs.tide_core.machine.Frozen.{newcomer};
 ghost use Rattle.tide_heap.specs.tide_core.machine.World.{first_visitor};
 ghost use Rattle.tide_shape.specs.Lists.{lists_of};
-ghost use Rattle.tide_threads.specs.Acting.{caller_of};
+ghost use Rattle.tide_threads.specs.Acting.{cursor_of};
 ghost use Rattle.tide_threads.specs.Fresh.{IsFresh};
 ghost use Rattle.tide_threads.specs.Playing.{DidPart, HasMadePart, MayBeginPart, MayPlay};
 
@@ -12,7 +12,7 @@ use crate::marking::CountingVisitor;
 use crate::worker::Worker;
 use tide_heap::GreyList;
 use tide_model::{Memory, Turnstile};
-use tide_periods::Caller;
+use tide_periods::ScriptCursor;
 use tide_shape::Shapes;
 use tide_table::{Heap, Note, Pass, Ticket};
 
@@ -40,14 +40,14 @@ impl Participant {
         }
     }
 
-    /// The mutator with this pass, which has made no call yet, and its caller.
-    pub(crate) fn of_mutator(pass: Pass, caller: Caller) -> Participant
-        requires newcomer { pass.seat.me.0 ≡ newcomer caller.who }
-        ensures fresh { (mutators cells : ℕ) → caller.who < mutators →
-            IsFresh pass.seat.table_id mutators cells caller.who result }
-        ensures caller { caller_of result.worker ≡ Some caller }
+    /// The mutator with this pass, which has made no call yet, and its cursor.
+    pub(crate) fn of_mutator(pass: Pass, cursor: ScriptCursor) -> Participant
+        requires newcomer { pass.seat.me.0 ≡ newcomer cursor.who }
+        ensures fresh { (mutators cells : ℕ) → cursor.who < mutators →
+            IsFresh pass.seat.table_id mutators cells cursor.who result }
+        ensures cursor { cursor_of result.worker ≡ Some cursor }
     {
-        Participant::new(Worker::Mutator(CallingMutator::new(pass, caller)))
+        Participant::new(Worker::Mutator(CallingMutator::new(pass, cursor)))
     }
 
     /// The visitor with this pass and this stack, which has visited nothing yet.
@@ -56,7 +56,7 @@ impl Participant {
         requires empty { stack.cells ≡ [] }
         ensures fresh { (mutators visitor : ℕ) → pass.seat.me.0 ≡ newcomer (first_visitor + visitor) →
             IsFresh pass.seat.table_id mutators stack.cap (mutators + visitor) result }
-        ensures no_caller { caller_of result.worker ≡ None }
+        ensures no_cursor { cursor_of result.worker ≡ None }
     {
         Participant::new(Worker::Visitor(CountingVisitor::new(pass, stack)))
     }
@@ -78,7 +78,7 @@ impl Participant {
     fn play<T: Turnstile>(
         &mut self,
         heap: &Heap<Shapes>,
-        gate: &T,
+        turnstile: &T,
         ticket: Ticket,
     ) -> Result<bool, Memory>
         requires ready { MayBeginPart heap.now.table.shared.table_id heap.now.key.layout (lists_of heap.now.key.shapes)
@@ -87,13 +87,13 @@ impl Participant {
             (lists_of heap.now.key.shapes) ticket.seat.me.0 self.old.worker self.new) }
         ensures ticket { self.new.ticket ≡ self.old.ticket }
     {
-        let Played { ended, note } = self.worker.play(heap, gate, ticket)?;
+        let Played { ended, note } = self.worker.play(heap, turnstile, ticket)?;
         self.note = Some(note);
         Ok(ended)
     }
 
     /// Its part: nothing, where it has no ticket.
-    pub(crate) fn play_part<T: Turnstile>(&mut self, heap: &Heap<Shapes>, gate: &T)
+    pub(crate) fn play_part<T: Turnstile>(&mut self, heap: &Heap<Shapes>, turnstile: &T)
         requires may { MayPlay heap.now.table.shared.table_id heap.now.key.layout (lists_of heap.now.key.shapes)
             self.old }
         ensures did { DidPart heap.now.table.shared.table_id heap.now.key.layout (lists_of heap.now.key.shapes)
@@ -103,6 +103,6 @@ impl Participant {
             self.outcome = Ok(false);
             return;
         };
-        self.outcome = self.play(heap, gate, ticket);
+        self.outcome = self.play(heap, turnstile, ticket);
     }
 }

@@ -1,4 +1,4 @@
-//! A part on threads: each participant does its part on one of its own. It opens no part and freezes none.
+//! A part on threads: each participant does its part on one of them. It opens no part and freezes none.
 ghost use Rattle.std.specs.Prelude.{◌≡◌, ℕ, All, IfOk, Some, false, slice_get};
 ghost use Rattle.crossbeam_utils.specs.Padded.{padded_value};
 ghost use Rattle.crossbeam_utils.specs.declared.cache_padded.CachePadded.{CachePadded};
@@ -17,21 +17,23 @@ use tide_shape::Shapes;
 use tide_table::{Collector, Heap};
 
 /// One participant's part.
-fn play_one<T: Turnstile>(padded: &mut CachePadded<Participant>, heap: &Heap<Shapes>, gate: &T)
+fn play_one<T: Turnstile>(padded: &mut CachePadded<Participant>, heap: &Heap<Shapes>, turnstile: &T)
     requires may { MayPlay heap.now.table.shared.table_id heap.now.key.layout (lists_of heap.now.key.shapes)
         (padded_value padded.old) }
     ensures did { DidPart heap.now.table.shared.table_id heap.now.key.layout (lists_of heap.now.key.shapes)
         (padded_value padded.old) (padded_value padded.new) }
 {
     let participant: &mut Participant = padded;
-    participant.play_part(heap, gate);
+    participant.play_part(heap, turnstile);
 }
 
-/// The part of each participant, on as many threads as there are participants.
+/// The part of each participant, on as many threads as there are participants, and on no more than so many. Those of
+/// one thread do their parts in turn.
 fn play_all<R: Threads + Sync, T: Turnstile>(
     rt: &R,
+    threads: usize,
     heap: &Heap<Shapes>,
-    gate: &T,
+    turnstile: &T,
     participants: &mut [CachePadded<Participant>],
 )
     requires may { All (λ padded. MayPlay heap.now.table.shared.table_id heap.now.key.layout
@@ -44,13 +46,13 @@ fn play_all<R: Threads + Sync, T: Turnstile>(
         thread::for_each_mut(
             rt,
             participants,
-            count,
+            count.min(threads.max(1)),
             &|_, padded|
                 requires { MayPlay heap.now.table.shared.table_id heap.now.key.layout (lists_of heap.now.key.shapes)
                     (padded_value padded.old) }
                 ensures { DidPart heap.entry.now.table.shared.table_id heap.entry.now.key.layout
                     (lists_of heap.entry.now.key.shapes) (padded_value padded.old) (padded_value padded.new) }
-            { play_one(padded, heap, gate) },
+            { play_one(padded, heap, turnstile) },
         );
     }
 }
@@ -72,8 +74,9 @@ fn have_ended(participants: &[CachePadded<Participant>]) -> Result<bool, Memory>
 /// was over.
 pub(crate) fn play_part<R: Threads + Sync, T: Turnstile>(
     rt: &R,
+    threads: usize,
     heap: &Heap<Shapes>,
-    gate: &T,
+    turnstile: &T,
     collector: &mut Collector,
     participants: &mut [CachePadded<Participant>],
 ) -> Result<bool, Memory>
@@ -89,6 +92,6 @@ pub(crate) fn play_part<R: Threads + Sync, T: Turnstile>(
     ensures served { IfOk result (AllServed participants.new) }
 {
     hand_out(collector, heap, participants);
-    play_all(rt, heap, gate, participants);
+    play_all(rt, threads, heap, turnstile, participants);
     have_ended(participants)
 }

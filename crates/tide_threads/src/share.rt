@@ -1,4 +1,4 @@
-//! A mutator's share of a part: its caller is asked for each call, which is made and replied. It knows no other
+//! A mutator's share of a part: its cursor is asked for each call, which is made and replied. It knows no other
 //! mutator.
 ghost use Rattle.std.specs.Prelude.{◌≡◌, ◌≤◌, ◌<◌, ◌+◌, [], IfOk, false};
 ghost use Rattle.tide_mutator.specs.owed.Standing.{claims_of};
@@ -7,18 +7,23 @@ ghost use Rattle.tide_model.specs.Lawful.{FitsLayout};
 ghost use Rattle.tide_model.specs.Script.{is_retire};
 ghost use Rattle.tide_model.specs.declared.op.Op.TheVariants.{Retire};
 ghost use Rattle.tide_mutator.specs.calls.Viewed.{table_of, view_of};
-ghost use Rattle.tide_periods.specs.Own.{IsCallerWithin, RanOwnShare};
+ghost use Rattle.tide_periods.specs.Own.{IsCursorWithin, RanOwnShare};
 ghost use Rattle.tide_shape.specs.Lists.{lists_of};
 ghost use Rattle.tide_threads.specs.Works.{room_of, same_of, IsWorking};
 
 use tide_model::{Memory, Op, Reply, Turnstile};
 use tide_mutator::Mutator;
-use tide_periods::Caller;
+use tide_periods::ScriptCursor;
 use tide_shape::Shapes;
 use tide_table::Heap;
 
 /// Makes a call, or retires, and answers it. The turnstile is met at each of its places.
-fn make_call<T: Turnstile>(mutator: &mut Mutator, heap: &Heap<Shapes>, gate: &T, op: Op) -> Reply
+fn make_call<T: Turnstile>(
+    mutator: &mut Mutator,
+    heap: &Heap<Shapes>,
+    turnstile: &T,
+    op: Op,
+) -> Reply
     requires own { table_of mutator.old ≡ heap.now.table.shared.table_id }
     requires works { IsWorking heap.now.key.layout (view_of mutator.old) false }
     requires room { 0 < room_of (view_of mutator.old) }
@@ -31,41 +36,41 @@ fn make_call<T: Turnstile>(mutator: &mut Mutator, heap: &Heap<Shapes>, gate: &T,
     ensures room { room_of (view_of mutator.old) ≤ room_of (view_of mutator.new) + 1 }
 {
     match op {
-        Op::Retire => mutator.retire(heap, gate),
-        _ => mutator.call(heap, op, gate),
+        Op::Retire => mutator.retire(heap, turnstile),
+        _ => mutator.call(heap, op, turnstile),
     }
 }
 
 /// Makes a mutator's calls of a part: `run`, or fewer where it retires or stops. Answers whether it stopped. It waits
-/// for nobody but the turnstile, which each call meets at its places. Memory is wanted for the caller's list of calls
+/// for nobody but the turnstile, which each call meets at its places. Memory is wanted for the cursor's list of calls
 /// alone.
 pub fn make_share<T: Turnstile>(
     mutator: &mut Mutator,
     heap: &Heap<Shapes>,
-    gate: &T,
-    caller: &mut Caller,
+    turnstile: &T,
+    cursor: &mut ScriptCursor,
     run: u32,
 ) -> Result<bool, Memory>
     requires own { table_of mutator.old ≡ heap.now.table.shared.table_id }
-    requires number { caller.old.who ≡ (view_of mutator.old).who }
-    requires works { IsWorking heap.now.key.layout (view_of mutator.old) caller.old.retired }
+    requires number { cursor.old.who ≡ (view_of mutator.old).who }
+    requires works { IsWorking heap.now.key.layout (view_of mutator.old) cursor.old.retired }
     requires room { run ≤ room_of (view_of mutator.old) }
-    requires knows { IsCallerWithin (record { layout = heap.now.key.layout; shapes = lists_of heap.now.key.shapes })
-        (view_of mutator.old).seen (view_of mutator.old).mine caller.old }
+    requires knows { IsCursorWithin (record { layout = heap.now.key.layout; shapes = lists_of heap.now.key.shapes })
+        (view_of mutator.old).seen (view_of mutator.old).mine cursor.old }
     ensures ran { IfOk result (RanOwnShare
         (record { layout = heap.now.key.layout; shapes = lists_of heap.now.key.shapes }) run
         (view_of mutator.old).seen (view_of mutator.new).seen (view_of mutator.old).mine (view_of mutator.new).mine
-        caller.old caller.new) }
-    ensures works { IfOk result (λ ended. IsWorking heap.now.key.layout (view_of mutator.new) caller.new.retired) }
+        cursor.old cursor.new) }
+    ensures works { IfOk result (λ ended. IsWorking heap.now.key.layout (view_of mutator.new) cursor.new.retired) }
     ensures same { same_of mutator.new ≡ same_of mutator.old }
 {
     for _made in 0..run {
-        if caller.has_retired() {
+        if cursor.has_retired() {
             return Ok(false);
         }
-        let op = caller.next(mutator.claims());
-        let reply = make_call(mutator, heap, gate, op);
-        if caller.take(op, reply)? {
+        let op = cursor.next(mutator.claims());
+        let reply = make_call(mutator, heap, turnstile, op);
+        if cursor.take(op, reply)? {
             return Ok(true);
         }
     }

@@ -1,13 +1,13 @@
 //! `Worker`: who acts in a part, a mutator with what it asks for, or a visitor. It knows no other.
 ghost use Rattle.std.specs.Prelude.{◌≡◌, IfOk};
 ghost use Rattle.tide_shape.specs.Lists.{lists_of};
-ghost use Rattle.tide_threads.specs.Acting.{caller_of, has_left, is_silent, races_of};
+ghost use Rattle.tide_threads.specs.Acting.{cursor_of, has_left, is_silent, races_of};
 ghost use Rattle.tide_threads.specs.Playing.{HasDoneShare, MayBeginPart};
 
 use crate::calling::{CallingMutator, Played};
 use crate::marking::CountingVisitor;
 use tide_model::{Memory, Turnstile};
-use tide_periods::Caller;
+use tide_periods::ScriptCursor;
 use tide_shape::Shapes;
 use tide_table::{Heap, Ticket};
 
@@ -26,7 +26,7 @@ impl Worker {
         ensures { result ≡ has_left self.now }
     {
         match self {
-            Worker::Mutator(calling) => calling.caller.has_retired(),
+            Worker::Mutator(calling) => calling.cursor.has_retired(),
             Worker::Visitor(_) => false,
         }
     }
@@ -36,7 +36,7 @@ impl Worker {
         ensures { result ≡ is_silent self.now }
     {
         match self {
-            Worker::Mutator(calling) => calling.caller.has_retired(),
+            Worker::Mutator(calling) => calling.cursor.has_retired(),
             Worker::Visitor(_) => true,
         }
     }
@@ -51,12 +51,12 @@ impl Worker {
         }
     }
 
-    /// A mutator's caller, when all is run.
-    pub(crate) fn into_caller(self) -> Option<Caller>
-        ensures { result ≡ caller_of self }
+    /// A mutator's cursor, when all is run.
+    pub(crate) fn into_cursor(self) -> Option<ScriptCursor>
+        ensures { result ≡ cursor_of self }
     {
         match self {
-            Worker::Mutator(calling) => Some(calling.into_caller()),
+            Worker::Mutator(calling) => Some(calling.into_cursor()),
             Worker::Visitor(_) => None,
         }
     }
@@ -65,7 +65,7 @@ impl Worker {
     pub(crate) fn play<T: Turnstile>(
         &mut self,
         heap: &Heap<Shapes>,
-        gate: &T,
+        turnstile: &T,
         ticket: Ticket,
     ) -> Result<Played, Memory>
         requires ready { MayBeginPart heap.now.table.shared.table_id heap.now.key.layout (lists_of heap.now.key.shapes)
@@ -74,9 +74,9 @@ impl Worker {
             (lists_of heap.now.key.shapes) ticket.seat.me.0 self.old self.new played.note played.ended) }
     {
         match self {
-            Worker::Mutator(calling) => calling.play(heap, gate, ticket),
+            Worker::Mutator(calling) => calling.play(heap, turnstile, ticket),
             Worker::Visitor(counting) => {
-                let note = counting.play(heap, gate, ticket);
+                let note = counting.play(heap, turnstile, ticket);
                 Ok(Played { ended: false, note })
             }
         }

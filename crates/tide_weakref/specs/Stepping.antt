@@ -74,7 +74,8 @@ LetsStand layout v u = (jobs : Jobs) → HasHeldJobs layout v jobs → HoldsNow 
 -- so it does where a weak handle isn't in use
 abbrev pub LetsStandApart : Layout → ℕ → View → View → Type 0
 LetsStandApart layout handle v u = (jobs : Jobs) →
-    ((one : Weak) → Contains jobs.uses one → handle_of jobs one ≢ handle) → HasHeldJobs layout v jobs → HoldsNow layout u jobs
+    ((one : Weak) → Contains jobs.uses one → handle_of jobs one ≢ handle) → HasHeldJobs layout v jobs →
+    HoldsNow layout u jobs
 
 -- What a realm's weak handles tell of targets stays: one that is gone is gone afterwards, and one that the scratch
 -- register holds isn't, if it wasn't before.
@@ -109,8 +110,8 @@ pub record WasLoaded (layout : Layout) (v u : View) (scratch handle : ℕ) (foun
       × (event.entry ≡ Call v.who (WeakGet scratch handle) (Seen value))
 
 -- A weak handle was set to what a register held, and read into the scratch register. Where the handle is one of a
--- realm's that no other mutator sets, the cell that is answered is the one that the register held, and the handle stands
--- for it.
+-- realm's that no other mutator sets, the cell that is answered is the one that the register held, and the handle
+-- stands for it.
 pub record WasAimed (layout : Layout) (v u : View) (scratch handle src : ℕ) (found : Option ℕ) : Type 0 where
   pub scratch_has : IfSome found (λ cell. held_in layout u scratch ≡ Cell cell)
   pub found_is : (jobs : Jobs) → IsIn jobs.weak handle → OthersSpare v.who jobs u.seen →

@@ -30,7 +30,7 @@ fn first_gone<S: ShapeTable, T: Turnstile>(
     heap: &Heap<S>,
     scratch: u8,
     weaks: &Weaks,
-    gate: &T,
+    turnstile: &T,
 ) -> Option<usize>
     requires running { IsRunning heap.now.table.shared.table_id heap.now.key.layout mutator.old }
     requires register { scratch < heap.now.key.layout.registers }
@@ -46,14 +46,14 @@ fn first_gone<S: ShapeTable, T: Turnstile>(
         (λ place. (one : WeakIs) × (held : ℕ) × (token : ℕ)
         × IsFirstGone (works.view_of mutator.old) (works.view_of mutator.new) jobs place one held token) }
 {
-    prove!(heap.layout().weak() <= 256);
+    prove!(heap.layout().weak() <= 65_535);
     for place in 0..weaks.count() {
         let one = weaks.used(place);
         if held_of(one.role).is_none() {
             continue;
         }
         let handle = weaks.handles.first + one.at;
-        let Some(_) = load(mutator, heap, scratch, handle, gate) else {
+        let Some(_) = load(mutator, heap, scratch, handle, turnstile) else {
             return Some(place);
         };
     }
@@ -69,7 +69,7 @@ impl Realm {
         src: u8,
         held: u32,
         token: u32,
-        gate: &T,
+        turnstile: &T,
     ) -> Result<(), WeakRefused>
         requires ready { IsReady heap.now.table.shared.table_id heap.now.key.layout self.old }
         requires register { (src < heap.now.key.layout.registers) × (src ≢ (jobs_of self.old).scratch) }
@@ -85,13 +85,13 @@ impl Realm {
         ensures refused { IfErr result (λ _. jobs_of self.new ≡ jobs_of self.old) }
     {
         let Some(at) = self.weaks.next() else {
-            return Err(self.refuse(heap, src, gate));
+            return Err(self.refuse(heap, src, turnstile));
         };
-        prove!(heap.layout().weak() <= 256);
+        prove!(heap.layout().weak() <= 65_535);
         let scratch = self.scratch;
         let handle = self.weaks.handles.first + at;
-        let Some(target) = aim(&mut self.mutator, heap, scratch, handle, src, gate) else {
-            let_go(&mut self.mutator, heap, scratch, gate);
+        let Some(target) = aim(&mut self.mutator, heap, scratch, handle, src, turnstile) else {
+            let_go(&mut self.mutator, heap, scratch, turnstile);
             return Err(WeakRefused::NotCell { reg: src });
         };
         self.weaks.add(Weak {
@@ -99,7 +99,7 @@ impl Realm {
             target,
             role: Role::Registration { held, token },
         });
-        let_go(&mut self.mutator, heap, scratch, gate);
+        let_go(&mut self.mutator, heap, scratch, turnstile);
         Ok(())
     }
 
@@ -118,7 +118,11 @@ impl Realm {
     }
 
     /// Takes out the first registration whose target is gone, and answers its held value.
-    pub fn deliver<S: ShapeTable, T: Turnstile>(&mut self, heap: &Heap<S>, gate: &T) -> Option<u32>
+    pub fn deliver<S: ShapeTable, T: Turnstile>(
+        &mut self,
+        heap: &Heap<S>,
+        turnstile: &T,
+    ) -> Option<u32>
         requires ready { IsReady heap.now.table.shared.table_id heap.now.key.layout self.old }
         ensures worked { HasWorked heap.now.table.shared.table_id heap.now.key.layout (S.lists heap.now.key.shapes)
             self.old self.new }
@@ -129,8 +133,14 @@ impl Realm {
         ensures answers { IsDelivered (view_of self.old) (view_of self.new) (jobs_of self.old) (jobs_of self.new)
             result }
     {
-        let found = first_gone(&mut self.mutator, heap, self.scratch, &self.weaks, gate);
-        let_go(&mut self.mutator, heap, self.scratch, gate);
+        let found = first_gone(
+            &mut self.mutator,
+            heap,
+            self.scratch,
+            &self.weaks,
+            turnstile,
+        );
+        let_go(&mut self.mutator, heap, self.scratch, turnstile);
         let Some(place) = found else {
             return None;
         };

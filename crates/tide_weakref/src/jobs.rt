@@ -25,7 +25,7 @@ fn empty<S: ShapeTable, T: Turnstile>(
     heap: &Heap<S>,
     scratch: u8,
     handles: Range16,
-    gate: &T,
+    turnstile: &T,
 )
     requires running { IsRunning heap.now.table.shared.table_id heap.now.key.layout mutator.old }
     requires register { scratch < heap.now.key.layout.registers }
@@ -42,7 +42,7 @@ fn empty<S: ShapeTable, T: Turnstile>(
         IsBare heap.now.key.layout (works.view_of mutator.old) scratch → (place : ℕ) → place < handles.count →
         (state_after heap.now.key.layout (works.view_of mutator.new).seen).strong (handles.first + place) ≡ Empty }
 {
-    prove!(heap.layout().strong() <= 256);
+    prove!(heap.layout().strong() <= 65_535);
     for place in 0..handles.count {
         step(
             mutator,
@@ -51,7 +51,7 @@ fn empty<S: ShapeTable, T: Turnstile>(
                 at: handles.first + place,
                 val: scratch,
             },
-            gate,
+            turnstile,
         );
     }
 }
@@ -66,7 +66,12 @@ impl Realm {
     }
 
     /// Keeps the cell that the scratch register holds.
-    pub(crate) fn keep<S: ShapeTable, T: Turnstile>(&mut self, heap: &Heap<S>, cell: u32, gate: &T)
+    pub(crate) fn keep<S: ShapeTable, T: Turnstile>(
+        &mut self,
+        heap: &Heap<S>,
+        cell: u32,
+        turnstile: &T,
+    )
         requires running { IsRunning heap.now.table.shared.table_id heap.now.key.layout self.old.mutator }
         requires holds { HoldsNow heap.now.key.layout (view_of self.old) (jobs_of self.old) }
         requires held { held_in heap.now.key.layout (view_of self.old) (jobs_of self.old).scratch ≡ IsCell cell }
@@ -82,18 +87,18 @@ impl Realm {
         if self.kept.has(cell) {
             return;
         }
-        prove!(heap.layout().strong() <= 256);
+        prove!(heap.layout().strong() <= 65_535);
         let at = self.kept.next();
         let set = Op::StrongSet {
             at,
             val: self.scratch,
         };
-        step(&mut self.mutator, heap, set, gate);
+        step(&mut self.mutator, heap, set, turnstile);
         self.kept.add(cell);
     }
 
     /// Ends the job: no cell is kept any more.
-    pub fn end_job<S: ShapeTable, T: Turnstile>(&mut self, heap: &Heap<S>, gate: &T)
+    pub fn end_job<S: ShapeTable, T: Turnstile>(&mut self, heap: &Heap<S>, turnstile: &T)
         requires ready { IsReady heap.now.table.shared.table_id heap.now.key.layout self.old }
         ensures worked { HasWorked heap.now.table.shared.table_id heap.now.key.layout (S.lists heap.now.key.shapes)
             self.old self.new }
@@ -109,7 +114,7 @@ impl Realm {
             first: self.kept.handles.first,
             count: self.kept.count(),
         };
-        empty(&mut self.mutator, heap, self.scratch, handles, gate);
+        empty(&mut self.mutator, heap, self.scratch, handles, turnstile);
         self.kept.clear();
     }
 }

@@ -32,7 +32,7 @@ impl Realm {
         &mut self,
         heap: &Heap<S>,
         src: u8,
-        gate: &T,
+        turnstile: &T,
     ) -> WeakRefused
         requires ready { IsReady heap.now.table.shared.table_id heap.now.key.layout self.old }
         requires register { (src < heap.now.key.layout.registers) × (src ≢ (jobs_of self.old).scratch) }
@@ -50,11 +50,11 @@ impl Realm {
             src,
             slot: 0,
         };
-        let reply = step(&mut self.mutator, heap, get, gate);
+        let reply = step(&mut self.mutator, heap, get, turnstile);
         if refuses_no_cell(reply) {
             return WeakRefused::NotCell { reg: src };
         }
-        let_go(&mut self.mutator, heap, self.scratch, gate);
+        let_go(&mut self.mutator, heap, self.scratch, turnstile);
         WeakRefused::RefsFull
     }
 
@@ -63,7 +63,7 @@ impl Realm {
         &mut self,
         heap: &Heap<S>,
         src: u8,
-        gate: &T,
+        turnstile: &T,
     ) -> Result<u32, WeakRefused>
         requires ready { IsReady heap.now.table.shared.table_id heap.now.key.layout self.old }
         requires register { (src < heap.now.key.layout.registers) × (src ≢ (jobs_of self.old).scratch) }
@@ -80,17 +80,17 @@ impl Realm {
         ensures refused { IfErr result (λ _. jobs_of self.new ≡ jobs_of self.old) }
     {
         let Some(at) = self.weaks.next() else {
-            return Err(self.refuse(heap, src, gate));
+            return Err(self.refuse(heap, src, turnstile));
         };
-        prove!(heap.layout().weak() <= 256);
+        prove!(heap.layout().weak() <= 65_535);
         let scratch = self.scratch;
         let handle = self.weaks.handles.first + at;
-        let Some(target) = aim(&mut self.mutator, heap, scratch, handle, src, gate) else {
-            let_go(&mut self.mutator, heap, scratch, gate);
+        let Some(target) = aim(&mut self.mutator, heap, scratch, handle, src, turnstile) else {
+            let_go(&mut self.mutator, heap, scratch, turnstile);
             return Err(WeakRefused::NotCell { reg: src });
         };
         if !self.may_keep(target) {
-            let_go(&mut self.mutator, heap, scratch, gate);
+            let_go(&mut self.mutator, heap, scratch, turnstile);
             return Err(WeakRefused::KeptFull);
         }
         self.weaks.add(Weak {
@@ -98,8 +98,8 @@ impl Realm {
             target,
             role: Role::Reference,
         });
-        self.keep(heap, target, gate);
-        let_go(&mut self.mutator, heap, scratch, gate);
+        self.keep(heap, target, turnstile);
+        let_go(&mut self.mutator, heap, scratch, turnstile);
         Ok(u32::from(at))
     }
 
@@ -110,7 +110,7 @@ impl Realm {
         heap: &Heap<S>,
         r: u32,
         dst: u8,
-        gate: &T,
+        turnstile: &T,
     ) -> Result<Val, WeakRefused>
         requires ready { IsReady heap.now.table.shared.table_id heap.now.key.layout self.old }
         requires made { IsReference (jobs_of self.old) r }
@@ -127,27 +127,27 @@ impl Realm {
         ensures refused { IfErr result (λ _. (jobs_of self.new ≡ jobs_of self.old)
             × (held_in heap.now.key.layout (view_of self.new) ≡ held_in heap.now.key.layout (view_of self.old))) }
     {
-        prove!(heap.layout().weak() <= 256);
+        prove!(heap.layout().weak() <= 65_535);
         let scratch = self.scratch;
         let at = r as u16;
         let handle = self.weaks.handles.first + at;
-        let Some(cell) = load(&mut self.mutator, heap, scratch, handle, gate) else {
-            step(&mut self.mutator, heap, Op::Drop { dst }, gate);
-            let_go(&mut self.mutator, heap, scratch, gate);
+        let Some(cell) = load(&mut self.mutator, heap, scratch, handle, turnstile) else {
+            step(&mut self.mutator, heap, Op::Drop { dst }, turnstile);
+            let_go(&mut self.mutator, heap, scratch, turnstile);
             return Ok(Val::Empty);
         };
         if !self.may_keep(cell) {
-            let_go(&mut self.mutator, heap, scratch, gate);
+            let_go(&mut self.mutator, heap, scratch, turnstile);
             return Err(WeakRefused::KeptFull);
         }
-        self.keep(heap, cell, gate);
+        self.keep(heap, cell, turnstile);
         step(
             &mut self.mutator,
             heap,
             Op::Move { dst, src: scratch },
-            gate,
+            turnstile,
         );
-        let_go(&mut self.mutator, heap, scratch, gate);
+        let_go(&mut self.mutator, heap, scratch, turnstile);
         Ok(Val::Cell(cell))
     }
 

@@ -30,7 +30,7 @@ pub(crate) fn step<S: ShapeTable, T: Turnstile>(
     mutator: &mut Mutator,
     heap: &Heap<S>,
     op: Op,
-    gate: &T,
+    turnstile: &T,
 ) -> Reply
     requires running { IsRunning heap.now.table.shared.table_id heap.now.key.layout mutator.old }
     requires fits { FitsLayout heap.now.key.layout op }
@@ -40,7 +40,7 @@ pub(crate) fn step<S: ShapeTable, T: Turnstile>(
     ensures makes { MakesCall heap.now.key.layout (S.lists heap.now.key.shapes) (view_of mutator.old).who op result
         (view_of mutator.old).seen (view_of mutator.new).seen (view_of mutator.old).mine (view_of mutator.new).mine }
 {
-    mutator.call(heap, op, gate)
+    mutator.call(heap, op, turnstile)
 }
 
 /// Empties the scratch register.
@@ -48,7 +48,7 @@ pub(crate) fn let_go<S: ShapeTable, T: Turnstile>(
     mutator: &mut Mutator,
     heap: &Heap<S>,
     scratch: u8,
-    gate: &T,
+    turnstile: &T,
 )
     requires running { IsRunning heap.now.table.shared.table_id heap.now.key.layout mutator.old }
     requires register { scratch < heap.now.key.layout.registers }
@@ -59,7 +59,7 @@ pub(crate) fn let_go<S: ShapeTable, T: Turnstile>(
     ensures others { SameBut heap.now.key.layout scratch (view_of mutator.old) (view_of mutator.new) }
     ensures targets { TellsTargets heap.now.key.layout (view_of mutator.old) (view_of mutator.new) }
 {
-    step(mutator, heap, Op::Drop { dst: scratch }, gate);
+    step(mutator, heap, Op::Drop { dst: scratch }, turnstile);
 }
 
 /// Reads a weak handle into the scratch register, and answers the cell that it holds.
@@ -68,7 +68,7 @@ pub(crate) fn load<S: ShapeTable, T: Turnstile>(
     heap: &Heap<S>,
     scratch: u8,
     handle: u16,
-    gate: &T,
+    turnstile: &T,
 ) -> Option<u32>
     requires running { IsRunning heap.now.table.shared.table_id heap.now.key.layout mutator.old }
     requires fits { (scratch < heap.now.key.layout.registers) × (handle < heap.now.key.layout.weak) }
@@ -88,7 +88,7 @@ pub(crate) fn load<S: ShapeTable, T: Turnstile>(
             dst: scratch,
             at: handle,
         },
-        gate,
+        turnstile,
     );
     cell_seen(reply)
 }
@@ -100,7 +100,7 @@ pub(crate) fn aim<S: ShapeTable, T: Turnstile>(
     scratch: u8,
     handle: u16,
     src: u8,
-    gate: &T,
+    turnstile: &T,
 ) -> Option<u32>
     requires running { IsRunning heap.now.table.shared.table_id heap.now.key.layout mutator.old }
     requires fits { (scratch < heap.now.key.layout.registers) × (handle < heap.now.key.layout.weak) }
@@ -118,7 +118,7 @@ pub(crate) fn aim<S: ShapeTable, T: Turnstile>(
             at: handle,
             val: src,
         },
-        gate,
+        turnstile,
     );
-    load(mutator, heap, scratch, handle, gate)
+    load(mutator, heap, scratch, handle, turnstile)
 }

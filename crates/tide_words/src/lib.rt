@@ -8,13 +8,13 @@
 #![tactic(auto)]
 
 mod forms;
-// over those above it
+// these stand on those listed before
 mod heap;
-// over those above it
+// these stand on those listed before
 mod marking;
-// over those above it
+// these stand on those listed before
 mod block_bits;
-// over those above it
+// these stand on those listed before
 mod greying;
 
 pub use block_bits::{live_bits, marked_bits};
@@ -25,7 +25,10 @@ pub use forms::{
 };
 pub use greying::{blacken, mark, mark_named};
 pub use heap::{Fields, VecWords, Words, array_of, clear_bit, is_live, is_vacant, store_word};
-pub use marking::{Constraint, GreyList, Volatility, base_cycle, is_marked, running_cycle};
+pub use marking::{
+    Constraint, Following, GreyList, Volatility, base_cycle, is_marked, note_at, put_note,
+    running_cycle, take_note,
+};
 pub use tide_block::{
     after, bit_of, block_of_array, block_of_cell, class_of, class_of_array, complement,
     first_block_of, first_of, has_bit, lowest, with_bit, without_bit, without_lowest,

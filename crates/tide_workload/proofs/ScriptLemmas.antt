@@ -5,7 +5,7 @@ use Rattle.std.proofs.lemmas.List.Elements.{All-nil, All-cons, All-map}
 use Rattle.tide_model.specs.declared.op.Op.{Op}
 use Rattle.tide_text.specs.declared.work.fault.Fault.{Fault}
 use Rattle.tide_text.specs.declared.work.workload.TheConstants.{MAX_MUTATORS, MAX_OPS}
-use Rattle.tide_text.specs.work.OpLimits.{OpLimits}
+use Rattle.tide_text.specs.work.OpArguments.{OpArguments}
 use Rattle.tide_text.specs.work.ReadOp.{op_of}
 use Rattle.tide_text.specs.work.Work.{IsOperation, AreOperations, IsSized}
 use Rattle.tide_text.proofs.work_laws.OperationLemmas.{op_within}
@@ -30,11 +30,11 @@ op_or-some : (mutator at : ℕ) (o : Option Op) (op : Op) → op_or mutator at o
 op_or-some mutator at None op h = absurd (cc)
 op_or-some mutator at (Some x) op h = let e : x ≡ op = cc in ap Some e
 
-op_at_within : (limits : OpLimits) (mutator at : ℕ) (text : List ℕ) (op : Op) → op_at limits mutator at text ≡ Ok op → IsOperation limits op
+op_at_within : (limits : OpArguments) (mutator at : ℕ) (text : List ℕ) (op : Op) → op_at limits mutator at text ≡ Ok op → IsOperation limits op
 op_at_within limits mutator at text op h = op_within limits text op (op_or-some mutator at (op_of limits text) op h)
 
 -- the scripts of some texts
-pub scripts_within : (limits : OpLimits) (texts : List (List (List ℕ))) (scripts : List (List Op)) → scripts_of limits texts ≡ Ok scripts
+pub scripts_within : (limits : OpArguments) (texts : List (List (List ℕ))) (scripts : List (List Op)) → scripts_of limits texts ≡ Ok scripts
     → AreOperations limits scripts
 scripts_within limits texts scripts h =
     each_within (λ ops. All (IsOperation limits) ops) (ops_of limits)

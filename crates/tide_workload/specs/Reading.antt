@@ -11,7 +11,7 @@ use Rattle.tide_text.specs.declared.work.field.Field.TheVariants.{Registers, Str
 use Rattle.tide_workload.specs.declared.reading.TheConstants.{MAX_BYTES}
 use Rattle.tide_text.specs.declared.work.settings.Settings.{Settings}
 use Rattle.tide_workload.specs.Fields.{number_of_field, number_or_zero, five_of_field, five_or_zeros, has_only}
-use Rattle.tide_text.specs.work.OpLimits.{limits_with}
+use Rattle.tide_text.specs.work.OpArguments.{limits_with}
 use Rattle.tide_workload.specs.Scripts.{mutators_of, script_texts, scripts_of}
 use Rattle.tide_workload.specs.Shapes.{declared_in}
 use Rattle.tide_workload.specs.Steps.{◌>>=◌, each}

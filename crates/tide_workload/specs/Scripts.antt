@@ -8,7 +8,7 @@ use Rattle.tide_text.specs.declared.work.fault.Fault.{Fault}
 use Rattle.tide_text.specs.declared.work.fault.Fault.TheVariants.{BadOp}
 use Rattle.tide_text.specs.declared.work.field.Field.TheVariants.{Mutator, Ops}
 use Rattle.tide_workload.specs.Fields.{required, values_in, has_only}
-use Rattle.tide_text.specs.work.OpLimits.{OpLimits}
+use Rattle.tide_text.specs.work.OpArguments.{OpArguments}
 use Rattle.tide_text.specs.work.ReadOp.{op_of}
 use Rattle.tide_workload.specs.Steps.{◌>>=◌, each, each_from, good}
 
@@ -55,13 +55,13 @@ op_or mutator at None = Err (BadOp mutator at)
 op_or mutator at (Some op) = Ok op
 
 -- the operation that a text at a place of a mutator is
-abbrev pub op_at : OpLimits → ℕ → ℕ → List ℕ → Result Op Fault
+abbrev pub op_at : OpArguments → ℕ → ℕ → List ℕ → Result Op Fault
 op_at limits mutator at text = op_or mutator at (op_of limits text)
 
 -- the operations of a mutator
-abbrev pub ops_of : OpLimits → ℕ → List (List ℕ) → Result (List Op) Fault
+abbrev pub ops_of : OpArguments → ℕ → List (List ℕ) → Result (List Op) Fault
 ops_of limits mutator texts = each_from (op_at limits mutator) 0 texts
 
 -- the operations of each mutator
-abbrev pub scripts_of : OpLimits → List (List (List ℕ)) → Result (List (List Op)) Fault
+abbrev pub scripts_of : OpArguments → List (List (List ℕ)) → Result (List (List Op)) Fault
 scripts_of limits scripts = each_from (ops_of limits) 0 scripts

@@ -4,7 +4,7 @@ pub use Rattle.tide_text.specs.declared.work.field.Field.{Field}
 pub use Rattle.tide_text.specs.declared.work.settings.Settings.{Settings}
 pub use Rattle.tide_text.specs.declared.work.keys.TheConstants.{MAX_KEYS, MAX_KEY_BYTES}
 pub use Rattle.tide_text.specs.declared.work.workload.TheConstants.{MAX_MUTATORS, MAX_OPS}
-pub use Rattle.tide_text.specs.work.OpLimits.{OpLimits, limits_with}
+pub use Rattle.tide_text.specs.work.OpArguments.{OpArguments, limits_with}
 pub use Rattle.tide_text.specs.work.Work.{Work, AreSettings, AreKeys, ArePaths, IsOperation, IsWork, limits_of}
 pub use Rattle.tide_text.specs.work.ReadOp.{op_of}
 unfoldable pub use Rattle.tide_workload.specs.Reading.{reads_workload}

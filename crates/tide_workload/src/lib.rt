@@ -4,15 +4,16 @@
 //! specs/ defines it over the crate `toml`. What a workload is and how a run is printed stands in `tide_text`, whose
 //! names are handed on here, with the words of their contracts in specs/Words.antt.
 //!
-//! It may touch `toml`, which is used here alone. It knows nothing of a run.
+//! It may touch `toml`, which is used here alone, `tide_text` and shapes. `tide_run` reads its input by it. It knows
+//! nothing of a run.
 #![tactic(auto)]
 
 mod examples;
 mod fields;
 mod shapes;
-// over those above it
+// these stand on those listed before
 mod scripts;
-// over those above it
+// these stand on those listed before
 mod reading;
 
 pub use reading::{MAX_BYTES, read};

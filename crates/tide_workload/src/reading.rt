@@ -12,7 +12,7 @@ use crate::scripts::{mutators_of, scripts_of, texts_of_each};
 use crate::shapes::declared_in;
 use std::alloc::Global;
 use tide_shape::Paths;
-use tide_text::{Fault, Field, Keys, MAX_MUTATORS, MAX_OPS, OpLimits, Settings, Workload};
+use tide_text::{Fault, Field, Keys, MAX_MUTATORS, MAX_OPS, OpArguments, Settings, Workload};
 use toml::{Table, Value};
 
 /// How many bytes a workload may have.
@@ -118,7 +118,7 @@ fn load_of(
     ensures { Gives (λ load. load) result
         (load_with settings keys paths (map (λ texts. map (λ value. text_or_none (view value)) texts.now) texts.now)) }
 {
-    let limits = OpLimits::new(&settings, &keys);
+    let limits = OpArguments::new(&settings, &keys);
     let scripts = scripts_of(alloc, &limits, texts)?;
     Ok(Workload::new(settings, keys, paths, scripts))
 }

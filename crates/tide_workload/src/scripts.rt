@@ -9,7 +9,7 @@ ghost use Rattle.tide_workload.specs.Steps.{each, Gives};
 use crate::fields::{has_only, required, values_in};
 use std::alloc::Global;
 use tide_model::Op;
-use tide_text::{Fault, Field, MAX_MUTATORS, MAX_OPS, OpLimits, op_of};
+use tide_text::{Fault, Field, MAX_MUTATORS, MAX_OPS, OpArguments, op_of};
 use toml::{Table, Value};
 
 /// The table of one mutator.
@@ -95,7 +95,7 @@ pub(crate) fn texts_of_each<'a>(
 }
 
 /// The operation that a text at a place of a mutator is.
-fn op_at(limits: &OpLimits<'_>, mutator: u32, at: u32, text: &str) -> Result<Op, Fault>
+fn op_at(limits: &OpArguments<'_>, mutator: u32, at: u32, text: &str) -> Result<Op, Fault>
     ensures { result ≡ op_at limits.now mutator at text.now }
 {
     op_of(text.as_bytes(), limits).ok_or(Fault::BadOp { mutator, at })
@@ -104,7 +104,7 @@ fn op_at(limits: &OpLimits<'_>, mutator: u32, at: u32, text: &str) -> Result<Op,
 /// The operations of a mutator.
 fn ops_of(
     alloc: Global,
-    limits: &OpLimits<'_>,
+    limits: &OpArguments<'_>,
     mutator: u32,
     texts: &[Value],
 ) -> Result<Vec<Op>, Fault>
@@ -124,7 +124,7 @@ fn ops_of(
 /// The operations of each mutator.
 pub(crate) fn scripts_of(
     alloc: Global,
-    limits: &OpLimits<'_>,
+    limits: &OpArguments<'_>,
     scripts: &[&[Value]],
 ) -> Result<Vec<Vec<Op>>, Fault>
     requires few { length scripts.now ≤ MAX_MUTATORS }

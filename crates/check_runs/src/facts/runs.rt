@@ -5,6 +5,7 @@ use crate::facts::counts::Counts;
 use crate::facts::doctored::{WAYS, Way};
 use crate::facts::drawn::drawn;
 use crate::facts::facts::Facts;
+use crate::outcomes::ALL_APART;
 use check_heap::{large_number, number_text, tell};
 use std::alloc::{AllocError, Global};
 use std::marker::Sync;
@@ -84,7 +85,7 @@ fn is_run_so<R: Threads + Sync>(
 ) -> Result<bool, AllocError>
     requires { visitors ≤ 8 }
 {
-    match run(rt, alloc, load, visitors, &FreePass) {
+    match run(rt, ALL_APART, alloc, load, visitors, &FreePass) {
         Ok(outcome) => is_judged_so(alloc, load, &outcome, counts),
         Err(_) => Err(AllocError),
     }

@@ -114,5 +114,5 @@ module _ (layout : Layout) (shapes : ShapeLists) (v : View) (freeze : IsAtFreeze
   }
 
 -- a view whose parts are those of another
-pub view_same : (v u : View) → bare u ≡ bare v → u.seen ≡ v.seen → u.words ≡ v.words → u.base ≡ v.base → u ≡ v
-view_same v u same seen words base = λ i. record (same i) { seen = seen i; words = words i; base = base i }
+pub view_same : (v u : View) → bare u ≡ bare v → u.seen ≡ v.seen → u.words ≡ v.words → u.words_at_entry ≡ v.words_at_entry → u ≡ v
+view_same v u same seen words words_at_entry = λ i. record (same i) { seen = seen i; words = words i; words_at_entry = words_at_entry i }

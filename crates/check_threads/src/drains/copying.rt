@@ -1,12 +1,13 @@
 //! A copy of words that stand still, its colours and grey cells, and a pause over it. What is copied stays as it is.
 ghost use Rattle.std.specs.Prelude.{◌≡◌, ◌≤◌, [], length};
 ghost use Rattle.tide_heap.specs.tide_layout.Region.{word_count};
+ghost use Rattle.tide_model.specs.Layout.{cell_count};
 
 use check_heap::Heap;
 use std::alloc::{AllocError, Global};
 use tide_heap::{
-    Colour, GreyList, Layout, MAX_CELLS, Region, Solved, Words, bit_of, block_of_cell, colour_word,
-    pause, word_phase,
+    Colour, GreyList, Layout, Region, Solved, Words, bit_of, block_of_cell, colour_word, pause,
+    word_phase,
 };
 
 /// No cycle begins from this one on.
@@ -73,7 +74,7 @@ fn pause_over<W: Words>(
 ) -> Option<Solved>
     requires all_words { length (W.words words.old) ≡ word_count layout.now }
     requires empty { list.old.cells ≡ [] }
-    requires room { 20480 ≤ list.old.cap }
+    requires room { cell_count layout.now ≤ list.old.cap }
     ensures all_words { length (W.words words.new) ≡ word_count layout.now }
     ensures same_list { list.new ≡ list.old }
 {
@@ -81,8 +82,6 @@ fn pause_over<W: Words>(
     if !marks {
         return None;
     }
-    let cells = layout.cells();
-    prove!(cells <= MAX_CELLS);
     Some(pause(words, layout, list, budget))
 }
 
@@ -92,9 +91,9 @@ pub fn pause_copy(
     copy: &mut Heap,
     budget: u32,
 ) -> Result<Option<Solved>, AllocError> {
-    let Ok(mut list) = GreyList::new(alloc, MAX_CELLS) else {
+    let layout = copy.layout;
+    let Ok(mut list) = GreyList::new(alloc, layout.cells()) else {
         return Err(AllocError);
     };
-    let layout = copy.layout;
     Ok(pause_over(&mut copy.words, &layout, &mut list, budget))
 }

@@ -20,7 +20,7 @@ pub struct Drain {
 
 /// How each drain of a visitor's part ended, how many races it told once it had stopped, and its note.
 #[derive(Drop)]
-pub struct Visited {
+pub struct DrainedPart {
     pub drains: Result<Vec<Drain>, AllocError>,
     pub deferred: u32,
     pub note: Note,
@@ -32,7 +32,7 @@ fn drain_each<S: HeapShapes, T: Turnstile>(
     heap: &Heap<S>,
     visitor: &mut Visitor,
     budgets: &[u32],
-    gate: &T,
+    turnstile: &T,
 ) -> Result<Vec<Drain>, AllocError>
     requires own { table_of visitor.old ≡ heap.now.table.shared.table_id }
     requires may { MayDrain heap.now.key.layout visitor.old }
@@ -43,7 +43,7 @@ fn drain_each<S: HeapShapes, T: Turnstile>(
     let mut drains = Vec::new(alloc);
     for budget in budgets {
         let most = u32::MAX - visitor.visits();
-        let ended = visitor.drain(heap, (*budget).min(most), gate);
+        let ended = visitor.drain(heap, (*budget).min(most), turnstile);
         let visits = visitor.visits();
         drains.push(Drain { ended, visits })?;
     }
@@ -58,8 +58,8 @@ pub fn visit<S: HeapShapes, T: Turnstile>(
     mut visitor: Visitor,
     ticket: Ticket,
     budgets: &[u32],
-    gate: &T,
-) -> Visited
+    turnstile: &T,
+) -> DrainedPart
     requires own { table_of visitor ≡ heap.now.table.shared.table_id }
     requires of_heap { ticket.seat.table_id ≡ heap.now.table.shared.table_id }
     requires one { heap.now.key.layout.visitors ≡ 1 }
@@ -70,11 +70,11 @@ pub fn visit<S: HeapShapes, T: Turnstile>(
     ensures note { IsNoteOf 16 ticket.seat.me.0.period result.note.seat.me.0 }
 {
     visitor.begin(heap, ticket);
-    let drains = drain_each(alloc, heap, &mut visitor, budgets, gate);
+    let drains = drain_each(alloc, heap, &mut visitor, budgets, turnstile);
     let note = visitor.stop(heap);
     let deferred = visitor.deferred();
-    gate.at(visitor.who(), Place::Call, 1);
-    Visited {
+    turnstile.at(visitor.who(), Place::Call, 1);
+    DrainedPart {
         drains,
         deferred,
         note,

@@ -87,7 +87,7 @@ impl Plan {
     }
 
     /// The turnstile of the second part.
-    pub fn gate<'a>(&'a self, heap: &'a Heap<Shapes>) -> Watch<'a> {
+    pub fn turnstile<'a>(&'a self, heap: &'a Heap<Shapes>) -> Watch<'a> {
         Watch {
             heap,
             looks: &self.looks,

@@ -8,11 +8,11 @@ ghost use Rattle.tide_mutator.specs.calls.Viewed.{table_of as mutator_table_of, 
 ghost use Rattle.tide_visitor.specs.Viewed.{stack_room_of, table_of, view_of};
 
 use crate::drains::copying::copied;
-use crate::drains::parts::{Drain, Visited, visit};
+use crate::drains::parts::{Drain, DrainedPart, visit};
 use crate::drains::plan::Plan;
 use crate::drains::sharing::share;
 use check_heap::Heap as Copy;
-use embed_heap::{Shared, Worked, work};
+use embed_heap::{MutatorAfterPart, Shared, make_calls};
 use std::alloc::{AllocError, Global};
 use std::marker::Sync;
 use std::thread::{Threads, join};
@@ -24,7 +24,7 @@ use tide_visitor::Visitor;
 
 /// What a visitor told of its part.
 #[derive(Drop)]
-pub struct Told {
+pub struct VisitorOutcome {
     /// How each drain ended, if there was memory to note it.
     pub drains: Result<Vec<Drain>, AllocError>,
     pub deferred: u32,
@@ -35,8 +35,8 @@ pub struct Told {
 
 /// What a visitor told, and a copy of the words as all had stopped.
 #[derive(Drop)]
-pub struct Ran {
-    pub told: Told,
+pub struct DrainRun {
+    pub told: VisitorOutcome,
     pub words: Copy,
 }
 
@@ -48,8 +48,8 @@ fn run_apart<T: Turnstile>(
     visitor: Visitor,
     tickets: (Ticket, Ticket),
     plan: &Plan,
-    gate: &T,
-) -> (Worked, Visited)
+    turnstile: &T,
+) -> (MutatorAfterPart, DrainedPart)
     requires own { (mutator_table_of mutator ≡ heap.now.table.shared.table_id)
         × (table_of visitor ≡ heap.now.table.shared.table_id) }
     requires of_heap { (tickets.0.seat.table_id ≡ heap.now.table.shared.table_id)
@@ -65,9 +65,12 @@ fn run_apart<T: Turnstile>(
         × IsNoteOf 16 tickets.1.seat.me.0.period result.1.note.seat.me.0 }
 {
     let (first, second) = tickets;
-    let worked = work(heap, mutator, first, plan.beside.as_slice(), gate);
+    let worked = make_calls(heap, mutator, first, plan.beside.as_slice(), turnstile);
     let budgets = plan.drains.as_slice();
-    (worked, visit(alloc, heap, visitor, second, budgets, gate))
+    (
+        worked,
+        visit(alloc, heap, visitor, second, budgets, turnstile),
+    )
 }
 
 /// The mutator and the visitor make their parts in a thread each.
@@ -79,8 +82,8 @@ fn run_together<R: Threads + Sync, T: Turnstile>(
     visitor: Visitor,
     tickets: (Ticket, Ticket),
     plan: &Plan,
-    gate: &T,
-) -> (Worked, Visited)
+    turnstile: &T,
+) -> (MutatorAfterPart, DrainedPart)
     requires own { (mutator_table_of mutator ≡ heap.now.table.shared.table_id)
         × (table_of visitor ≡ heap.now.table.shared.table_id) }
     requires of_heap { (tickets.0.seat.table_id ≡ heap.now.table.shared.table_id)
@@ -99,15 +102,15 @@ fn run_together<R: Threads + Sync, T: Turnstile>(
     let (ops, budgets) = (plan.beside.as_slice(), plan.drains.as_slice());
     join(
         rt,
-        || -> Worked
+        || -> MutatorAfterPart
             requires { (mutator_table_of mutator ≡ heap.now.table.shared.table_id)
                 × (first.seat.table_id ≡ heap.now.table.shared.table_id)
                 × (heap.now.key.layout.mutators ≡ 1)
                 × IsIdleBefore 0 first.seat.me.0.period (mutator_view_of mutator) }
             ensures { (result.note.seat.table_id ≡ heap.entry.now.table.shared.table_id)
                 × HasDoneItsPart 0 first.seat.me.0 result.note.seat.me.0 }
-        { work(heap, mutator, first, ops, gate) },
-        || -> Visited
+        { make_calls(heap, mutator, first, ops, turnstile) },
+        || -> DrainedPart
             requires { (table_of visitor ≡ heap.now.table.shared.table_id)
                 × (second.seat.table_id ≡ heap.now.table.shared.table_id)
                 × (heap.now.key.layout.visitors ≡ 1)
@@ -116,7 +119,7 @@ fn run_together<R: Threads + Sync, T: Turnstile>(
                 × (cell_count heap.now.key.layout ≤ stack_room_of visitor) }
             ensures { (result.note.seat.table_id ≡ heap.entry.now.table.shared.table_id)
                 × IsNoteOf 16 second.seat.me.0.period result.note.seat.me.0 }
-        { visit(alloc, heap, visitor, second, budgets, gate) },
+        { visit(alloc, heap, visitor, second, budgets, turnstile) },
     )
 }
 
@@ -130,7 +133,7 @@ fn run_both<R: Threads + Sync>(
     tickets: (Ticket, Ticket),
     plan: &Plan,
     is_together: bool,
-) -> (Worked, Visited)
+) -> (MutatorAfterPart, DrainedPart)
     requires own { (mutator_table_of mutator ≡ heap.now.table.shared.table_id)
         × (table_of visitor ≡ heap.now.table.shared.table_id) }
     requires of_heap { (tickets.0.seat.table_id ≡ heap.now.table.shared.table_id)
@@ -145,11 +148,11 @@ fn run_both<R: Threads + Sync>(
     ensures notes { HasDoneItsPart 0 tickets.0.seat.me.0 result.0.note.seat.me.0
         × IsNoteOf 16 tickets.1.seat.me.0.period result.1.note.seat.me.0 }
 {
-    let gate = plan.gate(heap);
+    let turnstile = plan.turnstile(heap);
     if is_together {
-        run_together(rt, alloc, heap, mutator, visitor, tickets, plan, &gate)
+        run_together(rt, alloc, heap, mutator, visitor, tickets, plan, &turnstile)
     } else {
-        run_apart(alloc, heap, mutator, visitor, tickets, plan, &gate)
+        run_apart(alloc, heap, mutator, visitor, tickets, plan, &turnstile)
     }
 }
 
@@ -163,7 +166,7 @@ fn run_part<R: Threads + Sync>(
     visitor: Visitor,
     plan: &Plan,
     is_together: bool,
-) -> Told
+) -> VisitorOutcome
     requires own { collector.old.seat.table_id ≡ heap.now.table.shared.table_id }
     requires of_heap { (mutator_table_of mutator ≡ heap.now.table.shared.table_id)
         × (table_of visitor ≡ heap.now.table.shared.table_id) }
@@ -190,7 +193,7 @@ fn run_part<R: Threads + Sync>(
         plan,
         is_together,
     );
-    let told = Told {
+    let told = VisitorOutcome {
         drains: visited.drains,
         deferred: visited.deferred,
         visits: visited.note.numbers().visits,
@@ -208,7 +211,7 @@ fn finish<R: Threads + Sync>(
     shared: Shared,
     plan: &Plan,
     is_together: bool,
-) -> Result<Ran, AllocError>
+) -> Result<DrainRun, AllocError>
     requires opened { IsOpen shared }
 {
     let Shared {
@@ -230,7 +233,7 @@ fn finish<R: Threads + Sync>(
     );
     let mut frozen = collector.freeze(&heap);
     let words = copied(alloc, &mut frozen, heap.layout())?;
-    Ok(Ran { told, words })
+    Ok(DrainRun { told, words })
 }
 
 /// Runs what a plan says, with so many calls of the mutator in the second part, apart or in two threads.
@@ -240,7 +243,7 @@ pub fn run<R: Threads + Sync>(
     plan: &Plan,
     run: u32,
     is_together: bool,
-) -> Result<Option<Ran>, AllocError> {
+) -> Result<Option<DrainRun>, AllocError> {
     match share(rt, alloc, plan, run)? {
         Some(shared) => Ok(Some(finish(rt, alloc, shared, plan, is_together)?)),
         None => Ok(None),

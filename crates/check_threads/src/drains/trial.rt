@@ -22,7 +22,7 @@
 use crate::drains::copying::{cells_in, colour_in, cycle_in, pause_copy};
 use crate::drains::parts::Drain;
 use crate::drains::plan::Plan;
-use crate::drains::running::{Ran, run};
+use crate::drains::running::{DrainRun, run};
 use crate::drains::seen::colour_text as text_of_colour;
 use check_heap::{joined, number, number_between, numbers_text, region_of, text};
 use std::alloc::{AllocError, Global};
@@ -35,7 +35,7 @@ use tide_visitor::Drained;
 #[derive(Drop)]
 pub struct Trial {
     plan: Plan,
-    ran: Option<Ran>,
+    ran: Option<DrainRun>,
 }
 
 /// How drains ended.
@@ -56,7 +56,7 @@ fn drains_text(alloc: Global, drains: &[Drain]) -> Result<String, AllocError> {
 }
 
 /// What the note of the visitor told, and how many races it met.
-fn note_text(alloc: Global, ran: &Ran) -> Result<String, AllocError> {
+fn note_text(alloc: Global, ran: &DrainRun) -> Result<String, AllocError> {
     let done = if ran.told.is_done {
         " visits, done, "
     } else {
@@ -76,7 +76,11 @@ fn solved_text(alloc: Global, solved: Solved) -> Result<String, AllocError> {
 }
 
 /// Pauses over what was left, and answers how that ended.
-fn pause_text(alloc: Global, ran: &mut Ran, budget: &str) -> Result<Option<String>, AllocError> {
+fn pause_text(
+    alloc: Global,
+    ran: &mut DrainRun,
+    budget: &str,
+) -> Result<Option<String>, AllocError> {
     let Some(budget) = number(budget) else {
         return Ok(None);
     };
@@ -87,7 +91,11 @@ fn pause_text(alloc: Global, ran: &mut Ran, budget: &str) -> Result<Option<Strin
 }
 
 /// How a cell is marked.
-fn colour_text(alloc: Global, ran: &mut Ran, cell: &str) -> Result<Option<String>, AllocError> {
+fn colour_text(
+    alloc: Global,
+    ran: &mut DrainRun,
+    cell: &str,
+) -> Result<Option<String>, AllocError> {
     let Some(cell) = number(cell) else {
         return Ok(None);
     };
@@ -96,7 +104,11 @@ fn colour_text(alloc: Global, ran: &mut Ran, cell: &str) -> Result<Option<String
 }
 
 /// The cells whose bits are set in a region.
-fn cells_text(alloc: Global, ran: &mut Ran, region: &str) -> Result<Option<String>, AllocError> {
+fn cells_text(
+    alloc: Global,
+    ran: &mut DrainRun,
+    region: &str,
+) -> Result<Option<String>, AllocError> {
     let Some(region) = region_of(region) else {
         return Ok(None);
     };
@@ -105,7 +117,11 @@ fn cells_text(alloc: Global, ran: &mut Ran, region: &str) -> Result<Option<Strin
 }
 
 /// What is asked of what was left.
-fn told_of(alloc: Global, ran: &mut Ran, words: &[&str]) -> Result<Option<String>, AllocError> {
+fn told_of(
+    alloc: Global,
+    ran: &mut DrainRun,
+    words: &[&str],
+) -> Result<Option<String>, AllocError> {
     match words {
         ["note"] => Ok(Some(note_text(alloc, ran)?)),
         ["pause", budget] => pause_text(alloc, ran, budget),

@@ -7,7 +7,7 @@
 use std::alloc::{AllocError, Global};
 use std::sync::atomic::{AtomicU64, Ordering};
 use std::thread;
-use tide_grow_shape::GrowGate;
+use tide_grow_shape::GrowHook;
 
 /// How many turns a hold lasts at most. In each the processor is left to others.
 const TURNS: u32 = 50;
@@ -60,7 +60,7 @@ impl Meeting {
     }
 }
 
-impl GrowGate for Meeting {
+impl GrowHook for Meeting {
     fn at_empty(&self, shape: u32, next: bool) {
         let cell = (shape % (COUNTS / 2)) * 2 + next as u32;
         let Some(come) = self.come.get(cell as usize) else {

@@ -7,12 +7,12 @@ ghost use Rattle.tide_solver.specs.Outcome.{visits_of};
 ghost use Rattle.tide_words.specs.heap.Heap.{heap_of};
 
 use crate::marking::bench::cycle_marks;
-use check_heap::Heap;
+use check_heap::{Heap, MOST_CELLS};
 use std::alloc::{AllocError, Global};
 use tide_cycle::{Report, begin, end, has_room_to_end, pause};
 use tide_solver::Solved;
 use tide_sweep::{has_dead, sweep};
-use tide_words::{GreyList, MAX_CELLS, Region, Words, word_phase};
+use tide_words::{GreyList, Region, Words, word_phase};
 
 /// No cycle begins from this one on.
 const LAST_CYCLE: u64 = 1 << 60;
@@ -29,7 +29,7 @@ pub struct Room {
 impl Room {
     /// Room for so many cycles of any heap, which free so many cells.
     pub fn new(alloc: Global, cycles: u32, freed: u32) -> Result<Self, AllocError> {
-        let Ok(list) = GreyList::new(alloc, MAX_CELLS) else {
+        let Ok(list) = GreyList::new(alloc, MOST_CELLS) else {
             return Err(AllocError);
         };
         let Ok(report) = Report::new(alloc, cycles, freed) else {
@@ -60,11 +60,10 @@ pub fn pause_in(heap: &mut Heap, list: &mut GreyList, budget: u32) -> Option<Sol
     ensures paused { IfSome result (λ solved. HasPaused heap.old.layout (heap_of heap.old.layout heap.old.words)
         (heap_of heap.old.layout heap.new.words) (visits_of solved)) }
 {
-    if !cycle_marks(heap) {
+    let cells = heap.layout.cells();
+    if !cycle_marks(heap) || cells > MOST_CELLS {
         return None;
     }
-    let cells = heap.layout.cells();
-    prove!(cells <= MAX_CELLS);
     Some(pause(&mut heap.words, &heap.layout, list, budget))
 }
 

@@ -18,7 +18,7 @@ use tide_words::{Colour, Constraint, colour_word, phase_word};
 /// The cycle that marks.
 const CYCLE: u64 = 1;
 
-/// How many cells the largest layout has.
+/// How many cells the largest layout of a workload has.
 const CELLS: u32 = 20_480;
 
 /// The first of them that is a table.

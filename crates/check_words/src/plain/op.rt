@@ -5,7 +5,7 @@ use check_heap::number_between;
 use std::alloc::{AllocError, Global};
 use tide_layout::Layout;
 use tide_model::Op;
-use tide_text::{Keys, MAX_KEYS, OpLimits, Settings, is_key, op_of};
+use tide_text::{Keys, MAX_KEYS, OpArguments, Settings, is_key, op_of};
 
 /// The keys `k0` to `k63`.
 pub fn numbered_keys(alloc: Global) -> Result<Keys, AllocError> {
@@ -53,5 +53,5 @@ pub fn op_in(
         trigger: 0,
     };
     let text = spaced(alloc, words)?;
-    Ok(op_of(text.as_str().as_bytes(), &OpLimits::new(&settings, keys)))
+    Ok(op_of(text.as_str().as_bytes(), &OpArguments::new(&settings, keys)))
 }

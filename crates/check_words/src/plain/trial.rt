@@ -9,7 +9,7 @@
 //!   frees;
 //! - `free CLASS`, `claims MUTATOR`, `live`, `taken` and `swept BLOCK` with what the store tells.
 
-use crate::plain::caller::Caller;
+use crate::plain::guarded_store::GuardedStore;
 use crate::plain::op::{numbered_keys, op_in};
 use check_heap::{
     Answers, behind, layout_of, number, number_or_none, number_text, numbers, numbers_text,
@@ -23,7 +23,7 @@ use tide_text::Keys;
 pub struct Trial {
     declared: Vec<Vec<u32>>,
     keys: Keys,
-    store: Option<Caller>,
+    store: Option<GuardedStore>,
 }
 
 /// The answer of what was done: no text, and `None` where it wasn't.
@@ -36,7 +36,7 @@ fn nothing_if(alloc: Global, is_done: bool) -> Result<Option<String>, AllocError
 }
 
 /// A number that the store tells of itself.
-fn count(store: &Caller, words: &[&str]) -> Option<u32> {
+fn count(store: &GuardedStore, words: &[&str]) -> Option<u32> {
     match words {
         ["live"] => Some(store.live()),
         ["free", class] => store.free(small_number(class)?),
@@ -46,12 +46,12 @@ fn count(store: &Caller, words: &[&str]) -> Option<u32> {
 }
 
 /// Whether the last collection swept something of a block.
-fn swept(store: &Caller, block: &str) -> Option<bool> {
+fn swept(store: &GuardedStore, block: &str) -> Option<bool> {
     store.swept(small_number(block)?)
 }
 
 /// What the store tells of itself, where the words ask for it.
-fn told(alloc: Global, store: &Caller, words: &[&str]) -> Result<Option<String>, AllocError> {
+fn told(alloc: Global, store: &GuardedStore, words: &[&str]) -> Result<Option<String>, AllocError> {
     match words {
         ["taken"] => Ok(Some(number_or_none(alloc, store.taken())?)),
         ["swept", block] => match swept(store, block) {
@@ -69,7 +69,7 @@ fn told(alloc: Global, store: &Caller, words: &[&str]) -> Result<Option<String>,
 /// Makes a mutator's call, and gives its reply.
 fn call(
     alloc: Global,
-    store: &mut Caller,
+    store: &mut GuardedStore,
     keys: &Keys,
     who: u32,
     words: &[&str],
@@ -89,7 +89,11 @@ fn mutator_of(word: &str) -> Option<u32> {
 }
 
 /// Collects, and gives the freed cells.
-fn collect(alloc: Global, store: &mut Caller, full: bool) -> Result<Option<String>, AllocError> {
+fn collect(
+    alloc: Global,
+    store: &mut GuardedStore,
+    full: bool,
+) -> Result<Option<String>, AllocError> {
     let freed = store.collect(alloc, full)?;
     Ok(Some(numbers_text(alloc, freed.as_slice())?))
 }
@@ -97,7 +101,7 @@ fn collect(alloc: Global, store: &mut Caller, full: bool) -> Result<Option<Strin
 /// Does what the words say to a store.
 fn ask(
     alloc: Global,
-    store: &mut Caller,
+    store: &mut GuardedStore,
     keys: &Keys,
     words: &[&str],
 ) -> Result<Option<String>, AllocError> {
@@ -129,7 +133,7 @@ impl Trial {
         let Some(layout) = layout_of(words) else {
             return Ok(false);
         };
-        let store = Caller::new(alloc, layout, self.declared.as_slice())?;
+        let store = GuardedStore::new(alloc, layout, self.declared.as_slice())?;
         self.store = Some(store);
         Ok(true)
     }

@@ -8,12 +8,12 @@
 ghost use Rattle.std.specs.Prelude.{◌≤◌};
 
 use crate::snapshot::shot::{Shot, workload_of};
-use check_heap::{Heap, small_number};
+use check_heap::{Heap, MOST_CELLS, small_number};
 use std::alloc::{AllocError, Global};
 use tide_layout::{Layout, Region};
 use tide_model::Val;
 use tide_text::Workload;
-use tide_words::{MAX_CELLS, pair_word, val_word};
+use tide_words::{pair_word, val_word};
 
 /// What a large heap is like.
 #[derive(Clone, Copy, PartialEq, Eq)]
@@ -40,7 +40,7 @@ fn cell_word(cell: u32) -> u64 {
 
 /// The word of a pair, and 0 where no heap has the key.
 fn pair_of(key: u32, value: u32) -> u64 {
-    if key < MAX_CELLS {
+    if key < MOST_CELLS {
         pair_word(key, Val::Cell(value))
     } else {
         0

@@ -14,10 +14,11 @@
 //! declared.
 
 use crate::snapshot::shot::{Shot, Written, workload_of};
-use check_heap::{Answers, Heap, joined, layout_of, number, number_or_none, numbers_text, text};
+use check_heap::{
+    Answers, Heap, MOST_CELLS, joined, layout_of, number, number_or_none, numbers_text, text,
+};
 use std::alloc::{AllocError, Global};
 use tide_text::Workload;
-use tide_words::MAX_CELLS;
 
 /// Room for any line of a row.
 const ROOM: usize = 4_096;
@@ -84,7 +85,7 @@ fn line(alloc: Global, shot: &Shot, cell: u32, room: Option<u32>) -> Result<Stri
 /// Each cell that is retained, and how far it is.
 fn distances(alloc: Global, shot: &Shot) -> Result<String, AllocError> {
     let mut all = Vec::new(alloc);
-    for cell in 0..MAX_CELLS {
+    for cell in 0..MOST_CELLS {
         if let Some(distance) = shot.distance(cell) {
             all.push(cell)?;
             all.push(distance)?;

@@ -1,13 +1,12 @@
 //! A snapshot, with the workload whose path made its shapes.
 use crate::snapshot::naming::name_shapes;
-use check_heap::{Heap, joined, text};
+use check_heap::{Heap, MOST_CELLS, joined, text};
 use std::alloc::{AllocError, Global};
 use std::marker::Model;
 use tide_io::MemSink;
 use tide_shape::Shapes;
 use tide_snapshot::{Snapshot, take};
 use tide_text::Workload;
-use tide_words::MAX_CELLS;
 use tide_workload::read;
 
 /// A snapshot of a heap, and the workload that declares the keys of its cells.
@@ -64,7 +63,7 @@ impl Shot {
 
     /// How far a cell is, or `None` where it isn't retained or no heap has it.
     pub fn distance(&self, cell: u32) -> Option<u32> {
-        if cell < MAX_CELLS {
+        if cell < MOST_CELLS {
             self.snapshot.distance(cell)
         } else {
             None

@@ -138,6 +138,7 @@ visitor_idle layout part u note x is stopped =
 pub bare_fits : (layout : Layout) (cells : List ℕ) → cells ≡ [] → FitsIn layout cells
 bare_fits layout cells none = subst (FitsIn layout) (sym none) (record {
   within = λ cell at. absurd (nothing_in cell at);
+  once = λ cell. omega arith;
   room = omega arith;
 })
 

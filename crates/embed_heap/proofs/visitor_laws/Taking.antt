@@ -8,7 +8,7 @@ use Rattle.tide.specs.tide_heap.Parties.{In, IsParty}
 use Rattle.tide.specs.tide_heap.Turns.{noted, visited_of}
 use Rattle.tide.specs.tide_core.machine.World.{first_visitor}
 use Rattle.tide.specs.tide_core.declared.machine.view.View.{View}
-use Rattle.tide.specs.tide_core.declared.machine.view.Visited.{Visited}
+use Rattle.tide.specs.tide_core.declared.machine.view.NotedVisits.{NotedVisits}
 use Rattle.tide.specs.tide_model.Layout.{Layout}
 use Rattle.tide.proofs.tide_table.Nexts.{RunsWith-noted}
 use Rattle.tide.specs.tide_table.Standing.{RunsWith}
@@ -61,14 +61,14 @@ pub visits_are_in : (layout : Layout) (v : View) (k : ℕ) → layout.visitors �
     v.visited ≡ record { who = 16; visits = k; done = true } ∷ record { who = 0; visits = 0; done = true } ∷ [] →
     v.done ≡ true → k ≤ v.run → (v.marks ≡ false → k ≡ 0) → VisitsAreIn layout v
 visits_are_in layout v k one told done few none = record {
-  told = subst (λ (visited : List Visited). HaveTold (most_visits v) layout.visitors visited) (sym told) (record {
+  told = subst (λ (visited : List NotedVisits). HaveTold (most_visits v) layout.visitors visited) (sym told) (record {
     each = λ visitor below. (k, most v.marks refl, by visitor (omega (arith, below, one)));
     all = subst (λ (n : ℕ). k + (0 + 0) ≡ visits_left both 0 n) (sym one) refl;
   });
   done = λ visitors. done;
 }
   where
-    both : List Visited
+    both : List NotedVisits
     both = record { who = 16; visits = k; done = true } ∷ record { who = 0; visits = 0; done = true } ∷ []
 
     most : (marks : Bool) → v.marks ≡ marks → k ≤ (if marks then v.run else 0)

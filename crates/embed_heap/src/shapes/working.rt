@@ -12,7 +12,7 @@ use tide::{
 };
 
 /// Takes a cell, claims it, and adds a property by the key 1, by the key 0, and by the key 1 again.
-fn work<S: ShapeTable>(
+fn add_thrice<S: ShapeTable>(
     heap: &Heap<S>,
     mut mutator: Mutator,
     ticket: Ticket,
@@ -24,14 +24,14 @@ fn work<S: ShapeTable>(
     requires one { heap.now.key.layout.mutators ≡ 1 }
     requires two { heap.now.key.layout.registers ≡ 2 }
 {
-    let gate = &FreePass;
+    let turnstile = &FreePass;
     mutator.begin(heap, ticket);
-    mutator.call(heap, Op::Alloc { dst: 0, class: 0 }, gate);
-    mutator.call(heap, Op::Claim { src: 0 }, gate);
+    mutator.call(heap, Op::Alloc { dst: 0, class: 0 }, turnstile);
+    mutator.call(heap, Op::Claim { src: 0 }, turnstile);
     let (a, b) = (0, 1);
-    let early = mutator.call(heap, add(b), gate);
-    let first = mutator.call(heap, add(a), gate);
-    let then = mutator.call(heap, add(b), gate);
+    let early = mutator.call(heap, add(b), turnstile);
+    let first = mutator.call(heap, add(a), turnstile);
+    let then = mutator.call(heap, add(b), turnstile);
     mutator.stop(heap);
     (early, first, then)
 }
@@ -58,7 +58,7 @@ fn run_part(heap: &Heap<Settled>, mut collector: Collector, pass: Pass) -> (Repl
 {
     collector.open_first(heap, 8);
     let ticket = collector.ticket(heap);
-    work(heap, Mutator::new(pass), ticket)
+    add_thrice(heap, Mutator::new(pass), ticket)
 }
 
 /// A heap of a layout, over a settled table.

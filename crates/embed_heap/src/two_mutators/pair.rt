@@ -8,16 +8,16 @@ ghost use Rattle.tide.specs.tide_mutator.calls.Viewed.{table_of, view_of};
 ghost use Rattle.tide.specs.tide_shape.Lists.{lists_of};
 ghost use Rattle.tide.specs.tide_table.Started.{IsStarted};
 
-use crate::two_mutators::working::{Found, Worked, work};
+use crate::two_mutators::working::{Replies, RepliesAndNote, store_and_read};
 use std::marker::Sync;
 use std::thread::{Threads, join};
 use tide::{Closed, Collector, Heap, Mutator, Pass, Shapes, Ticket};
 
 /// What both mutators found, and the history that the heap left.
 #[derive(Drop)]
-pub struct Ran {
-    pub found: (Found, Found),
-    pub closed: Closed,
+pub struct ClosedPair {
+    pub found: (Replies, Replies),
+    pub closed: Closed<Shapes>,
 }
 
 /// Each of two mutators does its part in a thread of its own.
@@ -28,7 +28,7 @@ fn work_both<R: Threads + Sync>(
     first: Ticket,
     other: Mutator,
     second: Ticket,
-) -> (Worked, Worked)
+) -> (RepliesAndNote, RepliesAndNote)
     requires own { (table_of one ≡ heap.now.table.shared.table_id)
         × (table_of other ≡ heap.now.table.shared.table_id) }
     requires of_heap { (first.seat.table_id ≡ heap.now.table.shared.table_id)
@@ -42,20 +42,20 @@ fn work_both<R: Threads + Sync>(
 {
     join(
         rt,
-        || -> Worked
+        || -> RepliesAndNote
             requires { (table_of one ≡ heap.now.table.shared.table_id)
                 × (first.seat.table_id ≡ heap.now.table.shared.table_id)
                 × MayWork heap.now.key.layout (view_of one) first.seat.me.0 }
             ensures { (result.note.seat.table_id ≡ heap.entry.now.table.shared.table_id)
                 × HasWorked (view_of one) first.seat.me.0 result.note.seat.me.0 }
-        { work(heap, one, first) },
-        || -> Worked
+        { store_and_read(heap, one, first) },
+        || -> RepliesAndNote
             requires { (table_of other ≡ heap.now.table.shared.table_id)
                 × (second.seat.table_id ≡ heap.now.table.shared.table_id)
                 × MayWork heap.now.key.layout (view_of other) second.seat.me.0 }
             ensures { (result.note.seat.table_id ≡ heap.entry.now.table.shared.table_id)
                 × HasWorked (view_of other) second.seat.me.0 result.note.seat.me.0 }
-        { work(heap, other, second) },
+        { store_and_read(heap, other, second) },
     )
 }
 
@@ -66,7 +66,7 @@ pub fn run_pair<R: Threads + Sync>(
     mut collector: Collector,
     one: Pass,
     other: Pass,
-) -> Ran
+) -> ClosedPair
     requires own { collector.seat.table_id ≡ heap.table.shared.table_id }
     requires of_heap { (one.seat.table_id ≡ heap.table.shared.table_id)
         × (other.seat.table_id ≡ heap.table.shared.table_id) }
@@ -92,7 +92,7 @@ pub fn run_pair<R: Threads + Sync>(
     collector.take(&heap, one.note);
     collector.take(&heap, other.note);
     collector.freeze(&heap);
-    Ran {
+    ClosedPair {
         found: (one.found, other.found),
         closed: collector.close(heap),
     }

@@ -7,7 +7,7 @@ use tide::{FreePass, Heap, Mutator, Note, Op, Reply, ShapeTable, Ticket};
 
 /// What a mutator was answered.
 #[derive(Clone, Copy)]
-pub struct Found {
+pub struct Replies {
     /// What it read from the cell that it had allocated.
     pub seen: Option<Reply>,
     /// To an operation on a register that no mutator has.
@@ -16,25 +16,29 @@ pub struct Found {
 
 /// What a mutator found, and its note of the part.
 #[derive(Drop)]
-pub struct Worked {
-    pub found: Found,
+pub struct RepliesAndNote {
+    pub found: Replies,
     pub note: Note,
 }
 
 /// Begins a part, sets a register to 7, takes a cell, stores the number in its first slot and reads it again; lets go
 /// of the cell, retires, and stops. Two of its operations are tried, as one would be that came from outside: one that
 /// fits the layout, and one that doesn't.
-pub fn work<S: ShapeTable>(heap: &Heap<S>, mut mutator: Mutator, ticket: Ticket) -> Worked
+pub fn store_and_read<S: ShapeTable>(
+    heap: &Heap<S>,
+    mut mutator: Mutator,
+    ticket: Ticket,
+) -> RepliesAndNote
     requires own { table_of mutator ≡ heap.now.table.shared.table_id }
     requires of_heap { ticket.seat.table_id ≡ heap.now.table.shared.table_id }
     requires may { MayWork heap.now.key.layout (view_of mutator) ticket.seat.me.0 }
     ensures of_heap { result.note.seat.table_id ≡ heap.now.table.shared.table_id }
     ensures worked { HasWorked (view_of mutator) ticket.seat.me.0 result.note.seat.me.0 }
 {
-    let gate = &FreePass;
+    let turnstile = &FreePass;
     mutator.begin(heap, ticket);
-    mutator.call(heap, Op::Set { dst: 0, n: 7 }, gate);
-    mutator.call(heap, Op::Alloc { dst: 1, class: 0 }, gate);
+    mutator.call(heap, Op::Set { dst: 0, n: 7 }, turnstile);
+    mutator.call(heap, Op::Alloc { dst: 1, class: 0 }, turnstile);
     mutator.call(
         heap,
         Op::Put {
@@ -42,9 +46,9 @@ pub fn work<S: ShapeTable>(heap: &Heap<S>, mut mutator: Mutator, ticket: Ticket)
             slot: 0,
             val: 0,
         },
-        gate,
+        turnstile,
     );
-    let foreign = mutator.try_call(heap, Op::Set { dst: 16, n: 9 }, gate);
+    let foreign = mutator.try_call(heap, Op::Set { dst: 16, n: 9 }, turnstile);
     let seen = mutator.try_call(
         heap,
         Op::Get {
@@ -52,12 +56,12 @@ pub fn work<S: ShapeTable>(heap: &Heap<S>, mut mutator: Mutator, ticket: Ticket)
             src: 1,
             slot: 0,
         },
-        gate,
+        turnstile,
     );
-    mutator.call(heap, Op::Drop { dst: 1 }, gate);
-    mutator.retire(heap, gate);
-    Worked {
-        found: Found { seen, foreign },
+    mutator.call(heap, Op::Drop { dst: 1 }, turnstile);
+    mutator.retire(heap, turnstile);
+    RepliesAndNote {
+        found: Replies { seen, foreign },
         note: mutator.stop(heap),
     }
 }

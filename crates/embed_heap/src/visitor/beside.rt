@@ -5,8 +5,8 @@ ghost use Rattle.tide.specs.tide_model.Layout.{cell_count};
 ghost use Rattle.tide.specs.tide_mutator.calls.Viewed as works;
 ghost use Rattle.tide.specs.tide_visitor.Viewed as visits;
 
-use crate::visitor::visiting::{Visited, visit};
-use crate::visitor::working::{Worked, work};
+use crate::visitor::visiting::{VisitorAfterPart, visit};
+use crate::visitor::working::{MutatorAfterPart, make_calls};
 use std::marker::Sync;
 use std::thread::{Threads, join};
 use tide::{FreePass, Heap, Mutator, Op, Shapes, Ticket, Visitor};
@@ -20,7 +20,7 @@ pub fn work_and_visit<R: Threads + Sync>(
     ops: &[Op],
     visitor: Visitor,
     second: Ticket,
-) -> (Worked, Visited)
+) -> (MutatorAfterPart, VisitorAfterPart)
     requires own { (works.table_of mutator ≡ heap.now.table.shared.table_id)
         × (visits.table_of visitor ≡ heap.now.table.shared.table_id) }
     requires of_heap { (first.seat.table_id ≡ heap.now.table.shared.table_id)
@@ -42,7 +42,7 @@ pub fn work_and_visit<R: Threads + Sync>(
 {
     join(
         rt,
-        || -> Worked
+        || -> MutatorAfterPart
             requires { (works.table_of mutator ≡ heap.now.table.shared.table_id)
                 × (first.seat.table_id ≡ heap.now.table.shared.table_id)
                 × (heap.now.key.layout.mutators ≡ 1)
@@ -52,8 +52,8 @@ pub fn work_and_visit<R: Threads + Sync>(
                 × (result.note.seat.table_id ≡ heap.entry.now.table.shared.table_id)
                 × HasDoneItsPart 0 first.seat.me.0 result.note.seat.me.0
                 × (result.note.seat.me.0.visits ≡ 0) }
-        { work(heap, mutator, first, ops, &FreePass) },
-        || -> Visited
+        { make_calls(heap, mutator, first, ops, &FreePass) },
+        || -> VisitorAfterPart
             requires { (visits.table_of visitor ≡ heap.now.table.shared.table_id)
                 × (second.seat.table_id ≡ heap.now.table.shared.table_id)
                 × (heap.now.key.layout.visitors ≡ 1)

@@ -17,12 +17,16 @@ impl Shared {
     }
 
     /// Freezes the part in which both have stopped, enters what the visitor's note told, does what the schedule asks
-    /// for, and opens the next part. `None` where memory is wanting, or no more part can be opened.
-    pub fn next(&mut self) -> Option<()>
+    /// for, a whole full cycle where the freeze is forced, and opens the next part. `None` where memory is wanting, or
+    /// no more part can be opened.
+    pub fn next(&mut self, is_forced: bool) -> Option<()>
         requires stopped { HaveStopped self.old }
         ensures opened { IfSome result (λ _. HasOpened self.new) }
     {
-        let Ok(()) = self.collector.next_part(&self.heap, &mut self.books, false) else {
+        let Ok(()) = self
+            .collector
+            .next_part(&self.heap, &mut self.books, is_forced)
+        else {
             return None;
         };
         Some(())

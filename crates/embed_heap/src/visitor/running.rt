@@ -66,7 +66,7 @@ const LOOKS: [Op; 1] = [Op::WeakGet { dst: 1, at: 0 }];
 pub struct Seen {
     /// The number of the cycle that marked in the second part, and from which cycle on colours counted there.
     pub cycle: u64,
-    pub base: u64,
+    pub mark_version: u64,
     /// How many cells the visitor made black in the second part.
     pub visits: u32,
     /// How many the cycle kept that ended after it, if one did.
@@ -81,7 +81,7 @@ pub struct PartDone {
     pub shared: Shared,
     /// The number of the last cycle that had begun, and from which cycle on colours count, as the tickets said.
     pub cycle: u64,
-    pub base: u64,
+    pub mark_version: u64,
     /// How many visits the visitor's note tells.
     pub visits: u32,
     /// What the mutator's last call was answered, if it made one.
@@ -104,7 +104,7 @@ impl Shared {
         } = self;
         let first = collector.ticket(&heap);
         let second = collector.ticket(&heap);
-        let (cycle, base) = (first.cycle(), first.base());
+        let (cycle, mark_version) = (first.cycle(), first.mark_version());
         let (worked, visited) = work_and_visit(rt, &heap, mutator, first, ops, visitor, second);
         let visits = visited.note.numbers().visits;
         collector.take(&heap, worked.note);
@@ -119,7 +119,7 @@ impl Shared {
         PartDone {
             shared,
             cycle,
-            base,
+            mark_version,
             visits,
             last: worked.last,
         }
@@ -133,10 +133,10 @@ pub fn run_cycle<R: Threads + Sync>(rt: &R, mut shared: Shared) -> Option<Seen>
 {
     shared.open();
     let mut linked = shared.run_part(rt, &LINKS);
-    linked.shared.next()?;
+    linked.shared.next(false)?;
     let mut stored = linked.shared.run_part(rt, &STORES);
-    stored.shared.next()?;
-    let (cycle, base) = (stored.cycle, stored.base);
+    stored.shared.next(false)?;
+    let (cycle, mark_version) = (stored.cycle, stored.mark_version);
     let visits = stored.visits;
     let kept = stored
         .shared
@@ -148,7 +148,7 @@ pub fn run_cycle<R: Threads + Sync>(rt: &R, mut shared: Shared) -> Option<Seen>
     let looked = stored.shared.run_part(rt, &LOOKS);
     Some(Seen {
         cycle,
-        base,
+        mark_version,
         visits,
         kept,
         weak: looked.last,

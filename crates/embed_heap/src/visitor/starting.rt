@@ -22,13 +22,26 @@ pub fn layout() -> Layout
     Layout::new([1, 0, 0, 0, 1], [1, 1, 0, 0, 0], 4, 2, 2, 1, 1)
 }
 
-/// A heap without cells that a mutator and a visitor share. The visitor's stack has a place for each cell, and none for
-/// notes, since it runs no constraint.
+/// A heap without cells that a mutator and a visitor share.
 pub fn start(alloc: Global, shapes: Shapes) -> Result<Option<Shared>, Memory>
     ensures started { IfOk result (λ o. IfSome o HasStarted) }
 {
-    let layout = layout();
-    let books = Books::new(alloc, &layout, PACING, 4, 512)?;
+    start_over(alloc, layout(), PACING, shapes)
+}
+
+/// The same of any layout with one mutator and one visitor, and with another pace. The visitor's stack has a place for
+/// each cell, and none for notes, since it runs no constraint.
+pub fn start_over(
+    alloc: Global,
+    layout: Layout,
+    pacing: Pacing,
+    shapes: Shapes,
+) -> Result<Option<Shared>, Memory>
+    requires mutators { layout.mutators ≡ 1 }
+    requires visitors { layout.visitors ≡ 1 }
+    ensures started { IfOk result (λ o. IfSome o HasStarted) }
+{
+    let books = Books::new(alloc, &layout, pacing, 4, 512)?;
     let stack = GreyList::without_notes(alloc, layout.cells())?;
     let Start {
         heap,

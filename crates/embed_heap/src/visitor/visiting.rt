@@ -11,7 +11,7 @@ use tide::{FreePass, Heap, HeapShapes, Note, Ticket, Visitor};
 
 /// A visitor that has made its part, and its note.
 #[derive(Drop)]
-pub struct Visited {
+pub struct VisitorAfterPart {
     pub visitor: Visitor,
     pub note: Note,
 }
@@ -39,7 +39,11 @@ fn drain_share<S: HeapShapes>(heap: &Heap<S>, visitor: &mut Visitor, run: u32, m
 }
 
 /// Begins a part, drains where a cycle marks, and stops.
-pub fn visit<S: HeapShapes>(heap: &Heap<S>, mut visitor: Visitor, ticket: Ticket) -> Visited
+pub fn visit<S: HeapShapes>(
+    heap: &Heap<S>,
+    mut visitor: Visitor,
+    ticket: Ticket,
+) -> VisitorAfterPart
     requires own { table_of visitor ≡ heap.now.table.shared.table_id }
     requires of_heap { ticket.seat.table_id ≡ heap.now.table.shared.table_id }
     requires one { heap.now.key.layout.visitors ≡ 1 }
@@ -55,5 +59,5 @@ pub fn visit<S: HeapShapes>(heap: &Heap<S>, mut visitor: Visitor, ticket: Ticket
     visitor.begin(heap, ticket);
     drain_share(heap, &mut visitor, run, marks);
     let note = visitor.stop(heap);
-    Visited { visitor, note }
+    VisitorAfterPart { visitor, note }
 }

@@ -11,7 +11,7 @@ const MOST_CALLS: usize = 1000;
 
 /// A mutator that has made its part, its note, and what its last call was answered, if it made one.
 #[derive(Drop)]
-pub struct Worked {
+pub struct MutatorAfterPart {
     pub mutator: Mutator,
     pub last: Option<Reply>,
     pub note: Note,
@@ -23,7 +23,7 @@ fn call_each<S: ShapeTable, T: Turnstile>(
     heap: &Heap<S>,
     mutator: &mut Mutator,
     ops: &[Op],
-    gate: &T,
+    turnstile: &T,
 ) -> Option<Reply>
     requires own { table_of mutator.old ≡ heap.now.table.shared.table_id }
     requires mutator { (view_of mutator.old).who < heap.now.key.layout.mutators }
@@ -36,19 +36,19 @@ fn call_each<S: ShapeTable, T: Turnstile>(
 {
     let mut last = None;
     for index in 0..ops.len().min(MOST_CALLS) {
-        last = mutator.try_call(heap, ops[index], gate);
+        last = mutator.try_call(heap, ops[index], turnstile);
     }
     last
 }
 
 /// Begins a part, makes these calls, and stops.
-pub fn work<S: ShapeTable, T: Turnstile>(
+pub fn make_calls<S: ShapeTable, T: Turnstile>(
     heap: &Heap<S>,
     mut mutator: Mutator,
     ticket: Ticket,
     ops: &[Op],
-    gate: &T,
-) -> Worked
+    turnstile: &T,
+) -> MutatorAfterPart
     requires own { table_of mutator ≡ heap.now.table.shared.table_id }
     requires of_heap { ticket.seat.table_id ≡ heap.now.table.shared.table_id }
     requires one { heap.now.key.layout.mutators ≡ 1 }
@@ -60,9 +60,9 @@ pub fn work<S: ShapeTable, T: Turnstile>(
     ensures unvisited { result.note.seat.me.0.visits ≡ 0 }
 {
     mutator.begin(heap, ticket);
-    let last = call_each(heap, &mut mutator, ops, gate);
+    let last = call_each(heap, &mut mutator, ops, turnstile);
     let note = mutator.stop(heap);
-    Worked {
+    MutatorAfterPart {
         mutator,
         last,
         note,

@@ -8,7 +8,7 @@ use crate::growers::known::KnownShapes;
 use crate::growers::maker::Maker;
 use crate::growers::refused::GrowRefused;
 use crate::growers::table::GrowShapes;
-use crate::transitions::{GrowGate, Sights};
+use crate::transitions::{GrowHook, Sights};
 use boxcar::tag::Tag;
 use std::alloc::Global;
 use std::marker::Model;
@@ -136,10 +136,10 @@ impl Grower {
     }
 
     /// `grow`, which may be held where it found a cell empty and comes to set it.
-    pub fn grow_at<R: Wait, G: GrowGate>(
+    pub fn grow_at<R: Wait, G: GrowHook>(
         &mut self,
         rt: &R,
-        gate: &G,
+        hook: &G,
         alloc: Global,
         table: &GrowShapes,
         shape: u32,
@@ -165,6 +165,6 @@ impl Grower {
             (table.now.last ≤ index) × (self.new.beyond ≡ Some index) }
         ensures beyond { ((index : ℕ) → result ≢ Err (GrowRefused.Many index)) → self.new.beyond ≡ self.old.beyond }
     {
-        self.maker.grow(rt, gate, alloc, &table.cells, shape, key)
+        self.maker.grow(rt, hook, alloc, &table.cells, shape, key)
     }
 }

@@ -9,7 +9,7 @@ ghost use Rattle.tide_shape.specs.ShapeTable.{HasNoKeyTwice};
 
 use crate::growers::known::KnownShapes;
 use crate::growers::refused::GrowRefused;
-use crate::transitions::{Cells, GrowGate, ShownItem, Sights, Sought, Unmade};
+use crate::transitions::{Cells, GrowHook, ShownItem, Sights, Sought, Unmade};
 use std::alloc::Global;
 use std::sync::Wait;
 use tide_model::Memory;
@@ -107,10 +107,10 @@ impl Maker {
     }
 
     /// The shape with the key added, made by this call or another. It may wait.
-    pub(crate) fn grow<R: Wait, G: GrowGate>(
+    pub(crate) fn grow<R: Wait, G: GrowHook>(
         &mut self,
         rt: &R,
-        gate: &G,
+        hook: &G,
         alloc: Global,
         cells: &Cells,
         shape: u32,
@@ -140,7 +140,7 @@ impl Maker {
     {
         let longer = longer(alloc, &self.known, shape, key)?;
         let sought = Sought { shape, key };
-        match self.sights.walk(rt, gate, cells, sought) {
+        match self.sights.walk(rt, hook, cells, sought) {
             Ok(child) => match self.learn(child, longer) {
                 Ok(()) => Ok(child),
                 Err(Memory) => Err(GrowRefused::Memory),

@@ -5,7 +5,7 @@ ghost use Rattle.tide_grow_shape.specs.transitions.Sights.{AreSights, IsUnmade, 
 ghost use Rattle.tide_grow_shape.specs.transitions.Walks.{Finds, Includes, first_of};
 
 use crate::transitions::cells::Cells;
-use crate::transitions::gate::GrowGate;
+use crate::transitions::hook::GrowHook;
 use crate::transitions::sight::{Sight, link_of};
 use crate::transitions::sights::Sights;
 use crate::transitions::unmade::Unmade;
@@ -59,10 +59,10 @@ impl Sights {
     /// Another grower may set the cell between the look and the set. That is harmless: a cell is set once,
     /// `set_written` then gives the number back, and the cell is read like any other that was found set (`OnceSlot` of
     /// boxcar: `Written`).
-    fn see<R: Wait, G: GrowGate>(
+    fn observe<R: Wait, G: GrowHook>(
         &mut self,
         rt: &R,
-        gate: &G,
+        hook: &G,
         cells: &Cells,
         next: bool,
         of: u32,
@@ -95,7 +95,7 @@ impl Sights {
             Some(link) => link,
             None => {
                 let number = sought.own(rt, cells, mine)?;
-                gate.at_empty(of, next);
+                hook.at_empty(of, next);
                 match cell.set_written(number) {
                     Ok(link) => link,
                     Err(_) => link_of(rt, cell),
@@ -116,10 +116,10 @@ impl Sights {
 
     /// Walks over the children of a shape to the one with the key, which is made where there is none. It may wait.
     #[tactic(auto, using(crate::proofs::transitions_laws::WalkLaws::walks_start, crate::proofs::transitions_laws::WalkLaws::walks_found, crate::proofs::transitions_laws::WalkLaws::walks_more, crate::proofs::transitions_laws::WalkLaws::walks_step))]
-    pub fn walk<R: Wait, G: GrowGate>(
+    pub fn walk<R: Wait, G: GrowHook>(
         &mut self,
         rt: &R,
-        gate: &G,
+        hook: &G,
         cells: &Cells,
         sought: Sought,
     ) -> Result<u32, Unmade>
@@ -135,7 +135,7 @@ impl Sights {
         let mut next = false;
         let mut of = sought.shape;
         for _ in rt.forever() {
-            let seen = self.see(rt, gate, cells, next, of, sought, &mut mine)?;
+            let seen = self.observe(rt, hook, cells, next, of, sought, &mut mine)?;
             if seen.key == sought.key {
                 // A cell holds a number alone, so that its item is a child of this shape is told by the item.
                 if seen.parent != sought.shape {

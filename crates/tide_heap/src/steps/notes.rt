@@ -124,7 +124,7 @@ impl Ticket {
     }
 
     /// The cycle from which on colours count: the last full one that began, or 1 before the first.
-    pub fn base(&self) -> u64
+    pub fn mark_version(&self) -> u64
         ensures { result ≡ self.now.seat.me.0.mark_version }
     {
         self.base

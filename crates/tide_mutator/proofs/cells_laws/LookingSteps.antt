@@ -11,7 +11,7 @@ use Rattle.tide_mutator.specs.cells.Searching.{HasLooked, HasSeen}
 use Rattle.tide_heap.specs.tide_core.machine.Kind.{LoadFree}
 use Rattle.tide_heap.specs.tide_core.machine.Moment.{Moment}
 use Rattle.tide_heap.specs.tide_core.declared.machine.view.Cleared.{Cleared}
-use Rattle.tide_heap.specs.tide_core.declared.machine.view.Found.{Found}
+use Rattle.tide_heap.specs.tide_core.declared.machine.view.FullBlock.{FullBlock}
 use Rattle.tide_heap.specs.tide_core.declared.machine.view.View.{View}
 use Rattle.tide_model.specs.Caller.{IsOwn}
 use Rattle.tide_model.specs.History.{is_call_of}
@@ -33,7 +33,7 @@ pub seen_once : (layout : Layout) (shapes : ShapeLists) (v u : View) (log : List
     HasSeen u block read
 seen_once layout shapes v u log at index found m block read view = record {
   moment = length log;
-  saw = subst (λ (l : List Found). Contains l (record { block = block; moment = length log; word = read }))
+  saw = subst (λ (l : List FullBlock). Contains l (record { block = block; moment = length log; word = read }))
       (sym (ap (λ (x : View). x.full) view)) (0, omega arith, refl);
   late = λ one has. (m.cleared one.block one.moment
       (subst (λ (l : List Cleared). Contains l one) (ap (λ (x : View). x.cleared) view) has)).0;

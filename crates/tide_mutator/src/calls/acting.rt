@@ -53,7 +53,7 @@ fn act_on_rest<S: HeapShapes>(pass: &mut Pass, heap: &Heap<S>, call: Call, actio
 fn act_without_growth<S: HeapShapes, T: Turnstile>(
     pass: &mut Pass,
     heap: &Heap<S>,
-    gate: &T,
+    turnstile: &T,
     cursor: &mut AllocationCursor,
     call: Call,
     action: Action,
@@ -64,9 +64,13 @@ fn act_without_growth<S: HeapShapes, T: Turnstile>(
 {
     match action {
         Action::Refuse { refusal } => refuse(pass, heap, call, refusal),
-        Action::Allocate { dst, class } => allocate(pass, heap, gate, cursor, call, dst, class),
+        Action::Allocate { dst, class } => allocate(
+            pass, heap, turnstile, cursor, call, dst, class,
+        ),
         Action::LoadSlot { dst, cell, slot } => get(pass, heap, call, dst, cell, slot),
-        Action::StoreSlot { cell, slot, value } => put(pass, heap, gate, call, cell, slot, value),
+        Action::StoreSlot { cell, slot, value } => put(
+            pass, heap, turnstile, call, cell, slot, value,
+        ),
         Action::Fill { dst, value } => fill(pass, heap, call, dst, value),
         Action::Claim { cell, full } => claim(pass, heap, call, cell, full),
         Action::Release { cell } => release(pass, heap, call, cell),
@@ -78,12 +82,12 @@ fn act_without_growth<S: HeapShapes, T: Turnstile>(
             array,
             place,
             value,
-        } => put_property(pass, heap, gate, call, cell, array, place, value),
+        } => put_property(pass, heap, turnstile, call, cell, array, place, value),
         Action::Append {
             addition,
             array,
             value,
-        } => append(pass, heap, gate, call, addition, array, value),
+        } => append(pass, heap, turnstile, call, addition, array, value),
         _ => act_on_rest(pass, heap, call, action),
     }
 }
@@ -92,7 +96,7 @@ fn act_without_growth<S: HeapShapes, T: Turnstile>(
 pub(crate) fn act<S: HeapShapes, T: Turnstile>(
     pass: &mut Pass,
     heap: &Heap<S>,
-    gate: &T,
+    turnstile: &T,
     cursor: &mut AllocationCursor,
     call: Call,
     action: Action,
@@ -107,8 +111,8 @@ pub(crate) fn act<S: HeapShapes, T: Turnstile>(
             class,
             value,
         } => grow(
-            pass, heap, gate, cursor, call, addition, array, class, value,
+            pass, heap, turnstile, cursor, call, addition, array, class, value,
         ),
-        _ => act_without_growth(pass, heap, gate, cursor, call, action),
+        _ => act_without_growth(pass, heap, turnstile, cursor, call, action),
     }
 }

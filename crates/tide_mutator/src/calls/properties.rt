@@ -26,7 +26,7 @@ pub(crate) fn get_property<S: HeapShapes>(
 pub(crate) fn put_property<S: HeapShapes, T: Turnstile>(
     pass: &mut Pass,
     heap: &Heap<S>,
-    gate: &T,
+    turnstile: &T,
     call: Call,
     cell: u32,
     array: u32,
@@ -37,7 +37,7 @@ pub(crate) fn put_property<S: HeapShapes, T: Turnstile>(
     ensures answered { HasAnswered S.lists heap.now call (StoreElement cell array place value) result pass.old pass.new }
 {
     pass.store_element(heap, array, place, val_word(value), Some(call.op));
-    write_barrier(pass, heap, gate, cell, value);
+    write_barrier(pass, heap, turnstile, cell, value);
     pass.store_call(heap, call.number, None);
     Reply::Done
 }
@@ -47,7 +47,7 @@ pub(crate) fn put_property<S: HeapShapes, T: Turnstile>(
 pub(crate) fn append<S: HeapShapes, T: Turnstile>(
     pass: &mut Pass,
     heap: &Heap<S>,
-    gate: &T,
+    turnstile: &T,
     call: Call,
     addition: Addition,
     array: u32,
@@ -60,7 +60,7 @@ pub(crate) fn append<S: HeapShapes, T: Turnstile>(
     // the structure tells it, it is what the array says (`ArraysStand`, tide_core/specs/machine/points/Arrays.antt).
     pass.store_element(heap, array, addition.count, val_word(value), None);
     pass.store_structure(heap, addition.cell, shape_word(addition), Some(call.op));
-    write_barrier(pass, heap, gate, addition.cell, value);
+    write_barrier(pass, heap, turnstile, addition.cell, value);
     pass.store_call(heap, call.number, None);
     Reply::Done
 }

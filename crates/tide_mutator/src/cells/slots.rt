@@ -26,7 +26,7 @@ pub fn get<S: HeapShapes>(
 pub fn put<S: HeapShapes, T: Turnstile>(
     pass: &mut Pass,
     heap: &Heap<S>,
-    gate: &T,
+    turnstile: &T,
     call: Call,
     cell: u32,
     slot: u8,
@@ -37,7 +37,7 @@ pub fn put<S: HeapShapes, T: Turnstile>(
 {
     let word = val_word(value);
     pass.store_link(heap, cell, slot, word, Some(call.op));
-    write_barrier(pass, heap, gate, cell, value);
+    write_barrier(pass, heap, turnstile, cell, value);
     pass.store_call(heap, call.number, None);
     Reply::Done
 }

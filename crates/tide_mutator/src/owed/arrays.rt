@@ -14,7 +14,7 @@ use tide_model::{Place, Turnstile};
 pub fn replace<S: HeapShapes, T: Turnstile>(
     pass: &mut Pass,
     heap: &Heap<S>,
-    gate: &T,
+    turnstile: &T,
     growth: Growth,
     taken: u32,
     words: &[u64; 64],
@@ -40,8 +40,8 @@ pub fn replace<S: HeapShapes, T: Turnstile>(
     // (`GrowthsAreRight`, tide_core/specs/machine/points/Growths.antt), so such a scan loaded the array of its
     // structure (`ScansAreRight`, points/Scans.antt).
     pass.nuke(heap, growth.addition.cell, growth.old + 1);
-    gate.at(pass.who(), Place::Nuked, growth.addition.cell);
+    turnstile.at(pass.who(), Place::Nuked, growth.addition.cell);
     pass.store_array(heap, growth.addition.cell, taken);
-    gate.at(pass.who(), Place::Stored, growth.addition.cell);
+    turnstile.at(pass.who(), Place::Stored, growth.addition.cell);
     pass.store_structure(heap, growth.addition.cell, growth.next, None);
 }

@@ -43,7 +43,7 @@ pub state_of-blank : (contents : Stored) → IsBlank contents → state_of conte
 state_of-blank contents blank = λ i. record empty_state {
   active = λ who. ap (λ (m : StoredMutator). m.is_active) (mutator_at-blank contents blank who) i;
   registers = λ who register.
-      (ap (λ (m : StoredMutator). get_or m.registers register Empty) (mutator_at-blank contents blank who) ∙ get_or-copies 16 register Empty) i;
+      (ap (λ (m : StoredMutator). get_or m.registers register Empty) (mutator_at-blank contents blank who) ∙ get_or-copies 250 register Empty) i;
   claims = λ who. ap (λ (m : StoredMutator). m.claims.items) (mutator_at-blank contents blank who) i;
   strong = λ handle. (ap (λ (values : List Val). get_or values handle Empty) blank.strong ∙ get_or-copies contents.layout.strong handle Empty) i;
   weak = λ handle. (ap (λ (values : List Val). get_or values handle Empty) blank.weak ∙ get_or-copies contents.layout.weak handle Empty) i;

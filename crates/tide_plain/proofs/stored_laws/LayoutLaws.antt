@@ -40,7 +40,7 @@ IsWithinLayout-stored contents stored = record {
     | inr past ↦ absurd (used (ap status_of (get_or_past contents.statuses array Free past)))
   ];
   registers = λ who register past.
-      ap (λ (m : StoredMutator). get_or m.registers register Empty) (mutator_past contents who stored past) ∙ get_or-copies 16 register Empty;
+      ap (λ (m : StoredMutator). get_or m.registers register Empty) (mutator_past contents who stored past) ∙ get_or-copies 250 register Empty;
   claims = λ who past. ap (λ (m : StoredMutator). m.claims.items) (mutator_past contents who stored past);
   no_dead_cell = λ cell is. cell_law (get_or contents.are_live cell false) cell is;
   no_dead_array = λ array. not_dead (get_or contents.statuses array Free);

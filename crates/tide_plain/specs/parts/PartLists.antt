@@ -24,7 +24,7 @@ pub record ArrayLists : Type 0 where
 
 -- an active mutator whose registers are empty and that claims nothing
 abbrev pub blank_mutator : StoredMutator
-blank_mutator = record { is_active = true; registers = replicate 16 Empty; claims = record { items = [] } }
+blank_mutator = record { is_active = true; registers = replicate 250 Empty; claims = record { items = [] } }
 
 -- a stored cell that holds nothing
 abbrev pub blank_stored : StoredCell

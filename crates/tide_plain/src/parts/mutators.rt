@@ -13,7 +13,7 @@ use tide_model::{Memory, Val};
 #[derive(Drop)]
 pub struct StoredMutator {
     pub is_active: bool,
-    pub registers: [Val; 16],
+    pub registers: [Val; 250],
     pub claims: ArrayVec<u32, 8>,
 }
 
@@ -24,7 +24,7 @@ impl StoredMutator {
     {
         StoredMutator {
             is_active: true,
-            registers: [Val::Empty; 16],
+            registers: [Val::Empty; 250],
             claims: ArrayVec::new(),
         }
     }
@@ -68,8 +68,8 @@ impl Mutators {
     /// A mutator's register gets another value.
     pub fn fill(&mut self, who: u32, register: u8, value: Val)
         requires mutator { who < length self.old }
-        requires register { register < 16 }
-        ensures wide { length (mutator_at self.old who).registers ≡ 16 }
+        requires register { register < 250 }
+        ensures wide { length (mutator_at self.old who).registers ≡ 250 }
         ensures fill { self.new ≡ slice_set self.old who (filled (mutator_at self.old who) register value) }
     {
         self.mutators[who as usize].registers[usize::from(register)] = value;

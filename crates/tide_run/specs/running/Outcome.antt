@@ -1,5 +1,5 @@
 -- What the fields of an outcome mean, and how they agree.
-use Rattle.std.specs.Prelude.{ℕ, ◌≡◌, ◌≤◌, Bool, true, false, List, [], length, map, slice_get, Some, All}
+use Rattle.std.specs.Prelude.{ℕ, ◌≡◌, ◌≤◌, List, [], Option, None, length, map, slice_get, Some, All}
 use Rattle.tide_model.specs.declared.entry.Event.{Event}
 use Rattle.tide_model.specs.Cycle.{live_count}
 use Rattle.tide_model.specs.History.{state_after}
@@ -10,7 +10,9 @@ use Rattle.tide_periods.specs.Answered.{pair_of}
 use Rattle.tide_report.specs.Ends.{TellsEnds}
 use Rattle.tide_report.specs.Reports.{Reported}
 use Rattle.tide_periods.specs.Run.{HasRun}
+use Rattle.tide_periods.specs.Store.{Setting}
 use Rattle.tide_periods.specs.declared.run.Finished.{Finished}
+use Rattle.tide_threads.specs.OnThreads.{setting_left}
 use Rattle.tide_workload.specs.Words.{HasText, IsOperation, Work, limits_of}
 use Rattle.tide_run.specs.declared.running.outcome.Kept.{Kept}
 use Rattle.tide_run.specs.declared.running.outcome.Kept.TheVariants.{Own, Heap}
@@ -21,14 +23,14 @@ abbrev pub history_of : Kept → List Event
 history_of (Own told) = told.events.items
 history_of (Heap closed) = closed.seat.me.0.seen
 
--- whether a heap kept it
-abbrev pub is_heap : Kept → Bool
-is_heap (Own told) = false
-is_heap (Heap closed) = true
+-- the layout and the shapes of the heap that kept it, if one did
+abbrev pub heap_of_kept : Kept → Option Setting
+heap_of_kept (Own told) = None
+heap_of_kept (Heap closed) = Some (setting_left closed)
 
 -- the run that the fields of an outcome stand for
 abbrev pub ran_of : Layout → List (List ℕ) → Kept → Ran
-ran_of layout keys kept = record { layout = layout; keys = keys; history = history_of kept; is_heap = is_heap kept }
+ran_of layout keys kept = record { layout = layout; keys = keys; history = history_of kept; heap = heap_of_kept kept }
 
 -- the calls are those of the mutators, who alone made any; each of them has a text, so many cells live after the
 -- history, and the report tells its ends. Without visitors no race was met.

@@ -1,5 +1,5 @@
 -- A run, and when it is one of a workload.
-use Rattle.std.specs.Prelude.{ℕ, ◌≡◌, ◌≤◌, Bool, List, [], length, slice_get, Some, All}
+use Rattle.std.specs.Prelude.{ℕ, ◌≡◌, ◌≤◌, List, [], Option, length, slice_get, Some, All}
 use Rattle.tide_model.specs.declared.op.Op.{Op}
 use Rattle.tide_model.specs.declared.entry.Event.{Event}
 use Rattle.tide_model.specs.Layout.{Layout}
@@ -11,12 +11,13 @@ use Rattle.tide_periods.specs.Store.{Setting}
 use Rattle.tide_shape.specs.Shapes.{shapes_of_paths}
 use Rattle.tide_workload.specs.Words.{IsOperation, MAX_MUTATORS, MAX_OPS, Settings, Work, limits_of}
 
--- the layout of the store, the names of the property keys by number, the history, and whether a heap kept it
+-- the layout of the store, the names of the property keys by number, the history, and the layout and shapes of the
+-- heap that kept it, if one did
 pub record Ran : Type 0 where
   pub layout : Layout
   pub keys : List (List ℕ)
   pub history : List Event
-  pub is_heap : Bool
+  pub heap : Option Setting
 
 -- the plain numbers of a store with these settings and so many mutators and visitors
 abbrev pub layout_with : Settings → (mutators visitors : ℕ) → Layout

@@ -1,12 +1,13 @@
 //! What a run left, as the outcome of its workload.
 ghost use Rattle.std.specs.Prelude.{ℕ, ◌≡◌, ◌≤◌, map};
-ghost use Rattle.tide_run.specs.running.Outcome.{history_of, is_heap, HasLeft};
+ghost use Rattle.tide_run.specs.running.Outcome.{heap_of_kept, history_of, HasLeft};
 ghost use Rattle.tide_run.specs.running.Runs.{IsRunOf};
 
-use crate::running::outcome::{Kept, Outcome, Told};
+use crate::running::outcome::{Kept, Outcome, OwnHistory};
 use crate::running::starting::layout_of;
 use tide_model::Event;
 use tide_periods::Finished;
+use tide_shape::Shapes;
 use tide_table::Closed;
 use tide_workload::Workload;
 
@@ -26,7 +27,7 @@ pub(crate) fn kept_itself(ran: Finished<Vec<Event>>) -> Finished<Kept>
         live,
     } = ran;
     Finished {
-        kept: Kept::Own(Told { events }),
+        kept: Kept::Own(OwnHistory { events }),
         report,
         calls,
         live,
@@ -34,7 +35,7 @@ pub(crate) fn kept_itself(ran: Finished<Vec<Event>>) -> Finished<Kept>
 }
 
 /// What a run left whose history a heap kept.
-pub(crate) fn kept_by_heap(ran: Finished<Closed>) -> Finished<Kept>
+pub(crate) fn kept_by_heap(ran: Finished<Closed<Shapes>>) -> Finished<Kept>
     ensures { result ≡ record {
       kept = Kept.Heap ran.kept;
       report = ran.report;
@@ -69,7 +70,7 @@ pub(crate) fn outcome_of(
     requires left { (trigger : ℕ) × HasLeft load.now trigger visitors ran }
     requires none_met { visitors ≡ 0 → deferred ≡ 0 }
     ensures run { (trigger : ℕ) → HasLeft load.now trigger visitors ran → IsRunOf load.now trigger visitors result }
-    ensures heap { result.is_heap ≡ is_heap ran.kept }
+    ensures heap { result.heap ≡ heap_of_kept ran.kept }
     ensures history { result.history ≡ history_of ran.kept }
 {
     Outcome::new(layout_of(load, visitors), names, ran, deferred)

@@ -1,10 +1,9 @@
-//! A workload's heap that its mutators and visitors share, and running the workload on it, each of them on a thread of
-//! its own.
-ghost use Rattle.std.specs.Prelude.{◌≡◌, ◌≤◌, [], true, IfOk};
+//! A workload's heap that its mutators and visitors share, and running the workload on it, on threads.
+ghost use Rattle.std.specs.Prelude.{◌≡◌, ◌≤◌, [], IfOk, Some};
 ghost use Rattle.tide_run.specs.running.Runs.{AreScripts, IsRunOf, setting_of_work};
 ghost use Rattle.tide_periods.specs.Asking.{scripts_of};
-ghost use Rattle.tide_periods.specs.Part.{AreCallers};
-ghost use Rattle.tide_threads.specs.OnThreads.{callers_on, recorded_in, setting_in, MayOpenOn, Stands};
+ghost use Rattle.tide_periods.specs.Part.{AreCursors};
+ghost use Rattle.tide_threads.specs.OnThreads.{cursors_on, recorded_in, setting_in, MayOpenOn, Stands};
 
 use crate::running::finishing::{kept_by_heap, outcome_of};
 use crate::running::outcome::Outcome;
@@ -29,8 +28,8 @@ pub(crate) fn heap_for(
     ensures setting { IfOk result (λ on. setting_in on ≡ setting_of_work load.now visitors) }
     ensures nothing { IfOk result (λ on. (recorded_in on).history ≡ []) }
     ensures stands { IfOk result Stands }
-    ensures callers { IfOk result (λ on. AreCallers (recorded_in on) (callers_on on)) }
-    ensures scripts { IfOk result (λ on. AreScripts load.now (scripts_of (callers_on on))) }
+    ensures cursors { IfOk result (λ on. AreCursors (recorded_in on) (cursors_on on)) }
+    ensures scripts { IfOk result (λ on. AreScripts load.now (scripts_of (cursors_on on))) }
     ensures pacing { IfOk result (λ on. on.books.pacing ≡ pacing) }
     ensures opens { IfOk result (λ on. MayOpenOn on on.books.pacing.period) }
 {
@@ -48,25 +47,26 @@ pub(crate) fn heap_for(
     Ok(on)
 }
 
-/// Runs a workload on one heap, with a thread for each mutator and each visitor in each part. A cycle marks while calls
-/// go on between its pauses, and begins by itself where the workload's trigger asks for it; there may be up to 8
-/// visitors, who mark beside the calls.
+/// Runs a workload on one heap, with a thread for each mutator and each visitor in each part as far as so many threads
+/// go, and else one for several. A cycle marks while calls go on between its pauses, and begins by itself where the
+/// workload's trigger asks for it; there may be up to 8 visitors, who mark beside the calls.
 pub fn run<R: Threads + Sync, T: Turnstile>(
     rt: &R,
+    threads: usize,
     alloc: Global,
     load: &Workload,
     visitors: u8,
-    gate: &T,
+    turnstile: &T,
 ) -> Result<Outcome, Memory>
     requires { visitors ≤ 8 }
     ensures run { IfOk result (IsRunOf load.now load.now.settings.trigger visitors) }
-    ensures heap { IfOk result (λ ran. ran.is_heap ≡ true) }
+    ensures heap { IfOk result (λ ran. ran.heap ≡ Some (setting_of_work load.now visitors)) }
 {
     let settings = load.settings();
     let names = names_of(alloc, load)?;
     let pacing = pacing_with(settings, settings.trigger);
     let on = heap_for(alloc, load, visitors, pacing)?;
-    let HeapRun { finished, deferred } = run_on_threads(rt, gate, on)?;
+    let HeapRun { finished, deferred } = run_on_threads(rt, threads, turnstile, on)?;
     let kept = kept_by_heap(finished);
     Ok(outcome_of(load, visitors, names, kept, deferred))
 }

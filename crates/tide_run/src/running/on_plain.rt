@@ -39,7 +39,7 @@ fn run_with<T: Recorder + Drop>(
     requires headroom { pacing.headroom ≡ load.now.settings.headroom }
     requires paces { T.paces pacing }
     ensures run { IfOk result (IsRunOf load.now pacing.trigger 0) }
-    ensures own { IfOk result (λ ran. ran.is_heap ≡ false) }
+    ensures own { IfOk result (λ ran. ran.heap ≡ None) }
 {
     let names = names_of(alloc, load)?;
     let parts = InTurn::new(alloc, recorder, scripts)?;
@@ -51,7 +51,7 @@ fn run_with<T: Recorder + Drop>(
 /// another, in the order of their numbers. No cycle begins by itself.
 pub fn plain(alloc: Global, load: &Workload) -> Result<Outcome, Memory>
     ensures run { IfOk result (IsRunOf load.now 0 0) }
-    ensures own { IfOk result (λ ran. ran.is_heap ≡ false) }
+    ensures own { IfOk result (λ ran. ran.heap ≡ None) }
 {
     let scripts = copied_scripts(alloc, load)?;
     let room = room_for(scripts.as_slice());

@@ -6,11 +6,12 @@ use tide_layout::Layout;
 use tide_model::Event;
 use tide_periods::{Answered, Finished};
 use tide_report::Report;
+use tide_shape::Shapes;
 use tide_table::Closed;
 
 /// A history that a run kept itself: its events, in order.
 #[derive(Drop)]
-pub struct Told {
+pub struct OwnHistory {
     pub(crate) events: Vec<Event>,
 }
 
@@ -18,9 +19,9 @@ pub struct Told {
 #[derive(Drop)]
 pub enum Kept {
     /// By the run itself.
-    Own(Told),
+    Own(OwnHistory),
     /// By a heap that threads shared, which this run opened and closed. Its history is for contracts alone.
-    Heap(Closed),
+    Heap(Closed<Shapes>),
 }
 
 /// A run's history, its replies, its cycles and what lives at its end.

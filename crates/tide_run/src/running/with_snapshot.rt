@@ -1,7 +1,7 @@
 //! Running a workload on the heap that its mutators share, with a snapshot of what the heap holds at the end.
-ghost use Rattle.std.specs.Prelude.{◌≡◌, ◌≤◌, true, IfOk};
+ghost use Rattle.std.specs.Prelude.{◌≡◌, ◌≤◌, IfOk, Some};
 ghost use Rattle.tide_model.specs.History.{state_after};
-ghost use Rattle.tide_run.specs.running.Runs.{IsRunOf};
+ghost use Rattle.tide_run.specs.running.Runs.{IsRunOf, setting_of_work};
 ghost use Rattle.tide_retained.specs.Contents.{HasKeysOf};
 ghost use Rattle.tide_retained.specs.Holding.{IsSnapshotOf};
 ghost use Rattle.tide_shape.specs.Shapes.{shapes_of_paths};
@@ -22,14 +22,15 @@ use tide_workload::Workload;
 /// snapshot may be written under the names of this workload's keys.
 pub fn run_with_snapshot<R: Threads + Sync, T: Turnstile>(
     rt: &R,
+    threads: usize,
     alloc: Global,
     load: &Workload,
     visitors: u8,
-    gate: &T,
+    turnstile: &T,
 ) -> Result<(Outcome, Snapshot), Memory>
     requires { visitors ≤ 8 }
     ensures run { IfOk result (λ shown. IsRunOf load.now load.now.settings.trigger visitors shown.0) }
-    ensures heap { IfOk result (λ shown. shown.0.is_heap ≡ true) }
+    ensures heap { IfOk result (λ shown. shown.0.heap ≡ Some (setting_of_work load.now visitors)) }
     ensures snapshot { IfOk result (λ shown.
         IsSnapshotOf shown.0.layout (state_after shown.0.layout shown.0.history) shown.1) }
     ensures keys { IfOk result (λ shown. HasKeysOf (shapes_of_paths load.now.paths) shown.1) }
@@ -38,7 +39,7 @@ pub fn run_with_snapshot<R: Threads + Sync, T: Turnstile>(
     let names = names_of(alloc, load)?;
     let pacing = pacing_with(settings, settings.trigger);
     let on = heap_for(alloc, load, visitors, pacing)?;
-    let (left, snapshot) = run_to_snapshot(rt, alloc, gate, on)?;
+    let (left, snapshot) = run_to_snapshot(rt, threads, alloc, turnstile, on)?;
     let HeapRun { finished, deferred } = left;
     let kept = kept_by_heap(finished);
     let outcome = outcome_of(load, visitors, names, kept, deferred);

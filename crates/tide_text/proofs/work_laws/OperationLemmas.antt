@@ -7,7 +7,7 @@ use Rattle.std.proofs.lemmas.Bool.{ltb-true}
 use Rattle.std.proofs.lemmas.Bool.Decides.{nat_tests}
 use Rattle.tide_model.specs.declared.op.Op.{Op}
 use Rattle.tide_model.specs.declared.op.Op.TheVariants.{Alloc, Table, Get, Put, Move, Set, Drop, Claim, Release, Unclaim, Add, GetProp, SetProp, StrongSet, StrongGet, WeakSet, WeakGet, PairSet, PairGet, PairDel, Group, Collect}
-use Rattle.tide_text.specs.work.OpLimits.{OpLimits}
+use Rattle.tide_text.specs.work.OpArguments.{OpArguments}
 use Rattle.tide_text.specs.work.ReadOp.{register_of, key_of, one, two, three, alone, pair_op_named, handle_op_named, property_op_named, op_named, op_of_words, op_of}
 use Rattle.tide_text.specs.work.Words.{is_numeral, number_of, number_below, one_word, two_words, three_words, words_in, is_trimmed}
 use Rattle.tide_text.specs.work.Work.{IsOperation}
@@ -27,7 +27,7 @@ below_limit limit word n h =
     step true m is given = let e : m ≡ n = cc in subst (λ (k : ℕ). k < limit) e (ltb-true m limit is)
     step false m is given = absurd (cc)
 
-register_below : (limits : OpLimits) (word : List ℕ) (r : ℕ) → register_of limits word ≡ Some r → r < limits.registers
+register_below : (limits : OpArguments) (word : List ℕ) (r : ℕ) → register_of limits word ≡ Some r → r < limits.registers
 register_below limits [] r h = absurd (cc)
 register_below limits (first ∷ digits) r h = step (first == 114) h
   where
@@ -35,7 +35,7 @@ register_below limits (first ∷ digits) r h = step (first == 114) h
     step true given = below_limit limits.registers digits r given
     step false given = absurd (cc)
 
-key_below : (limits : OpLimits) (word : List ℕ) (key : ℕ) → key_of limits word ≡ Some key → key < length limits.keys
+key_below : (limits : OpArguments) (word : List ℕ) (key : ℕ) → key_of limits word ≡ Some key → key < length limits.keys
 key_below limits word key h = grind (arith, nat_tests)
 
 map_step : {A : Type 0} (o : Option A) (make : A → Op) (op : Op) → option_map make o ≡ Some op → (a : A) × (o ≡ Some a) × (make a ≡ op)
@@ -94,7 +94,7 @@ alone_within Is lone is (word ∷ words) op h = absurd (cc)
 none_within : (Is : Op → Type 0) (op : Op) → None ≡ Some op → Is op
 none_within Is op h = absurd (cc)
 
-module _ (limits : OpLimits) where
+module _ (limits : OpArguments) where
   abbrev Is : Op → Type 0
   Is op = IsOperation limits op
 

@@ -3,12 +3,12 @@ use Rattle.std.specs.Prelude.{◌≡◌, true, false, [], ◌∷◌, codes, Some
 use Rattle.tide_model.specs.declared.op.Op.TheVariants.{Alloc, Table, Get, Put, Move, Set, Drop, Claim, Release, Unclaim, Add, GetProp, SetProp, StrongSet, StrongGet, WeakSet, WeakGet, PairSet, PairGet, PairDel, Group, Collect}
 use Rattle.tide_text.specs.declared.work.workload.TheConstants.{MAX_MUTATORS, MAX_OPS}
 use Rattle.tide_text.specs.work.Keys.{is_key}
-use Rattle.tide_text.specs.work.OpLimits.{OpLimits}
+use Rattle.tide_text.specs.work.OpArguments.{OpArguments}
 use Rattle.tide_text.specs.work.ReadOp.{op_of}
 use Rattle.tide_text.specs.work.Words.{words_in, number_of}
 
 -- four registers, two handles of each kind, and the keys `a` and `next`
-abbrev pub few : OpLimits
+abbrev pub few : OpArguments
 few = record { registers = 4; strong = 2; weak = 2; keys = codes "a" ∷ codes "next" ∷ [] }
 
 -- which texts are operations there

@@ -6,7 +6,7 @@ use Rattle.tide_shape.specs.Shapes.{first_double, IsPath}
 use Rattle.tide_text.specs.declared.work.keys.TheConstants.{MAX_KEYS}
 use Rattle.tide_text.specs.declared.work.workload.TheConstants.{MAX_MUTATORS, MAX_OPS}
 use Rattle.tide_text.specs.declared.work.settings.Settings.{Settings}
-use Rattle.tide_text.specs.work.OpLimits.{OpLimits, limits_with}
+use Rattle.tide_text.specs.work.OpArguments.{OpArguments, limits_with}
 use Rattle.tide_text.specs.work.Keys.{is_key}
 
 -- the settings, the names of the property keys by number, the declared paths as numbers of keys, and each mutator's
@@ -56,7 +56,7 @@ pub record ArePaths (keys : ℕ) (paths : List (List ℕ)) : Type 0 where
   pub distinct : first_double paths ≡ None
 
 -- the operation is one that a workload may have, with numbers in their limits
-abbrev pub IsOperation : OpLimits → Op → Type 0
+abbrev pub IsOperation : OpArguments → Op → Type 0
 IsOperation limits (Alloc dst class) = (dst < limits.registers) × (class < 4)
 IsOperation limits (Table dst) = dst < limits.registers
 IsOperation limits (Get dst src slot) = (dst < limits.registers) × (src < limits.registers) × (slot < 16)
@@ -82,11 +82,11 @@ IsOperation limits Collect = Unit {0}
 IsOperation limits Retire = ⊥
 
 -- each mutator's operations have numbers in their limits
-abbrev pub AreOperations : OpLimits → List (List Op) → Type 0
+abbrev pub AreOperations : OpArguments → List (List Op) → Type 0
 AreOperations limits scripts = All (λ ops. All (IsOperation limits) ops) scripts
 
 -- what a workload's operations may name
-abbrev pub limits_of : Work → OpLimits
+abbrev pub limits_of : Work → OpArguments
 limits_of work = limits_with work.settings work.keys
 
 -- a workload within its limits

@@ -3,12 +3,12 @@ ghost use Rattle.std.specs.Prelude.{◌≡◌};
 ghost use Rattle.tide_text.specs.work.Words.{words_in};
 ghost use Rattle.tide_text.specs.work.ReadOp.{op_of, op_named, property_op_named, handle_op_named, pair_op_named, alone};
 
-use crate::work::op_limits::OpLimits;
+use crate::work::op_arguments::OpArguments;
 use crate::work::words::{is_trimmed, next_word};
 use tide_model::Op;
 
 /// The operation that a text is, under these limits.
-pub fn op_of(text: &[u8], limits: &OpLimits<'_>) -> Option<Op>
+pub fn op_of(text: &[u8], limits: &OpArguments<'_>) -> Option<Op>
     ensures { result ≡ op_of limits.now text.now }
 {
     if !is_trimmed(text) {
@@ -20,7 +20,7 @@ pub fn op_of(text: &[u8], limits: &OpLimits<'_>) -> Option<Op>
 
 /// The operation of this name with these arguments.
 #[tactic(auto, unfolding(crate::specs::work::ReadOp::op_named))]
-fn op_named(name: &[u8], arguments: &[u8], limits: &OpLimits<'_>) -> Option<Op>
+fn op_named(name: &[u8], arguments: &[u8], limits: &OpArguments<'_>) -> Option<Op>
     ensures { result ≡ op_named limits.now name.now (words_in arguments.now) }
 {
     match name {
@@ -37,7 +37,7 @@ fn op_named(name: &[u8], arguments: &[u8], limits: &OpLimits<'_>) -> Option<Op>
 
 /// The operation on claims or properties of this name, or one on handles, tables or groups.
 #[tactic(auto, unfolding(crate::specs::work::ReadOp::property_op_named))]
-fn property_op_named(name: &[u8], arguments: &[u8], limits: &OpLimits<'_>) -> Option<Op>
+fn property_op_named(name: &[u8], arguments: &[u8], limits: &OpArguments<'_>) -> Option<Op>
     ensures { result ≡ property_op_named limits.now name.now (words_in arguments.now) }
 {
     match name {
@@ -53,7 +53,7 @@ fn property_op_named(name: &[u8], arguments: &[u8], limits: &OpLimits<'_>) -> Op
 
 /// The operation on handles of this name, or one on tables or groups.
 #[tactic(auto, unfolding(crate::specs::work::ReadOp::handle_op_named))]
-fn handle_op_named(name: &[u8], arguments: &[u8], limits: &OpLimits<'_>) -> Option<Op>
+fn handle_op_named(name: &[u8], arguments: &[u8], limits: &OpArguments<'_>) -> Option<Op>
     ensures { result ≡ handle_op_named limits.now name.now (words_in arguments.now) }
 {
     match name {
@@ -67,7 +67,7 @@ fn handle_op_named(name: &[u8], arguments: &[u8], limits: &OpLimits<'_>) -> Opti
 
 /// The operation on tables or groups of this name.
 #[tactic(auto, unfolding(crate::specs::work::ReadOp::pair_op_named))]
-fn pair_op_named(name: &[u8], arguments: &[u8], limits: &OpLimits<'_>) -> Option<Op>
+fn pair_op_named(name: &[u8], arguments: &[u8], limits: &OpArguments<'_>) -> Option<Op>
     ensures { result ≡ pair_op_named limits.now name.now (words_in arguments.now) }
 {
     match name {

@@ -46,7 +46,7 @@ impl Model for Workload {
 impl Workload {
     ghost use Rattle.std.specs.Prelude.{◌≡◌, ◌≢◌, ◌<◌, ◌≤◌, [], Some, true, length, map, slice_get, All, AllPairs};
     ghost use Rattle.tide_text.specs.work.Keys.{is_key};
-    ghost use Rattle.tide_text.specs.work.OpLimits.{limits_with};
+    ghost use Rattle.tide_text.specs.work.OpArguments.{limits_with};
     ghost use Rattle.tide_text.specs.work.Work.{AreOperations, ArePaths, AreSettings, IsBetween, IsOperation, IsSized, IsWork, limits_of};
 
     /// A workload of parts that are within its limits.

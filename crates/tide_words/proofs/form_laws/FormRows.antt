@@ -96,7 +96,7 @@ first_pair = refl
 pair : pair_word 1 (Cell 2) ≡ 137438953482
 pair = refl
 
-last_pair : pair_word 20479 (Int 7) ≡ 1407374883553309
+last_pair : pair_word 83886079 (Int 7) ≡ 5764607523034234909
 last_pair = refl
 
 no_word_is_no_pair : ¬ IsPairWord 0
@@ -114,7 +114,7 @@ pair_with_no_value (key, Empty, few, fits, e) = absurd (omega arith)
 pair_with_no_value (key, Int n, few, fits, e) = absurd (omega arith)
 pair_with_no_value (key, Cell c, few, fits, e) = absurd (omega arith)
 
-pair_with_no_key : ¬ IsPairWord 1407443603030016
+pair_with_no_key : ¬ IsPairWord 5764607591753711616
 pair_with_no_key (key, Empty, few, fits, e) = absurd (omega arith)
 pair_with_no_key (key, Int n, few, fits, e) = absurd (omega arith)
 pair_with_no_key (key, Cell c, few, fits, e) = absurd (omega arith)

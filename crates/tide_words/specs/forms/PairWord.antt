@@ -3,9 +3,9 @@ use Rattle.std.specs.Prelude.{◌≡◌, ℕ, ◌+◌, ◌*◌, ◌^◌, ◌<◌
 use Rattle.tide_model.specs.declared.val.Val.{Val}
 use Rattle.tide_words.specs.forms.ValueWord.{val_word, HasU32}
 
--- no layout has more cells: 64 in each of 64 blocks of five classes
+-- no layout has more cells: 64 in each of 262,144 blocks of five classes
 abbrev pub max_cells : ℕ
-max_cells = 20480
+max_cells = 83886080
 
 -- the word of the pair of a key cell and a value
 abbrev pub pair_word : ℕ → Val → ℕ

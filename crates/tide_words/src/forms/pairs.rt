@@ -7,7 +7,7 @@ use crate::{val_word, word_val};
 use tide_model::Val;
 
 /// No layout has more cells.
-pub const MAX_CELLS: u32 = 20_480;
+pub const MAX_CELLS: u32 = 83_886_080;
 
 /// A pair's word has its key cell, plus 1, above these bits, and its value's word in them.
 const VALUE_BITS: u64 = 36;

@@ -59,7 +59,7 @@ returns-clause-stands c =
     record {
       frozen = ap (λ (x : View). x.frozen) freezes.view;
       seen = ap (λ (x : View). x.seen) freezes.view ∙ seen;
-      base = ap (λ (x : View). x.base) freezes.view ∙ sym words;
+      words_at_entry = ap (λ (x : View). x.words_at_entry) freezes.view ∙ sym words;
       stood = ap (λ (x : View). x.stood) freezes.view ∙ sym words;
       long = ap {A = List ℕ} length words ∙ freezes.long;
       wave = subst (λ (ws : List ℕ). FrozenWith layout shapes (heap_of layout ws) (opened_once 5) 0) (sym words)

@@ -7,7 +7,7 @@ use Rattle.tide_block.proofs.classes.class_from.Given as goal
 abbrev pub invariant-loop-earlier : goal.invariant-loop-earlier
 invariant-loop-earlier l = record {
   end : l.end ≡ first_block_of l.layout (l.first + l.earlier);
-  few : l.end ≤ 64 * (l.first + l.earlier);
+  few : l.end ≤ 262144 * (l.first + l.earlier);
   class : l.class ≡ l.first + count_where (λ class. nat_le (first_block_of l.layout (class + 1 + l.first)) l.block) l.earlier;
   small : l.class ≤ l.first + l.earlier;
 }

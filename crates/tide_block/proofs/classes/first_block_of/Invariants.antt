@@ -6,5 +6,5 @@ use Rattle.tide_block.proofs.classes.first_block_of.Given as goal
 abbrev pub invariant-loop-smaller : goal.invariant-loop-smaller
 invariant-loop-smaller l = record {
   first : l.block ≡ first_block_of l.layout l.smaller;
-  few : l.block ≤ 64 * l.smaller;
+  few : l.block ≤ 262144 * l.smaller;
 }

@@ -26,7 +26,7 @@ use Rattle.tide_words.specs.marking.Marking.{times_in}
 use Rattle.tide_words.specs.tide_layout.declared.region.Region.TheVariants as region
 
 -- a cell that passes stands as often after a test as before, and one that doesn't, not at all
-times_in-filter : (test : ℕ → Bool) (cells : List ℕ) (cell : ℕ) →
+pub times_in-filter : (test : ℕ → Bool) (cells : List ℕ) (cell : ℕ) →
     times_in (filter test cells) cell ≡ (if test cell then times_in cells cell else 0)
 times_in-filter test [] cell = by_test (test cell)
   where

@@ -26,7 +26,7 @@ use Rattle.tide_core.specs.machine.Views.{with_entry}
 use Rattle.tide_core.specs.machine.Words.{all_but}
 use Rattle.tide_core.specs.machine.World.{World, parties}
 use Rattle.tide_core.specs.declared.machine.view.Duty.TheVariants as duty
-use Rattle.tide_core.specs.declared.machine.view.Found.{Found}
+use Rattle.tide_core.specs.declared.machine.view.FullBlock.{FullBlock}
 use Rattle.tide_core.specs.machine.kinds.LoadFree.{MayLoadFree, looked_view}
 use Rattle.tide_model.proofs.ReferenceLaws.{after_call-refused}
 use Rattle.tide_model.specs.History.{state_after, state_at}
@@ -62,7 +62,7 @@ module _ (layout : Layout) (shapes : ShapeLists) (w : World) (me : ℕ) (inside 
   finds b moment word at = elim (Contains-append_cases
       (record { block = block; moment = length w.log; word = read } ∷ [])
       (w.part me).full (record { block = b; moment = moment; word = word }) at) [
-        | inl here ↦ subst (λ (f : Found). (window_start me w.log ≤ f.moment) × (f.moment ≤ length w.log) ×
+        | inl here ↦ subst (λ (f : FullBlock). (window_start me w.log ≤ f.moment) × (f.moment ≤ length w.log) ×
             FreeIsShown layout (state_at layout w.log f.moment) f.block f.word)
             (in_one (record { block = block; moment = length w.log; word = read })
             (record { block = b; moment = moment; word = word }) here) (

@@ -20,7 +20,7 @@ use Rattle.tide_core.specs.machine.Owed.{own_register, own_structure, own_array,
 use Rattle.tide_core.specs.machine.RunningWave.{RunningWave}
 use Rattle.tide_core.specs.machine.Scanning.{Place}
 use Rattle.tide_core.specs.machine.World.{World, parties}
-use Rattle.tide_core.specs.declared.machine.view.Found.{Found}
+use Rattle.tide_core.specs.declared.machine.view.FullBlock.{FullBlock}
 use Rattle.tide_core.specs.declared.machine.view.Scan.{Scan}
 use Rattle.tide_core.specs.declared.machine.view.View.{View}
 use Rattle.tide_core.specs.machine.points.Links.{Excuses, ScanExcuses}
@@ -132,7 +132,7 @@ module _ (layout : Layout) (shapes : ShapeLists) (heap : Heap) (state : State) (
 module _ (layout : Layout) (shapes : ShapeLists) (w : World) (me : ℕ) (inside : me < parties)
     (wave : RunningWave layout shapes w) (runs : (w.part me).runs ≡ true)
     (block word : ℕ) (same : (k : ℕ) → k < 64 → bit_at word k ≡ bit_at (wave.words.settled region.Free block) k)
-    (full : List Found)
+    (full : List FullBlock)
     (finds : (b moment shown : ℕ) → Contains full (record { block = b; moment = moment; word = shown }) →
     (window_start me w.log ≤ moment) × (moment ≤ length w.log)
     × FreeIsShown layout (state_at layout w.log moment) b shown)

@@ -46,7 +46,7 @@ limits = record {
   few_visitors = omega arith;
 }
   where
-    few : (class : ℕ) → blocks_of small class ≤ 64
+    few : (class : ℕ) → blocks_of small class ≤ 262144
     few zero = omega arith
     few (suc zero) = omega arith
     few (suc (suc zero)) = omega arith

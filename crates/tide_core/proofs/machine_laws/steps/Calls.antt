@@ -18,7 +18,7 @@ use Rattle.tide_core.specs.machine.RunningWave.{RunningWave}
 use Rattle.tide_core.specs.machine.Scanning.{IsTrue, Place, slot, property}
 use Rattle.tide_core.specs.machine.Words.{count_of}
 use Rattle.tide_core.specs.machine.World.{total, parties, pushes}
-use Rattle.tide_core.specs.declared.machine.view.Found.{Found}
+use Rattle.tide_core.specs.declared.machine.view.FullBlock.{FullBlock}
 use Rattle.tide_core.specs.declared.machine.view.Owed.{Owed}
 use Rattle.tide_core.specs.declared.machine.view.Scan.{Scan}
 use Rattle.tide_core.specs.declared.machine.view.View.{View}
@@ -323,7 +323,7 @@ module _ (layout : Layout) (shapes : ShapeLists) (old : Heap) (part : ℕ → Vi
             (window_start p longer ≤ moment) × (moment ≤ length longer) ×
             FreeIsShown layout (state_at layout longer moment) block word) part me w
             (λ block moment word is. absurd (none_full block moment word
-            (subst (λ (l : List Found). Contains l (record { block = block; moment = moment; word = word })) s.full is)))
+            (subst (λ (l : List FullBlock). Contains l (record { block = block; moment = moment; word = word })) s.full is)))
             (λ p apart block moment word is. let was = wave.kept.full p block moment word is in (
               subst (λ (n : ℕ). n ≤ moment) (sym (Growing.window_start-other log me op reply took p apart)) was.0,
               (let l = Growing.length-push log (call_of me op reply took) in let m = was.1 in omega (arith, l, m)),
@@ -476,7 +476,7 @@ module _ (layout : Layout) (shapes : ShapeLists) (old : Heap) (part : ℕ → Vi
         was_at_hand cell (buffered scan is at) = buffered scan (sym s.scan ∙ is) at
 
         none_full : (block moment word : ℕ) →
-            Contains {X = Found} [] (record { block = block; moment = moment; word = word }) → ⊥
+            Contains {X = FullBlock} [] (record { block = block; moment = moment; word = word }) → ⊥
         none_full block moment word is = nothing_in (record { block = block; moment = moment; word = word }) is
 
         nothing_known : {X : Type 0} (at : Region) (index word : ℕ) → Contains w.known (owed_word at index word) → X

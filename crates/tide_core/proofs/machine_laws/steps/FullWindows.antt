@@ -4,7 +4,7 @@ use Rattle.std.proofs.lemmas.Nat.Bits.{bit_at-zero}
 use Rattle.std.specs.Prelude.{Contains}
 use Rattle.tide_core.specs.machine.Looked.{FreeIsShown}
 use Rattle.tide_core.specs.declared.machine.view.Cleared.{Cleared}
-use Rattle.tide_core.specs.declared.machine.view.Found.{Found}
+use Rattle.tide_core.specs.declared.machine.view.FullBlock.{FullBlock}
 use Rattle.tide_model.specs.Cycle.{IsSwept}
 use Rattle.tide_model.specs.History.{state_at}
 use Rattle.tide_model.specs.Layout.{Layout, IsBlockOf}
@@ -19,7 +19,7 @@ shown_full layout state block shown = record {
   arrays = λ array within at. shown.arrays array within at (bit_at-zero (array % 64));
 }
 
-module _ (layout : Layout) (log : List Event) (who class : ℕ) (full : List Found) (cleared : List Cleared)
+module _ (layout : Layout) (log : List Event) (who class : ℕ) (full : List FullBlock) (cleared : List Cleared)
     (finds : (block moment word : ℕ) → Contains full (record { block = block; moment = moment; word = word }) →
     (window_start who log ≤ moment) × (moment ≤ length log) × FreeIsShown layout (state_at layout log moment) block word) where
   -- In a part in which no cycle marks the view has seen of each block one word that was 0, and the block was cleared by

@@ -15,7 +15,7 @@ use Rattle.tide_core.specs.machine.RunningWave.{RunningWave}
 use Rattle.tide_core.specs.machine.Scanning.{IsTrue, Place}
 use Rattle.tide_core.specs.machine.Words.{count_of}
 use Rattle.tide_core.specs.machine.World.{holds, parties}
-use Rattle.tide_core.specs.declared.machine.view.Found.{Found}
+use Rattle.tide_core.specs.declared.machine.view.FullBlock.{FullBlock}
 use Rattle.tide_core.specs.declared.machine.view.Owed.{Owed}
 use Rattle.tide_core.specs.declared.machine.view.Scan.{Scan}
 use Rattle.tide_core.specs.declared.machine.view.Target.{Target}
@@ -51,7 +51,7 @@ use Rattle.tide_words.specs.tide_layout.declared.region.Region.TheVariants as re
 abbrev pub Answers : Heap → Heap → ℕ → Place → ℕ → View → Type 0
 Answers old new source place cell u = StillOwes new u.duty source ⊎ ScanExcuses old source place cell u.scan
 
-abbrev found : ℕ → ℕ → ℕ → Found
+abbrev found : ℕ → ℕ → ℕ → FullBlock
 found block moment word = record { block = block; moment = moment; word = word }
 
 module _ (layout : Layout) (shapes : ShapeLists) (old : Heap) (part : ℕ → View) (log : List Event) (me : ℕ)
@@ -202,7 +202,7 @@ module _ (layout : Layout) (shapes : ShapeLists) (old : Heap) (part : ℕ → Vi
       seen = inl s.seen;
       mine = s.mine;
       finds = λ block moment word at. wave.kept.full me block moment word
-          (subst (λ (o : List Found). Contains o (found block moment word)) s.full at);
+          (subst (λ (o : List FullBlock). Contains o (found block moment word)) s.full at);
       period = s.period;
       begins = (let b = wave.numbers.begun me in let e = s.begun in omega (arith, b, e));
       left = s.left;

@@ -11,7 +11,7 @@ use Rattle.tide_core.specs.machine.RunningWave.{RunningWave}
 use Rattle.tide_core.specs.machine.Scanning.{IsTrue, Place, property}
 use Rattle.tide_core.specs.machine.Words.{count_of}
 use Rattle.tide_core.specs.machine.World.{total, holds, parties}
-use Rattle.tide_core.specs.declared.machine.view.Found.{Found}
+use Rattle.tide_core.specs.declared.machine.view.FullBlock.{FullBlock}
 use Rattle.tide_core.specs.declared.machine.view.Scan.{Scan}
 use Rattle.tide_core.specs.declared.machine.view.Target.{Target}
 use Rattle.tide_core.specs.declared.machine.view.View.{View}
@@ -53,7 +53,7 @@ use Rattle.tide_words.specs.tide_layout.declared.region.Region.TheVariants as re
 use Rattle.tide_core.specs.declared.machine.view.Duty.TheVariants as duty
 use Rattle.tide_core.specs.declared.machine.view.Growth.TheVariants as growth
 
-abbrev found : ℕ → ℕ → ℕ → Found
+abbrev found : ℕ → ℕ → ℕ → FullBlock
 found block moment word = record { block = block; moment = moment; word = word }
 
 module _ (layout : Layout) (shapes : ShapeLists) (old : Heap) (part : ℕ → View) (log : List Event) (me : ℕ)

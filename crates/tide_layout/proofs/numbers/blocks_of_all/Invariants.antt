@@ -5,5 +5,5 @@ use Rattle.tide_layout.proofs.numbers.blocks_of_all.Given as goal
 abbrev pub invariant-loop-of_class : goal.invariant-loop-of_class
 invariant-loop-of_class l = record {
   counted : l.count ≡ sum (take l.of_class-index l.blocks);
-  small : l.count ≤ 255 * l.of_class-index;
+  small : l.count ≤ 262144 * l.of_class-index;
 }

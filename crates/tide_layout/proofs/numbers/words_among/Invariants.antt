@@ -7,5 +7,5 @@ abbrev pub invariant-loop-class : goal.invariant-loop-class
 invariant-loop-class l = record {
   rest : l.rest ≡ l.ids - 64 * sum (take l.class l.blocks);
   counted : l.words ≡ words_among l.blocks l.first (min l.ids (64 * sum (take l.class l.blocks)));
-  small : l.words ≤ 64 * 255 * 255 * l.class;
+  small : l.words ≤ 2080374784;
 }

@@ -2,7 +2,7 @@
 use Rattle.std.proofs.Common.{◌≡◌, ◌∙◌, ap, subst, sym, arith, List, [], map, Vec, Global}
 use Rattle.tide_model.specs.declared.op.Op.{Op}
 use Rattle.tide_text.specs.declared.work.settings.Settings.{Settings}
-use Rattle.tide_text.specs.work.OpLimits.{limits_with}
+use Rattle.tide_text.specs.work.OpArguments.{limits_with}
 use Rattle.tide_text.specs.work.Work.{AreOperations, IsSized}
 use Rattle.tide_make.specs.Made.{scripts_below}
 use Rattle.tide_make.proofs.Laws.{limits, scripts_sized, scripts_within}

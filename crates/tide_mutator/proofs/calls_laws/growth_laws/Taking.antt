@@ -37,7 +37,7 @@ use Rattle.tide_heap.specs.tide_core.machine.Moment.{Moment}
 use Rattle.tide_heap.specs.tide_core.machine.Owed.{Knows, owed_elements, owed_word, own_structure}
 use Rattle.tide_heap.specs.tide_core.machine.Views.{with_entry}
 use Rattle.tide_heap.specs.tide_core.machine.Words.{all_but, cell_named}
-use Rattle.tide_heap.specs.tide_core.declared.machine.view.Found.{Found}
+use Rattle.tide_heap.specs.tide_core.declared.machine.view.FullBlock.{FullBlock}
 use Rattle.tide_heap.specs.tide_core.declared.machine.view.Growth.{Growth as Stage}
 use Rattle.tide_heap.specs.tide_core.declared.machine.view.View.{View}
 use Rattle.tide_heap.specs.tide_core.machine.kinds.LoadFree.{looked_view}

@@ -2,7 +2,7 @@
 use Rattle.std.proofs.Common.{◌∙◌, refl, sym, arith, subst}
 use Rattle.tide_model.specs.Periods.{ArePeriods, no_period}
 use Rattle.tide_sched.specs.Paces.{pace_of}
-use Rattle.tide_periods.proofs.Freezing.{is_over-callers}
+use Rattle.tide_periods.proofs.Freezing.{is_over-cursors}
 use Rattle.tide_periods.proofs.Running.{ArePeriods-ran, RanAll-over, run_of_nothing}
 use Rattle.tide_periods.proofs.periods.run_periods.Goals as goal
 
@@ -12,7 +12,7 @@ loop-pacing-init g c = record {
   stands = c.requires.stands;
   same = refl;
   scripts = refl;
-  callers = c.requires.callers;
+  cursors = c.requires.cursors;
   periods = subst (ArePeriods (pace_of c.args.pacing) (g.T.Parts.recorded c.args.parts.now).setting.layout) (sym c.requires.nothing) no_period;
   cycles = omega arith;
   left = omega arith;
@@ -22,7 +22,7 @@ loop-pacing-init g c = record {
 
 pub run_period-requires-clause-goes_on : goal.run_period-requires-clause-goes_on
 run_period-requires-clause-goes_on g c =
-    sym (is_over-callers (g.T.Parts.recorded c.loop-pacing.parts) (g.T.Parts.callers c.loop-pacing.parts) c.loop-pacing.invariant.callers) ∙ sym c.are_all_retired.ensures ∙ c.loop-pacing-test.true
+    sym (is_over-cursors (g.T.Parts.recorded c.loop-pacing.parts) (g.T.Parts.cursors c.loop-pacing.parts) c.loop-pacing.invariant.cursors) ∙ sym c.are_all_retired.ensures ∙ c.loop-pacing-test.true
 
 pub loop-pacing-preserved : goal.loop-pacing-preserved
 loop-pacing-preserved g c =
@@ -39,7 +39,7 @@ loop-pacing-preserved g c =
       stands = c.in_ok-run.ensures.stands;
       same = ran.same ∙ c.loop-pacing.invariant.same;
       scripts = c.in_ok-run.ensures.scripts ∙ c.loop-pacing.invariant.scripts;
-      callers = c.in_ok-run.ensures.callers;
+      cursors = c.in_ok-run.ensures.cursors;
       periods = ArePeriods-ran old new (pace_of c.args.pacing) c.in_ok-run.run' ran c.loop-pacing.invariant.periods;
       cycles = omega (arith, cycles, parts, had);
       left = omega (arith, parts, left, fewer);
@@ -52,6 +52,6 @@ returns g c = record {
   stands = c.loop-pacing.invariant.stands;
   same = c.loop-pacing.invariant.same;
   scripts = c.loop-pacing.invariant.scripts;
-  ran = RanAll-over (g.T.Parts.recorded c.loop-pacing.parts) (pace_of c.args.pacing) (g.T.Parts.callers c.loop-pacing.parts) c.loop-pacing.invariant.settled c.loop-pacing.invariant.callers
+  ran = RanAll-over (g.T.Parts.recorded c.loop-pacing.parts) (pace_of c.args.pacing) (g.T.Parts.cursors c.loop-pacing.parts) c.loop-pacing.invariant.settled c.loop-pacing.invariant.cursors
       c.loop-pacing.invariant.periods (sym c.are_all_retired.ensures ∙ c.loop-pacing-test.false);
 }

@@ -25,7 +25,7 @@ impl Contents {
             IsFullBlock self.now.layout (state_of self.now) block) }
     {
         let first = first_of(&self.layout, class);
-        let end = first + BLOCK_SIZE * u32::from(self.layout.blocks(class));
+        let end = first + BLOCK_SIZE * self.layout.blocks(class);
         self.cells.lowest_free(first, end)
     }
 
@@ -41,7 +41,7 @@ impl Contents {
             IsFullBlock self.now.layout (state_of self.now) block) }
     {
         let first = first_array_of(&self.layout, class);
-        let end = first + BLOCK_SIZE * u32::from(self.layout.blocks(class));
+        let end = first + BLOCK_SIZE * self.layout.blocks(class);
         (first..end).find(|array| self.arrays.status(*array) == ArrayStatus::Free)
     }
 

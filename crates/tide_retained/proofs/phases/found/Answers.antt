@@ -10,11 +10,11 @@ pub loop-at-init : goal.loop-at-init
 loop-at-init c =
     let flags = c.args.retained.items in
     let contents = c.args.contents.now in
-    let wide : length contents.cells.items ≤ length flags = (let few = c.requires.cells in let len = c.requires.sized in omega (arith, few, len)) in
+    let wide : length contents.cells.items ≤ length flags = c.requires.cells in
     let same = c.in_ok-enter_roots.ensures ∙ ap (λ (s : Search). roots_entered s c.as_slice.result.now) c.in_ok-search.ensures ∙ ap (roots_entered (unsearched flags)) c.as_slice.ensures.value in
     record {
       levelling = levelling_begins contents flags c.enter_roots.new.self wide c.requires.retained same;
-      sized = begun_size contents flags c.enter_roots.new.self wide (sound_flags contents flags c.requires.retained) same ∙ c.requires.sized;
+      sized = begun_size contents flags c.enter_roots.new.self wide (sound_flags contents flags c.requires.retained) same;
     }
 
 pub visit-requires : goal.visit-requires

@@ -10,9 +10,9 @@ pub loop-at-init : goal.loop-at-init
 loop-at-init c =
     let flags = c.in_ok-none.none.items in
     let contents = c.args.contents.now in
-    let counted : length flags ≡ 20480 = ap {A = List Bool} length c.in_ok-none.ensures ∙ length-replicate 20480 false in
+    let counted : length flags ≡ c.args.cells = ap {A = List Bool} length c.in_ok-none.ensures ∙ length-replicate c.args.cells false in
     let wide : length contents.cells.items ≤ length flags = (let few = c.requires.cells in omega (arith, few, counted)) in
-    let none : (cell : ℕ) → get_or flags cell false ≡ false = λ cell. ap (λ (l : List Bool). get_or l cell false) c.in_ok-none.ensures ∙ none_mated 20480 cell in
+    let none : (cell : ℕ) → get_or flags cell false ≡ false = λ cell. ap (λ (l : List Bool). get_or l cell false) c.in_ok-none.ensures ∙ none_mated c.args.cells cell in
     let same = c.in_ok-enter_roots.ensures ∙ ap (λ (s : Search). roots_entered s c.as_slice.result.now) c.in_ok-search.ensures ∙ ap (roots_entered (unsearched flags)) c.as_slice.ensures.value in
     record {
       retaining = retaining_begins contents flags c.enter_roots.new.self wide none same;

@@ -1,5 +1,5 @@
 -- One more cell was noted: the one before the last of those that were.
-use Rattle.std.proofs.Common.{ℕ, ◌≡◌, ◌+◌, ◌-◌, ◌<◌, ◌≤◌, length, arith, ap, sym, refl, ◌∙◌, inl, inr, get_or, get_or-set_same, get_or-set_other, length-set}
+use Rattle.std.proofs.Common.{ℕ, ◌≡◌, ◌+◌, ◌-◌, ◌<◌, length, arith, ap, sym, refl, ◌∙◌, inl, inr, get_or, get_or-set_same, get_or-set_other, length-set}
 use Rattle.std.specs.Prelude.{slice_set}
 use Rattle.std.proofs.lemmas.Bool.{cases_eq}
 use Rattle.tide_retained.specs.Trail.{above, parent_in}

@@ -1,9 +1,9 @@
 -- Which store runs, and with which trigger, the options tell.
 use Rattle.std.proofs.Common.{◌≡◌, Bool, None, refl, subst, sym}
-use Rattle.std.specs.Prelude.{not, if◌then◌else◌}
+use Rattle.std.specs.Prelude.{Some, if◌then◌else◌}
 use Rattle.tide_shape.specs.Shapes.{shapes_of_paths}
 use Rattle.tide_run.specs.Asked.{IsShownOf}
-use Rattle.tide_run.specs.Runs.{IsRunOf}
+use Rattle.tide_run.specs.Runs.{IsRunOf, setting_of_work}
 use Rattle.tide_run.proofs.asking.run_asked.Goals as goal
 
 pub returns-in_ok-outcome-clause-run : goal.returns-in_ok-outcome-clause-run
@@ -13,7 +13,8 @@ returns-in_ok-outcome-clause-run g c =
 
 pub returns-in_ok-outcome-clause-heap : goal.returns-in_ok-outcome-clause-heap
 returns-in_ok-outcome-clause-heap g c =
-    subst (λ (plain : Bool). c.in_ok-outcome.outcome.is_heap ≡ not plain) (sym c.if-options.true) c.in_ok-outcome.ensures.own
+    subst (λ (plain : Bool). c.in_ok-outcome.outcome.heap
+    ≡ (if plain then None else Some (setting_of_work c.args.load.now c.args.options.visitors))) (sym c.if-options.true) c.in_ok-outcome.ensures.own
 
 pub returns-in_ok-outcome-clause-shown : goal.returns-in_ok-outcome-clause-shown
 returns-in_ok-outcome-clause-shown g c =
@@ -26,4 +27,5 @@ returns-in_ok-ran-clause-run g c =
 
 pub returns-in_ok-ran-clause-heap : goal.returns-in_ok-ran-clause-heap
 returns-in_ok-ran-clause-heap g c =
-    subst (λ (plain : Bool). c.in_ok-ran.ran.0.is_heap ≡ not plain) (sym c.if-options.false) c.in_ok-ran.ensures.heap
+    subst (λ (plain : Bool). c.in_ok-ran.ran.0.heap
+    ≡ (if plain then None else Some (setting_of_work c.args.load.now c.args.options.visitors))) (sym c.if-options.false) c.in_ok-ran.ensures.heap

@@ -1,7 +1,8 @@
 -- Why a visitor may visit, and what it has done then.
 use Rattle.std.proofs.Common.{ℕ, ◌≤◌, ◌∙◌, refl, sym, subst, arith, inl, inr}
 use Rattle.tide_heap.specs.tide_core.machine.Visiting.{FitsIn}
-use Rattle.tide_threads.proofs.Visiting.{FitsIn-none, most_marking}
+use Rattle.tide_heap.proofs.Newcomers.{FitsIn-none}
+use Rattle.tide_threads.proofs.Visiting.{most_marking}
 use Rattle.tide_visitor.specs.Viewed.{view_of}
 use Rattle.tide_threads.proofs.marking.visit_part.Goals as goal
 

@@ -4,19 +4,19 @@ use Rattle.std.specs.Prelude.{Option, slice_get}
 use Rattle.std.specs.Vec.Iter.{into_iter_items}
 use Rattle.crossbeam_utils.specs.Padded.{padded_value}
 use Rattle.crossbeam_utils.specs.declared.cache_padded.CachePadded.{CachePadded}
-use Rattle.tide_periods.specs.declared.caller.Caller.{Caller}
+use Rattle.tide_periods.specs.declared.cursor.ScriptCursor.{ScriptCursor}
 use Rattle.tide_heap.specs.tide_words.marking.Greys.{Greys}
 use Rattle.tide_table.specs.Started.{ArePasses}
-use Rattle.tide_threads.proofs.Acting.{callers_in-append}
+use Rattle.tide_threads.proofs.Acting.{cursors_in-append}
 use Rattle.tide_threads.proofs.Seating.{found_pushed, length_push}
-use Rattle.tide_threads.specs.Acting.{before_all, caller_of, callers_in}
+use Rattle.tide_threads.specs.Acting.{before_all, cursor_of, cursors_in}
 use Rattle.tide_threads.specs.Fresh.{IsFresh}
 use Rattle.tide_threads.specs.declared.participant.Participant.{Participant}
 use Rattle.tide_threads.proofs.on_threads.seat_visitors.Goals as goal
 
 pub loop-pass-init : goal.loop-pass-init
 loop-pass-init c = record {
-  callers = refl;
+  cursors = refl;
   seated = omega arith;
   left = λ id passes. subst (ArePasses id 16) (sym c.into_iter-pass-iterator.ensures.into_iter_gives.0) passes;
   fresh = λ id passes fresh. fresh;
@@ -43,10 +43,10 @@ loop-pass-preserved c =
     let new = c.new.result in
     let one_more = length_push yielded pass in
     record {
-      callers = ap callers_in c.in_ok-append.ensures ∙ callers_in-append items (new ∷ [])
-          ∙ ap (λ (p : Participant). callers_in items ++ before_all (caller_of p.worker) []) c.new.ensures
-          ∙ ap (λ (o : Option Caller). callers_in items ++ before_all o []) c.of_visitor-participant.ensures.no_caller
-          ∙ append-nil (callers_in items) ∙ so.callers;
+      cursors = ap cursors_in c.in_ok-append.ensures ∙ cursors_in-append items (new ∷ [])
+          ∙ ap (λ (p : Participant). cursors_in items ++ before_all (cursor_of p.worker) []) c.new.ensures
+          ∙ ap (λ (o : Option ScriptCursor). cursors_in items ++ before_all o []) c.of_visitor-participant.ensures.no_cursor
+          ∙ append-nil (cursors_in items) ∙ so.cursors;
       seated =
           let grown = ap length c.in_ok-append.ensures ∙ length_push items new in
           let seated = so.seated in

@@ -17,7 +17,7 @@ use Rattle.tide_report.specs.Ends.{TellsEnds}
 use Rattle.tide_shape.specs.Lists.{lists_of}
 use Rattle.tide_heap.specs.declared.steps.notes.Note.{Note}
 use Rattle.tide_table.proofs.Standing.{blacks_stay, no_ends}
-use Rattle.tide_threads.proofs.Acting.{callers_at, note_among}
+use Rattle.tide_threads.proofs.Acting.{cursors_at, note_among}
 use Rattle.tide_threads.proofs.Shares.{AllIn-turns, AllStandBy-frozen, RanPartBy-frozen}
 use Rattle.tide_threads.proofs.Standing.{MayEnterVisits-part, RunsPart-taken, seen_part}
 use Rattle.tide_threads.proofs.Taking.{IsTold, IsTold-all, TookNotes, TookNotes-all}
@@ -66,8 +66,8 @@ play_part-requires-clause-may g c κs within = λ at padded found.
     let is_opened : v1 ≡ opened key.layout c.args.run v0 = c.in-Ok.ensures.opened in
     MayHear-opened id key.layout (lists_of key.shapes) v0 v1 c.args.run at (padded_value padded) c.requires.still is_opened
     (c.requires.all.each at padded found)
-    (λ caller is. (c.requires.callers.each at caller
-    (callers_at key.layout.mutators xs (AreParted-standing id key.layout v0 xs c.requires.all) at padded caller found is)).1)
+    (λ cursor is. (c.requires.cursors.each at cursor
+    (cursors_at key.layout.mutators xs (AreParted-standing id key.layout v0 xs c.requires.all) at padded cursor found is)).1)
 
 pub returns-in_err-ended : goal.returns-in_err-ended
 returns-in_err-ended g c =
@@ -170,5 +170,5 @@ returns g c =
       pacing = ap (λ (b : Books). b.pacing) c.freeze_part.ensures.others;
       ran = RanPartBy-frozen id layout shapes v0 v1 v2 v3 c.args.run c.requires.still is_opened taken freezes xs ys zs
           c.requires.all turns c.take_in.ensures.gave told c.shares_make_a_part.ensures.part c.in_ok-ended.ended
-          c.in_ok-ended.ensures.served c.requires.settled c.requires.callers;
+          c.in_ok-ended.ensures.served c.requires.settled c.requires.cursors;
     }

@@ -9,7 +9,7 @@ use Rattle.tide_periods.specs.Asking.{scripts_of}
 use Rattle.tide_periods.specs.Recorded.{Recorded}
 use Rattle.tide_periods.specs.Store.{Setting}
 use Rattle.tide_report.specs.Ends.{TellsEnds}
-use Rattle.tide_threads.specs.OnThreads.{callers_on, pace_on, recorded_in, setting_in}
+use Rattle.tide_threads.specs.OnThreads.{cursors_on, pace_on, recorded_in, setting_in}
 use Rattle.tide_threads.proofs.Fresh.{IsSettled-fresh}
 use Rattle.tide_threads.proofs.periods.run_on_threads.Goals as goal
 
@@ -25,7 +25,7 @@ run_periods-requires-clause-parts g c κs within = ap open_count c.requires.noth
 pub run_periods-requires-clause-room : goal.run_periods-requires-clause-room
 run_periods-requires-clause-room g c κs within =
     let settled = IsSettled-fresh (setting_in c.args.on) (recorded_in c.args.on).history c.requires.nothing in
-    let total = total-few (recorded_in c.args.on).state.claims (callers_on c.args.on) settled.few c.requires.short in
+    let total = total-few (recorded_in c.args.on).state.claims (cursors_on c.args.on) settled.few c.requires.short in
     let few = c.requires.few in
     omega (arith, total, few)
 
@@ -36,10 +36,11 @@ returns g c =
     let made = c.in_ok-left in
     let left = made.left.finished in
     record {
-      ran = HasRun-over (setting_in c.args.on) (pace_on c.args.on) (scripts_of (callers_on c.args.on)) recorded
-          (callers_on c.run_periods.new.on) left.kept.seat.me.0.seen left.report (map (λ own. own.items) left.calls.items)
+      ran = HasRun-over (setting_in c.args.on) (pace_on c.args.on) (scripts_of (cursors_on c.args.on)) recorded
+          (cursors_on c.run_periods.new.on) left.kept.seat.me.0.seen left.report (map (λ own. own.items) left.calls.items)
           left.live ran.ran ran.same ran.scripts made.ensures.history
           (subst (λ (h : List Event). TellsEnds recorded.setting.layout h left.report) (sym made.ensures.history) made.ensures.report)
           made.ensures.calls made.ensures.live;
+      heap = made.ensures.heap ∙ ran.same;
       none_met = λ none. made.ensures.none_met (ap (λ (s : Setting). s.layout.visitors) ran.same ∙ none);
     }

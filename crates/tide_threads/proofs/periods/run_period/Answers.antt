@@ -3,15 +3,15 @@ use Rattle.std.proofs.Common.{ℕ, ◌≡◌, ◌∙◌, sym, ap, arith, subst, 
 use Rattle.std.proofs.lemmas.Result.{err_from_is_err_and}
 use Rattle.std.specs.Prelude.{◌||◌}
 use Rattle.tide_model.specs.Periods.{is_over}
-use Rattle.tide_periods.proofs.Freezing.{RanPeriod-by, is_over-callers}
-use Rattle.tide_periods.proofs.Parting.{AreCallers-same}
+use Rattle.tide_periods.proofs.Freezing.{RanPeriod-by, is_over-cursors}
+use Rattle.tide_periods.proofs.Parting.{AreCursors-same}
 use Rattle.tide_periods.specs.Asking.{scripts_of}
 use Rattle.tide_periods.specs.Left.{total_by, total_left}
-use Rattle.tide_periods.specs.Part.{AreCallers}
+use Rattle.tide_periods.specs.Part.{AreCursors}
 use Rattle.tide_periods.specs.Periods.{RanFreeze}
 use Rattle.tide_sched.specs.Paces.{pace_of}
 use Rattle.tide_sched.specs.declared.pacing.Pacing.{Pacing}
-use Rattle.tide_threads.specs.OnThreads.{callers_on, pace_on, recorded_in}
+use Rattle.tide_threads.specs.OnThreads.{cursors_on, pace_on, recorded_in}
 use Rattle.tide_threads.proofs.periods.run_period.Goals as goal
 use Rattle.tide_threads.proofs.periods.run_period.Goals.{then-stopped, else-stopped}
 
@@ -21,8 +21,8 @@ run_part-requires-clause-settled g c κs within = c.requires.settled
 pub run_part-requires-clause-stands : goal.run_part-requires-clause-stands
 run_part-requires-clause-stands g c κs within = c.requires.stands
 
-pub run_part-requires-clause-callers : goal.run_part-requires-clause-callers
-run_part-requires-clause-callers g c κs within = c.requires.callers
+pub run_part-requires-clause-cursors : goal.run_part-requires-clause-cursors
+run_part-requires-clause-cursors g c κs within = c.requires.cursors
 
 pub run_part-requires-clause-opens : goal.run_part-requires-clause-opens
 run_part-requires-clause-opens g c κs within = c.requires.opens
@@ -48,12 +48,12 @@ freeze-requires g c =
 pub returns-in_err-stopped : goal.returns-in_err-stopped
 returns-in_err-stopped g c =
     let failed = err_from_is_err_and c.from_residual.result c.from_residual.ensures.1 in
-    rw failed.1 (record { ran = tt; pacing = tt; stands = tt; left = tt; callers = tt; scripts = tt; opens = tt })
+    rw failed.1 (record { ran = tt; pacing = tt; stands = tt; left = tt; cursors = tt; scripts = tt; opens = tt })
 
 pub returns-in_err-next : goal.returns-in_err-next
 returns-in_err-next g c =
     let failed = err_from_is_err_and c.from_residual-in_err-next.result c.from_residual-in_err-next.ensures.1 in
-    rw failed.1 (record { ran = tt; pacing = tt; stands = tt; left = tt; callers = tt; scripts = tt; opens = tt })
+    rw failed.1 (record { ran = tt; pacing = tt; stands = tt; left = tt; cursors = tt; scripts = tt; opens = tt })
 
 pub returns : goal.returns
 returns g c =
@@ -62,27 +62,27 @@ returns g c =
     let new = recorded_in c.freeze.new.self in
     let part = c.in_ok-stopped.ensures.ran in
     let stopped = c.in_ok-stopped.stopped in
-    let callers = callers_on c.args.on.now in
-    let callers_ran = callers_on c.run_part.new.self in
+    let cursors = cursors_on c.args.on.now in
+    let cursors_ran = cursors_on c.run_part.new.self in
     let froze : RanFreeze ran new (pace_on c.args.on.now) c.if-stopped.freeze c.in_ok-next.next =
     subst (λ (p : Pacing). RanFreeze ran new (pace_of p) c.if-stopped.freeze c.in_ok-next.next) c.in_ok-stopped.ensures.pacing c.in_ok-next.ensures.ran in
-    let over = c.are_all_retired-is_over.ensures ∙ is_over-callers ran callers_ran part.callers in
+    let over = c.are_all_retired-is_over.ensures ∙ is_over-cursors ran cursors_ran part.cursors in
     let must : c.if-stopped.freeze ≡ (stopped || is_over ran.setting.layout ran.history) = elim c.if-stopped.branch [
       | then-stopped w ↦ w.freeze-is ∙ w.if-stopped.true
           ∙ sym (ap (λ (b : Bool). b || is_over ran.setting.layout ran.history) w.if-stopped.true)
       | else-stopped w ↦ w.freeze-is ∙ over
           ∙ sym (ap (λ (b : Bool). b || is_over ran.setting.layout ran.history) w.if-stopped.false)
     ] in
-    let at_last : total_left new (callers_on c.freeze.new.self) ≡ total_left ran callers_ran =
-    ap (total_left new) c.in_ok-next.ensures.callers ∙ ap (λ (claims : ℕ → List ℕ). total_by claims callers_ran) froze.claims in
-    let fewer = part.fewer c.requires.calls (is_over-callers old callers c.requires.callers ∙ c.requires.goes_on) in record {
+    let at_last : total_left new (cursors_on c.freeze.new.self) ≡ total_left ran cursors_ran =
+    ap (total_left new) c.in_ok-next.ensures.cursors ∙ ap (λ (claims : ℕ → List ℕ). total_by claims cursors_ran) froze.claims in
+    let fewer = part.fewer c.requires.calls (is_over-cursors old cursors c.requires.cursors ∙ c.requires.goes_on) in record {
       ran = RanPeriod-by old part.ran.begun ran new (pace_on c.args.on.now) c.args.run c.in_ok-next.next stopped
           c.if-stopped.freeze c.requires.goes_on c.requires.run part.ran.opened part.ran.ran froze must;
       pacing = c.in_ok-next.ensures.pacing ∙ c.in_ok-stopped.ensures.pacing;
       stands = c.in_ok-next.ensures.stands;
       left = omega (arith, at_last, fewer);
-      callers = subst (AreCallers new) (sym c.in_ok-next.ensures.callers)
-          (AreCallers-same ran new callers_ran froze.freeze froze.same froze.history froze.quiet part.callers);
-      scripts = ap scripts_of c.in_ok-next.ensures.callers ∙ part.scripts;
+      cursors = subst (AreCursors new) (sym c.in_ok-next.ensures.cursors)
+          (AreCursors-same ran new cursors_ran froze.freeze froze.same froze.history froze.quiet part.cursors);
+      scripts = ap scripts_of c.in_ok-next.ensures.cursors ∙ part.scripts;
       opens = c.in_ok-next.ensures.opens;
     }

@@ -1,12 +1,12 @@
 -- Why periods follow one another until all have retired.
 use Rattle.std.proofs.Common.{◌∙◌, refl, sym, arith, subst}
 use Rattle.tide_model.specs.Periods.{ArePeriods, no_period}
-use Rattle.tide_periods.proofs.Freezing.{is_over-callers}
+use Rattle.tide_periods.proofs.Freezing.{is_over-cursors}
 use Rattle.tide_periods.proofs.Running.{ArePeriods-ran, RanAll-over, run_of_nothing}
 use Rattle.tide_periods.specs.Periods.{RanPeriod}
 use Rattle.tide_sched.specs.Paces.{pace_of}
 use Rattle.tide_sched.specs.declared.pacing.Pacing.{Pacing}
-use Rattle.tide_threads.specs.OnThreads.{callers_on, pace_on, recorded_in, setting_in}
+use Rattle.tide_threads.specs.OnThreads.{cursors_on, pace_on, recorded_in, setting_in}
 use Rattle.tide_threads.proofs.periods.run_periods.Goals as goal
 
 pub loop-on-init : goal.loop-on-init
@@ -16,7 +16,7 @@ loop-on-init g c = record {
   same = refl;
   pacing = refl;
   scripts = refl;
-  callers = c.requires.callers;
+  cursors = c.requires.cursors;
   periods = subst (ArePeriods (pace_on c.args.on.now) (setting_in c.args.on.now).layout) (sym c.requires.nothing) no_period;
   cycles = (let none = c.requires.cycles in omega (arith, none));
   left = (let none = c.requires.parts in omega (arith, none));
@@ -27,7 +27,7 @@ loop-on-init g c = record {
 
 pub run_period-requires-clause-goes_on : goal.run_period-requires-clause-goes_on
 run_period-requires-clause-goes_on g c κs within =
-    sym (is_over-callers (recorded_in c.loop-on.on) (callers_on c.loop-on.on) c.loop-on.invariant.callers)
+    sym (is_over-cursors (recorded_in c.loop-on.on) (cursors_on c.loop-on.on) c.loop-on.invariant.cursors)
     ∙ sym c.are_all_retired.ensures ∙ c.loop-on-test.true
 
 pub run_period-requires-clause-room : goal.run_period-requires-clause-room
@@ -58,7 +58,7 @@ loop-on-preserved g c =
       same = ran.same ∙ c.loop-on.invariant.same;
       pacing = c.in_ok-run.ensures.pacing ∙ c.loop-on.invariant.pacing;
       scripts = c.in_ok-run.ensures.scripts ∙ c.loop-on.invariant.scripts;
-      callers = c.in_ok-run.ensures.callers;
+      cursors = c.in_ok-run.ensures.cursors;
       periods = ArePeriods-ran old new (pace_on c.args.on.now) c.in_ok-run.run' ran c.loop-on.invariant.periods;
       cycles = omega (arith, cycles, parts, had);
       left = omega (arith, parts, left, fewer);
@@ -73,7 +73,7 @@ returns g c = record {
   same = c.loop-on.invariant.same;
   scripts = c.loop-on.invariant.scripts;
   retired = sym c.are_all_retired.ensures ∙ c.loop-on-test.false;
-  ran = RanAll-over (recorded_in c.loop-on.on) (pace_on c.args.on.now) (callers_on c.loop-on.on)
-      c.loop-on.invariant.settled c.loop-on.invariant.callers c.loop-on.invariant.periods
+  ran = RanAll-over (recorded_in c.loop-on.on) (pace_on c.args.on.now) (cursors_on c.loop-on.on)
+      c.loop-on.invariant.settled c.loop-on.invariant.cursors c.loop-on.invariant.periods
       (sym c.are_all_retired.ensures ∙ c.loop-on-test.false);
 }

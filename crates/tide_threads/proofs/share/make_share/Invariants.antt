@@ -10,10 +10,10 @@ abbrev pub invariant-loop-made : goal.invariant-loop-made
 invariant-loop-made g l = record {
   sharing : IsSharingOwn (record { layout = l.heap.key.layout; shapes = lists_of l.heap.key.shapes }) l.run
       (view_of l.initial.mutator).seen (view_of l.mutator).seen (view_of l.initial.mutator).mine (view_of l.mutator).mine
-      l.initial.caller l.caller l._made false;
+      l.initial.cursor l.cursor l._made false;
   table : table_of l.mutator ≡ l.heap.table.shared.table_id;
-  number : l.caller.who ≡ (view_of l.mutator).who;
-  works : IsWorking l.heap.key.layout (view_of l.mutator) l.caller.retired;
+  number : l.cursor.who ≡ (view_of l.mutator).who;
+  works : IsWorking l.heap.key.layout (view_of l.mutator) l.cursor.retired;
   room : l.run ≤ room_of (view_of l.mutator) + l._made;
   same : same_of l.mutator ≡ same_of l.initial.mutator;
 }

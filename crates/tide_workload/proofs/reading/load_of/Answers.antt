@@ -1,7 +1,7 @@
 use Rattle.std.proofs.Common.{map, arith, List, Bor}
 use Rattle.toml.specs.View.{view}
 use Rattle.toml.specs.declared.value.Value.{Value}
-use Rattle.tide_text.specs.work.OpLimits.{limits_with}
+use Rattle.tide_text.specs.work.OpArguments.{limits_with}
 use Rattle.tide_workload.specs.Scripts.{text_or_none}
 use Rattle.tide_workload.proofs.ScriptLemmas.{scripts_within}
 use Rattle.tide_workload.proofs.ScriptLemmas.{scripts_sized}

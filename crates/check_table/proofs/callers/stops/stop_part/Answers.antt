@@ -6,7 +6,7 @@ use Rattle.tide_heap.specs.Turns.{note_of, noted}
 use Rattle.tide_heap.specs.tide_core.declared.machine.view.View.{View}
 use Rattle.tide_heap.specs.tide_core.machine.kinds.StoreStopped.{stopped_view}
 use Rattle.tide_model.specs.Layout.{Layout}
-use Rattle.tide_heap.proofs.steps_laws.Comings.{numbers_tell}
+use Rattle.tide_heap.proofs.steps_laws.BeginsAndStops.{numbers_tell}
 use Rattle.check_table.proofs.callers_laws.Notes.{noted_in}
 use Rattle.check_table.proofs.callers.stops.stop_part.Goals as goal
 

@@ -110,7 +110,7 @@ returns-clause-freeze g c =
     (c.enter_begin.ensures.entered
     ∙ ap (λ (r : Besides). with_entry r.seen (Begin (c.phase_of-cycle.result.0 + 1) true)) rest
     ∙ ap (λ (n : ℕ). with_entry (before g b).seen (Begin n true)) (sym (number g b)))
-    (sym (ap (λ (l : Layout). is_black (heap_of l x.base)) there) ∙ c.enter_begin.ensures.blacks)
+    (sym (ap (λ (l : Layout). is_black (heap_of l x.words_at_entry)) there) ∙ c.enter_begin.ensures.blacks)
     (LeavesParticipants-begun layout true (heap_of layout (before g b).words) (heap_of layout (after g b).words)
     c.begin.ensures.others).stopped
 

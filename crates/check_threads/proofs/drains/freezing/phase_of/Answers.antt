@@ -9,7 +9,7 @@ returns-clause-view g c =
     let rest = c.load.ensures.same_rest in
     view_same c.args.frozen.now.collector.now.seat.me.0 c.load.new.self.collector.now.seat.me.0
     (ap (λ (r : Besides). r.whose.view) rest) (ap (λ (r : Besides). r.seen) rest) c.load.ensures.same
-    (ap (λ (r : Besides). r.base) rest)
+    (ap (λ (r : Besides). r.words_at_entry) rest)
 
 pub returns-clause-whose : goal.returns-clause-whose
 returns-clause-whose g c = ap (λ (r : Besides). r.whose.borrow) c.load.ensures.same_rest

@@ -2,11 +2,15 @@
 use Rattle.std.proofs.Common.{arith, ap, subst, ◌∙◌}
 use Rattle.tide_model.specs.Layout.{Layout}
 use Rattle.tide_layout.specs.declared.region.Region.TheVariants.{Elements}
+use Rattle.tide_layout.specs.Layout.{layout_of}
 use Rattle.tide_layout.specs.Limits.{IsWithinLimits}
 use Rattle.tide_layout.specs.Slots.{words_before_array}
-use Rattle.tide_layout.proofs.LimitLaws.{size_of-few}
+use Rattle.tide_layout.proofs.LimitLaws.{few_array_blocks, size_of-few}
 use Rattle.tide_layout.proofs.SlotPlaces.{index_of_element-below, index_of_element-is}
 use Rattle.tide_layout.proofs.layout.Layout.index_of_element.Goals as goal
+
+pub words_before_array-requires-clause-few : goal.words_before_array-requires-clause-few
+words_before_array-requires-clause-few c = few_array_blocks (layout_of c.self.inside.numbers) c.self.invariant.limits
 
 pub overflow_add-result : goal.overflow_add-result
 overflow_add-result c =

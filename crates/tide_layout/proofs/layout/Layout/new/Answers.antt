@@ -1,21 +1,11 @@
 -- Why `new` meets its contract.
-use Rattle.std.proofs.Common.{arith}
-use Rattle.tide_layout.specs.Layout.{layout_of}
-use Rattle.tide_layout.proofs.StartLaws.{IsWithinLimits-each, starts_of-is, sum-rooms}
+use Rattle.std.proofs.Common.{subst, sym}
+use Rattle.tide_layout.specs.Limits.{HasFewBlocks}
+use Rattle.tide_layout.proofs.StartLaws.{few_of_all}
 use Rattle.tide_layout.proofs.layout.Layout.new.Goals as goal
 
-pub starts_of-starts-requires : goal.starts_of-starts-requires
-starts_of-starts-requires c =
-    let layout = layout_of (record { cell_blocks = c.args.blocks; array_blocks = c.args.arrays; registers = c.args.registers; strong = c.args.strong; weak = c.args.weak; mutators = c.args.mutators; visitors = c.args.visitors }) in
-    let limits = IsWithinLimits-each layout (omega arith) (omega arith) c.requires.few_blocks c.requires.few_arrays c.requires.few_registers
-    c.requires.few_strong c.requires.few_weak c.requires.few_mutators c.requires.few_visitors in
-    sum-rooms layout c.rooms.result limits c.rooms.ensures
+pub large-requires-clause-few_blocks : goal.large-requires-clause-few_blocks
+large-requires-clause-few_blocks c = subst HasFewBlocks (sym c.wide.ensures) (few_of_all c.args.blocks c.requires.few_blocks)
 
-pub invariant_of-result : goal.invariant_of-result
-invariant_of-result c =
-    let layout = layout_of (record { cell_blocks = c.args.blocks; array_blocks = c.args.arrays; registers = c.args.registers; strong = c.args.strong; weak = c.args.weak; mutators = c.args.mutators; visitors = c.args.visitors }) in
-    record {
-      limits = IsWithinLimits-each layout (omega arith) (omega arith) c.requires.few_blocks c.requires.few_arrays c.requires.few_registers
-          c.requires.few_strong c.requires.few_weak c.requires.few_mutators c.requires.few_visitors;
-      begins = starts_of-is layout c.rooms.result c.starts_of-starts.result c.rooms.ensures (omega arith) c.starts_of-starts.ensures;
-    }
+pub large-requires-clause-few_arrays : goal.large-requires-clause-few_arrays
+large-requires-clause-few_arrays c = subst HasFewBlocks (sym c.wide-2.ensures) (few_of_all c.args.arrays c.requires.few_arrays)

@@ -14,7 +14,7 @@ gaps : (c : goal.After-result-1) → c.gaps_before-gaps.result ≡ gaps_before c
 gaps c = c.gaps_before-gaps.ensures ∙ ap (λ (l : Layout). gaps_before l c.args.region c.args.index) c.self.view_is
 
 -- the place is small
-small : (c : goal.After-result-1) → base_of c.args.self.now c.args.region + c.args.index + gap * c.gaps_before-gaps.result < 771163
+small : (c : goal.After-result-1) → base_of c.args.self.now c.args.region + c.args.index + gap * c.gaps_before-gaps.result < 3149272505
 small c =
     let below = place_in-below c.args.self.now c.args.region c.args.index c.requires in
     let is = place_in-is c.args.self.now c.args.region c.args.index in

@@ -50,8 +50,8 @@ growth_of addition array class value old next = record {
   next = next;
 }
 
-pub search-requires-clause-ready : goal.search-requires-clause-ready
-search-requires-clause-ready g c = λ κs outlives.
+pub allocate_array-requires-clause-ready : goal.allocate_array-requires-clause-ready
+allocate_array-requires-clause-ready g c = λ κs outlives.
     let h = c.args.heap.now in
     let layout = h.key.layout in
     let shapes = g.S.HeapShapes.lists h.key.shapes in
@@ -82,10 +82,10 @@ store_call-requires-clause-may g c =
     c.requires.may.fits c.shape_word-next.ensures c.load_own_structure-old.ensures.step.follows
     c.load_elements-words.ensures.read in
     let table = c.load_elements-words.ensures.same_pass.0 ∙ c.load_own_structure-old.ensures.step.table ∙ c.requires.may.own in
-    let u = c.search.new.pass.seat.me.0 in
+    let u = c.allocate_array.new.pass.seat.me.0 in
     let looked = c.in_default.ensures.looked in
     let still = ready_looked layout shapes loaded u c.args.call.op growth looked ready in record {
-      own = c.search.ensures.same_pass.0 ∙ table;
+      own = c.allocate_array.ensures.same_pass.0 ∙ table;
       runs = still.calling.runs;
       may = may_tell_full layout shapes u c.args.call.op growth still c.in_default.ensures.searched c.args.call.number
           (counted_looked loaded u looked c.args.call.number (counted_still v loaded read c.args.call.number c.requires.may.counts));
@@ -96,11 +96,11 @@ returns-in_default g c = record {
   answered = record {
     same_pass = (
       c.store_call.ensures.step.1.table
-          ∙ c.search.ensures.same_pass.0
+          ∙ c.allocate_array.ensures.same_pass.0
           ∙ c.load_elements-words.ensures.same_pass.0
           ∙ c.load_own_structure-old.ensures.step.table,
       c.store_call.ensures.step.1.seat
-          ∙ c.search.ensures.same_pass.1
+          ∙ c.allocate_array.ensures.same_pass.1
           ∙ c.load_elements-words.ensures.same_pass.1
           ∙ c.load_own_structure-old.ensures.step.seat,
     );
@@ -119,7 +119,7 @@ returns-in_default g c = record {
         let read = read_loaded layout shapes v first loaded c.args.call.op growth c.requires.may.calling c.requires.may.planned
         c.requires.may.fits c.shape_word-next.ensures c.load_own_structure-old.ensures.step.follows
         c.load_elements-words.ensures.read in
-        let u = c.search.new.pass.seat.me.0 in
+        let u = c.allocate_array.new.pass.seat.me.0 in
         let looked = c.in_default.ensures.looked in
         let still = ready_looked layout shapes loaded u c.args.call.op growth looked ready in
         let tell = c.store_call.ensures.step in
@@ -165,7 +165,7 @@ replace-requires-clause-owes g c = λ κs outlives.
     let at = c.from.result in
     let is_at = c.from.ensures in
     let few = c.requires.may.fits.few in
-    owes_first layout shapes c.args.call.op growth loaded c.search.new.pass.seat.me.0 c.in-Some.taken ready.calling
+    owes_first layout shapes c.args.call.op growth loaded c.allocate_array.new.pass.seat.me.0 c.in-Some.taken ready.calling
     c.in-Some.ensures.taken _
     (knows_below layout loaded c.args.array words _ c.args.addition.count
     (λ place below. get_or-set_other words at place c.val_word.result 0
@@ -186,7 +186,7 @@ write_barrier-requires-clause-owing g c = λ κs outlives.
     let ready = ready_loaded layout shapes v first loaded c.args.call.op growth c.requires.may.calling c.requires.may.planned
     c.requires.may.fits c.shape_word-next.ensures c.load_own_structure-old.ensures.step.follows
     c.load_elements-words.ensures.read in
-    owing_replaced layout shapes c.args.call.op growth loaded c.search.new.pass.seat.me.0 c.in-Some.taken ready.calling
+    owing_replaced layout shapes c.args.call.op growth loaded c.allocate_array.new.pass.seat.me.0 c.in-Some.taken ready.calling
     c.in-Some.ensures.taken c.replace.new.pass.seat.me.0 c.replace.ensures.replaced
 
 pub store_call-requires-2-clause-mutator : goal.store_call-requires-2-clause-mutator
@@ -202,7 +202,7 @@ store_call-requires-2-clause-mutator g c =
     let ready = ready_loaded layout shapes v first loaded c.args.call.op growth c.requires.may.calling c.requires.may.planned
     c.requires.may.fits c.shape_word-next.ensures c.load_own_structure-old.ensures.step.follows
     c.load_elements-words.ensures.read in
-    let u = c.search.new.pass.seat.me.0 in
+    let u = c.allocate_array.new.pass.seat.me.0 in
     let w = c.replace.new.pass.seat.me.0 in
     let now = c.write_barrier.new.pass.seat.me.0 in
     let made = made_replaced layout shapes c.args.call.op growth loaded u c.in-Some.taken ready.calling
@@ -228,7 +228,7 @@ store_call-requires-2-clause-may g c =
     c.requires.may.fits c.shape_word-next.ensures c.load_own_structure-old.ensures.step.follows
     c.load_elements-words.ensures.read in
     let table = c.load_elements-words.ensures.same_pass.0 ∙ c.load_own_structure-old.ensures.step.table ∙ c.requires.may.own in
-    let u = c.search.new.pass.seat.me.0 in
+    let u = c.allocate_array.new.pass.seat.me.0 in
     let w = c.replace.new.pass.seat.me.0 in
     let now = c.write_barrier.new.pass.seat.me.0 in
     let made = made_replaced layout shapes c.args.call.op growth loaded u c.in-Some.taken ready.calling
@@ -236,7 +236,7 @@ store_call-requires-2-clause-may g c =
     let shaded = made_shaded layout shapes c.args.call.op (action_of growth) Done loaded w now made.made
     c.write_barrier.ensures.shaded in
     record {
-      own = c.write_barrier.ensures.same_pass.0 ∙ c.replace.ensures.same_pass.0 ∙ c.search.ensures.same_pass.0 ∙ table;
+      own = c.write_barrier.ensures.same_pass.0 ∙ c.replace.ensures.same_pass.0 ∙ c.allocate_array.ensures.same_pass.0 ∙ table;
       runs = still_runs layout shapes c.args.call.op (action_of growth) Done loaded now ready.calling shaded;
       may = may_tell layout shapes c.args.call.op (action_of growth) Done loaded now ready.calling shaded c.args.call.number
           (counted_still v loaded read c.args.call.number c.requires.may.counts);
@@ -249,13 +249,13 @@ returns g c = record {
       c.store_call-2.ensures.step.1.table
           ∙ c.write_barrier.ensures.same_pass.0
           ∙ c.replace.ensures.same_pass.0
-          ∙ c.search.ensures.same_pass.0
+          ∙ c.allocate_array.ensures.same_pass.0
           ∙ c.load_elements-words.ensures.same_pass.0
           ∙ c.load_own_structure-old.ensures.step.table,
       c.store_call-2.ensures.step.1.seat
           ∙ c.write_barrier.ensures.same_pass.1
           ∙ c.replace.ensures.same_pass.1
-          ∙ c.search.ensures.same_pass.1
+          ∙ c.allocate_array.ensures.same_pass.1
           ∙ c.load_elements-words.ensures.same_pass.1
           ∙ c.load_own_structure-old.ensures.step.seat,
     );
@@ -274,7 +274,7 @@ returns g c = record {
         let read = read_loaded layout shapes v first loaded c.args.call.op growth c.requires.may.calling c.requires.may.planned
         c.requires.may.fits c.shape_word-next.ensures c.load_own_structure-old.ensures.step.follows
         c.load_elements-words.ensures.read in
-        let u = c.search.new.pass.seat.me.0 in
+        let u = c.allocate_array.new.pass.seat.me.0 in
         let w = c.replace.new.pass.seat.me.0 in
         let now = c.write_barrier.new.pass.seat.me.0 in
         let made = made_replaced layout shapes c.args.call.op growth loaded u c.in-Some.taken ready.calling

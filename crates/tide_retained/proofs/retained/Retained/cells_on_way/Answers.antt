@@ -1,8 +1,8 @@
 -- What stands so far along the way stands there on the path.
-use Rattle.std.proofs.Common.{ℕ, ◌≡◌, ◌+◌, ◌-◌, ◌<◌, ◌≤◌, List, Option, length, get_or, ap, subst, sym}
+use Rattle.std.proofs.Common.{◌≡◌, ◌+◌, ◌<◌, ◌≤◌, List, Option, length, get_or, ap, subst, sym}
 use Rattle.tide_retained.specs.declared.search.Found.{Found}
 use Rattle.tide_retained.specs.Retention.{Path, Retention, cells_on, path_of, path_to, AreFrom}
-use Rattle.tide_retained.specs.Trail.{above, distance_of, AreOnWay, AreSkips, IsWay}
+use Rattle.tide_retained.specs.Trail.{distance_of, AreOnWay, AreSkips, IsWay}
 use Rattle.tide_retained.proofs.RetentionLaws.{cell_there, steps_within}
 use Rattle.tide_retained.proofs.TrailLaws.{way_found}
 use Rattle.tide_retained.proofs.retained.Retained.cells_on_way.Goals as goal

@@ -26,7 +26,7 @@ returns-clause-run c = λ trigger left.
     (ap (λ (r : Ran). r.history) c.new.ensures)
 
 pub returns-clause-heap : goal.returns-clause-heap
-returns-clause-heap c = ap (λ (r : Ran). r.is_heap) c.new.ensures
+returns-clause-heap c = ap (λ (r : Ran). r.heap) c.new.ensures
 
 pub returns-clause-history : goal.returns-clause-history
 returns-clause-history c = ap (λ (r : Ran). r.history) c.new.ensures

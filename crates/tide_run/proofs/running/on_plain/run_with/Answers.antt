@@ -7,9 +7,9 @@ use Rattle.tide_sched.specs.Paces.{pace_of}
 use Rattle.tide_periods.specs.Recorded.{IsSettled, Recorded}
 use Rattle.tide_periods.specs.Run.{HasRun}
 use Rattle.tide_periods.specs.Store.{Setting}
-use Rattle.tide_periods.specs.declared.caller.Caller.{Caller}
+use Rattle.tide_periods.specs.declared.cursor.ScriptCursor.{ScriptCursor}
 use Rattle.tide_periods.specs.declared.run.Finished.{Finished}
-use Rattle.tide_run.specs.running.Outcome.{HasLeft, is_heap}
+use Rattle.tide_run.specs.running.Outcome.{HasLeft, heap_of_kept}
 use Rattle.tide_run.specs.running.Runs.{AreScripts}
 use Rattle.tide_run.specs.declared.running.outcome.Kept.{Kept}
 use Rattle.tide_run.specs.declared.running.outcome.Kept.TheVariants.{Own}
@@ -42,17 +42,17 @@ run_on-requires-clause-nothing g c = ap (λ (r : Recorded). r.history) c.in_ok-p
 
 pub run_on-requires-clause-some : goal.run_on-requires-clause-some
 run_on-requires-clause-some g c =
-    let callers = c.in_ok-parts.parts.callers.items in
-    let count : length callers ≡ length c.args.load.now.scripts =
-    sym (length-map callers (λ (x : Caller). x.ops.items)) ∙ ap length c.in_ok-parts.ensures.scripts ∙ ap length c.requires.scripts.are in
+    let cursors = c.in_ok-parts.parts.cursors.items in
+    let count : length cursors ≡ length c.args.load.now.scripts =
+    sym (length-map cursors (λ (x : ScriptCursor). x.ops.items)) ∙ ap length c.in_ok-parts.ensures.scripts ∙ ap length c.requires.scripts.are in
     let some = c.requires.scripts.some in
     omega (arith, count, some)
 
 pub run_on-requires-clause-few : goal.run_on-requires-clause-few
 run_on-requires-clause-few g c =
-    let callers = c.in_ok-parts.parts.callers.items in
-    let count : length callers ≡ length c.args.load.now.scripts =
-    sym (length-map callers (λ (x : Caller). x.ops.items)) ∙ ap length c.in_ok-parts.ensures.scripts ∙ ap length c.requires.scripts.are in
+    let cursors = c.in_ok-parts.parts.cursors.items in
+    let count : length cursors ≡ length c.args.load.now.scripts =
+    sym (length-map cursors (λ (x : ScriptCursor). x.ops.items)) ∙ ap length c.in_ok-parts.ensures.scripts ∙ ap length c.requires.scripts.are in
     let few : length c.args.load.now.scripts ≤ 16 = c.requires.scripts.few in
     omega (arith, count, few)
 
@@ -69,8 +69,8 @@ outcome_of-requires-clause-left g c =
       pacing.trigger,
       subst (HasLeft load pacing.trigger 0) (sym c.kept_itself.ensures)
           (HasLeft-ran load pacing 0 (record { kept = Own (record { events = ran.kept }); report = ran.report; calls = ran.calls; live = ran.live })
-          (g.T.Recorder.recorded c.args.recorder).setting (scripts_of parts.parts.callers.items)
-          (subst (λ (r : Recorded). HasRun r.setting (pace_of pacing) (scripts_of parts.parts.callers.items) ran.kept.items ran.report (map (λ own. own.items) ran.calls.items) ran.live)
+          (g.T.Recorder.recorded c.args.recorder).setting (scripts_of parts.parts.cursors.items)
+          (subst (λ (r : Recorded). HasRun r.setting (pace_of pacing) (scripts_of parts.parts.cursors.items) ran.kept.items ran.report (map (λ own. own.items) ran.calls.items) ran.live)
           parts.ensures.recorded c.in_ok-ran.ensures)
           c.requires.new.setting (subst (AreScripts load) (sym parts.ensures.scripts) c.requires.scripts) c.requires.period c.requires.headroom),
     )
@@ -80,4 +80,4 @@ unfolding outcome_of-requires-clause-left
 returns-clause-run g c = c.outcome_of.ensures.run c.args.pacing.trigger (outcome_of-requires-clause-left g c.before).1
 
 pub returns-clause-own : goal.returns-clause-own
-returns-clause-own g c = c.outcome_of.ensures.heap ∙ ap (λ (x : Finished Kept). is_heap x.kept) c.kept_itself.ensures
+returns-clause-own g c = c.outcome_of.ensures.heap ∙ ap (λ (x : Finished Kept). heap_of_kept x.kept) c.kept_itself.ensures

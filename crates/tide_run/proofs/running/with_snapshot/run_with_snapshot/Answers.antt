@@ -1,17 +1,17 @@
 -- Why a workload's scripts may run on a heap that threads share, and of which state the snapshot at the end is.
-use Rattle.std.proofs.Common.{ℕ, ◌≡◌, ◌≤◌, ◌∙◌, sym, ap, arith, subst, length, map, List}
+use Rattle.std.proofs.Common.{ℕ, ◌≡◌, ◌≤◌, ◌∙◌, Some, sym, ap, arith, subst, length, map, List}
 use Rattle.std.proofs.lemmas.List.{length-map}
 use Rattle.tide_model.specs.History.{state_after}
 use Rattle.tide_model.specs.Layout.{Layout}
 use Rattle.tide_model.specs.declared.entry.Event.{Event}
 use Rattle.tide_periods.specs.Asking.{scripts_of}
-use Rattle.tide_periods.specs.declared.caller.Caller.{Caller}
+use Rattle.tide_periods.specs.declared.cursor.ScriptCursor.{ScriptCursor}
 use Rattle.tide_periods.specs.declared.run.Finished.{Finished}
 use Rattle.tide_retained.specs.Contents.{HasKeysOf}
 use Rattle.tide_retained.specs.Holding.{IsSnapshotOf}
-use Rattle.tide_threads.specs.OnThreads.{callers_on, setting_in}
+use Rattle.tide_threads.specs.OnThreads.{cursors_on, setting_in}
 use Rattle.tide_workload.specs.Words.{Settings}
-use Rattle.tide_run.specs.running.Outcome.{HasLeft, history_of, is_heap}
+use Rattle.tide_run.specs.running.Outcome.{HasLeft, heap_of_kept, history_of}
 use Rattle.tide_run.specs.running.Runs.{layout_of_work}
 use Rattle.tide_run.specs.declared.running.outcome.Kept.{Kept}
 use Rattle.tide_run.specs.declared.running.outcome.Kept.TheVariants.{Heap}
@@ -24,9 +24,9 @@ use Rattle.tide_run.proofs.running.with_snapshot.run_with_snapshot.Goals as goal
 
 pub run_with_snapshot-requires-clause-few : goal.run_with_snapshot-requires-clause-few
 run_with_snapshot-requires-clause-few g c κs within =
-    let callers = callers_on c.in_ok-on.on in
+    let cursors = cursors_on c.in_ok-on.on in
     let are = c.in_ok-on.ensures.scripts in
-    let count : length callers ≡ length c.args.load.now.scripts = sym (length-map callers (λ (x : Caller). x.ops.items)) ∙ ap length are.are in
+    let count : length cursors ≡ length c.args.load.now.scripts = sym (length-map cursors (λ (x : ScriptCursor). x.ops.items)) ∙ ap length are.are in
     let few : length c.args.load.now.scripts ≤ 16 = are.few in
     omega (arith, count, few)
 
@@ -50,8 +50,8 @@ outcome_of-outcome-requires-clause-left g c =
       pacing.result.trigger,
       subst (HasLeft work pacing.result.trigger c.args.visitors) (sym c.kept_by_heap-kept.ensures)
           (HasLeft-ran work pacing.result c.args.visitors (record { kept = Heap ran.kept; report = ran.report; calls = ran.calls; live = ran.live })
-          (setting_in on.on) (scripts_of (callers_on on.on))
-          (subst (λ (p : Pacing). HasRun (setting_in on.on) (pace_of p) (scripts_of (callers_on on.on)) ran.kept.seat.me.0.seen
+          (setting_in on.on) (scripts_of (cursors_on on.on))
+          (subst (λ (p : Pacing). HasRun (setting_in on.on) (pace_of p) (scripts_of (cursors_on on.on)) ran.kept.seat.me.0.seen
           ran.report (map (λ own. own.items) ran.calls.items) ran.live) on.ensures.pacing c.in_ok-left.ensures.ran)
           on.ensures.setting on.ensures.scripts
           (pacing.ensures.period ∙ ap (λ (s : Settings). s.period) value) (pacing.ensures.headroom ∙ ap (λ (s : Settings). s.headroom) value)),
@@ -67,7 +67,9 @@ returns-clause-run g c =
     (subst (λ (n : ℕ). HasLeft work n c.args.visitors c.kept_by_heap-kept.result) trigger (outcome_of-outcome-requires-clause-left g c.before).1)
 
 pub returns-clause-heap : goal.returns-clause-heap
-returns-clause-heap g c = c.outcome_of-outcome.ensures.heap ∙ ap (λ (x : Finished Kept). is_heap x.kept) c.kept_by_heap-kept.ensures
+returns-clause-heap g c =
+    c.outcome_of-outcome.ensures.heap ∙ ap (λ (x : Finished Kept). heap_of_kept x.kept) c.kept_by_heap-kept.ensures
+    ∙ ap Some (c.in_ok-left.ensures.heap ∙ c.in_ok-on.ensures.setting)
 
 pub returns-clause-snapshot : goal.returns-clause-snapshot
 returns-clause-snapshot g c =

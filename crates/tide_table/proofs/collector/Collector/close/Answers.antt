@@ -6,7 +6,7 @@ use Rattle.tide_model.specs.History.{state_after}
 use Rattle.tide_model.specs.Lawful.{IsLawful}
 use Rattle.tide_model.specs.Layout.{Layout}
 use Rattle.tide_model.specs.Refused.{ShapeLists}
-use Rattle.tide_heap.proofs.steps_laws.Comings.{zero_below}
+use Rattle.tide_heap.proofs.steps_laws.BeginsAndStops.{zero_below}
 use Rattle.tide_table.proofs.Tabled.{tickets, closes}
 use Rattle.tide_heap.specs.Parties.{In}
 use Rattle.tide_table.proofs.collector.Collector.close.Goals as goal

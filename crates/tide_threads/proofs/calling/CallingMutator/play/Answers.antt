@@ -52,7 +52,7 @@ returns g c =
     let u0 = view_of c.begin.new.mutator in
     let u1 = view_of c.make_share.new.mutator in
     let w = view_of c.stop-note.new.self in
-    let y = c.make_share.new.caller in
+    let y = c.make_share.new.cursor in
     let ended = c.in_ok-ended.ended in
     let setting : Setting = record { layout = c.args.heap.now.key.layout; shapes = lists_of c.args.heap.now.key.shapes } in
     let rest = c.make_share.ensures.same in
@@ -61,13 +61,13 @@ returns g c =
       made = record {
         table = c.stop-note.ensures.same.0 ∙ table;
         of_heap = c.stop-note.ensures.note.0 ∙ table;
-        played = HasPlayed-stopped t v u0 u1 w c.stop-note.result.seat.me.0 x.caller.who y.retired c.begin.ensures.begun
+        played = HasPlayed-stopped t v u0 u1 w c.stop-note.result.seat.me.0 x.cursor.who y.retired c.begin.ensures.begun
             (ap (λ (s : Same). s.kept) rest) ready.number c.in_ok-ended.ensures.works.stays c.stop-note.ensures.stopped
             c.stop-note.ensures.note.1;
         seen = u0.seen;
-        ran = subst (λ (z : View). RanOwnShare setting t.run u0.seen z.seen v.mine z.mine x.caller y ended) (sym c.stop-note.ensures.stopped)
-            (subst (λ (l : List Event). RanOwnShare setting t.run u0.seen u1.seen l u1.mine x.caller y ended) c.begin.ensures.mine
-            (subst (λ (n : ℕ). RanOwnShare setting n u0.seen u1.seen u0.mine u1.mine x.caller y ended) c.run-run.ensures
+        ran = subst (λ (z : View). RanOwnShare setting t.run u0.seen z.seen v.mine z.mine x.cursor y ended) (sym c.stop-note.ensures.stopped)
+            (subst (λ (l : List Event). RanOwnShare setting t.run u0.seen u1.seen l u1.mine x.cursor y ended) c.begin.ensures.mine
+            (subst (λ (n : ℕ). RanOwnShare setting n u0.seen u1.seen u0.mine u1.mine x.cursor y ended) c.run-run.ensures
             c.in_ok-ended.ensures.ran));
       };
     }

@@ -2,7 +2,7 @@
 use Rattle.std.proofs.Common.{◌∙◌, sym, ap, subst}
 use Rattle.tide_heap.specs.tide_core.machine.May.{Rests}
 use Rattle.tide_heap.specs.tide_core.declared.machine.view.View.{View}
-use Rattle.tide_threads.proofs.Visiting.{Rests-newcomer}
+use Rattle.tide_heap.proofs.Newcomers.{Rests-newcomer}
 use Rattle.tide_threads.proofs.marking.CountingVisitor.new.Goals as goal
 
 pub new-requires : goal.new-requires

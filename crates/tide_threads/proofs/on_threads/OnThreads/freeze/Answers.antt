@@ -1,10 +1,16 @@
 -- Why the heap may be collected, and stands after.
-use Rattle.std.proofs.Common.{◌∙◌, refl, arith}
+use Rattle.std.proofs.Common.{◌∙◌, refl, sym, ap, subst, arith}
 use Rattle.std.proofs.lemmas.Result.{err_from_is_err_and}
 use Rattle.tide_heap.proofs.tide_freeze.BookLaws.{longer_report_tells}
+use Rattle.tide_heap.specs.tide_core.declared.machine.view.View.{View}
+use Rattle.tide_heap.specs.tide_freeze.Books.{AreBooks}
+use Rattle.tide_periods.specs.Recorded.{recorded_at}
+use Rattle.tide_report.specs.Ends.{TellsEnds}
 use Rattle.tide_shape.specs.Lists.{lists_of}
+use Rattle.tide_table.specs.Standing.{StandsStill}
 use Rattle.tide_threads.proofs.Freezes.{MayOpenPart-collected, RanFreeze-collected, StandsBy-collected}
-use Rattle.tide_threads.specs.OnThreads.{pace_on}
+use Rattle.tide_threads.specs.OnThreads.{pace_on, setting_in}
+use Rattle.tide_threads.specs.Playing.{AllStandBy}
 use Rattle.tide_threads.proofs.on_threads.OnThreads.freeze.Goals as goal
 
 pub collect-requires : goal.collect-requires
@@ -21,7 +27,29 @@ collect-requires c =
 pub returns-in_err-next : goal.returns-in_err-next
 returns-in_err-next c =
     let failed = err_from_is_err_and c.from_residual.result c.from_residual.ensures.1 in
-    rw failed.1 (record { ran = tt; stands = tt; pacing = tt; callers = tt; opens = tt })
+    let self = c.args.self.now in
+    let stands = c.requires.stands in
+    let e = c.in_err-next.ensures in
+    let layout = self.heap.key.layout in
+    let v = self.collector.seat.me.0 in
+    let books = c.collect.new.books in
+    let same = sym e.untouched in
+    rw failed.1 (record {
+      ran = tt;
+      stands = record {
+        of_heap = e.own ∙ stands.of_heap;
+        still = subst (StandsStill layout (lists_of self.heap.key.shapes)) same stands.still;
+        books = subst (λ (x : View). AreBooks layout x.seen books) same e.kept.are;
+        told = subst (λ (x : View). TellsEnds layout x.seen books.report) same
+            (longer_report_tells layout v.seen v.seen self.books.report books.report stands.told e.kept.told);
+        all = subst (λ (x : View). AllStandBy self.heap.table.shared.table_id layout x self.participants.items) same stands.all;
+        no_calls = stands.no_calls;
+      };
+      pacing = e.kept.pacing;
+      cursors = refl;
+      opens = tt;
+      untouched = ap (λ (x : View). recorded_at (setting_in self) x.seen) e.untouched;
+    })
 
 pub returns : goal.returns
 returns c =
@@ -49,6 +77,7 @@ returns c =
         no_calls = stands.no_calls;
       };
       pacing = e.books.pacing;
-      callers = refl;
+      cursors = refl;
       opens = MayOpenPart-collected layout shapes pace c.args.is_forced v w run e.collected;
+      untouched = tt;
     }

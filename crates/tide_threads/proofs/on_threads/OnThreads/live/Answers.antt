@@ -22,7 +22,7 @@ returns c =
     record {
       live = c.count_live.ensures.live;
       same = ap (λ (v : View). recorded_at (setting_in self) v.seen) c.count_live.ensures.same;
-      callers = refl;
+      cursors = refl;
       stands = record {
         of_heap = c.count_live.ensures.own ∙ stands.of_heap;
         still = subst (StandsStill layout (lists_of self.heap.key.shapes)) same stands.still;

@@ -3,10 +3,10 @@ use Rattle.std.proofs.Common.{◌∙◌, sym, ap, subst, arith, List, length}
 use Rattle.std.proofs.lemmas.List.{with_items_is}
 use Rattle.std.proofs.lemmas.Result.{err_from_is_err_and}
 use Rattle.crossbeam_utils.specs.declared.cache_padded.CachePadded.{CachePadded}
-use Rattle.tide_periods.specs.Part.{AreCallers, RanPartBy}
+use Rattle.tide_periods.specs.Part.{AreCursors, RanPartBy}
 use Rattle.tide_periods.specs.Recorded.{recorded_at}
-use Rattle.tide_threads.specs.Acting.{callers_in}
-use Rattle.tide_threads.specs.OnThreads.{callers_on, recorded_in, setting_in}
+use Rattle.tide_threads.specs.Acting.{cursors_in}
+use Rattle.tide_threads.specs.OnThreads.{cursors_on, recorded_in, setting_in}
 use Rattle.tide_threads.specs.Playing.{AllStandBy}
 use Rattle.tide_threads.specs.declared.participant.Participant.{Participant}
 use Rattle.tide_threads.proofs.on_threads.OnThreads.run_part.Goals as goal
@@ -34,10 +34,10 @@ run_whole_part-requires-clause-told g c κs within = c.requires.stands.told
 pub run_whole_part-requires-clause-settled : goal.run_whole_part-requires-clause-settled
 run_whole_part-requires-clause-settled g c κs within = c.requires.settled
 
-pub run_whole_part-requires-clause-callers : goal.run_whole_part-requires-clause-callers
-run_whole_part-requires-clause-callers g c κs within =
-    subst (λ (l : List (CachePadded Participant)). AreCallers (recorded_in c.args.self.now) (callers_in l))
-    (sym c.as_mut_slice.ensures.value) c.requires.callers
+pub run_whole_part-requires-clause-cursors : goal.run_whole_part-requires-clause-cursors
+run_whole_part-requires-clause-cursors g c κs within =
+    subst (λ (l : List (CachePadded Participant)). AreCursors (recorded_in c.args.self.now) (cursors_in l))
+    (sym c.as_mut_slice.ensures.value) c.requires.cursors
 
 pub run_whole_part-requires-clause-few : goal.run_whole_part-requires-clause-few
 run_whole_part-requires-clause-few g c κs within =
@@ -61,9 +61,9 @@ returns g c =
     let value = ap length c.as_mut_slice.ensures.value in
     let whole = with_items_is self.participants made (omega (arith, many, had, value, c.as_mut_slice.ensures.len)) in
     record {
-      ran = subst (λ (l : List (CachePadded Participant)). RanPartBy (recorded_in self) new c.args.run (callers_on self) (callers_in l)
+      ran = subst (λ (l : List (CachePadded Participant)). RanPartBy (recorded_in self) new c.args.run (cursors_on self) (cursors_in l)
           c.in_ok-ended.ended) (sym whole)
-          (subst (λ (l : List (CachePadded Participant)). RanPartBy (recorded_in self) new c.args.run (callers_in l) (callers_in made)
+          (subst (λ (l : List (CachePadded Participant)). RanPartBy (recorded_in self) new c.args.run (cursors_in l) (cursors_in made)
           c.in_ok-ended.ended) c.as_mut_slice.ensures.value e.ran);
       stands = record {
         of_heap = e.own ∙ stands.of_heap;

@@ -1,5 +1,5 @@
 -- Why a participant may begin.
-use Rattle.tide_heap.proofs.steps_laws.Comings.{begins, zero_below}
+use Rattle.tide_heap.proofs.steps_laws.BeginsAndStops.{begins, zero_below}
 use Rattle.tide_heap.proofs.steps.pass.Pass.activate.Goals as goal
 
 pub load-period-requires : goal.load-period-requires

@@ -2,7 +2,7 @@
 use Rattle.std.proofs.Common.{subst, ap, ◌∙◌}
 use Rattle.tide_core.specs.declared.machine.view.View.{View}
 use Rattle.tide_model.specs.Prefix.{IsPrefix}
-use Rattle.tide_heap.proofs.steps_laws.Comings.{seen_begun}
+use Rattle.tide_heap.proofs.steps_laws.BeginsAndStops.{seen_begun}
 use Rattle.tide_heap.proofs.steps.pass.Pass.begin.Goals as goal
 
 pub returns-clause-earlier : goal.returns-clause-earlier

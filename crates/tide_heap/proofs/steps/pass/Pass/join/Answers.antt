@@ -1,5 +1,5 @@
 -- Why a participant may hear a ticket.
-use Rattle.tide_heap.proofs.steps_laws.Comings.{hears, zero_below}
+use Rattle.tide_heap.proofs.steps_laws.BeginsAndStops.{hears, zero_below}
 use Rattle.tide_heap.proofs.steps.pass.Pass.join.Goals as goal
 
 pub join_seat-requires : goal.join_seat-requires

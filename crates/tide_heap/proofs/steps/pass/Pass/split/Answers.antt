@@ -4,7 +4,7 @@ use Rattle.std.specs.Prelude.{◌||◌, ◌↔◌}
 use Rattle.tide_heap.specs.Done.{HasDonePart, done_by_numbers}
 use Rattle.tide_core.specs.machine.Progress.{HasWholeRound}
 use Rattle.tide_model.specs.Layout.{Layout}
-use Rattle.tide_heap.proofs.steps_laws.Comings.{notes, tells_done, zero_below}
+use Rattle.tide_heap.proofs.steps_laws.BeginsAndStops.{notes, tells_done, zero_below}
 use Rattle.tide_heap.proofs.steps.pass.Pass.split.Goals as goal
 use Rattle.tide_heap.proofs.steps.pass.Pass.split.Goals.{then-done, else-done}
 

@@ -4,7 +4,7 @@ use Rattle.tide_core.specs.tide_layout.Region.{place_in, size_of, word_count}
 use Rattle.tide_core.specs.tide_layout.declared.region.Region.TheVariants as region
 use Rattle.tide_core.specs.machine.Kind.{index_of_stopped}
 use Rattle.tide_model.specs.Layout.{Layout}
-use Rattle.tide_heap.proofs.steps_laws.Comings.{ends}
+use Rattle.tide_heap.proofs.steps_laws.BeginsAndStops.{ends}
 use Rattle.tide_heap.proofs.steps.pass.Pass.store_stopped.Goals as goal
 
 pub store-requires : goal.store-requires

@@ -17,7 +17,7 @@ overflow_add-end c =
 -- what the search through the statuses found
 is_found : (c : goal.After-find) →
     IsFirstFound (λ array. get_or c.self.inside.arrays.statuses array Free ≡ Free) (λ array. get_or c.self.inside.arrays.statuses array Free ≢ Free)
-    c.first_array_of-first.result (c.first_array_of-first.result + 64 * c.from.result) c.find.result
+    c.first_array_of-first.result (c.first_array_of-first.result + 64 * c.blocks-2.result) c.find.result
 is_found c = first_from_Range _ _ _ _ (λ array. get_or c.self.inside.arrays.statuses array Free ≡ Free) (λ array. get_or c.self.inside.arrays.statuses array Free ≢ Free) c.find.ensures.ran
     (λ x q called. search (rules, tests)) (λ x q called. (search rules, search (rules, tests)))
 

@@ -15,14 +15,14 @@ overflow_add-end c =
 -- what the search through the flags found
 is_found : (c : goal.After-lowest_free) →
     IsFirstFound (λ cell. get_or c.self.inside.cells.are_live cell false ≡ false) (λ cell. get_or c.self.inside.cells.are_live cell false ≡ true)
-    c.first_of-first.result (c.first_of-first.result + 64 * c.from.result) c.lowest_free.result
+    c.first_of-first.result (c.first_of-first.result + 64 * c.blocks-2.result) c.lowest_free.result
 is_found c = let told = c.lowest_free.ensures in found-told _ _ _ _ c.lowest_free.result told.from told.below told.free told.lowest told.full
 
 pub returns-clause-within : goal.returns-clause-within
 returns-clause-within c =
     let ends = cells_of_class-end c.self.inside.layout c.args.class c.self.invariant.limits c.requires in
     let counted = ap (λ (s : Stored). cell_count s.layout) c.self.view_is in
-    found-holds _ _ _ _ _ c.lowest_free.result (is_found c) (λ cell from below is_free. omega (arith, below, ends, counted, c.first_of-first.ensures, c.blocks-2.ensures.count, c.from.ensures))
+    found-holds _ _ _ _ _ c.lowest_free.result (is_found c) (λ cell from below is_free. omega (arith, below, ends, counted, c.first_of-first.ensures, c.blocks-2.ensures.count))
 
 pub returns-clause-lowest : goal.returns-clause-lowest
 returns-clause-lowest c = rw (← c.self.view_is) (found-lowest _ _ _ _ _ c.lowest_free.result (is_found c)
@@ -31,4 +31,4 @@ returns-clause-lowest c = rw (← c.self.view_is) (found-lowest _ _ _ _ _ c.lowe
 pub returns-clause-full : goal.returns-clause-full
 returns-clause-full c = rw (← c.self.view_is) (found-none _ _ _ _ _ c.lowest_free.result (is_found c)
     (λ all. cells_of_class-full (parts_of c.self.inside) c.args.class c.self.invariant c.requires
-    (λ cell from below. all cell (omega (arith, from, c.first_of-first.ensures)) (omega (arith, below, c.first_of-first.ensures, c.blocks-2.ensures.count, c.from.ensures)))))
+    (λ cell from below. all cell (omega (arith, from, c.first_of-first.ensures)) (omega (arith, below, c.first_of-first.ensures, c.blocks-2.ensures.count)))))

@@ -3,7 +3,7 @@ use Rattle.std.proofs.lemmas.Grind.{common_steps}
 use Rattle.std.specs.Prelude.{All}
 use Rattle.tide_model.specs.declared.op.Op.{Op}
 use Rattle.tide_text.specs.work.Work.{Work, IsOperation, limits_of}
-use Rattle.tide_text.specs.work.OpLimits.{limits_with}
+use Rattle.tide_text.specs.work.OpArguments.{limits_with}
 use Rattle.tide_text.proofs.work_laws.SeenLemmas.{All-seen}
 use Rattle.tide_text.proofs.work.workload.Workload.ops.Goals as goal
 

@@ -1,0 +1,19 @@
+-- What its arguments make, word after word.
+use Rattle.std.proofs.Common.{None, Some, ◌∙◌}
+use Rattle.tide_model.specs.declared.op.Op.TheVariants.{Alloc}
+use Rattle.tide_text.specs.work.ReadOp.{register_of}
+use Rattle.tide_text.specs.work.Words.{number_below, words_in}
+use Rattle.tide_text.proofs.work_laws.ArgumentLemmas.{two_none, two_first, two_made}
+use Rattle.tide_text.proofs.work.op_arguments.OpArguments.alloc.Goals as goal
+
+pub returns-in_err-dst : goal.returns-in_err-dst
+returns-in_err-dst c = c.from_residual.ensures ∙ two_none (λ o. Alloc o.0 o.1) (register_of c.args.self.now) (number_below 4) (words_in c.args.arguments.now) c.in_err-dst.ensures
+
+pub returns-in_err-register : goal.returns-in_err-register
+returns-in_err-register c = c.from_residual-in_err-register.ensures ∙ two_first (λ o. Alloc o.0 o.1) (register_of c.args.self.now) (number_below 4) (words_in c.args.arguments.now) c.in_ok-dst.dst.now c.in_ok-dst.class.now None c.in_ok-dst.ensures c.in_err-register.ensures
+
+pub returns-in_err-byte_below : goal.returns-in_err-byte_below
+returns-in_err-byte_below c = c.from_residual-in_err-byte_below.ensures ∙ two_made (λ o. Alloc o.0 o.1) (register_of c.args.self.now) (number_below 4) (words_in c.args.arguments.now) c.in_ok-dst.dst.now c.in_ok-dst.class.now c.in_ok-register.field-0 None c.in_ok-dst.ensures c.in_ok-register.ensures c.in_err-byte_below.ensures
+
+pub returns : goal.returns
+returns c = two_made (λ o. Alloc o.0 o.1) (register_of c.args.self.now) (number_below 4) (words_in c.args.arguments.now) c.in_ok-dst.dst.now c.in_ok-dst.class.now c.in_ok-register.field-0 (Some c.in_ok-byte_below.field-0) c.in_ok-dst.ensures c.in_ok-register.ensures c.in_ok-byte_below.ensures

@@ -1,0 +1,22 @@
+-- What its arguments make, word after word.
+use Rattle.std.proofs.Common.{None, Some, ◌∙◌}
+use Rattle.tide_model.specs.declared.op.Op.TheVariants.{Get}
+use Rattle.tide_text.specs.work.ReadOp.{register_of}
+use Rattle.tide_text.specs.work.Words.{number_below, words_in}
+use Rattle.tide_text.proofs.work_laws.ArgumentLemmas.{three_none, three_first, three_second, three_made}
+use Rattle.tide_text.proofs.work.op_arguments.OpArguments.get.Goals as goal
+
+pub returns-in_err-dst : goal.returns-in_err-dst
+returns-in_err-dst c = c.from_residual.ensures ∙ three_none (λ o. Get o.0 o.1 o.2) (register_of c.args.self.now) (register_of c.args.self.now) (number_below 16) (words_in c.args.arguments.now) c.in_err-dst.ensures
+
+pub returns-in_err-register : goal.returns-in_err-register
+returns-in_err-register c = c.from_residual-in_err-register.ensures ∙ three_first (λ o. Get o.0 o.1 o.2) (register_of c.args.self.now) (register_of c.args.self.now) (number_below 16) (words_in c.args.arguments.now) c.in_ok-dst.dst.now c.in_ok-dst.src.now c.in_ok-dst.slot.now None c.in_ok-dst.ensures c.in_err-register.ensures
+
+pub returns-in_err-register-2 : goal.returns-in_err-register-2
+returns-in_err-register-2 c = c.from_residual-in_err-register-2.ensures ∙ three_second (λ o. Get o.0 o.1 o.2) (register_of c.args.self.now) (register_of c.args.self.now) (number_below 16) (words_in c.args.arguments.now) c.in_ok-dst.dst.now c.in_ok-dst.src.now c.in_ok-dst.slot.now c.in_ok-register.field-0 None c.in_ok-dst.ensures c.in_ok-register.ensures c.in_err-register-2.ensures
+
+pub returns-in_err-byte_below : goal.returns-in_err-byte_below
+returns-in_err-byte_below c = c.from_residual-in_err-byte_below.ensures ∙ three_made (λ o. Get o.0 o.1 o.2) (register_of c.args.self.now) (register_of c.args.self.now) (number_below 16) (words_in c.args.arguments.now) c.in_ok-dst.dst.now c.in_ok-dst.src.now c.in_ok-dst.slot.now c.in_ok-register.field-0 c.in_ok-register-2.field-0 None c.in_ok-dst.ensures c.in_ok-register.ensures c.in_ok-register-2.ensures c.in_err-byte_below.ensures
+
+pub returns : goal.returns
+returns c = three_made (λ o. Get o.0 o.1 o.2) (register_of c.args.self.now) (register_of c.args.self.now) (number_below 16) (words_in c.args.arguments.now) c.in_ok-dst.dst.now c.in_ok-dst.src.now c.in_ok-dst.slot.now c.in_ok-register.field-0 c.in_ok-register-2.field-0 (Some c.in_ok-byte_below.field-0) c.in_ok-dst.ensures c.in_ok-register.ensures c.in_ok-register-2.ensures c.in_ok-byte_below.ensures
