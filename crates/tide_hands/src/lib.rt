@@ -4,8 +4,7 @@
 //! keeper may post an end. What a ticket and a note are the caller says, by `Parcels`: whoever takes one has what its
 //! poster showed. Each call but `await_ticket` and `await_note` returns at once; those two park on the member's word.
 //!
-//! It may touch `atomic_table` alone: it knows no heap. It is for a heap's tickets and notes, where each thread has a
-//! seat; no room stands on it yet.
+//! It may touch `atomic_table` alone: it knows no heap. What a heap's tickets and notes are, `tide_posts` says over it.
 #![tactic(auto)]
 
 mod found;

@@ -1,0 +1,7 @@
+-- The rooms below that this one hands on.
+pub use Rattle.tide_hands.specs as tide_hands
+pub use Rattle.tide_heap.specs as tide_heap
+pub mod Name
+pub mod Openings
+pub mod Posts
+pub mod Shares

@@ -1,0 +1,42 @@
+-- What the tickets and the notes of a heap say that are handed over.
+use Rattle.std.specs.Prelude.{ℕ, ◌≡◌, ◌<◌, Bool, true, false, MatchBool, nat_lt}
+use Rattle.tide_heap.specs.tide_core.declared.machine.view.View.{View}
+use Rattle.tide_model.specs.Freeze.{marks_after}
+use Rattle.tide_model.specs.Layout.{Layout}
+use Rattle.tide_posts.specs.Name.{Name, who_at}
+use Rattle.tide_posts.specs.Openings.{IsOpening}
+use Rattle.tide_posts.specs.Shares.{HasMarked, HasShared}
+use Rattle.tide_heap.specs.declared.steps.notes.Note.{Note}
+use Rattle.tide_heap.specs.declared.steps.notes.Ticket.{Ticket}
+
+-- A ticket tells the history as it was when its part was opened, in which each mutator has some calls, and whether a
+-- cycle marks.
+pub record TicketTells (layout : Layout) (u : View) : Type 0 where
+  pub opening : IsOpening u.period u.run u.seen
+  pub some : 0 < u.run
+  pub marking : u.marks ≡ marks_after layout u.seen
+
+-- it is of the heap
+pub record IsTicketFor (name : Name) (ticket : Ticket) : Type 0 where
+  pub of_heap : ticket.seat.table_id ≡ name.table_id
+  pub tells : TicketTells name.layout ticket.seat.me.0
+
+-- a mutator's note tells that it made its share, and whether its last call ended that
+pub record MutatorTells (u : View) (ended : Bool) : Type 0 where
+  pub shared : HasShared u.who u.period u.run u.seen u.mine u.left ended
+  pub still : u.visits ≡ 0
+
+-- a visitor's note tells its visits
+pub record VisitorTells (layout : Layout) (u : View) (ended : Bool) : Type 0 where
+  pub marked : HasMarked layout u.period u.run u.marks u.seen u.visits
+  pub stays : u.left ≡ false
+  pub none : ended ≡ false
+
+-- a note is of the heap, and of the participant at a place, which has done its part
+pub record IsNoteFor (name : Name) (place : ℕ) (note : Note) (ended : Bool) : Type 0 where
+  pub of_heap : note.seat.table_id ≡ name.table_id
+  pub is : note.seat.me.0.who ≡ who_at name.layout place
+  pub begun : note.seat.me.0.begun ≡ note.seat.me.0.period
+  pub done : note.seat.me.0.done ≡ true
+  pub did : MatchBool (nat_lt place name.layout.mutators) (MutatorTells note.seat.me.0 ended)
+      (VisitorTells name.layout note.seat.me.0 ended)

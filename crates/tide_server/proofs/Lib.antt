@@ -1,0 +1,4 @@
+pub mod Lists
+pub mod Notes
+pub mod Tickets
+pub mod Working

@@ -1,0 +1,16 @@
+-- The tickets of the first part.
+use Rattle.std.proofs.Common.{◌≡◌, ◌∙◌, ap, sym, subst}
+use Rattle.tide_posts.specs.Posts.{TicketTells}
+use Rattle.tide_posts.specs.tide_heap.tide_core.declared.machine.view.View.{View}
+use Rattle.tide_server.proofs.Tickets.{TicketTells-first}
+use Rattle.tide_server.proofs.keeper.Keeper.open_first.Goals as goal
+
+pub hand_out-requires-clause-running : goal.hand_out-requires-clause-running
+hand_out-requires-clause-running g c = ap (λ (v : View). v.frozen) c.open_first.ensures.opened
+
+pub hand_out-requires-clause-tells : goal.hand_out-requires-clause-tells
+hand_out-requires-clause-tells g c =
+    let key = c.args.standing.now.heap.key in
+    subst (TicketTells key.layout) (sym c.open_first.ensures.opened)
+    (TicketTells-first key.layout (g.S.HeapShapes.lists key.shapes) c.args.self.now.collector.seat.me.0 c.args.run
+    c.requires.started c.requires.some)

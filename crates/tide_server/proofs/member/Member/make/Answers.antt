@@ -1,0 +1,86 @@
+-- A member that is at work makes one more call.
+use Rattle.std.proofs.Common.{ℕ, ◌≡◌, ◌+◌, ◌-◌, ◌<◌, ◌∙◌, ap, arith, sym, subst, Bool, not, ◌||◌, ◌&&◌, List, [], ◌∷◌, ◌++◌}
+use Rattle.std.specs.Prelude.{is_some, MatchBool, Option}
+use Rattle.tide_model.proofs.OwnCalls.{called, is_some-flag, retry_after-flag, retry_of-push}
+use Rattle.tide_model.specs.Script.{is_full_reply, retry_after, retry_of}
+use Rattle.tide_model.specs.Share.{ends_share, is_asked}
+use Rattle.tide_model.specs.declared.entry.Event.{Event}
+use Rattle.tide_model.specs.declared.op.Op.{Op}
+use Rattle.tide_model.specs.declared.op.Reply.{Reply}
+use Rattle.tide_mutator.specs.calls.Viewed.{view_of}
+use Rattle.tide_mutator.specs.owed.Calling.{Kept}
+use Rattle.tide_server.proofs.Working.{IsAtWork-called, at_work}
+use Rattle.tide_server.specs.AtWork.{IsAtWork, IsParked}
+use Rattle.tide_server.proofs.member.Member.make.Goals as goal
+
+pub call-reply-requires-clause-begun : goal.call-reply-requires-clause-begun
+call-reply-requires-clause-begun g c κs within =
+    let m = c.args.self.now in (at_work m.works (view_of m.mutator) m.left m.ended c.requires.of.stands c.requires.works).runs
+
+pub call-reply-requires-clause-few : goal.call-reply-requires-clause-few
+call-reply-requires-clause-few g c κs within takes =
+    let m = c.args.self.now in
+    let works = at_work m.works (view_of m.mutator) m.left m.ended c.requires.of.stands c.requires.works in
+    let born = works.born in
+    let count = works.count in
+    let few = works.few in
+    let left = c.requires.may.0 in
+    omega (arith, born, count, few, left)
+
+-- what is to be tried again, and whether the call ended the share, as the flags say
+flags : (pending : Option Op) (retries first ended : Bool) (op : Op) (reply : Reply) → retries ≡ is_some pending →
+    first ≡ (not retries && is_full_reply reply) → ended ≡ (is_asked reply || first) →
+    (first ≡ is_some (retry_after pending (op, reply))) × (ended ≡ ends_share pending (op, reply))
+flags pending retries first ended op reply same is ends =
+    let again : first ≡ is_some (retry_after pending (op, reply)) = is
+    ∙ sym (ap (λ (o : Option Op). is_some o) (retry_after-flag pending retries op reply same)
+    ∙ is_some-flag (not retries && is_full_reply reply) op) in
+    (again, ends ∙ ap (λ (b : Bool). is_asked reply || b) again)
+
+pub invariant_of-self : goal.invariant_of-self
+invariant_of-self g c =
+    let m = c.args.self.now in
+    let v = view_of m.mutator in
+    let w = view_of c.call-reply.new.self in
+    let op = c.args.op in
+    let reply = c.call-reply.result in
+    let told = c.call-reply.ensures in
+    let works = at_work m.works v m.left m.ended c.requires.of.stands c.requires.works in
+    let say = flags (retry_of v.who v.mine) m.retries c.is_first_full-self.result c.ends-self.result op reply m.retries_is
+    c.is_first_full-self.ensures c.ends-self.ensures in
+    let who = ap (λ (k : Kept). k.who) told.kept in
+    let left = c.requires.may.0 in
+    record {
+      its = who ∙ m.its;
+      period_is = m.period_is ∙ sym (ap (λ (k : Kept). k.period) told.kept);
+      retries_is = say.0 ∙ ap (λ (o : Option Op). is_some o) (sym (ap (λ (h : List Event). retry_of w.who h) told.makes.adds
+          ∙ ap (λ (n : ℕ). retry_of n (v.mine ++ called v.who op reply told.makes.took ∷ [])) who
+          ∙ retry_of-push v.who v.mine op reply told.makes.took));
+      owes = λ _. m.owes c.requires.works;
+    }
+
+pub returns-clause-of : goal.returns-clause-of
+returns-clause-of g c =
+    let of = c.requires.of in
+    let told = c.call-reply.ensures in
+    let m = c.args.self.now in
+    let v = view_of m.mutator in
+    let w = view_of c.call-reply.new.self in
+    let op = c.args.op in
+    let reply = c.call-reply.result in
+    let works = at_work m.works v m.left m.ended of.stands c.requires.works in
+    let say = flags (retry_of v.who v.mine) m.retries c.is_first_full-self.result c.ends-self.result op reply m.retries_is
+    c.is_first_full-self.ensures c.ends-self.ensures in
+    let left = c.requires.may.0 in
+    record {
+      table = told.same.0 ∙ of.table;
+      seated = of.seated;
+      named = of.named;
+      is_mutator = subst (λ (n : ℕ). n < c.args.standing.now.heap.key.layout.mutators)
+          (sym (ap (λ (k : Kept). k.who) told.kept)) of.is_mutator;
+      stands = subst (λ (b : Bool). MatchBool b (IsAtWork w (m.left - 1) c.ends-self.result) (IsParked w)) (sym c.requires.works)
+          (subst (IsAtWork w (m.left - 1)) (sym say.1)
+          (IsAtWork-called c.args.standing.now.heap.key.layout (g.S.ShapeTable.lists c.args.standing.now.heap.key.shapes)
+          v w m.left (m.left - 1) op reply (subst (IsAtWork v m.left) c.requires.may.1 works) (omega (arith, left))
+          c.requires.retries told.kept told.births told.makes));
+    }

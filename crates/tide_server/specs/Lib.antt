@@ -1,0 +1,5 @@
+pub mod AtWork
+pub mod Helpers
+pub mod Keepers
+pub mod Members
+pub mod Opened

@@ -1,0 +1,29 @@
+//! A heap that stands for as long as its host. Its mutators and its visitors call it on threads of the host's, and one
+//! keeper freezes it between two parts.
+//!
+//! `open` makes of a started heap a `Standing`, which threads share, a `Member` for each mutator, a `Helper` for each
+//! visitor, and the `Keeper`. A member makes its calls: where its share of a part is over it hands its note in, and
+//! waits for the next ticket. A helper takes part in one part a call. Beside each call that waits stands what waits for
+//! nobody: `Member::offer`, `Member::hand_in` and `Member::poll`.
+//!
+//! It may touch the heap's collector, mutators and visitors by their calls, and hands tickets and notes over by
+//! `tide_hands`. It knows no step.
+#![tactic(auto)]
+
+mod helper;
+mod member;
+mod standing;
+// these stand on those listed before
+mod helping;
+mod keeper;
+mod parts;
+// these stand on those listed before
+mod calls;
+mod opening;
+
+pub use helper::{Helper, Worked};
+pub use keeper::Keeper;
+pub use member::Member;
+pub use opening::{Opened, open};
+pub use parts::Offered;
+pub use standing::Standing;

@@ -1,0 +1,58 @@
+//! `Member`: a mutator of a standing heap, on a thread of its caller's. It makes no call.
+ghost use Rattle.std.specs.Prelude.{◌≡◌, false, is_some, length, true};
+ghost use Rattle.tide_model.specs.Script.{retry_of};
+ghost use Rattle.tide_mutator.specs.owed.Standing.{claims_of};
+ghost use Rattle.tide_mutator.specs.calls.Viewed.{table_of, view_of};
+ghost use Rattle.tide_posts.specs.tide_heap.tide_core.machine.Frozen.{newcomer};
+
+use tide_mutator::Mutator;
+use tide_posts::{HeapName, MemberSeat, Note, Pass, Ticket};
+
+/// A mutator of a standing heap, between two calls.
+#[derive(Drop)]
+pub struct Member {
+    pub(crate) mutator: Mutator,
+    pub(crate) seat: MemberSeat<Ticket, Note, HeapName>,
+    /// The part of its last note.
+    pub(crate) period: u32,
+    /// How many calls it has left in its part.
+    pub(crate) left: u32,
+    /// Its last call was refused for room a first time, and is to be tried again.
+    pub(crate) retries: bool,
+    /// Its last call ended its share.
+    pub(crate) ended: bool,
+    /// It has begun a part, and not handed its note in.
+    pub(crate) works: bool,
+    ghost its: { (view_of mutator).who ≡ seat.place },
+    ghost period_is: { period ≡ (view_of mutator).period },
+    ghost retries_is: { retries ≡ is_some (retry_of (view_of mutator).who (view_of mutator).mine) },
+    ghost owes: { works ≡ true → seat.seat.me.0.due ≡ true },
+}
+
+impl Member {
+    /// A mutator that has made no call yet, with its seat.
+    pub(crate) fn new(pass: Pass, seat: MemberSeat<Ticket, Note, HeapName>) -> Member
+        requires newcomer { pass.seat.me.0 ≡ newcomer seat.place }
+        ensures table { table_of result.mutator ≡ pass.seat.table_id }
+        ensures view { view_of result.mutator ≡ newcomer seat.place }
+        ensures seat { result.seat ≡ seat }
+        ensures rests { result.works ≡ false }
+    {
+        Member {
+            mutator: Mutator::new(pass),
+            seat,
+            period: 0,
+            left: 0,
+            retries: false,
+            ended: false,
+            works: false,
+        }
+    }
+
+    /// How many cells it claims.
+    pub fn claims(&self) -> u32
+        ensures { result ≡ length (claims_of (view_of self.now.mutator)) }
+    {
+        self.mutator.claims()
+    }
+}
