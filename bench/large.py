@@ -2,12 +2,13 @@
 
     python3 bench/large.py PROGRAM [MOST]
 
-PROGRAM is bench/large/main.rt, built. That file is a program of one's own over the door `tide`: it isn't proved, and the
-gate doesn't build it. Heaps of 10^4 cells to MOST (10^7) are filled by one mutator but for a 64th of their places, with
-cells of 2, 4, 8 and 16 slots in turn. Boehm's collector is Debian's libgc-dev, built by gcc, with one marker; it makes the
-same cells. Where it isn't installed, its columns are empty. The two run in turn, three times each, and medians are printed
-as three tables. All times are the processor's, so that other work on the machine lengthens them only by its use of caches
-and memory. A peak that isn't above this script's own can't be told, and is left out.
+PROGRAM is bench/large/main.rt.txt, built as the src/main.rt of a crate. It is a program of one's own over the door
+`tide`: it isn't proved, and the gate doesn't build it. Heaps of 10^4 cells to MOST (10^7) are filled by one mutator but
+for a 64th of their places, with cells of 2, 4, 8 and 16 slots in turn. Boehm's collector is Debian's libgc-dev, built
+by gcc, with one marker; it makes the same cells. Where it isn't installed, its columns are empty. The two run in turn,
+three times each, and medians are printed as three tables. All times are the processor's, so that other work on the
+machine lengthens them only by its use of caches and memory. A peak that isn't above this script's own can't be told,
+and is left out.
 """
 import os
 import resource
