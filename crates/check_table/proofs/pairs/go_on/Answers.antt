@@ -1,9 +1,8 @@
 -- Where memory was short the part is frozen, and the two calls that follow do what is left of the one.
-use Rattle.std.proofs.Common.{◌≡◌, ◌∙◌, ap, arith}
+use Rattle.std.proofs.Common.{◌∙◌, ap, arith}
 use Rattle.std.specs.Prelude.{true, Err}
 use Rattle.tide_heap.specs.tide_core.declared.machine.view.View.{View}
 use Rattle.tide_model.specs.Cycle.{begin_count}
-use Rattle.tide_sched.specs.Paces.{pace_of}
 use Rattle.tide_table.proofs.Nexts.{HasOpenedNext-by}
 use Rattle.tide_table.proofs.Standing.{begin_count-part, blacks_stay}
 use Rattle.check_table.proofs.pairs.go_on.Goals as goal
@@ -27,7 +26,7 @@ pub returns-clause-next : goal.returns-clause-next
 returns-clause-next g c =
     let h = c.args.heap.now in
     let froze = (c.in-Err-Memory.ensures.stands (ap Err c.in-Err-Memory.field-0-is)).0 in
-    HasOpenedNext-by h.key.layout (g.S.HeapShapes.lists h.key.shapes) (pace_of c.next_part.new.books.pacing) true c.in-Ok.run'
+    HasOpenedNext-by h.key.layout (g.S.HeapShapes.lists h.key.shapes) _ true c.in-Ok.run'
     c.args.books.now c.next_part.new.books c.collect.new.books c.args.collector.now.seat.me.0
     c.next_part.new.self.seat.me.0 c.collect.new.self.seat.me.0 c.open.new.self.seat.me.0 c.requires.part froze
     c.in-Ok.ensures.collected c.in-Ok.ensures.books c.in-Ok-open.ensures.opened c.in-Ok-open.ensures.later
