@@ -10,5 +10,5 @@ mod view;
 
 pub use act::Act;
 pub use view::{
-    Cleared, Duty, FullBlock, Growth, Owed, Role, Round, Saw, Scan, Sweeping, Target, View,
+    Duty, FullBlock, Growth, Owed, Role, Round, Saw, Scan, Sweeping, Target, View,
 };

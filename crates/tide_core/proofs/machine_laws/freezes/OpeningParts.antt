@@ -267,8 +267,7 @@ module _ (layout : Layout) (shapes : ShapeLists) (heap : Heap) (part : ℕ → V
       taken = λ block. inl (subst (λ (l : List Event). moment_after_last (λ e. is_taken_of block e.entry) l
           ≤ moment_after_last (λ e. is_sweep_of block e.entry) l) (sym (since-none is_open before (plain (Open number run)) refl))
           (omega arith));
-      cleared = λ p block moment is. absurd (nothing (part p).cleared (record { block = block; moment = moment })
-          (empty.cleared p (parked p)) is);
+      cleared = λ p one is. absurd (nothing (part p).cleared one (empty.cleared p (parked p)) is);
     };
     left = subst (WhoLeftIsInactive part) (sym same_state) left;
     scans = record { knows = λ p scan is. no_scan p scan is };

@@ -1,9 +1,8 @@
 -- When a refusal for room may stand, by what its caller's view keeps of each block of the class.
-use Rattle.std.proofs.Common.{ℕ, ◌%◌, ◌≤◌, List, length, take}
+use Rattle.std.proofs.Common.{ℕ, ◌≡◌, ◌%◌, ◌≤◌, subst, List, length, take}
 use Rattle.std.proofs.lemmas.Nat.Bits.{bit_at-zero}
 use Rattle.std.specs.Prelude.{Contains}
 use Rattle.tide_core.specs.machine.Looked.{FreeIsShown}
-use Rattle.tide_core.specs.declared.machine.view.Cleared.{Cleared}
 use Rattle.tide_core.specs.declared.machine.view.FullBlock.{FullBlock}
 use Rattle.tide_model.specs.Cycle.{IsSwept}
 use Rattle.tide_model.specs.History.{state_at}
@@ -11,6 +10,8 @@ use Rattle.tide_model.specs.Layout.{Layout, IsBlockOf}
 use Rattle.tide_model.specs.Room.{DeadIsTaken, IsFullBlock, StandsFull, window_start}
 use Rattle.tide_model.specs.State.{State}
 use Rattle.tide_model.specs.declared.entry.Event.{Event}
+use Rattle.tide_sweep.specs.Clearing.{IsCleared}
+use Rattle.tide_sweep.specs.declared.port.Cleared.{Cleared}
 
 -- a word of free bits that is 0 shows that the block is full
 pub shown_full : (layout : Layout) (state : State) (block : ℕ) → FreeIsShown layout state block 0 → IsFullBlock layout state block
@@ -24,19 +25,18 @@ module _ (layout : Layout) (log : List Event) (who class : ℕ) (full : List Ful
     (window_start who log ≤ moment) × (moment ≤ length log) × FreeIsShown layout (state_at layout log moment) block word) where
   -- In a part in which no cycle marks the view has seen of each block one word that was 0, and the block was cleared by
   -- then: nothing was dead there, or another had taken it.
-  pub full_at_rest : ((block moment : ℕ) → Contains cleared (record { block = block; moment = moment }) → (moment ≤ length log)
-      × ((later : ℕ) → moment ≤ later → later ≤ length log → DeadIsTaken layout (take later log) block)) →
-      ((block : ℕ) → IsBlockOf layout class block → (moment since : ℕ) × (since ≤ moment)
+  pub full_at_rest : ((one : Cleared) → Contains cleared one → IsCleared layout log one) →
+      ((block : ℕ) → IsBlockOf layout class block → (moment : ℕ) (since : Cleared) × (since.moment ≤ moment)
       × Contains full (record { block = block; moment = moment; word = 0 })
-      × Contains cleared (record { block = block; moment = since })) → StandsFull layout log who class
+      × (since.block ≡ block) × Contains cleared since) → StandsFull layout log who class
   full_at_rest clean each block of_class =
-      let (moment, since, before, found, clears) = each block of_class in
+      let (moment, since, before, found, of_block, clears) = each block of_class in
       let (from, to, shown) = finds block moment 0 found in (
         moment,
         from,
         to,
         shown_full layout (state_at layout log moment) block shown,
-        (clean block since clears).1 moment before to,
+        subst (DeadIsTaken layout (take moment log)) of_block ((clean since clears).taken moment before to),
       )
 
   -- While a cycle marks nothing is dead, and such a word of each block is enough.
