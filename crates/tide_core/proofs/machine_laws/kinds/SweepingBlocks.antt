@@ -1,6 +1,6 @@
 -- The steps of a sweep, as far as blocks and the history go: dead bits are loaded, a block is claimed, and what is said
 -- of sweeps after each step.
-use Rattle.std.proofs.Common.{ℕ, ◌≡◌, ◌≢◌, ◌+◌, ◌<◌, ◌≤◌, ◌⊎◌, refl, sym, ◌∙◌, ap, subst, arith, Bool, true, false, List, [], ◌∷◌, ◌++◌, inl, inr, Option, Some, None, length, length-append, take}
+use Rattle.std.proofs.Common.{ℕ, ◌≡◌, ◌≢◌, ◌+◌, ◌<◌, ◌≤◌, refl, sym, ◌∙◌, ap, subst, arith, Bool, true, false, List, [], ◌∷◌, ◌++◌, inl, inr, Option, Some, None, length, length-append, take}
 use Rattle.std.proofs.lemmas.Bool.{cases_eq, eq-eqb, ne_eqb}
 use Rattle.std.proofs.lemmas.List.Elements.{Contains-append_cases}
 use Rattle.std.specs.Prelude.{Contains, if◌then◌else◌}
@@ -10,7 +10,6 @@ use Rattle.tide_words.specs.tide_layout.declared.region.Region.TheVariants as re
 use Rattle.tide_core.proofs.machine_laws.steps.Frames.{each_put, put_here}
 use Rattle.tide_core.proofs.machine_laws.steps.Lists.{nothing_in, in_one}
 use Rattle.tide_core.proofs.machine_laws.steps.SweepsKept.{cleared_kept, cleared_push, named_kept, owed_kept, sweeping_same, sweeps_same, told_kept}
-use Rattle.tide_core.proofs.machine_laws.steps.Unsettled.{own_is_not_dead, unsettled_word}
 use Rattle.tide_core.specs.machine.Owed.{IsOwnWord, Knows, Owes, Unsettles, owed_word, unsettled}
 use Rattle.tide_core.specs.declared.machine.view.Owed.{Owed}
 use Rattle.tide_core.specs.declared.machine.view.Saw.{Saw}
@@ -33,7 +32,6 @@ use Rattle.tide_model.specs.Since.{WasTaken, is_sweep_of, is_taken_of, since}
 use Rattle.tide_model.specs.State.{State}
 use Rattle.tide_model.specs.declared.entry.Entry.TheVariants.{Sweep, Taken}
 use Rattle.tide_model.specs.declared.entry.Event.{Event}
-use Rattle.tide_sweep.proofs.DeadLaws.{dead_word_is_set}
 use Rattle.tide_sweep.specs.Clearing.{IsCleared, TellsTook}
 use Rattle.tide_sweep.specs.Zeroed.{IsDeadWord}
 use Rattle.tide_sweep.specs.declared.port.Cleared.{Cleared}

@@ -309,9 +309,12 @@ claimed-cleared = put_at_elim SaysCleared loaded.part 0 (claimed.part 0) here
       within = omega arith;
       taken = λ later early late.
           let now : 8 ≡ later = omega (arith, early, late) in
-          subst (λ (m : ℕ). DeadIsTaken small (take m claimed.log) 0) now (λ dead. omega arith);
+          subst (λ (m : ℕ). DeadIsTaken small (take m claimed.log) 0) now whole;
       told = (loaded.log, refl);
     })
+      where
+        whole : DeadIsTaken small claimed.log 0
+        whole dead = omega arith
 
 -- what one mutator alone says to be cleared
 abbrev says : Cleared → ℕ → View
