@@ -21,6 +21,7 @@ use Rattle.tide_core.specs.machine.kinds.StoreStructure.{structured_view}
 use Rattle.tide_core.specs.machine.kinds.SwapGrey.{swapped_view}
 use Rattle.tide_core.specs.machine.kinds.Sweep.{claimed_view, cleared_from, dead_view, saw_word, with_swept}
 use Rattle.tide_core.specs.machine.kinds.TakeArray.{array_view, array_at, grown_view}
+use Rattle.tide_core.specs.tide_sweep.declared.port.Took.TheVariants.{Clean, Mine, Other}
 use Rattle.tide_model.specs.History.{state_after}
 use Rattle.tide_model.specs.Layout.{Layout}
 use Rattle.tide_model.specs.Refused.{ShapeLists}
@@ -145,7 +146,7 @@ swapped grey block read v = by_test (read == 0)
 dead_seen : (log : List Event) (block read : ℕ) (v : View) → core (dead_view log block read v) ≡ core v
 dead_seen log block read v = by_test (read == 0)
   where
-    by_test : (b : Bool) → core (if b then cleared_from (length log) block v
+    by_test : (b : Bool) → core (if b then cleared_from Clean (length log) block v
         else record v { saw = Some (record { block = block; word = read; swept = None }) }) ≡ core v
     by_test true = refl
     by_test false = refl
@@ -154,9 +155,9 @@ claimed : (log : List Event) (block old cycle read : ℕ) (v : View) →
     core (claimed_view log block old cycle read v) ≡ core v
 claimed log block old cycle read v = by_test (read == old) (read == cycle)
   where
-    by_test : (took last : Bool) → core (if took then record (cleared_from (length log + 1) block v) {
+    by_test : (took last : Bool) → core (if took then record (cleared_from Mine (length log + 1) block v) {
       sweeping = Some (record { block = block; dead = saw_word v.saw; given = false; zeroed = [] });
-    } else if last then cleared_from (length log) block v else record v { saw = with_swept read v.saw }) ≡ core v
+    } else if last then cleared_from Other (length log) block v else record v { saw = with_swept read v.saw }) ≡ core v
     by_test true last = refl
     by_test false true = refl
     by_test false false = refl

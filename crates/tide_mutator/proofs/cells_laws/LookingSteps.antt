@@ -10,7 +10,7 @@ use Rattle.tide_mutator.proofs.cells_laws.Looking.{looked_once}
 use Rattle.tide_mutator.specs.cells.Searching.{HasLooked, HasSeen}
 use Rattle.tide_heap.specs.tide_core.machine.Kind.{LoadFree}
 use Rattle.tide_heap.specs.tide_core.machine.Moment.{Moment}
-use Rattle.tide_heap.specs.tide_core.declared.machine.view.Cleared.{Cleared}
+use Rattle.tide_heap.specs.tide_sweep.declared.port.Cleared.{Cleared}
 use Rattle.tide_heap.specs.tide_core.declared.machine.view.FullBlock.{FullBlock}
 use Rattle.tide_heap.specs.tide_core.declared.machine.view.View.{View}
 use Rattle.tide_model.specs.Caller.{IsOwn}
@@ -35,8 +35,8 @@ seen_once layout shapes v u log at index found m block read view = record {
   moment = length log;
   saw = subst (λ (l : List FullBlock). Contains l (record { block = block; moment = length log; word = read }))
       (sym (ap (λ (x : View). x.full) view)) (0, omega arith, refl);
-  late = λ one has. (m.cleared one.block one.moment
-      (subst (λ (l : List Cleared). Contains l one) (ap (λ (x : View). x.cleared) view) has)).0;
+  late = λ one has. (m.cleared one
+      (subst (λ (l : List Cleared). Contains l one) (ap (λ (x : View). x.cleared) view) has)).within;
 }
 
 module _ (layout : Layout) (shapes : ShapeLists) (v : View) (block : ℕ) where

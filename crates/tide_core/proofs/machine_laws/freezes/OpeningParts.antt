@@ -270,8 +270,7 @@ module _ (layout : Layout) (shapes : ShapeLists) (heap : Heap) (part : ℕ → V
           (omega arith));
       took = λ p block s. no_sweep p block s;
       swept = subst SweptWereTaken (sym (since-none is_open before (plain (Open number run)) refl)) (Each-nil SweepsTaken);
-      cleared = λ p block moment is. absurd (nothing (part p).cleared (record { block = block; moment = moment })
-          (empty.cleared p (parked p)) is);
+      cleared = λ p one is. absurd (nothing (part p).cleared one (empty.cleared p (parked p)) is);
     };
     left = subst (WhoLeftIsInactive part) (sym same_state) left;
     scans = record { knows = λ p scan is. no_scan p scan is };

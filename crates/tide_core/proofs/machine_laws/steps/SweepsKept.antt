@@ -7,7 +7,6 @@ use Rattle.tide_words.specs.tide_layout.declared.region.Region.{Region}
 use Rattle.tide_words.specs.tide_layout.declared.region.Region.TheVariants as region
 use Rattle.tide_core.proofs.machine_laws.steps.Frames.{each_put}
 use Rattle.tide_core.specs.machine.Owed.{Unsettles, owed_word, unsettled}
-use Rattle.tide_core.specs.declared.machine.view.Cleared.{Cleared}
 use Rattle.tide_core.specs.declared.machine.view.Saw.{Saw}
 use Rattle.tide_core.specs.declared.machine.view.Sweeping.{Sweeping}
 use Rattle.tide_core.specs.declared.machine.view.View.{View}
@@ -28,6 +27,8 @@ use Rattle.tide_model.specs.State.{State}
 use Rattle.tide_model.specs.declared.entry.Entry.{Entry}
 use Rattle.tide_model.specs.declared.entry.Entry.TheVariants.{Call}
 use Rattle.tide_model.specs.declared.entry.Event.{Event}
+use Rattle.tide_sweep.specs.Clearing.{IsCleared, TellsTook}
+use Rattle.tide_sweep.specs.declared.port.Cleared.{Cleared}
 use Rattle.tide_words.specs.heap.Heap.{Heap}
 use Rattle.tide_words.specs.marking.Colours.{is_marking, running_cycle}
 
@@ -207,11 +208,9 @@ behind_push log event stays each now =
 
 pub cleared_kept : (layout : Layout) (part : ℕ → View) (me : ℕ) (w : View) (log : List Event) → w.cleared ≡ (part me).cleared →
     ClearedAreClean layout part log → ClearedAreClean layout (put_at part me w) log
-cleared_kept layout part me w log same clean = each_put (λ p u. (block moment : ℕ) →
-    Contains u.cleared (record { block = block; moment = moment }) → (moment ≤ length log)
-    × ((later : ℕ) → moment ≤ later → later ≤ length log → DeadIsTaken layout (take later log) block)) part me w
-    (λ block moment is. clean me block moment
-    (subst (λ (l : List Cleared). Contains l (record { block = block; moment = moment })) same is)) clean
+cleared_kept layout part me w log same clean =
+    each_put (λ p u. (one : Cleared) → Contains u.cleared one → IsCleared layout log one) part me w
+    (λ one is. clean me one (subst (λ (l : List Cleared). Contains l one) same is)) clean
 
 -- a step that makes no entry keeps what is said of sweeps, where it leaves the words of sweeps and its view's
 pub sweeps_kept : (layout : Layout) (old new : Heap) (part : ℕ → View) (me : ℕ) (w : View) (log : List Event) →
@@ -233,22 +232,26 @@ sweeps_kept layout old new part me w log phase words dead zero same saw cleared 
 -- what is cleared stays so when anything but an end comes
 pub cleared_push : (layout : Layout) (part : ℕ → View) (log : List Event) (event : Event) → is_end event.entry ≡ false →
     ClearedAreClean layout part log → ClearedAreClean layout part (log ++ event ∷ [])
-cleared_push layout part log event no_end clean p block moment is =
-    let was = clean p block moment is in
-    let size = length-append log (event ∷ []) in (
-      omega (arith, was.0, size),
-      λ later from to. elim (cases_eq later (suc (length log))) [
+cleared_push layout part log event no_end clean p one is =
+    let was = clean p one is in
+    let inside = was.within in
+    let size = length-append log (event ∷ []) in record {
+      within = omega (arith, inside, size);
+      taken = λ later from to. elim (cases_eq later (suc (length log))) [
         | inl last ↦
             let whole : take later (log ++ event ∷ []) ≡ log ++ event ∷ [] =
             ap (λ (n : ℕ). take n (log ++ event ∷ [])) (omega (arith, last, size)) ∙ take-all (log ++ event ∷ []) in
-            subst (λ (l : List Event). DeadIsTaken layout l block) (sym whole)
-            (DeadIsTaken-push layout log event block no_end (subst (λ (l : List Event). DeadIsTaken layout l block) (take-all log)
-            (was.1 (length log) was.0 (omega arith))))
+            subst (λ (l : List Event). DeadIsTaken layout l one.block) (sym whole)
+            (DeadIsTaken-push layout log event one.block no_end
+            (subst (λ (l : List Event). DeadIsTaken layout l one.block) (take-all log)
+            (was.taken (length log) inside (omega arith))))
         | inr apart ↦ (let early : later ≤ length log = omega (arith, apart, to, size) in
-            subst (λ (l : List Event). DeadIsTaken layout l block) (sym (take-append-short log (event ∷ []) later early))
-            (was.1 later from early))
-      ],
-    )
+            subst (λ (l : List Event). DeadIsTaken layout l one.block) (sym (take-append-short log (event ∷ []) later early))
+            (was.taken later from early))
+      ];
+      told = subst (λ (l : List Event). TellsTook layout l one.block one.took)
+          (sym (take-append-short log (event ∷ []) one.moment inside)) was.told;
+    }
 
 -- a call leaves what is said of sweeps
 pub sweeps_called : (layout : Layout) (old new : Heap) (part : ℕ → View) (me : ℕ) (w : View) (log : List Event) (event : Event) →
