@@ -320,6 +320,7 @@ module _ (layout : Layout) (shapes : ShapeLists) (heap : Heap) (part : ℕ → V
           (sym (since-push is_open log (plain (Taken block)) refl))
           (taken-now (since is_open log) (plain (Taken block)) b (eq-eqb block b (mine_is b t))))
           (took_push part log (plain (Taken block)) refl right.took);
+      swept = behind_push log (plain (Taken block)) refl right.swept (λ b sweeps. absurd (cc));
       cleared = each_put (λ p u. (one : Cleared) → Contains u.cleared one → IsCleared layout longer one) part me w
           (newest longer w first (part me).cleared clears_it (from_now longer first (sym size) (log, refl)) (earlier me)) earlier;
     }
