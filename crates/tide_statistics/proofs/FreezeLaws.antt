@@ -1,19 +1,21 @@
--- How a log goes on having what a history says over a whole freeze: where it is told of each beginning and each end
--- there, in their order.
+-- How a log goes on having what a history says over a whole freeze, and over a whole period: where it is told of the
+-- part's opening, and of each beginning and each end in the freeze, in their order.
 use Rattle.std.proofs.Common.{ℕ, ◌≡◌, ◌+◌, ◌∙◌, refl, sym, ap, subst, Bool, true, false, List, [], ◌∷◌, ◌++◌, append_assoc, append-nil, Option, None, Some}
+use Rattle.std.proofs.lemmas.List.Sums.{list_all-from_AllPass}
 use Rattle.std.specs.Prelude.{◌||◌, count_by, filter, map, not}
 use Rattle.tide_model.specs.declared.entry.Entry.{Entry}
 use Rattle.tide_model.specs.declared.entry.Entry.TheVariants.{Begin, Call, End, Open, Pause, Sweep, Taken, Visits}
 use Rattle.tide_model.specs.declared.entry.Event.{Event}
 use Rattle.tide_model.specs.Cycle.{begin_count}
 use Rattle.tide_model.specs.Freeze.{Begins, GoesOn, IsFreeze, Paused, begins_full, is_due, marks_after, marks_of, pause_entries, visits_entries}
-use Rattle.tide_model.specs.History.{is_begin}
+use Rattle.tide_model.specs.History.{is_begin, plain}
 use Rattle.tide_model.specs.Layout.{Layout}
 use Rattle.tide_model.specs.Pace.{Pace}
-use Rattle.tide_model.specs.Since.{born_since, is_birth, is_end, is_sweep}
+use Rattle.tide_model.specs.Periods.{Period, StandsPeriod, after_part, after_period, is_forced, next_run, open_count, opened}
+use Rattle.tide_model.specs.Since.{born_since, is_birth, is_end, is_of_part, is_sweep}
 use Rattle.tide_model.proofs.SinceLaws.{since-none}
 use Rattle.tide_statistics.specs.Statistics.{HasLogged, Logged, told_by}
-use Rattle.tide_statistics.proofs.LogLaws.{HasLogged-begun, HasLogged-ended, HasLogged-other, born_since-beside, is_told}
+use Rattle.tide_statistics.proofs.LogLaws.{HasLogged-begun, HasLogged-ended, HasLogged-opened, HasLogged-other, HasLogged-part, born_since-beside, is_told}
 
 -- a log, with how many cells were born since the last end and since a cycle last began
 pub record Tally : Type 0 where
@@ -219,3 +221,23 @@ pub HasTallied-freeze : (pace : Pace) (layout : Layout) (here freeze : List Even
 HasTallied-freeze pace layout here freeze run is_forced tally is has =
     subst (HasTallied (here ++ freeze)) (sym (tally-unswept tally (entries_of freeze)))
     (HasTallied-all here freeze tally (with_sweeps tally (entries_of freeze) (of_freeze pace layout here run is_forced (marks_of freeze) tally has.logged.begun is)) has)
+
+-- what a log has before a period, once it is told of the part's opening, and the births up to the freeze
+abbrev pub at_freeze : Pace → Layout → List Event → Period → Logged → Tally
+at_freeze pace layout before period log = record {
+  log = record log { parts = log.parts + 1 };
+  since_end = born_since is_end (after_part pace layout before period);
+  in_cycle = born_since is_begin (after_part pace layout before period);
+}
+
+-- a period was run, and the log was told of what was opened, began and ended in it
+pub HasLogged-period : (pace : Pace) (layout : Layout) (before : List Event) (period : Period) (log : Logged) → StandsPeriod pace layout before period →
+    HasLogged before log → HasLogged (after_period pace layout before period) (tally_after (at_freeze pace layout before period log) (marks_of period.freeze)).log
+HasLogged-period pace layout before period log stands has =
+    let begun = opened pace layout before in
+    let all = list_all-from_AllPass (λ (event : Event). is_of_part event.entry) period.part stands.entries in
+    let first = HasLogged-opened before (plain (Open (open_count before + 1) (next_run pace layout before))) (open_count before + 1) (next_run pace layout before) log refl has in
+    let here = HasLogged-part begun period.part (record log { parts = log.parts + 1 }) all first in
+    (HasTallied-freeze pace layout (after_part pace layout before period) period.freeze (next_run pace layout before)
+    (is_forced layout begun period.part) (at_freeze pace layout before period log) stands.freeze
+    (record { logged = here; since_end = refl; in_cycle = refl })).logged

@@ -1,5 +1,7 @@
 -- How a log goes on having what a history says, event by event.
-use Rattle.std.proofs.Common.{ℕ, suc, ◌≡◌, ◌+◌, ◌∙◌, refl, sym, ap, arith, Bool, true, false, List, [], ◌∷◌, ◌++◌, append_assoc, append-nil, length, length-append, take, take_all}
+use Rattle.std.proofs.Common.{ℕ, suc, ◌≡◌, ◌+◌, ◌∙◌, refl, sym, ap, subst, arith, Bool, true, false, List, [], ◌∷◌, ◌++◌, append_assoc, append-nil, length, length-append, take, take_all}
+use Rattle.std.proofs.lemmas.Bool.{and_parts}
+use Rattle.std.specs.List.{list_all}
 use Rattle.std.specs.Prelude.{◌||◌, count_by, if◌then◌else◌}
 use Rattle.tide_model.specs.declared.entry.Entry.{Entry}
 use Rattle.tide_model.specs.declared.entry.Entry.TheVariants.{Begin, Call, End, Open, Pause, Sweep, Taken, Visits}
@@ -7,7 +9,7 @@ use Rattle.tide_model.specs.declared.entry.Event.{Event}
 use Rattle.tide_model.specs.Cycle.{begin_count}
 use Rattle.tide_model.specs.History.{is_begin, is_open, moment_after_last}
 use Rattle.tide_model.specs.Old.{full_with, is_full}
-use Rattle.tide_model.specs.Since.{born_since, is_birth, is_end, since}
+use Rattle.tide_model.specs.Since.{born_since, is_birth, is_end, is_of_part, since}
 use Rattle.tide_model.proofs.Histories.{moment_after_last-le, moment_after_last-push, take-append-short}
 use Rattle.tide_model.proofs.OldLaws.{full_after-push, is_full-kept}
 use Rattle.tide_model.proofs.SinceLaws.{count-push, since-none, since-push}
@@ -181,3 +183,22 @@ HasLogged-ended history event freed born log is has all =
           let was = has.parts in omega (arith, more, none, was);
       before = has.before ∙ sym (born_before-kept history event begins);
     }
+
+untold_in_part : (entry : Entry) → is_of_part entry ≡ true → is_told entry ≡ false
+untold_in_part (Call who op reply) is = refl
+untold_in_part (Begin cycle full) is = absurd (cc)
+untold_in_part (Pause visits) is = absurd (cc)
+untold_in_part (Visits who visits) is = absurd (cc)
+untold_in_part (End cycle freed) is = absurd (cc)
+untold_in_part (Taken block) is = refl
+untold_in_part (Sweep block) is = refl
+untold_in_part (Open number run) is = absurd (cc)
+
+-- calls and sweeps of a part change nothing of a log
+pub HasLogged-part : (history part : List Event) (log : Logged) → list_all (λ event. is_of_part event.entry) part ≡ true → HasLogged history log →
+    HasLogged (history ++ part) log
+HasLogged-part history [] log all has = subst (λ (h : List Event). HasLogged h log) (sym (append-nil history)) has
+HasLogged-part history (event ∷ part) log all has =
+    let (first, others) = and_parts (is_of_part event.entry) (list_all (λ e. is_of_part e.entry) part) all in
+    subst (λ (h : List Event). HasLogged h log) (append_assoc history (event ∷ []) part)
+    (HasLogged-part (history ++ event ∷ []) part log others (HasLogged-other history event log (untold_in_part event.entry first) has))
