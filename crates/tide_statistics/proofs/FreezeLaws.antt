@@ -15,7 +15,7 @@ use Rattle.tide_model.specs.Periods.{Period, StandsPeriod, after_part, after_per
 use Rattle.tide_model.specs.Since.{born_since, is_birth, is_end, is_of_part, is_sweep}
 use Rattle.tide_model.proofs.SinceLaws.{since-none}
 use Rattle.tide_statistics.specs.Statistics.{HasLogged, Logged, told_by}
-use Rattle.tide_statistics.proofs.LogLaws.{HasLogged-begun, HasLogged-ended, HasLogged-opened, HasLogged-other, HasLogged-part, born_since-beside, is_told}
+use Rattle.tide_statistics.proofs.LogLaws.{HasLogged-begun, HasLogged-ended, HasLogged-opened, HasLogged-other, HasLogged-part, HasLogged-paused, HasLogged-visited, born_since-beside, is_told}
 
 -- a log, with how many cells were born since the last end and since a cycle last began
 pub record Tally : Type 0 where
@@ -32,9 +32,19 @@ pub record HasTallied (history : List Event) (tally : Tally) : Type 0 where
 -- what an entry of a freeze leaves of them, where the log is told of it
 abbrev pub tally_with : Tally → Entry → Tally
 tally_with tally (Begin cycle full) = record {
-  log = record tally.log { begun = tally.log.begun + 1; full = full; parts = 0; before = tally.since_end };
+  log = record tally.log { begun = tally.log.begun + 1; full = full; parts = 0; before = tally.since_end; paused = 0; visited = 0 };
   since_end = tally.since_end;
   in_cycle = 0;
+}
+tally_with tally (Pause visits) = record {
+  log = record tally.log { paused = tally.log.paused + visits };
+  since_end = tally.since_end;
+  in_cycle = tally.in_cycle;
+}
+tally_with tally (Visits who visits) = record {
+  log = record tally.log { visited = tally.log.visited + visits };
+  since_end = tally.since_end;
+  in_cycle = tally.in_cycle;
 }
 tally_with tally (End cycle freed) = record {
   log = record tally.log { ended = tally.log.ended ++ told_by tally.log tally.in_cycle ∷ [] };
@@ -86,8 +96,16 @@ HasTallied-push history event tally (Begin cycle full) is of has = record {
   since_end = has.since_end ∙ sym (born_since-beside is_end history event (ap is_end is) (ap is_birth is));
   in_cycle = sym (born-none is_begin history event (ap is_begin is));
 }
-HasTallied-push history event tally (Pause visits) is of has = HasTallied-other history event tally (ap is_told is) (ap is_begin is) (ap is_end is) (ap is_birth is) has
-HasTallied-push history event tally (Visits who visits) is of has = HasTallied-other history event tally (ap is_told is) (ap is_begin is) (ap is_end is) (ap is_birth is) has
+HasTallied-push history event tally (Pause visits) is of has = record {
+  logged = HasLogged-paused history event visits tally.log is has.logged;
+  since_end = has.since_end ∙ sym (born_since-beside is_end history event (ap is_end is) (ap is_birth is));
+  in_cycle = has.in_cycle ∙ sym (born_since-beside is_begin history event (ap is_begin is) (ap is_birth is));
+}
+HasTallied-push history event tally (Visits who visits) is of has = record {
+  logged = HasLogged-visited history event who visits tally.log is has.logged;
+  since_end = has.since_end ∙ sym (born_since-beside is_end history event (ap is_end is) (ap is_birth is));
+  in_cycle = has.in_cycle ∙ sym (born_since-beside is_begin history event (ap is_begin is) (ap is_birth is));
+}
 HasTallied-push history event tally (End cycle freed) is of has = record {
   logged = HasLogged-ended history event freed tally.in_cycle tally.log (is ∙ ap (λ (number : ℕ). End number freed) of) has.logged has.in_cycle;
   since_end = sym (born-none is_end history event (ap is_end is));
@@ -118,8 +136,8 @@ tally-unswept : (tally : Tally) (entries : List Entry) → tally_after tally (un
 tally-unswept tally [] = refl
 tally-unswept tally (Call who op reply ∷ entries) = tally-unswept tally entries
 tally-unswept tally (Begin cycle full ∷ entries) = tally-unswept (tally_with tally (Begin cycle full)) entries
-tally-unswept tally (Pause visits ∷ entries) = tally-unswept tally entries
-tally-unswept tally (Visits who visits ∷ entries) = tally-unswept tally entries
+tally-unswept tally (Pause visits ∷ entries) = tally-unswept (tally_with tally (Pause visits)) entries
+tally-unswept tally (Visits who visits ∷ entries) = tally-unswept (tally_with tally (Visits who visits)) entries
 tally-unswept tally (End cycle freed ∷ entries) = tally-unswept (tally_with tally (End cycle freed)) entries
 tally-unswept tally (Taken block ∷ entries) = tally-unswept tally entries
 tally-unswept tally (Sweep block ∷ entries) = tally-unswept tally entries
@@ -130,8 +148,8 @@ with_sweeps : (tally : Tally) (entries : List Entry) → AreOfFreeze tally (unsw
 with_sweeps tally [] of = tt
 with_sweeps tally (Call who op reply ∷ entries) of = absurd of.0
 with_sweeps tally (Begin cycle full ∷ entries) of = (tt, with_sweeps (tally_with tally (Begin cycle full)) entries of.1)
-with_sweeps tally (Pause visits ∷ entries) of = (tt, with_sweeps tally entries of.1)
-with_sweeps tally (Visits who visits ∷ entries) of = (tt, with_sweeps tally entries of.1)
+with_sweeps tally (Pause visits ∷ entries) of = (tt, with_sweeps (tally_with tally (Pause visits)) entries of.1)
+with_sweeps tally (Visits who visits ∷ entries) of = (tt, with_sweeps (tally_with tally (Visits who visits)) entries of.1)
 with_sweeps tally (End cycle freed ∷ entries) of = (of.0, with_sweeps (tally_with tally (End cycle freed)) entries of.1)
 with_sweeps tally (Taken block ∷ entries) of = absurd of.0
 with_sweeps tally (Sweep block ∷ entries) of = (tt, with_sweeps tally entries of)
@@ -145,14 +163,14 @@ AreOfFreeze-append : (tally : Tally) (xs ys : List Entry) → AreOfFreeze tally 
 AreOfFreeze-append tally [] ys early late = late
 AreOfFreeze-append tally (x ∷ xs) ys early late = (early.0, AreOfFreeze-append (tally_with tally x) xs ys early.1 late)
 
--- what visitors made black changes nothing
-tally-visits : (tally : Tally) (who : ℕ) (visits : List ℕ) → tally_after tally (visits_entries who visits) ≡ tally
-tally-visits tally who [] = refl
-tally-visits tally who (v ∷ visits) = tally-visits tally (who + 1) visits
+-- what visitors made black begins no cycle
+begun-visits : (tally : Tally) (who : ℕ) (visits : List ℕ) → (tally_after tally (visits_entries who visits)).log.begun ≡ tally.log.begun
+begun-visits tally who [] = refl
+begun-visits tally who (v ∷ visits) = begun-visits (tally_with tally (Visits who v)) (who + 1) visits
 
 visits_of_freeze : (tally : Tally) (who : ℕ) (visits : List ℕ) → AreOfFreeze tally (visits_entries who visits)
 visits_of_freeze tally who [] = tt
-visits_of_freeze tally who (v ∷ visits) = (tt, visits_of_freeze tally (who + 1) visits)
+visits_of_freeze tally who (v ∷ visits) = (tt, visits_of_freeze (tally_with tally (Visits who v)) (who + 1) visits)
 
 -- a pause, and the end of the cycle that began last, if it ends; no cycle more has begun then
 pause_of_freeze : (tally : Tally) (paused : Paused) → AreOfFreeze tally (pause_entries tally.log.begun paused)
@@ -175,14 +193,14 @@ goes_on : (pace : Pace) (layout : Layout) (here : List Event) (run : ℕ) (is_fo
 goes_on pace layout here run is_forced entries tally begun on =
     let visits = visits_entries 0 on.visits in
     let pause = pause_entries (begin_count here) on.paused in
+    let later = tally_after tally visits in
+    let same : later.log.begun ≡ begin_count here = begun-visits tally 0 on.visits ∙ begun in
     let of : AreOfFreeze tally (visits ++ pause) =
     AreOfFreeze-append tally visits pause (visits_of_freeze tally 0 on.visits)
-    (subst (λ (t : Tally). AreOfFreeze t pause) (sym (tally-visits tally 0 on.visits))
-    (subst (λ (n : ℕ). AreOfFreeze tally (pause_entries n on.paused)) begun (pause_of_freeze tally on.paused))) in
+    (subst (λ (n : ℕ). AreOfFreeze later (pause_entries n on.paused)) same (pause_of_freeze later on.paused)) in
     let after : (tally_after tally (visits ++ pause)).log.begun ≡ begin_count here =
     ap (λ (t : Tally). t.log.begun) (tally-append tally visits pause)
-    ∙ ap (λ (t : Tally). (tally_after t pause).log.begun) (tally-visits tally 0 on.visits)
-    ∙ begun-pause tally (begin_count here) on.paused ∙ begun in
+    ∙ begun-pause later (begin_count here) on.paused ∙ same in
     (subst (AreOfFreeze tally) (sym on.are) of, ap (λ (all : List Entry). (tally_after tally all).log.begun) on.are ∙ after)
 
 -- the second half

@@ -1,8 +1,9 @@
 -- How a log goes on having what a history says, event by event.
-use Rattle.std.proofs.Common.{ℕ, suc, ◌≡◌, ◌+◌, ◌∙◌, refl, sym, ap, subst, arith, Bool, true, false, List, [], ◌∷◌, ◌++◌, append_assoc, append-nil, length, length-append, take, take_all}
+use Rattle.std.proofs.Common.{ℕ, suc, ◌≡◌, ◌+◌, ◌∙◌, refl, sym, ap, subst, arith, Bool, true, false, List, [], ◌∷◌, ◌++◌, append_assoc, append-nil, length, length-append, take, take_all, zero-add}
 use Rattle.std.proofs.lemmas.Bool.{and_parts}
+use Rattle.std.proofs.lemmas.List.Sums.{sum_by-append}
 use Rattle.std.specs.List.{list_all}
-use Rattle.std.specs.Prelude.{◌||◌, count_by, if◌then◌else◌}
+use Rattle.std.specs.Prelude.{◌||◌, count_by, if◌then◌else◌, sum_by}
 use Rattle.tide_model.specs.declared.entry.Entry.{Entry}
 use Rattle.tide_model.specs.declared.entry.Entry.TheVariants.{Begin, Call, End, Open, Pause, Sweep, Taken, Visits}
 use Rattle.tide_model.specs.declared.entry.Event.{Event}
@@ -14,7 +15,7 @@ use Rattle.tide_model.proofs.Histories.{moment_after_last-le, moment_after_last-
 use Rattle.tide_model.proofs.OldLaws.{full_after-push, is_full-kept}
 use Rattle.tide_model.proofs.SinceLaws.{count-push, since-none, since-push}
 use Rattle.tide_statistics.specs.declared.log.CycleStatistics.{CycleStatistics}
-use Rattle.tide_statistics.specs.Statistics.{HasLogged, Logged, born_before, nothing, parts_since_begin, statistics_at, statistics_from, statistics_in, told_by}
+use Rattle.tide_statistics.specs.Statistics.{HasLogged, Logged, born_before, nothing, parts_since_begin, paused_in, paused_since_begin, statistics_at, statistics_from, statistics_in, told_by, visited_in, visited_since_begin}
 
 -- what is told of one more event behind others
 statistics_from-push : (before events : List Event) (event : Event) →
@@ -67,6 +68,26 @@ parts-push : (history : List Event) (event : Event) → is_begin event.entry ≡
 parts-push history event other =
     ap (count_by (λ e. is_open e.entry)) (since-push is_begin history event other) ∙ count-push (λ e. is_open e.entry) (since is_begin history) event
 
+-- what is summed up since the last beginning, with one more event
+summed-push : (count : Entry → ℕ) (history : List Event) (event : Event) → is_begin event.entry ≡ false →
+    sum_by (λ e. count e.entry) (since is_begin (history ++ event ∷ [])) ≡ sum_by (λ e. count e.entry) (since is_begin history) + count event.entry
+summed-push count history event other =
+    let more = zero-add (count event.entry) in
+    ap {A = List Event} (sum_by (λ e. count e.entry)) (since-push is_begin history event other)
+    ∙ sum_by-append (λ e. count e.entry) (since is_begin history) (event ∷ [])
+    ∙ ap (λ (n : ℕ). sum_by (λ e. count e.entry) (since is_begin history) + n) more
+
+-- an event that counts for nothing leaves the sum
+summed-kept : (count : Entry → ℕ) (history : List Event) (event : Event) → is_begin event.entry ≡ false → count event.entry ≡ 0 →
+    sum_by (λ e. count e.entry) (since is_begin (history ++ event ∷ [])) ≡ sum_by (λ e. count e.entry) (since is_begin history)
+summed-kept count history event other none =
+    let more = summed-push count history event other in omega (arith, more, none)
+
+-- right after a beginning nothing is summed up
+summed-none : (count : Entry → ℕ) (history : List Event) (event : Event) → is_begin event.entry ≡ true →
+    sum_by (λ e. count e.entry) (since is_begin (history ++ event ∷ [])) ≡ 0
+summed-none count history event is = ap {A = List Event} (sum_by (λ e. count e.entry)) (since-none is_begin history event is)
+
 -- no cycle more has begun
 begun-kept : (history : List Event) (event : Event) → is_begin event.entry ≡ false → begin_count (history ++ event ∷ []) ≡ begin_count history
 begun-kept history event other =
@@ -74,9 +95,36 @@ begun-kept history event other =
     let none = ap {B = ℕ} (λ (is : Bool). if is then 1 else 0) other in
     omega (arith, more, none)
 
+-- the entry says that cells were made black
+abbrev pub is_marking : Entry → Bool
+is_marking (Pause visits) = true
+is_marking (Visits who visits) = true
+is_marking _ = false
+
 -- the entry is one that a log is told of
 abbrev pub is_told : Entry → Bool
-is_told entry = is_begin entry || (is_end entry || is_open entry)
+is_told entry = is_begin entry || (is_end entry || (is_open entry || is_marking entry))
+
+-- what says of no cell that it was made black counts for nothing
+unpaused : (entry : Entry) → is_marking entry ≡ false → paused_in entry ≡ 0
+unpaused (Call who op reply) none = refl
+unpaused (Begin cycle full) none = refl
+unpaused (Pause visits) none = absurd (cc)
+unpaused (Visits who visits) none = refl
+unpaused (End cycle freed) none = refl
+unpaused (Taken block) none = refl
+unpaused (Sweep block) none = refl
+unpaused (Open number run) none = refl
+
+unvisited : (entry : Entry) → is_marking entry ≡ false → visited_in entry ≡ 0
+unvisited (Call who op reply) none = refl
+unvisited (Begin cycle full) none = refl
+unvisited (Pause visits) none = refl
+unvisited (Visits who visits) none = absurd (cc)
+unvisited (End cycle freed) none = refl
+unvisited (Taken block) none = refl
+unvisited (Sweep block) none = refl
+unvisited (Open number run) none = refl
 
 nothing_told : (history : List Event) (entry : Entry) → is_end entry ≡ false → statistics_at history entry ≡ []
 nothing_told history (Call who op reply) none = refl
@@ -104,16 +152,18 @@ right_false false b neither = neither
 
 -- nothing has happened yet
 pub HasLogged-nothing : HasLogged [] nothing
-HasLogged-nothing = record { ended = refl; begun = refl; full = refl; parts = refl; before = refl }
+HasLogged-nothing = record { ended = refl; begun = refl; full = refl; parts = refl; before = refl; paused = refl; visited = refl }
 
 -- an event that a log isn't told of changes nothing of it
 pub HasLogged-other : (history : List Event) (event : Event) (log : Logged) → is_told event.entry ≡ false → HasLogged history log →
     HasLogged (history ++ event ∷ []) log
 HasLogged-other history event log untold has =
-    let begins = left_false (is_begin event.entry) (is_end event.entry || is_open event.entry) untold in
-    let others = right_false (is_begin event.entry) (is_end event.entry || is_open event.entry) untold in
-    let ends = left_false (is_end event.entry) (is_open event.entry) others in
-    let opens = right_false (is_end event.entry) (is_open event.entry) others in
+    let begins = left_false (is_begin event.entry) (is_end event.entry || (is_open event.entry || is_marking event.entry)) untold in
+    let others = right_false (is_begin event.entry) (is_end event.entry || (is_open event.entry || is_marking event.entry)) untold in
+    let ends = left_false (is_end event.entry) (is_open event.entry || is_marking event.entry) others in
+    let rest = right_false (is_end event.entry) (is_open event.entry || is_marking event.entry) others in
+    let opens = left_false (is_open event.entry) (is_marking event.entry) rest in
+    let marks = right_false (is_open event.entry) (is_marking event.entry) rest in
     record {
       ended = has.ended ∙ sym (ended-kept history event ends);
       begun = has.begun ∙ sym (begun-kept history event begins);
@@ -123,6 +173,8 @@ HasLogged-other history event log untold has =
           let none = ap {B = ℕ} (λ (is : Bool). if is then 1 else 0) opens in
           let was = has.parts in omega (arith, more, none, was);
       before = has.before ∙ sym (born_before-kept history event begins);
+      paused = has.paused ∙ sym (summed-kept paused_in history event begins (unpaused event.entry marks));
+      visited = has.visited ∙ sym (summed-kept visited_in history event begins (unvisited event.entry marks));
     }
 
 -- a part was opened
@@ -139,12 +191,58 @@ HasLogged-opened history event number run log is has =
           let one = ap {B = ℕ} (λ (entry : Entry). if is_open entry then 1 else 0) is in
           let was = has.parts in omega (arith, more, one, was);
       before = has.before ∙ sym (born_before-kept history event begins);
+      paused = has.paused ∙ sym (summed-kept paused_in history event begins (ap paused_in is));
+      visited = has.visited ∙ sym (summed-kept visited_in history event begins (ap visited_in is));
+    }
+
+-- what an event that opens, begins and ends nothing leaves but for what was made black
+parts-beside : (history : List Event) (event : Event) (log : Logged) → is_begin event.entry ≡ false → is_open event.entry ≡ false → HasLogged history log →
+    log.parts ≡ parts_since_begin (history ++ event ∷ [])
+parts-beside history event log begins opens has =
+    let more = parts-push history event begins in
+    let none = ap {B = ℕ} (λ (is : Bool). if is then 1 else 0) opens in
+    let was = has.parts in omega (arith, more, none, was)
+
+-- a pause made so many cells black
+pub HasLogged-paused : (history : List Event) (event : Event) (visits : ℕ) (log : Logged) → event.entry ≡ Pause visits → HasLogged history log →
+    HasLogged (history ++ event ∷ []) (record log { paused = log.paused + visits })
+HasLogged-paused history event visits log is has =
+    let begins = ap is_begin is in
+    record {
+      ended = has.ended ∙ sym (ended-kept history event (ap is_end is));
+      begun = has.begun ∙ sym (begun-kept history event begins);
+      full = has.full ∙ sym (is_full-kept history event begins);
+      parts = parts-beside history event log begins (ap is_open is) has;
+      before = has.before ∙ sym (born_before-kept history event begins);
+      paused =
+          let more = summed-push paused_in history event begins in
+          let one = ap paused_in is in
+          let was = has.paused in omega (arith, more, one, was);
+      visited = has.visited ∙ sym (summed-kept visited_in history event begins (ap visited_in is));
+    }
+
+-- a visitor told that it made so many cells black
+pub HasLogged-visited : (history : List Event) (event : Event) (who visits : ℕ) (log : Logged) → event.entry ≡ Visits who visits → HasLogged history log →
+    HasLogged (history ++ event ∷ []) (record log { visited = log.visited + visits })
+HasLogged-visited history event who visits log is has =
+    let begins = ap is_begin is in
+    record {
+      ended = has.ended ∙ sym (ended-kept history event (ap is_end is));
+      begun = has.begun ∙ sym (begun-kept history event begins);
+      full = has.full ∙ sym (is_full-kept history event begins);
+      parts = parts-beside history event log begins (ap is_open is) has;
+      before = has.before ∙ sym (born_before-kept history event begins);
+      paused = has.paused ∙ sym (summed-kept paused_in history event begins (ap paused_in is));
+      visited =
+          let more = summed-push visited_in history event begins in
+          let one = ap visited_in is in
+          let was = has.visited in omega (arith, more, one, was);
     }
 
 -- a cycle began, once so many cells were born since the last end
 pub HasLogged-begun : (history : List Event) (event : Event) (cycle : ℕ) (full : Bool) (born : ℕ) (log : Logged) → event.entry ≡ Begin cycle full →
     HasLogged history log → born ≡ born_since is_end history →
-    HasLogged (history ++ event ∷ []) (record log { begun = log.begun + 1; full = full; parts = 0; before = born })
+    HasLogged (history ++ event ∷ []) (record log { begun = log.begun + 1; full = full; parts = 0; before = born; paused = 0; visited = 0 })
 HasLogged-begun history event cycle full born log is has all = record {
   ended = has.ended ∙ sym (ended-kept history event (ap is_end is));
   begun =
@@ -154,6 +252,8 @@ HasLogged-begun history event cycle full born log is has all = record {
   full = sym (full_after-push false history event ∙ ap (full_with (is_full history)) is);
   parts = sym (ap (count_by (λ (e : Event). is_open e.entry)) (since-none is_begin history event (ap is_begin is)));
   before = all ∙ sym (born_before-begun history event (ap is_begin is) (ap is_end is) (ap is_birth is));
+  paused = sym (summed-none paused_in history event (ap is_begin is));
+  visited = sym (summed-none visited_in history event (ap is_begin is));
 }
 
 -- the cycle that began last ended, once so many cells were born in it
@@ -168,7 +268,9 @@ HasLogged-ended history event freed born log is has all =
       freezes = parts_since_begin history + 1;
       before = born_before history;
       marking = born_since is_begin history;
-    } = (let a = has.full in let b = has.parts in let c = has.before in cc) in
+      paused = paused_since_begin history;
+      visited = visited_since_begin history;
+    } = (let a = has.full in let b = has.parts in let c = has.before in let d = has.paused in let e = has.visited in cc) in
     record {
       ended =
           ap (λ (before : List CycleStatistics). before ++ told_by log born ∷ []) has.ended
@@ -182,6 +284,8 @@ HasLogged-ended history event freed born log is has all =
           let none = ap {B = ℕ} (λ (entry : Entry). if is_open entry then 1 else 0) is in
           let was = has.parts in omega (arith, more, none, was);
       before = has.before ∙ sym (born_before-kept history event begins);
+      paused = has.paused ∙ sym (summed-kept paused_in history event begins (ap paused_in is));
+      visited = has.visited ∙ sym (summed-kept visited_in history event begins (ap visited_in is));
     }
 
 untold_in_part : (entry : Entry) → is_of_part entry ≡ true → is_told entry ≡ false

@@ -22,8 +22,8 @@ eden_then_full =
 -- what is told of it
 abbrev pub its_cycles : List CycleStatistics
 its_cycles =
-    record { number = 1; full = false; freezes = 2; before = 2; marking = 1 }
-    ∷ record { number = 2; full = true; freezes = 1; before = 1; marking = 0 } ∷ []
+    record { number = 1; full = false; freezes = 2; before = 2; marking = 1; paused = 1; visited = 1 }
+    ∷ record { number = 2; full = true; freezes = 1; before = 1; marking = 0; paused = 2; visited = 0 } ∷ []
 
 pub statistics_of_eden_then_full : statistics_in eden_then_full ≡ its_cycles
 statistics_of_eden_then_full = refl

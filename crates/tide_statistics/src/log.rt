@@ -17,6 +17,10 @@ pub struct CycleStatistics {
     pub before: u32,
     /// How many cells were born while it marked.
     pub marking: u32,
+    /// How many cells its pauses made black.
+    pub paused: u64,
+    /// How many cells visitors told to have made black for it.
+    pub visited: u64,
 }
 
 /// The cycles that ended, and what is known of the one that began last.
@@ -28,6 +32,8 @@ pub struct CycleLog {
     /// How many parts were opened since it began.
     parts: u32,
     before: u32,
+    paused: u64,
+    visited: u64,
 }
 
 impl Model for CycleLog {
@@ -41,6 +47,8 @@ impl Model for CycleLog {
       full = l.full;
       parts = l.parts;
       before = l.before;
+      paused = l.paused;
+      visited = l.visited;
     } };
 }
 
@@ -57,6 +65,8 @@ impl CycleLog {
             full: false,
             parts: 0,
             before: 0,
+            paused: 0,
+            visited: 0,
         }
     }
 
@@ -71,12 +81,37 @@ impl CycleLog {
     /// A cycle began, once so many cells were born since the last end.
     pub fn begin(&mut self, full: bool, born: u32)
         requires few { self.old.begun < 2 ^ 64 - 1 }
-        ensures { self.new ≡ record self.old { begun = self.old.begun + 1; full = full; parts = 0; before = born } }
+        ensures { self.new ≡ record self.old {
+          begun = self.old.begun + 1;
+          full = full;
+          parts = 0;
+          before = born;
+          paused = 0;
+          visited = 0;
+        } }
     {
         self.begun += 1;
         self.full = full;
         self.parts = 0;
         self.before = born;
+        self.paused = 0;
+        self.visited = 0;
+    }
+
+    /// A pause of the cycle that began last made so many cells black.
+    pub fn pause(&mut self, visits: u32)
+        requires few { self.old.paused + visits < 2 ^ 64 }
+        ensures { self.new ≡ record self.old { paused = self.old.paused + visits } }
+    {
+        self.paused += u64::from(visits);
+    }
+
+    /// A visitor told that it made so many cells black for the cycle that began last.
+    pub fn visit(&mut self, visits: u32)
+        requires few { self.old.visited + visits < 2 ^ 64 }
+        ensures { self.new ≡ record self.old { visited = self.old.visited + visits } }
+    {
+        self.visited += u64::from(visits);
     }
 
     /// The cycle that began last ended, once so many cells were born in it.
@@ -90,6 +125,8 @@ impl CycleLog {
             freezes: self.parts + 1,
             before: self.before,
             marking: born,
+            paused: self.paused,
+            visited: self.visited,
         };
         self.ended.push(told)?;
         Ok(())
