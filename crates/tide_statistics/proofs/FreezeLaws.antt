@@ -155,7 +155,7 @@ with_sweeps tally (Taken block ∷ entries) of = absurd of.0
 with_sweeps tally (Sweep block ∷ entries) of = (tt, with_sweeps tally entries of)
 with_sweeps tally (Open number run ∷ entries) of = absurd of.0
 
-tally-append : (tally : Tally) (xs ys : List Entry) → tally_after tally (xs ++ ys) ≡ tally_after (tally_after tally xs) ys
+pub tally-append : (tally : Tally) (xs ys : List Entry) → tally_after tally (xs ++ ys) ≡ tally_after (tally_after tally xs) ys
 tally-append tally [] ys = refl
 tally-append tally (x ∷ xs) ys = tally-append (tally_with tally x) xs ys
 

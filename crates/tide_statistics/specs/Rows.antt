@@ -1,12 +1,14 @@
 -- A history of two cycles, worked out by hand, and what is told of them.
-use Rattle.std.specs.Prelude.{◌≡◌, refl, false, true, List, [], ◌∷◌}
+use Rattle.std.specs.Prelude.{◌≡◌, refl, false, true, List, [], ◌∷◌, length, None, Some}
+use Rattle.std.proofs.Common.{ap, arith}
 use Rattle.tide_model.specs.declared.op.Op.TheVariants.{Alloc, Drop, Collect}
 use Rattle.tide_model.specs.declared.op.Reply.TheVariants.{Done, Born, Asked}
-use Rattle.tide_model.specs.declared.entry.Entry.TheVariants.{Begin, Call, End, Open, Pause, Visits}
+use Rattle.tide_model.specs.declared.entry.Entry.TheVariants.{Begin, Call, End, Open, Pause, Sweep, Visits}
 use Rattle.tide_model.specs.declared.entry.Event.{Event}
 use Rattle.tide_model.specs.History.{plain}
 use Rattle.tide_statistics.specs.declared.log.CycleStatistics.{CycleStatistics}
 use Rattle.tide_statistics.specs.Statistics.{statistics_in}
+use Rattle.tide_statistics.specs.Told.{TellsFreeze}
 
 -- An Eden cycle begins behind part 1, once two cells were born, and ends behind part 2, in which one was. Another cell
 -- is born in part 3, behind which a full cycle begins and ends.
@@ -32,3 +34,20 @@ statistics_of_eden_then_full = refl
 pub statistics_of_one_that_marks :
     statistics_in (plain (Open 1 4) ∷ plain (Call 0 (Alloc 0 0) (Born 0)) ∷ plain (Begin 1 false) ∷ plain (Pause 1) ∷ []) ≡ []
 statistics_of_one_that_marks = refl
+
+-- a history up to the freeze behind its second part, and that freeze, in which a cycle ends
+abbrev pub before_the_freeze : List Event
+before_the_freeze = plain (Open 1 4) ∷ plain (Begin 1 false) ∷ plain (Pause 1) ∷ plain (Open 2 3) ∷ []
+
+abbrev pub ending_freeze : List Event
+ending_freeze = plain (Visits 0 1) ∷ plain (Pause 0) ∷ plain (End 1 (4 ∷ [])) ∷ plain (Sweep 0) ∷ []
+
+-- it tells its pause and its end, without the cell and the sweep
+pub ending_freeze_is_told : TellsFreeze before_the_freeze ending_freeze (1 ∷ [])
+    (record { went_on = Some (record { visits = 0; ended = true }); begun = None })
+ending_freeze_is_told = refl
+
+-- and may not leave its end out
+pub end_is_not_left_out : TellsFreeze before_the_freeze ending_freeze (1 ∷ [])
+    (record { went_on = Some (record { visits = 0; ended = false }); begun = None }) → ⊥
+end_is_not_left_out same = let clash : 3 ≡ 2 = ap length same in omega (arith, clash)

@@ -7,5 +7,8 @@
 #![tactic(auto)]
 
 mod log;
+// these stand on those listed before
+mod told;
 
 pub use log::{CycleLog, CycleStatistics};
+pub use told::{BegunTold, FreezeTold, PauseTold, tell_freeze};
