@@ -1,7 +1,10 @@
 -- Where memory was short the part is frozen, and the two calls that follow do what is left of the one.
-use Rattle.std.proofs.Common.{◌∙◌, ap, arith}
+use Rattle.std.proofs.Common.{◌∙◌, ap, arith, subst}
 use Rattle.std.specs.Prelude.{true, Err}
 use Rattle.tide_heap.specs.tide_core.declared.machine.view.View.{View}
+use Rattle.tide_heap.proofs.tide_core.machine_laws.freezes.Entering.{FrozenWave-of}
+use Rattle.tide_heap.specs.tide_core.machine.Frozen.{FrozenWith}
+use Rattle.tide_heap.specs.tide_words.heap.Heap.{heap_of}
 use Rattle.tide_model.specs.Cycle.{begin_count}
 use Rattle.tide_table.proofs.Nexts.{HasOpenedNext-by}
 use Rattle.tide_table.proofs.Standing.{begin_count-part, blacks_stay}
@@ -16,6 +19,16 @@ collect-requires-clause-few g c =
     let few = c.requires.part.few in
     let numbered = c.requires.part.numbered in
     omega (arith, same, few, numbered)
+
+pub open-requires-clause-wave : goal.open-requires-clause-wave
+open-requires-clause-wave g c =
+    let h = c.args.heap.now in
+    let shapes = g.S.HeapShapes.lists h.key.shapes in
+    let w = c.collect.new.self.seat.me.0 in
+    let words = heap_of h.key.layout w.words in
+    let did = c.in-Ok.ensures.collected in
+    FrozenWave-of h.key.layout shapes words w.seen
+    (subst (FrozenWith h.key.layout shapes words w.seen) did.entered did.still.wave)
 
 pub open-requires-clause-blacks : goal.open-requires-clause-blacks
 open-requires-clause-blacks g c =
