@@ -27,7 +27,8 @@ listed after it, beside it in lib.rt or in the file of the module around both. I
 - a docs/STATEMENT.md whose steps name a definition that the clauses of `riptide` don't rest on, or leaves out a fact (a name in
   CamelCase) that they do,
 - an edit that doesn't fit its file any more, and a table of edits in docs/GATE.md that names others than the files of
-  must-fail.
+  must-fail,
+- a README.md, a docs/DECISIONS.md or a room's README that is longer than it may be.
 """
 import re
 import sys
@@ -530,6 +531,15 @@ def examples(text):
     return re.sub(r"^- \[(\w+)\].*$", line, text, flags=re.M)
 
 
+def too_long():
+    """Pages that are longer than they may be: they grow by a line at a time, and nobody reads what is too long."""
+    limits = {TOP / "README.md": 8, TOP / "docs" / "DECISIONS.md": 60}
+    limits |= {path: 2 for path in sorted(TOP.glob("crates/*/README.md"))}
+    for path, most in limits.items():
+        if (size := path.stat().st_size) > 1024 * most:
+            yield f"{path.relative_to(TOP)} has {size:,} bytes, and may have {most} KB: {1024 * most:,}"
+
+
 def examples_missed():
     """Workloads that docs/EXAMPLES.md has no line of, or has several."""
     listed = re.findall(r"^- \[(\w+)\]", (TOP / "docs" / "EXAMPLES.md").read_text(), re.M)
@@ -572,7 +582,7 @@ def main():
     for early in named_too_early():
         print(early)
     misses = [*too_many_ways(ways()), *touched_unlisted(), *edits_that_miss(), *edits_told_otherwise()]
-    for miss in [*misses, *statement_differs(), *examples_missed()]:
+    for miss in [*misses, *statement_differs(), *examples_missed(), *too_long()]:
         differ = 1
         print(miss)
     for path, text in pages().items():

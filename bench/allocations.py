@@ -15,10 +15,10 @@ import statistics
 import sys
 import tempfile
 
-from mutators import HERE, made_shim, part
+from mutators import BUILT, made_shim, part
 
-if __name__ == "__main__" and sys.argv[1:] == ["--help"]:
-    sys.exit(print(__doc__.strip()))
+if __name__ == "__main__" and (sys.argv[1:] == ["--help"] or len(sys.argv) == 1 and not os.path.exists(BUILT)):
+    sys.exit(print(__doc__.strip()) or len(sys.argv) == 1)
 
 HEAD = """registers = 4
 blocks = [64, 64, 64, 64, 64]
@@ -39,7 +39,7 @@ def write(path, count):
 
 def main():
     times = int(sys.argv[1]) if len(sys.argv) > 1 else 21
-    programs = sys.argv[2:] or [os.path.relpath(os.path.join(HERE, "..", "crates", "riptide", "out", "riptide"))]
+    programs = sys.argv[2:] or [os.path.relpath(BUILT)]
     with tempfile.TemporaryDirectory() as room:
         shim = made_shim(room)
         paths = [os.path.join(room, f"{count}.toml") for count in COUNTS]

@@ -26,10 +26,10 @@ import subprocess
 import sys
 import tempfile
 
-from mutators import HERE, made_shim
+from mutators import BUILT, made_shim
 
-if __name__ == "__main__" and sys.argv[1:] == ["--help"]:
-    sys.exit(print(__doc__.strip()))
+if __name__ == "__main__" and (sys.argv[1:] == ["--help"] or len(sys.argv) == 1 and not os.path.exists(BUILT)):
+    sys.exit(print(__doc__.strip()) or len(sys.argv) == 1)
 
 OLD, NEW, CYCLES, PERIOD, PUTS, WALKS = 5120, 512, 16, 1536, 60000, 4
 HEAD = """registers = 4
@@ -106,7 +106,7 @@ def put(program, bare, path, puts, shim):
 
 def main():
     times = int(sys.argv[1]) if len(sys.argv) > 1 else 21
-    programs = sys.argv[2:] or [os.path.relpath(os.path.join(HERE, "..", "crates", "riptide", "out", "riptide"))]
+    programs = sys.argv[2:] or [os.path.relpath(BUILT)]
     with tempfile.TemporaryDirectory() as room:
         shim = made_shim(room)
         paths = [os.path.join(room, name) for name in ("bare", "full", "new", "new_puts", "old", "old_puts", "walks", "walk_puts")]

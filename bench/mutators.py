@@ -17,10 +17,12 @@ import subprocess
 import sys
 import tempfile
 
-if __name__ == "__main__" and sys.argv[1:] == ["--help"]:
-    sys.exit(print(__doc__.strip()))
-
 HERE = os.path.dirname(os.path.abspath(__file__))
+BUILT = os.path.join(HERE, "..", "crates", "riptide", "out", "riptide")
+
+if __name__ == "__main__" and (sys.argv[1:] == ["--help"] or len(sys.argv) == 1 and not os.path.exists(BUILT)):
+    sys.exit(print(__doc__.strip()) or len(sys.argv) == 1)
+
 HEAD = """registers = 4
 blocks = [4, 4, 4, 4, 0]
 period = 20000
@@ -66,7 +68,7 @@ def stores(threads, count):
 
 
 def main():
-    program = sys.argv[1] if len(sys.argv) > 1 else os.path.join(HERE, "..", "crates", "riptide", "out", "riptide")
+    program = sys.argv[1] if len(sys.argv) > 1 else BUILT
     times = int(sys.argv[2]) if len(sys.argv) > 2 else 11
     numbers = (1, 2, 4, 8, 16)
     with tempfile.TemporaryDirectory() as room:

@@ -17,10 +17,10 @@ import subprocess
 import sys
 import tempfile
 
-from mutators import HERE, part
+from mutators import BUILT, HERE, part
 
-if __name__ == "__main__" and sys.argv[1:] == ["--help"]:
-    sys.exit(print(__doc__.strip()))
+if __name__ == "__main__" and (sys.argv[1:] == ["--help"] or len(sys.argv) == 1 and not os.path.exists(BUILT)):
+    sys.exit(print(__doc__.strip()) or len(sys.argv) == 1)
 
 HEAD = """registers = 4
 strong = 1
@@ -69,7 +69,7 @@ def write(path, ops):
 
 
 def main():
-    program = sys.argv[1] if len(sys.argv) > 1 else os.path.join(HERE, "..", "crates", "riptide", "out", "riptide")
+    program = sys.argv[1] if len(sys.argv) > 1 else BUILT
     times = int(sys.argv[2]) if len(sys.argv) > 2 else 11
     with tempfile.TemporaryDirectory() as room:
         shim, twin, bare, full = (os.path.join(room, name) for name in ("freezes.so", "twin", "bare.toml", "full.toml"))

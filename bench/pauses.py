@@ -22,10 +22,10 @@ import subprocess
 import sys
 import tempfile
 
-from mutators import HERE, made_shim
+from mutators import BUILT, HERE, made_shim
 
-if __name__ == "__main__" and sys.argv[1:] == ["--help"]:
-    sys.exit(print(__doc__.strip()))
+if __name__ == "__main__" and (sys.argv[1:] == ["--help"] or len(sys.argv) == 1 and not os.path.exists(BUILT)):
+    sys.exit(print(__doc__.strip()) or len(sys.argv) == 1)
 
 HEAD = """registers = 6
 blocks = [64, 64, 64, 64, 64]
@@ -87,7 +87,7 @@ def freezes(command, path, shim):
 
 
 def main():
-    program = sys.argv[1] if len(sys.argv) > 1 else os.path.join(HERE, "..", "crates", "riptide", "out", "riptide")
+    program = sys.argv[1] if len(sys.argv) > 1 else BUILT
     times = int(sys.argv[2]) if len(sys.argv) > 2 else 11
     with tempfile.TemporaryDirectory() as room:
         shim, twin, path = made_shim(room), os.path.join(room, "twin"), os.path.join(room, "workload.toml")

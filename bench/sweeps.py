@@ -22,10 +22,12 @@ import sys
 import tempfile
 import time
 
-if __name__ == "__main__" and sys.argv[1:] == ["--help"]:
-    sys.exit(print(__doc__.strip()))
-
 HERE = os.path.dirname(os.path.abspath(__file__))
+BUILT = os.path.join(HERE, "..", "crates", "riptide", "out", "riptide")
+
+if __name__ == "__main__" and (sys.argv[1:] == ["--help"] or len(sys.argv) == 1 and not os.path.exists(BUILT)):
+    sys.exit(print(__doc__.strip()) or len(sys.argv) == 1)
+
 HEAD = """registers = 1
 blocks = [64, 64, 64, 64, 64]
 period = 20480
@@ -77,7 +79,7 @@ def made(program, shim):
 
 def main():
     times = int(sys.argv[1]) if len(sys.argv) > 1 else 21
-    programs = sys.argv[2:] or [os.path.relpath(os.path.join(HERE, "..", "crates", "riptide", "out", "riptide"))]
+    programs = sys.argv[2:] or [os.path.relpath(BUILT)]
     with tempfile.TemporaryDirectory() as room:
         shim, path = os.path.join(room, "freezes.so"), os.path.join(room, "workload.toml")
         subprocess.run(["gcc", "-O2", "-shared", "-fPIC", "-o", shim, os.path.join(HERE, "freezes.c"), "-ldl"], check=True)

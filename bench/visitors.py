@@ -17,10 +17,12 @@ import sys
 import tempfile
 import time
 
-if __name__ == "__main__" and sys.argv[1:] == ["--help"]:
-    sys.exit(print(__doc__.strip()))
-
 HERE = os.path.dirname(os.path.abspath(__file__))
+BUILT = os.path.join(HERE, "..", "crates", "riptide", "out", "riptide")
+
+if __name__ == "__main__" and (sys.argv[1:] == ["--help"] or len(sys.argv) == 1 and not os.path.exists(BUILT)):
+    sys.exit(print(__doc__.strip()) or len(sys.argv) == 1)
+
 HEAD = """registers = 4
 strong = 256
 blocks = [64, 64, 64, 64, 0]
@@ -70,7 +72,7 @@ def run(program, visitors, path, shim):
 
 
 def main():
-    program = sys.argv[1] if len(sys.argv) > 1 else os.path.join(HERE, "..", "crates", "riptide", "out", "riptide")
+    program = sys.argv[1] if len(sys.argv) > 1 else BUILT
     times = int(sys.argv[2]) if len(sys.argv) > 2 else 11
     with tempfile.TemporaryDirectory() as room:
         shim, path = os.path.join(room, "freezes.so"), os.path.join(room, "workload.toml")

@@ -214,11 +214,16 @@ def cells_of(cells):
     return " ".join(f"#{cell}" for cell in cells)
 
 
+def counted(count, what):
+    return f"{count} {what}{'s'[:count != 1]}"
+
+
 def lines_of(event):
     """What is printed of a beginning or an end."""
     if isinstance(event, Begin):
-        old = f"{event.spared} old cells are spared" if event.kind == "Eden" else "no cell is spared"
-        pause = f"its first pause has {event.needed} cells to make black, of {event.budget} that it may"
+        are = "is" if event.spared == 1 else "are"
+        old = f"{counted(event.spared, 'old cell')} {are} spared" if event.kind == "Eden" else "no cell is spared"
+        pause = f"its first pause has {counted(event.needed, 'cell')} to make black, of {event.budget} that it may"
         return [f"  cycle {event.cycle} begins, {event.kind}: {old}; {pause}"]
     lines = [f"  cycle {event.cycle} ends: kept {event.kept}, freed {event.freed}"]
     for reason, by_call in event.why:
@@ -232,7 +237,10 @@ def lines_of(event):
 def told(way):
     """A way through the freezes, part by part."""
     for part in way.parts:
-        calls = [f"mutator {who} makes calls {a + 1} to {b}" for who, (a, b) in enumerate(part.calls) if b > a]
+        calls = [
+            f"mutator {who} makes " + (f"call {b}" if b == a + 1 else f"calls {a + 1} to {b}")
+            for who, (a, b) in enumerate(part.calls) if b > a
+        ]
         marks = f"; cycle {part.marks} marks" if part.marks else ""
         forced = "; the freeze is forced" if part.is_forced else ""
         yield f"part {part.number}: {', '.join(calls) or 'no calls'}{marks}{forced}"

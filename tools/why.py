@@ -258,7 +258,7 @@ def option_named(name, value):
     if name in ("plain", "snapshot"):
         return f"take it out, and run riptide --{name}"
     if name == "threads":
-        return "take it out: each [[mutator]] has a thread of its own; riptide --visitors N asks for visitors"
+        return "take it out: mutators and visitors run on up to four threads; riptide --visitors N asks for visitors"
     return None
 
 

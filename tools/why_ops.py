@@ -33,7 +33,20 @@ OTHER = [
 ]
 # names that other stores have for an operation
 MEANT = {"new": "alloc", "malloc": "alloc", "read": "get", "load": "get", "write": "put", "store": "put", "copy": "move",
-         "clear": "drop", "free": "drop", "delete": "drop", "lock": "claim", "unlock": "release", "gc": "collect"}
+         "clear": "drop", "free": "drop", "delete": "drop", "unset": "drop", "null": "drop", "lock": "claim",
+         "unlock": "release", "root": "strong", "pin": "strong", "assign": "move", "gc": "collect"}
+# names of what no operation does
+WAITS = ["sleep", "wait", "yield", "join", "pause", "sync", "barrier", "freeze"]
+# a statement of another language, and the operation that does what it says
+STATEMENTS = [
+    (r"(r[0-9]+) *:?= *(r[0-9]+)", "move {0} {1}"),
+    (r"(r[0-9]+) *:?= *([0-9]+)", "set {0} {1}"),
+    (r"(r[0-9]+) *:?= *(?:-|nil|null|none|empty)", "drop {0}"),
+    (r"(r[0-9]+) *:?= *(r[0-9]+)\[([0-9]+)\]", "get {0} {1} {2}"),
+    (r"(r[0-9]+)\[([0-9]+)\] *:?= *(r[0-9]+)", "put {0} {1} {2}"),
+    (r"(r[0-9]+) *:?= *(r[0-9]+)\.([a-z][a-z0-9_]*)", "getp {0} {1} {2}"),
+    (r"(r[0-9]+)\.([a-z][a-z0-9_]*) *:?= *(r[0-9]+)", "setp {0} {1} {2}"),
+]
 
 
 def near(name, names):
@@ -240,13 +253,16 @@ def orders(words):
 def parted(text, letter):
     """Of a text with one of the letters that part nothing."""
     why = f"a `{letter}` stands in it, and words are parted by spaces alone"
-    assigned = re.fullmatch(r"(r[0-9]+) *= *([a-z]+)[ (]*([^()]*)\)?", text)
+    for statement, operation in STATEMENTS:
+        if stated := re.fullmatch(f"(?:let +)?{statement}", text):
+            return f"a `{letter}` stands in it, and an operation is its name and its operands", f"write {quoted(operation.format(*stated.groups()))}"
+    assigned = re.fullmatch(r"(?:let +)?(r[0-9]+) *:?= *([a-z]+)[ (]*([^()]*)\)?", text)
     if assigned and assigned[2] in FORMS:
         words = [assigned[2], assigned[1], *re.split("[ ,]+", assigned[3])]
         return why, instead(" ".join(words).strip(" "), "write the register behind the operation")
     if re.search(r" [0-9]{1,3}(?:,[0-9]{3})+$", text):
         return f"a `{letter}` stands in it, and a number has none", instead(text.replace(",", ""), "take it out")
-    pieces = [" ".join(re.sub("[,;()=]", " ", piece).split()) for piece in re.split("[,;]", text)]
+    pieces = [" ".join(re.sub(r"[,;()=\[\]]", " ", piece).split()) for piece in re.split("[,;]", text)]
     if several := texts_in(pieces):
         return f"{why}, and texts by commas", several
     return why, instead(" ".join(" ".join(pieces).split()), f"take the {letter} out")
@@ -295,7 +311,7 @@ def text_fault(text):
         before = text[:comment.start()].rstrip(" ,;")
         return f"a comment stands in it, behind a `{comment[1]}`" if before else "it is a comment", \
             f'write {quoted(before)}, and # and the comment behind it' if before else "write # in front of its quote"
-    if other := re.search("[,;()=]", text):
+    if other := re.search(r"[,;()=\[\]]", text):
         return parted(text, other[0])
     return None
 
@@ -309,6 +325,8 @@ def name_fault(name, words, limits):
         return f"`{told}` has a capital", f"write {told.lower()}"
     if name == "retire":
         return "no operation is named `retire`: a mutator retires by itself, after its last one", "take it out"
+    if name.lower() in WAITS:
+        return f"no operation is named `{told}`: mutators wait for each other where a part ends, and nowhere else", "take it out"
     if (run := re.fullmatch("([a-z]+?)(r?[0-9].*)", name)) and run[1] in FORMS:
         return f"no space stands behind `{run[1]}`", instead(" ".join([run[1], run[2], *words]), "write one there")
     if words and words[0] in FORMS:

@@ -32,20 +32,46 @@ def number_fault(option, text):
     return None
 
 
-def strange(word, is_behind):
-    """Why a word is none of the four options, and what to change."""
+def meant_by(word):
+    """The option that a word is near to, if any is."""
+    name = word.split("=")[0]
+    dashed = "--" + name.lstrip("-").lower()
+    begun = [option for option in (*NUMBERED, *FLAGS) if option.startswith(word) or option[1:3] == word]
+    near = difflib.get_close_matches(dashed, [*NUMBERED, *FLAGS], 1, 0.6)
+    return next(iter(begun if word.startswith("-") else []), None) or next(iter(near), None)
+
+
+def bare(word):
+    """Why a word without a dash is none of the four options, and what to change."""
+    told = shown(word)
+    if word in ("<", ">", "|"):
+        return f"`{told}` is the shell's, and came to the program as a word", "write it without quotes"
+    if re.fullmatch("[0-9]+", word):
+        return f"`{told}` is no option, and no number is wanted here", "take it out"
+    if word.isalpha() and (meant := meant_by(word)):
+        return f"`{told}` is no option: each begins with --", f"write {meant}"
+    given = f": riptide < {told}" if word and word != "-" else ""
+    return f"`{told}` is no option, and no file is named", f"take it out, and give the workload on the input{given}"
+
+
+def strange(word, is_behind, rest):
+    """Why a word is none of the four options, and what to change. `rest` are the words behind it."""
     told = shown(word)
     if any("\udc80" <= letter <= "\udcff" for letter in word):
         return f"`{told}` isn't UTF-8", "write it in UTF-8"
+    if is_behind and word.startswith("-") and word != "-":
+        return f"`{told}` stands behind `--`, where no option is read", "take the -- out"
     if word in ("--help", "-h", "--version", "-V"):
         return f"`{told}` isn't taken", "read docs/WORKLOAD.md, and python3 tools/why.py --help"
-    if is_behind or not word.startswith("-") or word == "-":
-        given = f": riptide < {told}" if word and word != "-" else ""
-        return f"`{told}` is no option, and no file is named", f"take it out, and give the workload on the input{given}"
-    near = difflib.get_close_matches(word.split("=")[0], [*NUMBERED, *FLAGS], 1, 0.6)
-    begun = [option for option in (*NUMBERED, *FLAGS) if option.startswith(word) or option[1:3] == word]
-    meant = (begun or near or [None])[0]
-    return f"there is no option `{told}`", f"write {meant}" if meant else "take it out"
+    if not word.startswith("-") or word == "-":
+        return bare(word)
+    if meant := meant_by(word):
+        return f"there is no option `{told}`", f"write {meant}"
+    if "=" in word or not rest or rest[0].startswith("-"):
+        return f"there is no option `{told}`", "take it out"
+    value = shown(rest[0])
+    given = "" if re.fullmatch("[0-9]+", rest[0]) else f", and give the workload on the input: riptide < {value}"
+    return f"there is no option `{told}`", f"take {told} {value} out{given}"
 
 
 def words_fault(words):
@@ -55,16 +81,18 @@ def words_fault(words):
         place, word, at = at, words[at], at + 1
         name, equals, text = word.partition("=")
         if word == "--":
-            return apart_fault(found) if at == len(words) else (at, *strange(words[at], True))
+            return apart_fault(found) if at == len(words) else (at, *strange(words[at], True, words[at + 1:]))
         if name not in (*NUMBERED, *FLAGS):
-            return place, *strange(word, False)
+            return place, *strange(word, False, words[at:])
         if name in FLAGS and equals:
             return place, f"`{name}` has no value", f"write {name} alone"
         if name in found:
             return place, f"`{name}` stands here for the second time", "take one of the two out"
         if name in NUMBERED and not equals:
             if at == len(words) or words[at].startswith("-"):
-                return place, f"no number stands behind `{name}`", f"write {name} {7 if name == '--make' else 2}"
+                is_signed = at < len(words) and re.fullmatch("-[0-9]+", words[at])
+                why = f"`{words[at]}` is no number from 0 on" if is_signed else f"no number stands behind `{name}`"
+                return place, why, f"write {name} {7 if name == '--make' else 2}"
             text, at = words[at], at + 1
         if name in NUMBERED and (fault := number_fault(name, text)):
             return place, *fault

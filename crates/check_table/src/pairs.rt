@@ -1,15 +1,47 @@
 //! What both mutators of a `Pair` do, one after the other. Each call leaves them as the next one wants them.
-ghost use Rattle.std.specs.Prelude.{◌≡◌, true, false, OnOk};
+ghost use Rattle.std.specs.Prelude.{◌≡◌, ◌⊎◌, ℕ, true, false, OnOk};
 ghost use Rattle.check_table.specs.callers.Working.{all_calls, put_calls};
 ghost use Rattle.check_table.specs.Pairs.{no_calls, HasOpened, HasStarted, HaveBegun, HaveCalled, HaveStopped};
 ghost use Rattle.check_table.specs.Pairs.{IsClosedOf, SameCalls};
+ghost use Rattle.tide_heap.specs.Parties.{In, IsParty};
+ghost use Rattle.tide_table.specs.Standing.{HasOpenedNext, RunsWith};
+ghost use Rattle.tide_table.specs.VisitsTold.{VisitsAreIn};
 
 use crate::callers::{begin_part, leave, stop_part};
 use crate::pair::Pair;
 use crate::working::{LoadedWords, look, put};
 use tide_heap::{Books, Report};
 use tide_shape::Shapes;
-use tide_table::{Closed, NotOpened, Numbers};
+use tide_table::{Closed, Collector, Heap, HeapShapes, NotOpened, Numbers};
+
+/// Freezes the part, runs a whole cycle, and opens the next one. Where memory was short the part is frozen, and the two
+/// calls that may follow do the rest.
+fn go_on<S: HeapShapes>(
+    heap: &Heap<S>,
+    collector: &mut Collector,
+    books: &mut Books,
+) -> Result<(), NotOpened>
+    requires own { collector.old.seat.table_id ≡ heap.now.table.shared.table_id }
+    requires part { RunsWith heap.now.key.layout books.old collector.old.seat.me.0 }
+    requires all { (i : ℕ) → IsParty heap.now.key.layout i →
+        In i collector.old.seat.me.0.notes ⊎ In i collector.old.seat.me.0.gone }
+    requires visits { VisitsAreIn heap.now.key.layout collector.old.seat.me.0 }
+    ensures own { collector.new.seat.table_id ≡ collector.old.seat.table_id }
+    ensures next { OnOk result (HasOpenedNext heap.now.key.layout books.new collector.old.seat.me.0
+        collector.new.seat.me.0) }
+{
+    match collector.next_part(heap, books, true) {
+        Err(NotOpened::Memory) => {}
+        answer => return answer,
+    }
+    let Ok(run) = collector.collect(heap, books, true) else {
+        return Err(NotOpened::Memory);
+    };
+    let Ok(()) = collector.open(heap, run) else {
+        return Err(NotOpened::PeriodsSpent);
+    };
+    Ok(())
+}
 
 impl Pair {
     /// Opens the first part.
@@ -93,7 +125,7 @@ impl Pair {
         ensures opened { OnOk result (HasOpened self.new) }
         ensures calls { SameCalls self.old self.new }
     {
-        self.collector.next_part(&self.heap, &mut self.books, true)?;
+        go_on(&self.heap, &mut self.collector, &mut self.books)?;
         Ok(())
     }
 

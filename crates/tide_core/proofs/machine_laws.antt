@@ -4,3 +4,4 @@ pub mod kinds
 pub mod freezes
 pub mod rows
 pub mod Scheduling
+pub mod KeptToEnd

@@ -15,12 +15,12 @@ pub mod wave;
 pub mod machine;
 
 pub use machine::{
-    Act, Cleared, Duty, FullBlock, Growth, Owed, Role, Round, Saw, Scan, Sweeping, Target, View,
+    Act, Duty, FullBlock, Growth, Owed, Role, Round, Saw, Scan, Sweeping, Target, View,
 };
 pub use tide_call::{Action, Addition, Claims, OwnRegisters, OwnWords, Planner};
 pub use tide_cycle::{Report, begin, end, pause};
 pub use tide_solver::Solved;
-pub use tide_sweep::{SweepPort, Took, has_dead, sweep, sweep_running};
+pub use tide_sweep::{Cleared, SweepPort, Took, has_dead, sweep, sweep_running};
 pub use tide_words::{
     BLOCK_SIZE, Colour, GreyList, Layout, MAX_CELLS, Region, Structure, TABLE, Words, after,
     array_word, bit_of, block_of_cell, claim_word, class_of, colour, colour_word, first_block_of,

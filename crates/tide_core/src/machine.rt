@@ -9,6 +9,4 @@ pub mod laws;
 mod view;
 
 pub use act::Act;
-pub use view::{
-    Cleared, Duty, FullBlock, Growth, Owed, Role, Round, Saw, Scan, Sweeping, Target, View,
-};
+pub use view::{Duty, FullBlock, Growth, Owed, Role, Round, Saw, Scan, Sweeping, Target, View};

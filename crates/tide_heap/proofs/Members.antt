@@ -140,6 +140,7 @@ module _ (layout : Layout) (shapes : ShapeLists) (words : List ℕ) (views : Lis
       fresh = λ j h. let other : j ≢ i = (λ e. let c = b.1 in omega (arith, e, h, c)) in put_else k.part i j p other ∙ k.fresh j h;
       strangers = λ j h. let other : j ≢ i = (λ e. h (subst (IsParty layout) (sym e) b.0)) in put_else k.part i j p other ∙ k.strangers j h;
       members = put_at_elim (λ j u. IsParty layout j → MemberOk layout k.cv u j) k.part i p (λ _. ok) (λ j other l. k.members j l);
+      keeps = k.keeps;
       prefix = prefix_trans k.cv.seen log log' k.prefix grows;
       tip = tips tip;
       retired = retired;
@@ -203,6 +204,7 @@ reseated layout shapes words views others log note_at k each = (
     fresh = k.fresh;
     strangers = k.strangers;
     members = k.members;
+    keeps = k.keeps;
     prefix = k.prefix;
     tip = k.tip;
     retired = k.retired;

@@ -1,5 +1,6 @@
 -- Participants of a heap by their numbers, and what is added up over some of them.
-use Rattle.std.specs.Prelude.{ℕ, zero, suc, ◌≡◌, ◌+◌, ◌⊎◌, List, [], ◌∷◌, length, nat_lt, if◌then◌else◌}
+use Rattle.std.specs.Prelude.{ℕ, Contains, zero, suc, ◌≡◌, ◌+◌, ◌⊎◌, List, [], ◌∷◌, length, nat_lt, if◌then◌else◌}
+use Rattle.tide_core.specs.declared.machine.view.NotedCalls.{NotedCalls}
 use Rattle.tide_core.specs.declared.machine.view.View.{View}
 use Rattle.tide_core.specs.machine.points.Marks.{counted_in}
 pub use Rattle.tide_core.specs.machine.World.{IsParty}
@@ -9,6 +10,10 @@ use Rattle.tide_model.specs.declared.entry.Event.{Event}
 abbrev pub In : ℕ → List ℕ → Type 0
 In i [] = ⊥
 In i (x ∷ xs) = (i ≡ x) ⊎ In i xs
+
+-- the collector's view keeps what a note told of this participant's calls
+abbrev pub HasNoted : View → ℕ → Type 0
+HasNoted cv i = (noted : NotedCalls) × Contains cv.noted_calls noted × (noted.who ≡ i)
 
 -- the numbers below another
 abbrev pub up_to : ℕ → List ℕ

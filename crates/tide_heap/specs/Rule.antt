@@ -27,7 +27,7 @@ use Rattle.tide_model.specs.Since.{since}
 use Rattle.tide_model.specs.declared.entry.Event.{Event}
 use Rattle.tide_heap.specs.Births.{births_in, born_to, told_births}
 use Rattle.tide_heap.specs.Done.{HasDonePart}
-use Rattle.tide_heap.specs.Parties.{In, IsParty, tally}
+use Rattle.tide_heap.specs.Parties.{HasNoted, In, IsParty, tally}
 use Rattle.tide_core.specs.tide_words.heap.Heap.{Heap, Reads, heap_of}
 use Rattle.tide_core.specs.tide_words.marking.Colours.{is_marking, running_cycle}
 use Rattle.tide_core.specs.tide_words.marking.Marked.{base_cycle}
@@ -105,6 +105,13 @@ module _ (layout : Layout) (cv : View) (part : ℕ → View) (seat_of note_at : 
 abbrev pub SeatOk : Layout → View → (ℕ → View) → (ℕ → ℕ) → (ℕ → ℕ) → List Event → ℕ → View → Type 0
 SeatOk layout cv part seat_of note_at log k u = SeatOkAs layout cv part seat_of note_at log k u u.role
 
+-- The collector's view keeps what notes told of calls: of each whose note of a running part is in, and of each who has
+-- left for good, that it left.
+pub record KeepsNoted (cv : View) : Type 0 where
+  pub noted : cv.frozen ≡ false → (i : ℕ) → In i cv.notes → HasNoted cv i
+  pub gone : (i : ℕ) → In i cv.gone →
+      (noted : NotedCalls) × Contains cv.noted_calls noted × (noted.who ≡ i) × (noted.left ≡ true)
+
 -- what stood in the cycle that marks names only cells that are live now, as far as the history says that one marks
 abbrev pub SpanStays : Layout → List Event → Type 0
 SpanStays layout log = (heap : Heap) → (is_marking heap ≡ true → marks_after layout log ≡ true) →
@@ -161,6 +168,7 @@ pub record Tabled (layout : Layout) (shapes : ShapeLists) (words : List ℕ) (vi
   pub fresh : (i : ℕ) → cv.next ≤ i → part i ≡ newcomer i
   pub strangers : (i : ℕ) → (IsParty layout i → ⊥) → part i ≡ newcomer i
   pub members : (i : ℕ) → IsParty layout i → MemberOk layout cv (part i) i
+  pub keeps : KeepsNoted cv
   pub prefix : IsPrefix cv.seen log
   -- the history is what someone has seen
   pub tip : (log ≡ cv.seen) ⊎ ((i : ℕ) × IsParty layout i × (log ≡ (part i).seen))

@@ -16,10 +16,10 @@ use Rattle.tide_model.specs.History.{is_call_of, plain, state_after}
 use Rattle.tide_model.specs.Layout.{Layout}
 use Rattle.tide_model.specs.Prefix.{IsPrefix}
 use Rattle.tide_model.specs.Refused.{ShapeLists}
-use Rattle.tide_model.specs.Since.{TakenAreSwept, is_birth, is_of_part}
+use Rattle.tide_model.specs.Since.{SweptWereTaken, TakenAreSwept, is_birth, is_of_part}
 use Rattle.tide_model.specs.declared.entry.Entry.TheVariants.{Open, Visits}
 use Rattle.tide_model.specs.declared.entry.Event.{Event}
-use Rattle.tide_heap.specs.Parties.{In, IsParty, longer, up_to}
+use Rattle.tide_heap.specs.Parties.{HasNoted, In, IsParty, longer, up_to}
 use Rattle.tide_core.specs.tide_words.heap.Heap.{heap_of}
 use Rattle.tide_core.specs.tide_words.marking.Colours.{is_marking, running_cycle}
 use Rattle.tide_core.specs.tide_words.marking.Marked.{base_cycle}
@@ -139,7 +139,7 @@ opened layout run v = record v {
 
 -- What a freeze tells the collector: the words, and that they meet the wave of the history that it has seen, with the
 -- visits that the notes tell and that aren't entered yet. What came since the part was opened are calls, and blocks
--- that are taken, each of which is swept there; and in it so many cells were born as the notes tell.
+-- that are taken, each of which is swept there, and none else is; and in it so many cells were born as the notes tell.
 pub record Freezes (layout : Layout) (shapes : ShapeLists) (v w : View) : Type 0 where
   pub limits : IsWithinLimits layout
   pub words : List ℕ
@@ -150,10 +150,12 @@ pub record Freezes (layout : Layout) (shapes : ShapeLists) (v w : View) : Type 0
   pub since : v.seen ≡ v.start ++ part
   pub of_part : list_all (λ event. is_of_part event.entry) part ≡ true
   pub taken : TakenAreSwept part
+  pub swept : SweptWereTaken part
   pub births : v.births ≡ count_by (λ event. is_birth event.entry) part
   pub few : v.births ≤ most_cells
-  -- what each note tells of the history is a beginning of it, and what it tells of its participant's calls are all that
-  -- the history has; the same of who left for good before
+  -- a note of each participant is in, or was before it left for good: what it tells of the history is a beginning of
+  -- it, and what it tells of its participant's calls are all that the history has, so that this is the whole history
+  pub all : (i : ℕ) → IsParty layout i → HasNoted v i
   pub heard : (noted : NotedCalls) → IsParty layout noted.who → Contains v.noted_calls noted → IsPrefix noted.seen v.seen
   pub own : (noted : NotedCalls) → IsParty layout noted.who → Contains v.noted_calls noted →
       filter (λ event. is_call_of noted.who event.entry) v.seen ≡ noted.mine

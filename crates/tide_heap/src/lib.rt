@@ -8,7 +8,7 @@
 //!
 //! It may touch `tide_core` and `tide_freeze`, which it hands on, shapes, and `atomic_table`. `tide_mutator` and
 //! `tide_visitor` step by it, and `tide_table` makes, freezes and opens a heap; of the collector this room knows what
-//! its view says. Outside these rooms nobody may step on a shared word.
+//! its view says. Outside these rooms only tests step on a shared word.
 #![tactic(auto)]
 
 mod shapes;

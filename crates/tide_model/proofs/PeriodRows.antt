@@ -15,7 +15,7 @@ use Rattle.tide_model.specs.Pace.{mark_budget, call_quota}
 use Rattle.tide_model.specs.Periods.{Period, StandsPeriod, ArePeriods, no_period, one_more, IsScheduled, EndsInTime, after_period, next_run}
 use Rattle.tide_model.specs.Rows.{small, kept_then_freed}
 use Rattle.tide_model.specs.Since.{is_call, is_of_part}
-use Rattle.tide_model.proofs.DeadLaws.{TakenAreSwept-none}
+use Rattle.tide_model.proofs.DeadLaws.{SweptWereTaken-calls, TakenAreSwept-none}
 use Rattle.tide_model.proofs.FreezeRows.{pace, first_calls, second_calls, ends_its_cycle}
 use Rattle.tide_model.proofs.PeriodLaws.{first_opens}
 use Rattle.tide_model.proofs.PeriodTests.{Each-tested, EndsInTime-tested, IsSwept-tested, ends_in_time, shares-tested}
@@ -139,6 +139,7 @@ first_stands = record {
   entries = AllPass-from_list_all (λ event. is_of_part event.entry) first.part refl;
   calls = λ marks. AllPass-from_list_all (λ event. is_call event.entry) first.part refl;
   taken = TakenAreSwept-none first.part refl;
+  swept_taken = SweptWereTaken-calls first.part refl;
   shares = shares-tested pace small [] first refl;
   freeze = first_freeze;
   swept = λ must. IsSwept-tested small after_first refl;
@@ -150,6 +151,7 @@ second_stands = record {
   entries = AllPass-from_list_all (λ event. is_of_part event.entry) second.part refl;
   calls = λ marks. AllPass-from_list_all (λ event. is_call event.entry) second.part refl;
   taken = TakenAreSwept-none second.part refl;
+  swept_taken = SweptWereTaken-calls second.part refl;
   shares = shares-tested pace small after_first second refl;
   freeze = second_freeze;
   swept = λ must. IsSwept-tested small after_second refl;
@@ -161,6 +163,7 @@ third_stands = record {
   entries = AllPass-from_list_all (λ event. is_of_part event.entry) third.part refl;
   calls = λ marks. AllPass-from_list_all (λ event. is_call event.entry) third.part refl;
   taken = TakenAreSwept-none third.part refl;
+  swept_taken = SweptWereTaken-calls third.part refl;
   shares = shares-tested pace small after_second third refl;
   freeze = third_freeze;
   swept = λ must. IsSwept-tested small whole refl;
@@ -247,6 +250,7 @@ one_is_refused = record {
   entries = AllPass-from_list_all (λ event. is_of_part event.entry) refused_and_busy.part refl;
   calls = λ marks. AllPass-from_list_all (λ event. is_call event.entry) refused_and_busy.part refl;
   taken = TakenAreSwept-none refused_and_busy.part refl;
+  swept_taken = SweptWereTaken-calls refused_and_busy.part refl;
   shares = shares-tested pace pair [] refused_and_busy refl;
   freeze = refused_freeze;
   swept = λ must. IsSwept-tested pair (after_period pace pair [] refused_and_busy) refl;

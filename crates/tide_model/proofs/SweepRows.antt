@@ -1,5 +1,5 @@
 -- Blocks that are swept in a running part, worked out by hand, and what is refused beside them.
-use Rattle.std.specs.Prelude.{◌≡◌, ◌≤◌, ◌==◌, refl, Bool, true, false, List, [], ◌∷◌, ◌++◌, Some}
+use Rattle.std.specs.Prelude.{◌≡◌, ◌<◌, ◌≤◌, ◌==◌, refl, Bool, true, false, List, [], ◌∷◌, ◌++◌, Some}
 use Rattle.std.proofs.Common.{arith, ap, lit<, lit≤, ◌∙◌}
 use Rattle.std.proofs.lemmas.List.Sums.{AllPass-from_list_all}
 use Rattle.tide_model.specs.declared.op.Op.TheVariants.{Alloc, Drop, Retire}
@@ -13,10 +13,11 @@ use Rattle.tide_model.specs.History.{one_later, plain}
 use Rattle.tide_model.specs.Pace.{Pace}
 use Rattle.tide_model.specs.Periods.{Period, StandsPeriod, no_period, one_more, IsScheduled, EndsInTime, after_period}
 use Rattle.tide_model.specs.Rows.{small}
-use Rattle.tide_model.specs.Since.{TakenAreSwept, is_call, is_of_part}
+use Rattle.tide_model.specs.Since.{SweepsTaken, SweptWereTaken, TakenAreSwept, is_call, is_of_part}
 use Rattle.tide_model.specs.State.{idle, marking}
-use Rattle.tide_model.proofs.DeadLaws.{TakenAreSwept-none}
+use Rattle.tide_model.proofs.DeadLaws.{SweepsTaken-call, SweptWereTaken-calls, SweptWereTaken-push, TakenAreSwept-none}
 use Rattle.tide_model.proofs.FreezeRows.{first_calls, ends_its_cycle}
+use Rattle.tide_model.proofs.PeriodLaws.{Each-all, Each-append, Each-nil}
 use Rattle.tide_model.proofs.PeriodTests.{Each-tested, EndsInTime-tested, IsSwept-tested, ends_in_time, shares-tested}
 
 -- a period of 4, a cycle by itself after three births, and room for many
@@ -122,12 +123,34 @@ first_taken block = by_test (0 == block)
     by_test true = lit≤ tt
     by_test false = lit≤ tt
 
+-- and the sweep stands behind its taking
+first_swept : SweptWereTaken first_cell.part
+first_swept = Each-append SweepsTaken just_swept later taken_first
+    (Each-all (λ before event. SweepsTaken (just_swept ++ before) event) (λ event. is_call event.entry)
+    (λ before event. SweepsTaken-call (just_swept ++ before) event) later refl)
+  where
+    just_swept : List Event
+    just_swept = plain (Taken 0) ∷ plain (Sweep 0) ∷ []
+
+    later : List Event
+    later = first_calls (Alloc 1 0) (Born 0) ∷ first_calls Retire Done ∷ []
+
+    by_test : (same : Bool) → same ≡ true → 0 < one_later 0 same
+    by_test true is = lit< tt
+    by_test false is = absurd (cc)
+
+    taken_first : SweptWereTaken just_swept
+    taken_first = SweptWereTaken-push (plain (Taken 0) ∷ []) (plain (Sweep 0))
+        (SweptWereTaken-push [] (plain (Taken 0)) (Each-nil SweepsTaken) (λ block sweeps. absurd (cc)))
+        (λ block sweeps. by_test (0 == block) sweeps)
+
 first_stands : StandsPeriod short small [] born_and_freed
 first_stands = record {
   goes_on = refl;
   entries = AllPass-from_list_all (λ event. is_of_part event.entry) born_and_freed.part refl;
   calls = λ marks. AllPass-from_list_all (λ event. is_call event.entry) born_and_freed.part refl;
   taken = TakenAreSwept-none born_and_freed.part refl;
+  swept_taken = SweptWereTaken-calls born_and_freed.part refl;
   shares = shares-tested short small [] born_and_freed refl;
   freeze = first_freeze;
   swept = λ must. absurd (cc);
@@ -139,6 +162,7 @@ next_stands = record {
   entries = AllPass-from_list_all (λ event. is_of_part event.entry) next_cell.part refl;
   calls = λ marks. absurd (cc);
   taken = TakenAreSwept-none next_cell.part refl;
+  swept_taken = SweptWereTaken-calls next_cell.part refl;
   shares = shares-tested short small collected next_cell refl;
   freeze = next_freeze;
   swept = λ must. IsSwept-tested small next_free_is_taken refl;
@@ -150,6 +174,7 @@ swept_stands = record {
   entries = AllPass-from_list_all (λ event. is_of_part event.entry) first_cell.part refl;
   calls = λ marks. absurd (cc);
   taken = first_taken;
+  swept_taken = first_swept;
   shares = shares-tested short small collected first_cell refl;
   freeze = swept_freeze;
   swept = λ must. IsSwept-tested small swept_in_the_part refl;
@@ -220,7 +245,11 @@ taken_is_not_swept swept = let few = swept 0 in omega (arith, few)
 pub swept_before_it_is_taken : TakenAreSwept (plain (Sweep 0) ∷ plain (Taken 0) ∷ []) → ⊥
 swept_before_it_is_taken swept = let few = swept 0 in omega (arith, few)
 
--- nor one with nothing dead, nor any while a cycle marks
+-- nor may a block be swept that wasn't taken in the part
+pub swept_is_not_taken : SweptWereTaken (plain (Sweep 0) ∷ []) → ⊥
+swept_is_not_taken swept = let few = swept 0 (plain (Sweep 0)) refl 0 refl in omega (arith, few)
+
+-- nor one taken with nothing dead, nor any while a cycle marks
 pub clean_block_is_taken : StandsTaken small [] 0 → ⊥
 clean_block_is_taken takes = IsSwept-tested small [] refl 0 takes.has_dead
 

@@ -15,7 +15,7 @@ use Rattle.tide_model.specs.Pace.{Pace, call_quota}
 use Rattle.tide_model.specs.Refused.{ShapeLists}
 use Rattle.tide_model.specs.Script.{calls_of, retry_of}
 use Rattle.tide_model.specs.Share.{IsShare, has_ended}
-use Rattle.tide_model.specs.Since.{TakenAreSwept, born_since, visits_since, is_call, is_of_part}
+use Rattle.tide_model.specs.Since.{SweptWereTaken, TakenAreSwept, born_since, visits_since, is_call, is_of_part}
 
 -- no mutator is active any more
 abbrev pub is_over : Layout → List Event → Bool
@@ -53,13 +53,14 @@ abbrev pub after_period : Pace → Layout → List Event → Period → List Eve
 after_period pace layout before period = after_part pace layout before period ++ period.freeze
 
 -- A period may stand right after a history. Its part has calls, and where no cycle marks also blocks that are taken and
--- swept: each that is taken is swept there. After a forced freeze nothing is dead. (Nor is anything when a cycle
--- begins: `StandsBegin` says that.)
+-- swept: each that is taken is swept there, and none is swept that wasn't taken there before. After a forced freeze
+-- nothing is dead. (Nor is anything when a cycle begins: `StandsBegin` says that.)
 pub record StandsPeriod (pace : Pace) (layout : Layout) (before : List Event) (period : Period) : Type 0 where
   pub goes_on : is_over layout before ≡ false
   pub entries : AllPass (λ event. is_of_part event.entry) period.part
   pub calls : marks_after layout (opened pace layout before) ≡ true → AllPass (λ event. is_call event.entry) period.part
   pub taken : TakenAreSwept period.part
+  pub swept_taken : SweptWereTaken period.part
   pub shares : (who : ℕ) → who < layout.mutators →
       IsShare (next_run pace layout before) (retry_of who before)
       ((state_after layout (after_part pace layout before period)).active who) (calls_of who period.part)

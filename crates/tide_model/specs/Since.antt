@@ -1,10 +1,11 @@
 -- What happened since the last event of a kind.
-use Rattle.std.specs.Prelude.{ℕ, ◌<◌, ◌≤◌, ◌==◌, ◌||◌, Bool, true, false, List, drop, count_by, sum_by}
+use Rattle.std.specs.Prelude.{ℕ, ◌≡◌, ◌<◌, ◌≤◌, ◌==◌, ◌||◌, Bool, true, false, List, drop, count_by, sum_by}
 use Rattle.tide_model.specs.declared.op.Reply.{Reply}
 use Rattle.tide_model.specs.declared.op.Reply.TheVariants.{Born}
 use Rattle.tide_model.specs.declared.entry.Entry.{Entry}
 use Rattle.tide_model.specs.declared.entry.Entry.TheVariants.{Begin, Call, End, Open, Pause, Sweep, Taken, Visits}
 use Rattle.tide_model.specs.declared.entry.Event.{Event}
+use Rattle.tide_model.specs.Each.{Each}
 use Rattle.tide_model.specs.History.{moment_after_last}
 
 -- the events after the last one that passes a test, or all where none does
@@ -65,6 +66,15 @@ WasTaken history block = moment_after_last (λ event. is_end event.entry) histor
 abbrev pub TakenAreSwept : List Event → Type 0
 TakenAreSwept events = (block : ℕ) → moment_after_last (λ event. is_taken_of block event.entry) events
     ≤ moment_after_last (λ event. is_sweep_of block event.entry) events
+
+-- the event sweeps no block but one that was taken in the events before it
+abbrev pub SweepsTaken : List Event → Event → Type 0
+SweepsTaken before event = (block : ℕ) → is_sweep_of block event.entry ≡ true →
+    0 < moment_after_last (λ e. is_taken_of block e.entry) before
+
+-- each sweep in these events stands behind a taking of its block there
+abbrev pub SweptWereTaken : List Event → Type 0
+SweptWereTaken events = Each SweepsTaken events
 
 -- the reply is a new cell
 abbrev pub is_born_reply : Reply → Bool

@@ -257,7 +257,7 @@ found_beside xs ys k x many at =
     ]
 
 pub shares-make-part : SharesMakePart
-shares-make-part setting run history part old new stopped settled are lawful all taken took = record {
+shares-make-part setting run history part old new stopped settled are lawful all taken swept took = record {
   ran = record { begun = recorded_at setting opened; opened = opens; ran = ran };
   cursors = record {
     one_each = took.as_many ∙ are.one_each;
@@ -306,6 +306,7 @@ shares-make-part setting run history part old new stopped settled are lawful all
           (calls_where_marking setting.layout setting.shapes part opened lawful marks
           (list_all-from_AllPass (λ event. is_of_part event.entry) part all));
       taken = taken;
+      swept = swept;
     }
 
     shared : (k : ℕ) (c d : ScriptCursor) → slice_get old k ≡ Some c → slice_get new k ≡ Some d → HasShared setting run history part c d (stopped k)

@@ -187,6 +187,7 @@ RanPeriod-by old begun ran new pace run next stopped must goes_on is_run opens p
     calls = λ marks. part.is_part.calls
         (ap (λ (s : Setting). marks_after s.layout begun.history) opens.same ∙ ap (marks_after layout) is_opened ∙ marks);
     taken = part.is_part.taken;
+    swept_taken = part.is_part.swept;
     shares = λ who below. subst (λ (r : ℕ). IsShare r (retry_of who old.history) ((state_after layout (after_part pace layout old.history period)).active who) (calls_of who part.part)) (sym runs)
         (IsShare-by run (retry_of who begun.history) (retry_of who old.history) ((state_after ran.setting.layout ran.history).active who)
         ((state_after layout (after_part pace layout old.history period)).active who) (calls_of who part.part) (calls_of who part.part)

@@ -20,7 +20,7 @@ use Rattle.tide_model.specs.Script.{calls_of, retry_after_all}
 use Rattle.tide_model.specs.Share.{IsShare, has_ended}
 use Rattle.tide_model.specs.Layout.{Layout}
 use Rattle.tide_model.specs.Since.{is_call, is_of_part, is_sweep, is_taken}
-use Rattle.tide_model.proofs.DeadLaws.{TakenAreSwept-calls}
+use Rattle.tide_model.proofs.DeadLaws.{SweptWereTaken-calls, TakenAreSwept-calls}
 use Rattle.tide_model.proofs.Histories.{calls_of-append}
 use Rattle.tide_periods.specs.declared.cursor.ScriptCursor.{ScriptCursor}
 use Rattle.tide_periods.specs.Answered.{pair_of}
@@ -58,6 +58,7 @@ IsPartOf-calls layout before part calls = record {
       (λ event is. ap (λ (b : Bool). b || (is_taken event.entry || is_sweep event.entry)) is) part calls;
   calls = λ marks. calls;
   taken = TakenAreSwept-calls part (list_all-from_AllPass (λ event. is_call event.entry) part calls);
+  swept = SweptWereTaken-calls part (list_all-from_AllPass (λ event. is_call event.entry) part calls);
 }
 
 -- no mutator made a call yet

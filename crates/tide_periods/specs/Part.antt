@@ -8,7 +8,7 @@ use Rattle.tide_model.specs.Layout.{Layout}
 use Rattle.tide_model.specs.Numbers.{any_below}
 use Rattle.tide_model.specs.Script.{calls_of, retry_of}
 use Rattle.tide_model.specs.Share.{IsShare, has_ended}
-use Rattle.tide_model.specs.Since.{TakenAreSwept, is_call, is_of_part}
+use Rattle.tide_model.specs.Since.{SweptWereTaken, TakenAreSwept, is_call, is_of_part}
 use Rattle.tide_periods.specs.declared.cursor.ScriptCursor.{ScriptCursor}
 use Rattle.tide_periods.specs.Asking.{IsCursor, scripts_of}
 use Rattle.tide_periods.specs.Left.{total_left}
@@ -33,11 +33,12 @@ pub record AreCursors (recorded : Recorded) (cursors : List ScriptCursor) : Type
       (cursor.who ≡ who) × IsCursor recorded cursor
 
 -- What a running part may have after a history: calls, and where no cycle marks also blocks that are taken and swept.
--- Each that is taken is swept in it.
+-- Each that is taken is swept in it, behind its taking, and no other is.
 pub record IsPartOf (layout : Layout) (before part : List Event) : Type 0 where
   pub entries : AllPass (λ event. is_of_part event.entry) part
   pub calls : marks_after layout before ≡ true → AllPass (λ event. is_call event.entry) part
   pub taken : TakenAreSwept part
+  pub swept : SweptWereTaken part
 
 -- each mutator made its share of the calls of a part
 pub record RanPart (old new : Recorded) (run : ℕ) (ended : Bool) : Type 0 where

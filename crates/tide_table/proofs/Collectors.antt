@@ -2,13 +2,13 @@
 use Rattle.std.proofs.Common.{◌≡◌, ℕ, zero, suc, ◌+◌, ◌≤◌, ◌⊎◌, List, [], ◌∷◌, ◌++◌, length, sym, refl, ap, ◌∙◌, inl, inr, subst, arith, Bool, true, false, set, MatchBool, length-set, append-nil}
 use Rattle.std.proofs.lemmas.Bool.{and_parts, cases_Bool, eq-eqb, ne_eqb}
 use Rattle.tide_heap.proofs.tide_core.machine_laws.freezes.Progress.{progress}
-use Rattle.tide_heap.proofs.tide_core.machine_laws.steps.Paying.{filter_was}
+use Rattle.tide_heap.proofs.tide_core.machine_laws.steps.Paying.{filter_was, in_filter}
 use Rattle.tide_heap.proofs.tide_core.machine_laws.steps.StopPlaces.{stop_within}
 use Rattle.tide_heap.specs.tide_core.machine.Kind.{index_of_stopped}
 use Rattle.tide_heap.specs.tide_core.machine.points.Witness.{IsVisitor}
 use Rattle.tide_heap.specs.tide_core.machine.Progress.{HasDone}
 use Rattle.tide_heap.specs.Done.{HasDonePart}
-use Rattle.std.proofs.lemmas.List.Elements.{filter-append, Contains-append_cases}
+use Rattle.std.proofs.lemmas.List.Elements.{filter-append, Contains-append_cases, Contains-append_right}
 use Rattle.std.specs.List.{list_all}
 use Rattle.std.specs.Prelude.{Contains, ◌<◌, ◌&&◌, filter, if◌then◌else◌, ◌==◌, not}
 use Rattle.tide_heap.specs.tide_layout.Region.{word_count, place_in}
@@ -40,15 +40,15 @@ use Rattle.tide_model.specs.declared.entry.Event.{Event}
 use Rattle.tide_heap.proofs.Beginnings.{longer_ok, same_lists}
 use Rattle.tide_heap.proofs.Births.{all_pass, born_to-none, born_to-quiet, births_few, born_to_all, start-opened, start-push, told_all, told_more, told_none, total_same}
 use Rattle.tide_heap.specs.Births.{births_in, born_to, told_births}
-use Rattle.tide_model.specs.Since.{TakenAreSwept, born_since, is_of_part, since}
+use Rattle.tide_model.specs.Since.{SweptWereTaken, TakenAreSwept, born_since, is_of_part, since}
 use Rattle.tide_table.proofs.FrozenWords.{FrozenWith-read, FrozenWith-more}
-use Rattle.tide_table.proofs.Heeding.{own, mode_of, ok_of, prefix_of, collector_step, continue_part}
+use Rattle.tide_table.proofs.Heeding.{keeps_of, own, mode_of, ok_of, prefix_of, collector_step, continue_part}
 use Rattle.tide_heap.proofs.Leaving.{inactive-push, active-push}
 use Rattle.tide_heap.proofs.Members.{add_copy, few_parties, party_cases}
 use Rattle.tide_table.proofs.Spans.{marks_read, span_of, span_entered}
 use Rattle.tide_table.proofs.Tallies.{sum_one, total_few}
-use Rattle.tide_heap.specs.Parties.{In, IsParty, longer, tally}
-use Rattle.tide_heap.specs.Rule.{AgreesOnPart, MemberOk, NoteOk, IsFrozen, IsRunning, Tabled}
+use Rattle.tide_heap.specs.Parties.{HasNoted, In, IsParty, longer, tally}
+use Rattle.tide_heap.specs.Rule.{AgreesOnPart, KeepsNoted, MemberOk, NoteOk, IsFrozen, IsRunning, Tabled}
 use Rattle.tide_heap.specs.Turns.{calls_of, ticket_of, noted, frozen_with, restored, entered_with, open_entry, opened}
 use Rattle.tide_heap.proofs.tide_words.heap_laws.HeapLaws.{reads_write, Reads-heap_of}
 use Rattle.tide_heap.specs.tide_words.forms.ColourWord.{marks_by}
@@ -68,6 +68,9 @@ first_or_later {X} x xs y a = elim (Contains-append_cases (x ∷ []) xs y a) [ i
 module _ (layout : Layout) (shapes : ShapeLists) (words : List ℕ) (views : List View) (log : List Event) (me : ℕ)
     (v : View) (k : Tabled layout shapes words views log) (there : get_elem? views me ≡ some v)
     (is : v.role ≡ Collector) where
+  kept : KeepsNoted v
+  kept = keeps_of layout shapes words views log me v k there is
+
   ledger_of : tally v.period k.part v.notes ≡ v.visits_told
   ledger_of = subst (λ (x : View). tally x.period k.part x.notes ≡ x.visits_told)
       (sym (own layout shapes words views log me v k there is)) k.visits_told
@@ -179,6 +182,13 @@ module _ (layout : Layout) (shapes : ShapeLists) (words : List ℕ) (views : Lis
       subst (λ (l : List Event). IsPrefix l v.seen) q.1
       (elim q.0 [ inl b ↦ (o.noted b).1 | inr b ↦ (o.gone b).2 ])
 
+  -- of each participant a note told the calls
+  all_noted : v.frozen ≡ false → AllIn → (i : ℕ) → IsParty layout i → HasNoted v i
+  all_noted thawed all_in i party = elim (all_in i party) [
+    | inl a ↦ kept.noted thawed i a
+    | inr a ↦ (let (noted, has, is_who, left) = kept.gone i a in (noted, has, is_who))
+  ]
+
   -- where each note says that its participant has done its part, one of the visitors made a cell black
   progress_told : AllIn → IsRunning layout shapes words log v k.part → v.marks ≡ true → 0 < layout.visitors →
       v.done ≡ true → 0 < v.visits_told
@@ -243,14 +253,16 @@ module _ (layout : Layout) (shapes : ShapeLists) (words : List ℕ) (views : Lis
       × ((i : ℕ) → IsParty layout i → In i v.notes →
       heap_of layout words region.Stopped (index_of_stopped layout i) ≡ v.period)
       × (v.marks ≡ is_marking (heap_of layout words))
-      × TakenAreSwept (since is_open log)
+      × TakenAreSwept (since is_open log) × SweptWereTaken (since is_open log)
+      × ((i : ℕ) → IsParty layout i → HasNoted v i)
   freeze_all thawed all_in =
       let run = running_mode thawed in
       let seen = all_seen all_in in
       let machine : FrozenMachine layout shapes (record { heap = run.heap; part = k.part; log = log })
       (total (counted_in (run.heap region.Period 0)) k.part) =
       FrozenMachine-running layout shapes (record { heap = run.heap; part = k.part; log = log }) run.wave
-      (all_parked all_in) in (
+      (all_parked all_in) in
+      let parts = parts_sweep layout shapes (record { heap = run.heap; part = k.part; log = log }) run.wave (all_parked all_in) in (
         FrozenWith-more layout shapes (heap_of layout words) v.seen (total (counted_in v.period) k.part) v.visits_told
             (enough all_in)
             (subst (λ (n : ℕ). FrozenWith layout shapes (heap_of layout words) v.seen (total (counted_in n) k.part))
@@ -275,6 +287,7 @@ module _ (layout : Layout) (shapes : ShapeLists) (words : List ℕ) (views : Lis
               start = refl;
               kept = λ i a. a;
               done = λ e. e;
+              keeps = record { noted = λ thaws. absurd (cc); gone = kept.gone };
               out = λ j x at role seat none a. none a;
               notes = λ i l a. inl a;
               stays = λ i a. a;
@@ -312,7 +325,9 @@ module _ (layout : Layout) (shapes : ShapeLists) (words : List ℕ) (views : Lis
         λ i party a. run.reads.each region.Stopped (index_of_stopped layout i) (stop_within layout i party)
             ∙ run.wave.stops i party ∙ (ok_of layout shapes words views log me v k there is i party).halted a,
         run.marks ∙ sym (ap marks_by (run.reads.each region.Phase 0 (omega arith))),
-        parts_sweep layout shapes (record { heap = run.heap; part = k.part; log = log }) run.wave (all_parked all_in),
+        parts.0,
+        parts.1,
+        λ i party. all_noted thawed all_in i party,
       )
 
   -- a store of the collector while frozen
@@ -334,6 +349,7 @@ module _ (layout : Layout) (shapes : ShapeLists) (words : List ℕ) (views : Lis
         start = refl;
         kept = λ i a. a;
         done = λ e. e;
+        keeps = record { noted = kept.noted; gone = kept.gone };
         out = λ j x at role seat none a. none a;
         notes = λ i l a. inl a;
         stays = λ i a. a;
@@ -382,6 +398,7 @@ module _ (layout : Layout) (shapes : ShapeLists) (words : List ℕ) (views : Lis
         start = refl;
         kept = λ i a. a;
         done = λ e. e;
+        keeps = record { noted = kept.noted; gone = kept.gone };
         out = λ j x at role seat none a. none a;
         notes = λ i l a. inl a;
         stays = λ i a. a;
@@ -491,6 +508,11 @@ module _ (layout : Layout) (shapes : ShapeLists) (words : List ℕ) (views : Lis
         began = λ a. absurd a;
         done = λ a. absurd a;
       })
+      (record {
+        noted = λ thawed i a. absurd a;
+        gone = λ i a. (let (noted, has, is_who, left) = kept.gone i a in
+            (noted, in_filter (λ (x : NotedCalls). x.left) v.noted_calls noted left has, is_who, left));
+      })
       (subst (λ (l : List Event). IsPrefix l (log ++ event ∷ [])) seen (prefix_refl (log ++ event ∷ [])))
       (λ i left. inactive-push layout log event i (k.retired i left)) (inl seen) refl
       (λ i. not_begun (k.part i) (now.begun i) ∙ sym (born_to-none i log event refl))
@@ -557,6 +579,7 @@ module _ (layout : Layout) (shapes : ShapeLists) (words : List ℕ) (views : Lis
         start = refl;
         kept = λ i a. inr a;
         done = λ e. (and_parts v.done u.done e).0;
+        keeps = record { noted = λ runs i a. now_noted i a; gone = λ i a. now_gone u.left refl i a };
         out = λ j x at role seat none a. elim a [
           | inl e ↦ spent x (subst (λ (i : ℕ). get_elem? views i ≡ some x)
               (sym seat ∙ ap k.note_at e ∙ note.one now_part) at) role
@@ -612,6 +635,26 @@ module _ (layout : Layout) (shapes : ShapeLists) (words : List ℕ) (views : Lis
         some_run = run.some_run;
       })
     where
+      still_noted : (told : NotedCalls) → Contains v.noted_calls told → Contains (calls_of u ∷ v.noted_calls) told
+      still_noted told a = Contains-append_right (calls_of u ∷ []) v.noted_calls told a
+
+      just_noted : Contains (calls_of u ∷ v.noted_calls) (calls_of u)
+      just_noted = (0, omega arith, refl)
+
+      now_noted : (i : ℕ) → In i (u.who ∷ v.notes) → HasNoted (noted v u) i
+      now_noted i (inl here) = (calls_of u, just_noted, sym here)
+      now_noted i (inr before) = (let (told, has, is_who) = kept.noted thawed i before in (told, still_noted told has, is_who))
+
+      still_gone : (i : ℕ) → In i v.gone → (told : NotedCalls) × Contains (calls_of u ∷ v.noted_calls) told
+          × (told.who ≡ i) × (told.left ≡ true)
+      still_gone i a = (let (told, has, is_who, left) = kept.gone i a in (told, still_noted told has, is_who, left))
+
+      now_gone : (b : Bool) → u.left ≡ b → (i : ℕ) → In i (if b then u.who ∷ v.gone else v.gone) →
+          (told : NotedCalls) × Contains (calls_of u ∷ v.noted_calls) told × (told.who ≡ i) × (told.left ≡ true)
+      now_gone true left i (inl here) = (calls_of u, just_noted, sym here, left)
+      now_gone true left i (inr before) = still_gone i before
+      now_gone false left i a = still_gone i a
+
       by_left : (b : Bool) (i : ℕ) → In i v.gone → In i (if b then u.who ∷ v.gone else v.gone)
       by_left true i a = inr a
       by_left false i a = a

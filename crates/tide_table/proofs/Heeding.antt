@@ -15,7 +15,7 @@ use Rattle.tide_model.specs.Since.{since}
 use Rattle.tide_heap.specs.Done.{HasDonePart}
 use Rattle.tide_heap.specs.Births.{births_in, born_to, told_births}
 use Rattle.tide_heap.specs.Parties.{In, IsParty, tally}
-use Rattle.tide_heap.specs.Rule.{AgreesOnPart, MemberOk, NoteOk, Heard, IsAsNoted, SeatOkAs, SeatOk, IsFrozen, IsRunning, Mode, Tabled}
+use Rattle.tide_heap.specs.Rule.{AgreesOnPart, KeepsNoted, MemberOk, NoteOk, Heard, IsAsNoted, SeatOkAs, SeatOk, IsFrozen, IsRunning, Mode, Tabled}
 use lib.ListN.{get_elem?}
 use mathlib.Core.Option.{some}
 
@@ -44,15 +44,18 @@ module _ (layout : Layout) (shapes : ShapeLists) (words : List ℕ) (views : Lis
   pub ok_of : (i : ℕ) → IsParty layout i → MemberOk layout v (k.part i) i
   ok_of i l = subst (λ (x : View). MemberOk layout x (k.part i) i) (sym own) (k.members i l)
 
+  pub keeps_of : KeepsNoted v
+  keeps_of = subst KeepsNoted (sym own) k.keeps
+
   pub prefix_of : IsPrefix v.seen log
   prefix_of = subst (λ (x : View). IsPrefix x.seen log) (sym own) k.prefix
 
   pub collector_step : (w : View) (words' : List ℕ) (log' : List Event) → w.role ≡ Collector → v.period ≤ w.period → w.next ≡ v.next
       → IsPrefix log log' → ((j : ℕ) (x : View) → get_elem? views j ≡ some x → x.role ≡ Note → IsParty layout x.who → NoteOk layout v (k.part x.who) (k.note_at x.who) j x → NoteOk layout w (k.part x.who) (k.note_at x.who) j x) → ((x : View) → Heard log v x → x.period ≡ w.period → AgreesOnPart w x)
-      → ((i : ℕ) → IsParty layout i → MemberOk layout w (k.part i) i) → IsPrefix w.seen log' → ((i : ℕ) → (k.part i).left ≡ true → (state_after layout log').active i ≡ false) → (log' ≡ w.seen) ⊎ ((log' ≡ log) × (log ≡ v.seen → log ≡ w.seen)) → tally w.period k.part w.notes ≡ w.visits_told
+      → ((i : ℕ) → IsParty layout i → MemberOk layout w (k.part i) i) → KeepsNoted w → IsPrefix w.seen log' → ((i : ℕ) → (k.part i).left ≡ true → (state_after layout log').active i ≡ false) → (log' ≡ w.seen) ⊎ ((log' ≡ log) × (log ≡ v.seen → log ≡ w.seen)) → tally w.period k.part w.notes ≡ w.visits_told
       → ((i : ℕ) → births_in w.period (k.part i) ≡ born_to i log') → told_births w.period k.part w.notes ≡ w.births → w.start ++ since is_open log' ≡ log' → Mode layout shapes words' log' w k.part
       → Tabled layout shapes words' (set views me w) log'
-  collector_step w words' log' is' later seats grows notes tells ok prefix retired tip visits_told births told start mode = record {
+  collector_step w words' log' is' later seats grows notes tells ok keeps prefix retired tip visits_told births told start mode = record {
     cv = w;
     part = k.part;
     seat_of = k.seat_of;
@@ -65,6 +68,7 @@ module _ (layout : Layout) (shapes : ShapeLists) (words : List ℕ) (views : Lis
     fresh = λ j h. k.fresh j (let e = ap (λ (x : View). x.next) own in omega (arith, h, seats, e));
     strangers = k.strangers;
     members = ok;
+    keeps = keeps;
     prefix = prefix;
     tip = elim tip [
       | inl e ↦ inl e
@@ -99,6 +103,7 @@ module _ (layout : Layout) (shapes : ShapeLists) (words : List ℕ) (views : Lis
     pub notes : (i : ℕ) → IsParty layout i → In i w.notes → In i v.notes ⊎ (((k.part i).period ≡ v.period) × IsPrefix (k.part i).seen w.seen × ((k.part i).left ≡ true → In i w.gone) × (w.done ≡ true → ((k.part i).begun ≡ v.period) × HasDonePart layout (k.part i))
         × ((k.part i).stopped ≡ v.period))
     pub done : w.done ≡ true → v.done ≡ true
+    pub keeps : KeepsNoted w
     pub stays : (i : ℕ) → In i v.gone → In i w.gone
     pub calls : (i : ℕ) → IsParty layout i → (noted : NotedCalls) → Contains w.noted_calls noted → noted.who ≡ i → Contains v.noted_calls noted ⊎ IsAsNoted w (k.part i) i noted
     pub gone : (i : ℕ) → IsParty layout i → In i w.gone → In i v.gone ⊎ (((k.part i).left ≡ true) × ((k.part i).runs ≡ false) × IsPrefix (k.part i).seen w.seen × ((k.part i).ticket ≤ (k.part i).period) × In i w.notes)
@@ -134,7 +139,7 @@ module _ (layout : Layout) (shapes : ShapeLists) (words : List ℕ) (views : Lis
           | inl b ↦ elim (o.over b) [ inl noted ↦ inl (c.kept i noted) | inr before ↦ inr (omega (arith, before, p)) ]
           | inr b ↦ inl b.4
         ];
-      }) prefix retired tip c.visits_told
+      }) c.keeps prefix retired tip c.visits_told
       (λ i. ap (λ (n : ℕ). births_in n (k.part i)) p ∙ born_of i ∙ sym (quiet i)) c.told
       (ap (λ (l : List Event). l ++ since is_open log') c.start ∙ start) mode
     where

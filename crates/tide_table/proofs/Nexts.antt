@@ -26,7 +26,7 @@ use Rattle.tide_report.specs.Reports.{Reported}
 use Rattle.tide_sched.proofs.RunLaws.{last_run-opened}
 use Rattle.tide_sched.specs.Paces.{last_run}
 use Rattle.tide_table.proofs.Standing.{begin_count-part, no_ends}
-use Rattle.tide_table.specs.Standing.{HasCollected, HasFrozenNext, HasOpenedNext, RunsPart, RunsWith}
+use Rattle.tide_table.specs.Standing.{EntersTold, HasCollected, HasFrozenNext, HasOpenedNext, RunsPart, RunsWith}
 use Rattle.tide_table.specs.Started.{IsStarted}
 
 -- the part that was opened has its number and its run
@@ -48,6 +48,10 @@ pub begin_count-opened : (layout : Layout) (run : ℕ) (v w : View) → w ≡ op
 begin_count-opened layout run v w is =
     ap (λ (x : View). begin_count x.start) is
     ∙ (let counted = count-push (λ e. is_begin e.entry) v.seen (plain (Open (v.period + 1) run)) in omega (arith, counted))
+
+-- what has been seen then is the history up to the opening
+seen_opened : (layout : Layout) (run : ℕ) (v w : View) → w ≡ opened layout run v → w.seen ≡ w.start
+seen_opened layout run v w is = ap (λ (x : View). x.seen) is ∙ sym (ap (λ (x : View). x.start) is)
 
 -- the first part of a heap runs with its books, where v is the collector's view at the start of the heap
 pub HasOpenedNext-first : (layout : Layout) (shapes : ShapeLists) (run : ℕ) (books : Books) (v w : View) →
@@ -71,6 +75,7 @@ HasOpenedNext-first layout shapes run books v w started is are = record {
   visited = ap (λ (x : View). x.visited) is;
   done = ap (λ (x : View). x.done) is;
   gone = ap (λ (x : View). x.gone) is;
+  seen = seen_opened layout run v w is;
 }
 
 -- it runs on while notes are taken in
@@ -108,6 +113,7 @@ HasOpenedNext-by layout shapes pace is_forced run old counted books v u w x runs
   visited = ap (λ (y : View). y.visited) is;
   done = ap (λ (y : View). y.done) is;
   gone = ap (λ (y : View). y.gone) is ∙ ap (λ (y : View). y.gone) did.rest ∙ ap (λ (y : View). y.gone) froze.view;
+  seen = seen_opened layout run w x is;
 }
   where
     later : x.period ≡ v.period + 1
@@ -121,8 +127,19 @@ HasFrozenNext-by layout shapes pace is_forced run v u w x froze did is = record 
   frozen = w.seen;
   freezes = subst (λ (h : List Event). HasFrozenWhole pace layout (last_run h) h w.seen is_forced)
       (ap (λ (y : View). y.seen) froze.view) did.freezes;
+  told = subst (λ (y : View). EntersTold layout y w.seen) froze.view did.told;
   opened = ap (λ (y : View). y.start) is
       ∙ (λ i. w.seen ++ plain (Open (sym (ap (λ (y : View). y.period) is) i) (did.next i)) ∷ []);
+}
+
+-- books in which births alone were counted, and which were kept then, were kept since before
+pub WereKept-counted : (layout : Layout) (history : List Event) (old counted books : Books) →
+    counted ≡ record old { births = counted.births } → WereKept layout history history counted books →
+    WereKept layout history history old books
+WereKept-counted layout history old counted books others kept = record {
+  are = kept.are;
+  pacing = kept.pacing ∙ ap (λ (b : Books). b.pacing) others;
+  told = subst (λ (b : Books). AddsEnds layout history history b.report books.report) others kept.told;
 }
 
 -- and the report has just the ends that came

@@ -11,7 +11,7 @@ use Rattle.tide_model.specs.Numbers.{put_at}
 use Rattle.tide_model.specs.Prefix.{IsPrefix}
 use Rattle.tide_model.specs.Refused.{ShapeLists}
 use Rattle.tide_model.specs.declared.entry.Event.{Event}
-use Rattle.tide_table.proofs.Heeding.{own, at_zero, ok_of, mode_of}
+use Rattle.tide_table.proofs.Heeding.{own, at_zero, keeps_of, ok_of, mode_of}
 use Rattle.tide_heap.proofs.Members.{at_end, each_set, known_as}
 use Rattle.tide_model.specs.History.{is_open}
 use Rattle.tide_model.specs.Since.{since}
@@ -57,6 +57,7 @@ seat_member layout shapes words views log me v k there is who later party = reco
   fresh = λ i h. k.fresh i (let e = ap (λ (x : View). x.next) o in omega (arith, h, later, e));
   strangers = k.strangers;
   members = λ i l. let q = ok_of layout shapes words views log me v k there is i l in record { role = q.role; behind = q.behind; close = q.close; ticket = q.ticket; runs = q.runs; still = q.still; mutator = q.mutator; told = λ e. (let t = q.told e in record { marks = t.marks; cycle = t.cycle; mark_version = t.mark_version; run = t.run }); earlier = q.earlier; heard = q.heard; calls = q.calls; ended = q.ended; halted = q.halted; noted = q.noted; gone = q.gone; over = q.over; leaves = q.leaves; began = q.began; done = q.done };
+  keeps = (let kept = keeps_of layout shapes words views log me v k there is in record { noted = kept.noted; gone = kept.gone });
   prefix = subst (λ (x : View). IsPrefix x.seen log) (sym o) k.prefix;
   tip = subst (λ (x : View). (log ≡ x.seen) ⊎ ((i : ℕ) × IsParty layout i × (log ≡ (k.part i).seen))) (sym o) k.tip;
   retired = k.retired;

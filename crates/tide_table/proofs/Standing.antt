@@ -36,6 +36,7 @@ use Rattle.tide_model.specs.Lawful.{IsLawful}
 use Rattle.tide_model.specs.Layout.{Layout}
 use Rattle.tide_model.specs.Pace.{Pace}
 use Rattle.tide_model.specs.Periods.{EndsInTime, next_run, open_count}
+use Rattle.tide_model.specs.Prefix.{prefix_trans}
 use Rattle.tide_model.specs.Refused.{ShapeLists}
 use Rattle.tide_model.specs.Since.{is_end, is_of_freeze, is_of_part}
 use Rattle.tide_model.specs.declared.entry.Entry.{Entry}
@@ -238,6 +239,7 @@ pub HasEnteredVisits-none : (layout : Layout) (shapes : ShapeLists) (v : View) �
     MayEnterVisits layout v → marks_after layout v.seen ≡ false → HasEnteredVisits layout shapes v v
 HasEnteredVisits-none layout shapes v still may rests = record {
   visited = HasVisited-none layout v.run v.seen (λ marks. (let clash : true ≡ false = sym marks ∙ rests in absurd (cc)));
+  told = λ marks. (let clash : true ≡ false = sym marks ∙ rests in absurd (cc));
   wave = subst (FrozenWith layout shapes (heap_of layout v.words) v.seen) (may.rests rests) still.wave;
   entered = may.rests rests;
   words = refl;
@@ -251,15 +253,17 @@ pub HasEnteredVisits-all : (layout : Layout) (shapes : ShapeLists) (v w : View) 
     FrozenWith layout shapes (heap_of layout w.words) w.seen 0 → unentered w.visited ≡ 0 →
     HasEnteredVisits layout shapes v w
 HasEnteredVisits-all layout shapes v w still told marks is wave none =
-    let has : HasEntered v w (visits_told v.visited 0 layout.visitors) 0 =
-    subst (λ (x : View). HasEntered v x (visits_told v.visited 0 layout.visitors) 0) (sym is) (all_entered-has 0 layout.visitors v) in
+    let numbers = visits_told v.visited 0 layout.visitors in
+    let has : HasEntered v w numbers 0 =
+    subst (λ (x : View). HasEntered v x numbers 0) (sym is) (all_entered-has 0 layout.visitors v) in
     record {
       visited = record {
-        visits = visits_told v.visited 0 layout.visitors;
+        visits = numbers;
         entered = has.seen;
         marked = λ also. told.are;
         rests = λ none_marks. (let clash : true ≡ false = sym marks ∙ none_marks in absurd (cc));
       };
+      told = λ also. record { rest = []; joins = append-nil _ ∙ sym has.seen };
       wave = wave;
       entered = none;
       words = has.words;
@@ -347,6 +351,8 @@ module _ (layout : Layout) (shapes : ShapeLists) (v u : View) (still : StandsSti
           rest = rest;
           freezes = visits_make_freeze pace layout (last_run v.seen) v.seen u.seen w.seen is_forced
               (subst (λ (n : ℕ). HasVisited layout n v.seen u.seen) (still.run opened) entered.visited) has;
+          told = λ marks. prefix_trans _ u.seen w.seen (entered.told marks)
+              (record { rest = has.events; joins = sym has.entered });
           next = is_run;
           may = subst (MayOpen layout (heap_of layout w.words)) (sym is_run) follows.may;
         }

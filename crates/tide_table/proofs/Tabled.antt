@@ -100,11 +100,13 @@ module _ (layout : Layout) (shapes : ShapeLists) where
           since = h.3;
           of_part = h.4;
           taken = h.13;
+          swept = h.14;
           births = h.5;
           few = (let same = h.5 in let most = h.6 in omega (arith, same, most));
           gone = h.7;
           heard = h.8;
           own = h.9;
+          all = h.15;
           progress = h.10;
           stops = h.11;
           marks = h.12;
@@ -241,6 +243,7 @@ opens_at layout shapes words limits empty_shape zeros = record {
       began = λ a e. absurd (cc);
       done = λ a e. absurd (cc);
     };
+    keeps = record { noted = λ thawed i a. absurd (cc); gone = λ i a. absurd a };
     prefix = prefix_refl [];
     tip = inl refl;
     retired = λ i e. absurd (cc);

@@ -1,5 +1,5 @@
 -- What the collector's view of a heap has from one freeze to the next.
-use Rattle.std.specs.Prelude.{ℕ, ◌≡◌, ◌+◌, ◌<◌, ◌≤◌, ◌^◌, Bool, true, false, length, List, [], ◌∷◌, ◌++◌}
+use Rattle.std.specs.Prelude.{ℕ, ◌≡◌, ◌+◌, ◌<◌, ◌≤◌, ◌^◌, Bool, true, false, length, map, List, [], ◌∷◌, ◌++◌}
 use Rattle.tide_heap.specs.tide_freeze.Books.{AreBooks}
 use Rattle.tide_heap.specs.tide_freeze.Freezing.{HasFrozenWhole, HasVisited}
 use Rattle.tide_heap.specs.tide_freeze.declared.books.Books.{Books}
@@ -10,18 +10,20 @@ use Rattle.tide_heap.specs.tide_core.machine.Frozen.{FrozenWith, MayOpen}
 use Rattle.tide_heap.specs.tide_core.declared.machine.view.View.{View}
 use Rattle.tide_model.specs.Cycle.{begin_count}
 use Rattle.tide_model.specs.Each.{Each}
-use Rattle.tide_model.specs.Freeze.{marks_after}
+use Rattle.tide_model.specs.Freeze.{marks_after, visits_entries}
 use Rattle.tide_model.specs.History.{plain}
 use Rattle.tide_model.specs.Layout.{Layout}
 use Rattle.tide_model.specs.Pace.{Pace}
 use Rattle.tide_model.specs.Periods.{EndsInTime, next_run, open_count}
+use Rattle.tide_model.specs.Prefix.{IsPrefix}
 use Rattle.tide_model.specs.Refused.{ShapeLists}
 use Rattle.tide_model.specs.declared.entry.Entry.TheVariants.{Open}
 use Rattle.tide_model.specs.declared.entry.Event.{Event}
 use Rattle.tide_sched.specs.Paces.{last_run}
+use Rattle.tide_heap.specs.Turns.{Freezes}
 use Rattle.tide_heap.specs.tide_words.heap.Heap.{SameIn, heap_of}
 use Rattle.tide_heap.specs.tide_words.marking.Colours.{is_black}
-use Rattle.tide_table.specs.VisitsTold.{AreTold, unentered}
+use Rattle.tide_table.specs.VisitsTold.{AreTold, unentered, visits_told}
 
 -- While a part runs the view has the number and the run of the part that was opened last, and the cycles up to there
 -- ended in time.
@@ -72,18 +74,27 @@ pub record HasOpenedNext (layout : Layout) (books : Books) (v w : View) : Type 0
   pub visited : w.visited ≡ []
   pub done : w.done ≡ true
   pub gone : w.gone ≡ v.gone
+  pub seen : w.seen ≡ w.start
+
+-- Where a cycle marks, what a freeze entered first is, of each visitor in the order of their numbers, how many cells its
+-- note told that it made black.
+abbrev pub EntersTold : Layout → View → List Event → Type 0
+EntersTold layout v after = marks_after layout v.seen ≡ true →
+    IsPrefix (v.seen ++ map plain (visits_entries 0 (visits_told v.visited 0 layout.visitors))) after
 
 -- A freeze after the part of `v` did what the schedule asks for, and the next part was opened with as many calls as
 -- that leaves for it.
 pub record HasFrozenNext (pace : Pace) (layout : Layout) (is_forced : Bool) (v w : View) : Type 0 where
   pub frozen : List Event
   pub freezes : HasFrozenWhole pace layout (last_run v.seen) v.seen frozen is_forced
+  pub told : EntersTold layout v frozen
   pub opened : w.start ≡ frozen ++ plain (Open w.period (next_run pace layout frozen)) ∷ []
 
 -- What notes told of visits was entered, if a cycle marks, and nothing else happened: none is left to enter, and the
 -- words meet the wave of the longer history.
 pub record HasEnteredVisits (layout : Layout) (shapes : ShapeLists) (v w : View) : Type 0 where
   pub visited : HasVisited layout v.run v.seen w.seen
+  pub told : EntersTold layout v w.seen
   pub wave : FrozenWith layout shapes (heap_of layout w.words) w.seen 0
   pub entered : unentered w.visited ≡ 0
   pub words : w.words ≡ v.words
@@ -98,5 +109,13 @@ pub record HasCollected (layout : Layout) (shapes : ShapeLists) (pace : Pace) (i
   pub entered : unentered w.visited ≡ 0
   pub rest : LeavesRest v w
   pub freezes : HasFrozenWhole pace layout (last_run v.seen) v.seen w.seen is_forced
+  pub told : EntersTold layout v w.seen
   pub next : run ≡ next_run pace layout w.seen
   pub may : MayOpen layout (heap_of layout w.words) run
+
+-- The part of `v` was frozen, and what the schedule asks for after it was done; no next part was opened.
+pub record HasEndedPart (layout : Layout) (shapes : ShapeLists) (pace : Pace) (is_forced : Bool) (v w : View) : Type 0 where
+  pub frozen : View
+  pub froze : Freezes layout shapes v frozen
+  pub run : ℕ
+  pub collected : HasCollected layout shapes pace is_forced frozen w run

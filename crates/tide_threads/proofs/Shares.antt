@@ -212,7 +212,7 @@ module _ (id : TableId) (layout : Layout) (shapes : ShapeLists) (v0 v1 v2 v3 : V
       (law setting run v0.seen freezes.part (cursors_in xs) (cursors_in zs) (stopped_in ys) settled are
       (subst (IsLawful layout shapes) whole
       (subst (IsLawful layout shapes) (sym (ap (λ (x : View). x.seen) freezes.view)) freezes.wave.lawful))
-      (AllPass-from_list_all (λ (e : Event). is_of_part e.entry) freezes.part freezes.of_part) freezes.taken
+      (AllPass-from_list_all (λ (e : Event). is_of_part e.entry) freezes.part freezes.of_part) freezes.taken freezes.swept
       (subst (λ (h : List Event). AllTookPart setting run v0.seen h (cursors_in xs) (cursors_in zs) (stopped_in ys)) whole
       (took_part ended served))))
     where

@@ -12,4 +12,5 @@ pub mod LiveLaws
 pub mod Parts
 pub mod ReadGraph
 pub mod ReadingLaws
+pub mod RowPlaces
 pub mod WriteLaws

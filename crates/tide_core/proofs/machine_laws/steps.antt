@@ -45,5 +45,4 @@ pub mod OwnState
 pub mod Moments
 pub mod Visiting
 pub mod FieldReads
-pub mod FullWindows
 pub mod MarkingParts

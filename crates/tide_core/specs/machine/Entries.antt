@@ -2,7 +2,7 @@
 use Rattle.std.specs.Int.{bit_at}
 use Rattle.std.specs.Prelude.{ℕ, ◌+◌, ◌*◌, ◌-◌, List, [], ◌∷◌, ◌++◌, length, ◌==◌, if◌then◌else◌, Option, None, Some}
 use Rattle.tide_words.specs.tide_layout.Region.{cell_block_count}
-use Rattle.tide_core.specs.machine.Kind.{Kind, Retire, StoreRegister, StoreCall, LoadStrong, StoreStrong, LoadWeak, StoreWeak, LoadLink, StoreLink, LoadFree, TakeFree, LoadPair, StorePair, StoreGroup, LoadClaim, TakeClaim, Release, LoadElement, StoreElement, TakeArray, StoreStructure, ClaimBlock, GiveBits}
+use Rattle.tide_core.specs.machine.Kind.{Kind, Retire, StoreRegister, StoreCall, LoadStrong, StoreStrong, LoadWeak, StoreWeak, LoadLink, StoreLink, TakeFree, LoadPair, StorePair, StoreGroup, LoadClaim, TakeClaim, Release, LoadElement, StoreElement, TakeArray, StoreStructure, ClaimBlock, GiveBits}
 use Rattle.tide_core.specs.machine.Words.{value_of, value_of_pair}
 use Rattle.tide_model.specs.History.{plain}
 use Rattle.tide_model.specs.Layout.{Layout, array_class_for}
@@ -47,11 +47,6 @@ reply_of_call layout shapes state who o =
 abbrev pub call_of : ℕ → Op → Reply → Option ℕ → Event
 call_of who o reply took = record { entry = Call who o reply; took = took }
 
--- a refusal for want of room, where the word of a block's free cells or arrays shows none
-abbrev pub full_if_empty : ℕ → State → ℕ → Op → Option Event
-full_if_empty word state who o =
-    if word == 0 then Some (call_of who o (Refused (Full (class_taken state who o))) None) else None
-
 -- The entry that a kind makes, by the state before it, who makes it and the word that it finds: each call stands at one
 -- step, and no other step makes an entry.
 abbrev pub entry_of : Layout → ShapeLists → State → ℕ → Kind → ℕ → Option Event
@@ -65,7 +60,6 @@ entry_of layout shapes state who (LoadWeak handle (Some o)) read = Some (call_of
 entry_of layout shapes state who (StoreWeak handle word (Some o)) read = Some (call_of who o Done None)
 entry_of layout shapes state who (LoadLink cell slot (Some o)) read = Some (call_of who o (Seen (value_of read)) None)
 entry_of layout shapes state who (StoreLink cell slot word (Some o)) read = Some (call_of who o Done None)
-entry_of layout shapes state who (LoadFree block (Some o)) read = full_if_empty read state who o
 entry_of layout shapes state who (TakeFree block k (Some o)) read =
     if bit_at read k == 1 then Some (call_of who o (Born (64 * block + k)) None) else None
 entry_of layout shapes state who (LoadPair table place (Some o)) read =

@@ -51,7 +51,7 @@ pub data Kind : Type 0 where
   LoadColour : ℕ → Kind
   Regrey : (cell old cycle : ℕ) → Kind
   PushBit : ℕ → Kind
-  LoadFree : ℕ → Option Op → Kind
+  LoadFree : ℕ → Kind
   TakeFree : ℕ → ℕ → Option Op → Kind
   StoreBorn : ℕ → ℕ → Kind
   -- pairs, groups, claims and transitions
@@ -110,7 +110,7 @@ region_of (StoreLink cell slot word made) = region.Slots
 region_of (LoadColour cell) = region.Colour
 region_of (Regrey cell word cycle) = region.Colour
 region_of (PushBit cell) = region.GreyMutator
-region_of (LoadFree block made) = region.Free
+region_of (LoadFree block) = region.Free
 region_of (TakeFree block k made) = region.Free
 region_of (StoreBorn cell word) = region.Colour
 region_of (LoadPair table place made) = region.Slots
@@ -170,7 +170,7 @@ index_of layout who (StoreLink cell slot word made) = index_of_slot layout cell 
 index_of layout who (LoadColour cell) = cell
 index_of layout who (Regrey cell word cycle) = cell
 index_of layout who (PushBit cell) = block_of_cell cell
-index_of layout who (LoadFree block made) = block
+index_of layout who (LoadFree block) = block
 index_of layout who (TakeFree block k made) = block
 index_of layout who (StoreBorn cell word) = cell
 index_of layout who (LoadPair table place made) = index_of_slot layout table place
@@ -225,7 +225,7 @@ act_of (StoreLink cell slot word made) = Store word
 act_of (LoadColour cell) = Load
 act_of (Regrey cell word cycle) = Exchange word (colour_word cycle Grey)
 act_of (PushBit cell) = Or (bit_of cell)
-act_of (LoadFree block made) = Load
+act_of (LoadFree block) = Load
 act_of (TakeFree block k made) = And (all_but k)
 act_of (StoreBorn cell word) = Store word
 act_of (LoadPair table place made) = Load

@@ -87,8 +87,7 @@ IsAllowed layout shapes w me (StoreLink cell slot word made) = MayStoreLink layo
 IsAllowed layout shapes w me (LoadColour cell) = MayLoadColour layout w me cell
 IsAllowed layout shapes w me (Regrey cell word cycle) = MayRegrey layout w me cell word cycle
 IsAllowed layout shapes w me (PushBit cell) = MayPushBit layout w me cell
-IsAllowed layout shapes w me (LoadFree block made) =
-    MayLoadFree layout shapes w me block (found layout w me (LoadFree block made)) made
+IsAllowed layout shapes w me (LoadFree block) = MayLoadFree layout w me block
 IsAllowed layout shapes w me (TakeFree block k made) =
     MayTakeFree layout shapes w me block k (found layout w me (TakeFree block k made)) made
 IsAllowed layout shapes w me (StoreBorn cell word) = MayStoreBorn layout w me cell word

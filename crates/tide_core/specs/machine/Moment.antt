@@ -1,6 +1,6 @@
 -- What a step tells of the machine at its moment.
 use Rattle.tide_words.specs.marking.Marked.{base_cycle}
-use Rattle.std.specs.Prelude.{ℕ, ◌≡◌, ◌+◌, ◌<◌, ◌≤◌, ◌%◌, ◌^◌, true, false, not, List, [], length, take, filter, Contains, ◌⊎◌, None, Some, if◌then◌else◌}
+use Rattle.std.specs.Prelude.{ℕ, ◌≡◌, ◌+◌, ◌<◌, ◌≤◌, ◌%◌, ◌^◌, true, false, not, List, [], length, filter, Contains, ◌⊎◌, None, Some, if◌then◌else◌}
 use Rattle.tide_words.specs.tide_layout.Region.{block_count}
 use Rattle.tide_words.specs.tide_layout.declared.region.Region.{Region}
 use Rattle.tide_words.specs.tide_layout.declared.region.Region.TheVariants as region
@@ -26,10 +26,12 @@ use Rattle.tide_model.specs.Layout.{Layout, cell_count}
 use Rattle.tide_model.specs.Prefix.{IsPrefix}
 use Rattle.tide_model.specs.References.{IsLive, RefsAreLive}
 use Rattle.tide_model.specs.Refused.{ShapeLists}
-use Rattle.tide_model.specs.Room.{DeadIsTaken, IsAlone, window_start}
+use Rattle.tide_model.specs.Room.{IsAlone, window_start}
 use Rattle.tide_model.specs.Since.{TakenAreSwept, since}
 use Rattle.tide_model.specs.State.{State}
 use Rattle.tide_model.specs.declared.entry.Event.{Event}
+use Rattle.tide_sweep.specs.Clearing.{IsCleared}
+use Rattle.tide_sweep.specs.declared.port.Cleared.{Cleared}
 use Rattle.tide_words.proofs.heap_laws.Frames.{is_read}
 use Rattle.tide_words.specs.heap.Heap.{Heap}
 use Rattle.tide_words.specs.heap.Reading.{ReadsAs}
@@ -85,9 +87,7 @@ pub record Moment (layout : Layout) (shapes : ShapeLists) (v : View) (log : List
   -- of sweeps: what is dead where a cycle marks, the blocks that are cleared, the one whose dead bits it saw, its own
   -- sweep, a word of dead bits that is found, cycles that blocks were taken in, and the sweeps of others
   pub clean : v.runs ≡ true → v.marks ≡ true → IsSwept layout log
-  pub cleared : (block moment : ℕ) → Contains v.cleared (record { block = block; moment = moment }) →
-      (moment ≤ length log)
-      × ((later : ℕ) → moment ≤ later → later ≤ length log → DeadIsTaken layout (take later log) block)
+  pub cleared : (one : Cleared) → Contains v.cleared one → IsCleared layout log one
   pub saw : (saw : Saw) → v.saw ≡ Some saw → (saw.block < block_count layout) ×
       ((settled region.Dead saw.block ≡ saw.word) ⊎ IsTaken words saw.block)
   pub swept : (saw : Saw) (word : ℕ) → v.saw ≡ Some saw → saw.swept ≡ Some word →

@@ -11,7 +11,7 @@ use Rattle.tide_core.specs.machine.kinds.Join.{joined_view}
 use Rattle.tide_core.specs.machine.kinds.LoadAgain.{again_view}
 use Rattle.tide_core.specs.machine.kinds.LoadArray.{scanned_array_view}
 use Rattle.tide_core.specs.machine.kinds.LoadColour.{coloured_view}
-use Rattle.tide_core.specs.machine.kinds.LoadFree.{searched_view}
+use Rattle.tide_core.specs.machine.kinds.LoadFree.{looked_view}
 use Rattle.tide_core.specs.machine.kinds.LoadSlot.{slot_view, scanned_element_view}
 use Rattle.tide_core.specs.machine.kinds.LoadStructure.{structure_view}
 use Rattle.tide_core.specs.machine.kinds.LoadTarget.{target_view}
@@ -61,7 +61,7 @@ changed layout shapes log me (StoreLink cell slot word made) read v = linked_vie
 changed layout shapes log me (LoadColour cell) read v = coloured_view cell read v
 changed layout shapes log me (Regrey cell word cycle) read v = regreyed_view cell word read v
 changed layout shapes log me (PushBit cell) read v = free_of_duty v
-changed layout shapes log me (LoadFree block made) read v = searched_view log block made read v
+changed layout shapes log me (LoadFree block) read v = looked_view log block read v
 changed layout shapes log me (TakeFree block k made) read v = taken_view layout log me block k made read v
 changed layout shapes log me (StoreBorn cell word) read v = free_of_duty v
 changed layout shapes log me (LoadPair table place made) read v = paired_view layout me table place read made v

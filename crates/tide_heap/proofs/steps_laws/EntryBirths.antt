@@ -3,8 +3,8 @@ use Rattle.std.proofs.Common.{ℕ, ◌≡◌, ◌+◌, refl, ap, arith, Bool, tr
 use Rattle.std.proofs.lemmas.Bool.{eq-eqb}
 use Rattle.std.specs.Int.{bit_at}
 use Rattle.std.specs.Prelude.{◌*◌, ◌-◌, ◌==◌, if◌then◌else◌}
-use Rattle.tide_core.specs.machine.Entries.{call_of, entry_of, reply_of_call, refused_or_full, full_if_empty, class_taken}
-use Rattle.tide_core.specs.machine.Kind.{Kind, Retire, StoreRegister, StoreCall, LoadStrong, StoreStrong, LoadWeak, StoreWeak, LoadLink, StoreLink, LoadFree, TakeFree, LoadPair, StorePair, StoreGroup, LoadClaim, TakeClaim, Release, LoadElement, StoreElement, TakeArray, StoreStructure, ClaimBlock, GiveBits}
+use Rattle.tide_core.specs.machine.Entries.{call_of, entry_of, reply_of_call, refused_or_full, class_taken}
+use Rattle.tide_core.specs.machine.Kind.{Kind, Retire, StoreRegister, StoreCall, LoadStrong, StoreStrong, LoadWeak, StoreWeak, LoadLink, StoreLink, TakeFree, LoadPair, StorePair, StoreGroup, LoadClaim, TakeClaim, Release, LoadElement, StoreElement, TakeArray, StoreStructure, ClaimBlock, GiveBits}
 use Rattle.tide_model.specs.History.{plain}
 use Rattle.tide_model.specs.Layout.{Layout}
 use Rattle.tide_model.specs.Refused.{ShapeLists, refusal_of}
@@ -14,20 +14,10 @@ use Rattle.tide_model.specs.declared.entry.Entry.TheVariants.{Taken}
 use Rattle.tide_model.specs.declared.op.Op.{Op}
 use Rattle.tide_model.specs.declared.op.Op.TheVariants as op
 use Rattle.tide_model.specs.declared.op.Refusal.{Refusal}
-use Rattle.tide_model.specs.declared.op.Refusal.TheVariants.{Full}
-use Rattle.tide_model.specs.declared.op.Reply.TheVariants.{Born, Done, Refused}
+use Rattle.tide_model.specs.declared.op.Reply.TheVariants.{Born, Done}
 use Rattle.tide_core.specs.tide_layout.Region.{cell_block_count}
 use Rattle.tide_heap.specs.steps.Works.{born_after, is_work}
 use Rattle.tide_heap.proofs.Births.{IsOwnEntry, births_at, still}
-
-own_if_empty : (word : ℕ) (state : State) (who : ℕ) (o : Op) → IsOwnEntry who (full_if_empty word state who o)
-own_if_empty word state who o = by_test (word == 0)
-  where
-    by_test : (b : Bool) → IsOwnEntry who (if b then Some (call_of who o
-        (Refused
-        (Full (class_taken state who o))) None) else None)
-    by_test true = eq-eqb who who refl
-    by_test false = tt
 
 -- each entry of a work is a call of the one that steps, or has a block taken or swept
 pub entry_own : (layout : Layout) (shapes : ShapeLists) (state : State) (who : ℕ) (kind : Kind) (read : ℕ) →
@@ -41,7 +31,6 @@ entry_own layout shapes state who (LoadWeak handle (Some o)) read works = eq-eqb
 entry_own layout shapes state who (StoreWeak handle word (Some o)) read works = eq-eqb who who refl
 entry_own layout shapes state who (LoadLink cell slot (Some o)) read works = eq-eqb who who refl
 entry_own layout shapes state who (StoreLink cell slot word (Some o)) read works = eq-eqb who who refl
-entry_own layout shapes state who (LoadFree block (Some o)) read works = own_if_empty read state who o
 entry_own layout shapes state who (TakeFree block k (Some o)) read works = by_test (bit_at read k == 1)
   where
     by_test : (b : Bool) → IsOwnEntry who (if b then Some (call_of who o
@@ -85,15 +74,6 @@ call_unborn layout shapes state who op.Collect = refl
 call_unborn layout shapes state who o =
     refused_unborn (refusal_of layout shapes state who o) (class_taken state who o)
 
-empty_unborn : (n word : ℕ) (state : State) (who : ℕ) (o : Op) → n ≡ n + births_at (full_if_empty word state who o)
-empty_unborn n word state who o = by_test (word == 0)
-  where
-    by_test : (b : Bool) → n ≡ n + births_at (if b then Some (call_of who o
-        (Refused
-        (Full (class_taken state who o))) None) else None)
-    by_test true = still n
-    by_test false = still n
-
 -- a step counts a birth just where its entry is one
 pub entry_born : (layout : Layout) (shapes : ShapeLists) (state : State) (who : ℕ) (kind : Kind) (read n : ℕ) →
     born_after kind read n ≡ n + births_at (entry_of layout shapes state who kind read)
@@ -107,7 +87,6 @@ entry_born layout shapes state who (LoadWeak handle (Some o)) read n = still n
 entry_born layout shapes state who (StoreWeak handle word (Some o)) read n = still n
 entry_born layout shapes state who (LoadLink cell slot (Some o)) read n = still n
 entry_born layout shapes state who (StoreLink cell slot word (Some o)) read n = still n
-entry_born layout shapes state who (LoadFree block (Some o)) read n = empty_unborn n read state who o
 entry_born layout shapes state who (TakeFree block k (Some o)) read n = by_test (bit_at read k == 1)
   where
     by_test : (b : Bool) → (if b then n + 1 else n)

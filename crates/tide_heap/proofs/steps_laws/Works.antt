@@ -15,12 +15,13 @@ use Rattle.tide_core.specs.machine.Views.{changed, with_entry, with_own}
 use Rattle.tide_core.specs.declared.machine.view.Duty.TheVariants as duty
 use Rattle.tide_core.specs.declared.machine.view.Role.{Role}
 use Rattle.tide_core.specs.declared.machine.view.View.{View}
-use Rattle.tide_core.specs.machine.kinds.LoadFree.{searched_view, looked_view}
+use Rattle.tide_core.specs.machine.kinds.LoadFree.{looked_view}
 use Rattle.tide_core.specs.machine.kinds.StorePrivateElement.{element_view, stored_element_view}
 use Rattle.tide_core.specs.machine.kinds.StoreStructure.{structured_view}
 use Rattle.tide_core.specs.machine.kinds.SwapGrey.{swapped_view}
 use Rattle.tide_core.specs.machine.kinds.Sweep.{claimed_view, cleared_from, dead_view, saw_word, with_swept}
 use Rattle.tide_core.specs.machine.kinds.TakeArray.{array_view, array_at, grown_view}
+use Rattle.tide_core.specs.tide_sweep.declared.port.Took.TheVariants.{Clean, Mine, Other}
 use Rattle.tide_model.specs.History.{state_after}
 use Rattle.tide_model.specs.Layout.{Layout}
 use Rattle.tide_model.specs.Refused.{ShapeLists}
@@ -93,15 +94,6 @@ mine_after mine (Some event) = with_own mine event
 looked : (log : List Event) (block read : ℕ) (v : View) → core (looked_view log block read v) ≡ core v
 looked log block read v = refl
 
-searched : (log : List Event) (block : ℕ) (made : Option Op) (read : ℕ) (v : View) →
-    core (searched_view log block made read v) ≡ core v
-searched log block None read v = looked log block read v
-searched log block (Some op) read v = by_test (read == 0)
-  where
-    by_test : (b : Bool) → core (if b then record v { owed = []; known = []; full = [] } else v) ≡ core v
-    by_test true = refl
-    by_test false = refl
-
 born_more : (layout : Layout) (log : List Event) (me block k : ℕ) (op : Op) (read : ℕ) (v : View) (b : Bool) →
     core (if b then record (called (owed_register layout me (filled_register op) (Cell (64 * block + k))) v) {
       duty = duty.Born (64 * block + k);
@@ -154,7 +146,7 @@ swapped grey block read v = by_test (read == 0)
 dead_seen : (log : List Event) (block read : ℕ) (v : View) → core (dead_view log block read v) ≡ core v
 dead_seen log block read v = by_test (read == 0)
   where
-    by_test : (b : Bool) → core (if b then cleared_from (length log) block v
+    by_test : (b : Bool) → core (if b then cleared_from Clean (length log) block v
         else record v { saw = Some (record { block = block; word = read; swept = None }) }) ≡ core v
     by_test true = refl
     by_test false = refl
@@ -163,9 +155,9 @@ claimed : (log : List Event) (block old cycle read : ℕ) (v : View) →
     core (claimed_view log block old cycle read v) ≡ core v
 claimed log block old cycle read v = by_test (read == old) (read == cycle)
   where
-    by_test : (took last : Bool) → core (if took then record (cleared_from (length log + 1) block v) {
+    by_test : (took last : Bool) → core (if took then record (cleared_from Mine (length log + 1) block v) {
       sweeping = Some (record { block = block; dead = saw_word v.saw; given = false; zeroed = [] });
-    } else if last then cleared_from (length log) block v else record v { saw = with_swept read v.saw }) ≡ core v
+    } else if last then cleared_from Other (length log) block v else record v { saw = with_swept read v.saw }) ≡ core v
     by_test true last = refl
     by_test false true = refl
     by_test false false = refl
@@ -191,7 +183,7 @@ core_kept layout shapes log me (StoreLink cell slot word made) read v is = refl
 core_kept layout shapes log me (LoadColour cell) read v is = refl
 core_kept layout shapes log me (Regrey cell old cycle) read v is = refl
 core_kept layout shapes log me (PushBit cell) read v is = refl
-core_kept layout shapes log me (LoadFree block made) read v is = searched log block made read v
+core_kept layout shapes log me (LoadFree block) read v is = looked log block read v
 core_kept layout shapes log me (TakeFree block k None) read v is = refl
 core_kept layout shapes log me (TakeFree block k (Some op)) read v is =
     born_more layout log me block k op read v (bit_at read k == 1)

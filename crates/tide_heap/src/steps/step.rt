@@ -22,7 +22,7 @@ pub(crate) enum Step {
     LoadColour(u32),
     Regrey(u32, u64, u64),
     PushBit(u32),
-    LoadFree(u32, Made),
+    LoadFree(u32),
     TakeFree(u32, u32, Made),
     StoreBorn(u32, u64),
     LoadPair(u32, u8, Made),

@@ -10,7 +10,7 @@ use Rattle.tide_mutator.proofs.cells_laws.Looking.{looked_once}
 use Rattle.tide_mutator.specs.cells.Searching.{HasLooked, HasSeen}
 use Rattle.tide_heap.specs.tide_core.machine.Kind.{LoadFree}
 use Rattle.tide_heap.specs.tide_core.machine.Moment.{Moment}
-use Rattle.tide_heap.specs.tide_core.declared.machine.view.Cleared.{Cleared}
+use Rattle.tide_heap.specs.tide_sweep.declared.port.Cleared.{Cleared}
 use Rattle.tide_heap.specs.tide_core.declared.machine.view.FullBlock.{FullBlock}
 use Rattle.tide_heap.specs.tide_core.declared.machine.view.View.{View}
 use Rattle.tide_model.specs.Caller.{IsOwn}
@@ -35,13 +35,13 @@ seen_once layout shapes v u log at index found m block read view = record {
   moment = length log;
   saw = subst (λ (l : List FullBlock). Contains l (record { block = block; moment = length log; word = read }))
       (sym (ap (λ (x : View). x.full) view)) (0, omega arith, refl);
-  late = λ one has. (m.cleared one.block one.moment
-      (subst (λ (l : List Cleared). Contains l one) (ap (λ (x : View). x.cleared) view) has)).0;
+  late = λ one has. (m.cleared one
+      (subst (λ (l : List Cleared). Contains l one) (ap (λ (x : View). x.cleared) view) has)).within;
 }
 
 module _ (layout : Layout) (shapes : ShapeLists) (v : View) (block : ℕ) where
   pub may_load : v.who < layout.mutators → v.runs ≡ true → block < block_count layout →
-      MayStep layout shapes v (LoadFree block None)
+      MayStep layout shapes v (LoadFree block)
   may_load is_mutator runs within w running is = (
     record {
       is_mutator = is_mutator;
@@ -50,7 +50,7 @@ module _ (layout : Layout) (shapes : ShapeLists) (v : View) (block : ℕ) where
     within,
   )
 
-  module _ (read : ℕ) (u : View) (f : Follows layout shapes (LoadFree block None) v read u) where
+  module _ (read : ℕ) (u : View) (f : Follows layout shapes (LoadFree block) v read u) where
     pub looked_free : HasLooked v u
     looked_free = looked_once v u (record { block = block; moment = length f.log; word = read }) read f.view
 

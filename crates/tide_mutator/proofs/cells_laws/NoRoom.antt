@@ -17,6 +17,7 @@ use Rattle.tide_model.specs.Layout.{IsBlockOf, Layout}
 use Rattle.tide_model.specs.Refused.{ShapeLists}
 use Rattle.tide_model.specs.Room.{DeadIsTaken, IsFullBlock, StandsFull, StandsRefused, window_start}
 use Rattle.tide_model.specs.declared.entry.Event.{Event}
+use Rattle.tide_heap.specs.tide_sweep.Clearing.{IsCleared}
 
 module _ (layout : Layout) (shapes : ShapeLists) (w : World) (v : View) (wave : RunningWave layout shapes w)
     (is : w.part v.who ≡ v) (runs : v.runs ≡ true) (none : v.sweeping ≡ None) where
@@ -80,6 +81,10 @@ module _ (layout : Layout) (shapes : ShapeLists) (w : World) (v : View) (wave : 
         clean : (moment : ℕ) → opened ≤ moment → IsCleanBlock layout (state_at layout log moment) block
         clean moment from = part_is_swept layout shapes log wave.lawful wave.part_alone marks_then moment from block
 
+    -- the block is cleared since it was swept between both searches
+    cleared_then : (t : IsSearchedTwice v block) → IsCleared layout log (record { block = block; moment = t.since; took = t.took })
+    cleared_then t = m.cleared (record { block = block; moment = t.since; took = t.took }) t.cleared
+
     -- where none does, it was full when the block was cleared, or nothing was dead there any more
     full_once_cleared : IsSearchedTwice v block → WasFull
     full_once_cleared t = elim (each 64 (omega arith)) [
@@ -89,15 +94,15 @@ module _ (layout : Layout) (shapes : ShapeLists) (w : World) (v : View) (wave : 
           let before = first.1 in (
             t.since,
             omega (arith, start, before),
-            (m.cleared block t.since t.cleared).0,
+            (cleared_then t).within,
             full_of_held layout (state_at layout log t.since) block held,
-            (m.cleared block t.since t.cleared).1 t.since (omega arith) (m.cleared block t.since t.cleared).0,
+            (cleared_then t).taken t.since (omega arith) (cleared_then t).within,
           )
       | inr clean ↦
           let first = of_call 0 (t.later 0 (omega arith)).0 in
           let start = first.of_window in
           let there = first.there in
-          let within = (m.cleared block t.since t.cleared).0 in (
+          let within = (cleared_then t).within in (
             length log,
             omega (arith, start, there),
             omega arith,
@@ -108,7 +113,7 @@ module _ (layout : Layout) (shapes : ShapeLists) (w : World) (v : View) (wave : 
                 block k
                 (clean_between layout log opened wave.part_alone t.since lost.moment since_in_part after at.there block k clean)
                 (held_then k lost)),
-            (m.cleared block t.since t.cleared).1 (length log) within (omega arith),
+            (cleared_then t).taken (length log) within (omega arith),
           )
     ]
       where
@@ -126,7 +131,7 @@ module _ (layout : Layout) (shapes : ShapeLists) (w : World) (v : View) (wave : 
               let (lost, before) = t.earlier n (omega (arith, few)) in
               let at = of_call n lost in
               elim (held_between layout log opened wave.part_alone lost.moment t.since at.of_part before
-              (m.cleared block t.since t.cleared).0 block n (held_then n lost)) [
+              (cleared_then t).within block n (held_then n lost)) [
                 | inr clean ↦ inr clean
                 | inl held ↦ inl (λ k below. elim (cases_lt k n) [
                   | inl less ↦ so_far k less

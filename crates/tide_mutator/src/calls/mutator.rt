@@ -12,7 +12,7 @@ use tide_heap::Claims;
 pub struct Mutator {
     pub(crate) own: OwnPass,
     pub(crate) claims: Claims,
-    /// Where its searches go on in this part.
+    /// Where its searches go on, until a cycle begins or ends.
     pub(crate) cursor: AllocationCursor,
     /// How many calls it made, modulo 2^64.
     pub(crate) calls: u64,

@@ -26,7 +26,7 @@ use Rattle.tide_model.specs.History.{is_call_of, is_open, state_after}
 use Rattle.tide_model.specs.Layout.{Layout}
 use Rattle.tide_model.specs.Prefix.{prefix_refl}
 use Rattle.tide_model.specs.Refused.{ShapeLists}
-use Rattle.tide_model.specs.Since.{TakenAreSwept, since}
+use Rattle.tide_model.specs.Since.{SweptWereTaken, TakenAreSwept, since}
 use Rattle.tide_model.specs.State.{empty_state}
 use Rattle.tide_model.specs.declared.entry.Event.{Event}
 use Rattle.tide_words.proofs.heap_laws.Frames.{ReadsAs-same}
@@ -119,11 +119,15 @@ module _ (layout : Layout) (shapes : ShapeLists) (w : World) (wave : RunningWave
   nobody_sweeps block (p, s) = (let none = wave.parked.sweeping p (parked p) in let is = s.is in absurd (cc))
 
   -- each block that was taken in the part is swept there
-  pub parts_sweep : TakenAreSwept (since is_open w.log)
-  parts_sweep block = elim (wave.sweeps.taken block) [
+  all_swept : TakenAreSwept (since is_open w.log)
+  all_swept block = elim (wave.sweeps.taken block) [
     | inl swept ↦ swept
     | inr sweeps ↦ absurd (nobody_sweeps block sweeps)
   ]
+
+  -- and each sweep in it stands behind such a taking
+  pub parts_sweep : TakenAreSwept (since is_open w.log) × SweptWereTaken (since is_open w.log)
+  parts_sweep = (all_swept, wave.sweeps.swept)
 
   nobody_excuses : (source : ℕ) (place : Place) (cell : ℕ) → IsExcused w.heap w.part source place cell → ⊥
   nobody_excuses source place cell ex = elim ex.excuse [

@@ -34,6 +34,7 @@ use Rattle.tide_model.proofs.OldLaws.{is_full-push, is_old-push, is_spared-push,
 use Rattle.tide_model.proofs.Cycles.{graph_in_span}
 use Rattle.tide_model.proofs.DeadLaws.{WasTaken-before, WasTaken-push}
 use Rattle.tide_model.proofs.Histories.{IsLawful-push, state_after-push, moment_after_last-le}
+use Rattle.tide_model.proofs.PeriodLaws.{Each-nil}
 use Rattle.tide_model.proofs.SinceLaws.{count-push, since-none}
 use Rattle.tide_model.specs.Old.{is_full, is_old, is_spared}
 use Rattle.tide_model.specs.Cycle.{cycle_span, HasDead}
@@ -44,7 +45,7 @@ use Rattle.tide_model.specs.Periods.{open_count}
 use Rattle.tide_model.specs.Prefix.{prefix_trans, prefix_push}
 use Rattle.tide_model.specs.References.{IsLive, RefsAreLive}
 use Rattle.tide_model.specs.Refused.{ShapeLists}
-use Rattle.tide_model.specs.Since.{is_sweep_of, is_taken_of, visits_since}
+use Rattle.tide_model.specs.Since.{SweepsTaken, SweptWereTaken, is_sweep_of, is_taken_of, visits_since}
 use Rattle.tide_model.specs.State.{State, is_free}
 use Rattle.tide_model.specs.declared.entry.Entry.TheVariants.{Open}
 use Rattle.tide_model.specs.declared.entry.Event.{Event}
@@ -267,8 +268,9 @@ module _ (layout : Layout) (shapes : ShapeLists) (heap : Heap) (part : ℕ → V
       taken = λ block. inl (subst (λ (l : List Event). moment_after_last (λ e. is_taken_of block e.entry) l
           ≤ moment_after_last (λ e. is_sweep_of block e.entry) l) (sym (since-none is_open before (plain (Open number run)) refl))
           (omega arith));
-      cleared = λ p block moment is. absurd (nothing (part p).cleared (record { block = block; moment = moment })
-          (empty.cleared p (parked p)) is);
+      took = λ p block s. no_sweep p block s;
+      swept = subst SweptWereTaken (sym (since-none is_open before (plain (Open number run)) refl)) (Each-nil SweepsTaken);
+      cleared = λ p one is. absurd (nothing (part p).cleared one (empty.cleared p (parked p)) is);
     };
     left = subst (WhoLeftIsInactive part) (sym same_state) left;
     scans = record { knows = λ p scan is. no_scan p scan is };

@@ -1,5 +1,5 @@
 -- A participant that owes and holds nothing stops, learns what a ticket says, or hands out its note.
-use Rattle.std.proofs.Common.{ℕ, ◌⊎◌, ◌≡◌, ◌<◌, ◌≤◌, ◌==◌, refl, sym, ◌∙◌, ap, subst, arith, Bool, true, false, List, [], inl, inr, length, None, Some, take}
+use Rattle.std.proofs.Common.{ℕ, ◌⊎◌, ◌≡◌, ◌<◌, ◌==◌, refl, sym, ◌∙◌, ap, subst, arith, Bool, true, false, List, [], inl, inr, None, Some}
 use Rattle.std.proofs.lemmas.Bool.{cases_eq}
 use Rattle.std.specs.Prelude.{Contains, filter, if◌then◌else◌}
 use Rattle.tide_words.specs.tide_layout.declared.region.Region.{Region}
@@ -9,7 +9,7 @@ use Rattle.tide_core.proofs.machine_laws.steps.Lists.{from_none, nothing_in}
 use Rattle.tide_core.proofs.machine_laws.steps.Quiet.{quiet_step}
 use Rattle.tide_core.proofs.machine_laws.steps.Steps.{any_step}
 use Rattle.tide_core.proofs.machine_laws.steps.StopPlaces.{stop_apart}
-use Rattle.tide_core.proofs.machine_laws.steps.SweepsKept.{owed_kept, sweeping_same, sweeps_same}
+use Rattle.tide_core.proofs.machine_laws.steps.SweepsKept.{owed_kept, sweeping_same, sweeps_same, took_kept}
 use Rattle.tide_core.proofs.machine_laws.steps.Waiting.{left_quiet}
 use Rattle.tide_core.proofs.machine_laws.steps.Unsettled.{given_put, unsettles_put}
 use Rattle.tide_core.specs.machine.Duties.{GrowsAndOwes}
@@ -28,7 +28,6 @@ use Rattle.tide_core.specs.machine.points.Sweeps.{IsTaken, SawStands, SweepStand
 use Rattle.tide_core.specs.declared.machine.view.Saw.{Saw}
 use Rattle.tide_core.specs.declared.machine.view.Sweeping.{Sweeping}
 use Rattle.tide_core.specs.machine.kinds.Sweep.{IsSweeping}
-use Rattle.tide_model.specs.Room.{DeadIsTaken}
 use Rattle.tide_model.proofs.ReferenceLaws.{put_at_elim}
 use Rattle.tide_model.specs.History.{state_after, is_call_of}
 use Rattle.tide_model.specs.Layout.{Layout}
@@ -36,6 +35,8 @@ use Rattle.tide_model.specs.Numbers.{put_at}
 use Rattle.tide_model.specs.Prefix.{IsPrefix}
 use Rattle.tide_model.specs.Refused.{ShapeLists}
 use Rattle.tide_model.specs.declared.entry.Event.{Event}
+use Rattle.tide_sweep.specs.Clearing.{IsCleared}
+use Rattle.tide_sweep.specs.declared.port.Cleared.{Cleared}
 use Rattle.tide_words.proofs.heap_laws.HeapLaws.{write-same, write-other_index}
 use Rattle.tide_words.specs.heap.Heap.{Heap, write}
 use Rattle.tide_words.specs.marking.Colours.{running_cycle}
@@ -110,10 +111,10 @@ module _ (layout : Layout) (shapes : ShapeLists) (heap : Heap) (part : ℕ → V
       };
       told = right.told;
       taken = owed_kept part me later log refl right.taken;
-      cleared = each_put (λ p u. (block moment : ℕ) →
-          Contains u.cleared (record { block = block; moment = moment }) → (moment ≤ length log)
-          × ((later : ℕ) → moment ≤ later → later ≤ length log → DeadIsTaken layout (take later log) block)) part me later
-          (λ block moment is. from_none (record { block = block; moment = moment }) is) right.cleared;
+      took = took_kept part me later log refl right.took;
+      swept = right.swept;
+      cleared = each_put (λ p u. (one : Cleared) → Contains u.cleared one → IsCleared layout log one) part me later
+          (λ one is. from_none one is) right.cleared;
     }
       where
         right : SweepsAreRight layout heap part log

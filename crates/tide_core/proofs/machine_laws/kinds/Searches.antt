@@ -1,25 +1,22 @@
 -- The kinds by which a mutator looks for something free, and a take that is lost.
-use Rattle.std.proofs.Common.{ℕ, ◌≡◌, ◌+◌, ◌*◌, ◌<◌, ◌≤◌, ◌==◌, refl, sym, ◌∙◌, ap, subst, arith, Bool, true, false, [], ◌∷◌, inl, inr, Option, Some, None, length}
-use Rattle.std.proofs.lemmas.Bool.{cases_eq, eqb-true, eq-eqb, ne_eqb, eqb-false}
+use Rattle.std.proofs.Common.{ℕ, ◌≡◌, ◌+◌, ◌*◌, ◌<◌, ◌≤◌, ◌==◌, refl, sym, ◌∙◌, ap, subst, arith, Bool, true, false, [], ◌∷◌, inl, inr, Some, None, length}
+use Rattle.std.proofs.lemmas.Bool.{cases_eq, eq-eqb, ne_eqb, eqb-false}
 use Rattle.std.proofs.lemmas.List.Elements.{Contains-append_cases}
 use Rattle.std.proofs.lemmas.Nat.Bits.{bit_at-lt}
 use Rattle.std.specs.Int.{bit_at}
 use Rattle.std.specs.Prelude.{Contains, if◌then◌else◌, bit_and}
 use Rattle.tide_words.proofs.tide_block.BitLaws.{without_bit-is}
 use Rattle.tide_words.specs.tide_layout.declared.region.Region.TheVariants as region
-use Rattle.tide_core.proofs.machine_laws.kinds.Refusals.{leaves_all}
 use Rattle.tide_core.proofs.machine_laws.kinds.Searching.{shown_block, in_window, looks}
 use Rattle.tide_core.proofs.machine_laws.kinds.Takes.{free_is_unowed}
-use Rattle.tide_core.proofs.machine_laws.steps.Frames.{calls_view}
 use Rattle.tide_core.proofs.machine_laws.steps.Growing.{state_at-last}
 use Rattle.tide_core.proofs.machine_laws.steps.Lists.{in_one}
-use Rattle.tide_core.proofs.machine_laws.steps.Loads.{load_same, load_nothing}
 use Rattle.tide_core.proofs.machine_laws.steps.SettledNow.{free_now}
-use Rattle.tide_core.specs.machine.Entries.{class_taken, call_of, added}
+use Rattle.tide_core.specs.machine.Entries.{call_of, added}
 use Rattle.tide_core.specs.machine.Looked.{FreeIsShown}
 use Rattle.tide_core.specs.machine.Kind.{LoadFree, TakeFree}
 use Rattle.tide_core.specs.machine.Machine.{stepped}
-use Rattle.tide_core.specs.machine.May.{MayCall, called}
+use Rattle.tide_core.specs.machine.May.{called}
 use Rattle.tide_core.specs.machine.Owed.{owed_register, filled_register}
 use Rattle.tide_core.specs.machine.RunningWave.{RunningWave}
 use Rattle.tide_core.specs.machine.Views.{with_entry}
@@ -27,8 +24,7 @@ use Rattle.tide_core.specs.machine.Words.{all_but}
 use Rattle.tide_core.specs.machine.World.{World, parties}
 use Rattle.tide_core.specs.declared.machine.view.Duty.TheVariants as duty
 use Rattle.tide_core.specs.declared.machine.view.FullBlock.{FullBlock}
-use Rattle.tide_core.specs.machine.kinds.LoadFree.{MayLoadFree, looked_view}
-use Rattle.tide_model.proofs.ReferenceLaws.{after_call-refused}
+use Rattle.tide_core.specs.machine.kinds.LoadFree.{looked_view}
 use Rattle.tide_model.specs.History.{state_after, state_at}
 use Rattle.tide_model.specs.Layout.{Layout}
 use Rattle.tide_model.specs.Numbers.{put_at}
@@ -36,8 +32,7 @@ use Rattle.tide_model.specs.Refused.{ShapeLists}
 use Rattle.tide_model.specs.Room.{window_start}
 use Rattle.tide_model.specs.State.{State}
 use Rattle.tide_model.specs.declared.op.Op.{Op}
-use Rattle.tide_model.specs.declared.op.Refusal.TheVariants.{Full}
-use Rattle.tide_model.specs.declared.op.Reply.TheVariants.{Born, Refused}
+use Rattle.tide_model.specs.declared.op.Reply.TheVariants.{Born}
 use Rattle.tide_model.specs.declared.val.Val.TheVariants.{Cell}
 use Rattle.tide_words.specs.heap.Heap.{write}
 
@@ -74,36 +69,10 @@ module _ (layout : Layout) (shapes : ShapeLists) (w : World) (me : ℕ) (inside 
         | inr before ↦ wave.kept.full me b moment word before
       ]
 
-  -- the last of the class's blocks shows nothing, and the call is refused
-  pub refused : (o : Op) → MayCall layout shapes w me o (Refused (Full (class_taken state me o))) None →
-      RunningWave layout shapes (record {
-        heap = write w.heap region.Free block read;
-        part = put_at w.part me (with_entry w.log (Some (call_of me o (Refused (Full (class_taken state me o))) None))
-            (called [] (w.part me)));
-        log = added w.log (Some (call_of me o (Refused (Full (class_taken state me o))) None));
-      })
-  refused o may = load_same layout shapes w.heap region.Free block _ _
-      (leaves_all layout shapes w me inside wave o (Refused (Full (class_taken state me o))) may (λ cell. refl)
-      (after_call-refused state me o (Full (class_taken state me o)) None) (w.part me).calls w.heap (λ at index is_read.
-      refl) (λ at index isnt. refl)
-      (calls_view layout w.heap w.heap w.part me _ refl (λ p. refl) wave.calls))
-
-  pub load_free : (made : Option Op) → MayLoadFree layout shapes w me block read made →
-      RunningWave layout shapes (stepped layout shapes w me (LoadFree block made))
-  load_free None may =
+  pub load_free : RunningWave layout shapes (stepped layout shapes w me (LoadFree block))
+  load_free =
       looks layout shapes w me inside wave runs block read (λ k few. ap (λ (x : ℕ). bit_at x k) (sym same_word))
       (record { block = block; moment = length w.log; word = read } ∷ (w.part me).full) finds
-  load_free (Some o) may = by (read == 0) refl
-    where
-      by : (b : Bool) → (read == 0) ≡ b → RunningWave layout shapes (record {
-        heap = write w.heap region.Free block read;
-        part = put_at w.part me (with_entry w.log
-            (if b then Some (call_of me o (Refused (Full (class_taken state me o))) None) else None)
-            (if b then called [] (w.part me) else w.part me));
-        log = added w.log (if b then Some (call_of me o (Refused (Full (class_taken state me o))) None) else None);
-      })
-      by true is = refused o (may.2 (eqb-true read 0 is))
-      by false is = load_nothing layout shapes w me wave region.Free block
 
   -- a take of a bit that isn't set
   pub lost_bit : (k : ℕ) → k < 64 → (bit_at read k == 1) ≡ false →

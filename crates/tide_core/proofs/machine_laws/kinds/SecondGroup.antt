@@ -104,10 +104,8 @@ second_group layout shapes limits empty_shape w me inside wave (Regrey cell old 
     regreyed_or_left layout shapes w me inside wave cell old cycle may
 second_group layout shapes limits empty_shape w me inside wave (PushBit cell) is may =
     bit_pushed_once layout shapes w me inside wave cell may
-second_group layout shapes limits empty_shape w me inside wave (LoadFree block None) is may =
-    load_free layout shapes w me inside wave may.0.runs block None may
-second_group layout shapes limits empty_shape w me inside wave (LoadFree block (Some o)) is may =
-    load_free layout shapes w me inside wave may.0.runs block (Some o) may
+second_group layout shapes limits empty_shape w me inside wave (LoadFree block) is may =
+    load_free layout shapes w me inside wave may.0.runs block
 second_group layout shapes limits empty_shape w me inside wave (TakeFree block k None) is may = absurd may
 second_group layout shapes limits empty_shape w me inside wave (TakeFree block k (Some o)) is may =
     elim (cases_Bool (bit_at (w.heap region.Free block) k == 1)) [

@@ -8,9 +8,10 @@ use Rattle.tide_words.specs.tide_layout.Region.{tag}
 use Rattle.tide_words.specs.tide_layout.Slots.{HasElement, index_of_element}
 use Rattle.tide_words.specs.tide_layout.declared.region.Region.{Region}
 use Rattle.tide_words.specs.tide_layout.declared.region.Region.TheVariants as region
-use Rattle.tide_core.proofs.machine_laws.kinds.SweepingBlocks.{clear_is_clean, clears, right_claimed, right_given, right_on, sees, taken_is_clean, words_claimed}
+use Rattle.tide_core.proofs.machine_laws.kinds.SweepingBlocks.{clears, right_claimed, right_given, right_on, sees, taken_is_told, words_claimed}
 use Rattle.tide_core.proofs.machine_laws.kinds.SweepingWords.{named_finished, named_given, named_zeroed, words_finished, words_given, words_zeroed}
 use Rattle.tide_core.proofs.machine_laws.steps.ArraysKept.{arrays_kept}
+use Rattle.tide_core.proofs.machine_laws.steps.DeadBits.{clear_has_none}
 use Rattle.tide_core.proofs.machine_laws.steps.Frames.{each_put, put_here}
 use Rattle.tide_core.proofs.machine_laws.steps.GrowthsKept.{growth_kept}
 use Rattle.tide_core.proofs.machine_laws.steps.IdleEntries.{idle_entry}
@@ -34,7 +35,7 @@ use Rattle.tide_core.specs.machine.kinds.Sweep.{IsSweeping, MayClaimBlock, MayFi
 use Rattle.tide_core.specs.declared.machine.view.Saw.{Saw}
 use Rattle.tide_core.specs.machine.points.Arrays.{ArrayStands, ArraysStand}
 use Rattle.tide_core.specs.machine.points.SettledWords.{RunningWordsRead}
-use Rattle.tide_core.specs.machine.points.Sweeps.{IsTaken, SawStands, SweptAreBelow}
+use Rattle.tide_core.specs.machine.points.Sweeps.{IsTaken, SawStands, Sweeps, SweptAreBelow}
 use Rattle.tide_model.proofs.Histories.{state_after-push}
 use Rattle.tide_model.proofs.LawfulReferences.{RefsAreLive-event}
 use Rattle.tide_model.proofs.ReferenceLaws.{put_at_elim}
@@ -48,6 +49,7 @@ use Rattle.tide_model.specs.State.{CellState, State, dead, live, spent}
 use Rattle.tide_model.specs.declared.entry.Entry.TheVariants.{Sweep, Taken}
 use Rattle.tide_model.specs.declared.entry.Event.{Event}
 use Rattle.tide_sweep.specs.Zeroed.{IsDeadWord, is_zeroed_region}
+use Rattle.tide_sweep.specs.declared.port.Took.TheVariants.{Clean, Mine, Other}
 use Rattle.tide_words.proofs.heap_laws.Frames.{is_read}
 use Rattle.tide_words.proofs.heap_laws.HeapLaws.{write-other_index, write-other_region, write-same}
 use Rattle.tide_words.specs.forms.Reference.{array_word}
@@ -95,20 +97,20 @@ module _ (layout : Layout) (shapes : ShapeLists) (w : World) (me : ℕ) (inside 
 
       by : (b : Bool) → (w.heap region.Dead block == 0) ≡ b → RunningWave layout shapes (record {
         heap = w.heap;
-        part = put_at w.part me (if b then cleared_from (length w.log) block (w.part me)
+        part = put_at w.part me (if b then cleared_from Clean (length w.log) block (w.part me)
             else record (w.part me) { saw = Some (seen_of block) });
         log = w.log;
       })
       by true is = idle_step layout shapes w me inside wave may.runner.runs idle w.heap (w.part me).sweeping (w.part me).saw
-          (record { block = block; moment = length w.log } ∷ (w.part me).cleared) record {
+          (record { block = block; moment = length w.log; took = Clean } ∷ (w.part me).cleared) record {
             same = λ at index left. refl;
             words = words_stay _ refl refl refl;
             known = wave.kept.known;
             arrays = wave.arrays;
             growths = wave.growths.knows;
             swept = wave.swept;
-            sweeps = clears layout shapes w.heap w.part w.log wave.words wave.sweeps idle me _ block
-                (clear_is_clean layout shapes w.heap w.part w.log wave.words wave.sweeps idle block may.within
+            sweeps = clears layout shapes w.heap w.part w.log wave.words wave.sweeps idle me _ block Clean
+                (clear_has_none layout shapes w.heap w.part state wave.words wave.sweeps.named block
                 (eqb-true (w.heap region.Dead block) 0 is)) refl refl refl refl;
           }
       by false is = idle_step layout shapes w me inside wave may.runner.runs idle w.heap (w.part me).sweeping
@@ -236,6 +238,13 @@ module _ (layout : Layout) (shapes : ShapeLists) (w : World) (me : ℕ) (inside 
       ungiven = t.ungiven;
     }
 
+    -- it sweeps the block that it swept before
+    was : (b : ℕ) → Sweeps later_z b → Sweeps (w.part me) b
+    was b t =
+        let one : Some t.sweeping ≡ Some (record s_z { zeroed = owed_word at index 0 ∷ s_z.zeroed }) = sym t.is ∙ goes_on in
+        let same : t.sweeping ≡ record s_z { zeroed = owed_word at index 0 ∷ s_z.zeroed } = cc in
+        record { sweeping = s_z; is = may.sweeps.is; of_block = sym (ap (λ (o : Sweeping). o.block) same) ∙ t.of_block }
+
     zero_word : RunningWave layout shapes (stepped layout shapes w me (ZeroWord at index))
     zero_word = idle_step layout shapes w me inside wave may.runner.runs idle_z zeroed
         (in_sweep (w.part me).sweeping (λ s_z. record s_z { zeroed = owed_word at index 0 ∷ s_z.zeroed })) (w.part me).saw
@@ -250,7 +259,7 @@ module _ (layout : Layout) (shapes : ShapeLists) (w : World) (me : ℕ) (inside 
               (λ c x o. o) (λ c x o. o) (λ i x o. o) (w.part p).growth (wave.growths.knows p);
           swept = swept_kept layout w.heap zeroed (zero_else region.Phase 0 refl) (λ b within. zero_else region.Swept b refl) wave.swept;
           sweeps = right_on layout shapes w.heap w.part w.log wave.words wave.sweeps idle_z me later_z zeroed (zero_else region.Phase 0 refl)
-              (λ b. zero_else region.Swept b refl) refl still named_now_z;
+              (λ b. zero_else region.Swept b refl) refl still was named_now_z;
         }
 
   -- the bits of what was dead are given
@@ -401,7 +410,7 @@ module _ (layout : Layout) (shapes : ShapeLists) (w : World) (me : ℕ) (inside 
           sweeps = right_on layout shapes w.heap w.part w.log wave.words wave.sweeps idle_f me later_f new_f refl (λ b. refl) refl
               (λ b t. absurd (let one : Some t.sweeping ≡ Some s_f = sym t.is ∙ may.is in let same : t.sweeping ≡ s_f = cc in
               let waits = t.ungiven in let bad : false ≡ true = sym waits ∙ ap (λ (o : Sweeping). o.given) same ∙ may.given in cc))
-              (named_finished layout shapes w.heap w.part state wave.words wave.sweeps.named wave.refs me later_f refl refl refl refl s_f
+              (λ b t. absurd (let none = t.is in cc)) (named_finished layout shapes w.heap w.part state wave.words wave.sweeps.named wave.refs me later_f refl refl refl refl s_f
               may.is may.given refl);
         })
 
@@ -417,7 +426,7 @@ module _ (layout : Layout) (shapes : ShapeLists) (w : World) (me : ℕ) (inside 
     is_last = may.of_last ∙ (wave.numbers.told me may.runner.runs).1
 
     abbrev claims_it : View
-    claims_it = record (cleared_from (length w.log + 1) block (w.part me)) {
+    claims_it = record (cleared_from Mine (length w.log + 1) block (w.part me)) {
       sweeping = Some (record { block = block; dead = saw_word (w.part me).saw; given = false; zeroed = [] });
     }
 
@@ -431,13 +440,13 @@ module _ (layout : Layout) (shapes : ShapeLists) (w : World) (me : ℕ) (inside 
       heap = write w.heap region.Swept block (if b then cycle else w.heap region.Swept block);
       part = put_at w.part me (with_entry w.log (if b then Some (plain (Taken block)) else None)
           (if b then claims_it
-          else if w.heap region.Swept block == cycle then cleared_from (length w.log) block (w.part me)
+          else if w.heap region.Swept block == cycle then cleared_from Other (length w.log) block (w.part me)
           else record (w.part me) { saw = with_swept (w.heap region.Swept block) (w.part me).saw }));
       log = added w.log (if b then Some (plain (Taken block)) else None);
     })
     by true is = idle_entry layout shapes w me inside wave may.runner.runs idle_c (plain (Taken block)) (may.stands same) refl
         (λ who. refl) refl refl refl new_c (Some (record { block = block; dead = saw_word (w.part me).saw; given = false; zeroed = [] }))
-        (w.part me).saw (record { block = block; moment = length w.log + 1 } ∷ (w.part me).cleared) record {
+        (w.part me).saw (record { block = block; moment = length w.log + 1; took = Mine } ∷ (w.part me).cleared) record {
           same = λ r i left. write-other_region w.heap region.Swept r block i cycle
               (ne_eqb (tag r) (tag region.Swept) (λ one. let at = tag-injective r region.Swept one in
               let also = ap is_left at in absurd (cc)));
@@ -488,20 +497,20 @@ module _ (layout : Layout) (shapes : ShapeLists) (w : World) (me : ℕ) (inside 
       where
         found : (b : Bool) → (w.heap region.Swept block == cycle) ≡ b → RunningWave layout shapes (record {
           heap = w.heap;
-          part = put_at w.part me (if b then cleared_from (length w.log) block (w.part me)
+          part = put_at w.part me (if b then cleared_from Other (length w.log) block (w.part me)
               else record (w.part me) { saw = with_swept (w.heap region.Swept block) (w.part me).saw });
           log = w.log;
         })
         found true last = idle_step layout shapes w me inside wave may.runner.runs idle_c w.heap (w.part me).sweeping (w.part me).saw
-            (record { block = block; moment = length w.log } ∷ (w.part me).cleared) record {
+            (record { block = block; moment = length w.log; took = Other } ∷ (w.part me).cleared) record {
               same = λ at index left. refl;
               words = words_stay _ refl refl refl;
               known = wave.kept.known;
               arrays = wave.arrays;
               growths = wave.growths.knows;
               swept = wave.swept;
-              sweeps = clears layout shapes w.heap w.part w.log wave.words wave.sweeps idle_c me _ block
-                  (taken_is_clean layout shapes w.heap w.part w.log wave.words wave.sweeps idle_c block may.within
+              sweeps = clears layout shapes w.heap w.part w.log wave.words wave.sweeps idle_c me _ block Other
+                  (taken_is_told layout shapes w.heap w.part w.log wave.words wave.sweeps idle_c block may.within
                   (let l = may.lower in omega (arith, l, is_last))
                   (eqb-true (w.heap region.Swept block) cycle last ∙ is_last)) refl refl refl refl;
             }

@@ -1,7 +1,7 @@
 -- The steps of a sweep, as far as blocks and the history go: dead bits are loaded, a block is claimed, and what is said
 -- of sweeps after each step.
-use Rattle.std.proofs.Common.{ℕ, ◌≡◌, ◌≢◌, ◌+◌, ◌<◌, ◌≤◌, ◌⊎◌, refl, sym, ◌∙◌, ap, subst, arith, Bool, true, false, List, [], ◌∷◌, ◌++◌, inl, inr, Option, Some, None, length, length-append, take}
-use Rattle.std.proofs.lemmas.Bool.{cases_eq, eq-eqb, ne_eqb}
+use Rattle.std.proofs.Common.{ℕ, ◌≡◌, ◌≢◌, ◌+◌, ◌<◌, ◌≤◌, refl, sym, ◌∙◌, ap, subst, arith, Bool, true, false, List, [], ◌∷◌, ◌++◌, inl, inr, Option, Some, None, length, length-append, take}
+use Rattle.std.proofs.lemmas.Bool.{cases_eq, eq-eqb, eqb-true, ne_eqb}
 use Rattle.std.proofs.lemmas.List.Elements.{Contains-append_cases}
 use Rattle.std.specs.Prelude.{Contains, if◌then◌else◌}
 use Rattle.tide_words.specs.tide_layout.Region.{block_count, tag}
@@ -9,19 +9,17 @@ use Rattle.tide_words.specs.tide_layout.declared.region.Region.{Region}
 use Rattle.tide_words.specs.tide_layout.declared.region.Region.TheVariants as region
 use Rattle.tide_core.proofs.machine_laws.steps.Frames.{each_put, put_here}
 use Rattle.tide_core.proofs.machine_laws.steps.Lists.{nothing_in, in_one}
-use Rattle.tide_core.proofs.machine_laws.steps.SweepsKept.{cleared_kept, cleared_push, named_kept, owed_kept, sweeping_same, sweeps_same, told_kept}
-use Rattle.tide_core.proofs.machine_laws.steps.Unsettled.{own_is_not_dead, unsettled_word}
+use Rattle.tide_core.proofs.machine_laws.steps.SweepsKept.{behind_push, cleared_kept, cleared_push, named_kept, owed_kept, sweeping_same, sweeps_same, told_kept, took_kept, took_push}
 use Rattle.tide_core.specs.machine.Owed.{IsOwnWord, Knows, Owes, Unsettles, owed_word, unsettled}
-use Rattle.tide_core.specs.declared.machine.view.Cleared.{Cleared}
 use Rattle.tide_core.specs.declared.machine.view.Owed.{Owed}
 use Rattle.tide_core.specs.declared.machine.view.Saw.{Saw}
 use Rattle.tide_core.specs.declared.machine.view.Sweeping.{Sweeping}
 use Rattle.tide_core.specs.declared.machine.view.View.{View}
 use Rattle.tide_core.specs.machine.kinds.Sweep.{IsSweeping}
 use Rattle.tide_core.specs.machine.points.SettledWords.{RunningWordsRead}
-use Rattle.tide_core.specs.machine.points.Sweeps.{ClearedAreClean, IsTaken, SawStands, SweepStands, Sweeps, SweepsAreNamed, SweepsAreRight, SweptAreTold}
+use Rattle.tide_core.specs.machine.points.Sweeps.{ClearedAreClean, IsTaken, SawStands, SweepStands, Sweeps, SweepsAreNamed, SweepsAreRight, SweepersTook, SweptAreTold}
 use Rattle.tide_model.proofs.Cycles.{take-all}
-use Rattle.tide_model.proofs.DeadLaws.{TakenAreSwept-now, TakenAreSwept-push, WasTaken-before, WasTaken-now, WasTaken-push}
+use Rattle.tide_model.proofs.DeadLaws.{TakenAreSwept-now, TakenAreSwept-push, WasTaken-before, WasTaken-now, WasTaken-push, taken-now}
 use Rattle.tide_model.proofs.Histories.{state_after-push}
 use Rattle.tide_model.proofs.ReferenceLaws.{put_at_elim}
 use Rattle.tide_model.proofs.SinceLaws.{since-push}
@@ -34,8 +32,11 @@ use Rattle.tide_model.specs.Since.{WasTaken, is_sweep_of, is_taken_of, since}
 use Rattle.tide_model.specs.State.{State}
 use Rattle.tide_model.specs.declared.entry.Entry.TheVariants.{Sweep, Taken}
 use Rattle.tide_model.specs.declared.entry.Event.{Event}
-use Rattle.tide_sweep.proofs.DeadLaws.{dead_word_is_set}
+use Rattle.tide_sweep.specs.Clearing.{IsCleared, TellsTook}
 use Rattle.tide_sweep.specs.Zeroed.{IsDeadWord}
+use Rattle.tide_sweep.specs.declared.port.Cleared.{Cleared}
+use Rattle.tide_sweep.specs.declared.port.Took.{Took}
+use Rattle.tide_sweep.specs.declared.port.Took.TheVariants.{Clean, Mine, Other}
 use Rattle.tide_words.proofs.heap_laws.Frames.{is_read}
 use Rattle.tide_words.proofs.heap_laws.HeapLaws.{write-other_index, write-other_region, write-same}
 use Rattle.tide_words.specs.heap.Heap.{Heap, write}
@@ -47,74 +48,56 @@ module _ (layout : Layout) (shapes : ShapeLists) (heap : Heap) (part : ℕ → V
   abbrev state : State
   state = state_after layout log
 
-  -- where nobody has taken the block, its word of dead bits is settled
-  untaken_settled : (block : ℕ) → (IsTaken heap block → ⊥) → heap region.Dead block ≡ words.settled region.Dead block
-  untaken_settled block untaken = words.same region.Dead block refl (λ p word owes.
-      own_is_not_dead layout state p region.Dead block (words.owns p region.Dead block word owes) refl) nobody
-    where
-      nobody : (p word : ℕ) → Unsettles (part p) region.Dead block word → ⊥
-      nobody p word un = of_case (unsettled_word layout shapes heap part state words right.named p region.Dead block word un)
-        where
-          of_case : (s : Sweeping) × ((part p).sweeping ≡ Some s) ×
-              (((s.given ≡ false) × IsDeadWord layout s.block s.dead region.Dead block × (heap region.Dead block ≡ 0))
-              ⊎ ((s.given ≡ true) × (region.Dead ≡ region.Dead) × (s.block ≡ block))) → ⊥
-          of_case (s, is, inl (waits, none, clear)) = none
-          of_case (s, is, inr (gave, same, at)) =
-              untaken (right.named.taken p block (record { sweeping = s; is = is; of_block = at }))
+  -- what an answer tells of the history as it is says that what is dead in the block was taken
+  dead_is_taken : (took : Took) (history : List Event) (block : ℕ) → TellsTook layout history block took →
+      DeadIsTaken layout history block
+  dead_is_taken Mine history block (before, is) has = subst (λ (l : List Event). WasTaken l block) (sym is)
+      (WasTaken-now before (plain (Taken block)) block (eq-eqb block block refl))
+  dead_is_taken Other history block told has = told
+  dead_is_taken Clean history block told has = absurd (told has)
 
-  -- a word of dead bits that is 0 says that nothing is dead there, or that another sweeps the block
-  pub clear_is_clean : (block : ℕ) → block < block_count layout → heap region.Dead block ≡ 0 → DeadIsTaken layout log block
-  clear_is_clean block within clear has = elim (cases_eq (heap region.Swept block) (running_cycle heap)) [
-    | inl last ↦
-        let taken : IsTaken heap block = (idle, last) in
-        let (p, s) = right.named.named block within taken has in
-        let some = right.named.begun p block (record { sweeping = s.sweeping; is = s.is; of_block = s.of_block }) in
-        (right.told idle some block within).0 taken
-    | inr apart ↦ absurd (dead_word_is_set layout shapes words.settled state words.reads block has
-        (sym (untaken_settled block (λ taken. apart taken.1)) ∙ clear))
-  ]
+  -- a block that was taken is so in the history
+  pub taken_is_told : (block : ℕ) → block < block_count layout → 0 < running_cycle heap →
+      heap region.Swept block ≡ running_cycle heap → WasTaken log block
+  taken_is_told block within some last = (right.told idle some block within).0 (idle, last)
 
-  -- a block that was taken is clean in this sense
-  pub taken_is_clean : (block : ℕ) → block < block_count layout → 0 < running_cycle heap →
-      heap region.Swept block ≡ running_cycle heap → DeadIsTaken layout log block
-  taken_is_clean block within some last has = (right.told idle some block within).0 (idle, last)
+  -- a block is cleared from the end of a history on
+  from_now : (history : List Event) (one : Cleared) → one.moment ≡ length history →
+      TellsTook layout history one.block one.took → IsCleared layout history one
+  from_now history one at_end told = record {
+    within = omega (arith, at_end);
+    taken = λ later from to. subst (λ (n : ℕ). DeadIsTaken layout (take n history) one.block)
+        (omega (arith, from, to, at_end)) (subst (λ (l : List Event). DeadIsTaken layout l one.block) (sym (take-all history))
+        (dead_is_taken one.took history one.block told));
+    told = subst (λ (n : ℕ). TellsTook layout (take n history) one.block one.took) (sym at_end)
+        (subst (λ (l : List Event). TellsTook layout l one.block one.took) (sym (take-all history)) told);
+  }
 
-  -- one more block is cleared, from now on
-  cleared_now : (me : ℕ) (w : View) (block : ℕ) → DeadIsTaken layout log block →
-      w.cleared ≡ record { block = block; moment = length log } ∷ (part me).cleared → ClearedAreClean layout part log →
-      ClearedAreClean layout (put_at part me w) log
-  cleared_now me w block clean is was = each_put (λ p u. (b moment : ℕ) →
-      Contains u.cleared (record { block = b; moment = moment }) → (moment ≤ length log)
-      × ((later : ℕ) → moment ≤ later → later ≤ length log → DeadIsTaken layout (take later log) b)) part me w mine was
-    where
-      fresh : Cleared
-      fresh = record { block = block; moment = length log }
-
-      mine : (b moment : ℕ) → Contains w.cleared (record { block = b; moment = moment }) → (moment ≤ length log)
-          × ((later : ℕ) → moment ≤ later → later ≤ length log → DeadIsTaken layout (take later log) b)
-      mine b moment has = elim (Contains-append_cases (fresh ∷ []) (part me).cleared (record { block = b; moment = moment })
-          (subst (λ (l : List Cleared). Contains l (record { block = b; moment = moment })) is has)) [
-            | inl here ↦ subst (λ (c : Cleared). (c.moment ≤ length log)
-                × ((later : ℕ) → c.moment ≤ later → later ≤ length log → DeadIsTaken layout (take later log) c.block))
-                (in_one fresh (record { block = b; moment = moment }) here) (
-                  omega arith,
-                  λ later from to. subst (λ (n : ℕ). DeadIsTaken layout (take n log) block) (omega (arith, from, to))
-                      (subst (λ (l : List Event). DeadIsTaken layout l block) (sym (take-all log)) clean),
-                )
-            | inr before ↦ was me b moment before
-          ]
+  -- what a view says to be cleared is so where one more is
+  newest : (history : List Event) (w : View) (one : Cleared) (before : List Cleared) → w.cleared ≡ one ∷ before →
+      IsCleared layout history one → ((other : Cleared) → Contains before other → IsCleared layout history other) →
+      (other : Cleared) → Contains w.cleared other → IsCleared layout history other
+  newest history w one before is now earlier other has = elim (Contains-append_cases (one ∷ []) before other
+      (subst (λ (l : List Cleared). Contains l other) is has)) [
+        | inl here ↦ subst (IsCleared layout history) (in_one one other here) now
+        | inr there ↦ earlier other there
+      ]
 
   -- a mutator clears a block, by a load of its word of dead bits or by an exchange that finds it taken
-  pub clears : (me : ℕ) (w : View) (block : ℕ) → DeadIsTaken layout log block → w.sweeping ≡ (part me).sweeping →
-      w.saw ≡ (part me).saw → w.left ≡ (part me).left →
-      w.cleared ≡ record { block = block; moment = length log } ∷ (part me).cleared →
+  pub clears : (me : ℕ) (w : View) (block : ℕ) (took : Took) → TellsTook layout log block took →
+      w.sweeping ≡ (part me).sweeping → w.saw ≡ (part me).saw → w.left ≡ (part me).left →
+      w.cleared ≡ record { block = block; moment = length log; took = took } ∷ (part me).cleared →
       SweepsAreRight layout heap (put_at part me w) log
-  clears me w block clean same saw left is = record {
+  clears me w block took tells same saw left is = record {
     named = named_kept layout heap heap part me w state state refl (λ b. refl) (λ b. refl) (λ p r i x un. refl) same saw (inl left)
         (λ b has. has) right.named;
     told = right.told;
     taken = owed_kept part me w log same right.taken;
-    cleared = cleared_now me w block clean is right.cleared;
+    took = took_kept part me w log same right.took;
+    swept = right.swept;
+    cleared = each_put (λ p u. (one : Cleared) → Contains u.cleared one → IsCleared layout log one) part me w
+        (newest log w (record { block = block; moment = length log; took = took }) (part me).cleared is
+        (from_now log (record { block = block; moment = length log; took = took }) refl tells) (right.cleared me)) right.cleared;
   }
 
   -- it sees something of a block that stands there: its dead bits, or the cycle that it was taken in last
@@ -145,6 +128,8 @@ module _ (layout : Layout) (shapes : ShapeLists) (heap : Heap) (part : ℕ → V
     };
     told = right.told;
     taken = owed_kept part me w log same right.taken;
+    took = took_kept part me w log same right.took;
+    swept = right.swept;
     cleared = cleared_kept layout part me w log is right.cleared;
   }
 
@@ -155,7 +140,7 @@ module _ (layout : Layout) (shapes : ShapeLists) (heap : Heap) (part : ℕ → V
       (owed : w.owed ≡ (part me).owed) (known : w.known ≡ (part me).known) (same_saw : w.saw ≡ (part me).saw)
       (same_left : w.left ≡ (part me).left)
       (later : w.sweeping ≡ Some (record { block = block; dead = word; given = false; zeroed = [] }))
-      (clears_it : w.cleared ≡ record { block = block; moment = length log + 1 } ∷ (part me).cleared) where
+      (clears_it : w.cleared ≡ record { block = block; moment = length log + 1; took = Mine } ∷ (part me).cleared) where
     abbrev claimed : Heap
     claimed = write heap region.Swept block cycle
 
@@ -329,9 +314,15 @@ module _ (layout : Layout) (shapes : ShapeLists) (heap : Heap) (part : ℕ → V
           )
         ]
       ];
-      cleared = each_put (λ p u. (b moment : ℕ) → Contains u.cleared (record { block = b; moment = moment }) →
-          (moment ≤ length longer)
-          × ((n : ℕ) → moment ≤ n → n ≤ length longer → DeadIsTaken layout (take n longer) b)) part me w mine_cleared earlier;
+      took = each_put (λ p u. (b : ℕ) → Sweeps u b →
+          0 < moment_after_last (λ e. is_taken_of b e.entry) (since is_open longer)) part me w
+          (λ b t. subst (λ (l : List Event). 0 < moment_after_last (λ e. is_taken_of b e.entry) l)
+          (sym (since-push is_open log (plain (Taken block)) refl))
+          (taken-now (since is_open log) (plain (Taken block)) b (eq-eqb block b (mine_is b t))))
+          (took_push part log (plain (Taken block)) refl right.took);
+      swept = behind_push log (plain (Taken block)) refl right.swept (λ b sweeps. absurd (cc));
+      cleared = each_put (λ p u. (one : Cleared) → Contains u.cleared one → IsCleared layout longer one) part me w
+          (newest longer w first (part me).cleared clears_it (from_now longer first (sym size) (log, refl)) (earlier me)) earlier;
     }
       where
         earlier : ClearedAreClean layout part longer
@@ -341,25 +332,7 @@ module _ (layout : Layout) (shapes : ShapeLists) (heap : Heap) (part : ℕ → V
         size = length-append log (plain (Taken block) ∷ [])
 
         first : Cleared
-        first = record { block = block; moment = length log + 1 }
-
-        mine_cleared : (b moment : ℕ) → Contains w.cleared (record { block = b; moment = moment }) → (moment ≤ length longer)
-            × ((n : ℕ) → moment ≤ n → n ≤ length longer → DeadIsTaken layout (take n longer) b)
-        mine_cleared b moment has = elim (Contains-append_cases (first ∷ []) (part me).cleared (record { block = b; moment = moment })
-            (subst (λ (l : List Cleared). Contains l (record { block = b; moment = moment })) clears_it has)) [
-              | inl here ↦ subst (λ (c : Cleared). (c.moment ≤ length longer)
-                  × ((n : ℕ) → c.moment ≤ n → n ≤ length longer → DeadIsTaken layout (take n longer) c.block))
-                  (in_one first (record { block = b; moment = moment }) here) (
-                    omega (arith, size),
-                    λ n from to has_dead. subst (λ (l : List Event). WasTaken l block)
-                        (sym (ap (λ (k : ℕ). take k longer) (the_last n from to) ∙ take-all longer))
-                        (WasTaken-now log (plain (Taken block)) block (eq-eqb block block refl)),
-                  )
-              | inr before ↦ earlier me b moment before
-            ]
-          where
-            the_last : (n : ℕ) → length log + 1 ≤ n → n ≤ length longer → n ≡ length longer
-            the_last n from to = omega (arith, from, to, size)
+        first = record { block = block; moment = length log + 1; took = Mine }
 
   -- the bits of a block are given: the history has it swept. What the words and views say is taken as shown
   module _ (me : ℕ) (w : View) (new : Heap) (s : Sweeping) (is : (part me).sweeping ≡ Some s)
@@ -389,14 +362,30 @@ module _ (layout : Layout) (shapes : ShapeLists) (heap : Heap) (part : ℕ → V
           )
         ]
       ];
+      took = each_put (λ p u. (b : ℕ) → Sweeps u b →
+          0 < moment_after_last (λ e. is_taken_of b e.entry) (since is_open (log ++ plain (Sweep s.block) ∷ []))) part me w
+          (λ b t. longer_took me b (still_mine b t)) longer_took;
+      swept = behind_push log (plain (Sweep s.block)) refl right.swept (λ b sweeps.
+          right.took me b (record { sweeping = s; is = is; of_block = eqb-true s.block b sweeps }));
       cleared = cleared_kept layout part me w (log ++ plain (Sweep s.block) ∷ []) same_cleared
           (cleared_push layout part log (plain (Sweep s.block)) refl right.cleared);
     }
+      where
+        longer_took : SweepersTook part (log ++ plain (Sweep s.block) ∷ [])
+        longer_took = took_push part log (plain (Sweep s.block)) refl right.took
+
+        -- it goes on with the block that it swept
+        still_mine : (b : ℕ) → Sweeps w b → Sweeps (part me) b
+        still_mine b t =
+            let one : Some t.sweeping ≡ Some (record s { given = true }) = sym t.is ∙ gave in
+            let same : t.sweeping ≡ record s { given = true } = cc in
+            record { sweeping = s; is = is; of_block = sym (ap (λ (o : Sweeping). o.block) same) ∙ t.of_block }
 
   -- a step that makes no entry, and goes on with its sweep or finishes it
   module _ (me : ℕ) (w : View) (new : Heap) (phase : new region.Phase 0 ≡ heap region.Phase 0)
       (swept_words : (b : ℕ) → new region.Swept b ≡ heap region.Swept b) (same_cleared : w.cleared ≡ (part me).cleared)
       (still : (b : ℕ) → IsSweeping (part me) b → IsSweeping w b)
+      (was : (b : ℕ) → Sweeps w b → Sweeps (part me) b)
       (named : SweepsAreNamed layout new (put_at part me w) state) where
     pub right_on : SweepsAreRight layout new (put_at part me w) log
     right_on = record {
@@ -410,5 +399,9 @@ module _ (layout : Layout) (shapes : ShapeLists) (heap : Heap) (part : ℕ → V
               (λ p other t. t) owes.0 owes.1,
         )
       ];
+      took = each_put (λ p u. (b : ℕ) → Sweeps u b →
+          0 < moment_after_last (λ e. is_taken_of b e.entry) (since is_open log)) part me w
+          (λ b t. right.took me b (was b t)) right.took;
+      swept = right.swept;
       cleared = cleared_kept layout part me w log same_cleared right.cleared;
     }

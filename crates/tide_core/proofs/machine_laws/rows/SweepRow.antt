@@ -13,7 +13,6 @@ use Rattle.tide_core.specs.machine.Kind.{ClaimBlock, Finish, GiveBits, LoadDead,
 use Rattle.tide_core.specs.machine.Machine.{IsAllowed, stepped}
 use Rattle.tide_core.specs.machine.Owed.{owed_word}
 use Rattle.tide_core.specs.machine.World.{World}
-use Rattle.tide_core.specs.declared.machine.view.Cleared.{Cleared}
 use Rattle.tide_core.specs.declared.machine.view.Owed.{Owed}
 use Rattle.tide_core.specs.declared.machine.view.Sweeping.{Sweeping}
 use Rattle.tide_core.specs.declared.machine.view.View.{View}
@@ -31,7 +30,11 @@ use Rattle.tide_model.specs.declared.entry.Entry.TheVariants.{Begin, Call, End, 
 use Rattle.tide_model.specs.declared.entry.Event.{Event}
 use Rattle.tide_model.specs.declared.op.Op.TheVariants.{Alloc, Drop, Move}
 use Rattle.tide_model.specs.declared.op.Reply.TheVariants.{Born, Done}
+use Rattle.tide_sweep.specs.Clearing.{IsCleared}
 use Rattle.tide_sweep.specs.Zeroed.{IsDeadWord}
+use Rattle.tide_sweep.specs.declared.port.Cleared.{Cleared}
+use Rattle.tide_sweep.specs.declared.port.Took.{Took}
+use Rattle.tide_sweep.specs.declared.port.Took.TheVariants.{Clean, Mine}
 use Rattle.tide_words.proofs.heap_laws.HeapLaws.{write-other_index}
 use Rattle.tide_words.specs.heap.EmptyHeap.{empty_heap}
 use Rattle.tide_words.specs.heap.Heap.{Heap, write}
@@ -286,35 +289,45 @@ taken-unowed point = elim (point 0) [
 
 -- what a view's cleared blocks have to be
 abbrev SaysCleared : ℕ → View → Type 0
-SaysCleared p v = (block moment : ℕ) → Contains v.cleared (record { block = block; moment = moment }) →
-    (moment ≤ length claimed.log) × ((later : ℕ) → moment ≤ later → later ≤ length claimed.log →
-    DeadIsTaken small (take later claimed.log) block)
+SaysCleared p v = (one : Cleared) → Contains v.cleared one → IsCleared small claimed.log one
 
--- from the claim on the block is cleared, and not before
+-- a block that is cleared with this answer, at this moment
+abbrev block_0 : ℕ → Took → Cleared
+block_0 moment took = record { block = 0; moment = moment; took = took }
+
+-- from the claim on the block is cleared, as one that the claimant took, and not before
 claimed-cleared : ClearedAreClean small claimed.part claimed.log
 claimed-cleared = put_at_elim SaysCleared loaded.part 0 (claimed.part 0) here
     (λ p apart. put_at_elim SaysCleared idle.part 0 (loaded.part 0) (none 0 (loaded.part 0) refl)
     (λ q other. put_at_elim SaysCleared newcomer 0 mutator (none 0 mutator refl) (λ r last. none r (newcomer r) refl) q) p)
   where
     none : (p : ℕ) (v : View) → v.cleared ≡ [] → SaysCleared p v
-    none p v is block moment has = absurd (nothing_in (record { block = block; moment = moment })
-        (subst (λ (l : List Cleared). Contains l (record { block = block; moment = moment })) is has))
+    none p v is one has = absurd (nothing_in one (subst (λ (l : List Cleared). Contains l one) is has))
 
     here : SaysCleared 0 (claimed.part 0)
-    here block moment has =
-        let same = in_one (record { block = 0; moment = 8 }) (record { block = block; moment = moment }) has in
-        let first = ap (λ (c : Cleared). c.block) same in
-        let last = ap (λ (c : Cleared). c.moment) same in (
-          omega (arith, last),
-          λ later early late.
-              let now : 8 ≡ later = omega (arith, last, early, late) in
-              subst (λ (m : ℕ). DeadIsTaken small (take m claimed.log) block) now
-              (subst (λ (b : ℕ). DeadIsTaken small claimed.log b) first (λ dead. omega arith)),
-        )
+    here one has = subst (IsCleared small claimed.log) (in_one (block_0 8 Mine) one has) (record {
+      within = omega arith;
+      taken = λ later early late.
+          let now : 8 ≡ later = omega (arith, early, late) in
+          subst (λ (m : ℕ). DeadIsTaken small (take m claimed.log) 0) now whole;
+      told = (loaded.log, refl);
+    })
+      where
+        whole : DeadIsTaken small claimed.log 0
+        whole dead = omega arith
 
-cleared-early : ClearedAreClean small (put_at newcomer 0 (record (newcomer 0) { cleared = record { block = 0; moment = 7 } ∷ [] }))
-    claimed.log → ⊥
-cleared-early point =
-    let (few, from) = point 0 0 7 (is_in_one (record { block = 0; moment = 7 })) in
-    let was = from 7 (omega arith) (omega arith) (dead_cell 0 (omega arith) refl refl) in
+-- what one mutator alone says to be cleared
+abbrev says : Cleared → ℕ → View
+says one = put_at newcomer 0 (record (newcomer 0) { cleared = one ∷ [] })
+
+-- not before the claim, however it is said
+cleared-early : (took : Took) → ClearedAreClean small (says (block_0 7 took)) claimed.log → ⊥
+cleared-early took point =
+    let clear = point 0 (block_0 7 took) (is_in_one (block_0 7 took)) in
+    let was = clear.taken 7 (omega arith) (omega arith) (dead_cell 0 (omega arith) refl refl) in
     omega (arith, was)
+
+-- nor as one of which nothing was dead: a cell is dead there until the bits are given
+cleared-not-clean : ClearedAreClean small (says (block_0 8 Clean)) claimed.log → ⊥
+cleared-not-clean point =
+    (point 0 (block_0 8 Clean) (is_in_one (block_0 8 Clean))).told (dead_cell 0 (omega arith) refl refl)

@@ -16,7 +16,6 @@ use Rattle.tide_core.specs.machine.Owed.{IsOwnWord, owed_word, own_array, own_el
 use Rattle.tide_core.specs.machine.RunningWave.{RunningWave}
 use Rattle.tide_core.specs.machine.Scanning.{Place, slot, property}
 use Rattle.tide_core.specs.machine.World.{World, parties}
-use Rattle.tide_core.specs.declared.machine.view.Cleared.{Cleared}
 use Rattle.tide_core.specs.declared.machine.view.Saw.{Saw}
 use Rattle.tide_core.specs.declared.machine.view.Scan.{Scan}
 use Rattle.tide_core.specs.declared.machine.view.Sweeping.{Sweeping}
@@ -44,6 +43,7 @@ use Rattle.tide_model.specs.Since.{is_end, is_of_part, since}
 use Rattle.tide_model.specs.State.{CellState, State}
 use Rattle.tide_model.specs.declared.entry.Event.{Event}
 use Rattle.tide_model.specs.declared.val.Val.TheVariants.{Cell}
+use Rattle.tide_sweep.specs.declared.port.Cleared.{Cleared}
 use Rattle.tide_words.specs.heap.Heap.{Heap}
 use Rattle.tide_words.specs.marking.Colours.{is_black, is_grey, is_marking, running_cycle}
 use Rattle.tide_words.specs.marking.Marked.{base_cycle, is_marked}

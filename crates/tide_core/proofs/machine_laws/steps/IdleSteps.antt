@@ -11,7 +11,6 @@ use Rattle.tide_core.specs.machine.Scanning.{Place}
 use Rattle.tide_core.specs.machine.Owed.{owed_word}
 use Rattle.tide_core.specs.machine.RunningWave.{RunningWave}
 use Rattle.tide_core.specs.machine.World.{World, parties}
-use Rattle.tide_core.specs.declared.machine.view.Cleared.{Cleared}
 use Rattle.tide_core.specs.declared.machine.view.Saw.{Saw}
 use Rattle.tide_core.specs.declared.machine.view.Scan.{Scan}
 use Rattle.tide_core.specs.declared.machine.view.Sweeping.{Sweeping}
@@ -27,6 +26,7 @@ use Rattle.tide_model.specs.Layout.{Layout, block_of_cell}
 use Rattle.tide_model.specs.Numbers.{put_at}
 use Rattle.tide_model.specs.Refused.{ShapeLists}
 use Rattle.tide_model.specs.State.{State}
+use Rattle.tide_sweep.specs.declared.port.Cleared.{Cleared}
 use Rattle.tide_words.specs.heap.Heap.{Heap}
 use Rattle.tide_words.specs.marking.Colours.{is_grey, is_marking, running_cycle}
 use Rattle.tide_words.specs.marking.Marked.{is_marked}

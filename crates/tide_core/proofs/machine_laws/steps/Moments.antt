@@ -106,8 +106,7 @@ moment_of layout shapes w v at index wave is = record {
   clean = λ runs marks. marking_is_swept layout shapes w.log wave.lawful
       (marks_told true ((sym (wave.numbers.told v.who (ap (λ (x : View). x.runs) is ∙ runs)).0)
       ∙ ap (λ (x : View). x.marks) is ∙ marks));
-  cleared = λ block moment at. wave.sweeps.cleared v.who block moment
-      (subst (λ (x : View). Contains x.cleared (record { block = block; moment = moment })) (sym is) at);
+  cleared = λ one at. wave.sweeps.cleared v.who one (subst (λ (x : View). Contains x.cleared one) (sym is) at);
   saw = λ saw at. let was = wave.sweeps.named.saw v.who saw (ap (λ (x : View). x.saw) is ∙ at) in (was.within, saw_told saw was.dead);
   swept = λ saw word at has. (wave.sweeps.named.saw v.who saw (ap (λ (x : View). x.saw) is ∙ at)).swept word has;
   told = wave.sweeps.told;

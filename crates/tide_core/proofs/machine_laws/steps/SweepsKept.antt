@@ -7,14 +7,13 @@ use Rattle.tide_words.specs.tide_layout.declared.region.Region.{Region}
 use Rattle.tide_words.specs.tide_layout.declared.region.Region.TheVariants as region
 use Rattle.tide_core.proofs.machine_laws.steps.Frames.{each_put}
 use Rattle.tide_core.specs.machine.Owed.{Unsettles, owed_word, unsettled}
-use Rattle.tide_core.specs.declared.machine.view.Cleared.{Cleared}
 use Rattle.tide_core.specs.declared.machine.view.Saw.{Saw}
 use Rattle.tide_core.specs.declared.machine.view.Sweeping.{Sweeping}
 use Rattle.tide_core.specs.declared.machine.view.View.{View}
 use Rattle.tide_core.specs.machine.kinds.Sweep.{IsSweeping}
-use Rattle.tide_core.specs.machine.points.Sweeps.{ClearedAreClean, IsTaken, SawStands, SweepStands, Sweeps, SweepsAreNamed, SweepsAreRight, SweptAreBelow, SweptAreTold, TakenAreOwed}
+use Rattle.tide_core.specs.machine.points.Sweeps.{ClearedAreClean, IsTaken, SawStands, SweepStands, Sweeps, SweepsAreNamed, SweepsAreRight, SweepersTook, SweptAreBelow, SweptAreTold, TakenAreOwed}
 use Rattle.tide_model.proofs.Cycles.{take-all}
-use Rattle.tide_model.proofs.DeadLaws.{DeadIsTaken-push, TakenAreSwept-push, WasTaken-before, WasTaken-push}
+use Rattle.tide_model.proofs.DeadLaws.{DeadIsTaken-push, SweepsTaken-call, SweptWereTaken-push, TakenAreSwept-push, WasTaken-before, WasTaken-push, taken-push}
 use Rattle.tide_model.proofs.Histories.{moment_after_last-le, moment_after_last-push, take-append-short}
 use Rattle.tide_model.proofs.ReferenceLaws.{put_at_elim}
 use Rattle.tide_model.proofs.SinceLaws.{since-push}
@@ -23,11 +22,13 @@ use Rattle.tide_model.specs.History.{is_open, moment_after_last, state_after}
 use Rattle.tide_model.specs.Layout.{Layout}
 use Rattle.tide_model.specs.Numbers.{put_at}
 use Rattle.tide_model.specs.Room.{DeadIsTaken}
-use Rattle.tide_model.specs.Since.{WasTaken, is_call, is_end, is_sweep_of, is_taken_of, since}
+use Rattle.tide_model.specs.Since.{SweepsTaken, SweptWereTaken, WasTaken, is_call, is_end, is_sweep_of, is_taken_of, since}
 use Rattle.tide_model.specs.State.{State}
 use Rattle.tide_model.specs.declared.entry.Entry.{Entry}
 use Rattle.tide_model.specs.declared.entry.Entry.TheVariants.{Call}
 use Rattle.tide_model.specs.declared.entry.Event.{Event}
+use Rattle.tide_sweep.specs.Clearing.{IsCleared, TellsTook}
+use Rattle.tide_sweep.specs.declared.port.Cleared.{Cleared}
 use Rattle.tide_words.specs.heap.Heap.{Heap}
 use Rattle.tide_words.specs.marking.Colours.{is_marking, running_cycle}
 
@@ -185,13 +186,31 @@ owed_kept part me w log same owed block = elim (owed block) [
   )
 ]
 
+-- who sweeps took it in the part, also where the history is longer
+pub took_kept : (part : ℕ → View) (me : ℕ) (w : View) (log : List Event) → w.sweeping ≡ (part me).sweeping →
+    SweepersTook part log → SweepersTook (put_at part me w) log
+took_kept part me w log same took = each_put (λ p u. (block : ℕ) → Sweeps u block →
+    0 < moment_after_last (λ e. is_taken_of block e.entry) (since is_open log)) part me w
+    (λ block s. took me block (sweeps_same (part me) w block same s)) took
+
+pub took_push : (part : ℕ → View) (log : List Event) (event : Event) → is_open event.entry ≡ false →
+    SweepersTook part log → SweepersTook part (log ++ event ∷ [])
+took_push part log event stays took p block s =
+    subst (λ (l : List Event). 0 < moment_after_last (λ e. is_taken_of block e.entry) l) (sym (since-push is_open log event stays))
+    (taken-push (since is_open log) event block (took p block s))
+
+-- each sweep stands behind its taking, also where one more event came
+pub behind_push : (log : List Event) (event : Event) → is_open event.entry ≡ false →
+    SweptWereTaken (since is_open log) → SweepsTaken (since is_open log) event →
+    SweptWereTaken (since is_open (log ++ event ∷ []))
+behind_push log event stays each now =
+    subst SweptWereTaken (sym (since-push is_open log event stays)) (SweptWereTaken-push (since is_open log) event each now)
+
 pub cleared_kept : (layout : Layout) (part : ℕ → View) (me : ℕ) (w : View) (log : List Event) → w.cleared ≡ (part me).cleared →
     ClearedAreClean layout part log → ClearedAreClean layout (put_at part me w) log
-cleared_kept layout part me w log same clean = each_put (λ p u. (block moment : ℕ) →
-    Contains u.cleared (record { block = block; moment = moment }) → (moment ≤ length log)
-    × ((later : ℕ) → moment ≤ later → later ≤ length log → DeadIsTaken layout (take later log) block)) part me w
-    (λ block moment is. clean me block moment
-    (subst (λ (l : List Cleared). Contains l (record { block = block; moment = moment })) same is)) clean
+cleared_kept layout part me w log same clean =
+    each_put (λ p u. (one : Cleared) → Contains u.cleared one → IsCleared layout log one) part me w
+    (λ one is. clean me one (subst (λ (l : List Cleared). Contains l one) same is)) clean
 
 -- a step that makes no entry keeps what is said of sweeps, where it leaves the words of sweeps and its view's
 pub sweeps_kept : (layout : Layout) (old new : Heap) (part : ℕ → View) (me : ℕ) (w : View) (log : List Event) →
@@ -205,28 +224,34 @@ sweeps_kept layout old new part me w log phase words dead zero same saw cleared 
       (inl left) (λ block has. has) right.named;
   told = told_kept layout old new log log phase (λ block within. words block) (λ block. (λ is. is, λ is. is)) right.told;
   taken = owed_kept part me w log same right.taken;
+  took = took_kept part me w log same right.took;
+  swept = right.swept;
   cleared = cleared_kept layout part me w log cleared right.cleared;
 }
 
 -- what is cleared stays so when anything but an end comes
 pub cleared_push : (layout : Layout) (part : ℕ → View) (log : List Event) (event : Event) → is_end event.entry ≡ false →
     ClearedAreClean layout part log → ClearedAreClean layout part (log ++ event ∷ [])
-cleared_push layout part log event no_end clean p block moment is =
-    let was = clean p block moment is in
-    let size = length-append log (event ∷ []) in (
-      omega (arith, was.0, size),
-      λ later from to. elim (cases_eq later (suc (length log))) [
+cleared_push layout part log event no_end clean p one is =
+    let was = clean p one is in
+    let inside = was.within in
+    let size = length-append log (event ∷ []) in record {
+      within = omega (arith, inside, size);
+      taken = λ later from to. elim (cases_eq later (suc (length log))) [
         | inl last ↦
             let whole : take later (log ++ event ∷ []) ≡ log ++ event ∷ [] =
             ap (λ (n : ℕ). take n (log ++ event ∷ [])) (omega (arith, last, size)) ∙ take-all (log ++ event ∷ []) in
-            subst (λ (l : List Event). DeadIsTaken layout l block) (sym whole)
-            (DeadIsTaken-push layout log event block no_end (subst (λ (l : List Event). DeadIsTaken layout l block) (take-all log)
-            (was.1 (length log) was.0 (omega arith))))
+            subst (λ (l : List Event). DeadIsTaken layout l one.block) (sym whole)
+            (DeadIsTaken-push layout log event one.block no_end
+            (subst (λ (l : List Event). DeadIsTaken layout l one.block) (take-all log)
+            (was.taken (length log) inside (omega arith))))
         | inr apart ↦ (let early : later ≤ length log = omega (arith, apart, to, size) in
-            subst (λ (l : List Event). DeadIsTaken layout l block) (sym (take-append-short log (event ∷ []) later early))
-            (was.1 later from early))
-      ],
-    )
+            subst (λ (l : List Event). DeadIsTaken layout l one.block) (sym (take-append-short log (event ∷ []) later early))
+            (was.taken later from early))
+      ];
+      told = subst (λ (l : List Event). TellsTook layout l one.block one.took)
+          (sym (take-append-short log (event ∷ []) one.moment inside)) was.told;
+    }
 
 -- a call leaves what is said of sweeps
 pub sweeps_called : (layout : Layout) (old new : Heap) (part : ℕ → View) (me : ℕ) (w : View) (log : List Event) (event : Event) →
@@ -251,6 +276,8 @@ sweeps_called layout old new part me w log event calls phase words dead_words ze
         (TakenAreSwept-push (since is_open log) event block (takes_none event.entry block calls) swept))
     | inr owes ↦ inr owes
   ]);
+  took = took_kept part me w (log ++ event ∷ []) same (took_push part log event (opens_none event.entry calls) right.took);
+  swept = behind_push log event (opens_none event.entry calls) right.swept (SweepsTaken-call (since is_open log) event calls);
   cleared = cleared_kept layout part me w (log ++ event ∷ []) cleared
       (cleared_push layout part log event (ends_none event.entry calls) right.cleared);
 }

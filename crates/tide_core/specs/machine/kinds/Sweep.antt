@@ -16,20 +16,23 @@ use Rattle.tide_model.specs.Refused.{ShapeLists}
 use Rattle.tide_model.specs.declared.entry.Entry.TheVariants.{Sweep, Taken}
 use Rattle.tide_model.specs.declared.entry.Event.{Event}
 use Rattle.tide_sweep.specs.Zeroed.{IsDeadWord}
+use Rattle.tide_sweep.specs.declared.port.Took.{Took}
+use Rattle.tide_sweep.specs.declared.port.Took.TheVariants.{Clean, Mine, Other}
 
 -- what becomes of a sweep
 abbrev pub in_sweep : Option Sweeping → (Sweeping → Sweeping) → Option Sweeping
 in_sweep None change = None
 in_sweep (Some sweeping) change = Some (change sweeping)
 
--- the block has nothing left to be taken from this moment on
-abbrev pub cleared_from : ℕ → ℕ → View → View
-cleared_from moment block v = record v { cleared = record { block = block; moment = moment } ∷ v.cleared }
+-- the block has nothing left to be taken from this moment on, by what was found
+abbrev pub cleared_from : Took → ℕ → ℕ → View → View
+cleared_from took moment block v =
+    record v { cleared = record { block = block; moment = moment; took = took } ∷ v.cleared }
 
 -- the word of the dead bits is kept, or nothing is dead
 abbrev pub dead_view : List Event → ℕ → ℕ → View → View
 dead_view log block read v =
-    if read == 0 then cleared_from (length log) block v
+    if read == 0 then cleared_from Clean (length log) block v
     else record v { saw = Some (record { block = block; word = read; swept = None }) }
 
 -- the dead bits that were seen last
@@ -46,10 +49,10 @@ with_swept read (Some saw) = Some (record saw { swept = Some read })
 -- any other is kept.
 abbrev pub claimed_view : List Event → ℕ → ℕ → ℕ → ℕ → View → View
 claimed_view log block old cycle read v =
-    if read == old then record (cleared_from (length log + 1) block v) {
+    if read == old then record (cleared_from Mine (length log + 1) block v) {
       sweeping = Some (record { block = block; dead = saw_word v.saw; given = false; zeroed = [] });
     }
-    else if read == cycle then cleared_from (length log) block v
+    else if read == cycle then cleared_from Other (length log) block v
     else record v { saw = with_swept read v.saw }
 
 -- one more of their words is 0

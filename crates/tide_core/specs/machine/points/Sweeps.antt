@@ -1,5 +1,5 @@
 -- Points on sweeps of blocks: which cycle's sweep was taken, who names what is dead, and what a sweeper owes.
-use Rattle.std.specs.Prelude.{ℕ, ◌≡◌, ◌↔◌, ◌⊎◌, ◌<◌, ◌≤◌, true, false, List, length, take, Contains, Some}
+use Rattle.std.specs.Prelude.{ℕ, ◌≡◌, ◌↔◌, ◌⊎◌, ◌<◌, ◌≤◌, true, false, List, Contains, Some}
 use Rattle.tide_words.specs.tide_layout.Region.{block_count}
 use Rattle.tide_words.specs.tide_layout.declared.region.Region.{Region}
 use Rattle.tide_words.specs.tide_layout.declared.region.Region.TheVariants as region
@@ -11,11 +11,12 @@ use Rattle.tide_core.specs.machine.kinds.Sweep.{IsSweeping}
 use Rattle.tide_model.specs.Cycle.{HasDead}
 use Rattle.tide_model.specs.History.{is_open, moment_after_last, state_after}
 use Rattle.tide_model.specs.Layout.{Layout}
-use Rattle.tide_model.specs.Room.{DeadIsTaken}
-use Rattle.tide_model.specs.Since.{WasTaken, is_sweep_of, is_taken_of, since}
+use Rattle.tide_model.specs.Since.{SweptWereTaken, WasTaken, is_sweep_of, is_taken_of, since}
 use Rattle.tide_model.specs.State.{State}
 use Rattle.tide_model.specs.declared.entry.Event.{Event}
+use Rattle.tide_sweep.specs.Clearing.{IsCleared}
 use Rattle.tide_sweep.specs.Zeroed.{IsDeadWord}
+use Rattle.tide_sweep.specs.declared.port.Cleared.{Cleared}
 use Rattle.tide_words.specs.heap.Heap.{Heap}
 use Rattle.tide_words.specs.marking.Colours.{is_marking, running_cycle}
 
@@ -81,16 +82,21 @@ TakenAreOwed part log = (block : ℕ) →
     ≤ moment_after_last (λ event. is_sweep_of block event.entry) (since is_open log))
     ⊎ ((p : ℕ) × IsSweeping (part p) block)
 
--- from the moment on at which a view says a block to be cleared, what is dead there, if anything is, was taken
+-- who sweeps a block took it in the part
+abbrev pub SweepersTook : (ℕ → View) → List Event → Type 0
+SweepersTook part log = (p block : ℕ) → Sweeps (part p) block →
+    0 < moment_after_last (λ event. is_taken_of block event.entry) (since is_open log)
+
+-- Each block that a view says to be cleared is so in the history: from that moment on what is dead there, if anything
+-- is, was taken, and what the view's answer tells was so at that moment.
 abbrev pub ClearedAreClean : Layout → (ℕ → View) → List Event → Type 0
-ClearedAreClean layout part log = (p block moment : ℕ) →
-    Contains (part p).cleared (record { block = block; moment = moment }) →
-    (moment ≤ length log)
-    × ((later : ℕ) → moment ≤ later → later ≤ length log → DeadIsTaken layout (take later log) block)
+ClearedAreClean layout part log = (p : ℕ) (one : Cleared) → Contains (part p).cleared one → IsCleared layout log one
 
 -- all that the wave says of sweeps
 pub record SweepsAreRight (layout : Layout) (heap : Heap) (part : ℕ → View) (log : List Event) : Type 0 where
   pub named : SweepsAreNamed layout heap part (state_after layout log)
   pub told : SweptAreTold layout heap log
   pub taken : TakenAreOwed part log
+  pub took : SweepersTook part log
+  pub swept : SweptWereTaken (since is_open log)
   pub cleared : ClearedAreClean layout part log

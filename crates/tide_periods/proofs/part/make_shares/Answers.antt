@@ -9,7 +9,7 @@ use Rattle.tide_periods.proofs.PartLoops.{IsPartway}
 use Rattle.tide_periods.specs.Part.{RanShare}
 use Rattle.tide_periods.proofs.Freezing.{one_fails}
 use Rattle.tide_periods.proofs.LeftLaws.{claims_after-share, slice_get-set_other, total_by-share}
-use Rattle.tide_periods.proofs.Parting.{AreCursors-share, IsPartway-share}
+use Rattle.tide_periods.proofs.Parting.{AreCursors-share, IsPartway-nothing, IsPartway-share}
 use Rattle.tide_periods.proofs.part.make_shares.Goals as goal
 use Rattle.tide_periods.proofs.part.make_shares.Goals.{then-branch, else-branch}
 
@@ -19,6 +19,17 @@ run_share-requires-clause-cursor g c =
     let cursors = c.loop-cursor.cursors in
     let below : at < length cursors = omega (arith, c.loop-cursor-test.true, c.loop-cursor.auto.cursors) in
     (c.loop-cursor.invariant.cursors.each at (get_or cursors at c.cursor-item.result) (slice_get-get_or cursors at c.cursor-item.result below)).1
+
+pub loop-cursor-init : goal.loop-cursor-init
+loop-cursor-init g c = record {
+  way = IsPartway-nothing (g.T.Recorder.recorded c.args.recorder.now) c.args.run c.requires.settled;
+  left = omega arith;
+  fewer = λ some k x below found stays. absurd (omega (arith, below));
+  later = λ k past. refl;
+  stands = c.requires.stands;
+  scripts = refl;
+  cursors = c.requires.cursors;
+}
 
 pub loop-cursor-preserved : goal.loop-cursor-preserved
 loop-cursor-preserved g c =

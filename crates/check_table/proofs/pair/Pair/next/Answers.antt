@@ -5,8 +5,8 @@ use Rattle.check_table.proofs.Pairing.{all_in, opened_both}
 use Rattle.check_table.specs.Pairs.{gone_if}
 use Rattle.check_table.proofs.pair.Pair.next.Goals as goal
 
-pub next_part-requires : goal.next_part-requires
-next_part-requires c = (let p = c.args.self.now in let s = c.requires.stopped in record {
+pub go_on-requires : goal.go_on-requires
+go_on-requires c = (let p = c.args.self.now in let s = c.requires.stopped in record {
   own = p.own;
   part = s.part.part;
   all = all_in p.heap.key.layout p.collector.seat.me.0.notes p.collector.seat.me.0.gone p.small s.notes;
@@ -18,7 +18,7 @@ returns-clause-opened c =
     let p = c.args.self.now in
     let s = c.requires.stopped in
     opened_both _ p.collector.seat.me.0 s.one s.other c.requires.stay (s.alike ∙ c.requires.stay)
-    (s.gone ∙ ap gone_if c.requires.stay) c.in_ok-next_part.ensures.next
+    (s.gone ∙ ap gone_if c.requires.stay) c.in_ok-go_on.ensures.next
 
 pub returns-clause-calls : goal.returns-clause-calls
 returns-clause-calls c = record { one = refl; other = refl; left = refl }

@@ -1,0 +1,4 @@
+-- The lemmas of this crate.
+pub mod FreezeLaws
+pub mod LogLaws
+pub mod ToldLaws
