@@ -1,1 +1,2 @@
 pub mod visitor_laws
+pub mod weakref_laws

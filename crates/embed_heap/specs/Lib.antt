@@ -1,2 +1,3 @@
 pub mod two_mutators
 pub mod visitor
+pub mod weakref
