@@ -192,6 +192,8 @@ pub fn gone_target_is_no_other_cell(alloc: Global) -> Option<bool> {
     };
     engine.end_job();
     engine.let_go(0);
+    let engine = engine.next_part(true)?;
+    // What the first cycle freed is swept before the second one begins.
     let mut engine = engine.next_part(true)?;
     let is_again = engine.alloc(1) == Reply::Born(0);
     let Ok(found) = engine.make_ref(1) else {
