@@ -1,3 +1,3 @@
 -- The definitions of this crate.
 pub mod Engine
-pub mod Works
+pub mod References

@@ -14,8 +14,10 @@ use Rattle.tide_mutator.specs.owed.Standing.{claims_of}
 use Rattle.atomic_table.specs.Seated.{TableId}
 use Rattle.tide_mutator.specs.calls.Viewed as works
 use Rattle.tide_mutator.specs.declared.calls.mutator.Mutator.{Mutator}
+use Rattle.tide_weakref.proofs.SettingLaws.{alone_then, none_then}
 use Rattle.tide_weakref.specs.Calls.{HasCalled, IsRunning, MakesCalls, more, none}
 use Rattle.tide_weakref.specs.Jobs.{HasKeptJobs}
+use Rattle.tide_weakref.specs.Setting.{SetsNone, SetsAlone, SetsWhatItTakes}
 use Rattle.tide_weakref.specs.Stepping.{HasStepped}
 use Rattle.tide_weakref.specs.Uses.{GoesOn}
 use Rattle.tide_weakref.specs.Viewed.{jobs_of, view_of}
@@ -30,7 +32,7 @@ calls_then layout shapes who seen mine old_seen old_mine new_seen new_mine first
     more op reply (calls_then layout shapes who seen mine old_seen old_mine mid_seen mid_mine first second) call
 
 -- what was seen and made is a beginning of what is seen and made then
-calls_grow : (layout : Layout) (shapes : ShapeLists) (who : ℕ) (seen mine new_seen new_mine : List Event) →
+pub calls_grow : (layout : Layout) (shapes : ShapeLists) (who : ℕ) (seen mine new_seen new_mine : List Event) →
     MakesCalls layout shapes who seen mine new_seen new_mine → IsPrefix seen new_seen × IsPrefix mine new_mine
 calls_grow layout shapes who seen mine new_seen new_mine none = (prefix_refl seen, prefix_refl mine)
 calls_grow layout shapes who seen mine new_seen new_mine (more op reply {old_seen = mid_seen} {old_mine = mid_mine} first call) =
@@ -103,12 +105,27 @@ module _ {id : TableId} {layout : Layout} {shapes : ShapeLists} where
       IsPrefix (works.view_of old).mine (works.view_of new).mine
   stepped_mine old new stepped = called_mine layout shapes (works.view_of old) (works.view_of new) stepped.called
 
+  -- the weak handles that they set
+  pub stepped_none_then : (old mid new : Mutator) → HasStepped id layout shapes old mid → HasStepped id layout shapes mid new →
+      SetsNone (works.view_of old) (works.view_of mid) → SetsNone (works.view_of mid) (works.view_of new) →
+      SetsNone (works.view_of old) (works.view_of new)
+  stepped_none_then old mid new first second = none_then (works.view_of old) (works.view_of mid) (works.view_of new)
+      (stepped_mine old mid first) (stepped_mine mid new second)
+
+  pub stepped_alone_then : (old mid new : Mutator) (handle : ℕ) → HasStepped id layout shapes old mid →
+      HasStepped id layout shapes mid new → SetsAlone (works.view_of old) (works.view_of mid) handle →
+      SetsNone (works.view_of mid) (works.view_of new) → SetsAlone (works.view_of old) (works.view_of new) handle
+  stepped_alone_then old mid new handle first second = alone_then (works.view_of old) (works.view_of mid) (works.view_of new)
+      (stepped_mine old mid first) (stepped_mine mid new second) handle
+
   -- a realm whose mutator made some, and which kept its jobs
   pub worked_by : (old new : Realm) → HasStepped id layout shapes old.mutator new.mutator → GoesOn (jobs_of old) (jobs_of new) →
-      HasKeptJobs layout (view_of new) (jobs_of new) → HasWorked id layout shapes old new
-  worked_by old new stepped goes_on kept = record {
+      SetsWhatItTakes (view_of old) (view_of new) (jobs_of old) (jobs_of new) → HasKeptJobs layout (view_of new) (jobs_of new) →
+      HasWorked id layout shapes old new
+  worked_by old new stepped goes_on sets kept = record {
     seat = stepped.seat;
     called = stepped.called;
     goes_on = goes_on;
+    sets = sets;
     ready = record { running = stepped.running; kept_jobs = kept };
   }

@@ -4,11 +4,14 @@ pub mod CallLaws
 pub mod CalledLaws
 pub mod ClosingLaws
 pub mod EmptyingLaws
+pub mod GoneLaws
 pub mod HandleLaws
 pub mod KeepLaws
+pub mod MadeLaws
 pub mod OfRealm
 pub mod OperationLaws
 pub mod ReadingLaws
+pub mod SettingLaws
 pub mod SparingLaws
 pub mod StandingLaws
 pub mod StepLaws

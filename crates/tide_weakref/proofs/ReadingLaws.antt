@@ -1,6 +1,6 @@
 -- Weak handles are read one after another until one holds no cell.
 use Rattle.std.proofs.Common.{ℕ, zero, suc, ◌≡◌, ◌+◌, arith, refl, sym, ◌∙◌, ap, subst, Bool, true, false, List, [], ◌∷◌, ◌++◌, length, inl, inr, append_assoc}
-use Rattle.std.proofs.lemmas.List.Elements.{Contains-append_left, Contains-push, Contains-push_cases}
+use Rattle.std.proofs.lemmas.List.Elements.{Contains-push, Contains-push_cases}
 use Rattle.std.specs.Option.{is_some}
 use Rattle.std.specs.Prelude.{Contains, Option, None, Some, drop, not, slice_get, take}
 use Rattle.tide_heap.specs.tide_core.declared.machine.view.View.{View}
@@ -15,6 +15,7 @@ use Rattle.tide_model.specs.declared.val.Val.TheVariants.{Empty, Int, Cell}
 use Rattle.tide_weakref.proofs.AimLaws.{cell_in_is}
 use Rattle.tide_weakref.specs.Delivered.{AllHeldCells, IsFirstGone, WasRead}
 use Rattle.tide_weakref.proofs.ClosingLaws.{found_none, spare_before}
+use Rattle.tide_weakref.proofs.MadeLaws.{drop_all, made_more}
 use Rattle.tide_weakref.proofs.WeakLaws.{contains_got}
 use Rattle.tide_weakref.specs.Handles.{IsIn, is_cell}
 use Rattle.tide_weakref.specs.Jobs.{Jobs, OthersSpare, handle_of}
@@ -23,22 +24,6 @@ use Rattle.tide_weakref.specs.Roles.{held_of}
 use Rattle.tide_weakref.specs.declared.weak.Role.{Role}
 use Rattle.tide_weakref.specs.declared.weak.Role.TheVariants.{Reference, Registration}
 use Rattle.tide_weakref.specs.declared.weak.Weak.{Weak}
-
--- what came since a moment is in what came since an earlier one
-drop_all : {X : Type 0} (xs ys : List X) → drop (length xs) (xs ++ ys) ≡ ys
-drop_all [] ys = refl
-drop_all (x ∷ xs) ys = drop_all xs ys
-
--- an event that was made since a moment was so in a longer history, and since an earlier moment
-made_more : (old mid more : List Event) (event : Event) → IsPrefix old mid → IsPrefix mid more →
-    Contains (drop (length old) mid) event → Contains (drop (length old) more) event
-made_more old mid more event first second made =
-    let rest_is : drop (length old) mid ≡ first.rest = ap (λ (l : List Event). drop (length old) l) (sym first.joins) ∙ drop_all old first.rest in
-    let whole : (old ++ first.rest) ++ second.rest ≡ more = ap (λ (l : List Event). l ++ second.rest) first.joins ∙ second.joins in
-    let more_is : drop (length old) more ≡ first.rest ++ second.rest =
-    ap (λ (l : List Event). drop (length old) l) (sym whole ∙ append_assoc old first.rest second.rest) ∙ drop_all old (first.rest ++ second.rest) in
-    subst (λ (l : List Event). Contains l event) (sym more_is)
-    (Contains-append_left first.rest second.rest event (subst (λ (l : List Event). Contains l event) rest_is made))
 
 module _ (v w u : View) where
   -- a handle that was read was read, once more came

@@ -7,6 +7,7 @@ pub mod Jobs
 pub mod Referenced
 pub mod Registered
 pub mod Roles
+pub mod Setting
 pub mod Stepping
 pub mod Uses
 pub mod Viewed

@@ -7,6 +7,7 @@ ghost use Rattle.tide_weakref.specs.Calls.{IsRunning};
 ghost use Rattle.tide_weakref.specs.Delivered.{AllHeldCells, IsDelivered, IsFirstGone};
 ghost use Rattle.tide_weakref.specs.Jobs.{Jobs, KeepsJobs, OthersSpare};
 ghost use Rattle.tide_weakref.specs.Registered.{IsRegistered};
+ghost use Rattle.tide_weakref.specs.Setting.{SetsNone};
 ghost use Rattle.tide_weakref.specs.Stepping.{HasHeldJobs, HasStepped, SameBut, held_in};
 ghost use Rattle.tide_weakref.specs.Roles.{has_token};
 ghost use Rattle.tide_weakref.specs.Uses.{GoesOn};
@@ -40,6 +41,7 @@ fn first_gone<S: ShapeTable, T: Turnstile>(
     ensures stands { (jobs : Jobs) → HasHeldJobs heap.now.key.layout (works.view_of mutator.old) jobs →
         HasHeldJobs heap.now.key.layout (works.view_of mutator.new) jobs }
     ensures others { SameBut heap.now.key.layout scratch (works.view_of mutator.old) (works.view_of mutator.new) }
+    ensures sets { SetsNone (works.view_of mutator.old) (works.view_of mutator.new) }
     ensures found { (jobs : Jobs) → jobs.weak ≡ weaks.now.handles → jobs.uses ≡ weaks.now.uses.items →
         HasHeldJobs heap.now.key.layout (works.view_of mutator.old) jobs → MatchOption result
         (AllHeldCells (works.view_of mutator.old) (works.view_of mutator.new) jobs jobs.uses)

@@ -8,6 +8,7 @@ ghost use Rattle.tide_model.specs.declared.op.Reply.{Reply as ReplyIs};
 ghost use Rattle.tide_model.specs.declared.val.Val.TheVariants.{Empty};
 ghost use Rattle.tide_mutator.specs.calls.Viewed.{view_of};
 ghost use Rattle.tide_weakref.specs.Calls.{IsRunning};
+ghost use Rattle.tide_weakref.specs.Setting.{SetsAlone, SetsNone};
 ghost use Rattle.tide_weakref.specs.Stepping.{HasStepped, LetsStand, LetsStandApart, SameBut, TellsTargets, WasAimed, WasLoaded, cell_seen, held_in, is_of_realm};
 
 use tide_heap::Heap;
@@ -58,6 +59,7 @@ pub(crate) fn let_go<S: ShapeTable, T: Turnstile>(
     ensures emptied { held_in heap.now.key.layout (view_of mutator.new) scratch ≡ Empty }
     ensures others { SameBut heap.now.key.layout scratch (view_of mutator.old) (view_of mutator.new) }
     ensures targets { TellsTargets heap.now.key.layout (view_of mutator.old) (view_of mutator.new) }
+    ensures sets { SetsNone (view_of mutator.old) (view_of mutator.new) }
 {
     step(mutator, heap, Op::Drop { dst: scratch }, turnstile);
 }
@@ -80,6 +82,7 @@ pub(crate) fn load<S: ShapeTable, T: Turnstile>(
         (view_of mutator.old).who (WeakGet scratch handle) reply (view_of mutator.old).seen (view_of mutator.new).seen
         (view_of mutator.old).mine (view_of mutator.new).mine }
     ensures read { WasLoaded heap.now.key.layout (view_of mutator.old) (view_of mutator.new) scratch handle result }
+    ensures sets { SetsNone (view_of mutator.old) (view_of mutator.new) }
 {
     let reply = step(
         mutator,
@@ -110,6 +113,7 @@ pub(crate) fn aim<S: ShapeTable, T: Turnstile>(
     ensures stands { LetsStandApart heap.now.key.layout handle (view_of mutator.old) (view_of mutator.new) }
     ensures others { SameBut heap.now.key.layout scratch (view_of mutator.old) (view_of mutator.new) }
     ensures aimed { WasAimed heap.now.key.layout (view_of mutator.old) (view_of mutator.new) scratch handle src result }
+    ensures sets { SetsAlone (view_of mutator.old) (view_of mutator.new) handle }
 {
     step(
         mutator,

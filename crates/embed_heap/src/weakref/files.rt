@@ -1,9 +1,7 @@
 //! A script's files: the script holds a cell for each, a cache finds that again by a weak reference, and a registry
 //! closes the file once the cell is gone.
-ghost use Rattle.embed_heap.specs.weakref.Works.{Works};
-ghost use Rattle.std.specs.Prelude.{◌≡◌, ◌<◌, IfSome};
-ghost use Rattle.tide.specs.tide_weakref.Uses.{GoesOn, IsReference};
-ghost use Rattle.tide.specs.tide_weakref.Viewed.{jobs_of};
+ghost use Rattle.embed_heap.specs.weakref.References.{HasReference, KeepsReferences};
+ghost use Rattle.std.specs.Prelude.{◌<◌, IfSome};
 
 use crate::weakref::engine::Engine;
 use std::alloc::Global;
@@ -12,11 +10,9 @@ use tide::Val;
 /// Puts the cell in a register into the cache, and has the registry close this file once the cell is gone. Answers the
 /// number of the weak reference.
 fn enter(engine: &mut Engine, src: u8, file: u32) -> Option<u32>
-    requires works { Works engine.old }
     requires register { src < 3 }
-    ensures works { Works engine.new }
-    ensures made { IfSome result (IsReference (jobs_of engine.new.realm)) }
-    ensures goes_on { GoesOn (jobs_of engine.old.realm) (jobs_of engine.new.realm) }
+    ensures made { IfSome result (HasReference engine.new) }
+    ensures keeps { KeepsReferences engine.old engine.new }
 {
     let Ok(r) = engine.make_ref(src) else {
         return None;
@@ -31,9 +27,7 @@ fn enter(engine: &mut Engine, src: u8, file: u32) -> Option<u32>
 
 /// The files that are to be closed now, two at most.
 fn to_close(engine: &mut Engine) -> [Option<u32>; 2]
-    requires works { Works engine.old }
-    ensures works { Works engine.new }
-    ensures goes_on { GoesOn (jobs_of engine.old.realm) (jobs_of engine.new.realm) }
+    ensures keeps { KeepsReferences engine.old engine.new }
 {
     let first = engine.deliver();
     let second = engine.deliver();
@@ -60,8 +54,9 @@ pub fn files_are_closed(alloc: Global) -> Option<bool> {
     engine.alloc(1);
     let engine = engine.next_part(false)?;
     let mut engine = engine.next_part(false)?;
-    let waits = engine.ended() == 2 && to_close(&mut engine) == [None, None];
+    let none = to_close(&mut engine) == [None, None];
+    let waits = engine.ended() == 2;
     let mut engine = engine.next_part(true)?;
     let other = to_close(&mut engine) == [Some(7), None];
-    Some(one && found && lost && waits && other)
+    Some(one && found && lost && none && waits && other)
 }

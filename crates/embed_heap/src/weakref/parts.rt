@@ -1,7 +1,7 @@
 //! The parts of an engine: it starts, and between two parts a cycle runs.
 ghost use Rattle.embed_heap.specs.visitor.Parts.{IsIdleBefore};
 ghost use Rattle.embed_heap.specs.weakref.Engine.{TakesPart};
-ghost use Rattle.embed_heap.specs.weakref.Works.{Works};
+ghost use Rattle.embed_heap.specs.weakref.References.{KeepsReferences};
 ghost use Rattle.std.specs.Prelude.{◌≡◌, ◌<◌, ◌≤◌, false, IfOk, IfSome};
 ghost use Rattle.tide.specs.tide_core.machine.Frozen.{newcomer};
 ghost use Rattle.tide.specs.tide_model.Layout.{Layout as LayoutIs};
@@ -80,7 +80,6 @@ fn start_over(
     pacing: Pacing,
 ) -> Result<Option<Engine>, Memory>
     requires few { (kept ≤ 2) × (refs ≤ 4) }
-    ensures works { IfOk result (λ o. IfSome o Works) }
     ensures fresh { IfOk result (λ o. IfSome o (λ engine. (view_of engine.realm).born ≡ 0)) }
 {
     let layout = heap_layout(1);
@@ -111,7 +110,6 @@ impl Engine {
     /// 0.
     pub fn start(alloc: Global, kept: u16, refs: u16, trigger: u32) -> Option<Engine>
         requires few { (kept ≤ 2) × (refs ≤ 4) }
-        ensures works { IfSome result Works }
         ensures fresh { IfSome result (λ engine. (view_of engine.realm).born ≡ 0) }
     {
         let pacing = Pacing {
@@ -131,9 +129,7 @@ impl Engine {
     /// Ends the part, has a full cycle where it must, else what the schedule asks for, and begins the next part. `None`
     /// where memory is wanting, or no more part can be opened.
     pub fn next_part(self, is_forced: bool) -> Option<Engine>
-        requires works { Works self }
-        ensures works { IfSome result Works }
-        ensures jobs { IfSome result (λ engine. jobs_of engine.realm ≡ jobs_of self.realm) }
+        ensures keeps { IfSome result (KeepsReferences self) }
         ensures fresh { IfSome result (λ engine. (view_of engine.realm).born ≡ 0) }
     {
         let Engine {

@@ -55,14 +55,18 @@ pub fn unregistered_is_not_delivered(alloc: Global) -> Option<bool> {
     let mut engine = Engine::start(alloc, 0, 2, 0)?;
     engine.alloc(0);
     engine.alloc(1);
-    let one = engine.register(0, 7, 1) == Ok(()) && engine.register(1, 8, 1) == Ok(());
-    let both = engine.unregister(1) == 2 && engine.unregister(1) == 0;
-    let other = engine.register(1, 9, 2) == Ok(()) && engine.unregister(1) == 0;
+    let one = engine.register(0, 7, 1) == Ok(());
+    let two = engine.register(1, 8, 1) == Ok(());
+    let both = engine.unregister(1) == 2;
+    let none = engine.unregister(1) == 0;
+    let other = engine.register(1, 9, 2) == Ok(());
+    let still = engine.unregister(1) == 0;
     engine.let_go(0);
     engine.let_go(1);
     let mut engine = engine.next_part(true)?;
-    let delivered = engine.deliver() == Some(9) && engine.deliver().is_none();
-    Some(one && both && other && delivered)
+    let delivered = engine.deliver() == Some(9);
+    let no_more = engine.deliver().is_none();
+    Some(one && two && both && none && other && still && delivered && no_more)
 }
 
 /// A realm with one weak handle refuses a second registration, and each realm one of no cell.
@@ -123,9 +127,10 @@ pub fn old_target_waits_for_a_full_cycle(alloc: Global) -> Option<bool> {
     engine.alloc(1);
     let engine = engine.next_part(false)?;
     let mut engine = engine.next_part(false)?;
-    let early = engine.ended() == 2 && engine.deliver().is_none();
+    let early = engine.deliver().is_none();
+    let waits = engine.ended() == 2;
     let mut engine = engine.next_part(true)?;
-    Some(registered && early && engine.deliver() == Some(7))
+    Some(registered && early && waits && engine.deliver() == Some(7))
 }
 
 /// What was taken back before the cycle isn't delivered after it.
@@ -153,12 +158,13 @@ pub fn delivered_in_order(alloc: Global) -> Option<bool> {
     engine.let_go(1);
     engine.let_go(2);
     let mut engine = engine.next_part(true)?;
-    let two = engine.deliver() == Some(8) && engine.deliver() == Some(9);
+    let one = engine.deliver() == Some(8);
+    let other = engine.deliver() == Some(9);
     let no_more = engine.deliver().is_none();
     engine.let_go(0);
     let mut engine = engine.next_part(true)?;
     let last = engine.deliver() == Some(7);
-    Some(first && second && third && two && no_more && last)
+    Some(first && second && third && one && other && no_more && last)
 }
 
 /// References and registrations are counted together, and what is taken back makes room.
@@ -171,15 +177,16 @@ pub fn each_handle_is_in_use_once(alloc: Global) -> Option<bool> {
     let Ok(other) = engine.make_ref(0) else {
         return None;
     };
-    let registered = engine.register(0, 7, 1) == Ok(()) && engine.register(0, 8, 1) == Ok(());
-    let full = engine.make_ref(0) == Err(WeakRefused::RefsFull)
-        && engine.register(0, 9, 1) == Err(WeakRefused::RefsFull);
+    let registered = engine.register(0, 7, 1) == Ok(());
+    let again = engine.register(0, 8, 1) == Ok(());
+    let full = engine.make_ref(0) == Err(WeakRefused::RefsFull);
+    let full_too = engine.register(0, 9, 1) == Err(WeakRefused::RefsFull);
     let room = engine.unregister(1) == 2;
     let Ok(third) = engine.make_ref(0) else {
         return None;
     };
     let are_others = one != other && third != one && third != other;
-    Some(registered && full && room && are_others)
+    Some(registered && again && full && full_too && room && are_others)
 }
 
 /// A target is gone, and its number is that of another cell: the reference leads to nothing still, also where no cell
@@ -192,6 +199,8 @@ pub fn gone_target_is_no_other_cell(alloc: Global) -> Option<bool> {
     };
     engine.end_job();
     engine.let_go(0);
+    let engine = engine.next_part(true)?;
+    // What the first cycle freed is swept before the second one begins.
     let mut engine = engine.next_part(true)?;
     let is_again = engine.alloc(1) == Reply::Born(0);
     let Ok(found) = engine.make_ref(1) else {

@@ -3,8 +3,9 @@ use Rattle.std.proofs.Common.{refl}
 use Rattle.tide_model.specs.declared.op.Op.TheVariants.{WeakSet}
 use Rattle.tide_mutator.specs.calls.Viewed.{view_of}
 use Rattle.tide_weakref.proofs.AimLaws.{was_aimed}
-use Rattle.tide_weakref.proofs.CalledLaws.{stepped_then}
+use Rattle.tide_weakref.proofs.CalledLaws.{stepped_alone_then, stepped_then}
 use Rattle.tide_weakref.proofs.ClosingLaws.{same_but_all, same_but_then}
+use Rattle.tide_weakref.proofs.SettingLaws.{one_sets}
 use Rattle.tide_weakref.proofs.StandingLaws.{apart_leaves}
 use Rattle.tide_weakref.proofs.StepLaws.{held_now, step_holds, step_set}
 use Rattle.tide_weakref.proofs.stepping.aim.Goals as goal
@@ -38,3 +39,9 @@ returns-clause-aimed g c =
     was_aimed c.args.heap.now.key.layout (g.S.ShapeTable.lists c.args.heap.now.key.shapes) (view_of c.args.mutator.now)
     (view_of c.step.new.mutator) (view_of c.load.new.mutator) c.step.result gets.0 c.args.scratch c.args.src c.args.handle
     c.load.result c.step.ensures.stepped.who c.load.ensures.stepped.who c.step.ensures.makes gets.1 c.load.ensures.read
+
+pub returns-clause-sets : goal.returns-clause-sets
+returns-clause-sets g c =
+    stepped_alone_then c.args.mutator.now c.step.new.mutator c.load.new.mutator c.args.handle c.step.ensures.stepped c.load.ensures.stepped
+    (one_sets c.args.heap.now.key.layout (g.S.ShapeTable.lists c.args.heap.now.key.shapes) (view_of c.args.mutator.now)
+    (view_of c.step.new.mutator) c.step.result c.args.handle c.args.src c.step.ensures.makes) c.load.ensures.sets

@@ -2,6 +2,7 @@
 use Rattle.std.proofs.Common.{refl}
 use Rattle.tide_model.specs.declared.op.Op.TheVariants.{Drop}
 use Rattle.tide_mutator.specs.calls.Viewed.{view_of}
+use Rattle.tide_weakref.proofs.SettingLaws.{one_sets_none}
 use Rattle.tide_weakref.proofs.StepLaws.{step_dropped, step_holds, step_targets}
 use Rattle.tide_weakref.proofs.stepping.let_go.Goals as goal
 
@@ -26,3 +27,8 @@ returns-clause-targets g c = λ jobs.
     step_targets c.args.heap.now.key.layout (g.S.ShapeTable.lists c.args.heap.now.key.shapes) (view_of c.args.mutator.now)
     (view_of c.step.new.mutator) (Drop c.args.scratch) c.step.result c.step.ensures.stepped.who c.step.ensures.makes jobs
     (λ handle. refl)
+
+pub returns-clause-sets : goal.returns-clause-sets
+returns-clause-sets g c =
+    one_sets_none c.args.heap.now.key.layout (g.S.ShapeTable.lists c.args.heap.now.key.shapes) (view_of c.args.mutator.now)
+    (view_of c.step.new.mutator) (Drop c.args.scratch) c.step.result c.step.ensures.makes (λ handle. refl)

@@ -3,6 +3,7 @@ use Rattle.std.proofs.Common.{refl}
 use Rattle.tide_model.specs.declared.op.Op.TheVariants.{WeakGet}
 use Rattle.tide_mutator.specs.calls.Viewed.{view_of}
 use Rattle.tide_weakref.proofs.AimLaws.{was_loaded}
+use Rattle.tide_weakref.proofs.SettingLaws.{one_sets_none}
 use Rattle.tide_weakref.proofs.StepLaws.{step_holds}
 use Rattle.tide_weakref.proofs.stepping.load.Goals as goal
 
@@ -27,3 +28,9 @@ returns-clause-read g c =
     (was_loaded c.args.heap.now.key.layout (g.S.ShapeTable.lists c.args.heap.now.key.shapes) (view_of c.args.mutator.now)
     (view_of c.step-reply.new.mutator) c.step-reply.result c.step-reply.ensures.stepped.who c.args.scratch c.args.handle
     c.cell_seen.result c.cell_seen.ensures c.step-reply.ensures.makes).0
+
+pub returns-clause-sets : goal.returns-clause-sets
+returns-clause-sets g c =
+    one_sets_none c.args.heap.now.key.layout (g.S.ShapeTable.lists c.args.heap.now.key.shapes) (view_of c.args.mutator.now)
+    (view_of c.step-reply.new.mutator) (WeakGet c.args.scratch c.args.handle) c.step-reply.result c.step-reply.ensures.makes
+    (λ handle. refl)

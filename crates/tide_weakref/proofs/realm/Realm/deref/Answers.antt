@@ -1,7 +1,7 @@
 -- What a reference leads to is told, and kept.
 use Rattle.std.proofs.Common.{ℕ, ◌≡◌, ◌+◌, ◌<◌, ◌∙◌, arith, refl, sym, ap, subst}
 use Rattle.std.proofs.lemmas.List.Elements.{All-contains}
-use Rattle.std.specs.Prelude.{None, Ok, Some}
+use Rattle.std.specs.Prelude.{Contains, List, None, Ok, Some}
 use Rattle.tide_model.specs.Layout.{Layout}
 use Rattle.tide_model.specs.Prefix.{prefix_refl}
 use Rattle.tide_model.specs.declared.op.Op.TheVariants.{Drop, Move}
@@ -9,9 +9,10 @@ use Rattle.tide_model.specs.declared.val.Val.{Val}
 use Rattle.tide_model.specs.declared.val.Val.TheVariants.{Cell, Empty}
 use Rattle.tide_mutator.specs.calls.Viewed as works
 use Rattle.tide_weakref.proofs.AimLaws.{cell_in_is}
-use Rattle.tide_weakref.proofs.CalledLaws.{stepped_seen, stepped_then, worked_by}
+use Rattle.tide_weakref.proofs.CalledLaws.{stepped_none_then, stepped_seen, stepped_then, worked_by}
 use Rattle.tide_weakref.proofs.ClosingLaws.{closes_after, found_none, found_target, is_in, put_registers, spare_before}
 use Rattle.tide_weakref.proofs.KeepLaws.{may_is, may_not}
+use Rattle.tide_weakref.proofs.SettingLaws.{one_sets_none, takes_none}
 use Rattle.tide_weakref.proofs.StandingLaws.{goes_keeping, goes_same}
 use Rattle.tide_weakref.proofs.StepLaws.{held_kept, held_now, kept_now, scratch_kept, step_dropped, step_holds, step_moved, step_targets}
 use Rattle.tide_weakref.specs.Dereferenced.{IsDereferenced, gone, kept_full, leads}
@@ -80,7 +81,12 @@ returns-in_default g c =
     record {
       worked = worked_by c.args.self.now _
           (stepped_then c.args.self.now.mutator c.load.new.mutator c.let_go.new.mutator c.load.ensures.stepped later)
-          (goes_same jobs) (kept_now layout u jobs keeps);
+          (goes_same jobs)
+          (takes_none v u jobs jobs (stepped_none_then c.args.self.now.mutator c.load.new.mutator c.let_go.new.mutator
+          c.load.ensures.stepped later c.load.ensures.sets
+          (stepped_none_then c.load.new.mutator c.step.new.mutator c.let_go.new.mutator step.stepped c.let_go.ensures.stepped
+          (one_sets_none layout shapes w x (Drop c.args.dst) c.step.result step.makes (λ h. refl)) c.let_go.ensures.sets))
+          (λ one has. has)) (kept_now layout u jobs keeps);
       keeps_jobs = keeps;
       holds = put_registers layout v u jobs.scratch c.args.dst Empty (scratch_kept layout v jobs kept (c.load.ensures.stepped.own at_w.own))
           c.requires.register.1 c.let_go.ensures.emptied (c.let_go.ensures.others c.args.dst c.requires.register.1 ∙ dropped.0)
@@ -116,7 +122,9 @@ returns-then-not-may_keep g c =
     record {
       worked = worked_by c.args.self.now _
           (stepped_then c.args.self.now.mutator c.load.new.mutator let_go.new.mutator c.load.ensures.stepped let_go.ensures.stepped)
-          (goes_same jobs) closed.kept;
+          (goes_same jobs)
+          (takes_none v u jobs jobs (stepped_none_then c.args.self.now.mutator c.load.new.mutator let_go.new.mutator
+          c.load.ensures.stepped let_go.ensures.stepped c.load.ensures.sets let_go.ensures.sets) (λ one has. has)) closed.kept;
       keeps_jobs = closed.keeps;
       holds = tt;
       answers = λ target has spare.
@@ -182,6 +190,14 @@ returns g c =
       worked = worked_by c.args.self.now _
           (stepped_then c.args.self.now.mutator c.load.new.mutator let_go.new.mutator c.load.ensures.stepped after_w)
           (subst (GoesOn jobs) (sym c.keep.ensures.jobs) (goes_keeping jobs (with_cell jobs.cells c.in-Some.cell)))
+          (takes_none v u jobs now (stepped_none_then c.args.self.now.mutator c.load.new.mutator let_go.new.mutator
+          c.load.ensures.stepped after_w c.load.ensures.sets
+          (stepped_none_then c.load.new.mutator c.keep.new.self.mutator let_go.new.mutator c.keep.ensures.stepped after_x
+          c.keep.ensures.sets
+          (stepped_none_then c.keep.new.self.mutator c.step-2.new.mutator let_go.new.mutator step.stepped let_go.ensures.stepped
+          (one_sets_none layout shapes x y (Move c.args.dst jobs.scratch) c.step-2.result step.makes (λ h. refl))
+          let_go.ensures.sets)))
+          (λ one has. subst (λ (us : List Weak). Contains us one) (ap (λ (j : Jobs). j.uses) c.keep.ensures.jobs) has))
           (kept_now layout u now keeps);
       keeps_jobs = keeps;
       holds = put_registers layout v u jobs.scratch c.args.dst (Cell c.in-Some.cell)

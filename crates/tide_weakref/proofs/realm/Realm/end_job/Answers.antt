@@ -4,9 +4,11 @@ use Rattle.tide_mutator.specs.calls.Viewed as works
 use Rattle.tide_weakref.proofs.CalledLaws.{worked_by}
 use Rattle.tide_weakref.proofs.EmptyingLaws.{kept_nothing}
 use Rattle.tide_weakref.proofs.KeepLaws.{kept_are}
+use Rattle.tide_weakref.proofs.SettingLaws.{takes_none}
 use Rattle.tide_weakref.proofs.StandingLaws.{goes_keeping}
 use Rattle.tide_weakref.proofs.StepLaws.{scratch_kept}
 use Rattle.tide_weakref.specs.Jobs.{HasKeptJobs, Jobs}
+use Rattle.tide_weakref.specs.Setting.{SetsWhatItTakes}
 use Rattle.tide_weakref.specs.Uses.{GoesOn}
 use Rattle.tide_weakref.specs.Viewed.{jobs_of, view_of}
 use Rattle.tide_weakref.proofs.realm.Realm.end_job.Goals as goal
@@ -35,6 +37,7 @@ returns g c =
     let few = kept.keeps.holds.within.cells in
     record {
       worked = worked_by c.args.self.now _ c.empty.ensures.stepped (subst (GoesOn jobs) (sym same) (goes_keeping jobs []))
+          (subst (SetsWhatItTakes v u jobs) (sym same) (takes_none v u jobs none c.empty.ensures.sets (λ one has. has)))
           (subst (HasKeptJobs layout u) (sym same) (c.empty.ensures.kept_jobs none refl (kept_nothing layout v jobs kept)));
       registers = c.empty.ensures.registers;
       emptied = λ spare place below. c.empty.ensures.emptied jobs refl (omega (arith, few, count)) spare

@@ -3,9 +3,10 @@ use Rattle.std.proofs.Common.{ℕ, ◌≡◌, ◌+◌, ◌∙◌, arith, refl, s
 use Rattle.std.proofs.lemmas.List.Elements.{Contains-push}
 use Rattle.std.specs.Prelude.{Contains, Err, List, Ok}
 use Rattle.tide_mutator.specs.calls.Viewed as works
-use Rattle.tide_weakref.proofs.CalledLaws.{stepped_seen, stepped_then, worked_by}
+use Rattle.tide_weakref.proofs.CalledLaws.{stepped_alone_then, stepped_none_then, stepped_seen, stepped_then, worked_by}
 use Rattle.tide_weakref.proofs.ClosingLaws.{closes_after, is_apart, is_in, made_kept_full, made_not_cell, made_reference, referenced_full, same_but_all, same_but_then, spare_before, uses_more}
 use Rattle.tide_weakref.proofs.KeepLaws.{may_is, may_not}
+use Rattle.tide_weakref.proofs.SettingLaws.{takes_no_more, takes_one}
 use Rattle.tide_weakref.proofs.StandingLaws.{goes_keeping, goes_same, goes_then, goes_using, holds_using}
 use Rattle.tide_weakref.proofs.StepLaws.{held_kept}
 use Rattle.tide_weakref.specs.Jobs.{Jobs, OthersSpare}
@@ -56,7 +57,10 @@ returns-in_default-aim g c =
     record {
       worked = worked_by c.args.self.now _
           (stepped_then c.args.self.now.mutator c.aim.new.mutator c.let_go.new.mutator c.aim.ensures.stepped c.let_go.ensures.stepped)
-          (goes_same jobs) closed.kept;
+          (goes_same jobs)
+          (takes_no_more v u jobs jobs at (stepped_alone_then c.args.self.now.mutator c.aim.new.mutator c.let_go.new.mutator
+          (jobs.weak.first + at) c.aim.ensures.stepped c.let_go.ensures.stepped c.aim.ensures.sets c.let_go.ensures.sets)
+          c.in-Some.ensures.fresh.1 (λ one has. has)) closed.kept;
       keeps_jobs = closed.keeps;
       registers = closed.registers;
       answers = λ spare. made_not_cell layout v w u jobs jobs (jobs.weak.first + at) c.args.src (is_in jobs at c.in-Some.ensures.fresh.0)
@@ -82,7 +86,10 @@ returns-then-not-may_keep g c =
     record {
       worked = worked_by c.args.self.now _
           (stepped_then c.args.self.now.mutator c.aim.new.mutator let_go.new.mutator c.aim.ensures.stepped let_go.ensures.stepped)
-          (goes_same jobs) closed.kept;
+          (goes_same jobs)
+          (takes_no_more v u jobs jobs at (stepped_alone_then c.args.self.now.mutator c.aim.new.mutator let_go.new.mutator
+          (jobs.weak.first + at) c.aim.ensures.stepped let_go.ensures.stepped c.aim.ensures.sets let_go.ensures.sets)
+          c.in-Some.ensures.fresh.1 (λ one has. has)) closed.kept;
       keeps_jobs = closed.keeps;
       registers = closed.registers;
       answers = λ spare. made_kept_full layout v w u jobs jobs (jobs.weak.first + at) c.args.src (is_in jobs at c.in-Some.ensures.fresh.0)
@@ -141,7 +148,12 @@ returns g c =
       worked = worked_by c.args.self.now _
           (stepped_then c.args.self.now.mutator c.aim.new.mutator let_go.new.mutator c.aim.ensures.stepped later)
           (subst (GoesOn jobs) (sym made) (goes_then jobs (using jobs one) (keeping (using jobs one) target) (goes_using jobs one)
-          (goes_keeping (using jobs one) (with_cell jobs.cells target)))) closed.kept;
+          (goes_keeping (using jobs one) (with_cell jobs.cells target))))
+          (takes_one v u jobs now at (stepped_alone_then c.args.self.now.mutator c.aim.new.mutator let_go.new.mutator
+          (jobs.weak.first + at) c.aim.ensures.stepped later c.aim.ensures.sets
+          (stepped_none_then c.aim.new.mutator c.keep.new.self.mutator let_go.new.mutator c.keep.ensures.stepped let_go.ensures.stepped
+          c.keep.ensures.sets let_go.ensures.sets)) c.in-Some.ensures.fresh.1 one refl (ap (λ (j : Jobs). j.weak) made)
+          (ap (λ (j : Jobs). j.uses) made)) closed.kept;
       keeps_jobs = closed.keeps;
       registers = closed.registers;
       answers = λ spare. subst (λ (n : ℕ). IsReferenced c.args.src (held_in layout v c.args.src) jobs now (Ok n)) (sym number)
