@@ -39,6 +39,6 @@ module _ (old mid more : List Event) (event : Event) (first : IsPrefix old mid) 
       Contains (drop (length old) mid) event ⊎ Contains (drop (length mid) more) event
   made_cases made = elim (Contains-append_cases first.rest second.rest event
       (subst (λ (l : List Event). Contains l event) all_is made)) [
-    | inl before ↦ inl (subst (λ (l : List Event). Contains l event) (sym (made_is old mid first)) before)
-    | inr after ↦ inr (subst (λ (l : List Event). Contains l event) (sym (made_is mid more second)) after)
-  ]
+        | inl before ↦ inl (subst (λ (l : List Event). Contains l event) (sym (made_is old mid first)) before)
+        | inr after ↦ inr (subst (λ (l : List Event). Contains l event) (sym (made_is mid more second)) after)
+      ]

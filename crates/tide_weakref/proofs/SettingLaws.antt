@@ -70,9 +70,9 @@ module _ (layout : Layout) (shapes : ShapeLists) (v u : View) (op : Op) (reply :
   set_by_one : (handle : ℕ) → WasSet v u handle → op_sets_weak handle op ≡ true
   set_by_one handle was = elim (Contains-push_cases [] made was.event
       (subst (λ (l : List Event). Contains l was.event) made_one was.made)) [
-    | inl none ↦ absurd (let below = none.1 in omega (arith, below))
-    | inr same ↦ ap (λ (e : Event). sets_weak handle e.entry) same ∙ was.sets
-  ]
+        | inl none ↦ absurd (let below = none.1 in omega (arith, below))
+        | inr same ↦ ap (λ (e : Event). sets_weak handle e.entry) same ∙ was.sets
+      ]
 
   pub one_sets_none : ((handle : ℕ) → op_sets_weak handle op ≡ false) → SetsNone v u
   one_sets_none none handle was = absurd (let e : true ≡ false = sym (set_by_one handle was) ∙ none handle in cc)
