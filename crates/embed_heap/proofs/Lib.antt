@@ -1,2 +1,1 @@
 pub mod visitor_laws
-pub mod weakref_laws

@@ -1,3 +1,2 @@
 pub mod two_mutators
 pub mod visitor
-pub mod weakref

@@ -1,5 +1,0 @@
--- Each reference is one still once two held values were asked for.
-use Rattle.embed_heap.proofs.weakref.files.to_close.Goals as goal
-
-pub returns : goal.returns
-returns c = record { keeps = λ r is. c.deliver-second.ensures.keeps r (c.deliver-first.ensures.keeps r is) }
