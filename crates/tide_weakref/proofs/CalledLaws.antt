@@ -1,5 +1,5 @@
 -- Calls of a realm's mutator one after another.
-use Rattle.std.proofs.Common.{ℕ, ◌≡◌, ◌+◌, ◌≤◌, arith, refl, sym, ◌∙◌, ap, subst, List, [], ◌∷◌, length, length-append}
+use Rattle.std.proofs.Common.{ℕ, ◌≡◌, ◌+◌, ◌≤◌, arith, refl, sym, ◌∙◌, ap, subst, true, List, [], ◌∷◌, length, length-append}
 use Rattle.tide_heap.specs.tide_core.declared.machine.view.View.{View}
 use Rattle.tide_model.specs.Caller.{MakesCall}
 use Rattle.tide_model.specs.Layout.{Layout}
@@ -14,10 +14,10 @@ use Rattle.tide_mutator.specs.owed.Standing.{claims_of}
 use Rattle.atomic_table.specs.Seated.{TableId}
 use Rattle.tide_mutator.specs.calls.Viewed as works
 use Rattle.tide_mutator.specs.declared.calls.mutator.Mutator.{Mutator}
-use Rattle.tide_weakref.proofs.SettingLaws.{alone_then, none_then}
-use Rattle.tide_weakref.specs.Calls.{HasCalled, IsRunning, MakesCalls, more, none}
+use Rattle.tide_weakref.proofs.SettingLaws.{alone_then, set_then, sets_then}
+use Rattle.tide_weakref.specs.Calls.{HasCalled, IsRunning, MakesCalls, is_of_realm, more, none}
 use Rattle.tide_weakref.specs.Jobs.{HasKeptJobs}
-use Rattle.tide_weakref.specs.Setting.{SetsNone, SetsAlone, SetsWhatItTakes}
+use Rattle.tide_weakref.specs.Setting.{SetsAlone, SetsNone, SetsOnly, SetsWhatItTakes, WasSet}
 use Rattle.tide_weakref.specs.Stepping.{HasStepped}
 use Rattle.tide_weakref.specs.Uses.{GoesOn}
 use Rattle.tide_weakref.specs.Viewed.{jobs_of, view_of}
@@ -28,14 +28,14 @@ calls_then : (layout : Layout) (shapes : ShapeLists) (who : ℕ) (seen mine old_
     MakesCalls layout shapes who seen mine old_seen old_mine → MakesCalls layout shapes who old_seen old_mine new_seen new_mine →
     MakesCalls layout shapes who seen mine new_seen new_mine
 calls_then layout shapes who seen mine old_seen old_mine new_seen new_mine first none = first
-calls_then layout shapes who seen mine old_seen old_mine new_seen new_mine first (more op reply {old_seen = mid_seen} {old_mine = mid_mine} second call) =
-    more op reply (calls_then layout shapes who seen mine old_seen old_mine mid_seen mid_mine first second) call
+calls_then layout shapes who seen mine old_seen old_mine new_seen new_mine first (more op reply {old_seen = mid_seen} {old_mine = mid_mine} second of_realm call) =
+    more op reply (calls_then layout shapes who seen mine old_seen old_mine mid_seen mid_mine first second) of_realm call
 
 -- what was seen and made is a beginning of what is seen and made then
 pub calls_grow : (layout : Layout) (shapes : ShapeLists) (who : ℕ) (seen mine new_seen new_mine : List Event) →
     MakesCalls layout shapes who seen mine new_seen new_mine → IsPrefix seen new_seen × IsPrefix mine new_mine
 calls_grow layout shapes who seen mine new_seen new_mine none = (prefix_refl seen, prefix_refl mine)
-calls_grow layout shapes who seen mine new_seen new_mine (more op reply {old_seen = mid_seen} {old_mine = mid_mine} first call) =
+calls_grow layout shapes who seen mine new_seen new_mine (more op reply {old_seen = mid_seen} {old_mine = mid_mine} first of_realm call) =
     let before = calls_grow layout shapes who seen mine mid_seen mid_mine first in (
       prefix_trans seen mid_seen new_seen before.0 call.seen,
       prefix_trans mine mid_mine new_mine before.1 (record { rest = _; joins = sym call.adds }),
@@ -45,10 +45,10 @@ module _ (layout : Layout) (shapes : ShapeLists) where
   pub called_none : (v : View) → HasCalled layout shapes v v
   called_none v = record { makes = none; kept = refl; stays = refl; births = omega arith; claims = refl }
 
-  pub called_one : (v u : View) (op : Op) (reply : Reply) → MakesCall layout shapes v.who op reply v.seen u.seen v.mine u.mine →
-      kept u ≡ kept v → u.left ≡ v.left → u.born ≤ v.born + 1 → claims_of u ≡ claims_of v → HasCalled layout shapes v u
-  called_one v u op reply makes same stays births claims = record {
-    makes = more op reply none makes;
+  pub called_one : (v u : View) (op : Op) (reply : Reply) → is_of_realm op ≡ true →
+      MakesCall layout shapes v.who op reply v.seen u.seen v.mine u.mine → kept u ≡ kept v → u.left ≡ v.left → u.born ≤ v.born + 1 → claims_of u ≡ claims_of v → HasCalled layout shapes v u
+  called_one v u op reply of_realm makes same stays births claims = record {
+    makes = more op reply none of_realm makes;
     kept = same;
     stays = stays;
     births = (let n = ap (λ (l : List Event). length l) makes.adds in
@@ -105,12 +105,18 @@ module _ {id : TableId} {layout : Layout} {shapes : ShapeLists} where
       IsPrefix (works.view_of old).mine (works.view_of new).mine
   stepped_mine old new stepped = called_mine layout shapes (works.view_of old) (works.view_of new) stepped.called
 
-  -- the weak handles that they set
-  pub stepped_none_then : (old mid new : Mutator) → HasStepped id layout shapes old mid → HasStepped id layout shapes mid new →
-      SetsNone (works.view_of old) (works.view_of mid) → SetsNone (works.view_of mid) (works.view_of new) →
-      SetsNone (works.view_of old) (works.view_of new)
-  stepped_none_then old mid new first second = none_then (works.view_of old) (works.view_of mid) (works.view_of new)
+  -- the handles that they set
+  pub stepped_sets_then : {These Those : ℕ → Type 0} (old mid new : Mutator) → HasStepped id layout shapes old mid →
+      HasStepped id layout shapes mid new → SetsOnly These Those (works.view_of old) (works.view_of mid) →
+      SetsOnly These Those (works.view_of mid) (works.view_of new) → SetsOnly These Those (works.view_of old) (works.view_of new)
+  stepped_sets_then old mid new first second = sets_then (works.view_of old) (works.view_of mid) (works.view_of new)
       (stepped_mine old mid first) (stepped_mine mid new second)
+
+  pub stepped_set_then : (old mid new : Mutator) (handle : ℕ) → HasStepped id layout shapes old mid →
+      HasStepped id layout shapes mid new → WasSet (works.view_of old) (works.view_of mid) handle →
+      WasSet (works.view_of old) (works.view_of new) handle
+  stepped_set_then old mid new handle first second = set_then (works.view_of old) (works.view_of mid) (works.view_of new)
+      (stepped_mine old mid first) (stepped_mine mid new second) handle
 
   pub stepped_alone_then : (old mid new : Mutator) (handle : ℕ) → HasStepped id layout shapes old mid →
       HasStepped id layout shapes mid new → SetsAlone (works.view_of old) (works.view_of mid) handle →

@@ -54,7 +54,7 @@ module _ (layout : Layout) (shapes : ShapeLists) (who handle target : ℕ) (stro
       OthersLeave who strong weak new_seen → LeavesHandle handle mine new_mine → IsGone seen handle target →
       IsGone new_seen handle target
   gone_by_calls seen mine new_seen new_mine none leave leaves is = is
-  gone_by_calls seen mine new_seen new_mine (more op reply {old_seen = mid_seen} {old_mine = mid_mine} first call) leave leaves is =
+  gone_by_calls seen mine new_seen new_mine (more op reply {old_seen = mid_seen} {old_mine = mid_mine} first of_realm call) leave leaves is =
       let before = (calls_grow layout shapes who seen mine mid_seen mid_mine first).1 in
       let after : IsPrefix mid_mine new_mine = record { rest = _; joins = sym call.adds } in
       gone_by_one op reply mid_seen mid_mine new_seen new_mine call leave
@@ -76,4 +76,4 @@ gone_stays id layout shapes old new ready worked spare one has is =
     gone_by_calls layout shapes v.who handle one.target jobs.strong jobs.weak
     (is_in jobs one.at (All-contains (λ (o : Weak). o.at < jobs.weak.count) jobs.uses one ready.kept_jobs.keeps.holds.within.uses has))
     v.seen v.mine u.seen u.mine worked.called.makes spare
-    (λ event made sets. worked.sets.spares one has (record { event = event; made = made; sets = sets })) is
+    (λ event made sets. worked.sets.spares one has (record { event = event; made = made; is = sets })) is

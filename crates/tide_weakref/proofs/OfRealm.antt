@@ -4,7 +4,7 @@ use Rattle.tide_heap.specs.tide_core.machine.kinds.TakeFree.{TakesCell}
 use Rattle.tide_model.specs.declared.op.Op.{Op}
 use Rattle.tide_model.specs.declared.op.Op.TheVariants.{Alloc, Table, Claim, Release, Unclaim, Retire}
 use Rattle.tide_mutator.specs.calls.Called.{is_of_claims}
-use Rattle.tide_weakref.specs.Stepping.{is_of_realm}
+use Rattle.tide_weakref.specs.Calls.{is_of_realm}
 
 -- it takes no cell, doesn't retire, and is of no claim
 pub takes_none : (op : Op) → is_of_realm op ≡ true → TakesCell op → ⊥

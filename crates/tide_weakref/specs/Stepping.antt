@@ -9,8 +9,7 @@ use Rattle.tide_model.specs.Prefix.{IsPrefix}
 use Rattle.tide_model.specs.Refused.{ShapeLists}
 use Rattle.tide_model.specs.declared.entry.Entry.TheVariants.{Call}
 use Rattle.tide_model.specs.declared.entry.Event.{Event}
-use Rattle.tide_model.specs.declared.op.Op.{Op}
-use Rattle.tide_model.specs.declared.op.Op.TheVariants.{Get, Move, Drop, StrongSet, WeakSet, WeakGet}
+use Rattle.tide_model.specs.declared.op.Op.TheVariants.{WeakGet}
 use Rattle.tide_model.specs.declared.op.Refusal.TheVariants.{NotCell as NoCell}
 use Rattle.tide_model.specs.declared.op.Reply.{Reply}
 use Rattle.tide_model.specs.declared.op.Reply.TheVariants.{Refused, Seen}
@@ -24,16 +23,6 @@ use Rattle.tide_weakref.specs.Jobs.{HoldsJobs, Jobs, OthersSpare, handle_of, reg
 use Rattle.tide_weakref.specs.declared.refused.WeakRefused.{WeakRefused}
 use Rattle.tide_weakref.specs.declared.refused.WeakRefused.TheVariants.{NotCell, RefsFull}
 use Rattle.tide_weakref.specs.declared.weak.Weak.{Weak}
-
--- an operation that a realm makes of its own
-abbrev pub is_of_realm : Op → Bool
-is_of_realm (Get dst src slot) = true
-is_of_realm (Move dst src) = true
-is_of_realm (Drop dst) = true
-is_of_realm (StrongSet at val) = true
-is_of_realm (WeakSet at val) = true
-is_of_realm (WeakGet dst at) = true
-is_of_realm _ = false
 
 -- A mutator made some calls, none among them: it runs as it did, and if what it has made are all calls of its own, they
 -- were before.

@@ -5,8 +5,9 @@ ghost use Rattle.tide_model.specs.Numbers.{is_among};
 ghost use Rattle.tide_model.specs.declared.val.Val.TheVariants.{Empty, Cell as IsCell};
 ghost use Rattle.tide_mutator.specs.calls.Viewed as works;
 ghost use Rattle.tide_weakref.specs.Calls.{IsRunning};
+ghost use Rattle.tide_weakref.specs.Handles.{IsIn};
 ghost use Rattle.tide_weakref.specs.Jobs.{HasKeptJobs, Jobs, OthersSpare};
-ghost use Rattle.tide_weakref.specs.Setting.{SetsNone};
+ghost use Rattle.tide_weakref.specs.Setting.{IsKeptIn, NoHandle, SetsOnly};
 ghost use Rattle.tide_weakref.specs.Stepping.{HasStepped, HoldsNow, IsBare, TellsTargets, held_in};
 ghost use Rattle.tide_weakref.specs.Uses.{IsFullFor, keeping};
 ghost use Rattle.tide_weakref.specs.Viewed.{jobs_of, view_of};
@@ -35,7 +36,7 @@ fn empty<S: ShapeTable, T: Turnstile>(
         mutator.old mutator.new }
     ensures registers { held_in heap.now.key.layout (works.view_of mutator.new)
         ≡ held_in heap.now.key.layout (works.view_of mutator.old) }
-    ensures sets { SetsNone (works.view_of mutator.old) (works.view_of mutator.new) }
+    ensures sets { SetsOnly (IsIn handles) NoHandle (works.view_of mutator.old) (works.view_of mutator.new) }
     ensures kept_jobs { (jobs : Jobs) → jobs.cells ≡ [] →
         HasKeptJobs heap.now.key.layout (works.view_of mutator.old) jobs →
         HasKeptJobs heap.now.key.layout (works.view_of mutator.new) jobs }
@@ -85,7 +86,7 @@ impl Realm {
         ensures registers { held_in heap.now.key.layout (view_of self.new)
             ≡ held_in heap.now.key.layout (view_of self.old) }
         ensures targets { TellsTargets heap.now.key.layout (view_of self.old) (view_of self.new) }
-        ensures sets { SetsNone (view_of self.old) (view_of self.new) }
+        ensures sets { SetsOnly (IsKeptIn (jobs_of self.new)) NoHandle (view_of self.old) (view_of self.new) }
     {
         if self.kept.has(cell) {
             return;

@@ -7,9 +7,9 @@ ghost use Rattle.tide_model.specs.declared.op.Op.TheVariants.{WeakGet};
 ghost use Rattle.tide_model.specs.declared.op.Reply.{Reply as ReplyIs};
 ghost use Rattle.tide_model.specs.declared.val.Val.TheVariants.{Empty};
 ghost use Rattle.tide_mutator.specs.calls.Viewed.{view_of};
-ghost use Rattle.tide_weakref.specs.Calls.{IsRunning};
+ghost use Rattle.tide_weakref.specs.Calls.{IsRunning, is_of_realm};
 ghost use Rattle.tide_weakref.specs.Setting.{SetsAlone, SetsNone};
-ghost use Rattle.tide_weakref.specs.Stepping.{HasStepped, LetsStand, LetsStandApart, SameBut, TellsTargets, WasAimed, WasLoaded, cell_seen, held_in, is_of_realm};
+ghost use Rattle.tide_weakref.specs.Stepping.{HasStepped, LetsStand, LetsStandApart, SameBut, TellsTargets, WasAimed, WasLoaded, cell_seen, held_in};
 
 use tide_heap::Heap;
 use tide_model::{Op, Reply, Turnstile, Val};

@@ -2,10 +2,10 @@
 use Rattle.std.proofs.Common.{ℕ, ◌≡◌, ◌+◌, ◌∙◌, arith, refl, sym, ap, subst, List, length, take_all}
 use Rattle.std.specs.Prelude.{None, Some, slice_get, take}
 use Rattle.tide_mutator.specs.calls.Viewed.{view_of}
-use Rattle.tide_weakref.proofs.CalledLaws.{stepped_mine, stepped_none, stepped_none_then, stepped_then}
+use Rattle.tide_weakref.proofs.CalledLaws.{stepped_mine, stepped_none, stepped_sets_then, stepped_then}
 use Rattle.tide_weakref.proofs.ClosingLaws.{same_but_then}
 use Rattle.tide_weakref.proofs.ReadingLaws.{first_is_gone, passed_held, passed_other, tells_none, tells_some}
-use Rattle.tide_weakref.proofs.SettingLaws.{none_since}
+use Rattle.tide_weakref.proofs.SettingLaws.{sets_since}
 use Rattle.tide_weakref.proofs.StepLaws.{held_now}
 use Rattle.tide_weakref.specs.Delivered.{AllHeldCells}
 use Rattle.tide_weakref.specs.Stepping.{WasLoaded}
@@ -18,7 +18,7 @@ loop-place-init g c = record {
   stepped = stepped_none c.args.mutator.now c.requires.running;
   stands = λ jobs held. held;
   others = λ r apart. refl;
-  sets = none_since (view_of c.args.mutator.now);
+  sets = sets_since (view_of c.args.mutator.now);
   held = λ jobs weak uses one held token has is. absurd (let below = has.1 in omega (arith, below));
 }
 
@@ -35,7 +35,7 @@ loop-place-preserved g c =
       stepped = stepped_then c.args.mutator.now c.loop-place.mutator c.load.new.mutator before.stepped c.load.ensures.stepped;
       stands = λ jobs held. held_now layout u jobs (c.load.ensures.stands jobs (before.stands jobs held));
       others = same_but_then layout scratch v w u before.others c.load.ensures.others;
-      sets = stepped_none_then c.args.mutator.now c.loop-place.mutator c.load.new.mutator before.stepped c.load.ensures.stepped
+      sets = stepped_sets_then c.args.mutator.now c.loop-place.mutator c.load.new.mutator before.stepped c.load.ensures.stepped
           before.sets c.load.ensures.sets;
       held = λ jobs weak uses.
           passed_held layout v w u jobs c.loop-place.place scratch one before.stepped.who
@@ -79,7 +79,7 @@ returns-in_default g c =
       stepped = stepped_then c.args.mutator.now c.loop-place.mutator c.load.new.mutator before.stepped c.load.ensures.stepped;
       stands = λ jobs held. held_now layout u jobs (c.load.ensures.stands jobs (before.stands jobs held));
       others = same_but_then layout scratch v w u before.others c.load.ensures.others;
-      sets = stepped_none_then c.args.mutator.now c.loop-place.mutator c.load.new.mutator before.stepped c.load.ensures.stepped
+      sets = stepped_sets_then c.args.mutator.now c.loop-place.mutator c.load.new.mutator before.stepped c.load.ensures.stepped
           before.sets c.load.ensures.sets;
       found = λ jobs weak uses held. (
         one,

@@ -6,10 +6,10 @@ use Rattle.tide_model.specs.Prefix.{prefix_refl}
 use Rattle.tide_model.specs.declared.val.Val.{Val}
 use Rattle.tide_model.specs.declared.val.Val.TheVariants.{Empty}
 use Rattle.tide_mutator.specs.calls.Viewed.{view_of}
-use Rattle.tide_weakref.proofs.CalledLaws.{stepped_none, stepped_none_then, stepped_seen, stepped_then}
+use Rattle.tide_weakref.proofs.CalledLaws.{stepped_none, stepped_seen, stepped_sets_then, stepped_then}
 use Rattle.tide_weakref.proofs.ClosingLaws.{spare_before}
 use Rattle.tide_weakref.proofs.EmptyingLaws.{emptied_here, emptied_still, kept_still}
-use Rattle.tide_weakref.proofs.SettingLaws.{none_since, one_sets_none}
+use Rattle.tide_weakref.proofs.SettingLaws.{one_keeps, sets_since}
 use Rattle.tide_weakref.proofs.StepLaws.{step_set}
 use Rattle.tide_model.specs.declared.op.Op.TheVariants.{StrongSet}
 use Rattle.tide_weakref.proofs.jobs.empty.Goals as goal
@@ -18,7 +18,7 @@ pub loop-place-init : goal.loop-place-init
 loop-place-init g c = record {
   stepped = stepped_none c.args.mutator.now c.requires.running;
   registers = refl;
-  sets = none_since (view_of c.args.mutator.now);
+  sets = sets_since (view_of c.args.mutator.now);
   kept_jobs = λ jobs none kept. kept;
   emptied = λ jobs same few spare bare n below. absurd (omega (arith, below));
 }
@@ -40,8 +40,8 @@ loop-place-preserved g c =
       stepped = stepped_then c.args.mutator.now c.loop-place.mutator c.step.new.mutator invariant.stepped step.stepped;
       registers = step_set layout shapes w u (StrongSet handle c.args.scratch) c.step.result step.stepped.who step.makes (λ o r. refl)
           ∙ invariant.registers;
-      sets = stepped_none_then c.args.mutator.now c.loop-place.mutator c.step.new.mutator invariant.stepped step.stepped invariant.sets
-          (one_sets_none layout shapes w u (StrongSet handle c.args.scratch) c.step.result step.makes (λ n. refl));
+      sets = stepped_sets_then c.args.mutator.now c.loop-place.mutator c.step.new.mutator invariant.stepped step.stepped invariant.sets
+          (one_keeps layout shapes w u c.step.result handle c.args.scratch step.makes (omega arith, omega (arith, test)));
       kept_jobs = λ jobs none kept. kept_still layout shapes w u c.step.result step.stepped.who handle c.args.scratch step.makes jobs none
           (invariant.kept_jobs jobs none kept);
       emptied = λ jobs same few spare bare n below. (elim (leb_tells place n) [

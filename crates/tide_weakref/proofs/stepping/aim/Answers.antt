@@ -5,7 +5,7 @@ use Rattle.tide_mutator.specs.calls.Viewed.{view_of}
 use Rattle.tide_weakref.proofs.AimLaws.{was_aimed}
 use Rattle.tide_weakref.proofs.CalledLaws.{stepped_alone_then, stepped_then}
 use Rattle.tide_weakref.proofs.ClosingLaws.{same_but_all, same_but_then}
-use Rattle.tide_weakref.proofs.SettingLaws.{one_sets}
+use Rattle.tide_weakref.proofs.SettingLaws.{one_aims}
 use Rattle.tide_weakref.proofs.StandingLaws.{apart_leaves}
 use Rattle.tide_weakref.proofs.StepLaws.{held_now, step_holds, step_set}
 use Rattle.tide_weakref.proofs.stepping.aim.Goals as goal
@@ -43,5 +43,5 @@ returns-clause-aimed g c =
 pub returns-clause-sets : goal.returns-clause-sets
 returns-clause-sets g c =
     stepped_alone_then c.args.mutator.now c.step.new.mutator c.load.new.mutator c.args.handle c.step.ensures.stepped c.load.ensures.stepped
-    (one_sets c.args.heap.now.key.layout (g.S.ShapeTable.lists c.args.heap.now.key.shapes) (view_of c.args.mutator.now)
+    (one_aims c.args.heap.now.key.layout (g.S.ShapeTable.lists c.args.heap.now.key.shapes) (view_of c.args.mutator.now)
     (view_of c.step.new.mutator) c.step.result c.args.handle c.args.src c.step.ensures.makes) c.load.ensures.sets

@@ -31,4 +31,4 @@ returns-clause-targets g c = λ jobs.
 pub returns-clause-sets : goal.returns-clause-sets
 returns-clause-sets g c =
     one_sets_none c.args.heap.now.key.layout (g.S.ShapeTable.lists c.args.heap.now.key.shapes) (view_of c.args.mutator.now)
-    (view_of c.step.new.mutator) (Drop c.args.scratch) c.step.result c.step.ensures.makes (λ handle. refl)
+    (view_of c.step.new.mutator) (Drop c.args.scratch) c.step.result c.step.ensures.makes (λ handle. refl) (λ handle. refl)

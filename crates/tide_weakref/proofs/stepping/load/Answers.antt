@@ -33,4 +33,4 @@ pub returns-clause-sets : goal.returns-clause-sets
 returns-clause-sets g c =
     one_sets_none c.args.heap.now.key.layout (g.S.ShapeTable.lists c.args.heap.now.key.shapes) (view_of c.args.mutator.now)
     (view_of c.step-reply.new.mutator) (WeakGet c.args.scratch c.args.handle) c.step-reply.result c.step-reply.ensures.makes
-    (λ handle. refl)
+    (λ handle. refl) (λ handle. refl)

@@ -23,7 +23,7 @@ returns-clause-stepped g c =
       };
       seat = called.same.1;
       who = ap same called.kept;
-      called = called_one layout (g.S.ShapeTable.lists c.args.heap.now.key.shapes) v u c.args.op c.call.result called.makes
+      called = called_one layout (g.S.ShapeTable.lists c.args.heap.now.key.shapes) v u c.args.op c.call.result c.requires.of_realm called.makes
           called.kept (called.stays ∙ sym running.stays) called.births (called.claims (of_no_claim c.args.op c.requires.of_realm));
       own = λ own. called.makes.were_own;
     }

@@ -4,7 +4,7 @@ use Rattle.std.proofs.lemmas.List.Elements.{All-contains}
 use Rattle.std.specs.List.{remove}
 use Rattle.std.specs.Prelude.{Contains, List, MatchOption, None, Option, Some}
 use Rattle.tide_mutator.specs.calls.Viewed as works
-use Rattle.tide_weakref.proofs.CalledLaws.{stepped_mine, stepped_none_then, stepped_seen, stepped_then, worked_by}
+use Rattle.tide_weakref.proofs.CalledLaws.{stepped_mine, stepped_seen, stepped_sets_then, stepped_then, worked_by}
 use Rattle.tide_weakref.proofs.ClosingLaws.{closes, is_in, same_but_then, uses_are}
 use Rattle.tide_weakref.proofs.ReadingLaws.{first_gone_more, held_more}
 use Rattle.tide_weakref.proofs.SettingLaws.{removed_was, takes_none}
@@ -58,7 +58,7 @@ returns-in_default g c =
       worked = worked_by c.args.self.now _
           (stepped_then c.args.self.now.mutator c.first_gone-found.new.mutator c.let_go.new.mutator first.stepped last.stepped)
           (goes_same jobs)
-          (takes_none v u jobs jobs (stepped_none_then c.args.self.now.mutator c.first_gone-found.new.mutator c.let_go.new.mutator
+          (takes_none v u jobs jobs (stepped_sets_then c.args.self.now.mutator c.first_gone-found.new.mutator c.let_go.new.mutator
           first.stepped last.stepped first.sets last.sets) (λ other has. has)) closed.kept;
       keeps_jobs = closed.keeps;
       registers = closed.registers;
@@ -120,7 +120,7 @@ returns g c =
       worked = worked_by c.args.self.now _
           (stepped_then c.args.self.now.mutator c.first_gone-found.new.mutator c.let_go.new.mutator first.stepped last.stepped)
           (subst (GoesOn jobs) (sym less) (goes_removed jobs place one value token is.at is.registered))
-          (takes_none v u jobs now (stepped_none_then c.args.self.now.mutator c.first_gone-found.new.mutator c.let_go.new.mutator
+          (takes_none v u jobs now (stepped_sets_then c.args.self.now.mutator c.first_gone-found.new.mutator c.let_go.new.mutator
           first.stepped last.stepped first.sets last.sets)
           (λ other has. removed_was jobs.uses place other
           (subst (λ (us : List Weak). Contains us other) c.remove-one.ensures.uses has))) closed.kept;

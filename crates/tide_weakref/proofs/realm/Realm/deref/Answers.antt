@@ -9,10 +9,10 @@ use Rattle.tide_model.specs.declared.val.Val.{Val}
 use Rattle.tide_model.specs.declared.val.Val.TheVariants.{Cell, Empty}
 use Rattle.tide_mutator.specs.calls.Viewed as works
 use Rattle.tide_weakref.proofs.AimLaws.{cell_in_is}
-use Rattle.tide_weakref.proofs.CalledLaws.{stepped_none_then, stepped_seen, stepped_then, worked_by}
+use Rattle.tide_weakref.proofs.CalledLaws.{stepped_seen, stepped_sets_then, stepped_then, worked_by}
 use Rattle.tide_weakref.proofs.ClosingLaws.{closes_after, found_none, found_target, is_in, put_registers, spare_before}
 use Rattle.tide_weakref.proofs.KeepLaws.{may_is, may_not}
-use Rattle.tide_weakref.proofs.SettingLaws.{one_sets_none, takes_none}
+use Rattle.tide_weakref.proofs.SettingLaws.{kept_only, none_only, one_sets_none, takes_kept, takes_none}
 use Rattle.tide_weakref.proofs.StandingLaws.{goes_keeping, goes_same}
 use Rattle.tide_weakref.proofs.StepLaws.{held_kept, held_now, kept_now, scratch_kept, step_dropped, step_holds, step_moved, step_targets}
 use Rattle.tide_weakref.specs.Dereferenced.{IsDereferenced, gone, kept_full, leads}
@@ -82,10 +82,10 @@ returns-in_default g c =
       worked = worked_by c.args.self.now _
           (stepped_then c.args.self.now.mutator c.load.new.mutator c.let_go.new.mutator c.load.ensures.stepped later)
           (goes_same jobs)
-          (takes_none v u jobs jobs (stepped_none_then c.args.self.now.mutator c.load.new.mutator c.let_go.new.mutator
+          (takes_none v u jobs jobs (stepped_sets_then c.args.self.now.mutator c.load.new.mutator c.let_go.new.mutator
           c.load.ensures.stepped later c.load.ensures.sets
-          (stepped_none_then c.load.new.mutator c.step.new.mutator c.let_go.new.mutator step.stepped c.let_go.ensures.stepped
-          (one_sets_none layout shapes w x (Drop c.args.dst) c.step.result step.makes (λ h. refl)) c.let_go.ensures.sets))
+          (stepped_sets_then c.load.new.mutator c.step.new.mutator c.let_go.new.mutator step.stepped c.let_go.ensures.stepped
+          (one_sets_none layout shapes w x (Drop c.args.dst) c.step.result step.makes (λ h. refl) (λ h. refl)) c.let_go.ensures.sets))
           (λ one has. has)) (kept_now layout u jobs keeps);
       keeps_jobs = keeps;
       holds = put_registers layout v u jobs.scratch c.args.dst Empty (scratch_kept layout v jobs kept (c.load.ensures.stepped.own at_w.own))
@@ -123,7 +123,7 @@ returns-then-not-may_keep g c =
       worked = worked_by c.args.self.now _
           (stepped_then c.args.self.now.mutator c.load.new.mutator let_go.new.mutator c.load.ensures.stepped let_go.ensures.stepped)
           (goes_same jobs)
-          (takes_none v u jobs jobs (stepped_none_then c.args.self.now.mutator c.load.new.mutator let_go.new.mutator
+          (takes_none v u jobs jobs (stepped_sets_then c.args.self.now.mutator c.load.new.mutator let_go.new.mutator
           c.load.ensures.stepped let_go.ensures.stepped c.load.ensures.sets let_go.ensures.sets) (λ one has. has)) closed.kept;
       keeps_jobs = closed.keeps;
       holds = tt;
@@ -190,13 +190,14 @@ returns g c =
       worked = worked_by c.args.self.now _
           (stepped_then c.args.self.now.mutator c.load.new.mutator let_go.new.mutator c.load.ensures.stepped after_w)
           (subst (GoesOn jobs) (sym c.keep.ensures.jobs) (goes_keeping jobs (with_cell jobs.cells c.in-Some.cell)))
-          (takes_none v u jobs now (stepped_none_then c.args.self.now.mutator c.load.new.mutator let_go.new.mutator
-          c.load.ensures.stepped after_w c.load.ensures.sets
-          (stepped_none_then c.load.new.mutator c.keep.new.self.mutator let_go.new.mutator c.keep.ensures.stepped after_x
-          c.keep.ensures.sets
-          (stepped_none_then c.keep.new.self.mutator c.step-2.new.mutator let_go.new.mutator step.stepped let_go.ensures.stepped
-          (one_sets_none layout shapes x y (Move c.args.dst jobs.scratch) c.step-2.result step.makes (λ h. refl))
-          let_go.ensures.sets)))
+          (takes_kept v u jobs now (stepped_sets_then c.args.self.now.mutator c.load.new.mutator let_go.new.mutator
+          c.load.ensures.stepped after_w (none_only v w c.load.ensures.sets)
+          (stepped_sets_then c.load.new.mutator c.keep.new.self.mutator let_go.new.mutator c.keep.ensures.stepped after_x
+          (kept_only w x jobs now c.keep.ensures.sets)
+          (none_only x u (stepped_sets_then c.keep.new.self.mutator c.step-2.new.mutator let_go.new.mutator step.stepped
+          let_go.ensures.stepped
+          (one_sets_none layout shapes x y (Move c.args.dst jobs.scratch) c.step-2.result step.makes (λ h. refl) (λ h. refl))
+          let_go.ensures.sets))))
           (λ one has. subst (λ (us : List Weak). Contains us one) (ap (λ (j : Jobs). j.uses) c.keep.ensures.jobs) has))
           (kept_now layout u now keeps);
       keeps_jobs = keeps;

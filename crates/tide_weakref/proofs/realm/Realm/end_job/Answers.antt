@@ -1,10 +1,10 @@
 -- The job ends: its cells aren't kept any more.
-use Rattle.std.proofs.Common.{arith, refl, sym, subst, []}
+use Rattle.std.proofs.Common.{arith, refl, sym, subst, [], inl}
 use Rattle.tide_mutator.specs.calls.Viewed as works
 use Rattle.tide_weakref.proofs.CalledLaws.{worked_by}
 use Rattle.tide_weakref.proofs.EmptyingLaws.{kept_nothing}
 use Rattle.tide_weakref.proofs.KeepLaws.{kept_are}
-use Rattle.tide_weakref.proofs.SettingLaws.{takes_none}
+use Rattle.tide_weakref.proofs.SettingLaws.{takes_kept}
 use Rattle.tide_weakref.proofs.StandingLaws.{goes_keeping}
 use Rattle.tide_weakref.proofs.StepLaws.{scratch_kept}
 use Rattle.tide_weakref.specs.Jobs.{HasKeptJobs, Jobs}
@@ -37,7 +37,13 @@ returns g c =
     let few = kept.keeps.holds.within.cells in
     record {
       worked = worked_by c.args.self.now _ c.empty.ensures.stepped (subst (GoesOn jobs) (sym same) (goes_keeping jobs []))
-          (subst (SetsWhatItTakes v u jobs) (sym same) (takes_none v u jobs none c.empty.ensures.sets (λ one has. has)))
+          (subst (SetsWhatItTakes v u jobs) (sym same) (takes_kept v u jobs none (record {
+            strong = λ handle was. inl (
+                let within = c.empty.ensures.sets.strong handle was in
+                let last = within.1 in
+                (within.0, omega (arith, last, count)));
+            weak = c.empty.ensures.sets.weak;
+          }) (λ one has. has)))
           (subst (HasKeptJobs layout u) (sym same) (c.empty.ensures.kept_jobs none refl (kept_nothing layout v jobs kept)));
       registers = c.empty.ensures.registers;
       emptied = λ spare place below. c.empty.ensures.emptied jobs refl (omega (arith, few, count)) spare

@@ -4,7 +4,7 @@ use Rattle.tide_model.specs.declared.op.Op.TheVariants.{StrongSet}
 use Rattle.tide_weakref.proofs.CalledLaws.{stepped_none}
 use Rattle.tide_weakref.proofs.KeepLaws.{has_room, kept_more, keeping_more, keeping_same}
 use Rattle.tide_weakref.proofs.StandingLaws.{LeavesJobs, holds_keeping, keep_leaves}
-use Rattle.tide_weakref.proofs.SettingLaws.{none_since, one_sets_none}
+use Rattle.tide_weakref.proofs.SettingLaws.{kept_last, one_keeps, sets_since}
 use Rattle.tide_weakref.proofs.StepLaws.{held_now, step_holds, step_kept, step_set, step_targets}
 use Rattle.tide_weakref.specs.Handles.{StrongKeeps}
 use Rattle.tide_weakref.specs.Stepping.{HoldsNow}
@@ -66,10 +66,10 @@ returns-clause-targets g c = λ jobs.
     c.step.ensures.stepped.who c.step.ensures.makes jobs (λ handle. refl)
 
 pub returns-then-has-clause-sets : goal.returns-then-has-clause-sets
-returns-then-has-clause-sets g c = none_since (view_of c.args.self.now)
+returns-then-has-clause-sets g c = sets_since (view_of c.args.self.now)
 
 pub returns-clause-sets : goal.returns-clause-sets
 returns-clause-sets g c =
-    one_sets_none c.args.heap.now.key.layout (g.S.ShapeTable.lists c.args.heap.now.key.shapes) (view_of c.args.self.now)
-    (works.view_of c.step.new.mutator) (StrongSet c.next-at.result (jobs_of c.args.self.now).scratch) c.step.result
-    c.step.ensures.makes (λ handle. refl)
+    one_keeps c.args.heap.now.key.layout (g.S.ShapeTable.lists c.args.heap.now.key.shapes) (view_of c.args.self.now)
+    (works.view_of c.step.new.mutator) c.step.result c.next-at.result (jobs_of c.args.self.now).scratch c.step.ensures.makes
+    (kept_last (jobs_of c.args.self.now) _ c.args.cell c.next-at.result c.add.ensures.handles c.add.ensures.cells c.next-at.ensures)

@@ -3,10 +3,10 @@ use Rattle.std.proofs.Common.{ℕ, ◌≡◌, ◌+◌, ◌∙◌, arith, refl, s
 use Rattle.std.proofs.lemmas.List.Elements.{Contains-push}
 use Rattle.std.specs.Prelude.{Contains, Err, List, Ok}
 use Rattle.tide_mutator.specs.calls.Viewed as works
-use Rattle.tide_weakref.proofs.CalledLaws.{stepped_alone_then, stepped_none_then, stepped_seen, stepped_then, worked_by}
+use Rattle.tide_weakref.proofs.CalledLaws.{stepped_alone_then, stepped_seen, stepped_set_then, stepped_sets_then, stepped_then, worked_by}
 use Rattle.tide_weakref.proofs.ClosingLaws.{closes_after, is_apart, is_in, made_kept_full, made_not_cell, made_reference, referenced_full, same_but_all, same_but_then, spare_before, uses_more}
 use Rattle.tide_weakref.proofs.KeepLaws.{may_is, may_not}
-use Rattle.tide_weakref.proofs.SettingLaws.{takes_no_more, takes_one}
+use Rattle.tide_weakref.proofs.SettingLaws.{alone_only, kept_only, none_only, takes_no_more, takes_one}
 use Rattle.tide_weakref.proofs.StandingLaws.{goes_keeping, goes_same, goes_then, goes_using, holds_using}
 use Rattle.tide_weakref.proofs.StepLaws.{held_kept}
 use Rattle.tide_weakref.specs.Jobs.{Jobs, OthersSpare}
@@ -58,9 +58,11 @@ returns-in_default-aim g c =
       worked = worked_by c.args.self.now _
           (stepped_then c.args.self.now.mutator c.aim.new.mutator c.let_go.new.mutator c.aim.ensures.stepped c.let_go.ensures.stepped)
           (goes_same jobs)
-          (takes_no_more v u jobs jobs at (stepped_alone_then c.args.self.now.mutator c.aim.new.mutator c.let_go.new.mutator
-          (jobs.weak.first + at) c.aim.ensures.stepped c.let_go.ensures.stepped c.aim.ensures.sets c.let_go.ensures.sets)
-          c.in-Some.ensures.fresh.1 (λ one has. has)) closed.kept;
+          (takes_no_more v u jobs jobs at c.in-Some.ensures.fresh.0 c.in-Some.ensures.fresh.1
+          (alone_only v u (jobs.weak.first + at)
+          (stepped_alone_then c.args.self.now.mutator c.aim.new.mutator c.let_go.new.mutator
+          (jobs.weak.first + at) c.aim.ensures.stepped c.let_go.ensures.stepped c.aim.ensures.sets c.let_go.ensures.sets))
+          (λ one has. has)) closed.kept;
       keeps_jobs = closed.keeps;
       registers = closed.registers;
       answers = λ spare. made_not_cell layout v w u jobs jobs (jobs.weak.first + at) c.args.src (is_in jobs at c.in-Some.ensures.fresh.0)
@@ -87,9 +89,11 @@ returns-then-not-may_keep g c =
       worked = worked_by c.args.self.now _
           (stepped_then c.args.self.now.mutator c.aim.new.mutator let_go.new.mutator c.aim.ensures.stepped let_go.ensures.stepped)
           (goes_same jobs)
-          (takes_no_more v u jobs jobs at (stepped_alone_then c.args.self.now.mutator c.aim.new.mutator let_go.new.mutator
-          (jobs.weak.first + at) c.aim.ensures.stepped let_go.ensures.stepped c.aim.ensures.sets let_go.ensures.sets)
-          c.in-Some.ensures.fresh.1 (λ one has. has)) closed.kept;
+          (takes_no_more v u jobs jobs at c.in-Some.ensures.fresh.0 c.in-Some.ensures.fresh.1
+          (alone_only v u (jobs.weak.first + at)
+          (stepped_alone_then c.args.self.now.mutator c.aim.new.mutator let_go.new.mutator
+          (jobs.weak.first + at) c.aim.ensures.stepped let_go.ensures.stepped c.aim.ensures.sets let_go.ensures.sets))
+          (λ one has. has)) closed.kept;
       keeps_jobs = closed.keeps;
       registers = closed.registers;
       answers = λ spare. made_kept_full layout v w u jobs jobs (jobs.weak.first + at) c.args.src (is_in jobs at c.in-Some.ensures.fresh.0)
@@ -149,11 +153,14 @@ returns g c =
           (stepped_then c.args.self.now.mutator c.aim.new.mutator let_go.new.mutator c.aim.ensures.stepped later)
           (subst (GoesOn jobs) (sym made) (goes_then jobs (using jobs one) (keeping (using jobs one) target) (goes_using jobs one)
           (goes_keeping (using jobs one) (with_cell jobs.cells target))))
-          (takes_one v u jobs now at (stepped_alone_then c.args.self.now.mutator c.aim.new.mutator let_go.new.mutator
-          (jobs.weak.first + at) c.aim.ensures.stepped later c.aim.ensures.sets
-          (stepped_none_then c.aim.new.mutator c.keep.new.self.mutator let_go.new.mutator c.keep.ensures.stepped let_go.ensures.stepped
-          c.keep.ensures.sets let_go.ensures.sets)) c.in-Some.ensures.fresh.1 one refl (ap (λ (j : Jobs). j.weak) made)
-          (ap (λ (j : Jobs). j.uses) made)) closed.kept;
+          (takes_one v u jobs now at c.in-Some.ensures.fresh.0 c.in-Some.ensures.fresh.1
+          (stepped_sets_then c.args.self.now.mutator c.aim.new.mutator let_go.new.mutator c.aim.ensures.stepped later
+          (alone_only v w (jobs.weak.first + at) c.aim.ensures.sets)
+          (stepped_sets_then c.aim.new.mutator c.keep.new.self.mutator let_go.new.mutator c.keep.ensures.stepped let_go.ensures.stepped
+          (kept_only w x jobs now c.keep.ensures.sets) (none_only x u let_go.ensures.sets)))
+          one refl (ap (λ (j : Jobs). j.weak) made) (ap (λ (j : Jobs). j.uses) made)
+          (stepped_set_then c.args.self.now.mutator c.aim.new.mutator let_go.new.mutator (jobs.weak.first + at) c.aim.ensures.stepped
+          later c.aim.ensures.sets.was_set)) closed.kept;
       keeps_jobs = closed.keeps;
       registers = closed.registers;
       answers = λ spare. subst (λ (n : ℕ). IsReferenced c.args.src (held_in layout v c.args.src) jobs now (Ok n)) (sym number)

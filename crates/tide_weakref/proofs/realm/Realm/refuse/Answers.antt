@@ -3,7 +3,7 @@ use Rattle.std.proofs.Common.{ℕ, ◌∙◌, refl, sym, ap, true, false}
 use Rattle.std.specs.Prelude.{not}
 use Rattle.tide_model.specs.declared.op.Op.TheVariants.{Get}
 use Rattle.tide_mutator.specs.calls.Viewed as works
-use Rattle.tide_weakref.proofs.CalledLaws.{stepped_none_then, stepped_then, worked_by}
+use Rattle.tide_weakref.proofs.CalledLaws.{stepped_sets_then, stepped_then, worked_by}
 use Rattle.tide_weakref.proofs.ClosingLaws.{closes, closes_after, same_but_all}
 use Rattle.tide_weakref.proofs.KeepLaws.{got_is, told_no_cell, why_no_cell}
 use Rattle.tide_weakref.proofs.SettingLaws.{one_sets_none, takes_none}
@@ -37,8 +37,8 @@ returns g c =
           (stepped_then c.args.self.now.mutator step.new.mutator c.let_go.new.mutator step.ensures.stepped c.let_go.ensures.stepped)
           (goes_same jobs)
           (takes_none v (works.view_of c.let_go.new.mutator) jobs jobs
-          (stepped_none_then c.args.self.now.mutator step.new.mutator c.let_go.new.mutator step.ensures.stepped c.let_go.ensures.stepped
-          (one_sets_none layout shapes v w (Get jobs.scratch c.args.src 0) step.result step.ensures.makes (λ handle. refl))
+          (stepped_sets_then c.args.self.now.mutator step.new.mutator c.let_go.new.mutator step.ensures.stepped c.let_go.ensures.stepped
+          (one_sets_none layout shapes v w (Get jobs.scratch c.args.src 0) step.result step.ensures.makes (λ handle. refl) (λ handle. refl))
           c.let_go.ensures.sets) (λ one has. has)) closed.kept;
       keeps_jobs = closed.keeps;
       registers = closed.registers;
@@ -70,7 +70,7 @@ returns-then-refuses_no_cell g c =
     record {
       worked = worked_by c.args.self.now _ step.ensures.stepped (goes_same jobs)
           (takes_none v u jobs jobs
-          (one_sets_none layout shapes v u (Get jobs.scratch c.args.src 0) step.result step.ensures.makes (λ handle. refl))
+          (one_sets_none layout shapes v u (Get jobs.scratch c.args.src 0) step.result step.ensures.makes (λ handle. refl) (λ handle. refl))
           (λ one has. has)) closed.kept;
       keeps_jobs = closed.keeps;
       registers = closed.registers;

@@ -4,7 +4,7 @@ use Rattle.std.specs.Prelude.{Err}
 use Rattle.tide_mutator.specs.calls.Viewed as works
 use Rattle.tide_weakref.proofs.CalledLaws.{stepped_alone_then, stepped_seen, stepped_then, worked_by}
 use Rattle.tide_weakref.proofs.ClosingLaws.{closes_after, is_apart, is_in, registered_full, registered_not_cell, registered_one, spare_before, uses_more}
-use Rattle.tide_weakref.proofs.SettingLaws.{takes_no_more, takes_one}
+use Rattle.tide_weakref.proofs.SettingLaws.{alone_only, takes_no_more, takes_one}
 use Rattle.tide_weakref.proofs.StandingLaws.{goes_same, goes_using, holds_using}
 use Rattle.tide_weakref.proofs.StepLaws.{held_kept}
 use Rattle.tide_weakref.specs.Jobs.{OthersSpare}
@@ -52,9 +52,11 @@ returns-in_default-aim g c =
       worked = worked_by c.args.self.now _
           (stepped_then c.args.self.now.mutator c.aim.new.mutator c.let_go.new.mutator c.aim.ensures.stepped c.let_go.ensures.stepped)
           (goes_same jobs)
-          (takes_no_more v u jobs jobs at (stepped_alone_then c.args.self.now.mutator c.aim.new.mutator c.let_go.new.mutator
-          (jobs.weak.first + at) c.aim.ensures.stepped c.let_go.ensures.stepped c.aim.ensures.sets c.let_go.ensures.sets)
-          c.in-Some.ensures.fresh.1 (λ one has. has)) closed.kept;
+          (takes_no_more v u jobs jobs at c.in-Some.ensures.fresh.0 c.in-Some.ensures.fresh.1
+          (alone_only v u (jobs.weak.first + at)
+          (stepped_alone_then c.args.self.now.mutator c.aim.new.mutator c.let_go.new.mutator
+          (jobs.weak.first + at) c.aim.ensures.stepped c.let_go.ensures.stepped c.aim.ensures.sets c.let_go.ensures.sets))
+          (λ one has. has)) closed.kept;
       keeps_jobs = closed.keeps;
       registers = closed.registers;
       answers = λ spare. registered_not_cell layout v w u jobs jobs (jobs.weak.first + at) c.args.src
@@ -87,9 +89,10 @@ returns g c =
       worked = worked_by c.args.self.now _
           (stepped_then c.args.self.now.mutator c.aim.new.mutator let_go.new.mutator c.aim.ensures.stepped let_go.ensures.stepped)
           (subst (GoesOn jobs) (sym more) (goes_using jobs one))
-          (takes_one v u jobs now at (stepped_alone_then c.args.self.now.mutator c.aim.new.mutator let_go.new.mutator
-          (jobs.weak.first + at) c.aim.ensures.stepped let_go.ensures.stepped c.aim.ensures.sets let_go.ensures.sets)
-          c.in-Some.ensures.fresh.1 one refl c.add.ensures.handles c.add.ensures.uses) closed.kept;
+          (let alone = stepped_alone_then c.args.self.now.mutator c.aim.new.mutator let_go.new.mutator
+          (jobs.weak.first + at) c.aim.ensures.stepped let_go.ensures.stepped c.aim.ensures.sets let_go.ensures.sets in
+          takes_one v u jobs now at c.in-Some.ensures.fresh.0 c.in-Some.ensures.fresh.1
+          (alone_only v u (jobs.weak.first + at) alone) one refl c.add.ensures.handles c.add.ensures.uses alone.was_set) closed.kept;
       keeps_jobs = closed.keeps;
       registers = closed.registers;
       answers = λ spare. registered_one layout v w u jobs now (jobs.weak.first + at) c.args.src (is_in jobs at below)
