@@ -7,6 +7,7 @@ use Rattle.tide_weakref.proofs.StandingLaws.{LeavesJobs, holds_keeping, keep_lea
 use Rattle.tide_weakref.proofs.SettingLaws.{kept_last, one_keeps, sets_since}
 use Rattle.tide_weakref.proofs.StepLaws.{held_now, step_holds, step_kept, step_set, step_targets}
 use Rattle.tide_weakref.specs.Handles.{StrongKeeps}
+use Rattle.tide_weakref.specs.Jobs.{Jobs}
 use Rattle.tide_weakref.specs.Stepping.{HoldsNow}
 use Rattle.tide_weakref.specs.Viewed.{jobs_of, view_of}
 use Rattle.tide_mutator.specs.calls.Viewed as works
@@ -70,6 +71,8 @@ returns-then-has-clause-sets g c = sets_since (view_of c.args.self.now)
 
 pub returns-clause-sets : goal.returns-clause-sets
 returns-clause-sets g c =
+    let jobs = jobs_of c.args.self.now in
+    let now : Jobs = record jobs { strong = c.add.new.self.handles; cells = c.add.new.self.cells.items } in
     one_keeps c.args.heap.now.key.layout (g.S.ShapeTable.lists c.args.heap.now.key.shapes) (view_of c.args.self.now)
-    (works.view_of c.step.new.mutator) c.step.result c.next-at.result (jobs_of c.args.self.now).scratch c.step.ensures.makes
-    (kept_last (jobs_of c.args.self.now) _ c.args.cell c.next-at.result c.add.ensures.handles c.add.ensures.cells c.next-at.ensures)
+    (works.view_of c.step.new.mutator) c.step.result c.next-at.result jobs.scratch c.step.ensures.makes
+    (kept_last jobs now c.args.cell c.next-at.result c.add.ensures.handles c.add.ensures.cells c.next-at.ensures)
