@@ -1,11 +1,11 @@
 //! `Engine`: a heap with a realm in the midst of a part, as a script's runtime has it while a script runs.
-ghost use Rattle.embed_weakref.specs.Engine.{IsOpen, TakesPart};
+ghost use Rattle.embed_weakref.specs.Engine.{IsOpen};
 ghost use Rattle.std.specs.Prelude.{◌≡◌, ◌≤◌};
 
 use tide::{Books, Collector, Heap, Realm, Shapes};
 
-/// A heap of one mutator, which is a realm's, its collector, and the books of its freezes. A part is open, and the realm
-/// takes part in it.
+/// A heap of one mutator, which is a realm's, its collector, and the books of its freezes. A part is open. That the realm
+/// takes part in it (`Works`) is what each call asks for and leaves.
 #[derive(Drop)]
 pub struct Engine {
     pub heap: Heap<Shapes>,
@@ -16,5 +16,4 @@ pub struct Engine {
     ghost alone: { (heap.key.layout.mutators ≡ 1) × (heap.key.layout.visitors ≡ 0) },
     ghost registers: { 4 ≤ heap.key.layout.registers },
     ghost open: { IsOpen heap.key.layout books collector.seat.me.0 },
-    ghost works: { TakesPart heap.table.shared.table_id heap.key.layout collector.seat.me.0.period realm },
 }

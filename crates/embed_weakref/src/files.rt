@@ -1,6 +1,6 @@
 //! A script's files: the script holds a cell for each, a cache finds that again by a weak reference, and a registry
 //! closes the file once the cell is gone.
-ghost use Rattle.embed_weakref.specs.References.{HasReference, KeepsReferences};
+ghost use Rattle.embed_weakref.specs.References.{HasReference, KeepsReferences, Works};
 ghost use Rattle.std.specs.Prelude.{◌<◌, IfSome};
 
 use crate::engine::Engine;
@@ -10,7 +10,9 @@ use tide::Val;
 /// Puts the cell in a register into the cache, and has the registry close this file once the cell is gone. Answers the
 /// number of the weak reference.
 fn enter(engine: &mut Engine, src: u8, file: u32) -> Option<u32>
+    requires works { Works engine.old }
     requires register { src < 3 }
+    ensures works { Works engine.new }
     ensures made { IfSome result (HasReference engine.new) }
     ensures keeps { KeepsReferences engine.old engine.new }
 {
@@ -27,6 +29,8 @@ fn enter(engine: &mut Engine, src: u8, file: u32) -> Option<u32>
 
 /// The files that are to be closed now, two at most.
 fn to_close(engine: &mut Engine) -> [Option<u32>; 2]
+    requires works { Works engine.old }
+    ensures works { Works engine.new }
     ensures keeps { KeepsReferences engine.old engine.new }
 {
     let first = engine.deliver();

@@ -1,7 +1,7 @@
 //! The parts of an engine: it starts, and between two parts a cycle runs.
 ghost use Rattle.tide.specs.Parts.{IsIdleBefore};
 ghost use Rattle.embed_weakref.specs.Engine.{TakesPart};
-ghost use Rattle.embed_weakref.specs.References.{KeepsReferences};
+ghost use Rattle.embed_weakref.specs.References.{KeepsReferences, Works};
 ghost use Rattle.std.specs.Prelude.{◌≡◌, ◌<◌, ◌≤◌, false, IfOk, IfSome};
 ghost use Rattle.tide.specs.tide_core.machine.Frozen.{newcomer};
 ghost use Rattle.tide.specs.tide_model.Layout.{Layout as LayoutIs};
@@ -80,6 +80,7 @@ fn start_over(
     pacing: Pacing,
 ) -> Result<Option<Engine>, Memory>
     requires few { (kept ≤ 2) × (refs ≤ 4) }
+    ensures works { IfOk result (λ o. IfSome o Works) }
     ensures fresh { IfOk result (λ o. IfSome o (λ engine. (view_of engine.realm).born ≡ 0)) }
 {
     let layout = heap_layout(1);
@@ -110,6 +111,7 @@ impl Engine {
     /// 0.
     pub fn start(alloc: Global, kept: u16, refs: u16, trigger: u32) -> Option<Engine>
         requires few { (kept ≤ 2) × (refs ≤ 4) }
+        ensures works { IfSome result Works }
         ensures fresh { IfSome result (λ engine. (view_of engine.realm).born ≡ 0) }
     {
         let pacing = Pacing {
@@ -129,6 +131,8 @@ impl Engine {
     /// Ends the part, has a full cycle where it must, else what the schedule asks for, and begins the next part. `None`
     /// where memory is wanting, or no more part can be opened.
     pub fn next_part(self, is_forced: bool) -> Option<Engine>
+        requires works { Works self }
+        ensures works { IfSome result Works }
         ensures keeps { IfSome result (KeepsReferences self) }
         ensures fresh { IfSome result (λ engine. (view_of engine.realm).born ≡ 0) }
     {

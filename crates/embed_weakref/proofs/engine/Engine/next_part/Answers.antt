@@ -13,31 +13,31 @@ use Rattle.tide.specs.tide_weakref.Viewed.{view_of}
 use Rattle.embed_weakref.proofs.engine.Engine.next_part.Goals as goal
 
 pub stop-note-requires-clause-own : goal.stop-note-requires-clause-own
-stop-note-requires-clause-own c = c.args.self.works.ready.running.own
+stop-note-requires-clause-own c = c.requires.works.ready.running.own
 
 pub stop-note-requires-clause-mutator : goal.stop-note-requires-clause-mutator
-stop-note-requires-clause-mutator c = c.args.self.works.ready.running.is_mutator
+stop-note-requires-clause-mutator c = c.requires.works.ready.running.is_mutator
 
 pub stop-note-requires-clause-begun : goal.stop-note-requires-clause-begun
-stop-note-requires-clause-begun c = c.args.self.works.in_part.runs
+stop-note-requires-clause-begun c = c.requires.works.in_part.runs
 
 pub stop-note-requires-clause-of_part : goal.stop-note-requires-clause-of_part
-stop-note-requires-clause-of_part c = c.args.self.works.in_part.begun ∙ sym c.args.self.works.in_part.ticket
+stop-note-requires-clause-of_part c = c.requires.works.in_part.begun ∙ sym c.requires.works.in_part.ticket
 
 pub stop-note-requires-clause-once : goal.stop-note-requires-clause-once
 stop-note-requires-clause-once c =
-    let part = c.args.self.works.in_part in
+    let part = c.requires.works.in_part in
     subst (λ (n : ℕ). (view_of c.args.self.realm).period < n) (sym part.ticket) part.once
 
 pub take-requires-clause-of_heap : goal.take-requires-clause-of_heap
-take-requires-clause-of_heap c = c.stop-note.ensures.note.0 ∙ c.args.self.works.ready.running.own
+take-requires-clause-of_heap c = c.stop-note.ensures.note.0 ∙ c.requires.works.ready.running.own
 
 pub take-requires-clause-running : goal.take-requires-clause-running
 take-requires-clause-running c = c.args.self.open.runs.runs.running
 
 pub take-requires-clause-now : goal.take-requires-clause-now
 take-requires-clause-now c =
-    ap (λ (x : View). x.period) c.stop-note.ensures.note.1 ∙ c.args.self.works.in_part.ticket
+    ap (λ (x : View). x.period) c.stop-note.ensures.note.1 ∙ c.requires.works.in_part.ticket
 
 pub next_part-requires : goal.next_part-requires
 next_part-requires c =
@@ -46,8 +46,8 @@ next_part-requires c =
     let note = c.stop-note.result.seat.me.0 in
     let w = c.take.new.self.seat.me.0 in
     let layout = engine.heap.key.layout in
-    let has = mutator_done v (view_of engine.realm) note c.args.self.works.in_part c.args.self.works.unvisited c.stop-note.ensures.note.1 in
-    let none = ap (λ (x : View). x.visits) c.stop-note.ensures.note.1 ∙ c.args.self.works.unvisited in
+    let has = mutator_done v (view_of engine.realm) note c.requires.works.in_part c.requires.works.unvisited c.stop-note.ensures.note.1 in
+    let none = ap (λ (x : View). x.visits) c.stop-note.ensures.note.1 ∙ c.requires.works.unvisited in
     let took = c.take.ensures.noted in
     record {
       own = c.take.ensures.same.0 ∙ engine.own;
@@ -66,16 +66,16 @@ begin-requires c =
     let same = ap (λ (x : View). x.period) c.take.ensures.noted in
     record {
       own = c.in-Ok.ensures.own ∙ c.take.ensures.same.0 ∙ engine.own;
-      of_heap = c.stop-note.ensures.same.0 ∙ c.args.self.works.ready.running.own;
+      of_heap = c.stop-note.ensures.same.0 ∙ c.requires.works.ready.running.own;
       mutator = (let alone = engine.alone.0 in omega (arith, alone));
       running = next.runs.runs.running;
       idle = (
         v.period,
-        idle_then 0 v.period (view_of engine.realm) (view_of c.stop-note.new.self) c.args.self.works.in_part c.stop-note.ensures.stopped,
+        idle_then 0 v.period (view_of engine.realm) (view_of c.stop-note.new.self) c.requires.works.in_part c.stop-note.ensures.stopped,
         omega (arith, more, same),
       );
-      kept = c.stop-note.ensures.kept_jobs layout c.args.self.works.ready.kept_jobs;
-      scratch = ap (λ (j : Jobs). j.scratch) c.stop-note.ensures.jobs ∙ c.args.self.works.scratch;
+      kept = c.stop-note.ensures.kept_jobs layout c.requires.works.ready.kept_jobs;
+      scratch = ap (λ (j : Jobs). j.scratch) c.stop-note.ensures.jobs ∙ c.requires.works.scratch;
     }
 
 pub invariant_of-result-clause-open : goal.invariant_of-result-clause-open
