@@ -1,10 +1,10 @@
 -- What each call of a realm leaves of its part, and why the next part may be opened.
-use Rattle.std.proofs.Common.{ℕ, ◌≡◌, ◌+◌, ◌<◌, ◌⊎◌, refl, sym, ◌∙◌, ap, subst, arith, inl, inr, Bool, true, false, List, [], ◌∷◌}
+use Rattle.std.proofs.Common.{ℕ, ◌≡◌, ◌+◌, ◌⊎◌, refl, sym, ◌∙◌, ap, subst, arith, inl, inr, Bool, true, false, List, [], ◌∷◌}
 use Rattle.std.specs.Prelude.{◌==◌, if◌then◌else◌}
 use Rattle.tide.specs.atomic_table.Seated.{TableId}
 use Rattle.tide.proofs.Parts.{in_part_kept}
-use Rattle.tide.specs.Parts.{HasDoneItsPart, IsInPart}
-use Rattle.embed_weakref.specs.Engine.{IsOpen, TakesPart}
+use Rattle.tide.specs.Parts.{HasDoneItsPart}
+use Rattle.embed_weakref.specs.Engine.{TakesPart}
 use Rattle.tide.specs.tide_heap.Parties.{In, IsParty}
 use Rattle.tide.specs.tide_heap.Turns.{noted, visited_of}
 use Rattle.tide.specs.tide_core.declared.machine.view.View.{View}
@@ -12,7 +12,6 @@ use Rattle.tide.specs.tide_model.Layout.{Layout}
 use Rattle.tide.specs.tide_model.Refused.{ShapeLists}
 use Rattle.tide.specs.tide_mutator.owed.Calling.{Kept, kept}
 use Rattle.tide.specs.tide_table.VisitsTold.{HaveTold, VisitsAreIn, most_visits, unentered}
-use Rattle.tide.specs.tide_weakref.Uses.{GoesOn}
 use Rattle.tide.specs.tide_weakref.Viewed.{jobs_of, view_of}
 use Rattle.tide.specs.tide_weakref.Worked.{HasWorked, IsReady}
 use Rattle.tide.specs.tide_weakref.declared.realm.Realm.{Realm}

@@ -1,5 +1,5 @@
 -- A heap between two calls of the realm that runs on it.
-use Rattle.std.specs.Prelude.{ℕ, ◌≡◌, ◌<◌, []}
+use Rattle.std.specs.Prelude.{ℕ, ◌≡◌, []}
 use Rattle.tide.specs.atomic_table.Seated.{TableId}
 use Rattle.tide.specs.Parts.{IsInPart}
 use Rattle.tide.specs.tide_core.declared.machine.view.View.{View}

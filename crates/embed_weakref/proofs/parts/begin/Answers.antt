@@ -1,5 +1,5 @@
 -- The realm takes part in the open part.
-use Rattle.std.proofs.Common.{ℕ, ◌≡◌, ◌<◌, ◌∙◌, sym, ap, subst, arith}
+use Rattle.std.proofs.Common.{ℕ, ◌∙◌, sym, ap, subst, arith}
 use Rattle.tide.proofs.Parts.{has_begun}
 use Rattle.tide.specs.Parts.{IsIdleBefore, IsInPart}
 use Rattle.tide.specs.tide_core.declared.machine.view.View.{View}

@@ -1,11 +1,9 @@
 -- A realm that has nothing kept its jobs before the first call.
-use Rattle.std.proofs.Common.{ℕ, ◌≡◌, ◌+◌, ◌<◌, ◌≤◌, ◌∙◌, refl, sym, ap, subst, arith}
+use Rattle.std.proofs.Common.{◌≡◌, ◌∙◌, refl, sym, subst, arith}
 use Rattle.tide.specs.tide_core.declared.machine.view.View.{View}
-use Rattle.tide.specs.tide_core.machine.Frozen.{newcomer}
 use Rattle.tide.specs.tide_model.Caller.{IsOwn}
 use Rattle.tide.specs.tide_model.declared.val.Val.TheVariants.{Empty}
-use Rattle.tide.specs.tide_weakref.Jobs.{IsOfLayout, Jobs, registers_of}
-use Rattle.tide.specs.tide_weakref.Viewed.{jobs_of}
+use Rattle.tide.specs.tide_weakref.Jobs.{IsOfLayout, registers_of}
 use Rattle.embed_weakref.proofs.parts.new_realm.Goals as goal
 
 pub returns-clause-view : goal.returns-clause-view

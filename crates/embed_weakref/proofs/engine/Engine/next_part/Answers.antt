@@ -1,10 +1,8 @@
 -- The next part is opened, and the realm takes part in it.
-use Rattle.std.proofs.Common.{ℕ, ◌≡◌, ◌<◌, ◌≤◌, ◌+◌, ◌∙◌, refl, sym, ap, subst, arith}
+use Rattle.std.proofs.Common.{ℕ, ◌<◌, ◌∙◌, sym, ap, subst, arith}
 use Rattle.tide.proofs.Parts.{idle_then, mutator_done}
 use Rattle.embed_weakref.proofs.Engines.{alone_in, none_told, note_in, note_unvisited}
-use Rattle.tide.specs.Parts.{HasDoneItsPart, IsInPart}
 use Rattle.tide.specs.tide_core.declared.machine.view.View.{View}
-use Rattle.tide.specs.tide_core.declared.machine.view.Role.TheVariants.{Ticket}
 use Rattle.tide.proofs.tide_table.Nexts.{RunsWith-noted}
 use Rattle.tide.specs.tide_table.Standing.{RunsWith}
 use Rattle.tide.specs.tide_weakref.Jobs.{Jobs}
