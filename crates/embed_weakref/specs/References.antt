@@ -7,7 +7,8 @@ use Rattle.tide.specs.tide_weakref.Viewed.{jobs_of}
 
 -- the realm takes part in the open part
 abbrev pub Works : Engine → Type 0
-Works engine = TakesPart engine.heap.table.shared.table_id engine.heap.key.layout engine.collector.seat.me.0.period engine.realm
+Works engine =
+    TakesPart engine.heap.table.shared.table_id engine.heap.key.layout engine.collector.seat.me.0.period engine.realm
 
 -- this is the number of a reference that was made and not given up
 abbrev pub HasReference : Engine → ℕ → Type 0

@@ -4,8 +4,8 @@ ghost use Rattle.std.specs.Prelude.{◌≡◌, ◌≤◌};
 
 use tide::{Books, Collector, Heap, Realm, Shapes};
 
-/// A heap of one mutator, which is a realm's, its collector, and the books of its freezes. A part is open. That the realm
-/// takes part in it (`Works`) is what each call asks for and leaves.
+/// A heap of one mutator, which is a realm's, its collector, and the books of its freezes. A part is open. Each call
+/// asks that the realm takes part in it (`Works`), and leaves it so.
 #[derive(Drop)]
 pub struct Engine {
     pub heap: Heap<Shapes>,

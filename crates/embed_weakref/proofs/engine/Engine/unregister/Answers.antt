@@ -10,8 +10,9 @@ returns-clause-works c =
     let engine = c.args.self.now in
     let id = engine.heap.table.shared.table_id in
     let layout = engine.heap.key.layout in
-    part_kept id layout engine.collector.seat.me.0.period engine.realm c.unregister.new.self (ap kept c.unregister.ensures.same.2)
-    (c.unregister.ensures.ready id layout c.requires.works.ready) (ap (λ (j : Jobs). j.scratch) c.unregister.ensures.jobs) c.requires.works
+    part_kept id layout engine.collector.seat.me.0.period engine.realm c.unregister.new.self
+    (ap kept c.unregister.ensures.same.2) (c.unregister.ensures.ready id layout c.requires.works.ready)
+    (ap (λ (j : Jobs). j.scratch) c.unregister.ensures.jobs) c.requires.works
 
 pub returns-clause-keeps : goal.returns-clause-keeps
 returns-clause-keeps c = c.unregister.ensures.goes_on.references
