@@ -187,10 +187,10 @@ def main():
     workload, (name, printed) = schedule.told_apart(sys.argv[1:])
     name = "a run" if name == "-" else re.sub(r".*/|\.txt$", "", name)
     drawn = picture(name, printed, workload[1] if workload else None)
-    if to:
-        Path(to).write_text(drawn, encoding="utf-8")
-    else:
-        sys.stdout.write(drawn)
+    try:
+        Path(to).write_text(drawn, encoding="utf-8") if to else sys.stdout.write(drawn)
+    except OSError as error:
+        sys.exit(f"{to or 'the output'}: {error.strerror}")
 
 
 if __name__ == "__main__":
