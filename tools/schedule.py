@@ -114,20 +114,23 @@ class Told(judge.Run):
         held = judge.held(store)
         now = judge.closed(*held)
         self.let_go = {cell: by for cell, by in self.let_go.items() if cell not in now}
-        for cell in self.retained - now:
-            self.let_go[cell], self.hung[cell] = (who, self.told[who], model.text_of(op)), self.held_by(cell)
+        lost, call = self.retained - now, (who, self.told[who], model.text_of(op))
+        self.let_go |= dict.fromkeys(lost, call)
+        self.hung |= self.held_by(lost)
         self.held, self.retained, self.ever = held, now, self.ever | now
         if op[0] in STORES and not store.was_refused and isinstance(store.registers[who][op[3]], tuple):
             self.stored_into.add(store.registers[who][op[1]][1])
             self.stores += 1
 
-    def held_by(self, cell):
-        """What held a cell before the last call, in words, where that is neither a root nor a link."""
+    def held_by(self, cells):
+        """What held each of these cells before the last call, in words, where that is neither a root nor a link."""
+        if not cells:
+            return {}
         roots, links, pairs, _ = self.held
-        if cell in roots or any(other == cell and one in self.retained for one, other in links):
-            return ""
-        by_pair = any(value == cell and {table, key} <= self.retained for table, key, value in pairs)
-        return " (held by a pair)" if by_pair else " (held by its group)"
+        linked = roots | {other for one, other in links if one in self.retained}
+        paired = {value for table, key, value in pairs if table in self.retained and key in self.retained}
+        kinds = " (held by a pair)", " (held by its group)"
+        return {cell: "" if cell in linked else kinds[cell not in paired] for cell in cells}
 
     def tell(self, event):
         last = self.parts[-1]
