@@ -45,7 +45,7 @@ STORES = ("put", "setp", "add")
 
 @dataclass
 class Begin:
-    """The beginning of a cycle, and how many cells its first pause has to make black of how many that it may: all, if forced."""
+    """The beginning of a cycle, and how many cells its first pause has to make black of how many that it may."""
 
     cycle: int
     kind: str
@@ -299,7 +299,8 @@ def told_apart(names):
     texts = [one for one in given if re.search(r"^live \d+$", one[1], re.M)]
     workloads = [one for one in given if one not in texts]
     if len(texts) != 1 or len(workloads) > 1:
-        sys.exit(f"a text has a line `live N`, and of {' and '.join(names)} {len(texts)} do: name a workload and the text of its run")
+        have = f"of {' and '.join(names)} {len(texts)} do"
+        sys.exit(f"a text has a line `live N`, and {have}: name a workload and the text of its run")
     if not workloads:
         return None, texts[0]
     (name, document), (_, text) = workloads[0], texts[0]
@@ -320,7 +321,8 @@ def no_way(document):
     met = next(((one, other, min(both)) for one, other in pairs if (both := classes[one] & classes[other])), None)
     told = "no way through the freezes was found that gives this text with the mutators one after another"
     if met:
-        told += ": mutators {} and {} both allocate in class {}, so each may have called between the other's calls".format(*met)
+        why_not = "mutators {} and {} both allocate in class {}, so each may have called between the other's calls"
+        told += ": " + why_not.format(*met)
     holds = "the text's replies, and what each cycle kept and freed, hold where judge/judge_threads.py WORKLOAD TEXT accepts it"
     return f"{told}; {holds}"
 

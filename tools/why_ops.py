@@ -279,7 +279,8 @@ def parted(text, letter):
     if re.search(r" [0-9]{1,3}(?:,[0-9]{3})+$", text):
         return f"a `{letter}` stands in it, and a number has none", instead(text.replace(",", ""), "take it out")
     name, *words = text.split()
-    if name in FORMS and len(words) == len(FORMS[name].split()) and any(re.fullmatch("[a-z]+=[a-z0-9]+", one) for one in words):
+    is_named = any(re.fullmatch("[a-z]+=[a-z0-9]+", one) for one in words)
+    if is_named and name in FORMS and len(words) == len(FORMS[name].split()):
         return why, instead(" ".join([name, *(re.sub("^[a-z]+=", "", word) for word in words)]), f"take the {letter} out")
     pieces = [" ".join(re.sub(r"[,;()=\[\]]", " ", piece).split()) for piece in re.split("[,;]", text)]
     if letter == "," and len(FORMS.get(name, "").split()) == 1 and all(re.fullmatch("r[0-9]+", one) for one in pieces[1:]):

@@ -58,7 +58,8 @@ def bare(word, before):
     if before == "--snapshot" and word:
         return f"`{told}` is no option, and the snapshot goes to the output", f"take it out, and write > {told} behind the words"
     if before in FLAGS and word.lower() in ("true", "false", "yes", "no", "on", "off"):
-        return f"`{told}` is no option, and {before} has no value", "take it out" + ("" if word.lower() in ON else f", and {before} too")
+        rest = "" if word.lower() in ON else f", and {before} too"
+        return f"`{told}` is no option, and {before} has no value", f"take it out{rest}"
     if word in ("<", ">", "|"):
         return f"`{told}` is the shell's, and came to the program as a word", "write it without quotes"
     if re.fullmatch("[0-9]+", word):
@@ -70,19 +71,21 @@ def bare(word, before):
 
 
 def strange(word, is_behind, before, rest):
-    """Why a word is none of the four options, and what to change. `before` is the word before it, and `rest` those behind it."""
+    """Why a word is none of the four options, and what to change. `before` is the word before it, `rest` are those behind."""
     told = shown(word)
     if any("\udc80" <= letter <= "\udcff" for letter in word):
         return f"`{told}` isn't UTF-8", "write it in UTF-8"
     if is_behind and word.startswith("-") and word != "-":
         return f"`{told}` stands behind `--`, where no option is read", "take the -- out"
     if word in ("--help", "-h", "--version", "-V"):
-        return f"`{told}` isn't taken", "take it out; docs/WORKLOAD.md says what is taken, and docs/CHANGELOG.md which version it is"
+        return (f"`{told}` isn't taken",
+                "take it out; docs/WORKLOAD.md says what is taken, and docs/CHANGELOG.md which version it is")
     if not word.startswith("-") or word == "-":
         return bare(word, before)
     name = re.match("--([a-z]*)", word)
     if name and name[1] in NUMBERS:
-        return f"`{name[1]}` is a field of the workload, and no option", f"take {told} out, with its number, and write {name[1]} in the file"
+        return (f"`{name[1]}` is a field of the workload, and no option",
+                f"take {told} out, with its number, and write {name[1]} in the file")
     if " " in word and word.split(" ")[0] in (*NUMBERED, *FLAGS):
         return f"`{told}` is one word", f"write its words apart, without quotes: {' '.join(told.split())}"
     if meant := meant_by(word):
