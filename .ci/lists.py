@@ -487,7 +487,7 @@ def totals():
     tried, beside = (len(list(TOP.glob(f"crates/*/{folder}/*.edit"))) for folder in ("must-fail", "wrong"))
     return (
         f"{len(crates())} rooms (crates) have {code} thousand lines of code with contracts, {definitions} thousand of "
-        f"definitions and {proofs} thousand of proofs. The gate has the prover refuse {tried} bodies with a mistake in them; {beside} more are for a script, some untried."
+        f"definitions and {proofs} thousand of proofs. The gate has the prover refuse {tried} bodies with a mistake in them; {beside} more are tried by hand (`.ci/edits.sh`), some not yet."
     )
 
 
