@@ -2,3 +2,4 @@
 pub mod Parts
 pub use Rattle.tide_heap.proofs.tide_core
 pub use Rattle.tide_table.proofs as tide_table
+pub use Rattle.tide_weakref.proofs as tide_weakref
