@@ -1,8 +1,10 @@
-//! `Keeper`: who freezes a standing heap between two parts. Here it opens the first one.
-ghost use Rattle.std.specs.Prelude.{◌≡◌, ◌<◌, false};
-ghost use Rattle.tide_posts.specs.tide_heap.Turns.{opened};
+//! `Keeper`: who freezes a standing heap between two parts. Here it opens the first one, and posts tickets and ends.
+ghost use Rattle.std.specs.Prelude.{ℕ, ◌≡◌, ◌<◌, ◌+◌, false, replicate, true};
+ghost use Rattle.tide_posts.specs.Name.{places};
 ghost use Rattle.tide_posts.specs.Posts.{TicketTells};
-ghost use Rattle.tide_server.specs.Keepers.{IsKeeperOf};
+ghost use Rattle.tide_posts.specs.tide_hands.Rule.{Among};
+ghost use Rattle.tide_posts.specs.tide_heap.Turns.{opened};
+ghost use Rattle.tide_server.specs.Keepers.{IsKeeperOf, has_left, ticket_count};
 ghost use Rattle.tide_table.specs.Started.{IsStarted};
 
 use crate::standing::Standing;
@@ -15,24 +17,88 @@ pub struct Keeper {
     pub(crate) collector: Collector,
     pub(crate) seat: KeeperSeat<Ticket, Note, HeapName>,
     pub(crate) books: Books,
+    /// The number of the open part.
+    pub(crate) period: u32,
+    /// The notes of the open part are in of all places below this one.
+    pub(crate) next: usize,
+    /// One of them says that its mutator's last call ended its share.
+    pub(crate) ended: bool,
+    /// Which mutators have left for good.
+    pub(crate) left: [bool; 16],
+    ghost period_is: { period ≡ collector.seat.me.0.period },
 }
 
 impl Keeper {
-    /// Posts a ticket of the open part at each place.
-    fn hand_out<S: HeapShapes>(&mut self, standing: &Standing<S>)
+    /// A keeper that has opened no part yet.
+    pub(crate) fn new(
+        collector: Collector,
+        seat: KeeperSeat<Ticket, Note, HeapName>,
+        books: Books,
+    ) -> Keeper
+        requires first { collector.seat.me.0.period ≡ 0 }
+        ensures collector { result.collector ≡ collector }
+        ensures seat { result.seat ≡ seat }
+        ensures books { result.books ≡ books }
+        ensures nothing { (result.next ≡ 0) × (result.ended ≡ false) × (result.left ≡ replicate 16 false) }
+    {
+        Keeper {
+            collector,
+            seat,
+            books,
+            period: 0,
+            next: 0,
+            ended: false,
+            left: [false; 16],
+        }
+    }
+
+    /// Posts a ticket of the open part at each place whose participant hasn't left.
+    pub(crate) fn hand_out<S: HeapShapes>(&mut self, standing: &Standing<S>)
         requires of { IsKeeperOf standing.now.heap.key.layout standing.now.heap.table.shared.table_id
             standing.now.hands.shared.table_id self.old }
         requires running { self.old.collector.seat.me.0.frozen ≡ false }
         requires tells { TicketTells standing.now.heap.key.layout self.old.collector.seat.me.0 }
+        requires due { (place : ℕ) → place < places standing.now.heap.key.layout →
+            Among place self.old.seat.seat.me.0.free }
         ensures of { IsKeeperOf standing.now.heap.key.layout standing.now.heap.table.shared.table_id
             standing.now.hands.shared.table_id self.new }
-        ensures same { (self.new.collector.seat.me.0 ≡ self.old.collector.seat.me.0)
-            × (self.new.books ≡ self.old.books) }
+        ensures view { self.new.collector.seat.me.0 ≡ self.old.collector.seat.me.0 }
+        ensures books { self.new.books ≡ self.old.books }
+        ensures over { self.new.seat.seat.me.0.over ≡ self.old.seat.seat.me.0.over }
+        ensures posted { self.new.seat.seat.me.0.given
+            ≡ self.old.seat.seat.me.0.given + ticket_count standing.now.heap.key.layout self.old.left }
+        ensures due { (place : ℕ) → has_left standing.now.heap.key.layout self.old.left place ≡ true →
+            Among place self.new.seat.seat.me.0.free }
+        ensures same { (self.new.next ≡ self.old.next) × (self.new.ended ≡ self.old.ended)
+            × (self.new.left ≡ self.old.left) }
     {
-        let layout = standing.heap.layout();
-        for place in 0..usize::from(layout.mutators()) + usize::from(layout.visitors()) {
-            let ticket = self.collector.ticket(&standing.heap);
-            drop(self.seat.post_ticket(&standing.hands.shared, place, ticket));
+        let mutators = usize::from(standing.heap.layout().mutators());
+        let visitors = usize::from(standing.heap.layout().visitors());
+        for place in 0..mutators + visitors {
+            if place >= mutators || !self.left[place] {
+                let ticket = self.collector.ticket(&standing.heap);
+                drop(self.seat.post_ticket(&standing.hands.shared, place, ticket));
+            }
+        }
+    }
+
+    /// Posts an end at each visitor's place.
+    pub(crate) fn post_ends<S: HeapShapes>(&mut self, standing: &Standing<S>)
+        requires of { IsKeeperOf standing.now.heap.key.layout standing.now.heap.table.shared.table_id
+            standing.now.hands.shared.table_id self.old }
+        requires due { (place : ℕ) → place < places standing.now.heap.key.layout →
+            Among place self.old.seat.seat.me.0.free }
+        ensures of { IsKeeperOf standing.now.heap.key.layout standing.now.heap.table.shared.table_id
+            standing.now.hands.shared.table_id self.new }
+        ensures posted { self.new.seat.seat.me.0.given
+            ≡ self.old.seat.seat.me.0.given + standing.now.heap.key.layout.visitors }
+        ensures collector { self.new.collector ≡ self.old.collector }
+        ensures books { self.new.books ≡ self.old.books }
+    {
+        let mutators = usize::from(standing.heap.layout().mutators());
+        let visitors = usize::from(standing.heap.layout().visitors());
+        for place in mutators..mutators + visitors {
+            self.seat.post_end(&standing.hands.shared, place);
         }
     }
 
@@ -44,13 +110,23 @@ impl Keeper {
         requires started { IsStarted standing.now.heap.key.layout (S.lists standing.now.heap.key.shapes)
             self.old.collector.seat.me.0 }
         requires some { 0 < run }
+        requires due { (place : ℕ) → place < places standing.now.heap.key.layout →
+            Among place self.old.seat.seat.me.0.free }
         ensures of { IsKeeperOf standing.now.heap.key.layout standing.now.heap.table.shared.table_id
             standing.now.hands.shared.table_id self.new }
         ensures opened { self.new.collector.seat.me.0
             ≡ opened standing.now.heap.key.layout run self.old.collector.seat.me.0 }
         ensures books { self.new.books ≡ self.old.books }
+        ensures over { self.new.seat.seat.me.0.over ≡ self.old.seat.seat.me.0.over }
+        ensures posted { self.new.seat.seat.me.0.given
+            ≡ self.old.seat.seat.me.0.given + ticket_count standing.now.heap.key.layout self.old.left }
+        ensures due { (place : ℕ) → has_left standing.now.heap.key.layout self.old.left place ≡ true →
+            Among place self.new.seat.seat.me.0.free }
+        ensures same { (self.new.next ≡ self.old.next) × (self.new.ended ≡ self.old.ended)
+            × (self.new.left ≡ self.old.left) }
     {
         self.collector.open_first(&standing.heap, run);
+        self.period = 1;
         self.hand_out(standing);
     }
 }

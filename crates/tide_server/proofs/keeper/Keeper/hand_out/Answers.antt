@@ -13,7 +13,7 @@ post_ticket-requires-clause-ticket g c =
     let name : Name = record { layout = layout; table_id = heap.table.shared.table_id } in
     let so = c.loop-place.invariant in
     let told = c.ticket-ticket.ensures.ticket in
-    let tells = subst (TicketTells layout) (sym so.same) c.requires.tells in
+    let tells = subst (TicketTells layout) (sym so.view) c.requires.tells in
     subst (λ (n : Name). IsTicketFor n c.ticket-ticket.result) (sym so.of.named) record {
       of_heap = told.0 ∙ so.of.table;
       tells = subst (TicketTells layout) (sym told.1) record {
