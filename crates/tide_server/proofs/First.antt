@@ -64,6 +64,7 @@ module _ (layout : Layout) (shapes : ShapeLists) (heap hands : TableId) (k : Kee
 
   left_none : AreLeft layout (view_of k) 0 (replicate 16 false)
   left_none = record {
+    are = λ who e. nobody who (subst (In who) gone_is e);
     known = λ who below. (
       λ e. absurd (true≢false (sym e ∙ none_left 16 who)),
       λ e. nobody who (subst (In who) gone_is e),

@@ -3,6 +3,7 @@ pub mod Notes
 pub mod Tickets
 pub mod Working
 pub mod Taking
+pub mod Waiting
 pub mod Ending
 pub mod Turning
 pub mod First

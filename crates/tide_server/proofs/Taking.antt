@@ -24,7 +24,7 @@ any_below-same one other zero same = refl
 any_below-same one other (suc bound) same = λ i.
     (any_below-same one other bound (λ n below. same n (omega (arith, below))) i) || (same bound (omega arith) i)
 
-or_false : (b : Bool) → (b || false) ≡ b
+pub or_false : (b : Bool) → (b || false) ≡ b
 or_false true = refl
 or_false false = refl
 
@@ -102,6 +102,10 @@ module _ (v u : View) where
       u.who ≡ place → (In u.who v.gone → ⊥) → AreLeft layout v place left →
       AreLeft layout (noted v u) (suc place) (set left place u.left)
   AreLeft-mutator layout place left below within is isnt are = record {
+    are = λ who e. elim (cases_eq who place) [
+      | inl same ↦ subst (λ (n : ℕ). n < layout.mutators) (sym same) below
+      | inr apart ↦ are.are who (gone_other who u.left (λ same. apart (same ∙ is)) e)
+    ];
     known = λ who few. elim (cases_eq who place) [
       | inl same ↦ subst (λ (b : Bool). (b ≡ true) ↔ In who (if u.left then u.who ∷ v.gone else v.gone))
           (sym (ap (λ (n : ℕ). get_or (set left place u.left) n false) same ∙ get_or-set_same left place u.left false within))
@@ -120,6 +124,7 @@ module _ (v u : View) where
   pub AreLeft-visitor : (layout : Layout) (place : ℕ) (left : List Bool) → layout.mutators ≤ place →
       (u.left ≡ false) → AreLeft layout v place left → AreLeft layout (noted v u) (suc place) left
   AreLeft-visitor layout place left behind stays are = record {
+    are = λ who e. are.are who (subst (In who) same e);
     known = λ who few. subst (λ (l : List ℕ). (get_or left who false ≡ true) ↔ In who l) (sym same) (are.known who few);
     early = λ who few past. absurd (omega (arith, few, past, behind));
   }
@@ -131,6 +136,7 @@ module _ (v u : View) where
 pub AreLeft-later : (layout : Layout) (v : View) (place : ℕ) (left : List Bool) → AreLeft layout v place left →
     AreLeft layout v (suc place) left
 AreLeft-later layout v place left are = record {
+  are = are.are;
   known = are.known;
   early = λ who few past is. are.early who few (omega (arith, past)) is;
 }

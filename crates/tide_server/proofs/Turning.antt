@@ -277,6 +277,7 @@ module _ (layout : Layout) (shapes : ShapeLists) (heap hands : TableId) (k : Kee
 
     left_now : AreLeft layout x 0 k.left
     left_now = record {
+      are = λ who is. stands.left.are who (subst (In who) gone_now is);
       known = λ who below. subst (λ (l : List ℕ). (get_or k.left who false ≡ true) ↔ In who l) (sym gone_now)
           (stands.left.known who below);
       early = λ who below past is. inactive-prefix layout who whole x.start

@@ -85,9 +85,10 @@ pub record NotesAreIn (layout : Layout) (v : View) (next : ℕ) (ended : Bool) :
   pub later : (visitor : ℕ) → next - layout.mutators ≤ visitor → told_by (first_visitor + visitor) v.visited ≡ None
   pub done : v.done ≡ true
 
--- `left` says which mutators have left for good, as far as notes tell that are in. Whose note isn't in, and who has
--- left, had left before the part was opened.
+-- `left` says which mutators have left for good, as far as notes tell that are in, and nobody else has. Whose note isn't
+-- in, and who has left, had left before the part was opened.
 pub record AreLeft (layout : Layout) (v : View) (next : ℕ) (left : List Bool) : Type 0 where
+  pub are : (who : ℕ) → In who v.gone → who < layout.mutators
   pub known : (who : ℕ) → who < layout.mutators → (get_or left who false ≡ true) ↔ In who v.gone
   pub early : (who : ℕ) → who < layout.mutators → next ≤ who → In who v.gone →
       (state_after layout v.start).active who ≡ false
