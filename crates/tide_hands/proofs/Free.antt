@@ -1,8 +1,9 @@
 -- At which places the keeper knows that a ticket is due, once a word was stored at one.
-use Rattle.std.proofs.Common.{ℕ, ◌≡◌, ◌≢◌, ◌==◌, Bool, true, false, not, refl, sym, ◌∙◌, ap, subst, List, [], ◌∷◌, inl, inr}
-use Rattle.std.proofs.lemmas.Bool.{eqb-false, eqb-true, ne_eqb}
+use Rattle.std.proofs.Common.{ℕ, suc, pred, ◌≡◌, ◌≢◌, ◌==◌, Bool, true, false, not, refl, sym, ◌∙◌, ap, List, [], ◌∷◌, inl, inr}
+use Rattle.std.proofs.lemmas.Bool.{eqb-false, eqb-true}
 use Rattle.std.specs.Prelude.{◌⊎◌, if◌then◌else◌}
-use Rattle.tide_hands.specs.Rule.{Among, without}
+use Rattle.tide_hands.specs.declared.view.HandView.{HandView}
+use Rattle.tide_hands.specs.Rule.{Among, resting, without}
 
 -- the places among some without one
 pub among_without : (place other : ℕ) (places : List ℕ) → Among place (without other places) →
@@ -27,3 +28,17 @@ among_others place other (first ∷ places) apart is = by (first == other) refl 
     by true same (inr there) = among_others place other places apart there
     by false differs (inl here) = inl here
     by false differs (inr there) = inr (among_others place other places apart there)
+
+module _ {I : Type 0} where
+  -- where a ticket was due is known, whatever was stored at another place
+  pub free_others : (v : HandView I) (place word q : ℕ) → v.out ≡ suc place → q ≢ place → Among q v.free →
+      Among q (resting word v).free
+  free_others v place word q out apart is = by (word == 0)
+    where
+      by : (b : Bool) → Among q (if b then pred v.out ∷ v.free else without (pred v.out) v.free)
+      by true = inr is
+      by false = among_others q (pred v.out) v.free (λ e. apart (e ∙ ap pred out)) is
+
+  -- and so is where one is due now
+  pub free_here : (v : HandView I) (place : ℕ) → v.out ≡ suc place → Among place (resting 0 v).free
+  free_here v place out = inl (sym (ap pred out))

@@ -1,5 +1,5 @@
 //! `Keeper`: who freezes a standing heap between two parts. Here it opens the first one, and posts tickets and ends.
-ghost use Rattle.std.specs.Prelude.{ℕ, ◌≡◌, ◌<◌, ◌+◌, false, replicate, true};
+ghost use Rattle.std.specs.Prelude.{ℕ, ◌≡◌, ◌<◌, ◌≤◌, ◌+◌, ◌&&◌, false, get_or, nat_lt, replicate, true};
 ghost use Rattle.tide_posts.specs.Name.{places};
 ghost use Rattle.tide_posts.specs.Posts.{TicketTells};
 ghost use Rattle.tide_posts.specs.tide_hands.Rule.{Among};
@@ -52,6 +52,14 @@ impl Keeper {
         }
     }
 
+    /// Whether the participant at a place is a mutator that has left for good.
+    pub(crate) fn has_left(&self, mutators: usize, place: usize) -> bool
+        requires few { mutators ≤ 16 }
+        ensures { result ≡ (nat_lt place mutators && get_or self.now.left place false) }
+    {
+        place < mutators && self.left[place]
+    }
+
     /// Posts a ticket of the open part at each place whose participant hasn't left.
     pub(crate) fn hand_out<S: HeapShapes>(&mut self, standing: &Standing<S>)
         requires of { IsKeeperOf standing.now.heap.key.layout standing.now.heap.table.shared.table_id
@@ -75,10 +83,11 @@ impl Keeper {
         let mutators = usize::from(standing.heap.layout().mutators());
         let visitors = usize::from(standing.heap.layout().visitors());
         for place in 0..mutators + visitors {
-            if place >= mutators || !self.left[place] {
-                let ticket = self.collector.ticket(&standing.heap);
-                drop(self.seat.post_ticket(&standing.hands.shared, place, ticket));
+            if self.has_left(mutators, place) {
+                continue;
             }
+            let ticket = self.collector.ticket(&standing.heap);
+            drop(self.seat.post_ticket(&standing.hands.shared, place, ticket));
         }
     }
 

@@ -20,8 +20,8 @@ impl Keeper {
             standing.now.hands.shared.table_id self.old self.new }
         ensures next { self.new.next ≡ (if result then place + 1 else place) }
     {
-        let is_mutator = place < usize::from(standing.heap.layout().mutators());
-        if is_mutator && self.left[place] {
+        let mutators = usize::from(standing.heap.layout().mutators());
+        if self.has_left(mutators, place) {
             self.next = place + 1;
             return true;
         }
@@ -36,9 +36,10 @@ impl Keeper {
         self.collector.take(&standing.heap, note);
         self.next = place + 1;
         self.ended = self.ended || ended;
-        if is_mutator {
-            self.left[place] = numbers.left;
+        if place >= mutators {
+            return true;
         }
+        self.left[place] = numbers.left;
         true
     }
 
