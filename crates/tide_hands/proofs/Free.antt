@@ -9,25 +9,25 @@ use Rattle.tide_hands.specs.Rule.{Among, resting, without}
 pub among_without : (place other : ℕ) (places : List ℕ) → Among place (without other places) →
     (place ≢ other) × Among place places
 among_without place other [] is = absurd is
-among_without place other (first ∷ places) is = by (first == other) refl is
+among_without place other (first ∷ places) is = by (λ there. among_without place other places there) (first == other) refl is
   where
-    by : (b : Bool) → (first == other) ≡ b → Among place (if not b then first ∷ without other places else without other places) →
+    by : (Among place (without other places) → (place ≢ other) × Among place places) → (b : Bool) → (first == other) ≡ b → Among place (if not b then first ∷ without other places else without other places) →
         (place ≢ other) × Among place (first ∷ places)
-    by true same there = let rest = among_without place other places there in (rest.0, inr rest.1)
-    by false apart (inl here) = (λ e. eqb-false first other apart (sym here ∙ e), inl here)
-    by false apart (inr there) = let rest = among_without place other places there in (rest.0, inr rest.1)
+    by more true same there = let rest = more there in (rest.0, inr rest.1)
+    by more false apart (inl here) = (λ e. eqb-false first other apart (sym here ∙ e), inl here)
+    by more false apart (inr there) = let rest = more there in (rest.0, inr rest.1)
 
 -- another place stays among them
 pub among_others : (place other : ℕ) (places : List ℕ) → place ≢ other → Among place places → Among place (without other places)
 among_others place other [] apart is = is
-among_others place other (first ∷ places) apart is = by (first == other) refl is
+among_others place other (first ∷ places) apart is = by (λ there. among_others place other places apart there) (first == other) refl is
   where
-    by : (b : Bool) → (first == other) ≡ b → Among place (first ∷ places) →
+    by : (Among place places → Among place (without other places)) → (b : Bool) → (first == other) ≡ b → Among place (first ∷ places) →
         Among place (if not b then first ∷ without other places else without other places)
-    by true same (inl here) = absurd (apart (here ∙ eqb-true first other same))
-    by true same (inr there) = among_others place other places apart there
-    by false differs (inl here) = inl here
-    by false differs (inr there) = inr (among_others place other places apart there)
+    by more true same (inl here) = absurd (apart (here ∙ eqb-true first other same))
+    by more true same (inr there) = more there
+    by more false differs (inl here) = inl here
+    by more false differs (inr there) = inr (more there)
 
 module _ {I : Type 0} where
   -- where a ticket was due is known, whatever was stored at another place

@@ -113,15 +113,18 @@ module _ {T N I : Type 0} (ticket_ok : I → T → Type 0) (note_ok : I → ℕ 
         | inr k ↦ or_left r.over (me.keeper && is_end word) (old.heard (ends k is))
       ]
 
-      -- the keeper knows of the other places what it knew, and of this one where a ticket is due now
-      freed : (b : Bool) → (word == 0) ≡ b → me.keeper ≡ true → (q : ℕ) → Among q (free_of place b) →
-          (q < count) × (slice_index words q ≡ 0)
-      freed true is k q (inl same) = (
+      here_free : (word == 0) ≡ true → (q : ℕ) → q ≡ place → (q < count) × (slice_index words q ≡ 0)
+      here_free is q same = (
         subst (λ (n : ℕ). n < count) (sym same) within,
         ap (slice_index words) same ∙ stored ∙ eqb-true word 0 is,
       )
+
+      -- the keeper knows of the other places what it knew, and of this one where a ticket is due now
+      freed : (b : Bool) → (word == 0) ≡ b → me.keeper ≡ true → (q : ℕ) → Among q (free_of place b) →
+          (q < count) × (slice_index words q ≡ 0)
+      freed true is k q (inl same) = here_free is q same
       freed true is k q (inr in_it) = elim (cases_eq q place) [
-        | inl same ↦ freed true is k q (inl same)
+        | inl same ↦ here_free is q same
         | inr other ↦ ((old.free k q in_it).0, elsewhere q other ∙ (old.free k q in_it).1)
       ]
       freed false is k q in_it =

@@ -4,6 +4,7 @@ pub mod Tickets
 pub mod Working
 pub mod Taking
 pub mod Waiting
+pub mod Handing
 pub mod Ending
 pub mod Turning
 pub mod First

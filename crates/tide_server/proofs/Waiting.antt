@@ -1,6 +1,6 @@
 -- A keeper whose part is open goes on, place by place.
 use Rattle.std.proofs.Common.{ℕ, suc, ◌≡◌, ◌+◌, ◌-◌, ◌<◌, ◌≤◌, ◌∙◌, refl, sym, ap, subst, arith, Bool, true, false, List, get_or, set, length, get_or-set_other, inl, inr, ◌⊎◌, lt-ltb, le-ltb, true≢false}
-use Rattle.std.proofs.lemmas.Bool.{cases_eq}
+use Rattle.std.proofs.lemmas.Bool.{and_parts, cases_eq, ltb-true}
 use Rattle.std.specs.Prelude.{◌||◌, ◌&&◌, MatchBool, if◌then◌else◌, nat_lt}
 use Rattle.atomic_table.specs.Seated.{TableId}
 use Rattle.tide_model.specs.Freeze.{marks_after}
@@ -92,9 +92,9 @@ module _ (layout : Layout) (heap hands : TableId) (k : Keeper) (stands : KeeperS
       had place (inr is) = inr (ap (λ (l : List Bool). has_left layout l place) (sym left) ∙ is)
 
   -- a mutator had left
-  pub IsWaiting-left : (place : ℕ) → k.next ≡ place → place < layout.mutators → get_or k.left place false ≡ true →
+  pub IsWaiting-left : (place : ℕ) → k.next ≡ place → has_left layout k.left place ≡ true →
       IsWaiting layout heap hands k (record k { next = place + 1 })
-  IsWaiting-left place next below is =
+  IsWaiting-left place next has =
       IsWaiting-by (record k { next = place + 1 })
       (record { seated = refl; kept = refl; over = refl; given = refl; free = λ q e. e }) refl refl stands.runs refl refl refl
       (omega (arith, below))
@@ -103,14 +103,17 @@ module _ (layout : Layout) (heap hands : TableId) (k : Keeper) (stands : KeeperS
       (AreLeft-later layout (view_of k) place k.left (subst (λ (n : ℕ). AreLeft layout (view_of k) n k.left) next stands.left))
       (λ q e. stands.due q (was q e))
     where
+      parts : (nat_lt place layout.mutators ≡ true) × (get_or k.left place false ≡ true)
+      parts = and_parts (nat_lt place layout.mutators) (get_or k.left place false) has
+
+      below : place < layout.mutators
+      below = ltb-true place layout.mutators parts.0
+
       gone : In place (view_of k).gone
-      gone = (stands.left.known place below).0 is
+      gone = (stands.left.known place below).0 parts.1
 
       had : HadLeft layout (view_of k) place
       had = record { gone = gone; inactive = stands.left.early place below (omega (arith, next)) gone }
-
-      has : has_left layout k.left place ≡ true
-      has = ap (λ (b : Bool). b && get_or k.left place false) (lt-ltb place layout.mutators below) ∙ is
 
       was : (q : ℕ) → (q < place + 1) ⊎ (has_left layout k.left q ≡ true) → (q < k.next) ⊎ (has_left layout k.left q ≡ true)
       was q (inl less) = elim (cases_eq q place) [
@@ -118,6 +121,11 @@ module _ (layout : Layout) (heap hands : TableId) (k : Keeper) (stands : KeeperS
         | inr apart ↦ inl (omega (arith, less, apart, next))
       ]
       was q (inr e) = inr e
+
+  -- who hasn't left, if a mutator
+  pub stays_at : (place : ℕ) → has_left layout k.left place ≡ false → place < layout.mutators → get_or k.left place false ≡ false
+  stays_at place isnt below =
+      sym (ap (λ (b : Bool). b && get_or k.left place false) (lt-ltb place layout.mutators below)) ∙ isnt
 
   -- a note of the part was taken in
   module _ (place : ℕ) (next : k.next ≡ place) (within : place < places layout) (few : layout.mutators ≤ 16)

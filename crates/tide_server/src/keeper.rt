@@ -1,5 +1,5 @@
 //! `Keeper`: who freezes a standing heap between two parts. Here it opens the first one, and posts tickets and ends.
-ghost use Rattle.std.specs.Prelude.{ℕ, ◌≡◌, ◌<◌, ◌≤◌, ◌+◌, ◌&&◌, false, get_or, nat_lt, replicate, true};
+ghost use Rattle.std.specs.Prelude.{ℕ, ◌≡◌, ◌<◌, ◌+◌, false, replicate, true};
 ghost use Rattle.tide_posts.specs.Name.{places};
 ghost use Rattle.tide_posts.specs.Posts.{TicketTells};
 ghost use Rattle.tide_posts.specs.tide_hands.Rule.{Among};
@@ -8,7 +8,7 @@ ghost use Rattle.tide_server.specs.Keepers.{IsKeeperOf, has_left, ticket_count};
 ghost use Rattle.tide_table.specs.Started.{IsStarted};
 
 use crate::standing::Standing;
-use tide_posts::{Books, HeapName, HeapShapes, KeeperSeat, Note, Ticket};
+use tide_posts::{Books, HeapName, HeapShapes, KeeperSeat, Layout, Note, Ticket};
 use tide_table::Collector;
 
 /// Who freezes a standing heap and opens its parts.
@@ -53,11 +53,10 @@ impl Keeper {
     }
 
     /// Whether the participant at a place is a mutator that has left for good.
-    pub(crate) fn has_left(&self, mutators: usize, place: usize) -> bool
-        requires few { mutators ≤ 16 }
-        ensures { result ≡ (nat_lt place mutators && get_or self.now.left place false) }
+    pub(crate) fn has_left(&self, layout: &Layout, place: usize) -> bool
+        ensures { result ≡ has_left layout.now self.now.left place }
     {
-        place < mutators && self.left[place]
+        place < usize::from(layout.mutators()) && self.left[place]
     }
 
     /// Posts a ticket of the open part at each place whose participant hasn't left.
@@ -80,10 +79,9 @@ impl Keeper {
         ensures same { (self.new.next ≡ self.old.next) × (self.new.ended ≡ self.old.ended)
             × (self.new.left ≡ self.old.left) }
     {
-        let mutators = usize::from(standing.heap.layout().mutators());
-        let visitors = usize::from(standing.heap.layout().visitors());
-        for place in 0..mutators + visitors {
-            if self.has_left(mutators, place) {
+        let layout = standing.heap.layout();
+        for place in 0..usize::from(layout.mutators()) + usize::from(layout.visitors()) {
+            if self.has_left(layout, place) {
                 continue;
             }
             let ticket = self.collector.ticket(&standing.heap);
@@ -104,9 +102,9 @@ impl Keeper {
         ensures collector { self.new.collector ≡ self.old.collector }
         ensures books { self.new.books ≡ self.old.books }
     {
-        let mutators = usize::from(standing.heap.layout().mutators());
-        let visitors = usize::from(standing.heap.layout().visitors());
-        for place in mutators..mutators + visitors {
+        let layout = standing.heap.layout();
+        let mutators = usize::from(layout.mutators());
+        for place in mutators..mutators + usize::from(layout.visitors()) {
             self.seat.post_end(&standing.hands.shared, place);
         }
     }

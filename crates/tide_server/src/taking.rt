@@ -20,8 +20,8 @@ impl Keeper {
             standing.now.hands.shared.table_id self.old self.new }
         ensures next { self.new.next ≡ (if result then place + 1 else place) }
     {
-        let mutators = usize::from(standing.heap.layout().mutators());
-        if self.has_left(mutators, place) {
+        let layout = standing.heap.layout();
+        if self.has_left(layout, place) {
             self.next = place + 1;
             return true;
         }
@@ -36,7 +36,7 @@ impl Keeper {
         self.collector.take(&standing.heap, note);
         self.next = place + 1;
         self.ended = self.ended || ended;
-        if place >= mutators {
+        if place >= usize::from(layout.mutators()) {
             return true;
         }
         self.left[place] = numbers.left;
@@ -52,9 +52,9 @@ impl Keeper {
         ensures all { result ≡ true → self.new.next ≡ places standing.now.heap.key.layout }
         ensures due { result ≡ false → self.new.next < places standing.now.heap.key.layout }
     {
-        let mutators = usize::from(standing.heap.layout().mutators());
-        let visitors = usize::from(standing.heap.layout().visitors());
-        for place in self.next..mutators + visitors {
+        let layout = standing.heap.layout();
+        let mutators = usize::from(layout.mutators());
+        for place in self.next..mutators + usize::from(layout.visitors()) {
             if !self.take_from(standing, place) {
                 return false;
             }
