@@ -249,4 +249,4 @@ AllIn-here layout heap hands k stands all i (inr visits) =
     let under = visits.1 in
     let told = stands.notes.visitors (i - first_visitor) (omega (arith, over, under, all)) in
     let is = told.is in
-    inl (subst (λ (n : ℕ). In n (view_of k).notes) (omega (arith, is, over)) told.is_in.who)
+    inl (subst (λ (n : ℕ). In n (view_of k).notes) (let same : told.note.who ≡ i = omega (arith, is, over) in same) told.is_in.who)

@@ -6,5 +6,5 @@ pub mod Taking
 pub mod Waiting
 pub mod Handing
 pub mod Ending
-pub mod Turning
+pub mod Frozen
 pub mod First

@@ -1,7 +1,7 @@
 -- The notes of the places so far are in.
 use Rattle.std.proofs.Common.{◌≡◌}
 use Rattle.tide_server.specs.Turned.{IsWaiting}
-use Rattle.tide_server.proofs.taking.Keeper.take_notes.Given as goal
+use Rattle.tide_server.proofs.keeper.Keeper.take_notes.Given as goal
 
 abbrev pub invariant-loop-place : goal.invariant-loop-place
 invariant-loop-place g l = record {

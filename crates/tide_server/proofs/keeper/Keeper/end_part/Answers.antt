@@ -1,0 +1,8 @@
+-- What a turn answers, by what the freeze made of the part.
+use Rattle.std.proofs.Common.{ℕ, ◌≡◌, ◌∙◌, refl, sym, ap, subst, Bool, true, false}
+use Rattle.tide_server.proofs.Ending.{is_forced-here}
+use Rattle.tide_server.proofs.Frozen.{HasFinished-frozen, HasOpenedPart-frozen, HasSpentParts-frozen, MakesPeriod-frozen}
+use Rattle.tide_server.proofs.keeper.Keeper.end_part.Goals as goal
+
+pub returns-clause-pacing : goal.returns-clause-pacing
+returns-clause-pacing g c = ?
