@@ -32,7 +32,7 @@ use Rattle.tide_posts.specs.tide_heap.tide_core.declared.machine.view.View.{View
 use Rattle.tide_posts.specs.tide_heap.tide_core.machine.World.{first_visitor}
 use Rattle.tide_sched.proofs.RunLaws.{last_run-opened}
 use Rattle.tide_sched.specs.Paces.{last_run, pace_of}
-use Rattle.tide_server.proofs.Taking.{any_below-same, or_false}
+use Rattle.tide_server.proofs.Noted.{any_below-same, or_false}
 use Rattle.tide_server.specs.Keepers.{HadLeft, HasToldShare, HasToldVisits, KeeperStands, MutatorIsIn, NoteIsIn, view_of}
 use Rattle.tide_server.specs.declared.keeper.Keeper.{Keeper}
 use Rattle.tide_table.specs.VisitsTold.{VisitsAreIn, most_visits, unentered, visits_left}

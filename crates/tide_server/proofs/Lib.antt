@@ -2,7 +2,7 @@ pub mod Lists
 pub mod Notes
 pub mod Tickets
 pub mod Working
-pub mod Taking
+pub mod Noted
 pub mod Waiting
 pub mod Handing
 pub mod Ending

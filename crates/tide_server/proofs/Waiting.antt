@@ -18,7 +18,7 @@ use Rattle.tide_posts.specs.tide_heap.tide_core.declared.machine.view.View.{View
 use Rattle.tide_posts.specs.tide_heap.tide_core.machine.World.{first_visitor}
 use Rattle.tide_posts.specs.tide_heap.tide_freeze.declared.books.Books.{Books}
 use Rattle.tide_sched.specs.Paces.{pace_of}
-use Rattle.tide_server.proofs.Taking.{AreLeft-later, AreLeft-mutator, AreLeft-visitor, NotesAreIn-left, NotesAreIn-told, NotesAreIn-visited, or_false}
+use Rattle.tide_server.proofs.Noted.{AreLeft-later, AreLeft-mutator, AreLeft-visitor, NotesAreIn-left, NotesAreIn-told, NotesAreIn-visited, or_false}
 use Rattle.tide_server.specs.Keepers.{AreLeft, HadLeft, KeeperStands, NotesAreIn, has_left, view_of}
 use Rattle.tide_server.specs.Turned.{IsWaiting}
 use Rattle.tide_server.specs.declared.keeper.Keeper.{Keeper}

@@ -11,12 +11,13 @@
 #![tactic(auto)]
 
 mod helper;
+mod keeper;
 mod member;
 mod standing;
 // these stand on those listed before
 mod helping;
-mod keeper;
 mod parts;
+mod posting;
 // these stand on those listed before
 mod calls;
 mod finishing;
