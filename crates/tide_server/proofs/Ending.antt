@@ -40,9 +40,10 @@ use Rattle.tide_table.specs.VisitsTold.{VisitsAreIn, most_visits, unentered, vis
 -- what a test says of numbers beyond some doesn't matter where each of those fails it
 any_below-beyond : (test : ℕ → Bool) (from more : ℕ) → ((n : ℕ) → from ≤ n → test n ≡ false) →
     any_below test (from + more) ≡ any_below test from
-any_below-beyond test from zero fails = refl
+any_below-beyond test from zero fails = ap (any_below test) (let same : from + 0 ≡ from = omega arith in same)
 any_below-beyond test from (suc more) fails =
-    ap (λ (b : Bool). any_below test (from + more) || b) (fails (from + more) (omega arith))
+    ap (any_below test) (let same : from + suc more ≡ suc (from + more) = omega arith in same)
+    ∙ ap (λ (b : Bool). any_below test (from + more) || b) (fails (from + more) (omega arith))
     ∙ or_false (any_below test (from + more))
     ∙ any_below-beyond test from more fails
 

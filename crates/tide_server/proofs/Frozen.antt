@@ -181,7 +181,7 @@ module _ (layout : Layout) (shapes : ShapeLists) (heap hands : TableId) (k : Kee
   pub MakesPeriod-frozen : forces ≡ is_forced layout (opened_history pace layout stands.before) froze.part →
       MakesPeriod layout shapes k w.seen
   MakesPeriod-frozen forced = record {
-    longer = begun_is;
+    grows = begun_is;
     lawful = did.collected.still.wave.lawful;
     periods = periods_go_on pace layout stands.before froze.part w.seen stands.periods stands.goes_on
         (AllPass-from_list_all (λ (e : Event). is_of_part e.entry) froze.part froze.of_part)
@@ -213,7 +213,7 @@ module _ (layout : Layout) (shapes : ShapeLists) (heap hands : TableId) (k : Kee
       any_below (λ who. not (get_or k.left who false)) layout.mutators ≡ false → HasPostedEnds layout k final →
       HasFinished layout shapes heap k final report longer
   HasFinished-frozen final same pacing table makes over posted = record {
-    longer = subst (IsPrefix v.start) (sym seen_now) begun_is;
+    grows = subst (IsPrefix v.start) (sym seen_now) begun_is;
     finished = record {
       table = ap (λ (c : Collector). c.seat.table_id) same ∙ table;
       frozen = ap (λ (c : Collector). c.seat.me.0.frozen) same ∙ did.collected.still.frozen;

@@ -12,27 +12,28 @@ use Rattle.tide_server.specs.Keepers.{has_left}
 pub has_left-below : (layout : Layout) (left : List Bool) (place : ℕ) → has_left layout left place ≡ true → place < layout.mutators
 has_left-below layout left place is = ltb-true place layout.mutators (and_parts (nat_lt place layout.mutators) (get_or left place false) is).0
 
+one_more : (n : ℕ) → suc n ≡ n + 1
+one_more n = omega arith
+
 module _ (layout : Layout) (left : List Bool) (place start given : ℕ)
     (were : given ≡ start + count_where (λ p. not (has_left layout left p)) place) where
   -- whose participant has left gets none
   pub posted-none : has_left layout left place ≡ true →
-      given ≡ start + count_where (λ p. not (has_left layout left p)) (suc place)
-  posted-none is =
-      let none = ap (λ (b : Bool). if not b then 1 else 0) is in
-      omega (arith, were, none)
+      given ≡ start + count_where (λ p. not (has_left layout left p)) (place + 1)
+  posted-none is = subst (λ (n : ℕ). given ≡ start + count_where (λ p. not (has_left layout left p)) n) (one_more place)
+      (let none = ap (λ (b : Bool). if not b then 1 else 0) is in omega (arith, were, none))
 
   -- any other gets one
   pub posted-one : (now : ℕ) → has_left layout left place ≡ false → now ≡ given + 1 →
-      now ≡ start + count_where (λ p. not (has_left layout left p)) (suc place)
-  posted-one now isnt more =
-      let one = ap (λ (b : Bool). if not b then 1 else 0) isnt in
-      omega (arith, were, one, more)
+      now ≡ start + count_where (λ p. not (has_left layout left p)) (place + 1)
+  posted-one now isnt more = subst (λ (n : ℕ). now ≡ start + count_where (λ p. not (has_left layout left p)) n) (one_more place)
+      (let one = ap (λ (b : Bool). if not b then 1 else 0) isnt in omega (arith, were, one, more))
 
 module _ (layout : Layout) (left : List Bool) (place : ℕ) (free now : List ℕ)
     (kept : (q : ℕ) → (q ≡ place → ⊥) → Among q free → Among q now) where
   -- it is known where tickets are due at later places
   pub ahead-more : ((q : ℕ) → place ≤ q → q < places layout → Among q free) →
-      (q : ℕ) → suc place ≤ q → q < places layout → Among q now
+      (q : ℕ) → place + 1 ≤ q → q < places layout → Among q now
   ahead-more ahead q later below = kept q (λ same. omega (arith, later, same)) (ahead q (omega (arith, later)) below)
 
   -- and where who has left was

@@ -26,6 +26,9 @@ use Rattle.tide_table.proofs.Nexts.{RunsWith-noted}
 use Rattle.tide_table.specs.Standing.{RunsWith}
 use Rattle.tide_table.specs.declared.collector.Collector.{Collector}
 
+one_more : (n : ℕ) → suc n ≡ n + 1
+one_more n = omega arith
+
 module _ (layout : Layout) (heap hands : TableId) (k : Keeper) (stands : KeeperStands layout heap hands k) where
   -- of the keeper's seat a look leaves this, and makes nothing else than places known at which a ticket is due
   pub record HasLooked (now : Keeper) : Type 0 where
@@ -98,9 +101,11 @@ module _ (layout : Layout) (heap hands : TableId) (k : Keeper) (stands : KeeperS
       IsWaiting-by (record k { next = place + 1 })
       (record { seated = refl; kept = refl; over = refl; given = refl; free = λ q e. e }) refl refl stands.runs refl refl refl
       (omega (arith, below))
+      (subst (λ (n : ℕ). NotesAreIn layout (view_of k) n k.ended) (one_more place)
       (NotesAreIn-left layout (view_of k) place k.ended below had
-      (subst (λ (n : ℕ). NotesAreIn layout (view_of k) n k.ended) next stands.notes))
-      (AreLeft-later layout (view_of k) place k.left (subst (λ (n : ℕ). AreLeft layout (view_of k) n k.left) next stands.left))
+      (subst (λ (n : ℕ). NotesAreIn layout (view_of k) n k.ended) next stands.notes)))
+      (subst (λ (n : ℕ). AreLeft layout (view_of k) n k.left) (one_more place)
+      (AreLeft-later layout (view_of k) place k.left (subst (λ (n : ℕ). AreLeft layout (view_of k) n k.left) next stands.left)))
       (λ q e. stands.due q (was q e))
     where
       parts : (nat_lt place layout.mutators ≡ true) × (get_or k.left place false ≡ true)
@@ -166,12 +171,14 @@ module _ (layout : Layout) (heap hands : TableId) (k : Keeper) (stands : KeeperS
         (subst (λ (x : View). NotesAreIn layout x now.next now.ended) (sym is)
         (subst (λ (n : ℕ). NotesAreIn layout (noted v u) n now.ended) (sym later)
         (subst (NotesAreIn layout (noted v u) (place + 1)) (sym ended)
-        (NotesAreIn-told layout v u place k.ended ends below (omega (arith, below, few)) who period tells told.done isnt notes_were))))
+        (subst (λ (n : ℕ). NotesAreIn layout (noted v u) n (k.ended || ends)) (one_more place)
+        (NotesAreIn-told layout v u place k.ended ends below (omega (arith, below, few)) who period tells told.done isnt notes_were)))))
         (subst (λ (x : View). AreLeft layout x now.next now.left) (sym is)
         (subst (λ (n : ℕ). AreLeft layout (noted v u) n now.left) (sym later)
         (subst (AreLeft layout (noted v u) (place + 1)) (sym left)
+        (subst (λ (n : ℕ). AreLeft layout (noted v u) n (set k.left place u.left)) (one_more place)
         (AreLeft-mutator v u layout place k.left below (omega (arith, below, few, long)) who
-        (subst (λ (n : ℕ). In n v.gone → ⊥) (sym who) isnt) left_were))))
+        (subst (λ (n : ℕ). In n v.gone → ⊥) (sym who) isnt) left_were)))))
         (due_now now looked here later (λ q apart. ap (λ (l : List Bool). has_left layout l q) left
         ∙ ap (λ (b : Bool). nat_lt q layout.mutators && b) (get_or-set_other k.left place q u.left false apart)))
       where
@@ -197,11 +204,13 @@ module _ (layout : Layout) (heap hands : TableId) (k : Keeper) (stands : KeeperS
         (subst (λ (x : View). NotesAreIn layout x now.next now.ended) (sym is)
         (subst (λ (n : ℕ). NotesAreIn layout (noted v u) n now.ended) (sym later)
         (subst (NotesAreIn layout (noted v u) (place + 1)) (sym (ended ∙ ap (λ (b : Bool). k.ended || b) tells.none ∙ or_false k.ended))
-        (NotesAreIn-visited layout v u place k.ended behind few who period (told.begun ∙ period) tells.marked told.done isnt notes_were))))
+        (subst (λ (n : ℕ). NotesAreIn layout (noted v u) n k.ended) (one_more place)
+        (NotesAreIn-visited layout v u place k.ended behind few who period (told.begun ∙ period) tells.marked told.done isnt notes_were)))))
         (subst (λ (x : View). AreLeft layout x now.next now.left) (sym is)
         (subst (λ (n : ℕ). AreLeft layout (noted v u) n now.left) (sym later)
         (subst (AreLeft layout (noted v u) (place + 1)) (sym left)
-        (AreLeft-visitor v u layout place k.left behind tells.stays left_were))))
+        (subst (λ (n : ℕ). AreLeft layout (noted v u) n k.left) (one_more place)
+        (AreLeft-visitor v u layout place k.left behind tells.stays left_were)))))
         (due_now now looked here later (λ q apart. ap (λ (l : List Bool). has_left layout l q) left))
       where
         is_visitor : nat_lt place layout.mutators ≡ false

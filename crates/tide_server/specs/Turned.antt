@@ -23,7 +23,7 @@ use Rattle.tide_table.specs.Standing.{HasCollected}
 -- The freeze after the keeper's open part made one more whole period of the history: it goes on from where the part was
 -- opened, is lawful, and its cycles end in time.
 pub record MakesPeriod (layout : Layout) (shapes : ShapeLists) (k : Keeper) (after : List Event) : Type 0 where
-  pub longer : IsPrefix (view_of k).start after
+  pub grows : IsPrefix (view_of k).start after
   pub lawful : IsLawful layout shapes after
   pub periods : ArePeriods (pace_of k.books.pacing) layout after
   pub ends : Each (EndsInTime layout) after
@@ -66,7 +66,7 @@ HasPostedEnds layout old new = new.seat.seat.me.0.given ≡ old.seat.seat.me.0.g
 -- no mutator is active any more, and the history is finished
 pub record HasFinished (layout : Layout) (shapes : ShapeLists) (heap : TableId) (old new : Keeper)
     (report longer : Reported) : Type 0 where
-  pub longer : IsPrefix (view_of old).start (view_of new).seen
+  pub grows : IsPrefix (view_of old).start (view_of new).seen
   pub finished : IsFinished layout shapes heap new
   pub posted : HasPostedEnds layout old new
   pub told : AddsEnds layout (view_of old).start (view_of new).seen report longer

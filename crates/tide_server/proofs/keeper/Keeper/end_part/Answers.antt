@@ -3,6 +3,3 @@ use Rattle.std.proofs.Common.{ℕ, ◌≡◌, ◌∙◌, refl, sym, ap, subst, B
 use Rattle.tide_server.proofs.Ending.{is_forced-here}
 use Rattle.tide_server.proofs.Frozen.{HasFinished-frozen, HasOpenedPart-frozen, HasSpentParts-frozen, MakesPeriod-frozen}
 use Rattle.tide_server.proofs.keeper.Keeper.end_part.Goals as goal
-
-pub returns-clause-pacing : goal.returns-clause-pacing
-returns-clause-pacing g c = ?

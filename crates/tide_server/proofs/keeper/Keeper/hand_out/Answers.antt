@@ -1,9 +1,10 @@
 -- Each ticket tells what the keeper's view does.
-use Rattle.std.proofs.Common.{◌≡◌, ◌∙◌, ap, sym, subst}
+use Rattle.std.proofs.Common.{◌≡◌, ◌+◌, ◌∙◌, arith, ap, refl, sym, subst}
 use Rattle.tide_posts.specs.Name.{Name}
 use Rattle.tide_posts.specs.Posts.{IsTicketFor, TicketTells}
 use Rattle.tide_posts.specs.tide_heap.Turns.{ticket_of}
 use Rattle.tide_posts.specs.tide_heap.tide_core.declared.machine.view.View.{View}
+use Rattle.tide_server.proofs.Handing.{has_left-below}
 use Rattle.tide_server.proofs.keeper.Keeper.hand_out.Goals as goal
 
 pub post_ticket-requires-clause-ticket : goal.post_ticket-requires-clause-ticket
@@ -22,3 +23,17 @@ post_ticket-requires-clause-ticket g c =
         marking = tells.marking;
       };
     }
+
+pub loop-place-init : goal.loop-place-init
+loop-place-init g c = record {
+  of = c.requires.of;
+  view = refl;
+  books = refl;
+  over = refl;
+  posted = (let same : c.args.self.now.seat.seat.me.0.given ≡ c.args.self.now.seat.seat.me.0.given + 0 = omega arith in same);
+  ahead = λ place from below. c.requires.due place below;
+  due = λ place is. c.requires.due place (let below = has_left-below c.args.standing.now.heap.key.layout c.args.self.now.left place is in omega (arith, below));
+  next = refl;
+  ended = refl;
+  left = refl;
+}
