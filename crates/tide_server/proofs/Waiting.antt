@@ -224,3 +224,19 @@ module _ (layout : Layout) (heap hands : TableId) (k : Keeper) (stands : KeeperS
 
         isnt : In u.who v.gone → ⊥
         isnt e = (let below = stands.left.are u.who e in omega (arith, below, who, few))
+
+-- it waits for two looks, one after another
+pub IsWaiting-then : (layout : Layout) (heap hands : TableId) (one two three : Keeper) → IsWaiting layout heap hands one two →
+    IsWaiting layout heap hands two three → IsWaiting layout heap hands one three
+IsWaiting-then layout heap hands one two three first second = record {
+  stands = second.stands;
+  start = second.start ∙ first.start;
+  period = second.period ∙ first.period;
+  pacing = second.pacing ∙ first.pacing;
+  posted = second.posted ∙ first.posted;
+}
+
+-- and for none
+pub IsWaiting-here : (layout : Layout) (heap hands : TableId) (k : Keeper) → KeeperStands layout heap hands k →
+    IsWaiting layout heap hands k k
+IsWaiting-here layout heap hands k stands = record { stands = stands; start = refl; period = refl; pacing = refl; posted = refl }

@@ -21,6 +21,7 @@ impl Keeper {
         ensures next { self.new.next ≡ (if result then place + 1 else place) }
     {
         let layout = standing.heap.layout();
+        let mutators = usize::from(layout.mutators());
         if self.has_left(layout, place) {
             self.next = place + 1;
             return true;
@@ -36,7 +37,7 @@ impl Keeper {
         self.collector.take(&standing.heap, note);
         self.next = place + 1;
         self.ended = self.ended || ended;
-        if place >= usize::from(layout.mutators()) {
+        if place >= mutators {
             return true;
         }
         self.left[place] = numbers.left;
