@@ -5,7 +5,8 @@ use Rattle.std.specs.Prelude.{◌⊎◌, MatchBool, if◌then◌else◌}
 use Rattle.atomic_table.specs.Table.{Me}
 use Rattle.tide_hands.specs.declared.parcel.Parcel.{Parcel}
 use Rattle.tide_hands.specs.declared.view.HandView.{HandView}
-use Rattle.tide_hands.specs.Rule.{Among, TookSlot, is_keepers, is_turn, resting, without}
+use Rattle.tide_hands.specs.Among.{Among, without}
+use Rattle.tide_hands.specs.Rule.{TookSlot, is_keepers, is_turn, resting}
 
 -- the places among some without one
 pub among_without : (place other : ℕ) (places : List ℕ) → Among place (without other places) →

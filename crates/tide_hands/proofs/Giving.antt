@@ -12,7 +12,8 @@ use Rattle.tide_hands.proofs.Free.{among_without}
 use Rattle.tide_hands.proofs.Turns.{or_false, same_seat}
 use Rattle.tide_hands.specs.declared.parcel.Parcel.{Parcel}
 use Rattle.tide_hands.specs.declared.view.HandView.{HandView}
-use Rattle.tide_hands.specs.Rule.{Among, is_end, is_keepers, is_turn, resting, without, Content, SeatOk, Rule, Gave}
+use Rattle.tide_hands.specs.Among.{Among, without}
+use Rattle.tide_hands.specs.Rule.{is_end, is_keepers, is_turn, resting, Content, SeatOk, Rule, Gave}
 
 -- whose turn it is by a word, the keeper's or a member's
 abbrev turn_of : Bool → ℕ → Bool

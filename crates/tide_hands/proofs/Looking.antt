@@ -11,7 +11,8 @@ use Rattle.tide_hands.proofs.Lists.{is_there}
 use Rattle.tide_hands.proofs.Turns.{keeper_turn, or_false, same_seat}
 use Rattle.tide_hands.specs.declared.parcel.Parcel.{Parcel}
 use Rattle.tide_hands.specs.declared.view.HandView.{HandView}
-use Rattle.tide_hands.specs.Rule.{Among, is_end, is_turn, holding, Content, IsOut, SeatOk, Rule, TookSlot, Looked}
+use Rattle.tide_hands.specs.Among.{Among}
+use Rattle.tide_hands.specs.Rule.{is_end, is_turn, holding, Content, IsOut, SeatOk, Rule, TookSlot, Looked}
 
 module _ {T N I : Type 0} (ticket_ok : I → T → Type 0) (note_ok : I → ℕ → N → Bool → Type 0) (name : I) (count : ℕ)
     (slots id place : ℕ) (me : HandView I) (idle : me.out ≡ 0) (its : me.keeper ≡ false → place ≡ me.place) where

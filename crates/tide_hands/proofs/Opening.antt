@@ -8,7 +8,8 @@ use Rattle.atomic_table.specs.Table.{opening}
 use Rattle.tide_hands.specs.declared.parcel.Parcel.{Parcel}
 use Rattle.tide_hands.specs.declared.parcel.Parcel.TheVariants.{Nothing}
 use Rattle.tide_hands.specs.declared.view.HandView.{HandView}
-use Rattle.tide_hands.specs.Rule.{Among, is_end, keeper_view, places_below, SeatOk, Rule}
+use Rattle.tide_hands.specs.Among.{Among, places_below}
+use Rattle.tide_hands.specs.Rule.{is_end, keeper_view, SeatOk, Rule}
 
 module _ {T N I : Type 0} (ticket_ok : I → T → Type 0) (note_ok : I → ℕ → N → Bool → Type 0) (name : I) (count : ℕ) where
   abbrev Opened : List ℕ → List (Parcel T N) → Type 0

@@ -1,9 +1,10 @@
 -- The rule of a table by which one keeper and its members hand parcels to each other: a slot and a word for each
 -- member.
-use Rattle.std.specs.Prelude.{ℕ, zero, suc, pred, ◌≡◌, ◌+◌, ◌<◌, ◌==◌, ◌&&◌, ◌||◌, ◌⊎◌, Bool, true, false, not, List, [], ◌∷◌, filter, length, slice_index, if◌then◌else◌, MatchBool}
+use Rattle.std.specs.Prelude.{ℕ, suc, pred, ◌≡◌, ◌+◌, ◌<◌, ◌==◌, ◌&&◌, ◌||◌, ◌⊎◌, Bool, true, false, List, [], ◌∷◌, length, slice_index, if◌then◌else◌, MatchBool}
 use mathlib.Core.Option.{some}
 use lib.ListN.{get_elem?}
 use Rattle.atomic_table.specs.Table.{State, Step, Me}
+use Rattle.tide_hands.specs.Among.{Among, places_below, without}
 use Rattle.tide_hands.specs.declared.parcel.Parcel.{Parcel}
 use Rattle.tide_hands.specs.declared.parcel.Parcel.TheVariants.{Nothing, Ticket, Note}
 use Rattle.tide_hands.specs.declared.view.HandView.{HandView}
@@ -24,20 +25,6 @@ is_post found word = ((found == 0) && ((word == 1) || (word == 4))) || ((found =
 -- a ticket or a note is taken from where it lies
 abbrev pub is_take : ℕ → ℕ → Bool
 is_take found word = ((found == 1) && (word == 2)) || ((found == 3) && (word == 0))
-
--- the place is one of these
-abbrev pub Among : ℕ → List ℕ → Type 0
-Among place [] = ⊥
-Among place (other ∷ places) = (place ≡ other) ⊎ Among place places
-
--- all places below a number
-abbrev pub places_below : ℕ → List ℕ
-places_below zero = []
-places_below (suc place) = place ∷ places_below place
-
--- these without one
-abbrev pub without : ℕ → List ℕ → List ℕ
-without place places = filter (λ other. not (other == place)) places
 
 module _ {I : Type 0} where
   -- the word names the side of this view's seat

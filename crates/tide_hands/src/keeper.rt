@@ -1,6 +1,6 @@
 //! The keeper's side: it posts tickets and ends, and takes notes.
 ghost use Rattle.std.specs.Prelude.{ℕ, ◌≡◌, ◌≢◌, ◌<◌, ◌+◌, IfSome, None, true, false};
-ghost use Rattle.tide_hands.specs.Rule.{Among};
+ghost use Rattle.tide_hands.specs.Among.{Among};
 ghost use Rattle.tide_hands.specs.Seats.{IsIdle, IsPosted, frame};
 
 use crate::parcel::Parcel;

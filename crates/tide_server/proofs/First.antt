@@ -10,7 +10,7 @@ use Rattle.tide_model.specs.Periods.{is_over, no_period}
 use Rattle.tide_model.specs.Refused.{ShapeLists}
 use Rattle.tide_model.specs.declared.entry.Entry.TheVariants.{Open}
 use Rattle.tide_posts.specs.Name.{places}
-use Rattle.tide_posts.specs.tide_hands.Rule.{Among}
+use Rattle.tide_posts.specs.Among.{Among}
 use Rattle.tide_posts.specs.tide_heap.Parties.{In}
 use Rattle.tide_posts.specs.tide_heap.Turns.{opened}
 use Rattle.tide_posts.specs.tide_heap.tide_core.declared.machine.view.View.{View}

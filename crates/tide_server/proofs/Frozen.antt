@@ -28,7 +28,7 @@ use Rattle.tide_posts.proofs.tide_heap.tide_freeze.QuietLaws.{HasFrozenWhole-qui
 use Rattle.tide_posts.specs.Name.{places}
 use Rattle.tide_posts.specs.Openings.{IsOpening}
 use Rattle.tide_posts.specs.Posts.{TicketTells}
-use Rattle.tide_posts.specs.tide_hands.Rule.{Among}
+use Rattle.tide_posts.specs.Among.{Among}
 use Rattle.tide_posts.specs.tide_heap.Parties.{In}
 use Rattle.tide_posts.specs.tide_heap.Turns.{Freezes, open_entry, opened}
 use Rattle.tide_posts.specs.tide_heap.tide_core.declared.machine.view.NotedVisits.{NotedVisits}

@@ -5,7 +5,7 @@ use Rattle.std.specs.Prelude.{◌&&◌, if◌then◌else◌, nat_lt}
 use Rattle.tide_model.specs.Layout.{Layout}
 use Rattle.tide_model.specs.Numbers.{count_where}
 use Rattle.tide_posts.specs.Name.{places}
-use Rattle.tide_posts.specs.tide_hands.Rule.{Among}
+use Rattle.tide_posts.specs.Among.{Among}
 use Rattle.tide_server.specs.Keepers.{has_left}
 
 -- who has left was a mutator
@@ -21,13 +21,13 @@ module _ (layout : Layout) (left : List Bool) (place start given : ℕ)
   pub posted-none : has_left layout left place ≡ true →
       given ≡ start + count_where (λ p. not (has_left layout left p)) (place + 1)
   posted-none is = subst (λ (n : ℕ). given ≡ start + count_where (λ p. not (has_left layout left p)) n) (one_more place)
-      (let none = ap (λ (b : Bool). if not b then 1 else 0) is in omega (arith, were, none))
+      (let none = ap {B = ℕ} (λ (b : Bool). if not b then 1 else 0) is in omega (arith, were, none))
 
   -- any other gets one
   pub posted-one : (now : ℕ) → has_left layout left place ≡ false → now ≡ given + 1 →
       now ≡ start + count_where (λ p. not (has_left layout left p)) (place + 1)
   posted-one now isnt more = subst (λ (n : ℕ). now ≡ start + count_where (λ p. not (has_left layout left p)) n) (one_more place)
-      (let one = ap (λ (b : Bool). if not b then 1 else 0) isnt in omega (arith, were, one, more))
+      (let one = ap {B = ℕ} (λ (b : Bool). if not b then 1 else 0) isnt in omega (arith, were, one, more))
 
 module _ (layout : Layout) (left : List Bool) (place : ℕ) (free now : List ℕ)
     (kept : (q : ℕ) → (q ≡ place → ⊥) → Among q free → Among q now) where

@@ -8,7 +8,7 @@ use Rattle.tide_model.specs.Layout.{Layout}
 use Rattle.tide_model.specs.Periods.{ArePeriods, opened}
 use Rattle.tide_posts.specs.Name.{Name, places, who_at}
 use Rattle.tide_posts.specs.Posts.{IsNoteFor, MutatorTells, VisitorTells}
-use Rattle.tide_posts.specs.tide_hands.Rule.{Among}
+use Rattle.tide_posts.specs.Among.{Among}
 use Rattle.tide_posts.specs.tide_hands.Seats.{frame}
 use Rattle.tide_posts.specs.tide_hands.declared.view.HandView.{HandView}
 use Rattle.tide_posts.specs.tide_heap.Parties.{In}
@@ -95,10 +95,11 @@ module _ (layout : Layout) (heap hands : TableId) (k : Keeper) (stands : KeeperS
       had place (inr is) = inr (ap (λ (l : List Bool). has_left layout l place) (sym left) ∙ is)
 
   -- a mutator had left
-  pub IsWaiting-left : (place : ℕ) → k.next ≡ place → has_left layout k.left place ≡ true →
-      IsWaiting layout heap hands k (record k { next = place + 1 })
-  IsWaiting-left place next has =
-      IsWaiting-by (record k { next = place + 1 })
+  pub IsWaiting-left : (place : ℕ) (period_is : k.period ≡ (view_of k).period) → k.next ≡ place →
+      has_left layout k.left place ≡ true →
+      IsWaiting layout heap hands k (record k { next = place + 1; period_is = period_is })
+  IsWaiting-left place period_is next has =
+      IsWaiting-by (record k { next = place + 1; period_is = period_is })
       (record { seated = refl; kept = refl; over = refl; given = refl; free = λ q e. e }) refl refl stands.runs refl refl refl
       (omega (arith, below))
       (subst (λ (n : ℕ). NotesAreIn layout (view_of k) n k.ended) (one_more place)

@@ -10,7 +10,7 @@ use Rattle.tide_model.specs.declared.entry.Event.{Event}
 use Rattle.tide_posts.specs.Name.{places}
 use Rattle.tide_posts.specs.Posts.{MutatorTells}
 use Rattle.tide_posts.specs.Shares.{HasMarked}
-use Rattle.tide_posts.specs.tide_hands.Rule.{Among}
+use Rattle.tide_posts.specs.Among.{Among}
 use Rattle.tide_posts.specs.tide_heap.Parties.{In}
 use Rattle.tide_posts.specs.tide_heap.Turns.{calls_of}
 use Rattle.tide_posts.specs.tide_heap.tide_core.declared.machine.view.View.{View}

@@ -1,8 +1,6 @@
 -- What a standing heap begins with.
 use Rattle.std.specs.Prelude.{ℕ, suc, ◌≡◌, List, [], ◌∷◌}
 use Rattle.atomic_table.specs.Seated.{TableId}
-use Rattle.tide_posts.specs.Name.{Name}
-use Rattle.tide_posts.specs.tide_hands.declared.view.HandView.{HandView}
 use Rattle.tide_posts.specs.tide_heap.tide_core.machine.Frozen.{newcomer}
 use Rattle.tide_model.specs.Layout.{Layout}
 use Rattle.tide_mutator.specs.calls.Viewed.{view_of}
@@ -11,10 +9,6 @@ use Rattle.tide_server.specs.Members.{IsMemberOf}
 use Rattle.tide_server.specs.declared.helper.Helper.{Helper}
 use Rattle.tide_server.specs.declared.member.Member.{Member}
 use Rattle.tide_visitor.specs.Viewed as visiting
-
--- of the keeper's view of the hands what no seat that it gives out changes
-abbrev pub but_seats : HandView Name → HandView Name
-but_seats v = record v { next = 0 }
 
 -- members with numbers one after another, who have made no call yet
 abbrev pub AreMembers : Layout → TableId → TableId → ℕ → List Member → Type 0

@@ -3,9 +3,9 @@ ghost use Rattle.std.specs.Prelude.{ℕ, ◌≡◌, ◌+◌, ◌<◌, ◌≤◌,
 ghost use Rattle.tide_posts.specs.tide_heap.Turns.{opened};
 ghost use Rattle.tide_posts.specs.tide_heap.tide_freeze.Books.{AreBooks};
 ghost use Rattle.tide_posts.specs.Name.{places};
-ghost use Rattle.tide_posts.specs.tide_hands.Rule.{Among};
+ghost use Rattle.tide_posts.specs.Among.{Among};
 ghost use Rattle.tide_server.specs.Keepers.{IsKeeperOf, KeeperStands};
-ghost use Rattle.tide_server.specs.Opened.{AreHelpers, AreMembers, but_seats};
+ghost use Rattle.tide_server.specs.Opened.{AreHelpers, AreMembers};
 ghost use Rattle.tide_table.specs.Started.{ArePasses, IsStarted};
 ghost use Rattle.tide_text.specs.work.Work.{AreSettings};
 
@@ -78,7 +78,7 @@ fn seat_members<S: HeapShapes>(
     requires passes { ArePasses standing.now.heap.table.shared.table_id 0 passes.items }
     ensures own { seat.new.seat.table_id ≡ seat.old.seat.table_id }
     ensures named { seat.new.seat.me.0.name ≡ seat.old.seat.me.0.name }
-    ensures kept { but_seats seat.new.seat.me.0 ≡ but_seats seat.old.seat.me.0 }
+    ensures kept { record seat.new.seat.me.0 { next = 0 } ≡ record seat.old.seat.me.0 { next = 0 } }
     ensures next { OnOk result (seat.new.seat.me.0.next ≡ standing.now.heap.key.layout.mutators) }
     ensures members { IfOk result (λ made. (length made.items ≡ standing.now.heap.key.layout.mutators)
         × AreMembers standing.now.heap.key.layout standing.now.heap.table.shared.table_id
@@ -110,7 +110,7 @@ fn seat_helpers<S: HeapShapes>(
     requires passes { ArePasses standing.now.heap.table.shared.table_id 16 passes.items }
     ensures own { seat.new.seat.table_id ≡ seat.old.seat.table_id }
     ensures named { seat.new.seat.me.0.name ≡ seat.old.seat.me.0.name }
-    ensures kept { but_seats seat.new.seat.me.0 ≡ but_seats seat.old.seat.me.0 }
+    ensures kept { record seat.new.seat.me.0 { next = 0 } ≡ record seat.old.seat.me.0 { next = 0 } }
     ensures helpers { IfOk result (λ made. (length made.items ≡ standing.now.heap.key.layout.visitors)
         × AreHelpers standing.now.heap.key.layout standing.now.heap.table.shared.table_id
         standing.now.hands.shared.table_id 16 made.items) }

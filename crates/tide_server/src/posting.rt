@@ -2,7 +2,7 @@
 ghost use Rattle.std.specs.Prelude.{ℕ, ◌≡◌, ◌<◌, ◌+◌, false, true};
 ghost use Rattle.tide_posts.specs.Name.{places};
 ghost use Rattle.tide_posts.specs.Posts.{TicketTells};
-ghost use Rattle.tide_posts.specs.tide_hands.Rule.{Among};
+ghost use Rattle.tide_posts.specs.Among.{Among};
 ghost use Rattle.tide_posts.specs.tide_heap.Turns.{opened};
 ghost use Rattle.tide_server.specs.Keepers.{IsKeeperOf, has_left, ticket_count};
 ghost use Rattle.tide_table.specs.Started.{IsStarted};

@@ -11,7 +11,7 @@ use Rattle.tide_posts.specs.tide_heap.declared.steps.notes.Note.{Note}
 use Rattle.tide_posts.specs.tide_heap.declared.steps.notes.Ticket.{Ticket}
 use Rattle.tide_posts.specs.tide_heap.tide_core.machine.Frozen.{newcomer}
 use Rattle.tide_server.proofs.Lists.{AreMembers-push, IsMemberOf-newcomer}
-use Rattle.tide_server.specs.Opened.{AreMembers, but_seats}
+use Rattle.tide_server.specs.Opened.{AreMembers}
 use Rattle.tide_table.specs.Started.{ArePasses}
 use Rattle.tide_server.proofs.opening.seat_members.Goals as goal
 
@@ -52,7 +52,7 @@ loop-pass-preserved g c =
     record {
       own = seated.same.0 ∙ so.own;
       named = ap (λ (m : Me (Parcel Ticket Note) (HandView Name)). m.0.name) seated.keeper ∙ so.named;
-      kept = ap (λ (m : Me (Parcel Ticket Note) (HandView Name)). but_seats m.0) seated.keeper ∙ so.kept;
+      kept = ap (λ (m : Me (Parcel Ticket Note) (HandView Name)). record m.0 { next = 0 }) seated.keeper ∙ so.kept;
       next = omega (arith, next, had, one_more);
       seated = (let grown = ap length pushed ∙ length_push items member in omega (arith, grown, have, one_more));
       all = omega (arith, one_more, fewer, all);

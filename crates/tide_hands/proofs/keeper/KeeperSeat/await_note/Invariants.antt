@@ -1,6 +1,6 @@
 -- Nothing came yet.
 use Rattle.std.proofs.Common.{ℕ, ◌≡◌}
-use Rattle.tide_hands.specs.Rule.{Among}
+use Rattle.tide_hands.specs.Among.{Among}
 use Rattle.tide_hands.specs.Seats.{frame}
 use Rattle.tide_hands.proofs.keeper.KeeperSeat.await_note.Given as goal
 

@@ -2,7 +2,7 @@
 use Rattle.std.proofs.Common.{ℕ, ◌≡◌, ◌+◌, ◌≤◌, ◌<◌, not, true}
 use Rattle.tide_model.specs.Numbers.{count_where}
 use Rattle.tide_posts.specs.Name.{places}
-use Rattle.tide_posts.specs.tide_hands.Rule.{Among}
+use Rattle.tide_posts.specs.Among.{Among}
 use Rattle.tide_server.specs.Keepers.{IsKeeperOf, has_left}
 use Rattle.tide_server.proofs.keeper.Keeper.hand_out.Given as goal
 

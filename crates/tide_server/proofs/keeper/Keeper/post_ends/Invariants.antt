@@ -1,7 +1,7 @@
 -- Ends were posted at the visitors' places so far.
 use Rattle.std.proofs.Common.{ℕ, ◌≡◌, ◌+◌, ◌≤◌, ◌<◌}
 use Rattle.tide_posts.specs.Name.{places}
-use Rattle.tide_posts.specs.tide_hands.Rule.{Among}
+use Rattle.tide_posts.specs.Among.{Among}
 use Rattle.tide_server.specs.Keepers.{IsKeeperOf}
 use Rattle.tide_server.proofs.keeper.Keeper.post_ends.Given as goal
 
