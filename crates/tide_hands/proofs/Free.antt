@@ -1,7 +1,7 @@
 -- At which places the keeper knows that a ticket is due, once a word was stored at one.
 use Rattle.std.proofs.Common.{ℕ, suc, pred, ◌≡◌, ◌≢◌, ◌==◌, Bool, true, false, not, refl, sym, ◌∙◌, ap, subst, List, [], ◌∷◌, inl, inr}
 use Rattle.std.proofs.lemmas.Bool.{eqb-false, eqb-true}
-use Rattle.std.specs.Prelude.{◌⊎◌, MatchBool, if◌then◌else◌}
+use Rattle.std.specs.Prelude.{MatchBool, if◌then◌else◌}
 use Rattle.atomic_table.specs.Table.{Me}
 use Rattle.tide_hands.specs.declared.parcel.Parcel.{Parcel}
 use Rattle.tide_hands.specs.declared.view.HandView.{HandView}

@@ -1,5 +1,5 @@
 -- What the keeper knows of other places, once it has given the slot of one home.
-use Rattle.std.proofs.Common.{◌≡◌, ap}
+use Rattle.std.proofs.Common.{ap}
 use Rattle.tide_hands.specs.Rule.{is_keepers}
 use Rattle.tide_hands.proofs.Free.{free_given}
 use Rattle.tide_hands.proofs.keeper.KeeperSeat.post_end.Goals as goal
