@@ -1,16 +1,24 @@
 -- Tickets are posted place by place.
-use Rattle.std.proofs.Common.{ℕ, suc, ◌≡◌, ◌+◌, ◌-◌, ◌<◌, ◌≤◌, ◌∙◌, sym, ap, subst, arith, Bool, true, false, not, List, get_or, true≢false}
-use Rattle.std.proofs.lemmas.Bool.{and_parts, ltb-true}
+use Rattle.std.proofs.Common.{ℕ, zero, suc, ◌≡◌, ◌+◌, ◌-◌, ◌<◌, ◌≤◌, ◌∙◌, sym, ap, subst, arith, Bool, true, false, not, List, get_or, inl, inr, true≢false}
+use Rattle.std.proofs.lemmas.Bool.{and_parts, cases_eq, ltb-true}
 use Rattle.std.specs.Prelude.{◌&&◌, if◌then◌else◌, nat_lt}
 use Rattle.tide_model.specs.Layout.{Layout}
 use Rattle.tide_model.specs.Numbers.{count_where}
 use Rattle.tide_posts.specs.Name.{places}
-use Rattle.tide_posts.specs.Among.{Among}
+use Rattle.tide_posts.specs.Among.{Among, places_below}
 use Rattle.tide_server.specs.Keepers.{has_left}
 
 -- who has left was a mutator
 pub has_left-below : (layout : Layout) (left : List Bool) (place : ℕ) → has_left layout left place ≡ true → place < layout.mutators
 has_left-below layout left place is = ltb-true place layout.mutators (and_parts (nat_lt place layout.mutators) (get_or left place false) is).0
+
+-- each place below a number is among those
+pub Among-below : (n place : ℕ) → place < n → Among place (places_below n)
+Among-below zero place below = absurd (omega (arith, below))
+Among-below (suc n) place below = elim (cases_eq place n) [
+  | inl same ↦ inl same
+  | inr apart ↦ inr (Among-below n place (omega (arith, below, apart)))
+]
 
 one_more : (n : ℕ) → suc n ≡ n + 1
 one_more n = omega arith

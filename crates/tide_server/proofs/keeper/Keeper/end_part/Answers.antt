@@ -86,7 +86,7 @@ returns-clause-turned g c =
     let next = c.open_next.ensures in
     let no = c.if-open_next.false in
     HasSpentParts-frozen layout shapes heap hands k c.requires.stands c.requires.all forces run new report longer did
-    c.post_ends.new.self (ap view_of_collector c.post_ends.ensures.collector ∙ (next.spent no).1) makes
+    c.post_ends-2.new.self (ap view_of_collector c.post_ends-2.ensures.collector ∙ (next.spent no).1) makes
     (sym goes ∙ c.if-not-goes_on.false) (next.spent no).0 (search rules)
   where
     view_of_collector : Collector → View
