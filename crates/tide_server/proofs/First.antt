@@ -41,7 +41,7 @@ count_all : (test : ℕ → Bool) (n : ℕ) → ((place : ℕ) → test place �
 count_all test zero all = refl
 count_all test (suc n) all =
     let rest = count_all test n all in
-    let here = ap (λ (b : Bool). if b then 1 else 0) (all n) in
+    let here = ap {B = ℕ} (λ (b : Bool). if b then 1 else 0) (all n) in
     omega (arith, rest, here)
 
 -- so each participant gets a ticket
