@@ -1,5 +1,5 @@
 -- What the notes of a part say of it, once it is frozen.
-use Rattle.std.proofs.Common.{ℕ, zero, suc, ◌≡◌, ◌+◌, ◌-◌, ◌<◌, ◌≤◌, ◌∙◌, refl, sym, ap, subst, arith, Bool, true, false, not, List, [], ◌∷◌, ◌++◌, append_assoc, append-nil, get_or, inl, inr, ◌⊎◌, true≢false}
+use Rattle.std.proofs.Common.{ℕ, zero, suc, ◌≡◌, ◌+◌, ◌-◌, ◌<◌, ◌≤◌, ◌∙◌, sym, ap, subst, arith, Bool, true, false, not, List, [], ◌∷◌, ◌++◌, append-nil, get_or, inl, inr, ◌⊎◌, true≢false}
 use Rattle.std.proofs.lemmas.Bool.{cases_Bool}
 use Rattle.std.specs.Prelude.{◌||◌, Option, None, filter, if◌then◌else◌}
 use Rattle.atomic_table.specs.Seated.{TableId}
@@ -8,7 +8,6 @@ use Rattle.tide_model.proofs.PeriodLaws.{Each-nil}
 use Rattle.tide_model.proofs.SinceLaws.{count-push}
 use Rattle.tide_model.specs.Caller.{IsOwn}
 use Rattle.tide_model.specs.Each.{Each}
-use Rattle.tide_model.specs.Freeze.{marks_after}
 use Rattle.tide_model.specs.History.{is_call_of, is_open, plain, state_after}
 use Rattle.tide_model.specs.Lawful.{IsLawful}
 use Rattle.tide_model.specs.Layout.{Layout}
@@ -35,7 +34,7 @@ use Rattle.tide_sched.specs.Paces.{last_run, pace_of}
 use Rattle.tide_server.proofs.Noted.{any_below-same, or_false}
 use Rattle.tide_server.specs.Keepers.{HadLeft, HasToldShare, HasToldVisits, KeeperStands, MutatorIsIn, NoteIsIn, view_of}
 use Rattle.tide_server.specs.declared.keeper.Keeper.{Keeper}
-use Rattle.tide_table.specs.VisitsTold.{VisitsAreIn, most_visits, unentered, visits_left}
+use Rattle.tide_table.specs.VisitsTold.{VisitsAreIn, most_visits, visits_left}
 
 -- what a test says of numbers beyond some doesn't matter where each of those fails it
 any_below-beyond : (test : ℕ → Bool) (from more : ℕ) → ((n : ℕ) → from ≤ n → test n ≡ false) →

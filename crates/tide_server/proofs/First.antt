@@ -1,12 +1,12 @@
 -- A keeper stands once it has opened the first part.
-use Rattle.std.proofs.Common.{ℕ, zero, suc, ◌≡◌, ◌↔◌, ◌+◌, ◌<◌, ◌∙◌, refl, sym, ap, subst, arith, Bool, true, false, not, List, [], ◌∷◌, ◌++◌, get_or, replicate, true≢false}
+use Rattle.std.proofs.Common.{ℕ, zero, suc, ◌≡◌, ◌+◌, ◌<◌, ◌∙◌, refl, sym, ap, subst, arith, Bool, true, false, not, [], ◌∷◌, ◌++◌, get_or, replicate, true≢false}
 use Rattle.std.specs.Prelude.{◌||◌, ◌&&◌, if◌then◌else◌, nat_lt}
 use Rattle.atomic_table.specs.Seated.{TableId}
 use Rattle.tide_model.specs.Freeze.{marks_after}
 use Rattle.tide_model.specs.History.{plain}
 use Rattle.tide_model.specs.Layout.{Layout}
 use Rattle.tide_model.specs.Numbers.{any_below, count_where}
-use Rattle.tide_model.specs.Periods.{is_over, no_period}
+use Rattle.tide_model.specs.Periods.{no_period}
 use Rattle.tide_model.specs.Refused.{ShapeLists}
 use Rattle.tide_model.specs.declared.entry.Entry.TheVariants.{Open}
 use Rattle.tide_posts.specs.Name.{places}
@@ -20,7 +20,6 @@ use Rattle.tide_server.proofs.Frozen.{KeeperStands-opened}
 use Rattle.tide_server.specs.Keepers.{AreLeft, IsKeeperOf, KeeperStands, has_left, ticket_count, view_of}
 use Rattle.tide_server.specs.declared.keeper.Keeper.{Keeper}
 use Rattle.tide_table.proofs.Nexts.{HasOpenedNext-first}
-use Rattle.tide_table.specs.Standing.{RunsWith}
 use Rattle.tide_table.specs.Started.{IsStarted}
 
 or_true : (b : Bool) → (b || true) ≡ true

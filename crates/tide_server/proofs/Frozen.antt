@@ -1,15 +1,15 @@
 -- What a freeze makes of the open part, and what the next part begins with.
-use Rattle.std.proofs.Common.{ℕ, zero, suc, ◌≡◌, ◌↔◌, ◌+◌, ◌-◌, ◌<◌, ◌≤◌, ◌^◌, ◌∙◌, refl, sym, ap, subst, arith, Bool, true, false, not, List, [], ◌∷◌, ◌++◌, append_assoc, get_or, inl, inr}
+use Rattle.std.proofs.Common.{ℕ, ◌≡◌, ◌↔◌, ◌+◌, ◌-◌, ◌<◌, ◌^◌, ◌∙◌, refl, sym, ap, subst, arith, Bool, true, false, not, List, [], ◌∷◌, ◌++◌, append_assoc, get_or, inl, inr}
 use Rattle.std.proofs.lemmas.List.Sums.{AllPass-from_list_all}
 use Rattle.std.specs.List.{list_all}
-use Rattle.std.specs.Prelude.{◌||◌, ◌⊎◌}
+use Rattle.std.specs.Prelude.{◌⊎◌}
 use Rattle.atomic_table.specs.Seated.{TableId}
 use Rattle.tide_model.proofs.DeadLaws.{calls_where_marking}
 use Rattle.tide_model.proofs.Histories.{state_after-push, state_from-append}
 use Rattle.tide_model.proofs.NumberLaws.{any_below-false}
 use Rattle.tide_model.proofs.SinceLaws.{count-push}
 use Rattle.tide_model.specs.Freeze.{is_marking_phase, marks_after}
-use Rattle.tide_model.specs.History.{is_open, plain, state_after, state_from}
+use Rattle.tide_model.specs.History.{is_open, plain, state_after}
 use Rattle.tide_model.specs.Lawful.{IsLawful}
 use Rattle.tide_model.specs.Layout.{Layout}
 use Rattle.tide_model.specs.Numbers.{any_below}
@@ -26,14 +26,13 @@ use Rattle.tide_posts.proofs.tide_heap.tide_freeze.BookLaws.{AddsEnds-same, Adds
 use Rattle.tide_posts.proofs.tide_heap.tide_freeze.FreezeLaws.{periods_go_on}
 use Rattle.tide_posts.proofs.tide_heap.tide_freeze.QuietLaws.{HasFrozenWhole-quiet, kept_by_quiet}
 use Rattle.tide_posts.specs.Name.{places}
-use Rattle.tide_posts.specs.Openings.{IsOpening}
 use Rattle.tide_posts.specs.Posts.{TicketTells}
 use Rattle.tide_posts.specs.Among.{Among}
 use Rattle.tide_posts.specs.tide_heap.Parties.{In}
 use Rattle.tide_posts.specs.tide_heap.Turns.{Freezes, open_entry, opened}
 use Rattle.tide_posts.specs.tide_heap.tide_core.declared.machine.view.NotedVisits.{NotedVisits}
 use Rattle.tide_posts.specs.tide_heap.tide_core.declared.machine.view.View.{View}
-use Rattle.tide_posts.specs.tide_heap.tide_freeze.Books.{AddsEnds, AreBooks}
+use Rattle.tide_posts.specs.tide_heap.tide_freeze.Books.{AddsEnds}
 use Rattle.tide_posts.specs.tide_heap.tide_freeze.Freezing.{HasFrozenWhole}
 use Rattle.tide_posts.specs.tide_heap.tide_freeze.declared.books.Books.{Books}
 use Rattle.tide_report.specs.Ends.{ends_in}
@@ -45,11 +44,11 @@ use Rattle.tide_server.proofs.Ending.{has_done, is_over-here, lawful, shares_her
 use Rattle.tide_server.specs.Keepers.{AreLeft, IsKeeperOf, KeeperStands, NotesAreIn, has_left, ticket_count, view_of}
 use Rattle.tide_server.specs.Turned.{HasFinished, HasFrozenPart, HasOpenedPart, HasPostedEnds, HasSpentParts, MakesPeriod}
 use Rattle.tide_server.specs.declared.keeper.Keeper.{Keeper}
-use Rattle.tide_table.proofs.Nexts.{AddsEnds-next, HasOpenedNext-by, RunsPart-opened}
+use Rattle.tide_table.proofs.Nexts.{AddsEnds-next, HasOpenedNext-by}
 use Rattle.tide_table.proofs.Standing.{marks_still, no_ends, no_opens}
 use Rattle.tide_table.proofs.VisitsTold.{HasTold, HasTold-nothing}
 use Rattle.tide_table.specs.declared.collector.Collector.{Collector}
-use Rattle.tide_table.specs.Standing.{HasCollected, HasOpenedNext, RunsWith, StandsStill}
+use Rattle.tide_table.specs.Standing.{HasOpenedNext, RunsWith, StandsStill}
 
 -- an opening begins no cycle and ends none
 marks_after-opened : (layout : Layout) (run : ℕ) (v : View) →

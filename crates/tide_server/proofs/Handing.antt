@@ -1,7 +1,7 @@
 -- Tickets are posted place by place.
-use Rattle.std.proofs.Common.{ℕ, zero, suc, ◌≡◌, ◌+◌, ◌-◌, ◌<◌, ◌≤◌, ◌∙◌, sym, ap, subst, arith, Bool, true, false, not, List, get_or, inl, inr, true≢false}
+use Rattle.std.proofs.Common.{ℕ, zero, suc, ◌≡◌, ◌+◌, ◌<◌, ◌≤◌, ◌∙◌, sym, ap, subst, arith, Bool, true, false, not, List, get_or, inl, inr, true≢false}
 use Rattle.std.proofs.lemmas.Bool.{and_parts, cases_eq, ltb-true}
-use Rattle.std.specs.Prelude.{◌&&◌, if◌then◌else◌, nat_lt}
+use Rattle.std.specs.Prelude.{if◌then◌else◌, nat_lt}
 use Rattle.tide_model.specs.Layout.{Layout}
 use Rattle.tide_model.specs.Numbers.{count_where}
 use Rattle.tide_posts.specs.Name.{places}

@@ -1,9 +1,8 @@
 -- What one more note leaves of those that are in.
-use Rattle.std.proofs.Common.{ℕ, zero, suc, ◌≡◌, ◌≢◌, ◌↔◌, ◌+◌, ◌-◌, ◌<◌, ◌≤◌, ◌==◌, ◌∙◌, refl, sym, ap, subst, arith, Bool, true, false, List, [], ◌∷◌, get_or, set, length, inl, inr, ◌⊎◌, eq-eqb, ne_eqb, Option, Some, None, get_or-set_same, get_or-set_other}
-use Rattle.std.proofs.lemmas.Bool.{cases_Bool, cases_eq}
+use Rattle.std.proofs.Common.{ℕ, zero, suc, ◌≡◌, ◌↔◌, ◌+◌, ◌-◌, ◌<◌, ◌≤◌, ◌==◌, ◌∙◌, refl, sym, ap, subst, arith, Bool, true, false, List, [], ◌∷◌, get_or, set, length, inl, inr, eq-eqb, ne_eqb, Some, get_or-set_same, get_or-set_other}
+use Rattle.std.proofs.lemmas.Bool.{cases_eq}
 use Rattle.std.proofs.lemmas.List.Elements.{Contains-append_right}
-use Rattle.std.specs.Prelude.{◌||◌, ◌&&◌, Contains, if◌then◌else◌}
-use Rattle.tide_model.specs.History.{state_after}
+use Rattle.std.specs.Prelude.{◌||◌, ◌&&◌, if◌then◌else◌}
 use Rattle.tide_model.specs.Layout.{Layout}
 use Rattle.tide_model.specs.Numbers.{any_below}
 use Rattle.tide_posts.specs.Posts.{MutatorTells}
@@ -13,7 +12,7 @@ use Rattle.tide_posts.specs.tide_heap.Turns.{calls_of, noted, visited_of}
 use Rattle.tide_posts.specs.tide_heap.tide_core.declared.machine.view.NotedVisits.{NotedVisits}
 use Rattle.tide_posts.specs.tide_heap.tide_core.declared.machine.view.View.{View}
 use Rattle.tide_posts.specs.tide_heap.tide_core.machine.World.{first_visitor}
-use Rattle.tide_server.specs.Keepers.{AreLeft, HadLeft, HasToldShare, HasToldVisits, MutatorIsIn, NoteIsIn, NotesAreIn}
+use Rattle.tide_server.specs.Keepers.{AreLeft, HadLeft, HasToldVisits, MutatorIsIn, NoteIsIn, NotesAreIn}
 use Rattle.tide_table.proofs.VisitsTold.{HasTold, HasTold-mutator, HasTold-visitor}
 use Rattle.tide_table.specs.VisitsTold.{HaveTold, told_by}
 

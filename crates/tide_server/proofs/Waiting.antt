@@ -6,7 +6,7 @@ use Rattle.atomic_table.specs.Seated.{TableId}
 use Rattle.tide_model.specs.Freeze.{marks_after}
 use Rattle.tide_model.specs.Layout.{Layout}
 use Rattle.tide_model.specs.Periods.{ArePeriods, opened}
-use Rattle.tide_posts.specs.Name.{Name, places, who_at}
+use Rattle.tide_posts.specs.Name.{Name, places}
 use Rattle.tide_posts.specs.Posts.{IsNoteFor, MutatorTells, VisitorTells}
 use Rattle.tide_posts.specs.Among.{Among}
 use Rattle.tide_posts.specs.tide_hands.Seats.{frame}

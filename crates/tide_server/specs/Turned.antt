@@ -59,9 +59,10 @@ pub record IsFinished (layout : Layout) (shapes : ShapeLists) (heap : TableId) (
   pub gone : (i : ℕ) → i < layout.mutators → In i (view_of k).gone
   pub legal : IsLegal (pace_of k.books.pacing) layout shapes (view_of k).seen
 
--- an end was posted at each visitor's place, and nothing else
+-- as much was posted as there are visitors, and the end among that
 abbrev pub HasPostedEnds : Layout → Keeper → Keeper → Type 0
-HasPostedEnds layout old new = new.seat.seat.me.0.given ≡ old.seat.seat.me.0.given + layout.visitors
+HasPostedEnds layout old new = (new.seat.seat.me.0.given ≡ old.seat.seat.me.0.given + layout.visitors)
+    × (0 < layout.visitors → new.seat.seat.me.0.over ≡ true)
 
 -- no mutator is active any more, and the history is finished
 pub record HasFinished (layout : Layout) (shapes : ShapeLists) (heap : TableId) (old new : Keeper)

@@ -59,6 +59,7 @@ impl Keeper {
             standing.now.hands.shared.table_id self.new }
         ensures posted { self.new.seat.seat.me.0.given
             ≡ self.old.seat.seat.me.0.given + standing.now.heap.key.layout.visitors }
+        ensures over { 0 < standing.now.heap.key.layout.visitors → self.new.seat.seat.me.0.over ≡ true }
         ensures collector { self.new.collector ≡ self.old.collector }
         ensures books { self.new.books ≡ self.old.books }
     {

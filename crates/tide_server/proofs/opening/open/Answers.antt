@@ -1,5 +1,5 @@
 -- The keeper of a heap that was opened stands, and each participant has its ticket.
-use Rattle.std.proofs.Common.{ℕ, ◌≡◌, ◌+◌, ◌<◌, ◌∙◌, ap, arith, false, subst, sym, []}
+use Rattle.std.proofs.Common.{◌≡◌, ◌<◌, ◌∙◌, ap, arith, subst, sym, []}
 use Rattle.tide_model.specs.Layout.{Layout}
 use Rattle.tide_posts.specs.Among.{Among}
 use Rattle.tide_posts.specs.Name.{Name, places}

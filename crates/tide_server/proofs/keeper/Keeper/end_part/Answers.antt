@@ -1,5 +1,5 @@
 -- What a turn answers, by what the freeze made of the part.
-use Rattle.std.proofs.Common.{ℕ, ◌≡◌, ◌+◌, ◌∙◌, refl, sym, ap, subst, Bool, true, false, not, get_or, rules}
+use Rattle.std.proofs.Common.{◌+◌, ◌∙◌, sym, ap, false, not, get_or, rules}
 use Rattle.tide_model.specs.Layout.{Layout}
 use Rattle.tide_model.specs.Numbers.{any_below}
 use Rattle.tide_posts.specs.tide_heap.tide_freeze.declared.books.Books.{Books}
@@ -11,9 +11,6 @@ use Rattle.tide_posts.specs.tide_heap.declared.steps.notes.Note.{Note}
 use Rattle.tide_posts.specs.tide_heap.declared.steps.notes.Ticket.{Ticket}
 use Rattle.tide_posts.specs.tide_heap.tide_core.declared.machine.view.View.{View}
 use Rattle.tide_table.specs.declared.collector.Collector.{Collector}
-use Rattle.tide_server.specs.Keepers.{view_of}
-use Rattle.tide_server.specs.Turned.{MakesPeriod}
-use Rattle.tide_server.specs.declared.keeper.Keeper.{Keeper}
 use Rattle.tide_server.proofs.keeper.Keeper.end_part.Goals as goal
 
 pub returns-then-not-goes_on-clause-turned : goal.returns-then-not-goes_on-clause-turned
@@ -36,8 +33,10 @@ returns-then-not-goes_on-clause-turned g c =
     let makes = MakesPeriod-frozen layout shapes heap hands k c.requires.stands c.requires.all forces run new report longer did forced in
     HasFinished-frozen layout shapes heap hands k c.requires.stands c.requires.all forces run new report longer did
     c.post_ends.new.self c.post_ends.ensures.collector (ap (λ (b : Books). b.pacing) c.post_ends.ensures.books ∙ c.freeze-run.ensures.pacing)
-    c.freeze-run.ensures.of.table makes (sym goes ∙ c.if-not-goes_on.true)
-    (c.post_ends.ensures.posted ∙ ap (λ (q : KeeperSeat Ticket Note Name). q.seat.me.0.given + layout.visitors) c.freeze-run.ensures.seat)
+    c.freeze-run.ensures.of.table makes (sym goes ∙ c.if-not-goes_on.true) (
+      c.post_ends.ensures.posted ∙ ap (λ (q : KeeperSeat Ticket Note Name). q.seat.me.0.given + layout.visitors) c.freeze-run.ensures.seat,
+      c.post_ends.ensures.over,
+    )
 
 pub returns-then-open_next-clause-turned : goal.returns-then-open_next-clause-turned
 returns-then-open_next-clause-turned g c =
@@ -87,7 +86,7 @@ returns-clause-turned g c =
     let no = c.if-open_next.false in
     HasSpentParts-frozen layout shapes heap hands k c.requires.stands c.requires.all forces run new report longer did
     c.post_ends-2.new.self (ap view_of_collector c.post_ends-2.ensures.collector ∙ (next.spent no).1) makes
-    (sym goes ∙ c.if-not-goes_on.false) (next.spent no).0 (search rules)
+    (sym goes ∙ c.if-not-goes_on.false) (next.spent no).0 (search rules, c.post_ends-2.ensures.over)
   where
     view_of_collector : Collector → View
     view_of_collector q = q.seat.me.0

@@ -1,9 +1,6 @@
 -- Each ticket tells what the keeper's view does.
-use Rattle.std.proofs.Common.{◌≡◌, ◌+◌, ◌<◌, ◌≤◌, ◌∙◌, ℕ, Bool, true, false, List, Option, arith, ap, refl, rules, sym, subst}
+use Rattle.std.proofs.Common.{◌≡◌, ◌+◌, ◌<◌, ◌∙◌, true, false, Option, arith, ap, refl, rules, sym, subst}
 use Rattle.tide_posts.specs.Posts.{IsTicketFor, TicketTells}
-use Rattle.tide_posts.specs.tide_heap.Turns.{ticket_of}
-use Rattle.tide_posts.specs.tide_heap.tide_core.declared.machine.view.View.{View}
-use Rattle.tide_model.specs.Layout.{Layout}
 use Rattle.tide_posts.specs.Name.{Name, places}
 use Rattle.tide_posts.specs.tide_hands.Seats.{IsPosted}
 use Rattle.tide_posts.specs.tide_hands.declared.view.HandView.{HandView}

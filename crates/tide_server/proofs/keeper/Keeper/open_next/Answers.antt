@@ -1,5 +1,5 @@
 -- Why the next part may be opened, and what its tickets tell.
-use Rattle.std.proofs.Common.{ℕ, ◌≡◌, ◌∙◌, refl, sym, ap, subst}
+use Rattle.std.proofs.Common.{sym, ap, subst}
 use Rattle.tide_posts.proofs.tide_heap.tide_core.machine_laws.freezes.Entering.{FrozenWave-of}
 use Rattle.tide_posts.specs.Posts.{TicketTells}
 use Rattle.tide_posts.specs.tide_heap.tide_core.declared.machine.view.View.{View}

@@ -1,5 +1,5 @@
 -- An end was posted at each place so far.
-use Rattle.std.proofs.Common.{ℕ, ◌≡◌, ◌+◌, ◌<◌, ◌≤◌, ◌∙◌, arith, ap, refl, rules, sym}
+use Rattle.std.proofs.Common.{◌≡◌, ◌<◌, ◌∙◌, arith, ap, refl, rules}
 use Rattle.tide_posts.specs.Name.{Name, places}
 use Rattle.tide_posts.specs.tide_hands.declared.view.HandView.{HandView}
 use Rattle.tide_server.proofs.Handing.{ahead-more}
@@ -8,6 +8,8 @@ use Rattle.tide_server.proofs.keeper.Keeper.post_ends.Goals as goal
 pub loop-place-init : goal.loop-place-init
 loop-place-init g c = record {
   of = c.requires.of;
+  over = λ less. absurd (
+      let start : c.from-mutators.result ≡ c.args.standing.now.heap.key.layout.mutators = search rules in omega (arith, less, start));
   posted = search rules;
   ahead = λ q later below. c.requires.due q below;
   collector = refl;
@@ -23,7 +25,8 @@ loop-place-preserved g c =
     let was = c.loop-place.self.seat.seat.me.0 in
     let now = c.post_end.new.self.seat.me.0 in
     let below : place < places layout = search rules in
-    let more = (post.posted (post.sure (so.ahead place (omega arith) below))).1 in
+    let did = post.posted (post.sure (so.ahead place (omega arith) below)) in
+    let more = did.1 in
     let had = so.posted in
     record {
       of = record {
@@ -31,6 +34,7 @@ loop-place-preserved g c =
         seated = post.same.0 ∙ so.of.seated;
         named = ap (λ (h : HandView Name). h.name) post.kept ∙ so.of.named;
       };
+      over = λ less. did.0;
       posted = omega (arith, had, more);
       ahead = ahead-more layout c.args.self.now.left place was.free now.free post.free so.ahead;
       collector = so.collector;

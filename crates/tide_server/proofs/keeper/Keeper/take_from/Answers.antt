@@ -1,9 +1,9 @@
 -- What a place that is done with leaves, and one whose note is due still.
-use Rattle.std.proofs.Common.{ℕ, ◌≡◌, ◌<◌, ◌≤◌, ◌∙◌, refl, rules, sym, ap, subst, Bool, true, false}
+use Rattle.std.proofs.Common.{◌∙◌, refl, rules, sym, ap, subst}
 use Rattle.tide_model.specs.Layout.{Layout}
 use Rattle.tide_posts.specs.Name.{Name}
 use Rattle.tide_posts.specs.Posts.{IsNoteFor}
-use Rattle.tide_server.proofs.Waiting.{IsWaiting-left, IsWaiting-same, IsWaiting-told, IsWaiting-visited, stays_at}
+use Rattle.tide_server.proofs.Waiting.{IsWaiting-left, IsWaiting-same, IsWaiting-told, IsWaiting-visited}
 use Rattle.tide_server.specs.Keepers.{has_left}
 use Rattle.tide_server.proofs.keeper.Keeper.take_from.Goals as goal
 
