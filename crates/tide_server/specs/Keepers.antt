@@ -38,8 +38,8 @@ ticket_count layout left = count_where (λ place. not (has_left layout left plac
 abbrev pub view_of : Keeper → View
 view_of k = k.collector.seat.me.0
 
--- A note is in: the collector has its participant's number, what it tells of calls, and whether its participant has left
--- for good.
+-- A note is in: the collector has its participant's number, what it tells of calls, and whether its participant has
+-- left for good.
 pub record NoteIsIn (v note : View) : Type 0 where
   pub who : In note.who v.notes
   pub calls : Contains v.noted_calls (calls_of note)
@@ -85,8 +85,8 @@ pub record NotesAreIn (layout : Layout) (v : View) (next : ℕ) (ended : Bool) :
   pub later : (visitor : ℕ) → next - layout.mutators ≤ visitor → told_by (first_visitor + visitor) v.visited ≡ None
   pub done : v.done ≡ true
 
--- `left` says which mutators have left for good, as far as notes tell that are in, and nobody else has. Whose note isn't
--- in, and who has left, had left before the part was opened.
+-- `left` says which mutators have left for good, as far as notes tell that are in, and nobody else has. Whose note
+-- isn't in, and who has left, had left before the part was opened.
 pub record AreLeft (layout : Layout) (v : View) (next : ℕ) (left : List Bool) : Type 0 where
   pub are : (who : ℕ) → In who v.gone → who < layout.mutators
   pub known : (who : ℕ) → who < layout.mutators → (get_or left who false ≡ true) ↔ In who v.gone

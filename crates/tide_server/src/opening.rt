@@ -47,7 +47,8 @@ fn stand<S: HeapShapes + Drop>(
     }) }
     ensures first { IfOk result (λ made. made.1.seat.me.0.next ≡ 0) }
     ensures nothing { IfOk result (λ made. (made.1.seat.me.0.over ≡ false) × (made.1.seat.me.0.given ≡ 0)) }
-    ensures due { IfOk result (λ made. (place : ℕ) → place < places heap.key.layout → Among place made.1.seat.me.0.free) }
+    ensures due { IfOk result (λ made. (place : ℕ) → place < places heap.key.layout →
+        Among place made.1.seat.me.0.free) }
 {
     let places = usize::from(heap.layout().mutators()) + usize::from(heap.layout().visitors());
     let Ok((hands, seat)) = open_table(alloc, &heap, places) else {
