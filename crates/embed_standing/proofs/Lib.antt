@@ -1,0 +1,1 @@
+-- The proofs that several functions share.

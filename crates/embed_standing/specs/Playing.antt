@@ -1,0 +1,31 @@
+-- What the actors of a row are between two calls, and which calls their scripts have.
+use Rattle.std.specs.Prelude.{◌≡◌, ◌≢◌, ◌≤◌, [], false, None}
+use Rattle.atomic_table.specs.Seated.{TableId}
+use Rattle.tide_model.specs.Lawful.{FitsLayout}
+use Rattle.tide_model.specs.Layout.{Layout}
+use Rattle.tide_model.specs.Script.{retry_of}
+use Rattle.tide_model.specs.declared.op.Op.{Op}
+use Rattle.tide_model.specs.declared.op.Op.TheVariants.{Retire}
+use Rattle.tide_mutator.specs.calls.Called.{is_of_claims}
+use Rattle.tide_mutator.specs.calls.Viewed.{view_of}
+use Rattle.tide_mutator.specs.owed.Standing.{claims_of}
+use Rattle.tide_server.specs.Members.{IsMemberOf}
+use Rattle.tide_server.specs.declared.member.Member.{Member}
+
+-- a layout with as many registers and strong handles as the scripts name
+pub record HasRoomForScripts (layout : Layout) : Type 0 where
+  pub registers : 4 ≤ layout.registers
+  pub strong : 2 ≤ layout.strong
+
+-- an operation of the layout that neither claims a cell nor retires
+pub record IsScriptCall (layout : Layout) (op : Op) : Type 0 where
+  pub fits : FitsLayout layout op
+  pub claims : is_of_claims op ≡ false
+  pub goes_on : op ≢ Retire
+
+-- a member that hasn't left, claims no cell, and has nothing to try again: any call may come next, or its leave
+pub record MayCall (layout : Layout) (heap hands : TableId) (m : Member) : Type 0 where
+  pub of : IsMemberOf layout heap hands m
+  pub stays : (view_of m.mutator).left ≡ false
+  pub bare : claims_of (view_of m.mutator) ≡ []
+  pub settled : retry_of (view_of m.mutator).who (view_of m.mutator).mine ≡ None

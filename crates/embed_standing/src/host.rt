@@ -1,0 +1,211 @@
+//! A host of a standing heap: it opens one, and its members, its helpers and its keeper each get a thread.
+ghost use Rattle.embed_standing.specs.Playing.{HasRoomForScripts, MayCall};
+ghost use Rattle.std.specs.Prelude.{◌≡◌, All, true};
+ghost use Rattle.tide_server.specs.Helpers.{IsHelperOf};
+ghost use Rattle.tide_server.specs.Keepers.{KeeperStands};
+ghost use Rattle.tide_server.specs.Turned.{IsFinished};
+ghost use Rattle.tide_shape.specs.Lists.{lists_of};
+ghost use Rattle.tide_text.specs.work.Work.{AreSettings};
+
+use crate::playing::{Kept, keep, play_helper, play_member};
+use crate::row::Row;
+use crate::tally::Tally;
+use std::alloc::Global;
+use std::marker::Sync;
+use std::sync::Wait;
+use std::thread;
+use std::thread::{Threads, join};
+use tide_heap::Layout;
+use tide_server::{Helper, Keeper, Member, Opened, Report, Standing, open};
+use tide_shape::{Paths, Shapes};
+use tide_table::Start;
+use tide_text::Settings;
+
+/// Each member makes its calls and leaves, on a thread of its own.
+fn play_members<R: Threads + Wait + Sync>(
+    rt: &R,
+    standing: &Standing<Shapes>,
+    mut members: Vec<Member>,
+    row: &Row,
+    tally: &Tally,
+)
+    requires may { All (λ member. MayCall standing.now.heap.key.layout standing.now.heap.table.shared.table_id
+        standing.now.hands.shared.table_id member) members.items }
+    requires room { HasRoomForScripts standing.now.heap.key.layout }
+{
+    let count = members.len();
+    if count > 0 {
+        thread::for_each_mut(
+            rt,
+            members.as_mut_slice(),
+            count,
+            &|who, member|
+                requires { HasRoomForScripts standing.now.heap.key.layout
+                    × MayCall standing.now.heap.key.layout standing.now.heap.table.shared.table_id
+                    standing.now.hands.shared.table_id member.old }
+            { play_member(rt, standing, member, who, row, tally) },
+        );
+    }
+}
+
+/// Each helper works until no part is opened any more, on a thread of its own.
+fn play_helpers<R: Threads + Wait + Sync>(
+    rt: &R,
+    standing: &Standing<Shapes>,
+    mut helpers: Vec<Helper>,
+    tally: &Tally,
+)
+    requires of { All (λ helper. IsHelperOf standing.now.heap.key.layout standing.now.heap.table.shared.table_id
+        standing.now.hands.shared.table_id helper) helpers.items }
+{
+    let count = helpers.len();
+    if count > 0 {
+        thread::for_each_mut(
+            rt,
+            helpers.as_mut_slice(),
+            count,
+            &|_, helper|
+                requires { IsHelperOf standing.now.heap.key.layout standing.now.heap.table.shared.table_id
+                    standing.now.hands.shared.table_id helper.old }
+            { play_helper(rt, standing, helper, tally) },
+        );
+    }
+}
+
+/// The members and the helpers play side by side.
+fn play_others<R: Threads + Wait + Sync>(
+    rt: &R,
+    standing: &Standing<Shapes>,
+    members: Vec<Member>,
+    helpers: Vec<Helper>,
+    row: &Row,
+    tally: &Tally,
+)
+    requires may { All (λ member. MayCall standing.now.heap.key.layout standing.now.heap.table.shared.table_id
+        standing.now.hands.shared.table_id member) members.items }
+    requires of { All (λ helper. IsHelperOf standing.now.heap.key.layout standing.now.heap.table.shared.table_id
+        standing.now.hands.shared.table_id helper) helpers.items }
+    requires room { HasRoomForScripts standing.now.heap.key.layout }
+{
+    join(
+        rt,
+        || -> ()
+            requires { HasRoomForScripts standing.now.heap.key.layout
+                × All (λ member. MayCall standing.now.heap.key.layout standing.now.heap.table.shared.table_id
+                standing.now.hands.shared.table_id member) members.items }
+        { play_members(rt, standing, members, row, tally) },
+        || -> ()
+            requires { All (λ helper. IsHelperOf standing.now.heap.key.layout
+                standing.now.heap.table.shared.table_id standing.now.hands.shared.table_id helper) helpers.items }
+        { play_helpers(rt, standing, helpers, tally) },
+    );
+}
+
+/// The keeper turns until no mutator is active, beside the members and the helpers.
+fn play_all<R: Threads + Wait + Sync>(
+    rt: &R,
+    standing: &Standing<Shapes>,
+    keeper: Keeper,
+    report: Report,
+    members: Vec<Member>,
+    helpers: Vec<Helper>,
+    row: &Row,
+    tally: &Tally,
+) -> Kept
+    requires stands { KeeperStands standing.now.heap.key.layout standing.now.heap.table.shared.table_id
+        standing.now.hands.shared.table_id keeper }
+    requires may { All (λ member. MayCall standing.now.heap.key.layout standing.now.heap.table.shared.table_id
+        standing.now.hands.shared.table_id member) members.items }
+    requires of { All (λ helper. IsHelperOf standing.now.heap.key.layout standing.now.heap.table.shared.table_id
+        standing.now.hands.shared.table_id helper) helpers.items }
+    requires room { HasRoomForScripts standing.now.heap.key.layout }
+    ensures finished { result.is_over ≡ true → IsFinished standing.now.heap.key.layout
+        (lists_of standing.now.heap.key.shapes) standing.now.heap.table.shared.table_id result.keeper }
+{
+    let (kept, ()) = join(
+        rt,
+        || -> Kept
+            requires { KeeperStands standing.now.heap.key.layout standing.now.heap.table.shared.table_id
+                standing.now.hands.shared.table_id keeper }
+            ensures { result.is_over ≡ true → IsFinished standing.entry.now.heap.key.layout
+                (lists_of standing.entry.now.heap.key.shapes) standing.entry.now.heap.table.shared.table_id
+                result.keeper }
+        { keep(rt, standing, keeper, report) },
+        || -> ()
+            requires { HasRoomForScripts standing.now.heap.key.layout
+                × All (λ member. MayCall standing.now.heap.key.layout standing.now.heap.table.shared.table_id
+                standing.now.hands.shared.table_id member) members.items
+                × All (λ helper. IsHelperOf standing.now.heap.key.layout standing.now.heap.table.shared.table_id
+                standing.now.hands.shared.table_id helper) helpers.items }
+        { play_others(rt, standing, members, helpers, row, tally) },
+    );
+    kept
+}
+
+/// What was seen of a heap that is over.
+#[derive(Drop)]
+pub struct Seen {
+    pub report: Report,
+    /// How many turns the keeper made.
+    pub turns: u64,
+    /// In how many parts helpers took part, all together.
+    pub parts: u64,
+    /// Each member was answered as its script has it, and each helper came to the end.
+    pub is_right: bool,
+}
+
+/// The numbers of a row's schedule.
+fn settings_of(row: &Row) -> Settings
+    ensures { AreSettings result }
+{
+    Settings {
+        registers: 4,
+        strong: 2,
+        weak: 2,
+        blocks: [1, 1, 0, 0, 1],
+        arrays: [1, 0, 0, 0, 0],
+        period: 4,
+        headroom: 100,
+        trigger: row.trigger,
+    }
+}
+
+/// Opens a heap, plays the row on it, and closes it. `None` where memory ran out, or the heap wasn't over.
+pub fn run<R: Threads + Wait + Sync>(rt: &R, alloc: Global, row: &Row) -> Option<Seen> {
+    let layout = Layout::new(
+        [1, 1, 0, 0, 1],
+        [1, 0, 0, 0, 0],
+        4,
+        2,
+        2,
+        row.members,
+        row.helpers,
+    );
+    let shapes = Shapes::new(alloc, &Paths::new(alloc)).ok()?;
+    let start = Start::new(alloc, layout, shapes).ok()?;
+    let report = Report::new(alloc, 0, 0).ok()?;
+    let Opened {
+        standing,
+        keeper,
+        members,
+        helpers,
+    } = open(alloc, start, settings_of(row)).ok()?;
+    let tally = Tally::new(row.meets);
+    let kept = play_all(rt, &standing, keeper, report, members, helpers, row, &tally);
+    let Kept {
+        keeper,
+        report,
+        turns,
+        is_over,
+    } = kept;
+    if !is_over {
+        return None;
+    }
+    drop(keeper.finish(standing));
+    Some(Seen {
+        report,
+        turns,
+        parts: tally.parts(),
+        is_right: tally.is_right(),
+    })
+}

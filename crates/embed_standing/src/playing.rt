@@ -1,0 +1,141 @@
+//! What each actor of a row does in its thread.
+ghost use Rattle.embed_standing.specs.Playing.{HasRoomForScripts, IsScriptCall, MayCall};
+ghost use Rattle.std.specs.Prelude.{◌≡◌, OnOk, true};
+ghost use Rattle.tide_server.specs.Helpers.{IsHelperOf};
+ghost use Rattle.tide_server.specs.Keepers.{KeeperStands};
+ghost use Rattle.tide_server.specs.Turned.{IsFinished};
+ghost use Rattle.tide_shape.specs.Lists.{lists_of};
+
+use crate::row::Row;
+use crate::tally::Tally;
+use std::sync::Wait;
+use tide_model::{FreePass, Memory, Op, Refusal, Reply, Turnstile};
+use tide_server::{Helper, Keeper, Member, Report, Standing, Turn, Worked};
+use tide_shape::Shapes;
+
+/// Makes a call, and tries it again where it was refused for room.
+fn ask<R: Wait, T: Turnstile>(
+    rt: &R,
+    standing: &Standing<Shapes>,
+    member: &mut Member,
+    op: Op,
+    turnstile: &T,
+) -> Result<Reply, Memory>
+    requires may { MayCall standing.now.heap.key.layout standing.now.heap.table.shared.table_id
+        standing.now.hands.shared.table_id member.old }
+    requires fits { IsScriptCall standing.now.heap.key.layout op }
+    ensures may { OnOk result (MayCall standing.now.heap.key.layout standing.now.heap.table.shared.table_id
+        standing.now.hands.shared.table_id member.new) }
+{
+    let reply = member.call(rt, standing, op, turnstile)?;
+    if !matches!(reply, Reply::Refused(Refusal::Full { .. })) {
+        return Ok(reply);
+    }
+    member.call(rt, standing, op, turnstile)
+}
+
+/// Makes its calls, and leaves. Says whether each was answered as the script has it.
+fn make_calls<R: Wait>(
+    rt: &R,
+    standing: &Standing<Shapes>,
+    member: &mut Member,
+    who: usize,
+    row: &Row,
+    tally: &Tally,
+) -> Result<bool, Memory>
+    requires may { MayCall standing.now.heap.key.layout standing.now.heap.table.shared.table_id
+        standing.now.hands.shared.table_id member.old }
+    requires room { HasRoomForScripts standing.now.heap.key.layout }
+{
+    let mut is_right = true;
+    for n in 0..row.calls_of(who) {
+        let reply = ask(rt, standing, member, row.script.call_of(who, n), tally)?;
+        if let Some(wanted) = row.script.reply_to(who, n) {
+            is_right = is_right && reply == wanted;
+        }
+    }
+    member.leave(rt, standing, tally)?;
+    Ok(is_right)
+}
+
+/// A member makes its calls, leaves, and tells where one was answered otherwise.
+pub fn play_member<R: Wait>(
+    rt: &R,
+    standing: &Standing<Shapes>,
+    member: &mut Member,
+    who: usize,
+    row: &Row,
+    tally: &Tally,
+)
+    requires may { MayCall standing.now.heap.key.layout standing.now.heap.table.shared.table_id
+        standing.now.hands.shared.table_id member.old }
+    requires room { HasRoomForScripts standing.now.heap.key.layout }
+{
+    if make_calls(rt, standing, member, who, row, tally) != Ok(true) {
+        tally.add_wrong();
+    }
+}
+
+/// A helper works until no part is opened any more, and tells each part that it took part in.
+pub fn play_helper<R: Wait>(
+    rt: &R,
+    standing: &Standing<Shapes>,
+    helper: &mut Helper,
+    tally: &Tally,
+)
+    requires of { IsHelperOf standing.now.heap.key.layout standing.now.heap.table.shared.table_id
+        standing.now.hands.shared.table_id helper.old }
+{
+    for _ in rt.forever() {
+        match helper.work(rt, standing, &FreePass) {
+            Ok(Worked::Again) => tally.add_part(),
+            Ok(Worked::Over) => return,
+            Err(_) => {
+                tally.add_wrong();
+                return;
+            }
+        }
+    }
+    unreachable!()
+}
+
+/// A keeper whose last turn opened no part, with its report.
+#[derive(Drop)]
+pub struct Kept {
+    pub keeper: Keeper,
+    pub report: Report,
+    /// How many turns it made.
+    pub turns: u64,
+    /// No mutator was active any more.
+    pub is_over: bool,
+}
+
+/// The keeper turns until no part is opened any more. A turn for which memory was wanting it makes again.
+pub fn keep<R: Wait>(
+    rt: &R,
+    standing: &Standing<Shapes>,
+    mut keeper: Keeper,
+    mut report: Report,
+) -> Kept
+    requires stands { KeeperStands standing.now.heap.key.layout standing.now.heap.table.shared.table_id
+        standing.now.hands.shared.table_id keeper }
+    ensures finished { result.is_over ≡ true → IsFinished standing.now.heap.key.layout
+        (lists_of standing.now.heap.key.shapes) standing.now.heap.table.shared.table_id result.keeper }
+{
+    let mut turns = 0u64;
+    for _ in rt.forever() {
+        let Ok(turn) = keeper.turn(rt, standing, &mut report) else {
+            continue;
+        };
+        turns = turns.saturating_add(1);
+        if turn != Turn::Opened {
+            return Kept {
+                keeper,
+                report,
+                turns,
+                is_over: turn == Turn::Over,
+            };
+        }
+    }
+    unreachable!()
+}

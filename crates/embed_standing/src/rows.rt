@@ -1,0 +1,105 @@
+//! Rows of a standing heap: what its actors are answered, and what its report tells.
+
+use crate::host::{Seen, run};
+use crate::row::Row;
+use crate::script::Script;
+use std::alloc::Global;
+use std::marker::Sync;
+use std::sync::Wait;
+use std::thread::Threads;
+use tide_server::Report;
+
+/// Whether the cycles of a report are numbered in turn, from 1 on.
+fn are_in_turn(report: &Report) -> bool {
+    let mut last = 0;
+    for line in report.cycles() {
+        if line.number != last + 1 {
+            return false;
+        }
+        last = line.number;
+    }
+    true
+}
+
+/// Whether all went right, each helper took part in each part, and the cycles are numbered in turn.
+fn is_whole(row: &Row, seen: &Seen) -> bool {
+    seen.is_right
+        && seen.parts == seen.turns.saturating_mul(u64::from(row.helpers))
+        && are_in_turn(&seen.report)
+}
+
+/// Plays a row, and answers whether it was whole and had so many parts at least.
+fn lasts<R: Threads + Wait + Sync>(rt: &R, alloc: Global, row: &Row, parts: u64) -> Option<bool> {
+    let seen = run(rt, alloc, row)?;
+    Some(is_whole(row, &seen) && seen.turns >= parts)
+}
+
+/// One member makes a cell and asks for a cycle. That keeps the cell, and the one after it has left frees it.
+fn one_asks_in_its_second_call<R: Threads + Wait + Sync>(rt: &R, alloc: Global) -> Option<bool> {
+    let row = Row {
+        members: 1,
+        helpers: 0,
+        trigger: 0,
+        script: Script::BornAndAsked,
+        calls: 2,
+        second_calls: 0,
+        meets: false,
+    };
+    let seen = run(rt, alloc, &row)?;
+    let [kept, freed] = seen.report.cycles() else {
+        return Some(false);
+    };
+    let lines = (kept.kept, kept.freed, freed.kept, freed.freed) == (1, 0, 0, 1);
+    Some(is_whole(&row, &seen) && seen.turns == 2 && lines && seen.report.ids() == [0].as_slice())
+}
+
+/// Two members, whose first calls are held until both have come, each make a cell that refers to itself and let it go.
+/// Beside a helper both cells are freed.
+fn two_first_calls_meet<R: Threads + Wait + Sync>(rt: &R, alloc: Global) -> Option<bool> {
+    let row = Row {
+        members: 2,
+        helpers: 1,
+        trigger: 2,
+        script: Script::LoopsApart,
+        calls: 4,
+        second_calls: 4,
+        meets: true,
+    };
+    let seen = run(rt, alloc, &row)?;
+    Some(is_whole(&row, &seen) && seen.report.ids().len() == 2)
+}
+
+/// The row of this name with many parts, if there is one, and how many it has at least.
+fn long_row(name: &str) -> Option<(Row, u64)> {
+    let (members, helpers, trigger, script, calls, second_calls, parts) = match name {
+        "cycles_begin_at_each_birth" => (2, 1, 1, Script::Births, 3999, 3999, 1000),
+        "one_leaves_in_its_first_part" => (4, 2, 8, Script::Births, 3999, 0, 1000),
+        "some_ask_for_cycles" => (4, 2, 8, Script::Asks, 3999, 0, 1000),
+        "sixteen_beside_eight" => (16, 8, 0, Script::Sets, 1199, 1199, 300),
+        "sixteen_ask_beside_eight" => (16, 8, 4, Script::Asks, 1199, 1199, 300),
+        _ => return None,
+    };
+    let row = Row {
+        members,
+        helpers,
+        trigger,
+        script,
+        calls,
+        second_calls,
+        meets: false,
+    };
+    Some((row, parts))
+}
+
+/// Plays the row of this name, and answers whether all was as expected.
+pub fn check_standing<R: Threads + Wait + Sync>(rt: &R, alloc: Global, name: &str) -> bool {
+    let found = match name {
+        "one_asks_in_its_second_call" => one_asks_in_its_second_call(rt, alloc),
+        "two_first_calls_meet" => two_first_calls_meet(rt, alloc),
+        _ => match long_row(name) {
+            Some((row, parts)) => lasts(rt, alloc, &row, parts),
+            None => None,
+        },
+    };
+    found == Some(true)
+}

@@ -1,0 +1,71 @@
+//! What the threads of a row tell, and where the first calls of two members meet.
+
+use std::sync::atomic::{AtomicU64, Ordering};
+use std::thread;
+use tide_model::{Place, Turnstile};
+
+/// How many turns a first call is held at most. In each the processor is left to others.
+const TURNS: u32 = 100_000_000;
+
+/// What the threads of a row have told so far.
+#[derive(Drop)]
+pub struct Tally {
+    /// The first calls of two members are held until both have come.
+    meets: bool,
+    /// How many of them ended otherwise than expected.
+    wrong: AtomicU64,
+    /// The parts that helpers took part in, all together.
+    parts: AtomicU64,
+    /// Whether each of the first two members has come to its first call.
+    come: [AtomicU64; 2],
+}
+
+impl Tally {
+    /// Nobody has told anything.
+    pub fn new(meets: bool) -> Tally {
+        Tally {
+            meets,
+            wrong: AtomicU64::new(0),
+            parts: AtomicU64::new(0),
+            come: [AtomicU64::new(0), AtomicU64::new(0)],
+        }
+    }
+
+    /// One ended otherwise than expected.
+    pub fn add_wrong(&self) {
+        self.wrong.fetch_add(1, Ordering::SeqCst);
+    }
+
+    /// A helper took part in a part.
+    pub fn add_part(&self) {
+        self.parts.fetch_add(1, Ordering::SeqCst);
+    }
+
+    /// Whether all ended as expected, as far as they have told.
+    pub fn is_right(&self) -> bool {
+        self.wrong.load(Ordering::SeqCst) == 0
+    }
+
+    /// In how many parts helpers took part, all together.
+    pub fn parts(&self) -> u64 {
+        self.parts.load(Ordering::SeqCst)
+    }
+}
+
+impl Turnstile for Tally {
+    /// Where the row says so, the first calls of two members are held until both have come.
+    fn at(&self, who: u32, place: Place, _what: u32) {
+        if !self.meets || place != Place::Call || who > 1 {
+            return;
+        }
+        self.come[who as usize].store(1, Ordering::SeqCst);
+        let other = &self.come[1 - who as usize];
+        for _turn in 0..TURNS {
+            if other.load(Ordering::SeqCst) == 1 {
+                return;
+            }
+            thread::yield_now();
+        }
+        self.add_wrong();
+    }
+}
