@@ -1,1 +1,3 @@
 -- The proofs that several functions share.
+pub mod Calling
+pub mod Seats

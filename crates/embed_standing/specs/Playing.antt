@@ -1,5 +1,5 @@
 -- What the actors of a row are between two calls, and which calls their scripts have.
-use Rattle.std.specs.Prelude.{◌≡◌, ◌≢◌, ◌≤◌, [], false, None}
+use Rattle.std.specs.Prelude.{◌≡◌, ◌≢◌, ◌≤◌, [], false, List, All, None}
 use Rattle.atomic_table.specs.Seated.{TableId}
 use Rattle.tide_model.specs.Lawful.{FitsLayout}
 use Rattle.tide_model.specs.Layout.{Layout}
@@ -9,7 +9,11 @@ use Rattle.tide_model.specs.declared.op.Op.TheVariants.{Retire}
 use Rattle.tide_mutator.specs.calls.Called.{is_of_claims}
 use Rattle.tide_mutator.specs.calls.Viewed.{view_of}
 use Rattle.tide_mutator.specs.owed.Standing.{claims_of}
+use Rattle.tide_server.specs.Helpers.{IsHelperOf}
+use Rattle.tide_server.specs.Keepers.{KeeperStands}
 use Rattle.tide_server.specs.Members.{IsMemberOf}
+use Rattle.tide_server.specs.declared.helper.Helper.{Helper}
+use Rattle.tide_server.specs.declared.keeper.Keeper.{Keeper}
 use Rattle.tide_server.specs.declared.member.Member.{Member}
 
 -- a layout with as many registers and strong handles as the scripts name
@@ -29,3 +33,12 @@ pub record MayCall (layout : Layout) (heap hands : TableId) (m : Member) : Type 
   pub stays : (view_of m.mutator).left ≡ false
   pub bare : claims_of (view_of m.mutator) ≡ []
   pub settled : retry_of (view_of m.mutator).who (view_of m.mutator).mine ≡ None
+
+-- the actors of a heap whose first part is open: its keeper may turn, each member may make any call, and each helper
+-- may work
+pub record MayPlay (layout : Layout) (heap hands : TableId) (keeper : Keeper) (members : List Member)
+    (helpers : List Helper) : Type 0 where
+  pub has_room : HasRoomForScripts layout
+  pub may_turn : KeeperStands layout heap hands keeper
+  pub may_call : All (MayCall layout heap hands) members
+  pub may_work : All (IsHelperOf layout heap hands) helpers

@@ -1,6 +1,6 @@
 //! A host of a standing heap: it opens one, and its members, its helpers and its keeper each get a thread.
-ghost use Rattle.embed_standing.specs.Playing.{HasRoomForScripts, MayCall};
-ghost use Rattle.std.specs.Prelude.{◌≡◌, All, true};
+ghost use Rattle.embed_standing.specs.Playing.{HasRoomForScripts, MayCall, MayPlay};
+ghost use Rattle.std.specs.Prelude.{◌≡◌, All, IfOk, IfSome, true};
 ghost use Rattle.tide_server.specs.Helpers.{IsHelperOf};
 ghost use Rattle.tide_server.specs.Keepers.{KeeperStands};
 ghost use Rattle.tide_server.specs.Turned.{IsFinished};
@@ -16,6 +16,7 @@ use std::sync::Wait;
 use std::thread;
 use std::thread::{Threads, join};
 use tide_heap::Layout;
+use tide_model::Memory;
 use tide_server::{Helper, Keeper, Member, Opened, Report, Standing, open};
 use tide_shape::{Paths, Shapes};
 use tide_table::Start;
@@ -170,8 +171,12 @@ fn settings_of(row: &Row) -> Settings
     }
 }
 
-/// Opens a heap, plays the row on it, and closes it. `None` where memory ran out, or the heap wasn't over.
-pub fn run<R: Threads + Wait + Sync>(rt: &R, alloc: Global, row: &Row) -> Option<Seen> {
+/// Opens a heap for the actors of a row. `None` only where its shapes were refused.
+fn open_for(alloc: Global, row: &Row) -> Result<Option<Opened<Shapes>>, Memory>
+    ensures opened { IfOk result (λ found. IfSome found (λ made. MayPlay made.standing.heap.key.layout
+        made.standing.heap.table.shared.table_id made.standing.hands.shared.table_id made.keeper
+        made.members.items made.helpers.items)) }
+{
     let layout = Layout::new(
         [1, 1, 0, 0, 1],
         [1, 0, 0, 0, 0],
@@ -181,15 +186,29 @@ pub fn run<R: Threads + Wait + Sync>(rt: &R, alloc: Global, row: &Row) -> Option
         row.members,
         row.helpers,
     );
-    let shapes = Shapes::new(alloc, &Paths::new(alloc)).ok()?;
-    let start = Start::new(alloc, layout, shapes).ok()?;
-    let report = Report::new(alloc, 0, 0).ok()?;
+    let Ok(shapes) = Shapes::new(alloc, &Paths::new(alloc)) else {
+        return Ok(None);
+    };
+    let start = Start::new(alloc, layout, shapes)?;
+    Ok(Some(open(alloc, start, settings_of(row))?))
+}
+
+/// Opens a heap, plays the row on it, and closes it. `None` where no heap was opened, or it wasn't over.
+pub fn run<R: Threads + Wait + Sync>(
+    rt: &R,
+    alloc: Global,
+    row: &Row,
+) -> Result<Option<Seen>, Memory> {
+    let report = Report::new(alloc, 0, 0)?;
+    let Some(opened) = open_for(alloc, row)? else {
+        return Ok(None);
+    };
     let Opened {
         standing,
         keeper,
         members,
         helpers,
-    } = open(alloc, start, settings_of(row)).ok()?;
+    } = opened;
     let tally = Tally::new(row.meets);
     let kept = play_all(rt, &standing, keeper, report, members, helpers, row, &tally);
     let Kept {
@@ -199,13 +218,13 @@ pub fn run<R: Threads + Wait + Sync>(rt: &R, alloc: Global, row: &Row) -> Option
         is_over,
     } = kept;
     if !is_over {
-        return None;
+        return Ok(None);
     }
     drop(keeper.finish(standing));
-    Some(Seen {
+    Ok(Some(Seen {
         report,
         turns,
         parts: tally.parts(),
         is_right: tally.is_right(),
-    })
+    }))
 }

@@ -1,6 +1,7 @@
 //! What each actor of a row does in its thread.
 ghost use Rattle.embed_standing.specs.Playing.{HasRoomForScripts, IsScriptCall, MayCall};
 ghost use Rattle.std.specs.Prelude.{◌≡◌, OnOk, true};
+ghost use Rattle.tide_model.specs.Script.{is_full_reply};
 ghost use Rattle.tide_server.specs.Helpers.{IsHelperOf};
 ghost use Rattle.tide_server.specs.Keepers.{KeeperStands};
 ghost use Rattle.tide_server.specs.Turned.{IsFinished};
@@ -12,6 +13,13 @@ use std::sync::Wait;
 use tide_model::{FreePass, Memory, Op, Refusal, Reply, Turnstile};
 use tide_server::{Helper, Keeper, Member, Report, Standing, Turn, Worked};
 use tide_shape::Shapes;
+
+/// Whether a reply is a refusal for want of room.
+fn is_full(reply: Reply) -> bool
+    ensures { result ≡ is_full_reply reply }
+{
+    matches!(reply, Reply::Refused(Refusal::Full { .. }))
+}
 
 /// Makes a call, and tries it again where it was refused for room.
 fn ask<R: Wait, T: Turnstile>(
@@ -28,10 +36,11 @@ fn ask<R: Wait, T: Turnstile>(
         standing.now.hands.shared.table_id member.new) }
 {
     let reply = member.call(rt, standing, op, turnstile)?;
-    if !matches!(reply, Reply::Refused(Refusal::Full { .. })) {
-        return Ok(reply);
+    if is_full(reply) {
+        let again = member.call(rt, standing, op, turnstile)?;
+        return Ok(again);
     }
-    member.call(rt, standing, op, turnstile)
+    Ok(reply)
 }
 
 /// Makes its calls, and leaves. Says whether each was answered as the script has it.
@@ -128,14 +137,17 @@ pub fn keep<R: Wait>(
             continue;
         };
         turns = turns.saturating_add(1);
-        if turn != Turn::Opened {
-            return Kept {
-                keeper,
-                report,
-                turns,
-                is_over: turn == Turn::Over,
-            };
-        }
+        let is_over = match turn {
+            Turn::Opened => continue,
+            Turn::Over => true,
+            Turn::Spent => false,
+        };
+        return Kept {
+            keeper,
+            report,
+            turns,
+            is_over,
+        };
     }
     unreachable!()
 }

@@ -11,9 +11,9 @@ use tide_server::Report;
 
 /// Whether the cycles of a report are numbered in turn, from 1 on.
 fn are_in_turn(report: &Report) -> bool {
-    let mut last = 0;
+    let mut last = 0u64;
     for line in report.cycles() {
-        if line.number != last + 1 {
+        if line.number != last.wrapping_add(1) {
             return false;
         }
         last = line.number;
@@ -30,7 +30,7 @@ fn is_whole(row: &Row, seen: &Seen) -> bool {
 
 /// Plays a row, and answers whether it was whole and had so many parts at least.
 fn lasts<R: Threads + Wait + Sync>(rt: &R, alloc: Global, row: &Row, parts: u64) -> Option<bool> {
-    let seen = run(rt, alloc, row)?;
+    let seen = run(rt, alloc, row).ok()??;
     Some(is_whole(row, &seen) && seen.turns >= parts)
 }
 
@@ -45,7 +45,7 @@ fn one_asks_in_its_second_call<R: Threads + Wait + Sync>(rt: &R, alloc: Global) 
         second_calls: 0,
         meets: false,
     };
-    let seen = run(rt, alloc, &row)?;
+    let seen = run(rt, alloc, &row).ok()??;
     let [kept, freed] = seen.report.cycles() else {
         return Some(false);
     };
@@ -65,7 +65,7 @@ fn two_first_calls_meet<R: Threads + Wait + Sync>(rt: &R, alloc: Global) -> Opti
         second_calls: 4,
         meets: true,
     };
-    let seen = run(rt, alloc, &row)?;
+    let seen = run(rt, alloc, &row).ok()??;
     Some(is_whole(&row, &seen) && seen.report.ids().len() == 2)
 }
 

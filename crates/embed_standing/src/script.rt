@@ -1,5 +1,6 @@
 //! Which calls the members of a row make, and what they are answered.
 ghost use Rattle.embed_standing.specs.Playing.{HasRoomForScripts, IsScriptCall};
+ghost use Rattle.std.specs.Prelude.{◌<◌};
 ghost use Rattle.tide_model.specs.Layout.{Layout};
 
 use tide_model::{Op, Reply, Val};

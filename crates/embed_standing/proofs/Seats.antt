@@ -1,0 +1,41 @@
+-- What those may do who have just got a seat.
+use Rattle.std.proofs.Common.{ℕ, suc, ◌≡◌, ap, List, [], ◌∷◌}
+use Rattle.std.proofs.lemmas.List.Elements.{All-cons, All-nil}
+use Rattle.std.specs.Prelude.{All}
+use Rattle.atomic_table.specs.Seated.{TableId}
+use Rattle.embed_standing.specs.Playing.{MayCall}
+use Rattle.tide_model.specs.Layout.{Layout}
+use Rattle.tide_model.specs.Script.{retry_of}
+use Rattle.tide_mutator.specs.calls.Viewed.{view_of}
+use Rattle.tide_mutator.specs.owed.Standing.{claims_of}
+use Rattle.tide_posts.specs.tide_heap.tide_core.declared.machine.view.View.{View}
+use Rattle.tide_posts.specs.tide_heap.tide_core.machine.Frozen.{newcomer}
+use Rattle.tide_server.specs.Helpers.{IsHelperOf}
+use Rattle.tide_server.specs.Members.{IsMemberOf}
+use Rattle.tide_server.specs.Opened.{AreHelpers, AreMembers}
+use Rattle.tide_server.specs.declared.helper.Helper.{Helper}
+use Rattle.tide_server.specs.declared.member.Member.{Member}
+
+module _ (layout : Layout) (heap hands : TableId) where
+  -- a member that has made no call may make any
+  pub first_may_call : (who : ℕ) (m : Member) → IsMemberOf layout heap hands m → view_of m.mutator ≡ newcomer who →
+      MayCall layout heap hands m
+  first_may_call who m of is = record {
+    of = of;
+    stays = ap (λ (v : View). v.left) is;
+    bare = ap claims_of is;
+    settled = ap (λ (v : View). retry_of v.who v.mine) is;
+  }
+
+  -- so all members of a heap that was just opened may
+  pub all_may_call : (first : ℕ) (ms : List Member) → AreMembers layout heap hands first ms →
+      All (MayCall layout heap hands) ms
+  all_may_call first [] are = All-nil (MayCall layout heap hands)
+  all_may_call first (m ∷ ms) are = All-cons (MayCall layout heap hands) m ms
+      (first_may_call first m are.0 are.1) (all_may_call (suc first) ms are.2)
+
+  -- and its helpers may work
+  pub all_may_work : (first : ℕ) (hs : List Helper) → AreHelpers layout heap hands first hs →
+      All (IsHelperOf layout heap hands) hs
+  all_may_work first [] are = All-nil (IsHelperOf layout heap hands)
+  all_may_work first (h ∷ hs) are = All-cons (IsHelperOf layout heap hands) h hs are.0 (all_may_work (suc first) hs are.2)
