@@ -8,8 +8,8 @@ use Rattle.tide_model.specs.Layout.{Layout}
 use Rattle.tide_model.specs.Script.{retry_of}
 use Rattle.tide_mutator.specs.calls.Viewed.{view_of}
 use Rattle.tide_mutator.specs.owed.Standing.{claims_of}
-use Rattle.tide_posts.specs.tide_heap.tide_core.declared.machine.view.View.{View}
-use Rattle.tide_posts.specs.tide_heap.tide_core.machine.Frozen.{newcomer}
+use Rattle.tide_heap.specs.tide_core.declared.machine.view.View.{View}
+use Rattle.tide_heap.specs.tide_core.machine.Frozen.{newcomer}
 use Rattle.tide_server.specs.Helpers.{IsHelperOf}
 use Rattle.tide_server.specs.Members.{IsMemberOf}
 use Rattle.tide_server.specs.Opened.{AreHelpers, AreMembers}
