@@ -23,14 +23,14 @@ pub caller_is : (who other : ℕ) (op : Op) (reply : Reply) (took : Option ℕ) 
     mine ≡ old ++ called who op reply took ∷ [] → IsOwn other seen mine → who ≡ other
 caller_is who other op reply took seen old mine adds own =
     let passes = subst (λ (es : List Event). All (λ e. is_call_of other e.entry ≡ true) es) (sym own)
-        (filter_passes (λ (e : Event). is_call_of other e.entry) seen) in
+    (filter_passes (λ (e : Event). is_call_of other e.entry) seen) in
     eqb-true who other
-        (All-pop (λ (e : Event). is_call_of other e.entry ≡ true) mine old (Some (called who op reply took)) adds passes).1
+    (All-pop (λ (e : Event). is_call_of other e.entry ≡ true) mine old (Some (called who op reply took)) adds passes).1
 
 module _ (layout : Layout) (heap hands : TableId) (shapes : ShapeLists) (op : Op) (reply : Reply) (old new : Member)
     (of : IsMemberOf layout heap hands new)
     (makes : MakesCall layout shapes (view_of old.mutator).who op reply (view_of old.mutator).seen
-        (view_of new.mutator).seen (view_of old.mutator).mine (view_of new.mutator).mine) where
+    (view_of new.mutator).seen (view_of old.mutator).mine (view_of new.mutator).mine) where
   -- a call leaves its member's number
   pub who_stays : (view_of old.mutator).who ≡ (view_of new.mutator).who
   who_stays = caller_is (view_of old.mutator).who (view_of new.mutator).who op reply makes.took (view_of new.mutator).seen

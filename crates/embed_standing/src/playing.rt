@@ -86,12 +86,7 @@ pub fn play_member<R: Wait>(
 }
 
 /// A helper works until no part is opened any more, and tells each part that it took part in.
-pub fn play_helper<R: Wait>(
-    rt: &R,
-    standing: &Standing<Shapes>,
-    helper: &mut Helper,
-    tally: &Tally,
-)
+pub fn play_helper<R: Wait>(rt: &R, standing: &Standing<Shapes>, helper: &mut Helper, tally: &Tally)
     requires of { IsHelperOf standing.now.heap.key.layout standing.now.heap.table.shared.table_id
         standing.now.hands.shared.table_id helper.old }
 {

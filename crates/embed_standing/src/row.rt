@@ -26,6 +26,10 @@ pub struct Row {
 impl Row {
     /// How many calls the member with this number makes before it leaves.
     pub fn calls_of(&self, who: usize) -> u32 {
-        if who == 1 { self.second_calls } else { self.calls }
+        if who == 1 {
+            self.second_calls
+        } else {
+            self.calls
+        }
     }
 }

@@ -12,11 +12,11 @@ call-requires-then-is_full-clause-retries g c κs within = λ other is.
     let old = c.args.member.now in
     let new = c.call.new.self in
     one_is_tried (retry_of (view_of new.mutator).who (view_of new.mutator).mine) c.args.op other
-        (retry_called k.heap.key.layout k.heap.table.shared.table_id k.hands.shared.table_id (lists_of k.heap.key.shapes)
-            c.args.op c.in_ok-reply.reply old new c.in_ok-reply.ensures.of c.in_ok-reply.ensures.makes
-            ∙ full_is_tried (retry_of (view_of old.mutator).who (view_of old.mutator).mine) c.args.op c.in_ok-reply.reply
-            c.is_full.result c.requires.may.settled c.is_full.ensures c.if-is_full.true)
-        is
+    (retry_called k.heap.key.layout k.heap.table.shared.table_id k.hands.shared.table_id (lists_of k.heap.key.shapes)
+    c.args.op c.in_ok-reply.reply old new c.in_ok-reply.ensures.of c.in_ok-reply.ensures.makes
+    ∙ full_is_tried (retry_of (view_of old.mutator).who (view_of old.mutator).mine) c.args.op c.in_ok-reply.reply
+    c.is_full.result c.requires.may.settled c.is_full.ensures c.if-is_full.true)
+    is
 
 pub returns-then-is_full : goal.returns-then-is_full
 returns-then-is_full g c =
