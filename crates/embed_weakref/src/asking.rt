@@ -1,6 +1,6 @@
 //! What a script asks of its engine: cells in registers, weak references, and registrations.
 ghost use Rattle.embed_weakref.specs.References.{HasReference, KeepsReferences, Works};
-ghost use Rattle.std.specs.Prelude.{ℕ, ◌≢◌, ◌<◌, ◌≤◌, ◌+◌, IfOk};
+ghost use Rattle.std.specs.Prelude.{ℕ, ◌≡◌, ◌≢◌, ◌<◌, ◌≤◌, ◌+◌, IfOk};
 ghost use Rattle.tide.specs.tide_weakref.Viewed.{view_of};
 
 use crate::engine::Engine;
@@ -25,7 +25,7 @@ impl Engine {
         requires works { Works self.old }
         requires register { dst < 3 }
         ensures works { Works self.new }
-        ensures births { (view_of self.new.realm).born ≤ (view_of self.old.realm).born + 1 }
+        ensures births { (view_of self.new.realm).born ≡ (view_of self.old.realm).born }
         ensures keeps { KeepsReferences self.old self.new }
     {
         self.realm.call(&self.heap, Op::Drop { dst }, &FreePass);
@@ -36,6 +36,7 @@ impl Engine {
         requires works { Works self.old }
         requires register { src < 3 }
         ensures works { Works self.new }
+        ensures births { (view_of self.new.realm).born ≡ (view_of self.old.realm).born }
         ensures made { IfOk result (HasReference self.new) }
         ensures keeps { KeepsReferences self.old self.new }
     {
@@ -48,6 +49,7 @@ impl Engine {
         requires made { HasReference self.old r }
         requires register { dst < 3 }
         ensures works { Works self.new }
+        ensures births { (view_of self.new.realm).born ≡ (view_of self.old.realm).born }
         ensures keeps { KeepsReferences self.old self.new }
     {
         self.realm.deref(&self.heap, r, dst, &FreePass)
@@ -58,6 +60,7 @@ impl Engine {
         requires works { Works self.old }
         requires register { src < 3 }
         ensures works { Works self.new }
+        ensures births { (view_of self.new.realm).born ≡ (view_of self.old.realm).born }
         ensures keeps { KeepsReferences self.old self.new }
     {
         self.realm.register(&self.heap, src, held, token, &FreePass)
@@ -67,6 +70,7 @@ impl Engine {
     pub fn deliver(&mut self) -> Option<u32>
         requires works { Works self.old }
         ensures works { Works self.new }
+        ensures births { (view_of self.new.realm).born ≡ (view_of self.old.realm).born }
         ensures keeps { KeepsReferences self.old self.new }
     {
         self.realm.deliver(&self.heap, &FreePass)
@@ -76,6 +80,7 @@ impl Engine {
     pub fn unregister(&mut self, token: u32) -> u32
         requires works { Works self.old }
         ensures works { Works self.new }
+        ensures births { (view_of self.new.realm).born ≡ (view_of self.old.realm).born }
         ensures keeps { KeepsReferences self.old self.new }
     {
         self.realm.unregister(token)
@@ -86,6 +91,7 @@ impl Engine {
         requires works { Works self.old }
         requires made { HasReference self.old r }
         ensures works { Works self.new }
+        ensures births { (view_of self.new.realm).born ≡ (view_of self.old.realm).born }
         ensures others { (other : ℕ) → other ≢ r → HasReference self.old other → HasReference self.new other }
     {
         self.realm.drop_ref(r);
@@ -95,6 +101,7 @@ impl Engine {
     pub fn end_job(&mut self)
         requires works { Works self.old }
         ensures works { Works self.new }
+        ensures births { (view_of self.new.realm).born ≡ (view_of self.old.realm).born }
         ensures keeps { KeepsReferences self.old self.new }
     {
         self.realm.end_job(&self.heap, &FreePass);

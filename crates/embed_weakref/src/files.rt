@@ -1,7 +1,8 @@
 //! A script's files: the script holds a cell for each, a cache finds that again by a weak reference, and a registry
 //! closes the file once the cell is gone.
 ghost use Rattle.embed_weakref.specs.References.{HasReference, KeepsReferences, Works};
-ghost use Rattle.std.specs.Prelude.{◌<◌, IfSome};
+ghost use Rattle.std.specs.Prelude.{◌≡◌, ◌<◌, IfSome};
+ghost use Rattle.tide.specs.tide_weakref.Viewed.{view_of};
 
 use crate::engine::Engine;
 use std::alloc::Global;
@@ -14,6 +15,7 @@ fn enter(engine: &mut Engine, src: u8, file: u32) -> Option<u32>
     requires register { src < 3 }
     ensures works { Works engine.new }
     ensures made { IfSome result (HasReference engine.new) }
+    ensures births { (view_of engine.new.realm).born ≡ (view_of engine.old.realm).born }
     ensures keeps { KeepsReferences engine.old engine.new }
 {
     let Ok(r) = engine.make_ref(src) else {
@@ -43,8 +45,9 @@ fn to_close(engine: &mut Engine) -> [Option<u32>; 2]
 pub fn files_are_closed(alloc: Global) -> Option<bool> {
     let mut engine = Engine::start(alloc, 2, 4, 1)?;
     engine.alloc(0);
-    engine.alloc(1);
     let first = enter(&mut engine, 0, 7)?;
+    // The cache and the registry have taken no cell: a part's births are the script's.
+    engine.alloc(1);
     let second = enter(&mut engine, 1, 8)?;
     engine.let_go(1);
     let mut engine = engine.next_part(true)?;

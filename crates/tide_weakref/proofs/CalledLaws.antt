@@ -1,11 +1,10 @@
 -- Calls of a realm's mutator one after another.
-use Rattle.std.proofs.Common.{ℕ, ◌≡◌, ◌+◌, ◌≤◌, arith, refl, sym, ◌∙◌, ap, subst, true, List, [], ◌∷◌, length, length-append}
+use Rattle.std.proofs.Common.{ℕ, ◌≡◌, refl, sym, ◌∙◌, ap, subst, true, List}
 use Rattle.tide_heap.specs.tide_core.declared.machine.view.View.{View}
 use Rattle.tide_model.specs.Caller.{MakesCall}
 use Rattle.tide_model.specs.Layout.{Layout}
 use Rattle.tide_model.specs.Prefix.{IsPrefix, prefix_refl, prefix_trans}
 use Rattle.tide_model.specs.Refused.{ShapeLists}
-use Rattle.tide_model.specs.declared.entry.Entry.TheVariants.{Call}
 use Rattle.tide_model.specs.declared.entry.Event.{Event}
 use Rattle.tide_model.specs.declared.op.Op.{Op}
 use Rattle.tide_model.specs.declared.op.Reply.{Reply}
@@ -43,17 +42,16 @@ calls_grow layout shapes who seen mine new_seen new_mine (more op reply {old_see
 
 module _ (layout : Layout) (shapes : ShapeLists) where
   pub called_none : (v : View) → HasCalled layout shapes v v
-  called_none v = record { makes = none; kept = refl; stays = refl; births = omega arith; claims = refl }
+  called_none v = record { makes = none; kept = refl; stays = refl; births = refl; claims = refl }
 
   pub called_one : (v u : View) (op : Op) (reply : Reply) → is_of_realm op ≡ true →
-      MakesCall layout shapes v.who op reply v.seen u.seen v.mine u.mine → kept u ≡ kept v → u.left ≡ v.left → u.born ≤ v.born + 1 → claims_of u ≡ claims_of v → HasCalled layout shapes v u
+      MakesCall layout shapes v.who op reply v.seen u.seen v.mine u.mine → kept u ≡ kept v → u.left ≡ v.left →
+      u.born ≡ v.born → claims_of u ≡ claims_of v → HasCalled layout shapes v u
   called_one v u op reply of_realm makes same stays births claims = record {
     makes = more op reply none of_realm makes;
     kept = same;
     stays = stays;
-    births = (let n = ap (λ (l : List Event). length l) makes.adds in
-        let m = length-append v.mine (record { entry = Call v.who op reply; took = makes.took } ∷ []) in
-        omega (arith, n, m, births));
+    births = births;
     claims = claims;
   }
 
@@ -63,7 +61,7 @@ module _ (layout : Layout) (shapes : ShapeLists) where
         (subst (λ (n : ℕ). MakesCalls layout shapes n w.seen w.mine u.seen u.mine) (ap (λ (k : Kept). k.who) first.kept) second.makes);
     kept = second.kept ∙ first.kept;
     stays = second.stays ∙ first.stays;
-    births = (let a = first.births in let b = second.births in omega (arith, a, b));
+    births = second.births ∙ first.births;
     claims = second.claims ∙ first.claims;
   }
 

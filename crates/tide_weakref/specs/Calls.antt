@@ -1,5 +1,5 @@
 -- A realm's mutator, which makes its calls: when it may make one, and what its view is after some.
-use Rattle.std.specs.Prelude.{◌≡◌, ◌<◌, ◌≤◌, ◌+◌, ℕ, Bool, true, false, List, length}
+use Rattle.std.specs.Prelude.{◌≡◌, ◌<◌, ℕ, Bool, true, false, List}
 use Rattle.atomic_table.specs.Seated.{TableId}
 use Rattle.tide_heap.specs.tide_core.declared.machine.view.View.{View}
 use Rattle.tide_model.specs.Caller.{MakesCall}
@@ -40,11 +40,10 @@ pub data MakesCalls (layout : Layout) (shapes : ShapeLists) (who : ℕ) (seen mi
       MakesCall layout shapes who op reply old_seen new_seen old_mine new_mine →
       MakesCalls layout shapes who seen mine new_seen new_mine
 
--- A mutator made calls that a realm makes of its own: of its view nothing else changed but what tells births, of which
--- a call is said to have one at most.
+-- A mutator made calls that a realm makes of its own, none of which has a birth: of its view nothing else changed.
 pub record HasCalled (layout : Layout) (shapes : ShapeLists) (v u : View) : Type 0 where
   pub makes : MakesCalls layout shapes v.who v.seen v.mine u.seen u.mine
   pub kept : kept u ≡ kept v
   pub stays : u.left ≡ v.left
-  pub births : u.born + length v.mine ≤ v.born + length u.mine
+  pub births : u.born ≡ v.born
   pub claims : claims_of u ≡ claims_of v

@@ -110,7 +110,8 @@ module _ (layout : Layout) (shapes : ShapeLists) (op : Op) (does : Action) (repl
           (subst (λ (p : Action). ActionWords layout done.made.heap v.who p reply done.made.took done.made.new) (leaves is)
           done.made.words),
     );
-    born = done.made.born;
+    born = done.made.births.most;
+    none_born = done.made.births.none;
     claims = λ other. claims_then ∙ claims_stay reply op does (claims_of v) other;
   }
 

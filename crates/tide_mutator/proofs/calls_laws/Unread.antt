@@ -73,5 +73,6 @@ module _ (v u : View) (same : unread u ≡ unread v) where
     left = λ is. h.left is ∙ ap (λ (x : View). x.left) same;
     gone = h.gone;
     born = subst (λ (x : View). after.born ≤ x.born + 1) same h.born;
+    none_born = λ takes_none. h.none_born takes_none ∙ ap (λ (x : View). x.born) same;
     claims = λ other. h.claims other ∙ claims_unread;
   }

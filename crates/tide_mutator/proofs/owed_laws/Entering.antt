@@ -1,5 +1,5 @@
 -- Why a call may be made where its action is carried out, and what its view is then.
-use Rattle.std.proofs.Common.{ℕ, ◌≡◌, ◌≤◌, ◌+◌, sym, ◌∙◌, ap, subst, arith, true, false, List, [], ◌∷◌, ◌++◌, Option, Some}
+use Rattle.std.proofs.Common.{ℕ, ◌≡◌, ◌+◌, refl, sym, ◌∙◌, ap, subst, arith, true, false, List, [], ◌∷◌, ◌++◌, Option, Some}
 use Rattle.std.specs.Prelude.{filter}
 use Rattle.tide_heap.proofs.tide_call.action_laws.Acting.{actions_are_calls}
 use Rattle.tide_heap.specs.tide_call.ActionWords.{ActionWords}
@@ -12,6 +12,7 @@ use Rattle.tide_heap.specs.tide_core.machine.Moment.{Moment}
 use Rattle.tide_heap.specs.tide_core.machine.Views.{with_entry}
 use Rattle.tide_heap.specs.tide_core.machine.World.{World}
 use Rattle.tide_heap.specs.tide_core.declared.machine.view.View.{View}
+use Rattle.tide_heap.specs.tide_core.machine.kinds.TakeFree.{TakesCell}
 use Rattle.tide_model.proofs.ClaimLaws.{ClaimsAreOwn-lawful}
 use Rattle.tide_model.specs.History.{state_after, is_call_of}
 use Rattle.tide_model.specs.Lawful.{IsLawful}
@@ -26,7 +27,7 @@ use Rattle.tide_model.specs.declared.op.Reply.{Reply}
 use Rattle.tide_model.specs.declared.op.Reply.TheVariants.{Refused}
 use Rattle.tide_mutator.proofs.owed_laws.Standing.{calls_there, stands_then}
 use Rattle.tide_mutator.specs.owed.Calling.{IsCalling, Kept, kept}
-use Rattle.tide_mutator.specs.owed.Made.{IsMade, shown}
+use Rattle.tide_mutator.specs.owed.Made.{HasBirths, IsMade, shown}
 use Rattle.tide_mutator.specs.owed.Standing.{IsPlanned, MutatorStandsAt, caller_of}
 use Rattle.tide_heap.specs.tide_words.heap.Heap.{Heap}
 
@@ -69,9 +70,9 @@ pub made_by : (layout : Layout) (shapes : ShapeLists) (op : Op) (does : Action) 
     (new : Heap) → ActionWords layout m.settled v.who does reply took new →
     kept changed ≡ kept v → changed.mine ≡ v.mine → (is_retire op ≡ false → changed.left ≡ v.left) →
     (does ≡ action.Retire → changed.left ≡ true) →
-    changed.born ≤ v.born + 1 → IsMade layout shapes op does reply v (shown u)
+    HasBirths op v.born changed.born → IsMade layout shapes op does reply v (shown u)
 made_by layout shapes op does reply took v u changed log at index read calling m lawful own view new words same mine
-    left gone born = record {
+    left gone births = record {
       took = took;
       log = log;
       heap = m.settled;
@@ -88,12 +89,16 @@ made_by layout shapes op does reply took v u changed log at index read calling m
       kept = keeps;
       left = λ stays. ap (λ (x : View). x.left) view ∙ left stays;
       gone = λ is. ap (λ (x : View). x.left) view ∙ gone is;
-      born = subst (λ (n : ℕ). n ≤ v.born + 1) (sym (ap (λ (x : View). x.born) view)) born;
+      births = subst (HasBirths op v.born) (sym (ap (λ (x : View). x.born) view)) births;
     }
   where
     keeps : kept u ≡ kept v
     keeps = ap kept view ∙ same
 
--- a step that bears no cell leaves the count of births within one more
-pub none_born : (n : ℕ) → n ≤ n + 1
-none_born n = omega arith
+-- a step that bears no cell
+pub none_born : {op : Op} (n : ℕ) → HasBirths op n n
+none_born n = record { most = omega arith; none = λ takes. refl }
+
+-- a step that bears the cell that its operation takes
+pub one_born : {op : Op} (n : ℕ) → TakesCell op → HasBirths op n (n + 1)
+one_born n takes = record { most = omega arith; none = λ never. absurd (never takes) }

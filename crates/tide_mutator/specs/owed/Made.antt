@@ -8,6 +8,7 @@ use Rattle.tide_heap.specs.tide_core.declared.machine.view.Duty.{Duty}
 use Rattle.tide_heap.specs.tide_core.declared.machine.view.Duty.TheVariants.{Nothing}
 use Rattle.tide_heap.specs.tide_core.declared.machine.view.Owed.{Owed}
 use Rattle.tide_heap.specs.tide_core.declared.machine.view.View.{View}
+use Rattle.tide_heap.specs.tide_core.machine.kinds.TakeFree.{TakesCell}
 use Rattle.tide_model.specs.Caller.{IsOwn}
 use Rattle.tide_model.specs.Lawful.{IsLawful}
 use Rattle.tide_model.specs.Layout.{Layout}
@@ -32,6 +33,11 @@ pub record Shown : Type 0 where
 abbrev pub shown : View → Shown
 shown v = record { kept = kept v; seen = v.seen; mine = v.mine; left = v.left; born = v.born }
 
+-- how many births there were before a call and after it: it has one at most, and none where its operation takes no cell
+pub record HasBirths (op : Op) (before after : ℕ) : Type 0 where
+  pub most : after ≤ before + 1
+  pub none : (TakesCell op → ⊥) → after ≡ before
+
 -- The call's entry stands right after a history in which the mutator with this view could stand, of which it had seen a
 -- beginning. Carrying out this action writes the words of the heap there that make the call, and answers so.
 pub record IsMade (layout : Layout) (shapes : ShapeLists) (op : Op) (does : Action) (reply : Reply)
@@ -50,7 +56,7 @@ pub record IsMade (layout : Layout) (shapes : ShapeLists) (op : Op) (does : Acti
   pub kept : after.kept ≡ kept v
   pub left : is_retire op ≡ false → after.left ≡ v.left
   pub gone : does ≡ action.Retire → after.left ≡ true
-  pub born : after.born ≤ v.born + 1
+  pub births : HasBirths op v.born after.born
 
 -- The call has its entry. It still owes these words and this, and its call word doesn't tell it yet.
 pub record HasMade (layout : Layout) (shapes : ShapeLists) (op : Op) (does : Action) (reply : Reply)

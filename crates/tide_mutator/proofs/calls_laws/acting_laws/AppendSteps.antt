@@ -292,7 +292,7 @@ module _ (layout : Layout) (shapes : ShapeLists) (v : View) (op : Op) (addition 
     kept = m.kept;
     left = m.left;
     gone = m.gone;
-    born = m.born;
+    births = m.births;
   }
 
   module _ (structure : ℕ) (same : structure ≡ whole_word addition.next (addition.count + 1)) where

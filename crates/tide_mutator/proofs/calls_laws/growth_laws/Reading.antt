@@ -116,7 +116,7 @@ module _ (v u : View) (h : HasRead v u) where
               kept = m.kept;
               left = m.left;
               gone = m.gone;
-              born = m.born;
+              births = m.births;
             }
 
         pub has_done_before : (reply : Reply) (w : View) → HasDone layout shapes op does reply u w →

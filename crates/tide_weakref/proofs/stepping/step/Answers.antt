@@ -3,7 +3,7 @@ use Rattle.std.proofs.Common.{ℕ, ◌<◌, ◌∙◌, sym, ap, subst}
 use Rattle.tide_mutator.specs.calls.Viewed.{view_of}
 use Rattle.tide_mutator.specs.owed.Calling.{Kept}
 use Rattle.tide_weakref.proofs.CalledLaws.{called_one}
-use Rattle.tide_weakref.proofs.OfRealm.{of_no_claim}
+use Rattle.tide_weakref.proofs.OfRealm.{of_no_claim, takes_none}
 use Rattle.tide_weakref.proofs.stepping.step.Goals as goal
 
 pub returns-clause-stepped : goal.returns-clause-stepped
@@ -24,6 +24,8 @@ returns-clause-stepped g c =
       seat = called.same.1;
       who = ap same called.kept;
       called = called_one layout (g.S.ShapeTable.lists c.args.heap.now.key.shapes) v u c.args.op c.call.result c.requires.of_realm called.makes
-          called.kept (called.stays ∙ sym running.stays) called.births (called.claims (of_no_claim c.args.op c.requires.of_realm));
+          called.kept (called.stays ∙ sym running.stays)
+          (called.none_born (takes_none c.args.op c.requires.of_realm))
+          (called.claims (of_no_claim c.args.op c.requires.of_realm));
       own = λ own. called.makes.were_own;
     }

@@ -9,5 +9,8 @@ returns-clause-works c =
     part_worked engine.heap.table.shared.table_id engine.heap.key.layout (lists_of engine.heap.key.shapes)
     engine.collector.seat.me.0.period engine.realm c.deref.new.self c.deref.ensures.worked c.requires.works
 
+pub returns-clause-births : goal.returns-clause-births
+returns-clause-births c = c.deref.ensures.worked.called.births
+
 pub returns-clause-keeps : goal.returns-clause-keeps
 returns-clause-keeps c = c.deref.ensures.worked.goes_on.references
