@@ -5,12 +5,14 @@ The program's line is the same for each of them. What is taken is told in docs/W
 import difflib
 import re
 
-USAGE = "riptide: usage: riptide [--visitors N] [--plain] [--make N] [--snapshot]"
-NUMBERED, FLAGS, MAX_VISITORS = ("--visitors", "--make"), ("--plain", "--snapshot"), 8
+USAGE = "riptide: usage: riptide [--visitors N] [--plain] [--make N] [--snapshot] [--stats]"
+NUMBERED, FLAGS, MAX_VISITORS = ("--visitors", "--make"), ("--plain", "--snapshot", "--stats"), 8
 APART = [
     ("--plain", "--visitors", "a plain run has one thread and no visitor, be their number 0"),
     ("--plain", "--snapshot", "a snapshot is of the heap that threads share"),
     ("--make", "--snapshot", "a generated workload prints a summary, and no cells"),
+    ("--plain", "--stats", "the lines of cycles are of a run on the heap that threads share"),
+    ("--make", "--stats", "a generated workload prints a summary, and no cycles"),
 ]
 
 
@@ -42,7 +44,7 @@ def meant_by(word):
 
 
 def bare(word):
-    """Why a word without a dash is none of the four options, and what to change."""
+    """Why a word without a dash is none of the five options, and what to change."""
     told = shown(word)
     if word in ("<", ">", "|"):
         return f"`{told}` is the shell's, and came to the program as a word", "write it without quotes"
@@ -55,7 +57,7 @@ def bare(word):
 
 
 def strange(word, is_behind, rest):
-    """Why a word is none of the four options, and what to change. `rest` are the words behind it."""
+    """Why a word is none of the five options, and what to change. `rest` are the words behind it."""
     told = shown(word)
     if any("\udc80" <= letter <= "\udcff" for letter in word):
         return f"`{told}` isn't UTF-8", "write it in UTF-8"
