@@ -2,10 +2,11 @@
 use Rattle.std.proofs.Common.{ℕ, zero, suc, ◌≡◌, ◌<◌, ◌≤◌, ◌+◌, ◌∙◌, refl, sym, subst, ap, arith, Bool, true, List, [], ◌∷◌, inl, inr}
 use Rattle.std.proofs.lemmas.Bool.{cases_eq, eq-eqb, ne_eqb}
 use Rattle.std.proofs.lemmas.List.Elements.{All-head, All-tail}
-use Rattle.std.specs.Prelude.{◌*◌, ◌^◌, All, Some, None, if◌then◌else◌}
+use Rattle.std.specs.Prelude.{◌*◌, ◌^◌, All, Some, None, if◌then◌else◌, slice_index}
 use Rattle.tide_heap.specs.tide_core.machine.World.{first_visitor}
 use Rattle.tide_heap.specs.tide_core.declared.machine.view.NotedVisits.{NotedVisits}
-use Rattle.tide_table.specs.VisitsTold.{HaveTold, told_by, visits_in, visits_left, visits_told}
+use Rattle.tide_model.specs.Layout.{Layout}
+use Rattle.tide_table.specs.VisitsTold.{AreNumbersTold, AreTold, HaveTold, told_by, visits_in, visits_left, visits_told}
 
 -- so many visitors told, the first ones, and the others nothing yet
 pub record HasTold (most count : ℕ) (visited : List NotedVisits) : Type 0 where
@@ -126,3 +127,22 @@ visits_left-most visited most count (suc n) few within all =
     let more = visits_left-more visited 0 n in
     let here = each_most visited most 0 count all n (omega (arith, within)) in
     omega (arith, before, more, here, few)
+
+-- one more visitor's number is what its note told
+pub visits_left-next : (layout : Layout) (run : ℕ) (visited : List NotedVisits) (numbers : List ℕ) (n : ℕ) → AreTold layout run visited →
+    AreNumbersTold numbers visited → layout.visitors ≤ 8 → n < layout.visitors →
+    visits_left visited 0 (n + 1) ≡ visits_left visited 0 n + slice_index numbers n
+visits_left-next layout run visited numbers n are numbered few below =
+    let (k, told) = are.each n below in
+    let more = visits_left-more visited 0 n in
+    let number = numbered n (record { who = first_visitor + n; visits = k; done = true }) (omega (arith, few, below)) told in
+    let here = ap visits_in told in
+    let count = ap (visits_left visited 0) (one_more n) in
+    let same = ap (λ (m : ℕ). visits_in (told_by (first_visitor + m) visited)) (none_more n) in
+    omega (arith, more, number, here, count, same)
+  where
+    one_more : (m : ℕ) → m + 1 ≡ suc m
+    one_more m = omega arith
+
+    none_more : (m : ℕ) → 0 + m ≡ m
+    none_more m = omega arith

@@ -121,7 +121,11 @@ impl OnThreads {
     }
 
     /// Freezes after a part as `freeze` does, and tells the log of it.
-    pub(crate) fn freeze_and_tell(&mut self, log: &mut CycleLog, is_forced: bool) -> Result<u32, Memory>
+    pub(crate) fn freeze_and_tell(
+        &mut self,
+        log: &mut CycleLog,
+        is_forced: bool,
+    ) -> Result<u32, Memory>
         requires settled { IsSettled (recorded_in self.old) }
         requires stands { Stands self.old }
         requires opened { 0 < (recorded_in self.old).parts }

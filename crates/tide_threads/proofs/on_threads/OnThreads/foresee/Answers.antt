@@ -24,9 +24,6 @@ visited-visited-requires c =
       opened = subst (λ (r : Recorded). 0 < r.parts) (sym e.same) c.requires.opened;
     }
 
-pub begun-requires : goal.begun-requires
-begun-requires c = tt
-
 pub returns : goal.returns
 returns c =
     let e = c.is_marking-marked.ensures in
