@@ -1,4 +1,4 @@
-//! Writing lines to a sink, each as one piece but for the line of a cycle. How a line is composed, `lines` says.
+//! Writing lines to a sink, each as one piece but for the lines of a cycle. How a line is composed, `lines` says.
 ghost use Rattle.std.specs.Prelude.{◌≡◌, ◌+◌, ◌≤◌, [], ◌++◌, length, OnErr, OnOk};
 ghost use Rattle.std.specs.List.{flat_map};
 ghost use Rattle.std.specs.Io.KnownBytes.{Appends};
@@ -106,7 +106,8 @@ fn write_counts<K: Sink>(out: &mut K, number: u64, kept: u32, freed: usize) -> R
 // The kind of a cycle.
 #[tactic(auto, unfolding(crate::specs::lines::Line::kind_text))]
 fn kind_text(full: bool) -> &'static str
-    ensures { result.now ≡ kind_text full }
+    ensures is { result.now ≡ kind_text full }
+    ensures short { length result.now ≡ 5 }
 {
     if full { " full" } else { " Eden" }
 }

@@ -241,6 +241,7 @@ tail_of (entry ∷ entries) = entries
 -- as many visits with which the same entries begin are the same
 same_visits : (who : ℕ) (one other : List ℕ) (rest more : List Entry) → length one ≡ length other →
     visits_entries who one ++ rest ≡ visits_entries who other ++ more → one ≡ other
+unfolding tail_of visit_first
 same_visits who [] [] rest more long same = refl
 same_visits who [] (v ∷ other) rest more long same = absurd (omega (arith, long))
 same_visits who (v ∷ one) [] rest more long same = absurd (omega (arith, long))
@@ -365,7 +366,7 @@ unopened (event ∷ part) all =
 
 -- a part was opened and run
 module _ (old new : Recorded) (run : ℕ) (ended : Bool) (ran : RanOpenedPart old new run ended) where
-  opens : Event
+  abbrev opens : Event
   opens = plain (Open (open_count old.history + 1) run)
 
   all_of_part : list_all (λ event. is_of_part event.entry) ran.ran.part ≡ true

@@ -42,7 +42,7 @@ returns c =
         since_end = since_end;
         in_cycle = ap (λ (b : Books). b.births.in_cycle) e.books ∙ births.in_cycle;
         begun = c.begun_of-begun.ensures
-            ∙ (λ i. begun_of c.args.is_forced (e.marks i) ((c.due-is_triggered.ensures ∙ (λ j. is_triggered (trigger j) (since_end j))) i) (number i));
+            ∙ (λ i. begun_of c.args.is_forced (e.marks i) ((c.due-is_triggered.ensures ∙ (λ j. is_triggered (trigger j) ((c.from.ensures ∙ since_end) j))) i) (number i));
       };
       same = e.same;
       view = e.view;

@@ -25,7 +25,7 @@ use Rattle.tide_threads.specs.Standing.{MayOpenPart}
 use Rattle.tide_threads.proofs.on_threads.OnThreads.freeze_and_tell.Goals as goal
 
 pub foresee-foreseen-requires : goal.foresee-foreseen-requires
-foresee-foreseen-requires g c = record {
+foresee-foreseen-requires c = record {
   stands = c.requires.stands;
   visits = c.requires.visits;
   few = c.requires.run;
@@ -35,7 +35,7 @@ foresee-foreseen-requires g c = record {
 }
 
 pub freeze-requires : goal.freeze-requires
-freeze-requires g c =
+freeze-requires c =
     let e = c.foresee-foreseen.ensures in
     let same = sym e.same in record {
       settled = subst IsSettled same c.requires.settled;
@@ -46,7 +46,7 @@ freeze-requires g c =
     }
 
 pub tell_freeze-requires : goal.tell_freeze-requires
-tell_freeze-requires g c =
+tell_freeze-requires c =
     let few = c.requires.few in
     let visited = few.visited in
     let paused = few.paused in
@@ -62,17 +62,17 @@ tell_freeze-requires g c =
     }
 
 pub returns-in_err-next : goal.returns-in_err-next
-returns-in_err-next g c =
+returns-in_err-next c =
     let failed = err_from_is_err_and c.from_residual.result c.from_residual.ensures.1 in
     rw failed.1 (record { ran = tt; stands = tt; pacing = tt; cursors = tt; opens = tt; logged = tt; few = tt })
 
 pub returns-in_err-tell_freeze : goal.returns-in_err-tell_freeze
-returns-in_err-tell_freeze g c =
+returns-in_err-tell_freeze c =
     let failed = err_from_is_err_and c.from_residual-in_err-tell_freeze.result c.from_residual-in_err-tell_freeze.ensures.1 in
     rw failed.1 (record { ran = tt; stands = tt; pacing = tt; cursors = tt; opens = tt; logged = tt; few = tt })
 
 pub returns : goal.returns
-returns g c =
+returns c =
     let o = c.args.self.now in
     let foreseen = c.foresee-foreseen.result in
     let f = c.foresee-foreseen.ensures in
