@@ -94,12 +94,13 @@ returns c =
     let same_setting = e.same ∙ kept in
     let after : marks_after layout q.history ≡ c.is_marking-marks.result =
     sym (m.marks ∙ (λ i. marks_after (same_setting i).layout q.history)) in
+    let pauses : c.pauses-pauses.result ≡ last_pauses q.history = c.pauses-pauses.ensures ∙ (λ i. last_pauses (m.view i).seen) in
     let has = HasLogged-froze (pace_on o) layout v q.history c.args.is_forced log froze told c.requires.logged in
     let logged : HasLogged q.history c.tell_freeze.new.log =
     subst (HasLogged q.history)
     (sym (c.in_ok-tell_freeze.ensures
     ∙ (λ i. with_freeze log (is.visited i) ((c.told_of-told.ensures.is
-    ∙ (λ j. told_of (is.marked j) (is.begun j) (c.pauses-pauses.ensures j) (sym after j))) i) (is.since_end i) (is.in_cycle i)))) has in
+    ∙ (λ j. told_of (is.marked j) (is.begun j) (pauses j) (sym after j))) i) (is.since_end i) (is.in_cycle i)))) has in
     record {
       ran = subst (λ (x : Books × Recorded × Recorded). RanFreeze x.1 x.2 (pace_of x.0.pacing) c.args.is_forced next)
           (λ i. (f.books i, f.same i, sym m.same i)) e.ran;
