@@ -1,19 +1,20 @@
 #!/usr/bin/env python3
 """Tells in which freeze each cycle of a printed run began and ended, which were full, and why each cell was freed.
 
-    python3 tools/schedule.py [--cycles] [--visitors=N | --plain] WORKLOAD.toml TEXT
+    python3 tools/schedule.py [--cycles] [--visitors N | --plain] WORKLOAD.toml TEXT
 
-TEXT is a file with what riptide printed of the workload, or - for standard input; N is the number of visitors that the run
-had, and --plain stands for a run with that option. A text has the calls and the cycles apart. This looks for the ways
-through the freezes that the schedule allows, as judge/judge.py does, and prints each, part by part:
+TEXT is a file with what riptide printed of the workload; either file may be named first, and be - for standard input. N is
+the number of visitors that the run had, and --plain stands for a run with that option. A text has the calls and the cycles
+apart. This looks for the ways through the freezes that the schedule allows, as judge/judge.py does, and prints each, part
+by part:
 
 - which calls stand in a part, as places in each mutator's block, from 1; the freeze behind it is forced where a mutator
   stopped there or all have retired;
 - where a cycle begins, its kind, how many old cells it spares, and how many its first pause has to make black of how many
   that it may; a cycle that goes on marks beside the next part's calls;
 - where it ends, the cells that it freed, those that it kept for their age, and those that float, each with the call by which
-  nothing retained it any more. A cell that nothing retained at any moment of the cycle, and that is kept since its graph is
-  that of all moments together, is told apart.
+  nothing retained it any more, and with the pair or the group where that alone held it until then. A cell that nothing
+  retained at any moment of the cycle, and that is kept since its graph is that of all moments together, is told apart.
 
 With --cycles it prints a line a cycle in their place: its kind, from which freeze to which it marked (freeze 3 is the one
 behind part 3), how many cells were born since the end before it until it began, how many while it marked, and how many it
@@ -22,6 +23,7 @@ kept and freed.
 It is of a run whose mutators called one after another: of one mutator, a plain one, or on threads that came out so. Where
 several ways give the text it prints up to eight: the text doesn't tell them apart. Its status is 1 where it found none.
 """
+import argparse
 import copy
 import re
 import sys
@@ -32,6 +34,7 @@ sys.path.append(str(Path(__file__).resolve().parent.parent / "judge"))
 import judge
 import judge_threads
 import model
+import why
 
 if __name__ == "__main__" and sys.argv[1:] in ([], ["--help"]):
     sys.exit(print(__doc__.strip()) or len(sys.argv) < 2)
@@ -49,6 +52,7 @@ class Begin:
     spared: int
     needed: int
     budget: int
+    is_forced: bool
 
 
 @dataclass
@@ -88,8 +92,9 @@ class Told(judge.Run):
     def __init__(self, work, replies, cycles, visitors):
         super().__init__(work, replies, cycles)
         self.store, self.visitors, self.parts = Store(work), visitors, ()
-        # what was retained after the last call, and of each other live cell the call by which it was let go
-        self.retained, self.let_go = set(), {}
+        # what was held and retained after the last call; of each other live cell the call by which it was let go, and what
+        # held it until then, where that is neither a root nor a link
+        self.held, self.retained, self.let_go, self.hung = judge.held(self.store), set(), {}, {}
         # what was retained at some moment of the cycle; the old cells that got a reference while none marked
         self.ever, self.stored_into = set(), set()
         # how many cells visits of the cycle may have made black; how many were surely black, and the stores since
@@ -106,13 +111,26 @@ class Told(judge.Run):
     def note(self):
         super().note()
         (who, op), store = self.store.last, self.store
-        now = judge.closed(*judge.held(store))
+        held = judge.held(store)
+        now = judge.closed(*held)
         self.let_go = {cell: by for cell, by in self.let_go.items() if cell not in now}
-        self.let_go |= {cell: (who, self.told[who], model.text_of(op)) for cell in self.retained - now}
-        self.retained, self.ever = now, self.ever | now
+        lost, call = self.retained - now, (who, self.told[who], model.text_of(op))
+        self.let_go |= dict.fromkeys(lost, call)
+        self.hung |= self.held_by(lost)
+        self.held, self.retained, self.ever = held, now, self.ever | now
         if op[0] in STORES and not store.was_refused and isinstance(store.registers[who][op[3]], tuple):
             self.stored_into.add(store.registers[who][op[1]][1])
             self.stores += 1
+
+    def held_by(self, cells):
+        """What held each of these cells before the last call, in words, where that is neither a root nor a link."""
+        if not cells:
+            return {}
+        roots, links, pairs, _ = self.held
+        linked = roots | {other for one, other in links if one in self.retained}
+        paired = {value for table, key, value in pairs if table in self.retained and key in self.retained}
+        kinds = " (held by a pair)", " (held by its group)"
+        return {cell: "" if cell in linked else kinds[cell not in paired] for cell in cells}
 
     def tell(self, event):
         last = self.parts[-1]
@@ -128,7 +146,7 @@ class Told(judge.Run):
         kind = "full" if judge.is_full_cycle(self.ended + 1, is_forced) else "Eden"
         self.blackened, self.stores = min(needed, budget), 0
         self.black = len(old) - len(self.stored_into & old) + self.blackened
-        self.tell(Begin(self.ended + 1, kind, len(old), needed, budget))
+        self.tell(Begin(self.ended + 1, kind, len(old), needed, budget, is_forced))
 
     def end(self):
         kept, freed = self.cycles[self.ended] if self.ended < len(self.cycles) else (0, [])
@@ -150,7 +168,8 @@ class Told(judge.Run):
         """These cells by the calls by which they were let go, in the order of the cells."""
         found = {}
         for cell in sorted(cells):
-            found.setdefault(self.let_go.get(cell), []).append(cell)
+            call = self.let_go.get(cell)
+            found.setdefault(call, []).append(f"#{cell}{self.hung[cell] if call else ''}")
         return list(found.items())
 
 
@@ -210,10 +229,6 @@ def ways_through(document, text, visitors=0, is_plain=False):
     return found, bool(ways)
 
 
-def cells_of(cells):
-    return " ".join(f"#{cell}" for cell in cells)
-
-
 def counted(count, what):
     return f"{count} {what}{'s'[:count != 1]}"
 
@@ -223,14 +238,15 @@ def lines_of(event):
     if isinstance(event, Begin):
         are = "is" if event.spared == 1 else "are"
         old = f"{counted(event.spared, 'old cell')} {are} spared" if event.kind == "Eden" else "no cell is spared"
-        pause = f"its first pause has {counted(event.needed, 'cell')} to make black, of {event.budget} that it may"
+        may = f"all {event.budget}, since it is forced" if event.is_forced else f"{event.budget} that it may"
+        pause = f"its first pause has {counted(event.needed, 'cell')} to make black, of {may}"
         return [f"  cycle {event.cycle} begins, {event.kind}: {old}; {pause}"]
     lines = [f"  cycle {event.cycle} ends: kept {event.kept}, freed {event.freed}"]
     for reason, by_call in event.why:
         for call, cells in by_call:
             who, place, op = call or (None, None, None)
             by = f", let go by call {place} of mutator {who} ({op})" if call else ", still held"
-            lines.append(f"    {reason}: {cells_of(cells)}{by}")
+            lines.append(f"    {reason}: {' '.join(cells)}{by}")
     return lines
 
 
@@ -269,20 +285,66 @@ def cycles_told(way):
             born = 0
 
 
+def content_of(name):
+    """What a file has, or standard input where its name is -."""
+    try:
+        return sys.stdin.read() if name == "-" else Path(name).read_text(encoding="utf-8")
+    except (OSError, UnicodeDecodeError) as error:
+        sys.exit(f"{name}: {getattr(error, 'strerror', 'it is not UTF-8')}")
+
+
+def told_apart(names):
+    """A workload and the text of its run, each as its name and what it has, told apart by that."""
+    given = [(name, content_of(name)) for name in names]
+    texts = [one for one in given if re.search(r"^live \d+$", one[1], re.M)]
+    workloads = [one for one in given if one not in texts]
+    if len(texts) != 1 or len(workloads) > 1:
+        have = f"of {' and '.join(names)} {len(texts)} do"
+        sys.exit(f"a text has a line `live N`, and {have}: name a workload and the text of its run")
+    if not workloads:
+        return None, texts[0]
+    (name, document), (_, text) = workloads[0], texts[0]
+    lines, taken = why.explained(document.encode())
+    if not taken:
+        sys.exit(f"{name}: {lines[0]}; python3 tools/why.py {name} says more")
+    blocks, count = len(read(text)[0]), len(judge_threads.read_workload(document)["mutators"])
+    if blocks != count:
+        sys.exit(f"the text has the calls of {blocks} mutators, and the workload has {count}")
+    return workloads[0], texts[0]
+
+
+def no_way(document):
+    """What is said where no way was found: which mutators may have met, and what the text says all the same."""
+    mutators = judge_threads.read_workload(document)["mutators"]
+    classes = [{op[2] if op[0] == "alloc" else 4 for op in ops if op[0] in ("alloc", "table")} for ops in mutators]
+    pairs = [(one, other) for other in range(len(classes)) for one in range(other)]
+    met = next(((one, other, min(both)) for one, other in pairs if (both := classes[one] & classes[other])), None)
+    told = "no way through the freezes was found that gives this text with the mutators one after another"
+    if met:
+        why_not = "mutators {} and {} both allocate in class {}, so each may have called between the other's calls"
+        told += ": " + why_not.format(*met)
+    holds = "the text's replies, and what each cycle kept and freed, hold where judge/judge_threads.py WORKLOAD TEXT accepts it"
+    return f"{told}; {holds}"
+
+
 def main():
-    words = [word for word in sys.argv[1:] if not word.startswith("--")]
-    visitors = next((int(word.split("=")[1]) for word in sys.argv[1:] if word.startswith("--visitors=")), 0)
-    if len(words) != 2:
-        sys.exit(__doc__.strip())
-    document = Path(words[0]).read_text(encoding="utf-8")
-    text = sys.stdin.read() if words[1] == "-" else Path(words[1]).read_text(encoding="utf-8")
-    found, may_be_more = ways_through(document, text, visitors, "--plain" in sys.argv)
+    usage = "python3 tools/schedule.py [--cycles] [--visitors N | --plain] WORKLOAD.toml TEXT"
+    parser = argparse.ArgumentParser(usage=usage, add_help=False)
+    parser.add_argument("files", nargs=2)
+    parser.add_argument("--cycles", action="store_true")
+    kinds = parser.add_mutually_exclusive_group()
+    kinds.add_argument("--visitors", type=int, default=0)
+    kinds.add_argument("--plain", action="store_true")
+    given = parser.parse_args()
+    workload, (_, text) = told_apart(given.files)
+    document = workload[1]
+    found, may_be_more = ways_through(document, text, given.visitors, given.plain)
     if not found:
-        sys.exit("no way through the freezes was found that gives this text with the mutators one after another")
+        sys.exit(no_way(document))
     for number, way in enumerate(found, 1):
         if len(found) > 1 or may_be_more:
             print(f"way {number} of {len(found)}{' or more' if may_be_more else ''}")
-        print("\n".join(cycles_told(way) if "--cycles" in sys.argv else told(way)))
+        print("\n".join(cycles_told(way) if given.cycles else told(way)))
 
 
 if __name__ == "__main__":

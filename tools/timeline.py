@@ -1,7 +1,10 @@
 #!/usr/bin/env python3
-"""Draws the printed text of a run as an SVG picture, to standard output.
+"""Draws the printed text of a run as an SVG picture.
 
-    python3 tools/timeline.py TEXT [WORKLOAD.toml] > PICTURE.svg      # TEXT is what riptide printed, or - for standard input
+    python3 tools/timeline.py [WORKLOAD.toml] TEXT [PICTURE.svg]
+
+TEXT is a file with what riptide printed; either file may be named first, and be - for standard input. Without a PICTURE the
+picture goes to standard output.
 
 Above, a row a mutator has a mark for each of its calls, in order, by the kind of its reply. Below, each cycle has a bar:
 the cells that it kept and, on top of them, those that it freed, with both numbers; the last bar is what lives at the end.
@@ -10,7 +13,7 @@ an axis each.
 
 With the WORKLOAD the freezes are drawn between the calls, by the first way through them that tools/schedule.py finds: a
 line each, with the cycles that began and ended there, and the parts in which a cycle marked in grey. Below each bar stands
-the cycle's kind. Where no way is found, the status is 1.
+the cycle's kind. Where no way is found, a line says so, no PICTURE is written, and the status is 1.
 """
 import re
 import sys
@@ -164,7 +167,7 @@ def parts_of(document, printed):
         found, _ = schedule.ways_through(document, printed, visitors, is_plain)
         if found:
             return found[0].parts
-    sys.exit("no way through the freezes was found that gives this text with the mutators one after another")
+    sys.exit(schedule.no_way(document))
 
 
 def picture(name, printed, document=None):
@@ -178,12 +181,16 @@ def picture(name, printed, document=None):
 
 
 def main():
+    to = sys.argv.pop() if sys.argv[-1].endswith(".svg") else None
     if len(sys.argv) not in (2, 3):
         sys.exit(__doc__.strip())
-    printed = sys.stdin.read() if sys.argv[1] == "-" else Path(sys.argv[1]).read_text(encoding="utf-8")
-    name = "a run" if sys.argv[1] == "-" else re.sub(r".*/|\.txt$", "", sys.argv[1])
-    document = Path(sys.argv[2]).read_text(encoding="utf-8") if len(sys.argv) == 3 else None
-    sys.stdout.write(picture(name, printed, document))
+    workload, (name, printed) = schedule.told_apart(sys.argv[1:])
+    name = "a run" if name == "-" else re.sub(r".*/|\.txt$", "", name)
+    drawn = picture(name, printed, workload[1] if workload else None)
+    try:
+        Path(to).write_text(drawn, encoding="utf-8") if to else sys.stdout.write(drawn)
+    except OSError as error:
+        sys.exit(f"{to or 'the output'}: {error.strerror}")
 
 
 if __name__ == "__main__":

@@ -54,7 +54,9 @@ class Value:
 
 
 class Reader:
-    def __init__(self, text):
+    def __init__(self, text, wanted):
+        # `wanted` has what to write where a word is the value of a field with numbers, and `field` is the one that is read
+        self.wanted, self.field = wanted, None
         # `open` has the places where the lists and the tables in braces begin that aren't closed yet
         self.text, self.place, self.open = text.removeprefix("\ufeff"), 0, []
         self.newlines = [place.start() for place in re.finditer("\n", self.text)]
@@ -205,6 +207,8 @@ class Reader:
         self.fail(why, "write a number, a text in quotes, or a list in brackets")
 
     def scalar(self, word, start):
+        if word.lower() in ("true", "false") and word != word.lower() and self.field in self.wanted:
+            return self.no_number(word, start)
         if word in ("true", "false"):
             return "boolean", word == "true"
         if INTEGER.fullmatch(word):
@@ -227,6 +231,13 @@ class Reader:
             self.fail(f"`{seen(word)}` is no date", "write 2026-01-31, or a text in quotes", start)
         return self.no_scalar(word, start)
 
+    def no_number(self, word, start):
+        """The fault of a word that stands for a number."""
+        change = self.wanted[self.field]
+        if self.field in ("blocks", "arrays") and not self.open:
+            change = f"write five numbers in brackets: {self.field} = [1, 0, 0, 0, 1]"
+        self.fail(f"`{seen(word)}` is no value", change, start)
+
     def no_scalar(self, word, start):
         """The fault of a word that is no value."""
         why, listed = f"`{seen(word)}` is no value", self.open and self.text[self.open[-1]] == "["
@@ -248,6 +259,8 @@ class Reader:
             self.fail(why, f"write {word.lower()}", start)
         if word[0] in "0123456789+-.":
             self.fail(why, "write the number in digits alone", start)
+        if self.field in self.wanted:
+            self.no_number(word, start)
         item = re.match(r"(?:\([^()\r\n]*\)|[^,;\]}#\r\n])*", self.rest_of_line(start))[0].replace('"', "").strip(" \t")
         self.fail(f"`{seen(item)}` is no value", f'write it in quotes: "{seen(item, 80)}"', start)
 
@@ -342,6 +355,7 @@ class Reader:
             self.no_equals(".".join(parts), start)
         self.place += 1
         self.take(SPACES)
+        self.field = ".".join(parts)
         begin, value = self.place, self.value(depth)
         for part in parts[:-1]:
             table = self.through(table, part, "dotted", parts, start)
@@ -358,8 +372,12 @@ class Reader:
         if unseen(found):
             self.fail(f"the character {seen(found[0])} stands behind the name `{told}`", no_character(found[0]))
         value = found.lstrip(":= ")
-        if name.startswith("--"):
+        if re.fullmatch("-+", name) and not found:
+            change = "take the line out"
+        elif name.startswith("--"):
             change = "a comment begins with #: write # in place of --"
+        elif name == "mutator" and re.fullmatch("[0-9]+", value) and found[0].isdigit():
+            change = "this is how a printed text begins: take the workload that it was printed of"
         elif name == "mutator" and not value:
             change = "write [[mutator]]"
         elif self.open and found[:1] in (",", "}"):
@@ -489,10 +507,12 @@ def behind(value, rest, is_header):
         return f"write `{seen(more)}` on a line of its own{without}"
     if rest[0] in ",;" and not more:
         return f"take the {rest} out"
+    if rest == "%":
+        return "take the % out"
     if rest[0] != ";" and (comment := COMMENT.match(rest)):
         return f"a comment begins with #: write # in place of {comment[0]}"
     if re.fullmatch(r"[+-]?[0-9]{1,3}(?:,[0-9]{3})+", value + rest):
-        return f"TOML has no thousands separator: write {seen((value + rest).replace(',', ''))}"
+        return f"a number has no comma within: write {seen((value + rest).replace(',', ''))}"
     if re.match(r"[-+*/] *[0-9]", rest):
         return "write the number itself"
     if not is_header and value[0] not in "[{" and (rest[0] in ",;" or rest[0] in "\"'" and value[0] in "\"'"):
@@ -518,12 +538,12 @@ def is_date(parts):
     return clock and (off_hour or 0) < 24 and (off_minute or 0) < 60
 
 
-def read(data):
-    """The table that bytes are the document of."""
+def read(data, wanted=()):
+    """The table that bytes are the document of. `wanted` has what to write in place of a word as the value of a field."""
     try:
         text = data.decode()
     except UnicodeDecodeError as error:
         line = data[:error.start].count(b"\n") + 1
         why = f"byte {error.start} of the file, {data[error.start]:#04x}, isn't UTF-8"
         raise NotToml(line, why, "save the file in UTF-8") from None
-    return Reader(text).document()
+    return Reader(text, wanted).document()

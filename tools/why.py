@@ -16,18 +16,13 @@ import sys
 
 import toml_lines
 from toml_lines import seen
-from why_ops import Limits, near, op_fault, path_fault, quoted
+from why_ops import NUMBERS, Limits, near, op_fault, path_fault, quoted
 from why_words import words_explained
 
 if __name__ == "__main__" and sys.argv[1:] in ([], ["--help"]):
     sys.exit(print(__doc__.strip()) or len(sys.argv) < 2)
 
 MAX_BYTES, MAX_PATHS, MAX_OPS, MAX_MUTATORS = 4194304, 64, 65536, 16
-# the fields with numbers in the order in which they are read: the least and the most of the number, or of each of five
-NUMBERS = {
-    "registers": (1, 16), "strong": (0, 256), "weak": (0, 256), "blocks": (0, 64), "arrays": (0, 64), "period": (4, 65536),
-    "headroom": (1, 1000000), "trigger": (0, 1000000),
-}
 FIVES = {
     "blocks": "for cells of 2, 4, 8 and 16 slots and for tables", "arrays": "for arrays of 4, 8, 16, 32 and 64 properties",
 }
@@ -166,13 +161,18 @@ def whole_number(text):
     return int(number) if number.is_integer() else None
 
 
+def number_wanted(field):
+    """What to write as a number of this field."""
+    least, most = NUMBERS[field]
+    return f"write an integer from {least} to {most}" + ("" if field in FIVES or field in REQUIRED else ", or take the line out")
+
+
 def number_fault(field, value, what="it"):
     """The fault of a value that isn't a number which the field may have, if it isn't."""
     least, most = NUMBERS[field]
     if value.kind == "integer" and least <= value.data <= most:
         return None
-    limits = f"an integer from {least} to {most}"
-    change = f"write {limits}" if field in FIVES or field in REQUIRED else f"write {limits}, or take the line out"
+    limits, change = f"an integer from {least} to {most}", number_wanted(field)
     if value.kind == "string" and re.fullmatch("0|[1-9][0-9]{0,6}", value.data) and least <= int(value.data) <= most:
         change = f"take the quotes off: {value.data}"
     elif value.kind == "float" and (whole := whole_number(value.data)) is not None and least <= whole <= most:
@@ -187,7 +187,8 @@ def five_fault(field, value):
         count = len(value.data) if value.kind == "array" else None
         has = f"it is {shown(value)}" if count is None else f"it has {count} value{'s'[:count != 1]}"
         brackets = f", in brackets: {field} = [1, 0, 0, 0, 1]" if count is None else ""
-        change = f"write five numbers of blocks, {FIVES[field]}{brackets}"
+        more = "; those for arrays of properties stand in `arrays`" if field == "blocks" and (count or 0) > 5 else ""
+        change = f"write five numbers of blocks, {FIVES[field]}{brackets}{more}"
         if count == 1 and value.data[0].kind == "array":
             change = "take the inner brackets out"
         return bad(field, value.line, f"{has}, and has to be a list of five integers", change)
@@ -226,7 +227,7 @@ def keys_of(document):
         raise bad("shapes", value.line, f"it has {len(value.data)} paths, and may have {MAX_PATHS}", "take some out")
     for place, path in enumerate(value.data):
         is_text = path.kind == "string"
-        if fault := path_fault(path.data) if is_text else (f"it is {shown(path)}", as_text(path)):
+        if fault := path_fault(path.data) if is_text else (f"it is {shown(path)}", as_text(path, True)):
             which = f"path {place}, counted from 0" + (f", {quoted(path.data)}" if is_text else "")
             raise bad("shapes", path.line, f"of {which}: {fault[0]}", fault[1])
     for place, path in enumerate(value.data):
@@ -237,8 +238,11 @@ def keys_of(document):
     return list(dict.fromkeys(word for path in value.data for word in path.data.split())), value.named
 
 
-def as_text(value):
-    """How a value is written as a text."""
+def as_text(value, is_path=False):
+    """How a value is written as a text. Of a table that is to be a path, the names are meant."""
+    if is_path and value.kind == "table" and not path_fault(path := " ".join(value.data)):
+        if {one.kind for one in value.data.values()} != {"string"}:
+            return f"write it as one text: {quoted(path)}"
     if value.kind == "table" and [one.kind for one in value.data.values()] == ["string"]:
         (name, one), = value.data.items()
         return f"write it as one text: {quoted(f'{name} {one.data}')}"
@@ -277,6 +281,8 @@ def only_fields(document):
             change = f"move {', '.join(inner)} {above(document)}, and take `{seen(name)}` out"
         elif listed and any("ops" in table.data for table in value.data):
             change = f"write [[mutator]] in place of [[{seen(name)}]]"
+        elif value.kind == "table" and value.origin == "header" and "ops" in value.data:
+            change = f"write [[mutator]] in place of [{seen(name)}]"
         elif meant and meant not in document.data:
             change = f"write {meant}, if that is meant, or take it out"
         elif meant:
@@ -349,7 +355,7 @@ def check(data):
         change = "shorten it: a mutator's 65,536 operations fit easily"
         raise Fault("too long", f"line {line}, at byte {MAX_BYTES:,}", why, change)
     try:
-        document = toml_lines.read(data)
+        document = toml_lines.read(data, {field: number_wanted(field) for field in NUMBERS})
     except toml_lines.NotToml as error:
         raise Fault("not TOML", f"line {error.line}", error.why, error.change) from None
     settings, keys, mutators = settings_of(document), keys_of(document), mutators_of(document)

@@ -12,7 +12,15 @@ from toml_lines import seen
 sys.path.append(str(Path(__file__).resolve().parent.parent / "judge"))
 from model import FORMS
 
+# the fields with numbers in the order in which they are read: the least and the most of the number, or of each of five
+NUMBERS = {
+    "registers": (1, 16), "strong": (0, 256), "weak": (0, 256), "blocks": (0, 64), "arrays": (0, 64), "period": (4, 65536),
+    "headroom": (1, 1000000), "trigger": (0, 1000000),
+}
 MOST_REGISTERS, MOST_HANDLES, MOST_KEYS = 16, 256, 64
+# what a slot may be, and what other languages write for nothing
+SLOT = "write a slot from 0 to 15: a cell has 2, 4, 8 or 16 slots, by its class"
+NOTHING = ["null", "nil", "none", "nothing", "empty", "-"]
 # what the letters of a form may look like, and an example of each
 LOOKS = {"r": "r[0-9]+", "C": "[0-9]+", "K": "[0-9]+", "N": "[0-9]+", "KEY": "(?!r[0-9]+$)[a-z][a-z0-9_]*"}
 PLACES = {"rD": 0, "rS": 1, "rT": 1, "rK": 2, "rV": 3}
@@ -30,13 +38,18 @@ OTHER = [
      "to store a slot write put {0} {1} {2}"),
     ("add", ["r", "N", "r"], "`{1}` is no key: a key begins with a letter, and a slot is stored by put",
      "to store a slot write put {0} {1} {2}"),
+    ("pget", ["r", "r", "KEY"], "`{2}` is no register, and pget reads pairs", "to read a property write getp {0} {1} {2}"),
+    ("pget", ["r", "r", "N"], "`{2}` is no register, and pget reads pairs", "to read a slot write get {0} {1} {2}"),
 ]
 # names that other stores have for an operation
 MEANT = {"new": "alloc", "malloc": "alloc", "read": "get", "load": "get", "write": "put", "store": "put", "copy": "move",
          "clear": "drop", "free": "drop", "delete": "drop", "unset": "drop", "null": "drop", "lock": "claim",
-         "unlock": "release", "root": "strong", "pin": "strong", "assign": "move", "gc": "collect"}
-# names of what no operation does
+         "unlock": "release", "root": "strong", "pin": "strong", "assign": "move", "gc": "collect", "pput": "pair",
+         "link": "put", "handle": "strong"}
+# names of what no operation does, and of what a handle of this kind does with an empty register
 WAITS = ["sleep", "wait", "yield", "join", "pause", "sync", "barrier", "freeze"]
+ENDS = ["retire", "end", "exit", "quit", "halt", "stop", "return"]
+EMPTIES = {"unstrong": "strong", "unroot": "strong", "unpin": "strong", "unweak": "weak"}
 # a statement of another language, and the operation that does what it says
 STATEMENTS = [
     (r"(r[0-9]+) *:?= *(r[0-9]+)", "move {0} {1}"),
@@ -106,8 +119,9 @@ def key_fault(word):
         return (f"`{told}` has a character that no key has",
                 "part keys by spaces alone, and take letters from a to z, digits and _")
     if other := re.search("[^A-Za-z0-9_]", word):
-        change = "write _ in its place" if other[0] in "-." and other.start() else "take letters from a to z, digits and _"
-        return f"`{told}` has a `{other[0]}`", change
+        change = "write _ in its place" if other[0] in "-./" and other.start() else "take letters from a to z, digits and _"
+        parted = ", or a space, where two keys are meant" if other[0] in "./" and other.start() else ""
+        return f"`{told}` has a `{other[0]}`", change + parted
     if re.search("[A-Z]", word):
         return f"`{told}` has a capital", f"write {told.lower()}"
     if not re.match("[a-z]", word):
@@ -149,6 +163,8 @@ class Limits:
             change = f"a register begins with an r: write r{word}" if len(word) < 3 and int(word) < count else write
             stored = "; a number gets into one by set" if form == "rV" else ""
             return f"`{told}` is no register", change + stored
+        if word.lower() in NOTHING and form == "rV":
+            return f"`{told}` is no register", f"to store nothing {write}, that is empty, as drop r{count - 1} leaves it"
         if not word.startswith("r"):
             return f"`{told}` is no register", write
         if fault := numeral(word[1:]):
@@ -170,9 +186,9 @@ class Limits:
         return None if int(word) < 4 else (f"no cell has class {int(word)}", "write a class from 0 to 3")
 
     def slot(self, word):
-        if fault := numeral(word, "write a slot from 0 to 15"):
+        if fault := numeral(word, SLOT):
             return fault
-        return None if int(word) < 16 else (f"no cell has a slot {int(word)}", "write a slot from 0 to 15")
+        return None if int(word) < 16 else (f"no cell has a slot {int(word)}", SLOT)
 
     def handle(self, field, word):
         count, line = self.settings[field]
@@ -202,7 +218,7 @@ class Limits:
         listed = ", ".join(self.keys[:8]) + (", ..." if len(self.keys) > 8 else "")
         change = f"write {meant}" if meant else "name a key of `shapes`"
         if not meant and key_fault(word) is None:
-            change = f"add {told} to a path of `shapes`, or name a key of it"
+            change = f"add {told} to a path of `shapes`, behind the keys that the cell has by then, or name a key of it"
         return f"`{told}` is no key of `shapes` on line {line}: {listed}", change
 
     def operand(self, name, form, word):
@@ -262,7 +278,13 @@ def parted(text, letter):
         return why, instead(" ".join(words).strip(" "), "write the register behind the operation")
     if re.search(r" [0-9]{1,3}(?:,[0-9]{3})+$", text):
         return f"a `{letter}` stands in it, and a number has none", instead(text.replace(",", ""), "take it out")
+    name, *words = text.split()
+    is_named = any(re.fullmatch("[a-z]+=[a-z0-9]+", one) for one in words)
+    if is_named and name in FORMS and len(words) == len(FORMS[name].split()):
+        return why, instead(" ".join([name, *(re.sub("^[a-z]+=", "", word) for word in words)]), f"take the {letter} out")
     pieces = [" ".join(re.sub(r"[,;()=\[\]]", " ", piece).split()) for piece in re.split("[,;]", text)]
+    if letter == "," and len(FORMS.get(name, "").split()) == 1 and all(re.fullmatch("r[0-9]+", one) for one in pieces[1:]):
+        pieces[1:] = [f"{name} {one}" for one in pieces[1:]]
     if several := texts_in(pieces):
         return f"{why}, and texts by commas", several
     return why, instead(" ".join(" ".join(pieces).split()), f"take the {letter} out")
@@ -279,7 +301,8 @@ def texts_in(pieces):
 def copied(text):
     """Of a text that was copied from a printed one: it has a reply, or a cell's number among its operands."""
     call = re.fullmatch("([a-z]+(?: [^=#]*)?) = [^=]*", text)
-    if call and call[1].split(" ")[0] in FORMS:
+    name, *words = call[1].split(" ") if call else [""]
+    if name in FORMS and len(words) == len(FORMS[name].split()):
         return "it is a printed line, with its reply behind the `=`", instead(call[1], "take the reply out")
     if cell := re.search("(?:^| )(#[0-9]+)(?: |$)", text):
         name, *words = text[:cell.start()].split(" ")
@@ -323,8 +346,13 @@ def name_fault(name, words, limits):
     told = seen(name)
     if name.lower() in FORMS:
         return f"`{told}` has a capital", f"write {told.lower()}"
-    if name == "retire":
-        return "no operation is named `retire`: a mutator retires by itself, after its last one", "take it out"
+    if name.lower() in ENDS:
+        return f"no operation is named `{told}`: a mutator retires by itself, after its last one", "take it out"
+    if kind := EMPTIES.get(name.lower()):
+        empty = f"r{limits.settings['registers'][0] - 1}"
+        handle = words[0] if words and re.fullmatch("[0-9]+", words[0]) else "0"
+        return (f"no operation is named `{told}`: a handle is emptied by {kind}, with an empty register",
+                f"write {kind} {handle} {empty}, where {empty} is empty, as drop {empty} leaves it")
     if name.lower() in WAITS:
         return f"no operation is named `{told}`: mutators wait for each other where a part ends, and nowhere else", "take it out"
     if (run := re.fullmatch("([a-z]+?)(r?[0-9].*)", name)) and run[1] in FORMS:
@@ -333,7 +361,9 @@ def name_fault(name, words, limits):
         return f"no operation is named `{told}`", instead(" ".join([words[0], name, *words[1:]]), f"write {words[0]} in front")
     meant = MEANT.get(name.lower()) or near(re.sub("[^A-Za-z].*", "", name), list(FORMS))
     if meant:
-        return f"no operation is named `{told}`", f"write {meant}, if that is meant, as {limits.example(meant)}"
+        fits = len(words) == len(FORMS[meant].split()) and not limits.operands(meant, words)
+        shown = " ".join([meant, *words]) if fits else limits.example(meant)
+        return f"no operation is named `{told}`", f"write {meant}, if that is meant, as {shown}"
     return f"no operation is named `{told}`", f"write one of {', '.join(FORMS)}"
 
 
@@ -348,10 +378,12 @@ def op_fault(text, limits):
     if len(words) == count:
         return limits.operands(name, words)
     second = next((place for place, word in enumerate(words) if word in FORMS and word not in limits.keys), None)
-    if second is not None and len(words) > count:
+    if second == count < len(words):
         parts = [" ".join([name, *words[:second]]), " ".join(words[second:])]
         return "two operations stand in one text", f"write them as two texts: {', '.join(map(quoted, parts))}"
     has = f"{count} operand{'s'[:count != 1]}, {form}" if count else "no operand"
     stand = f"{len(words)} stand{'s'[:len(words) == 1]} here" if words else "none stands here"
     change = f"write {name} {form}, as {limits.example(name)}" if count else f"write {name} alone"
+    if name == "unclaim" and re.fullmatch("r[0-9]+", words[0]):
+        change = f"write release {words[0]}, or unclaim alone, which gives up the oldest claim"
     return f"`{name}` has {has}, and {stand}", change

@@ -8,6 +8,7 @@
   document of these with some of its characters changed, taken out or doubled.
 - The words of a command line: whether tools/why.py takes them is whether PROGRAM ends otherwise than with 2, of those of WORDS
   in all orders of one and two, and of random ones.
+- The mended words: of each line of MENDED, what is said to be changed, and that the words behind it are taken.
 - The mended file: each example of docs/WHY.md and of tools/why_cases.txt ends with lines with which the workload is taken,
   by tools/why.py and by PROGRAM; and what is said to be changed is what the example has.
 
@@ -32,7 +33,24 @@ PAGE, CASES = TOP / "docs" / "WHY.md", TOP / "tools" / "why_cases.txt"
 PIECES = [*" \n\t\"'[]{},=#.09-_r\\é", "[[mutator]]", "r16", "1.5"]
 LINE = re.compile(r"(\d+):(?: (.*))?")
 WORDS = """--visitors --visitors=2 --visitors=8 --visitors=9 --visitors=+1 --visitors=-1 --visitors= --plain --plain=1 --make
-    --make=7 --make=18446744073709551616 --snapshot --snapshot= --stats --stats= -- - -p --fast --mak 2 08 seven --help -h w.toml""".split() + [""]
+    --make=7 --make=18446744073709551616 --snapshot --snapshot= --stats --stats= -- - -p --fast --mak 2 08 seven --help -h w.toml
+    --trigger -v true""".split() + ["", "--visitors 2"]
+
+
+# words, what is said of them, and the words when that is done
+MENDED = [
+    (["--visitors 2"], "write its words apart, without quotes: --visitors 2", ["--visitors", "2"]),
+    (["-v"], "write --visitors 2", ["--visitors", "2"]),
+    (["-v", "3"], "write --visitors", ["--visitors", "3"]),
+    (["--visitor=3"], "write --visitors 3", ["--visitors", "3"]),
+    (["--plain", "true"], "take it out", ["--plain"]),
+    (["--plain", "off"], "take it out, and --plain too", []),
+    (["--snapshot", "out.txt"], "take it out, and write > out.txt behind the words", ["--snapshot"]),
+    (["--trigger", "4"], "take --trigger out, with its number, and write trigger in the file", []),
+    (["--period=16"], "take --period=16 out, with its number, and write period in the file", []),
+    (["--threads", "4"], "take --threads 4 out: mutators and visitors run on up to four threads", []),
+    (["--help"], "take it out; docs/WORKLOAD.md says what is taken, and docs/CHANGELOG.md which version it is", []),
+]
 
 
 def documents():
@@ -124,6 +142,15 @@ def words_differ(program, words):
     return 1
 
 
+def words_unmended(words, change, mended):
+    """Whether another change is said of words than this, or the mended ones aren't taken."""
+    lines, _ = why_words.words_explained(words)
+    if lines[-1] == f"change: {change}" and why_words.words_explained(mended)[1]:
+        return 0
+    print(f"{words}: why.py says {lines}, and of {mended} {why_words.words_explained(mended)[0]}")
+    return 1
+
+
 def command_lines(draw, count):
     """The words in each order of one and two, and so many random ones of three and four."""
     yield from [[one] for one in WORDS]
@@ -162,7 +189,8 @@ def main():
         failed += unlike
     print(f"{count} documents, {failed} of them explained otherwise than the program says")
     unmended = sum(case_fails(workload, example, given.program) for example in examples)
-    print(f"{len(examples)} mistakes, {unmended} of them explained otherwise than told, or refused when mended")
+    unmended += sum(words_unmended(*each) for each in MENDED)
+    print(f"{len(examples) + len(MENDED)} mistakes, {unmended} of them explained otherwise than told, or refused when mended")
     return 1 if failed or unmended else 0
 
 

@@ -5,8 +5,11 @@ The program's line is the same for each of them. What is taken is told in docs/W
 import difflib
 import re
 
+from why_ops import NUMBERS
+
 USAGE = "riptide: usage: riptide [--visitors N] [--plain] [--make N] [--snapshot] [--stats]"
 NUMBERED, FLAGS, MAX_VISITORS = ("--visitors", "--make"), ("--plain", "--snapshot", "--stats"), 8
+ON = ("true", "yes", "on")
 APART = [
     ("--plain", "--visitors", "a plain run has one thread and no visitor, be their number 0"),
     ("--plain", "--snapshot", "a snapshot is of the heap that threads share"),
@@ -43,9 +46,22 @@ def meant_by(word):
     return next(iter(begun if word.startswith("-") else []), None) or next(iter(near), None)
 
 
-def bare(word):
-    """Why a word without a dash is none of the five options, and what to change."""
+def written(option, word, rest):
+    """How the option that a word is near to is written, with its number where none stands behind it."""
+    if option in FLAGS or rest and re.fullmatch("[0-9]+", rest[0]):
+        return f"write {option}"
+    number = word.partition("=")[2]
+    return f"write {option}" + (f" {number}" if re.fullmatch("[0-9]{1,3}", number) else " 2")
+
+
+def bare(word, before):
+    """Why a word without a dash is none of the five options, and what to change. `before` is the word before it."""
     told = shown(word)
+    if before == "--snapshot" and word:
+        return f"`{told}` is no option, and the snapshot goes to the output", f"take it out, and write > {told} behind the words"
+    if before in FLAGS and word.lower() in ("true", "false", "yes", "no", "on", "off"):
+        rest = "" if word.lower() in ON else f", and {before} too"
+        return f"`{told}` is no option, and {before} has no value", f"take it out{rest}"
     if word in ("<", ">", "|"):
         return f"`{told}` is the shell's, and came to the program as a word", "write it without quotes"
     if re.fullmatch("[0-9]+", word):
@@ -56,24 +72,32 @@ def bare(word):
     return f"`{told}` is no option, and no file is named", f"take it out, and give the workload on the input{given}"
 
 
-def strange(word, is_behind, rest):
-    """Why a word is none of the five options, and what to change. `rest` are the words behind it."""
+def strange(word, is_behind, before, rest):
+    """Why a word is none of the five options, and what to change. `before` is the word before it, `rest` are those behind."""
     told = shown(word)
     if any("\udc80" <= letter <= "\udcff" for letter in word):
         return f"`{told}` isn't UTF-8", "write it in UTF-8"
     if is_behind and word.startswith("-") and word != "-":
         return f"`{told}` stands behind `--`, where no option is read", "take the -- out"
     if word in ("--help", "-h", "--version", "-V"):
-        return f"`{told}` isn't taken", "read docs/WORKLOAD.md, and python3 tools/why.py --help"
+        return (f"`{told}` isn't taken",
+                "take it out; docs/WORKLOAD.md says what is taken, and docs/CHANGELOG.md which version it is")
     if not word.startswith("-") or word == "-":
-        return bare(word)
+        return bare(word, before)
+    name = re.match("--([a-z]*)", word)
+    if name and name[1] in NUMBERS:
+        return (f"`{name[1]}` is a field of the workload, and no option",
+                f"take {told} out, with its number, and write {name[1]} in the file")
+    if " " in word and word.split(" ")[0] in (*NUMBERED, *FLAGS):
+        return f"`{told}` is one word", f"write its words apart, without quotes: {' '.join(told.split())}"
     if meant := meant_by(word):
-        return f"there is no option `{told}`", f"write {meant}"
+        return f"there is no option `{told}`", written(meant, word, rest)
     if "=" in word or not rest or rest[0].startswith("-"):
         return f"there is no option `{told}`", "take it out"
     value = shown(rest[0])
     given = "" if re.fullmatch("[0-9]+", rest[0]) else f", and give the workload on the input: riptide < {value}"
-    return f"there is no option `{told}`", f"take {told} {value} out{given}"
+    threads = ": mutators and visitors run on up to four threads" if word == "--threads" else ""
+    return f"there is no option `{told}`", f"take {told} {value} out{threads or given}"
 
 
 def words_fault(words):
@@ -83,9 +107,9 @@ def words_fault(words):
         place, word, at = at, words[at], at + 1
         name, equals, text = word.partition("=")
         if word == "--":
-            return apart_fault(found) if at == len(words) else (at, *strange(words[at], True, words[at + 1:]))
+            return apart_fault(found) if at == len(words) else (at, *strange(words[at], True, None, words[at + 1:]))
         if name not in (*NUMBERED, *FLAGS):
-            return place, *strange(word, False, words[at:])
+            return place, *strange(word, False, words[place - 1] if place else None, words[at:])
         if name in FLAGS and equals:
             return place, f"`{name}` has no value", f"write {name} alone"
         if name in found:

@@ -22,10 +22,12 @@
 //! - `embed large BLOCKS`: a heap with so many blocks of each class, of which a mutator fills one (`embed_heap`).
 //! - `embed shapes`: a heap over a table that two threads grew, whose mutator adds properties (`embed_heap`).
 //! - `embed visitor`: a cycle that a visitor marks beside a mutator, and what it keeps (`embed_heap`).
+//! - `embed weakref ROW`: a row of weak references and registrations, or the script whose files are closed
+//!   (`embed_weakref`).
 //!
 //! Of each check it prints what ended otherwise than expected, once the check is over, and then a line. Where one was
-//! not as expected, the status is 1. It may touch the libraries of checks and `embed_heap`, files and the outputs. The
-//! workloads and the refused documents of its folder `data` are run by `.ci/workloads`.
+//! not as expected, the status is 1. It may touch the libraries of checks, `embed_heap` and `embed_weakref`, files and
+//! the outputs. The workloads and the refused documents of its folder `data` are run by `.ci/workloads`.
 #![tactic(auto)]
 
 use check_heap::{check_rows, joined, number, text, words_of};
@@ -34,6 +36,7 @@ use check_table::check_table;
 use check_threads::{check_drains, check_shapes};
 use check_words::{check_marking, check_plain, check_snapshot, time_large, time_runs};
 use embed_heap::{adds_in_order, both_find_seven, four_are_kept, is_read_back};
+use embed_weakref::check_weakref;
 use std::alloc::{AllocError, Global};
 use std::marker::Sync;
 use std::process::ExitCode;
@@ -131,6 +134,7 @@ fn check_words<R: Runtime + AllocGlobal + Threads + Wait + Sync>(
         ["embed", "visitor"] => Ok(four_are_kept(rt, alloc)),
         ["embed", "large", blocks] => Ok(is_large_read_back(rt, alloc, blocks)),
         ["embed", "shapes"] => Ok(adds_in_order(rt, alloc)),
+        ["embed", "weakref", name] => Ok(check_weakref(alloc, name)),
         _ => Ok(check_without_system(alloc, findings, words)?),
     }
 }

@@ -1,4 +1,6 @@
--- The definitions that the clauses of the calls cite, each under the name of its room.
+-- The definitions that the clauses of the calls cite, each under the name of its room; and what a caller says of a
+-- participant.
+pub mod Parts
 pub use Rattle.tide_model.specs as tide_model
 pub use Rattle.tide_shape.specs as tide_shape
 pub use Rattle.tide_grow_shape.specs as tide_grow_shape

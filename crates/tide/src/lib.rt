@@ -5,10 +5,11 @@
 //! makes calls of it, a `Visitor` marks beside them, and the collector opens and freezes parts and keeps `Books`.
 //! A `Realm` is a mutator with weak references and registrations. Shapes may be grown by threads before
 //! (`GrowShapes`). The definitions that contracts cite are those of the rooms below, each under its room's name:
-//! `Rattle.tide.specs.tide_model.Lawful` is `Lawful` of `tide_model`.
+//! `Rattle.tide.specs.tide_model.Lawful` is `Lawful` of `tide_model`. What callers say of a participant between two
+//! parts and in one is `Rattle.tide.specs.Parts`.
 //!
 //! It may touch shapes, growers, snapshots, and the heap with its collector, mutators and visitors; it has no code of
-//! its own. Programs of one's own name it alone, as `embed_heap` does.
+//! its own. Programs of one's own name it alone, as `embed_heap` and `embed_weakref` do.
 #![tactic(auto)]
 
 pub use tide_grow_shape::{

@@ -1,16 +1,18 @@
 -- A store that gives a slot home keeps the rule: the word says what lies there. A member says that there is an end only
 -- where it has found one.
-use Rattle.std.proofs.Common.{ℕ, suc, ◌≡◌, ◌≢◌, ◌<◌, Bool, true, false, arith, refl, sym, ◌∙◌, ap, subst, List, [], ◌∷◌, inl, inr}
+use Rattle.std.proofs.Common.{ℕ, suc, pred, ◌≡◌, ◌≢◌, ◌<◌, Bool, true, false, arith, refl, sym, ◌∙◌, ap, subst, List, [], ◌∷◌, inl, inr, true≢false}
 use Rattle.std.proofs.lemmas.Bool.{cases_eq, cases_Bool, eqb-true, or_cases, or_left, or_right}
 use Rattle.std.proofs.lemmas.List.{get_or-set_other, get_or-set_same}
-use Rattle.std.specs.Prelude.{slice_index, slice_set, ◌||◌, ◌&&◌, if◌then◌else◌}
+use Rattle.std.specs.Prelude.{slice_index, slice_set, ◌||◌, ◌&&◌, ◌==◌, if◌then◌else◌}
 use lib.ListN.{get_elem?, length-set}
 use mathlib.Core.Option.{none, some, some-injective}
 use Rattle.atomic_table.proofs.Lists.{at_set, set_here, set_else}
 use Rattle.atomic_table.specs.Table.{State, step, Allows, gives}
+use Rattle.tide_hands.proofs.Free.{among_without}
 use Rattle.tide_hands.proofs.Turns.{or_false, same_seat}
 use Rattle.tide_hands.specs.declared.parcel.Parcel.{Parcel}
 use Rattle.tide_hands.specs.declared.view.HandView.{HandView}
+use Rattle.tide_hands.specs.Among.{Among, without}
 use Rattle.tide_hands.specs.Rule.{is_end, is_keepers, is_turn, resting, Content, SeatOk, Rule, Gave}
 
 -- whose turn it is by a word, the keeper's or a member's
@@ -32,6 +34,10 @@ module _ {T N I : Type 0} (ticket_ok : I → T → Type 0) (note_ok : I → ℕ 
 
   abbrev after : HandView I
   after = resting word me
+
+  -- where a ticket is due, once this word is stored at a place
+  abbrev free_of : ℕ → Bool → List ℕ
+  free_of at is_free = if is_free then at ∷ me.free else without at me.free
 
   given : (s : S) → R s → place < count → get_elem? s.views id ≡ some me → R record {
     words = slice_set s.words place word;
@@ -108,6 +114,24 @@ module _ {T N I : Type 0} (ticket_ok : I → T → Type 0) (note_ok : I → ℕ 
         | inr k ↦ or_left r.over (me.keeper && is_end word) (old.heard (ends k is))
       ]
 
+      here_free : (word == 0) ≡ true → (q : ℕ) → q ≡ place → (q < count) × (slice_index words q ≡ 0)
+      here_free is q same = (
+        subst (λ (n : ℕ). n < count) (sym same) within,
+        ap (slice_index words) same ∙ stored ∙ eqb-true word 0 is,
+      )
+
+      -- the keeper knows of the other places what it knew, and of this one where a ticket is due now
+      freed : (b : Bool) → (word == 0) ≡ b → me.keeper ≡ true → (q : ℕ) → Among q (free_of place b) →
+          (q < count) × (slice_index words q ≡ 0)
+      freed true is k q (inl same) = here_free is q same
+      freed true is k q (inr in_it) = elim (cases_eq q place) [
+        | inl same ↦ here_free is q same
+        | inr other ↦ ((old.free k q in_it).0, elsewhere q other ∙ (old.free k q in_it).1)
+      ]
+      freed false is k q in_it =
+          let there = among_without q place me.free in_it in
+          ((old.free k q there.1).0, elsewhere q there.0 ∙ (old.free k q there.1).1)
+
       mine : Ok r.next over r.seats words id after
       mine = record {
         named = old.named;
@@ -118,6 +142,7 @@ module _ {T N I : Type 0} (ticket_ok : I → T → Type 0) (note_ok : I → ℕ 
               ∙ ap (λ (b : Bool). r.over || (b && is_end word)) (sym k),
         );
         member = old.member;
+        free = λ k q is. freed (word == 0) refl k q (subst (λ (n : ℕ). Among q (free_of n (word == 0))) (ap pred holds) is);
         heard = λ h. elim (or_cases me.over (is_end word) h) [
           | inl before ↦ or_left r.over (me.keeper && is_end word) (old.heard before)
           | inr now ↦ ending now
@@ -134,6 +159,13 @@ module _ {T N I : Type 0} (ticket_ok : I → T → Type 0) (note_ok : I → ℕ 
             named = was.named;
             keeper = λ k. let w = was.keeper k in (w.0, w.1, w.2 ∙ sym (other_keeper w.0));
             member = was.member;
+            free = λ k q is. elim (cases_eq q place) [
+              | inl same ↦ absurd (apart (same_seat ticket_ok note_ok name count s r seat id place view me is_at at
+                  (λ none. absurd (true≢false (sym k ∙ none))) its
+                  (ap (λ (b : Bool). turn_of b (slice_index s.words place)) k
+                  ∙ ap is_keepers (ap (slice_index s.words) (sym same) ∙ (was.free k q is).1)) (old.own place holds).1))
+              | inr other ↦ ((was.free k q is).0, elsewhere q other ∙ (was.free k q is).1)
+            ];
             heard = λ h. or_left r.over (me.keeper && is_end word) (was.heard h);
             own = λ q out. elim (cases_eq q place) [
               | inl same ↦ absurd (apart (same_seat ticket_ok note_ok name count s r seat id place view me is_at at

@@ -1,3 +1,4 @@
+pub mod Free
 pub mod Giving
 pub mod Lists
 pub mod Looking

@@ -11,6 +11,7 @@ use Rattle.tide_hands.proofs.Lists.{is_there}
 use Rattle.tide_hands.proofs.Turns.{keeper_turn, or_false, same_seat}
 use Rattle.tide_hands.specs.declared.parcel.Parcel.{Parcel}
 use Rattle.tide_hands.specs.declared.view.HandView.{HandView}
+use Rattle.tide_hands.specs.Among.{Among}
 use Rattle.tide_hands.specs.Rule.{is_end, is_turn, holding, Content, IsOut, SeatOk, Rule, TookSlot, Looked}
 
 module _ {T N I : Type 0} (ticket_ok : I → T → Type 0) (note_ok : I → ℕ → N → Bool → Type 0) (name : I) (count : ℕ)
@@ -93,6 +94,7 @@ module _ {T N I : Type 0} (ticket_ok : I → T → Type 0) (note_ok : I → ℕ 
           ap (λ (b : Bool). me.over || b) (keeper_turn me word k turn) ∙ or_false me.over ∙ was.2,
         );
         member = old.member;
+        free = old.free;
         heard = λ h. elim (or_cases me.over (is_end word) h) [
           | inl before ↦ old.heard before
           | inr now ↦ r.ended place within now
@@ -142,6 +144,11 @@ module _ {T N I : Type 0} (ticket_ok : I → T → Type 0) (note_ok : I → ℕ 
       slice_index s.words place ≡ 2
   finds s r at k due = ap (slice_index s.words) (its k) ∙ (r.each id me at).due k due
 
+  -- a ticket is due where the keeper knows so
+  finds_free : (s : S) → R s → get_elem? s.views id ≡ some me → me.keeper ≡ true → Among place me.free →
+      slice_index s.words place ≡ 0
+  finds_free s r at k is = ((r.each id me at).free k place is).1
+
   look : (s : S) → R s → place < count → get_elem? s.views id ≡ some me → (b : Bool) →
       is_turn me (slice_index s.words place) ≡ b → Does s
   look s r within at true turn = elim (r.place place within) [
@@ -160,6 +167,7 @@ module _ {T N I : Type 0} (ticket_ok : I → T → Type 0) (note_ok : I → ℕ 
                   (sym (r.each id me at).named) home.content;
               is = refl;
             },
+        finds_free s r at,
       ),
     )
     | inr out ↦ absurd (never s r at out turn)
@@ -177,6 +185,7 @@ module _ {T N I : Type 0} (ticket_ok : I → T → Type 0) (note_ok : I → ℕ 
       subst (λ (b : Bool). MatchBool b
           (TookSlot ticket_ok note_ok me.name place (slice_index s.words place) (me, []) (me, [])) (IsSame (me, []) (me, [])))
           (sym turn) refl,
+      finds_free s r at,
     ),
   )
 

@@ -1,5 +1,5 @@
 -- A new table meets the rule: nothing lies there, and a ticket is due everywhere.
-use Rattle.std.proofs.Common.{ℕ, zero, suc, ◌≡◌, ◌<◌, Bool, false, arith, refl, sym, ◌∙◌, ap, subst, List, [], ◌∷◌, length, map, replicate, inl, true≢false}
+use Rattle.std.proofs.Common.{ℕ, zero, suc, ◌≡◌, ◌<◌, Bool, false, arith, refl, sym, ◌∙◌, ap, subst, List, [], ◌∷◌, length, map, replicate, inl, inr, true≢false}
 use Rattle.std.proofs.lemmas.List.{length-map, length-replicate}
 use Rattle.std.specs.Prelude.{slice_index}
 use lib.ListN.{get_elem?}
@@ -8,11 +8,12 @@ use Rattle.atomic_table.specs.Table.{opening}
 use Rattle.tide_hands.specs.declared.parcel.Parcel.{Parcel}
 use Rattle.tide_hands.specs.declared.parcel.Parcel.TheVariants.{Nothing}
 use Rattle.tide_hands.specs.declared.view.HandView.{HandView}
+use Rattle.tide_hands.specs.Among.{Among, places_below}
 use Rattle.tide_hands.specs.Rule.{is_end, keeper_view, SeatOk, Rule}
 
 module _ {T N I : Type 0} (ticket_ok : I → T → Type 0) (note_ok : I → ℕ → N → Bool → Type 0) (name : I) (count : ℕ) where
   abbrev Opened : List ℕ → List (Parcel T N) → Type 0
-  Opened words parcels = Rule ticket_ok note_ok name count (opening words parcels (keeper_view name))
+  Opened words parcels = Rule ticket_ok note_ok name count (opening words parcels (keeper_view name count))
 
   opening_stands : (words : List ℕ) (parcels : List (Parcel T N)) → length words ≡ count → length parcels ≡ count →
       ((k : ℕ) → k < count → slice_index words k ≡ 0) →
@@ -31,13 +32,19 @@ module _ {T N I : Type 0} (ticket_ok : I → T → Type 0) (note_ok : I → ℕ 
       none_out : (q : ℕ) → 0 ≡ suc q → ⊥
       none_out q is = omega (arith, is)
 
-      first : (seat : ℕ) (view : HandView I) → get_elem? (keeper_view name ∷ []) seat ≡ some view →
+      below_of : (n q : ℕ) → Among q (places_below n) → q < n
+      below_of zero q is = absurd is
+      below_of (suc n) q (inl same) = omega (arith, same)
+      below_of (suc n) q (inr is) = let below = below_of n q is in omega (arith, below)
+
+      first : (seat : ℕ) (view : HandView I) → get_elem? (keeper_view name count ∷ []) seat ≡ some view →
           SeatOk ticket_ok note_ok name count 0 false (λ p. 0) words seat view
       first zero view is = subst (λ (v : HandView I). SeatOk ticket_ok note_ok name count 0 false (λ p. 0) words 0 v)
-          (some-injective (keeper_view name) view is) record {
+          (some-injective (keeper_view name count) view is) record {
             named = refl;
             keeper = λ k. (refl, refl, refl);
             member = λ k. absurd (true≢false k);
+            free = λ k q is'. let below = below_of count q is' in (below, zeros q below);
             heard = λ h. absurd (true≢false (sym h));
             own = λ q is'. absurd (none_out q is');
             its = λ q k is'. absurd (none_out q is');

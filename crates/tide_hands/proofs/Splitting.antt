@@ -81,6 +81,7 @@ module _ {T N I : Type 0} (ticket_ok : I → T → Type 0) (note_ok : I → ℕ 
         named = old.named;
         keeper = λ k. ((old.keeper k).0, refl, (old.keeper k).2);
         member = λ k. absurd (true≢false (sym keeps_it ∙ k));
+        free = old.free;
         heard = old.heard;
         own = λ q is. absurd (none_out q (sym idle ∙ is));
         its = λ q k is. absurd (none_out q (sym idle ∙ is));
@@ -96,6 +97,7 @@ module _ {T N I : Type 0} (ticket_ok : I → T → Type 0) (note_ok : I → ℕ 
           omega arith,
           ap (λ (b : Bool). cond b (length s.views) (r.seats me.next)) (eq-eqb me.next me.next refl),
         );
+        free = λ k. absurd (true≢false (sym k));
         heard = λ h. absurd (true≢false (sym h));
         own = λ q is. absurd (none_out q is);
         its = λ q k is. absurd (none_out q is);
@@ -115,6 +117,7 @@ module _ {T N I : Type 0} (ticket_ok : I → T → Type 0) (note_ok : I → ℕ 
                   ap (λ (b : Bool). cond b (length s.views) (r.seats view.place))
                       (ne_eqb view.place me.next (λ same. let b = below in omega (arith, b, same))) ∙ m.2,
                 );
+            free = was.free;
             heard = was.heard;
             own = was.own;
             its = was.its;

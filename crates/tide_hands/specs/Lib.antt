@@ -1,2 +1,3 @@
+pub mod Among
 pub mod Rule
 pub mod Seats

@@ -1,9 +1,10 @@
 -- The rule of a table by which one keeper and its members hand parcels to each other: a slot and a word for each
 -- member.
-use Rattle.std.specs.Prelude.{ℕ, suc, ◌≡◌, ◌+◌, ◌<◌, ◌==◌, ◌&&◌, ◌||◌, ◌⊎◌, Bool, true, false, List, [], ◌∷◌, length, slice_index, if◌then◌else◌, MatchBool}
+use Rattle.std.specs.Prelude.{ℕ, suc, pred, ◌≡◌, ◌+◌, ◌<◌, ◌==◌, ◌&&◌, ◌||◌, ◌⊎◌, Bool, true, false, List, [], ◌∷◌, length, slice_index, if◌then◌else◌, MatchBool}
 use mathlib.Core.Option.{some}
 use lib.ListN.{get_elem?}
 use Rattle.atomic_table.specs.Table.{State, Step, Me}
+use Rattle.tide_hands.specs.Among.{Among, places_below, without}
 use Rattle.tide_hands.specs.declared.parcel.Parcel.{Parcel}
 use Rattle.tide_hands.specs.declared.parcel.Parcel.TheVariants.{Nothing, Ticket, Note}
 use Rattle.tide_hands.specs.declared.view.HandView.{HandView}
@@ -30,13 +31,14 @@ module _ {I : Type 0} where
   abbrev pub is_turn : HandView I → ℕ → Bool
   is_turn v word = if v.keeper then is_keepers word else (if is_keepers word then false else true)
 
-  -- the keeper's first view
-  abbrev pub keeper_view : I → HandView I
-  keeper_view name = record {
+  -- the keeper's first view of a table with so many places
+  abbrev pub keeper_view : I → ℕ → HandView I
+  keeper_view name count = record {
     keeper = true;
     place = 0;
     out = 0;
     next = 0;
+    free = places_below count;
     over = false;
     due = false;
     at = 0;
@@ -51,7 +53,7 @@ module _ {I : Type 0} where
   keeper_after v = record v { next = v.next + 1 }
 
   abbrev pub member_view : HandView I → HandView I
-  member_view v = record (keeper_view v.name) { keeper = false; place = v.next }
+  member_view v = record (keeper_view v.name 0) { keeper = false; place = v.next }
 
   -- a seat has found a word at its turn, and has the slot of a place
   abbrev pub holding : ℕ → ℕ → HandView I → HandView I
@@ -61,6 +63,7 @@ module _ {I : Type 0} where
   abbrev pub resting : ℕ → HandView I → HandView I
   resting word v = record v {
     out = 0;
+    free = if word == 0 then pred v.out ∷ v.free else without (pred v.out) v.free;
     over = v.over || is_end word;
     due = word == 2;
     given = v.given + (if is_post v.found word then 1 else 0);
@@ -99,6 +102,9 @@ module _ {T N I : Type 0} (ticket_ok : I → T → Type 0) (note_ok : I → ℕ 
     pub named : view.name ≡ name
     pub keeper : view.keeper ≡ true → (seat ≡ 0) × (view.next ≡ next) × (view.over ≡ over)
     pub member : view.keeper ≡ false → (view.place < count) × (view.place < next) × (seats view.place ≡ seat)
+    -- a ticket is due where the keeper knows so
+    pub free : view.keeper ≡ true → (place : ℕ) → Among place view.free →
+        (place < count) × (slice_index words place ≡ 0)
     -- it knows of an end only where one was posted
     pub heard : view.over ≡ true → over ≡ true
     -- it holds a slot only at its turn, a member its own
@@ -127,10 +133,12 @@ module _ {T N I : Type 0} (ticket_ok : I → T → Type 0) (note_ok : I → ℕ 
     pub content : Content place word parcel
     pub is : after ≡ (holding place word me.0, (place, parcel) ∷ [])
 
-  -- what a look tells: a member whose note is due finds that, and at the turn of its seat the slot is taken
+  -- what a look tells: a member whose note is due finds that, and the keeper where it knows that a ticket is due; at
+  -- the turn of its seat the slot is taken
   abbrev pub Looked : Step (Parcel T N) → Me (Parcel T N) (HandView I) → ℕ → Me (Parcel T N) (HandView I) → Type 0
   Looked step me found after = (me.0.keeper ≡ false → me.0.due ≡ true → found ≡ 2)
       × MatchBool (is_turn me.0 found) (TookSlot step.word found me after) (after ≡ me)
+      × (me.0.keeper ≡ true → Among step.word me.0.free → found ≡ 0)
 
   -- what a store tells that gives the slot home
   abbrev pub Gave : Step (Parcel T N) → Me (Parcel T N) (HandView I) → ℕ → Me (Parcel T N) (HandView I) → Type 0

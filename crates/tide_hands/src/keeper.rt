@@ -1,5 +1,6 @@
 //! The keeper's side: it posts tickets and ends, and takes notes.
-ghost use Rattle.std.specs.Prelude.{◌≡◌, ◌<◌, ◌+◌, IfSome, None, true, false};
+ghost use Rattle.std.specs.Prelude.{ℕ, ◌≡◌, ◌≢◌, ◌<◌, ◌+◌, IfSome, None, true, false};
+ghost use Rattle.tide_hands.specs.Among.{Among};
 ghost use Rattle.tide_hands.specs.Seats.{IsIdle, IsPosted, frame};
 
 use crate::parcel::Parcel;
@@ -34,6 +35,8 @@ impl<T: Drop, N: Drop, I> KeeperSeat<T, N, I> {
         ensures over { self.new.seat.me.0.over ≡ self.old.seat.me.0.over }
         ensures taken { self.new.seat.me.0.taken ≡ self.old.seat.me.0.taken }
         ensures posted { IsPosted place ticket self.old.seat.me.0 self.new.seat.me.0 result }
+        ensures sure { Among place self.old.seat.me.0.free → result ≡ None }
+        ensures free { (q : ℕ) → q ≢ place → Among q self.old.seat.me.0.free → Among q self.new.seat.me.0.free }
     {
         match look(table, &mut self.seat, place) {
             TICKET_DUE => {
@@ -70,6 +73,8 @@ impl<T: Drop, N: Drop, I> KeeperSeat<T, N, I> {
             × (self.new.seat.me.0.given ≡ self.old.seat.me.0.given + 1) × (self.new.seat.me.0.at ≡ place) }
         ensures stays { result ≡ false → (self.new.seat.me.0.over ≡ self.old.seat.me.0.over)
             × (self.new.seat.me.0.given ≡ self.old.seat.me.0.given) }
+        ensures sure { Among place self.old.seat.me.0.free → result ≡ true }
+        ensures free { (q : ℕ) → q ≢ place → Among q self.old.seat.me.0.free → Among q self.new.seat.me.0.free }
     {
         match look(table, &mut self.seat, place) {
             TICKET_DUE => {
@@ -100,6 +105,8 @@ impl<T: Drop, N: Drop, I> KeeperSeat<T, N, I> {
         ensures note { IfSome result (λ note. P.note_ok self.old.seat.me.0.name place note.0 note.1) }
         ensures taken { IfSome result (λ note. self.new.seat.me.0.taken ≡ self.old.seat.me.0.taken + 1) }
         ensures none { result ≡ None → self.new.seat.me.0.taken ≡ self.old.seat.me.0.taken }
+        ensures due { IfSome result (λ note. Among place self.new.seat.me.0.free) }
+        ensures free { (q : ℕ) → Among q self.old.seat.me.0.free → Among q self.new.seat.me.0.free }
     {
         match look(table, &mut self.seat, place) {
             NOTE_LIES => match put(table, &mut self.seat, place, Parcel::Nothing, TICKET_DUE) {
@@ -149,6 +156,8 @@ impl<T: Drop, N: Drop, I> KeeperSeat<T, N, I> {
         ensures given { self.new.seat.me.0.given ≡ self.old.seat.me.0.given }
         ensures note { P.note_ok self.old.seat.me.0.name place result.0 result.1 }
         ensures taken { self.new.seat.me.0.taken ≡ self.old.seat.me.0.taken + 1 }
+        ensures due { Among place self.new.seat.me.0.free }
+        ensures free { (q : ℕ) → Among q self.old.seat.me.0.free → Among q self.new.seat.me.0.free }
     {
         for _ in rt.forever() {
             if let Some(found) = self.take_note(table, place) {

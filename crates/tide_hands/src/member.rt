@@ -72,6 +72,20 @@ impl<T: Drop, N: Drop, I> MemberSeat<T, N, I> {
         }
     }
 
+    /// Waits while an end lies at its place, as it does for ever from then on. It may return before.
+    pub fn wait_at_end<R: Wait, P: Parcels<T, N, I>, K: Keyed<I>>(
+        &self,
+        rt: &R,
+        table: &HandTable<T, N, I, P, K>,
+    )
+        requires own { self.now.seat.table_id ≡ table.now.table_id }
+    {
+        match table.peek(self.place) {
+            ENDED => table.park(rt, self.place, ENDED as u32),
+            _ => {}
+        }
+    }
+
     /// The next ticket at its place, or `None` where an end was posted. It waits for them, maybe for ever.
     pub fn await_ticket<R: Wait, P: Parcels<T, N, I>, K: Keyed<I>>(
         &mut self,

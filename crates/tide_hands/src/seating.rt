@@ -27,7 +27,7 @@ pub fn open_table<T: Drop, N: Drop, I, P: Parcels<T, N, I>, K: Keyed<I>>(
     ensures sized { IfOk result (λ made. (made.0.shared.table_id.words ≡ count)
         × (made.0.shared.table_id.slots ≡ count)) }
     ensures own { IfOk result (λ made. made.1.seat.table_id ≡ made.0.shared.table_id) }
-    ensures keeper { IfOk result (λ made. made.1.seat.me ≡ (keeper_view (K.name key.now), [])) }
+    ensures keeper { IfOk result (λ made. made.1.seat.me ≡ (keeper_view (K.name key.now) count, [])) }
 {
     let words = vec![in alloc; 0u64; count]?;
     let mut slots = Vec::new(alloc);

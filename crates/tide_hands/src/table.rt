@@ -31,7 +31,7 @@ impl<T, N, I, P: Parcels<T, N, I>, K: Keyed<I>> TableRule<Parcel<T, N>, HandView
     for Hands<T, N, I, P, K> {
     ghost holds = { λ key. Rule P.ticket_ok P.note_ok (K.name key) (K.count key) };
 
-    ghost first = { λ key. keeper_view (K.name key) };
+    ghost first = { λ key. keeper_view (K.name key) (K.count key) };
 }
 
 /// The shared side of a table of slots and words.

@@ -1,4 +1,5 @@
 //! What a seat knows.
+use std::collections::LinkedList;
 
 /// What a seat of the table knows. No value of it is made: it is what a seat has beside it, for contracts to speak of.
 pub struct HandView<I> {
@@ -10,6 +11,8 @@ pub struct HandView<I> {
     pub out: u64,
     /// The keeper's: how many members have a seat.
     pub next: u64,
+    /// The keeper's: places at which a ticket is due, as far as it knows.
+    pub free: LinkedList<u64>,
     /// An end was posted, as far as it knows.
     pub over: bool,
     /// A member's: it has taken a ticket, and its note is due.

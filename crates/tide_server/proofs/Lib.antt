@@ -2,3 +2,9 @@ pub mod Lists
 pub mod Notes
 pub mod Tickets
 pub mod Working
+pub mod Noted
+pub mod Waiting
+pub mod Handing
+pub mod Ending
+pub mod Frozen
+pub mod First

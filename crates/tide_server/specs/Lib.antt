@@ -3,3 +3,4 @@ pub mod Helpers
 pub mod Keepers
 pub mod Members
 pub mod Opened
+pub mod Turned

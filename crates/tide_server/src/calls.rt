@@ -34,10 +34,12 @@ impl Member {
         ensures given { self.new.seat.seat.me.0.given ≡ self.old.seat.seat.me.0.given }
     {
         for _ in rt.forever() {
-            if self.offer(standing) == Offered::Begun {
-                return;
+            match self.offer(standing) {
+                Offered::Begun => return,
+                Offered::NotYet => self.seat.wait_for_turn(rt, &standing.hands.shared),
+                // A keeper posts ends to helpers alone.
+                Offered::Over => self.seat.wait_at_end(rt, &standing.hands.shared),
             }
-            self.seat.wait_for_turn(rt, &standing.hands.shared);
         }
         unreachable!()
     }

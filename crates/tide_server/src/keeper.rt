@@ -1,12 +1,7 @@
-//! `Keeper`: who freezes a standing heap between two parts. Here it opens the first one.
-ghost use Rattle.std.specs.Prelude.{◌≡◌, ◌<◌, false};
-ghost use Rattle.tide_posts.specs.tide_heap.Turns.{opened};
-ghost use Rattle.tide_posts.specs.Posts.{TicketTells};
-ghost use Rattle.tide_server.specs.Keepers.{IsKeeperOf};
-ghost use Rattle.tide_table.specs.Started.{IsStarted};
+//! `Keeper`: who freezes a standing heap between two parts. It takes no note and opens no part.
+ghost use Rattle.std.specs.Prelude.{◌≡◌, false, replicate};
 
-use crate::standing::Standing;
-use tide_posts::{Books, HeapName, HeapShapes, KeeperSeat, Note, Ticket};
+use tide_posts::{Books, HeapName, KeeperSeat, Note, Ticket};
 use tide_table::Collector;
 
 /// Who freezes a standing heap and opens its parts.
@@ -15,42 +10,38 @@ pub struct Keeper {
     pub(crate) collector: Collector,
     pub(crate) seat: KeeperSeat<Ticket, Note, HeapName>,
     pub(crate) books: Books,
+    /// The number of the open part.
+    pub(crate) period: u32,
+    /// The notes of the open part are in of all places below this one.
+    pub(crate) next: usize,
+    /// One of them says that its mutator's last call ended its share.
+    pub(crate) ended: bool,
+    /// Which mutators have left for good.
+    pub(crate) left: [bool; 16],
+    ghost period_is: { period ≡ collector.seat.me.0.period },
 }
 
 impl Keeper {
-    /// Posts a ticket of the open part at each place.
-    fn hand_out<S: HeapShapes>(&mut self, standing: &Standing<S>)
-        requires of { IsKeeperOf standing.now.heap.key.layout standing.now.heap.table.shared.table_id
-            standing.now.hands.shared.table_id self.old }
-        requires running { self.old.collector.seat.me.0.frozen ≡ false }
-        requires tells { TicketTells standing.now.heap.key.layout self.old.collector.seat.me.0 }
-        ensures of { IsKeeperOf standing.now.heap.key.layout standing.now.heap.table.shared.table_id
-            standing.now.hands.shared.table_id self.new }
-        ensures same { (self.new.collector.seat.me.0 ≡ self.old.collector.seat.me.0)
-            × (self.new.books ≡ self.old.books) }
+    /// A keeper that has opened no part yet.
+    pub(crate) fn new(
+        collector: Collector,
+        seat: KeeperSeat<Ticket, Note, HeapName>,
+        books: Books,
+    ) -> Keeper
+        requires first { collector.seat.me.0.period ≡ 0 }
+        ensures collector { result.collector ≡ collector }
+        ensures seat { result.seat ≡ seat }
+        ensures books { result.books ≡ books }
+        ensures nothing { (result.next ≡ 0) × (result.ended ≡ false) × (result.left ≡ replicate 16 false) }
     {
-        let layout = standing.heap.layout();
-        for place in 0..usize::from(layout.mutators()) + usize::from(layout.visitors()) {
-            let ticket = self.collector.ticket(&standing.heap);
-            drop(self.seat.post_ticket(&standing.hands.shared, place, ticket));
+        Keeper {
+            collector,
+            seat,
+            books,
+            period: 0,
+            next: 0,
+            ended: false,
+            left: [false; 16],
         }
-    }
-
-    /// Opens the first part of a heap that has just started, in which each mutator has `run` calls, and posts its
-    /// tickets.
-    pub(crate) fn open_first<S: HeapShapes>(&mut self, standing: &Standing<S>, run: u32)
-        requires of { IsKeeperOf standing.now.heap.key.layout standing.now.heap.table.shared.table_id
-            standing.now.hands.shared.table_id self.old }
-        requires started { IsStarted standing.now.heap.key.layout (S.lists standing.now.heap.key.shapes)
-            self.old.collector.seat.me.0 }
-        requires some { 0 < run }
-        ensures of { IsKeeperOf standing.now.heap.key.layout standing.now.heap.table.shared.table_id
-            standing.now.hands.shared.table_id self.new }
-        ensures opened { self.new.collector.seat.me.0
-            ≡ opened standing.now.heap.key.layout run self.old.collector.seat.me.0 }
-        ensures books { self.new.books ≡ self.old.books }
-    {
-        self.collector.open_first(&standing.heap, run);
-        self.hand_out(standing);
     }
 }

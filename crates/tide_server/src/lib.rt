@@ -11,15 +11,20 @@
 #![tactic(auto)]
 
 mod helper;
+mod keeper;
 mod member;
 mod standing;
 // these stand on those listed before
 mod helping;
-mod keeper;
 mod parts;
+mod posting;
 // these stand on those listed before
 mod calls;
+mod finishing;
 mod opening;
+mod taking;
+// these stand on those listed before
+mod turning;
 
 pub use helper::{Helper, Worked};
 pub use keeper::Keeper;
@@ -27,3 +32,6 @@ pub use member::Member;
 pub use opening::{Opened, open};
 pub use parts::Offered;
 pub use standing::Standing;
+pub use tide_report::Report;
+pub use tide_table::Closed;
+pub use turning::Turn;

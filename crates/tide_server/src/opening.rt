@@ -1,9 +1,10 @@
 //! A standing heap is opened: its members, its helpers and its keeper get their seats, and the first part its tickets.
-ghost use Rattle.std.specs.Prelude.{◌≡◌, ◌+◌, ◌≤◌, [], IfOk, OnOk, length, vec_len};
+ghost use Rattle.std.specs.Prelude.{ℕ, ◌≡◌, ◌+◌, ◌<◌, ◌≤◌, [], IfOk, OnOk, false, length, vec_len};
 ghost use Rattle.tide_posts.specs.tide_heap.Turns.{opened};
 ghost use Rattle.tide_posts.specs.tide_heap.tide_freeze.Books.{AreBooks};
 ghost use Rattle.tide_posts.specs.Name.{places};
-ghost use Rattle.tide_server.specs.Keepers.{IsKeeperOf};
+ghost use Rattle.tide_posts.specs.Among.{Among};
+ghost use Rattle.tide_server.specs.Keepers.{IsKeeperOf, KeeperStands};
 ghost use Rattle.tide_server.specs.Opened.{AreHelpers, AreMembers};
 ghost use Rattle.tide_table.specs.Started.{ArePasses, IsStarted};
 ghost use Rattle.tide_text.specs.work.Work.{AreSettings};
@@ -45,6 +46,9 @@ fn stand<S: HeapShapes + Drop>(
       table_id = heap.table.shared.table_id;
     }) }
     ensures first { IfOk result (λ made. made.1.seat.me.0.next ≡ 0) }
+    ensures nothing { IfOk result (λ made. (made.1.seat.me.0.over ≡ false) × (made.1.seat.me.0.given ≡ 0)) }
+    ensures due { IfOk result (λ made. (place : ℕ) → place < places heap.key.layout →
+        Among place made.1.seat.me.0.free) }
 {
     let places = usize::from(heap.layout().mutators()) + usize::from(heap.layout().visitors());
     let Ok((hands, seat)) = open_table(alloc, &heap, places) else {
@@ -75,6 +79,7 @@ fn seat_members<S: HeapShapes>(
     requires passes { ArePasses standing.now.heap.table.shared.table_id 0 passes.items }
     ensures own { seat.new.seat.table_id ≡ seat.old.seat.table_id }
     ensures named { seat.new.seat.me.0.name ≡ seat.old.seat.me.0.name }
+    ensures kept { record seat.new.seat.me.0 { next = 0 } ≡ record seat.old.seat.me.0 { next = 0 } }
     ensures next { OnOk result (seat.new.seat.me.0.next ≡ standing.now.heap.key.layout.mutators) }
     ensures members { IfOk result (λ made. (length made.items ≡ standing.now.heap.key.layout.mutators)
         × AreMembers standing.now.heap.key.layout standing.now.heap.table.shared.table_id
@@ -106,6 +111,7 @@ fn seat_helpers<S: HeapShapes>(
     requires passes { ArePasses standing.now.heap.table.shared.table_id 16 passes.items }
     ensures own { seat.new.seat.table_id ≡ seat.old.seat.table_id }
     ensures named { seat.new.seat.me.0.name ≡ seat.old.seat.me.0.name }
+    ensures kept { record seat.new.seat.me.0 { next = 0 } ≡ record seat.old.seat.me.0 { next = 0 } }
     ensures helpers { IfOk result (λ made. (length made.items ≡ standing.now.heap.key.layout.visitors)
         × AreHelpers standing.now.heap.key.layout standing.now.heap.table.shared.table_id
         standing.now.hands.shared.table_id 16 made.items) }
@@ -139,6 +145,9 @@ pub fn open<S: ShapeTable + Drop>(
     ensures heap { IfOk result (λ made. made.standing.heap ≡ start.heap) }
     ensures keeper { IfOk result (λ made. IsKeeperOf start.heap.key.layout start.heap.table.shared.table_id
         made.standing.hands.shared.table_id made.keeper) }
+    ensures stands { IfOk result (λ made. 0 < start.heap.key.layout.mutators → KeeperStands start.heap.key.layout
+        start.heap.table.shared.table_id made.standing.hands.shared.table_id made.keeper) }
+    ensures posted { IfOk result (λ made. made.keeper.seat.seat.me.0.given ≡ places start.heap.key.layout) }
     ensures opened { IfOk result (λ made. made.keeper.collector.seat.me.0
         ≡ opened start.heap.key.layout settings.period start.collector.seat.me.0) }
     ensures books { IfOk result (λ made. AreBooks start.heap.key.layout [] made.keeper.books) }
@@ -167,11 +176,7 @@ pub fn open<S: ShapeTable + Drop>(
     let (standing, mut seat) = stand(alloc, heap)?;
     let members = seat_members(alloc, &standing, &mut seat, mutators)?;
     let helpers = seat_helpers(alloc, &standing, &mut seat, visitors)?;
-    let mut keeper = Keeper {
-        collector,
-        seat,
-        books,
-    };
+    let mut keeper = Keeper::new(collector, seat, books);
     keeper.open_first(&standing, settings.period);
     Ok(Opened {
         standing,

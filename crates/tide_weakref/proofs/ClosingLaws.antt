@@ -21,8 +21,9 @@ use Rattle.tide_weakref.specs.Referenced as referenced
 use Rattle.tide_weakref.specs.Registered as registered
 use Rattle.tide_model.specs.declared.entry.Event.{Event}
 use Rattle.tide_weakref.specs.Stepping.{HoldsNow, LetsStand, SameBut, WasAimed, WasLoaded, cell_in, held_in, refusal_where_full}
-use Rattle.tide_weakref.specs.Uses.{AreAllUsed, IsFullFor, IsUnused, keeping, reference, registration, using}
+use Rattle.tide_weakref.specs.Uses.{AreAllUsed, IsFullFor, IsFullWhere, IsUnused, keeping, reference, registration, using}
 use Rattle.tide_weakref.specs.declared.range.Range16.{Range16}
+use Rattle.tide_weakref.specs.declared.refused.WeakRefused.{WeakRefused}
 use Rattle.tide_weakref.specs.declared.refused.WeakRefused.TheVariants.{NotCell, RefsFull, KeptFull}
 use Rattle.tide_weakref.specs.declared.weak.Weak.{Weak}
 
@@ -157,6 +158,11 @@ uses_are jobs weak uses others same_weak same =
     ∙ ap (λ (us : List Weak). record jobs { uses = us }) same
 
 -- where all weak handles are in use
+pub full_where : (jobs : Jobs) (why : WeakRefused) → AreAllUsed jobs → IsFullWhere jobs why
+full_where jobs RefsFull all = all
+full_where jobs KeptFull all = tt
+full_where jobs (NotCell register) all = tt
+
 pub referenced_full : (src : ℕ) (value : Val) (jobs now : Jobs) → AreAllUsed jobs → now ≡ jobs →
     referenced.IsReferenced src value jobs now (Err (refusal_where_full src value))
 referenced_full src value jobs now full same =

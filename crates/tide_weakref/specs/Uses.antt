@@ -1,7 +1,9 @@
 -- What a realm may still take, and what it has once it took something.
-use Rattle.std.specs.Prelude.{ℕ, ◌≡◌, ◌≢◌, false, List, [], ◌∷◌, ◌++◌, length, Contains, if◌then◌else◌}
+use Rattle.std.specs.Prelude.{ℕ, ◌≡◌, ◌≢◌, ◌<◌, false, List, [], ◌∷◌, ◌++◌, length, Contains, if◌then◌else◌}
 use Rattle.tide_model.specs.Numbers.{is_among}
 use Rattle.tide_weakref.specs.Jobs.{Jobs}
+use Rattle.tide_weakref.specs.declared.refused.WeakRefused.{WeakRefused}
+use Rattle.tide_weakref.specs.declared.refused.WeakRefused.TheVariants.{NotCell, RefsFull, KeptFull}
 use Rattle.tide_weakref.specs.declared.weak.Role.TheVariants.{Reference, Registration}
 use Rattle.tide_weakref.specs.declared.weak.Weak.{Weak}
 
@@ -21,6 +23,12 @@ AreAllUsed jobs = length jobs.uses ≡ jobs.weak.count
 abbrev pub IsUnused : Jobs → ℕ → Type 0
 IsUnused jobs at = (one : Weak) → Contains jobs.uses one → one.at ≢ at
 
+-- a refusal for want of a weak handle comes only where each is in use
+abbrev pub IsFullWhere : Jobs → WeakRefused → Type 0
+IsFullWhere jobs RefsFull = AreAllUsed jobs
+IsFullWhere jobs KeptFull = Unit {0}
+IsFullWhere jobs (NotCell register) = Unit {0}
+
 -- each strong handle keeps a cell, and none keeps this one
 abbrev pub IsFullFor : Jobs → ℕ → Type 0
 IsFullFor jobs cell = (length jobs.cells ≡ jobs.strong.count) × (is_among jobs.cells cell ≡ false)
@@ -36,6 +44,11 @@ keeping jobs cell = record jobs { cells = with_cell jobs.cells cell }
 -- what a realm has once it uses one more weak handle
 abbrev pub using : Jobs → Weak → Jobs
 using jobs one = record jobs { uses = jobs.uses ++ one ∷ [] }
+
+-- a weak handle that was unused is used for some target, behind those that were in use
+abbrev pub UsesOneMore : Jobs → Jobs → ℕ → (ℕ → Weak) → Type 0
+UsesOneMore jobs now at one =
+    (at < jobs.weak.count) × IsUnused jobs at × ((target : ℕ) × (now.uses ≡ jobs.uses ++ one target ∷ []))
 
 -- this is the number of a reference that was made and not given up
 abbrev pub IsReference : Jobs → ℕ → Type 0

@@ -1,5 +1,5 @@
 //! Registrations for finalization: they are made, taken back, and delivered once their target is gone.
-ghost use Rattle.std.specs.Prelude.{◌≡◌, ◌≢◌, ◌<◌, ◌≤◌, ◌+◌, filter, not, IfErr, count_by, ℕ, MatchOption};
+ghost use Rattle.std.specs.Prelude.{◌≡◌, ◌≢◌, ◌<◌, ◌≤◌, ◌+◌, filter, not, Err, IfErr, OnOk, count_by, ℕ, MatchOption};
 ghost use Rattle.atomic_table.specs.Seated.{TableId};
 ghost use Rattle.tide_model.specs.Layout.{Layout};
 ghost use Rattle.tide_mutator.specs.calls.Viewed as works;
@@ -8,9 +8,9 @@ ghost use Rattle.tide_weakref.specs.Delivered.{AllHeldCells, IsDelivered, IsFirs
 ghost use Rattle.tide_weakref.specs.Jobs.{Jobs, KeepsJobs, OthersSpare};
 ghost use Rattle.tide_weakref.specs.Registered.{IsRegistered};
 ghost use Rattle.tide_weakref.specs.Setting.{SetsNone};
-ghost use Rattle.tide_weakref.specs.Stepping.{HasHeldJobs, HasStepped, SameBut, held_in};
+ghost use Rattle.tide_weakref.specs.Stepping.{HasHeldJobs, HasStepped, SameBut, held_in, refusal_where_full};
 ghost use Rattle.tide_weakref.specs.Roles.{has_token};
-ghost use Rattle.tide_weakref.specs.Uses.{GoesOn};
+ghost use Rattle.tide_weakref.specs.Uses.{AreAllUsed, GoesOn, IsFullWhere, UsesOneMore, registration};
 ghost use Rattle.tide_weakref.specs.Viewed.{jobs_of, seat_of, table_of, view_of};
 ghost use Rattle.tide_weakref.specs.Worked.{HasWorked, IsReady};
 ghost use Rattle.tide_weakref.specs.declared.weak.Weak.{Weak as WeakIs};
@@ -84,6 +84,11 @@ impl Realm {
         ensures answers { OthersSpare (view_of self.old).who (jobs_of self.old) (view_of self.new).seen →
             IsRegistered src (held_in heap.now.key.layout (view_of self.old) src) held token (jobs_of self.old)
             (jobs_of self.new) result }
+        ensures uses { OnOk result ((at : ℕ) × UsesOneMore (jobs_of self.old) (jobs_of self.new) at
+            (λ target. registration at target held token)) }
+        ensures full { AreAllUsed (jobs_of self.old) →
+            result ≡ Err (refusal_where_full src (held_in heap.now.key.layout (view_of self.old) src)) }
+        ensures refs_full { IfErr result (IsFullWhere (jobs_of self.old)) }
         ensures refused { IfErr result (λ _. jobs_of self.new ≡ jobs_of self.old) }
     {
         let Some(at) = self.weaks.next() else {

@@ -1,5 +1,5 @@
 //! Weak references: they are made, asked what they lead to, and given up. It delivers nothing.
-ghost use Rattle.std.specs.Prelude.{◌≡◌, ◌≢◌, ◌<◌, ◌==◌, filter, not, Contains, IfOk, IfErr, ℕ};
+ghost use Rattle.std.specs.Prelude.{◌≡◌, ◌≢◌, ◌<◌, ◌==◌, filter, not, Contains, Err, IfOk, IfErr, ℕ};
 ghost use Rattle.atomic_table.specs.Seated.{TableId};
 ghost use Rattle.tide_model.specs.Layout.{Layout};
 ghost use Rattle.tide_model.specs.Numbers.{put_at};
@@ -7,7 +7,8 @@ ghost use Rattle.tide_weakref.specs.Dereferenced.{IsDereferenced};
 ghost use Rattle.tide_weakref.specs.Jobs.{KeepsJobs, OthersSpare};
 ghost use Rattle.tide_weakref.specs.Referenced.{IsReferenced};
 ghost use Rattle.tide_weakref.specs.Stepping.{held_in, refusal_where_full, refuses_no_cell};
-ghost use Rattle.tide_weakref.specs.Uses.{IsReference, reference};
+ghost use Rattle.tide_weakref.specs.Uses.{AreAllUsed, IsFullWhere, IsReference, UsesOneMore, reference};
+ghost use Rattle.tide_weakref.specs.declared.refused.WeakRefused.TheVariants.{KeptFull};
 ghost use Rattle.tide_weakref.specs.Viewed.{jobs_of, seat_of, table_of, view_of};
 ghost use Rattle.tide_weakref.specs.Worked.{HasWorked, IsReady};
 
@@ -77,6 +78,11 @@ impl Realm {
             IsReferenced src (held_in heap.now.key.layout (view_of self.old) src) (jobs_of self.old)
             (jobs_of self.new) result }
         ensures made { IfOk result (IsReference (jobs_of self.new)) }
+        ensures uses { IfOk result (λ number. UsesOneMore (jobs_of self.old) (jobs_of self.new) number
+            (reference number)) }
+        ensures full { AreAllUsed (jobs_of self.old) →
+            result ≡ Err (refusal_where_full src (held_in heap.now.key.layout (view_of self.old) src)) }
+        ensures refs_full { IfErr result (IsFullWhere (jobs_of self.old)) }
         ensures refused { IfErr result (λ _. jobs_of self.new ≡ jobs_of self.old) }
     {
         let Some(at) = self.weaks.next() else {
@@ -126,6 +132,8 @@ impl Realm {
             IsDereferenced (view_of self.new).seen (jobs_of self.old) (reference r target) (jobs_of self.new) result }
         ensures refused { IfErr result (λ _. (jobs_of self.new ≡ jobs_of self.old)
             × (held_in heap.now.key.layout (view_of self.new) ≡ held_in heap.now.key.layout (view_of self.old))) }
+        ensures why { IfErr result (λ why. why ≡ KeptFull) }
+        ensures uses { (jobs_of self.new).uses ≡ (jobs_of self.old).uses }
     {
         prove!(heap.layout().weak() <= 65_535);
         let scratch = self.scratch;

@@ -2,7 +2,7 @@
 use Rattle.std.proofs.Common.{ℕ, zero, suc, ◌≡◌, ◌+◌, ◌≤◌, ◌⊎◌, refl, sym, ◌∙◌, ap, subst, arith, inl, inr, Bool, true, false, List, [], ◌∷◌}
 use Rattle.std.proofs.lemmas.Bool.{eq-eqb}
 use Rattle.std.specs.Prelude.{◌==◌, ◌&&◌, if◌then◌else◌, Some}
-use Rattle.embed_heap.specs.visitor.Parts.{HasDoneItsPart}
+use Rattle.tide.specs.Parts.{HasDoneItsPart}
 use Rattle.tide.specs.tide_freeze.declared.books.Books.{Books}
 use Rattle.tide.specs.tide_heap.Parties.{In, IsParty}
 use Rattle.tide.specs.tide_heap.Turns.{noted, visited_of}

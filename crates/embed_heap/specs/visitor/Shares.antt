@@ -1,6 +1,6 @@
 -- A heap that a mutator and a visitor share, between two parts and once both have stopped in one.
 use Rattle.std.specs.Prelude.{ℕ, ◌≡◌, ◌≤◌, true, false, [], ◌∷◌}
-use Rattle.embed_heap.specs.visitor.Parts.{IsIdle, IsIdleBefore}
+use Rattle.tide.specs.Parts.{IsIdle, IsIdleBefore}
 use Rattle.embed_heap.specs.declared.visitor.shared.Shared.{Shared}
 use Rattle.tide.specs.tide_freeze.Books.{AreBooks}
 use Rattle.tide.specs.tide_core.machine.Frozen.{newcomer}

@@ -1,5 +1,5 @@
 //! The part of a mutator and a visitor, each in a thread of its own.
-ghost use Rattle.embed_heap.specs.visitor.Parts.{HasDoneItsPart, IsIdle, IsIdleBefore};
+ghost use Rattle.tide.specs.Parts.{HasDoneItsPart, IsIdle, IsIdleBefore};
 ghost use Rattle.std.specs.Prelude.{◌≡◌, ◌≤◌};
 ghost use Rattle.tide.specs.tide_model.Layout.{cell_count};
 ghost use Rattle.tide.specs.tide_mutator.calls.Viewed as works;

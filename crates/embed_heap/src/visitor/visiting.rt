@@ -1,5 +1,5 @@
 //! What the visitor does in its thread: a part, from its ticket to its note.
-ghost use Rattle.embed_heap.specs.visitor.Parts.{HasDoneItsPart, IsIdle, IsIdleBefore};
+ghost use Rattle.tide.specs.Parts.{HasDoneItsPart, IsIdle, IsIdleBefore};
 ghost use Rattle.std.specs.Prelude.{◌≡◌, ◌≤◌, [], false, true};
 ghost use Rattle.tide.specs.tide_heap.Done.{HasDonePart};
 ghost use Rattle.tide.specs.tide_core.machine.Visiting.{FitsIn};

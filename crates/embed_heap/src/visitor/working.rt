@@ -1,5 +1,5 @@
 //! What the mutator does in its thread: a part, from its ticket to its note.
-ghost use Rattle.embed_heap.specs.visitor.Parts.{HasDoneItsPart, IsIdle, IsIdleBefore};
+ghost use Rattle.tide.specs.Parts.{HasDoneItsPart, IsIdle, IsIdleBefore};
 ghost use Rattle.std.specs.Prelude.{◌≡◌, ◌<◌, false, true};
 ghost use Rattle.tide.specs.tide_mutator.calls.Viewed.{table_of, view_of};
 ghost use Rattle.tide.specs.tide_mutator.owed.Calling.{kept};

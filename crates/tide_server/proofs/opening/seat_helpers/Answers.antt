@@ -1,5 +1,5 @@
 -- Each visitor's pass gets the next seat, and a stack for each cell.
-use Rattle.std.proofs.Common.{ℕ, suc, ◌≡◌, ◌+◌, ◌<◌, ◌≤◌, ◌∙◌, ap, arith, refl, sym, subst, [], ◌∷◌, ◌++◌, length}
+use Rattle.std.proofs.Common.{ℕ, suc, ◌≡◌, ◌+◌, ◌≤◌, ◌∙◌, ap, arith, refl, sym, subst, [], ◌∷◌, ◌++◌, length}
 use Rattle.std.proofs.lemmas.List.{length_push}
 use Rattle.std.specs.Vec.Iter.{into_iter_items}
 use Rattle.atomic_table.specs.Table.{Me}
@@ -25,6 +25,7 @@ loop-pass-init g c =
     record {
       own = refl;
       named = refl;
+      kept = refl;
       next = omega (arith, next);
       seated = ap length c.new-helpers.ensures.items;
       all = (let count = ap length first ∙ sym c.args.passes.ok.0 ∙ c.requires.all in omega (arith, count));
@@ -68,6 +69,7 @@ loop-pass-preserved g c =
     record {
       own = seated.same.0 ∙ so.own;
       named = ap (λ (m : Me (Parcel Ticket Note) (HandView Name)). m.0.name) seated.keeper ∙ so.named;
+      kept = ap (λ (m : Me (Parcel Ticket Note) (HandView Name)). record m.0 { next = 0 }) seated.keeper ∙ so.kept;
       next = omega (arith, next, had, one_more);
       seated = (let grown = ap length pushed ∙ length_push items helper in omega (arith, grown, have, one_more));
       all = omega (arith, one_more, fewer, all);

@@ -1,5 +1,5 @@
 -- Each mutator's pass gets the next seat.
-use Rattle.std.proofs.Common.{ℕ, suc, ◌≡◌, ◌+◌, ◌<◌, ◌∙◌, ap, arith, refl, sym, subst, [], ◌∷◌, ◌++◌, length}
+use Rattle.std.proofs.Common.{ℕ, suc, ◌≡◌, ◌+◌, ◌∙◌, ap, arith, refl, sym, subst, [], ◌∷◌, ◌++◌, length}
 use Rattle.std.proofs.lemmas.List.{length_push}
 use Rattle.std.specs.Vec.Iter.{into_iter_items}
 use Rattle.atomic_table.specs.Table.{Me}
@@ -21,6 +21,7 @@ loop-pass-init g c =
     record {
       own = refl;
       named = refl;
+      kept = refl;
       next = c.requires.first;
       seated = ap length c.new-members.ensures.items;
       all = (let count = ap length first ∙ sym c.args.passes.ok.0 ∙ c.requires.all in omega (arith, count));
@@ -51,6 +52,7 @@ loop-pass-preserved g c =
     record {
       own = seated.same.0 ∙ so.own;
       named = ap (λ (m : Me (Parcel Ticket Note) (HandView Name)). m.0.name) seated.keeper ∙ so.named;
+      kept = ap (λ (m : Me (Parcel Ticket Note) (HandView Name)). record m.0 { next = 0 }) seated.keeper ∙ so.kept;
       next = omega (arith, next, had, one_more);
       seated = (let grown = ap length pushed ∙ length_push items member in omega (arith, grown, have, one_more));
       all = omega (arith, one_more, fewer, all);

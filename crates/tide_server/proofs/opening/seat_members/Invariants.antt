@@ -9,6 +9,7 @@ abbrev pub invariant-loop-pass : goal.invariant-loop-pass
 invariant-loop-pass g l = record {
   own : l.seat.seat.table_id ≡ l.initial.seat.seat.table_id;
   named : l.seat.seat.me.0.name ≡ l.initial.seat.seat.me.0.name;
+  kept : record l.seat.seat.me.0 { next = 0 } ≡ record l.initial.seat.seat.me.0 { next = 0 };
   next : l.seat.seat.me.0.next ≡ length l.yielded;
   seated : length l.members.items ≡ length l.yielded;
   all : length l.yielded + length (into_iter_items l.pass-iterator) ≡ l.standing.heap.key.layout.mutators;

@@ -1,6 +1,6 @@
 -- Why the visitor may begin, drain and stop, and what its note tells.
 use Rattle.std.proofs.Common.{ℕ, ◌≤◌, ◌∙◌, sym, subst, arith}
-use Rattle.embed_heap.proofs.visitor_laws.Parts.{has_begun, in_part_framed, is_visitor_of, visitor_done, visitor_idle}
+use Rattle.tide.proofs.Parts.{has_begun, in_part_framed, is_visitor_of, visitor_done, visitor_idle}
 use Rattle.tide.specs.tide_model.Layout.{cell_count}
 use Rattle.tide.specs.tide_visitor.Viewed.{view_of}
 use Rattle.embed_heap.proofs.visitor.visiting.visit.Goals as goal

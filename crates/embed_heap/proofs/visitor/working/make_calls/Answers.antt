@@ -1,6 +1,6 @@
 -- Why the mutator may begin, call and stop, and what its note tells.
 use Rattle.std.proofs.Common.{ℕ, ◌<◌, ◌∙◌, sym, ap, subst, arith}
-use Rattle.embed_heap.proofs.visitor_laws.Parts.{has_begun, idle_then, in_part_kept, mutator_done}
+use Rattle.tide.proofs.Parts.{has_begun, idle_then, in_part_kept, mutator_done}
 use Rattle.tide.specs.tide_core.declared.machine.view.View.{View}
 use Rattle.tide.specs.tide_mutator.calls.Viewed.{view_of}
 use Rattle.tide.specs.tide_mutator.owed.Calling.{Kept}

@@ -1,5 +1,6 @@
 -- Nothing came yet.
-use Rattle.std.proofs.Common.{◌≡◌}
+use Rattle.std.proofs.Common.{ℕ, ◌≡◌}
+use Rattle.tide_hands.specs.Among.{Among}
 use Rattle.tide_hands.specs.Seats.{frame}
 use Rattle.tide_hands.proofs.keeper.KeeperSeat.await_note.Given as goal
 
@@ -10,3 +11,4 @@ invariant-loop g l =
     × (l.self.seat.me.0.over ≡ l.initial.self.seat.me.0.over)
     × (l.self.seat.me.0.given ≡ l.initial.self.seat.me.0.given)
     × (l.self.seat.me.0.taken ≡ l.initial.self.seat.me.0.taken)
+    × ((q : ℕ) → Among q l.initial.self.seat.me.0.free → Among q l.self.seat.me.0.free)

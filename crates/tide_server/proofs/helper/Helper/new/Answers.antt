@@ -1,5 +1,5 @@
 -- Why a visitor may be made of a newcomer's pass.
-use Rattle.std.proofs.Common.{◌≡◌, ◌∙◌, ap, subst, sym}
+use Rattle.std.proofs.Common.{◌∙◌, ap, subst, sym}
 use Rattle.tide_posts.proofs.tide_heap.Newcomers.{Rests-newcomer}
 use Rattle.tide_posts.specs.tide_heap.tide_core.declared.machine.view.View.{View}
 use Rattle.tide_posts.specs.tide_heap.tide_core.machine.May.{Rests}

@@ -1,5 +1,5 @@
 -- A helper's part, from its ticket to its note.
-use Rattle.std.proofs.Common.{ℕ, ◌≡◌, ◌<◌, ◌≤◌, ◌∙◌, ap, arith, refl, sym, subst, Bool, false}
+use Rattle.std.proofs.Common.{ℕ, ◌≤◌, ◌∙◌, ap, arith, sym, subst, false}
 use Rattle.tide_model.specs.Layout.{cell_count}
 use Rattle.tide_posts.proofs.tide_heap.Newcomers.{begun_view-first}
 use Rattle.tide_posts.specs.Name.{Name}

@@ -1,9 +1,12 @@
 -- Each ticket tells what the keeper's view does.
-use Rattle.std.proofs.Common.{◌≡◌, ◌∙◌, ap, sym, subst}
-use Rattle.tide_posts.specs.Name.{Name}
+use Rattle.std.proofs.Common.{◌≡◌, ◌+◌, ◌<◌, ◌∙◌, true, false, Option, arith, ap, refl, rules, sym, subst}
 use Rattle.tide_posts.specs.Posts.{IsTicketFor, TicketTells}
-use Rattle.tide_posts.specs.tide_heap.Turns.{ticket_of}
-use Rattle.tide_posts.specs.tide_heap.tide_core.declared.machine.view.View.{View}
+use Rattle.tide_posts.specs.Name.{Name, places}
+use Rattle.tide_posts.specs.tide_hands.Seats.{IsPosted}
+use Rattle.tide_posts.specs.tide_hands.declared.view.HandView.{HandView}
+use Rattle.tide_posts.specs.tide_heap.declared.steps.notes.Ticket.{Ticket}
+use Rattle.tide_server.proofs.Handing.{ahead-more, due-more, has_left-below, posted-none, posted-one}
+use Rattle.tide_server.specs.Keepers.{has_left}
 use Rattle.tide_server.proofs.keeper.Keeper.hand_out.Goals as goal
 
 pub post_ticket-requires-clause-ticket : goal.post_ticket-requires-clause-ticket
@@ -13,7 +16,7 @@ post_ticket-requires-clause-ticket g c =
     let name : Name = record { layout = layout; table_id = heap.table.shared.table_id } in
     let so = c.loop-place.invariant in
     let told = c.ticket-ticket.ensures.ticket in
-    let tells = subst (TicketTells layout) (sym so.same) c.requires.tells in
+    let tells = subst (TicketTells layout) (sym so.view) c.requires.tells in
     subst (λ (n : Name). IsTicketFor n c.ticket-ticket.result) (sym so.of.named) record {
       of_heap = told.0 ∙ so.of.table;
       tells = subst (TicketTells layout) (sym told.1) record {
@@ -21,4 +24,70 @@ post_ticket-requires-clause-ticket g c =
         some = tells.some;
         marking = tells.marking;
       };
+    }
+
+pub loop-place-init : goal.loop-place-init
+loop-place-init g c = record {
+  of = c.requires.of;
+  view = refl;
+  books = refl;
+  over = refl;
+  posted = (let same : c.args.self.now.seat.seat.me.0.given ≡ c.args.self.now.seat.seat.me.0.given + 0 = omega arith in same);
+  ahead = λ place from below. c.requires.due place below;
+  due = λ place is. c.requires.due place (let below = has_left-below c.args.standing.now.heap.key.layout c.args.self.now.left place is in omega (arith, below));
+  next = refl;
+  ended = refl;
+  left = refl;
+}
+
+pub loop-place-preserved-then-has_left : goal.loop-place-preserved-then-has_left
+loop-place-preserved-then-has_left g c =
+    let so = c.loop-place.invariant in
+    let layout = c.args.standing.now.heap.key.layout in
+    let place = c.loop-place.place in
+    let left = c.args.self.now.left in
+    let has : has_left layout left place ≡ true =
+    (λ i. has_left (sym c.layout-layout.ensures i) (sym so.left i) place) ∙ sym c.has_left.ensures ∙ c.if-has_left.true in
+    record {
+      of = so.of;
+      view = so.view;
+      books = so.books;
+      over = so.over;
+      posted = posted-none layout left place c.args.self.now.seat.seat.me.0.given c.loop-place.self.seat.seat.me.0.given so.posted has;
+      ahead = λ q later below. so.ahead q (omega (arith, later)) below;
+      due = so.due;
+      next = so.next;
+      ended = so.ended;
+      left = so.left;
+    }
+
+pub loop-place-preserved : goal.loop-place-preserved
+loop-place-preserved g c =
+    let so = c.loop-place.invariant in
+    let layout = c.args.standing.now.heap.key.layout in
+    let place = c.loop-place.place in
+    let left = c.args.self.now.left in
+    let isnt : has_left layout left place ≡ false =
+    (λ i. has_left (sym c.layout-layout.ensures i) (sym so.left i) place) ∙ sym c.has_left.ensures ∙ c.if-has_left.false in
+    let post = c.post_ticket.ensures in
+    let was = c.loop-place.self.seat.seat.me.0 in
+    let now = c.post_ticket.new.self.seat.me.0 in
+    let below : place < places layout = search rules in
+    let posted = subst (λ (back : Option Ticket). IsPosted place c.ticket-ticket.result was now back)
+    (post.sure (so.ahead place (omega arith) below)) post.posted in
+    record {
+      of = record {
+        table = c.ticket-ticket.ensures.same.0 ∙ so.of.table;
+        seated = post.same.0 ∙ so.of.seated;
+        named = ap (λ (h : HandView Name). h.name) post.kept ∙ so.of.named;
+      };
+      view = c.ticket-ticket.ensures.same.2 ∙ so.view;
+      books = so.books;
+      over = post.over ∙ so.over;
+      posted = posted-one layout left place c.args.self.now.seat.seat.me.0.given was.given so.posted now.given isnt posted.0;
+      ahead = ahead-more layout left place was.free now.free post.free so.ahead;
+      due = due-more layout left place was.free now.free post.free isnt so.due;
+      next = so.next;
+      ended = so.ended;
+      left = so.left;
     }

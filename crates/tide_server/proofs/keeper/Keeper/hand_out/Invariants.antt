@@ -1,11 +1,23 @@
--- Tickets were posted at some places.
-use Rattle.std.proofs.Common.{◌≡◌}
-use Rattle.tide_server.specs.Keepers.{IsKeeperOf}
+-- Tickets were posted at the places so far whose participants haven't left.
+use Rattle.std.proofs.Common.{ℕ, ◌≡◌, ◌+◌, ◌≤◌, ◌<◌, not, true}
+use Rattle.tide_model.specs.Numbers.{count_where}
+use Rattle.tide_posts.specs.Name.{places}
+use Rattle.tide_posts.specs.Among.{Among}
+use Rattle.tide_server.specs.Keepers.{IsKeeperOf, has_left}
 use Rattle.tide_server.proofs.keeper.Keeper.hand_out.Given as goal
 
 abbrev pub invariant-loop-place : goal.invariant-loop-place
 invariant-loop-place g l = record {
   of : IsKeeperOf l.standing.heap.key.layout l.standing.heap.table.shared.table_id l.standing.hands.shared.table_id l.self;
-  same : l.self.collector.seat.me.0 ≡ l.initial.self.collector.seat.me.0;
+  view : l.self.collector.seat.me.0 ≡ l.initial.self.collector.seat.me.0;
   books : l.self.books ≡ l.initial.self.books;
+  over : l.self.seat.seat.me.0.over ≡ l.initial.self.seat.seat.me.0.over;
+  posted : l.self.seat.seat.me.0.given ≡ l.initial.self.seat.seat.me.0.given
+      + count_where (λ place. not (has_left l.standing.heap.key.layout l.initial.self.left place)) l.place;
+  ahead : (place : ℕ) → l.place ≤ place → place < places l.standing.heap.key.layout → Among place l.self.seat.seat.me.0.free;
+  due : (place : ℕ) → has_left l.standing.heap.key.layout l.initial.self.left place ≡ true →
+      Among place l.self.seat.seat.me.0.free;
+  next : l.self.next ≡ l.initial.self.next;
+  ended : l.self.ended ≡ l.initial.self.ended;
+  left : l.self.left ≡ l.initial.self.left;
 }

@@ -1,5 +1,5 @@
 -- The tickets of the first part.
-use Rattle.std.proofs.Common.{◌≡◌, ◌∙◌, ap, sym, subst}
+use Rattle.std.proofs.Common.{ap, sym, subst}
 use Rattle.tide_posts.specs.Posts.{TicketTells}
 use Rattle.tide_posts.specs.tide_heap.tide_core.declared.machine.view.View.{View}
 use Rattle.tide_server.proofs.Tickets.{TicketTells-first}

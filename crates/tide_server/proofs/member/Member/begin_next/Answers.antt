@@ -1,6 +1,6 @@
 -- It waits for its next ticket, and stays what it was.
-use Rattle.std.proofs.Common.{◌≡◌, ◌∙◌, ap, refl, false}
-use Rattle.tide_model.specs.Prefix.{prefix_refl, prefix_trans}
+use Rattle.std.proofs.Common.{◌∙◌, ap, refl}
+use Rattle.tide_model.specs.Prefix.{prefix_refl}
 use Rattle.tide_mutator.specs.calls.Viewed.{view_of}
 use Rattle.tide_server.specs.Members.{Calling}
 use Rattle.tide_server.proofs.member.Member.begin_next.Goals as goal

@@ -1,5 +1,5 @@
 -- A member that is at work makes one more call.
-use Rattle.std.proofs.Common.{ℕ, ◌≡◌, ◌+◌, ◌-◌, ◌<◌, ◌∙◌, ap, arith, sym, subst, Bool, not, ◌||◌, ◌&&◌, List, [], ◌∷◌, ◌++◌}
+use Rattle.std.proofs.Common.{ℕ, ◌≡◌, ◌-◌, ◌<◌, ◌∙◌, ap, arith, sym, subst, Bool, not, ◌||◌, ◌&&◌, List, [], ◌∷◌, ◌++◌}
 use Rattle.std.specs.Prelude.{is_some, MatchBool, Option}
 use Rattle.tide_model.proofs.OwnCalls.{called, is_some-flag, retry_after-flag, retry_of-push}
 use Rattle.tide_model.specs.Script.{is_full_reply, retry_after, retry_of}

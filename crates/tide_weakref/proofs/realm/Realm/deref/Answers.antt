@@ -103,6 +103,8 @@ returns-in_default g c =
           gone ((c.let_go.ensures.targets jobs).gone handle target within
           (spare_before v.who x.who jobs u.seen u.seen (step.stepped.who ∙ who_w) (prefix_refl u.seen) spare) at_drop);
       refused = tt;
+      why = tt;
+      uses = refl;
     }
 
 pub returns-then-not-may_keep : goal.returns-then-not-may_keep
@@ -140,6 +142,8 @@ returns-then-not-may_keep g c =
           (subst (λ (n : ℕ). IsFullFor jobs n) found.0
           (may_not jobs c.in-Some.cell at_w.within.cells (sym c.may_keep.ensures ∙ c.if-not-may_keep.true)));
       refused = (refl, closed.registers);
+      why = refl;
+      uses = refl;
     }
 
 pub keep-requires-clause-holds : goal.keep-requires-clause-holds
@@ -232,4 +236,6 @@ returns g c =
           (sym (c.keep.ensures.jobs ∙ ap (λ (n : ℕ). keeping jobs n) found.0))
           (subst (λ (n : ℕ). IsDereferenced u.seen jobs one (keeping jobs target) (Ok (Cell n))) (sym found.0) (leads alive_u room));
       refused = tt;
+      why = tt;
+      uses = ap (λ (j : Jobs). j.uses) c.keep.ensures.jobs;
     }

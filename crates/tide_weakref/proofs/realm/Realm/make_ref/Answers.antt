@@ -4,7 +4,7 @@ use Rattle.std.proofs.lemmas.List.Elements.{Contains-push}
 use Rattle.std.specs.Prelude.{Contains, Err, List, Ok}
 use Rattle.tide_mutator.specs.calls.Viewed as works
 use Rattle.tide_weakref.proofs.CalledLaws.{stepped_alone_then, stepped_seen, stepped_set_then, stepped_sets_then, stepped_then, worked_by}
-use Rattle.tide_weakref.proofs.ClosingLaws.{closes_after, is_apart, is_in, made_kept_full, made_not_cell, made_reference, referenced_full, same_but_all, same_but_then, spare_before, uses_more}
+use Rattle.tide_weakref.proofs.ClosingLaws.{closes_after, full_where, is_apart, is_in, made_kept_full, made_not_cell, made_reference, referenced_full, same_but_all, same_but_then, spare_before, uses_more}
 use Rattle.tide_weakref.proofs.KeepLaws.{may_is, may_not}
 use Rattle.tide_weakref.proofs.SettingLaws.{alone_only, kept_only, none_only, takes_no_more, takes_one}
 use Rattle.tide_weakref.proofs.StandingLaws.{goes_keeping, goes_same, goes_then, goes_using, holds_using}
@@ -12,7 +12,7 @@ use Rattle.tide_weakref.proofs.StepLaws.{held_kept}
 use Rattle.tide_weakref.specs.Jobs.{Jobs, OthersSpare}
 use Rattle.tide_weakref.specs.Referenced.{IsReferenced}
 use Rattle.tide_weakref.specs.Stepping.{HoldsNow, held_in}
-use Rattle.tide_weakref.specs.Uses.{GoesOn, IsReference, keeping, reference, using, with_cell}
+use Rattle.tide_weakref.specs.Uses.{GoesOn, IsReference, UsesOneMore, keeping, reference, using, with_cell}
 use Rattle.tide_weakref.specs.Viewed.{jobs_of, view_of}
 use Rattle.tide_weakref.specs.declared.refused.WeakRefused.{WeakRefused}
 use Rattle.tide_weakref.specs.declared.weak.Weak.{Weak}
@@ -25,6 +25,13 @@ returns-in_default-clause-answers g c = λ spare.
     let now = jobs_of c.refuse.new.self in
     subst (λ (r : WeakRefused). IsReferenced c.args.src value jobs now (Err r)) (sym c.refuse.ensures.why)
     (referenced_full c.args.src value jobs now (c.in_default.ensures.none refl) c.refuse.ensures.jobs)
+
+pub returns-in_default-clause-full : goal.returns-in_default-clause-full
+returns-in_default-clause-full g c = λ all. ap (λ (why : WeakRefused). Err why) c.refuse.ensures.why
+
+pub returns-in_default-clause-refs_full : goal.returns-in_default-clause-refs_full
+returns-in_default-clause-refs_full g c =
+    full_where (jobs_of c.args.self.now) c.refuse.result (c.in_default.ensures.none refl)
 
 pub aim-requires-clause-fits : goal.aim-requires-clause-fits
 aim-requires-clause-fits g c κs met =
@@ -68,6 +75,9 @@ returns-in_default-aim g c =
       answers = λ spare. made_not_cell layout v w u jobs jobs (jobs.weak.first + at) c.args.src (is_in jobs at c.in-Some.ensures.fresh.0)
           (spare_before v.who v.who jobs w.seen u.seen refl before spare) c.in_default-aim.ensures.aimed refl;
       made = tt;
+      uses = tt;
+      full = (λ all. absurd (let some = c.in-Some.ensures.some in omega (arith, all, some)));
+      refs_full = tt;
       refused = refl;
     }
 
@@ -101,6 +111,9 @@ returns-then-not-may_keep g c =
           (λ all. (let some = c.in-Some.ensures.some in omega (arith, all, some)))
           (may_not jobs target holds.within.cells (sym c.may_keep.ensures ∙ c.if-not-may_keep.true)) refl;
       made = tt;
+      uses = tt;
+      full = (λ all. absurd (let some = c.in-Some.ensures.some in omega (arith, all, some)));
+      refs_full = tt;
       refused = refl;
     }
 
@@ -173,5 +186,9 @@ returns g c =
         target,
         subst (λ (us : List Weak). Contains us one) (sym (ap (λ (j : Jobs). j.uses) made)) (Contains-push jobs.uses one),
       );
+      uses = subst (λ (n : ℕ). UsesOneMore jobs now n (reference n)) (sym number)
+          (c.in-Some.ensures.fresh.0, c.in-Some.ensures.fresh.1, (target, ap (λ (j : Jobs). j.uses) made));
+      full = (λ all. absurd (let some = c.in-Some.ensures.some in omega (arith, all, some)));
+      refs_full = tt;
       refused = tt;
     }

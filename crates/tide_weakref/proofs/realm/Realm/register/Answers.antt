@@ -1,9 +1,9 @@
 -- A cell is registered, or that is refused.
-use Rattle.std.proofs.Common.{ℕ, ◌+◌, arith, refl, sym, subst}
+use Rattle.std.proofs.Common.{ℕ, ◌+◌, arith, refl, sym, ap, subst}
 use Rattle.std.specs.Prelude.{Err}
 use Rattle.tide_mutator.specs.calls.Viewed as works
 use Rattle.tide_weakref.proofs.CalledLaws.{stepped_alone_then, stepped_seen, stepped_then, worked_by}
-use Rattle.tide_weakref.proofs.ClosingLaws.{closes_after, is_apart, is_in, registered_full, registered_not_cell, registered_one, spare_before, uses_more}
+use Rattle.tide_weakref.proofs.ClosingLaws.{closes_after, full_where, is_apart, is_in, registered_full, registered_not_cell, registered_one, spare_before, uses_more}
 use Rattle.tide_weakref.proofs.SettingLaws.{alone_only, takes_no_more, takes_one}
 use Rattle.tide_weakref.proofs.StandingLaws.{goes_same, goes_using, holds_using}
 use Rattle.tide_weakref.proofs.StepLaws.{held_kept}
@@ -22,6 +22,13 @@ returns-in_default-clause-answers g c = λ spare.
     let now = jobs_of c.refuse.new.self in
     subst (λ (r : WeakRefused). IsRegistered c.args.src value c.args.held c.args.token jobs now (Err r)) (sym c.refuse.ensures.why)
     (registered_full c.args.src value c.args.held c.args.token jobs now (c.in_default.ensures.none refl) c.refuse.ensures.jobs)
+
+pub returns-in_default-clause-full : goal.returns-in_default-clause-full
+returns-in_default-clause-full g c = λ all. ap (λ (why : WeakRefused). Err why) c.refuse.ensures.why
+
+pub returns-in_default-clause-refs_full : goal.returns-in_default-clause-refs_full
+returns-in_default-clause-refs_full g c =
+    full_where (jobs_of c.args.self.now) c.refuse.result (c.in_default.ensures.none refl)
 
 pub aim-requires-clause-fits : goal.aim-requires-clause-fits
 aim-requires-clause-fits g c κs met =
@@ -62,6 +69,9 @@ returns-in_default-aim g c =
       answers = λ spare. registered_not_cell layout v w u jobs jobs (jobs.weak.first + at) c.args.src
           (is_in jobs at c.in-Some.ensures.fresh.0) (spare_before v.who v.who jobs w.seen u.seen refl before spare)
           c.args.held c.args.token c.in_default-aim.ensures.aimed refl;
+      uses = tt;
+      full = (λ all. absurd (let some = c.in-Some.ensures.some in omega (arith, all, some)));
+      refs_full = tt;
       refused = refl;
     }
 
@@ -98,5 +108,8 @@ returns g c =
       answers = λ spare. registered_one layout v w u jobs now (jobs.weak.first + at) c.args.src (is_in jobs at below)
           (spare_before v.who v.who jobs w.seen u.seen refl before spare) c.in-Some-aim.target at c.args.held c.args.token aimed
           (λ all. (let some = c.in-Some.ensures.some in omega (arith, all, some))) below c.in-Some.ensures.fresh.1 more;
+      uses = (at, (below, c.in-Some.ensures.fresh.1, (c.in-Some-aim.target, c.add.ensures.uses)));
+      full = (λ all. absurd (let some = c.in-Some.ensures.some in omega (arith, all, some)));
+      refs_full = tt;
       refused = tt;
     }

@@ -1,6 +1,6 @@
 -- The first part runs with the books of nothing, and neither has begun.
 use Rattle.std.proofs.Common.{ap, arith}
-use Rattle.embed_heap.proofs.visitor_laws.Parts.{new_idle}
+use Rattle.tide.proofs.Parts.{new_idle}
 use Rattle.tide.specs.tide_core.declared.machine.view.View.{View}
 use Rattle.tide.specs.tide_mutator.calls.Viewed as mutator
 use Rattle.tide.specs.tide_shape.Lists.{lists_of}

@@ -1,7 +1,7 @@
 -- Why both may make their parts, and what both notes leave the collector.
 use Rattle.std.proofs.Common.{ℕ, ◌≡◌, ◌∙◌, sym, ap, subst, arith}
 use Rattle.embed_heap.proofs.visitor_laws.Taking.{both_done, both_in, both_runs, both_told}
-use Rattle.embed_heap.specs.visitor.Parts.{IsIdle, IsIdleBefore}
+use Rattle.tide.specs.Parts.{IsIdle, IsIdleBefore}
 use Rattle.tide.specs.tide_heap.Turns.{noted}
 use Rattle.tide.specs.tide_core.declared.machine.view.Role.TheVariants.{Ticket}
 use Rattle.tide.specs.tide_core.declared.machine.view.View.{View}

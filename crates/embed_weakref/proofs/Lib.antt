@@ -1,0 +1,2 @@
+-- The proofs that several functions share.
+pub mod Engines

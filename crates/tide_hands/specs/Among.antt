@@ -1,0 +1,16 @@
+-- Places among some.
+use Rattle.std.specs.Prelude.{ℕ, zero, suc, ◌≡◌, ◌==◌, ◌⊎◌, not, List, [], ◌∷◌, filter}
+
+-- the place is one of these
+abbrev pub Among : ℕ → List ℕ → Type 0
+Among place [] = ⊥
+Among place (other ∷ places) = (place ≡ other) ⊎ Among place places
+
+-- all places below a number
+abbrev pub places_below : ℕ → List ℕ
+places_below zero = []
+places_below (suc place) = place ∷ places_below place
+
+-- these without one
+abbrev pub without : ℕ → List ℕ → List ℕ
+without place places = filter (λ other. not (other == place)) places

@@ -1,0 +1,243 @@
+-- A keeper whose part is open goes on, place by place.
+use Rattle.std.proofs.Common.{ℕ, suc, ◌≡◌, ◌+◌, ◌-◌, ◌<◌, ◌≤◌, ◌∙◌, refl, sym, ap, subst, arith, Bool, true, false, List, get_or, set, length, get_or-set_other, inl, inr, ◌⊎◌, lt-ltb, le-ltb, true≢false}
+use Rattle.std.proofs.lemmas.Bool.{and_parts, cases_eq, ltb-true}
+use Rattle.std.specs.Prelude.{◌||◌, ◌&&◌, MatchBool, if◌then◌else◌, nat_lt}
+use Rattle.atomic_table.specs.Seated.{TableId}
+use Rattle.tide_model.specs.Freeze.{marks_after}
+use Rattle.tide_model.specs.Layout.{Layout}
+use Rattle.tide_model.specs.Periods.{ArePeriods, opened}
+use Rattle.tide_posts.specs.Name.{Name, places}
+use Rattle.tide_posts.specs.Posts.{IsNoteFor, MutatorTells, VisitorTells}
+use Rattle.tide_posts.specs.Among.{Among}
+use Rattle.tide_posts.specs.tide_hands.Seats.{frame}
+use Rattle.tide_posts.specs.tide_hands.declared.view.HandView.{HandView}
+use Rattle.tide_posts.specs.tide_heap.Parties.{In}
+use Rattle.tide_posts.specs.tide_heap.Turns.{noted}
+use Rattle.tide_posts.specs.tide_heap.declared.steps.notes.Note.{Note}
+use Rattle.tide_posts.specs.tide_heap.tide_core.declared.machine.view.View.{View}
+use Rattle.tide_posts.specs.tide_heap.tide_core.machine.World.{first_visitor}
+use Rattle.tide_posts.specs.tide_heap.tide_freeze.declared.books.Books.{Books}
+use Rattle.tide_sched.specs.Paces.{pace_of}
+use Rattle.tide_server.proofs.Noted.{AreLeft-later, AreLeft-mutator, AreLeft-visitor, NotesAreIn-left, NotesAreIn-told, NotesAreIn-visited, or_false}
+use Rattle.tide_server.specs.Keepers.{AreLeft, HadLeft, KeeperStands, NotesAreIn, has_left, view_of}
+use Rattle.tide_server.specs.Turned.{IsWaiting}
+use Rattle.tide_server.specs.declared.keeper.Keeper.{Keeper}
+use Rattle.tide_table.proofs.Nexts.{RunsWith-noted}
+use Rattle.tide_table.specs.Standing.{RunsWith}
+use Rattle.tide_table.specs.declared.collector.Collector.{Collector}
+
+one_more : (n : ℕ) → suc n ≡ n + 1
+one_more n = omega arith
+
+module _ (layout : Layout) (heap hands : TableId) (k : Keeper) (stands : KeeperStands layout heap hands k) where
+  -- of the keeper's seat a look leaves this, and makes nothing else than places known at which a ticket is due
+  pub record HasLooked (now : Keeper) : Type 0 where
+    pub seated : now.seat.seat.table_id ≡ k.seat.seat.table_id
+    pub kept : frame now.seat.seat.me.0 ≡ frame k.seat.seat.me.0
+    pub over : now.seat.seat.me.0.over ≡ k.seat.seat.me.0.over
+    pub given : now.seat.seat.me.0.given ≡ k.seat.seat.me.0.given
+    pub free : (q : ℕ) → Among q k.seat.seat.me.0.free → Among q now.seat.seat.me.0.free
+
+  -- the part is the same, and more notes are in
+  IsWaiting-by : (now : Keeper) → HasLooked now → now.collector.seat.table_id ≡ k.collector.seat.table_id →
+      now.books ≡ k.books → RunsWith layout k.books (view_of now) → (view_of now).start ≡ (view_of k).start →
+      (view_of now).period ≡ (view_of k).period → (view_of now).marks ≡ (view_of k).marks → now.next ≤ places layout →
+      NotesAreIn layout (view_of now) now.next now.ended → AreLeft layout (view_of now) now.next now.left →
+      ((place : ℕ) → (place < now.next) ⊎ (has_left layout now.left place ≡ true) → Among place now.seat.seat.me.0.free) →
+      IsWaiting layout heap hands k now
+  IsWaiting-by now looked table books runs start period marks within notes left due = record {
+    stands = record {
+      of = record {
+        table = table ∙ stands.of.table;
+        seated = looked.seated ∙ stands.of.seated;
+        named = ap (λ (h : HandView Name). h.name) looked.kept ∙ stands.of.named;
+      };
+      runs = subst (λ (b : Books). RunsWith layout b (view_of now)) (sym books) runs;
+      before = stands.before;
+      periods = subst (λ (b : Books). ArePeriods (pace_of b.pacing) layout stands.before) (sym books) stands.periods;
+      goes_on = stands.goes_on;
+      opened = start ∙ stands.opened ∙ ap (λ (b : Books). opened (pace_of b.pacing) layout stands.before) (sym books);
+      marking = marks ∙ stands.marking ∙ ap (marks_after layout) (sym start);
+      within = within;
+      notes = notes;
+      left = left;
+      due = due;
+      no_end = looked.over ∙ stands.no_end;
+    };
+    start = start;
+    period = period;
+    pacing = ap (λ (b : Books). b.pacing) books;
+    posted = looked.given;
+  }
+
+  -- nothing was found
+  pub IsWaiting-same : (now : Keeper) → HasLooked now → now.collector ≡ k.collector → now.books ≡ k.books →
+      now.next ≡ k.next → now.ended ≡ k.ended → now.left ≡ k.left → IsWaiting layout heap hands k now
+  IsWaiting-same now looked collector books next ended left =
+      IsWaiting-by now looked (ap (λ (c : Collector). c.seat.table_id) collector) books
+      (subst (RunsWith layout k.books) (sym same) stands.runs)
+      (ap (λ (v : View). v.start) same) (ap (λ (v : View). v.period) same) (ap (λ (v : View). v.marks) same)
+      (subst (λ (n : ℕ). n ≤ places layout) (sym next) stands.within)
+      (subst (λ (v : View). NotesAreIn layout v now.next now.ended) (sym same)
+      (subst (λ (n : ℕ). NotesAreIn layout (view_of k) n now.ended) (sym next)
+      (subst (NotesAreIn layout (view_of k) k.next) (sym ended) stands.notes)))
+      (subst (λ (v : View). AreLeft layout v now.next now.left) (sym same)
+      (subst (λ (n : ℕ). AreLeft layout (view_of k) n now.left) (sym next)
+      (subst (AreLeft layout (view_of k) k.next) (sym left) stands.left)))
+      (λ place is. looked.free place (stands.due place (had place is)))
+    where
+      same : view_of now ≡ view_of k
+      same = ap (λ (c : Collector). c.seat.me.0) collector
+
+      had : (place : ℕ) → (place < now.next) ⊎ (has_left layout now.left place ≡ true) →
+          (place < k.next) ⊎ (has_left layout k.left place ≡ true)
+      had place (inl below) = inl (omega (arith, below, next))
+      had place (inr is) = inr (ap (λ (l : List Bool). has_left layout l place) (sym left) ∙ is)
+
+  -- a mutator had left
+  pub IsWaiting-left : (place : ℕ) (period_is : k.period ≡ (view_of k).period) → k.next ≡ place →
+      has_left layout k.left place ≡ true →
+      IsWaiting layout heap hands k (record k { next = place + 1; period_is = period_is })
+  IsWaiting-left place period_is next has =
+      IsWaiting-by (record k { next = place + 1; period_is = period_is })
+      (record { seated = refl; kept = refl; over = refl; given = refl; free = λ q e. e }) refl refl stands.runs refl refl refl
+      (omega (arith, below))
+      (subst (λ (n : ℕ). NotesAreIn layout (view_of k) n k.ended) (one_more place)
+      (NotesAreIn-left layout (view_of k) place k.ended below had
+      (subst (λ (n : ℕ). NotesAreIn layout (view_of k) n k.ended) next stands.notes)))
+      (subst (λ (n : ℕ). AreLeft layout (view_of k) n k.left) (one_more place)
+      (AreLeft-later layout (view_of k) place k.left (subst (λ (n : ℕ). AreLeft layout (view_of k) n k.left) next stands.left)))
+      (λ q e. stands.due q (was q e))
+    where
+      parts : (nat_lt place layout.mutators ≡ true) × (get_or k.left place false ≡ true)
+      parts = and_parts (nat_lt place layout.mutators) (get_or k.left place false) has
+
+      below : place < layout.mutators
+      below = ltb-true place layout.mutators parts.0
+
+      gone : In place (view_of k).gone
+      gone = (stands.left.known place below).0 parts.1
+
+      had : HadLeft layout (view_of k) place
+      had = record { gone = gone; inactive = stands.left.early place below (omega (arith, next)) gone }
+
+      was : (q : ℕ) → (q < place + 1) ⊎ (has_left layout k.left q ≡ true) → (q < k.next) ⊎ (has_left layout k.left q ≡ true)
+      was q (inl less) = elim (cases_eq q place) [
+        | inl same ↦ inr (ap (has_left layout k.left) same ∙ has)
+        | inr apart ↦ inl (omega (arith, less, apart, next))
+      ]
+      was q (inr e) = inr e
+
+  -- who hasn't left, if a mutator
+  pub stays_at : (place : ℕ) → has_left layout k.left place ≡ false → place < layout.mutators → get_or k.left place false ≡ false
+  stays_at place isnt below =
+      sym (ap (λ (b : Bool). b && get_or k.left place false) (lt-ltb place layout.mutators below)) ∙ isnt
+
+  -- a note of the part was taken in
+  module _ (place : ℕ) (next : k.next ≡ place) (within : place < places layout) (few : layout.mutators ≤ 16)
+      (long : length k.left ≡ 16) (note : Note) (ends : Bool)
+      (told : IsNoteFor (record { layout = layout; table_id = heap }) place note ends) where
+    abbrev u : View
+    u = note.seat.me.0
+
+    abbrev v : View
+    v = view_of k
+
+    -- that a ticket is due is known where it was, and where the note was
+    due_now : (now : Keeper) → HasLooked now → Among place now.seat.seat.me.0.free → now.next ≡ place + 1 →
+        ((q : ℕ) → (q ≡ place → ⊥) → has_left layout now.left q ≡ has_left layout k.left q) → (q : ℕ) →
+        (q < now.next) ⊎ (has_left layout now.left q ≡ true) → Among q now.seat.seat.me.0.free
+    due_now now looked here later same q e = elim (cases_eq q place) [
+      | inl is ↦ subst (λ (n : ℕ). Among n now.seat.seat.me.0.free) (sym is) here
+      | inr apart ↦ looked.free q (stands.due q (was apart e))
+    ]
+      where
+        was : (q ≡ place → ⊥) → (q < now.next) ⊎ (has_left layout now.left q ≡ true) → (q < k.next) ⊎ (has_left layout k.left q ≡ true)
+        was apart (inl less) = inl (omega (arith, less, later, next, apart))
+        was apart (inr is) = inr (sym (same q apart) ∙ is)
+
+    notes_were : NotesAreIn layout v place k.ended
+    notes_were = subst (λ (n : ℕ). NotesAreIn layout v n k.ended) next stands.notes
+
+    left_were : AreLeft layout v place k.left
+    left_were = subst (λ (n : ℕ). AreLeft layout v n k.left) next stands.left
+
+    pub IsWaiting-told : (now : Keeper) → HasLooked now → Among place now.seat.seat.me.0.free →
+        now.collector.seat.table_id ≡ k.collector.seat.table_id → view_of now ≡ noted v u → now.books ≡ k.books →
+        now.next ≡ place + 1 → now.ended ≡ (k.ended || ends) → now.left ≡ set k.left place u.left → place < layout.mutators →
+        get_or k.left place false ≡ false → u.period ≡ v.period → IsWaiting layout heap hands k now
+    IsWaiting-told now looked here table is books later ended left below stays period =
+        IsWaiting-by now looked table books (subst (RunsWith layout k.books) (sym is) (RunsWith-noted layout k.books v u stands.runs))
+        (ap (λ (x : View). x.start) is) (ap (λ (x : View). x.period) is) (ap (λ (x : View). x.marks) is) (omega (arith, later, within))
+        (subst (λ (x : View). NotesAreIn layout x now.next now.ended) (sym is)
+        (subst (λ (n : ℕ). NotesAreIn layout (noted v u) n now.ended) (sym later)
+        (subst (NotesAreIn layout (noted v u) (place + 1)) (sym ended)
+        (subst (λ (n : ℕ). NotesAreIn layout (noted v u) n (k.ended || ends)) (one_more place)
+        (NotesAreIn-told layout v u place k.ended ends below (omega (arith, below, few)) who period tells told.done isnt notes_were)))))
+        (subst (λ (x : View). AreLeft layout x now.next now.left) (sym is)
+        (subst (λ (n : ℕ). AreLeft layout (noted v u) n now.left) (sym later)
+        (subst (AreLeft layout (noted v u) (place + 1)) (sym left)
+        (subst (λ (n : ℕ). AreLeft layout (noted v u) n (set k.left place u.left)) (one_more place)
+        (AreLeft-mutator v u layout place k.left below (omega (arith, below, few, long)) who
+        (subst (λ (n : ℕ). In n v.gone → ⊥) (sym who) isnt) left_were)))))
+        (due_now now looked here later (λ q apart. ap (λ (l : List Bool). has_left layout l q) left
+        ∙ ap (λ (b : Bool). nat_lt q layout.mutators && b) (get_or-set_other k.left place q u.left false apart)))
+      where
+        is_mutator : nat_lt place layout.mutators ≡ true
+        is_mutator = lt-ltb place layout.mutators below
+
+        who : u.who ≡ place
+        who = told.is ∙ ap (λ (b : Bool). if b then place else first_visitor + (place - layout.mutators)) is_mutator
+
+        tells : MutatorTells u ends
+        tells = subst (λ (b : Bool). MatchBool b (MutatorTells u ends) (VisitorTells layout u ends)) is_mutator told.did
+
+        isnt : In place v.gone → ⊥
+        isnt e = true≢false (sym ((stands.left.known place below).1 e) ∙ stays)
+
+    pub IsWaiting-visited : (now : Keeper) → HasLooked now → Among place now.seat.seat.me.0.free →
+        now.collector.seat.table_id ≡ k.collector.seat.table_id → view_of now ≡ noted v u → now.books ≡ k.books →
+        now.next ≡ place + 1 → now.ended ≡ (k.ended || ends) → now.left ≡ k.left → layout.mutators ≤ place →
+        u.period ≡ v.period → IsWaiting layout heap hands k now
+    IsWaiting-visited now looked here table is books later ended left behind period =
+        IsWaiting-by now looked table books (subst (RunsWith layout k.books) (sym is) (RunsWith-noted layout k.books v u stands.runs))
+        (ap (λ (x : View). x.start) is) (ap (λ (x : View). x.period) is) (ap (λ (x : View). x.marks) is) (omega (arith, later, within))
+        (subst (λ (x : View). NotesAreIn layout x now.next now.ended) (sym is)
+        (subst (λ (n : ℕ). NotesAreIn layout (noted v u) n now.ended) (sym later)
+        (subst (NotesAreIn layout (noted v u) (place + 1)) (sym (ended ∙ ap (λ (b : Bool). k.ended || b) tells.none ∙ or_false k.ended))
+        (subst (λ (n : ℕ). NotesAreIn layout (noted v u) n k.ended) (one_more place)
+        (NotesAreIn-visited layout v u place k.ended behind few who period (told.begun ∙ period) tells.marked told.done isnt notes_were)))))
+        (subst (λ (x : View). AreLeft layout x now.next now.left) (sym is)
+        (subst (λ (n : ℕ). AreLeft layout (noted v u) n now.left) (sym later)
+        (subst (AreLeft layout (noted v u) (place + 1)) (sym left)
+        (subst (λ (n : ℕ). AreLeft layout (noted v u) n k.left) (one_more place)
+        (AreLeft-visitor v u layout place k.left behind tells.stays left_were)))))
+        (due_now now looked here later (λ q apart. ap (λ (l : List Bool). has_left layout l q) left))
+      where
+        is_visitor : nat_lt place layout.mutators ≡ false
+        is_visitor = le-ltb place layout.mutators behind
+
+        who : u.who ≡ first_visitor + (place - layout.mutators)
+        who = told.is ∙ ap (λ (b : Bool). if b then place else first_visitor + (place - layout.mutators)) is_visitor
+
+        tells : VisitorTells layout u ends
+        tells = subst (λ (b : Bool). MatchBool b (MutatorTells u ends) (VisitorTells layout u ends)) is_visitor told.did
+
+        isnt : In u.who v.gone → ⊥
+        isnt e = (let below = stands.left.are u.who e in omega (arith, below, who, few))
+
+-- it waits for two looks, one after another
+pub IsWaiting-then : (layout : Layout) (heap hands : TableId) (one two three : Keeper) → IsWaiting layout heap hands one two →
+    IsWaiting layout heap hands two three → IsWaiting layout heap hands one three
+IsWaiting-then layout heap hands one two three first second = record {
+  stands = second.stands;
+  start = second.start ∙ first.start;
+  period = second.period ∙ first.period;
+  pacing = second.pacing ∙ first.pacing;
+  posted = second.posted ∙ first.posted;
+}
+
+-- and for none
+pub IsWaiting-here : (layout : Layout) (heap hands : TableId) (k : Keeper) → KeeperStands layout heap hands k →
+    IsWaiting layout heap hands k k
+IsWaiting-here layout heap hands k stands = record { stands = stands; start = refl; period = refl; pacing = refl; posted = refl }

@@ -1,0 +1,97 @@
+-- What a turn of a standing heap's keeper makes of the history, and what it answers.
+use Rattle.std.specs.Prelude.{ℕ, ◌≡◌, ◌+◌, ◌-◌, ◌<◌, ◌^◌, true, false, Bool, List}
+use Rattle.atomic_table.specs.Seated.{TableId}
+use Rattle.tide_model.specs.Each.{Each}
+use Rattle.tide_model.specs.Lawful.{IsLawful}
+use Rattle.tide_model.specs.Layout.{Layout}
+use Rattle.tide_model.specs.Periods.{ArePeriods, EndsInTime, IsLegal, is_over, opened}
+use Rattle.tide_model.specs.Prefix.{IsPrefix}
+use Rattle.tide_model.specs.Refused.{ShapeLists}
+use Rattle.tide_model.specs.declared.entry.Event.{Event}
+use Rattle.tide_posts.specs.tide_heap.Parties.{In}
+use Rattle.tide_posts.specs.tide_heap.tide_freeze.Books.{AddsEnds, AreBooks}
+use Rattle.tide_posts.specs.tide_heap.Turns.{Freezes}
+use Rattle.tide_posts.specs.tide_heap.tide_core.declared.machine.view.View.{View}
+use Rattle.tide_report.specs.Reports.{Reported}
+use Rattle.tide_sched.specs.Paces.{pace_of}
+use Rattle.tide_server.specs.Keepers.{KeeperStands, ticket_count, view_of}
+use Rattle.tide_server.specs.declared.keeper.Keeper.{Keeper}
+use Rattle.tide_server.specs.declared.turning.Turn.{Turn}
+use Rattle.tide_server.specs.declared.turning.Turn.TheVariants.{Opened, Over, Spent}
+use Rattle.tide_table.specs.Standing.{HasCollected}
+
+-- The freeze after the keeper's open part made one more whole period of the history: it goes on from where the part was
+-- opened, is lawful, and its cycles end in time.
+pub record MakesPeriod (layout : Layout) (shapes : ShapeLists) (k : Keeper) (after : List Event) : Type 0 where
+  pub grows : IsPrefix (view_of k).start after
+  pub lawful : IsLawful layout shapes after
+  pub periods : ArePeriods (pace_of k.books.pacing) layout after
+  pub ends : Each (EndsInTime layout) after
+
+-- A freeze ended the keeper's open part and did what the schedule asks for, in which each mutator has so many calls
+-- next. The report has the ends that it entered.
+pub record HasFrozenPart (layout : Layout) (shapes : ShapeLists) (is_forced : Bool) (run : ℕ) (old new : Keeper)
+    (report longer : Reported) : Type 0 where
+  pub stopped : View
+  pub freezes : Freezes layout shapes (view_of old) stopped
+  pub collected : HasCollected layout shapes (pace_of old.books.pacing) is_forced stopped (view_of new) run
+  pub are : AreBooks layout (view_of new).seen new.books
+  pub told : AddsEnds layout stopped.seen (view_of new).seen report longer
+
+-- The next part was opened, since some mutator is active still, and a ticket was posted at each place whose participant
+-- hasn't left.
+pub record HasOpenedPart (layout : Layout) (shapes : ShapeLists) (heap hands : TableId) (old new : Keeper)
+    (report longer : Reported) : Type 0 where
+  pub after : List Event
+  pub makes : MakesPeriod layout shapes old after
+  pub goes_on : is_over layout after ≡ false
+  pub opened : (view_of new).start ≡ opened (pace_of old.books.pacing) layout after
+  pub period : (view_of new).period ≡ (view_of old).period + 1
+  pub stands : KeeperStands layout heap hands new
+  pub posted : new.seat.seat.me.0.given ≡ old.seat.seat.me.0.given + ticket_count layout new.left
+  pub told : AddsEnds layout (view_of old).start (view_of new).start report longer
+
+-- A keeper whose heap is frozen for good: all mutators have left, and its history is legal for its pace, its layout and
+-- as many visitors as that has.
+pub record IsFinished (layout : Layout) (shapes : ShapeLists) (heap : TableId) (k : Keeper) : Type 0 where
+  pub table : k.collector.seat.table_id ≡ heap
+  pub frozen : (view_of k).frozen ≡ true
+  pub gone : (i : ℕ) → i < layout.mutators → In i (view_of k).gone
+  pub legal : IsLegal (pace_of k.books.pacing) layout shapes (view_of k).seen
+
+-- as much was posted as there are visitors, and the end among that
+abbrev pub HasPostedEnds : Layout → Keeper → Keeper → Type 0
+HasPostedEnds layout old new = (new.seat.seat.me.0.given ≡ old.seat.seat.me.0.given + layout.visitors)
+    × (0 < layout.visitors → new.seat.seat.me.0.over ≡ true)
+
+-- no mutator is active any more, and the history is finished
+pub record HasFinished (layout : Layout) (shapes : ShapeLists) (heap : TableId) (old new : Keeper)
+    (report longer : Reported) : Type 0 where
+  pub grows : IsPrefix (view_of old).start (view_of new).seen
+  pub finished : IsFinished layout shapes heap new
+  pub posted : HasPostedEnds layout old new
+  pub told : AddsEnds layout (view_of old).start (view_of new).seen report longer
+
+-- some mutator is active, but the part was the last that a word can number
+pub record HasSpentParts (layout : Layout) (shapes : ShapeLists) (old new : Keeper) (report longer : Reported)
+    : Type 0 where
+  pub makes : MakesPeriod layout shapes old (view_of new).seen
+  pub goes_on : is_over layout (view_of new).seen ≡ false
+  pub last : (view_of old).period ≡ 2 ^ 32 - 1
+  pub posted : HasPostedEnds layout old new
+  pub told : AddsEnds layout (view_of old).start (view_of new).seen report longer
+
+-- what a turn answers
+abbrev pub HasTurned : Layout → ShapeLists → TableId → TableId → Keeper → Keeper → Reported → Reported → Turn → Type 0
+HasTurned layout shapes heap hands old new report longer Opened =
+    HasOpenedPart layout shapes heap hands old new report longer
+HasTurned layout shapes heap hands old new report longer Over = HasFinished layout shapes heap old new report longer
+HasTurned layout shapes heap hands old new report longer Spent = HasSpentParts layout shapes old new report longer
+
+-- No turn was made yet: the part that was open is, maybe with more notes in, and nothing was posted.
+pub record IsWaiting (layout : Layout) (heap hands : TableId) (old new : Keeper) : Type 0 where
+  pub stands : KeeperStands layout heap hands new
+  pub start : (view_of new).start ≡ (view_of old).start
+  pub period : (view_of new).period ≡ (view_of old).period
+  pub pacing : new.books.pacing ≡ old.books.pacing
+  pub posted : new.seat.seat.me.0.given ≡ old.seat.seat.me.0.given
