@@ -1,10 +1,9 @@
 -- What is printed of a run, with what stands behind its text, is what was asked for.
-use Rattle.std.proofs.Common.{ℕ, ◌≡◌, ◌∙◌, refl, sym, ap, subst, Bool, true, false, List, ◌++◌, Option, None, Some}
-use Rattle.std.specs.Prelude.{IfSome, if◌then◌else◌, is_some}
+use Rattle.std.proofs.Common.{ℕ, ◌≡◌, ◌∙◌, sym, subst, Bool, true, false, List, ◌++◌, Option, None, Some}
+use Rattle.std.specs.Prelude.{IfSome}
 use Rattle.tide_model.specs.History.{state_after}
 use Rattle.tide_model.specs.Refused.{ShapeLists}
 use Rattle.tide_options.specs.declared.options.Options.{Options}
-use Rattle.tide_periods.specs.Store.{Setting}
 use Rattle.tide_retained.specs.declared.contents.Contents.{Contents}
 use Rattle.tide_retained.specs.Contents.{HasKeysOf}
 use Rattle.tide_snapshot.specs.Line.{AreLines}
@@ -28,12 +27,6 @@ pub keys_shown : (shown : Bool) (shapes : ShapeLists) (ran : Ran) (snapshot : Op
 keys_shown shown shapes ran None is = tt
 keys_shown true shapes ran (Some snapshot) is = is.1
 keys_shown false shapes ran (Some snapshot) is = absurd (cc)
-
--- lines of cycles are of a heap, since they aren't asked of a plain run
-pub counted_on_heap : (plain stats : Bool) (heap : Option Setting) (setting : Setting) → heap ≡ (if plain then None else Some setting) →
-    (plain ≡ true → stats ≡ false) → stats ≡ true → is_some heap ≡ true
-counted_on_heap true stats heap setting is uncounted wanted = absurd (let clash : false ≡ true = sym (uncounted refl) ∙ wanted in cc)
-counted_on_heap false stats heap setting is uncounted wanted = ap is_some is
 
 -- so what is printed is what was asked for
 pub printed_is_asked : (asked : Option Options) (shapes : ShapeLists) (done : Printable) (text : List ℕ) → done.outcome.keys ≡ done.load.keys →

@@ -1,5 +1,5 @@
 -- The lines so far, one more, and those that are left.
-use Rattle.std.proofs.Common.{◌+◌, ◌∙◌, ap, take, drop, subst}
+use Rattle.std.proofs.Common.{◌+◌, take, drop, subst}
 use Rattle.std.specs.List.{flat_map}
 use Rattle.tide_io.specs.Faults.{AppendsPart}
 use Rattle.tide_io.proofs.ChainLaws.{AppendsPart-then, AppendsPart-grown, OnErr-from}

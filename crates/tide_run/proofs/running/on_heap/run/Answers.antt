@@ -1,5 +1,5 @@
 -- Why a workload's scripts may run on a heap that threads share, and what that leaves.
-use Rattle.std.proofs.Common.{ℕ, ◌≡◌, ◌≤◌, ◌∙◌, Some, sym, ap, arith, subst, length, map, List}
+use Rattle.std.proofs.Common.{ℕ, ◌≡◌, ◌≤◌, ◌∙◌, Some, sym, ap, arith, subst, length, map}
 use Rattle.std.proofs.lemmas.List.{length-map}
 use Rattle.tide_periods.specs.Asking.{scripts_of}
 use Rattle.tide_periods.specs.declared.cursor.ScriptCursor.{ScriptCursor}

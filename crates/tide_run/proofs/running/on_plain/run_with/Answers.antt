@@ -1,5 +1,5 @@
 -- Why a workload's scripts may run in turn on a store that the workload asks for, and what that leaves.
-use Rattle.std.proofs.Common.{ℕ, ◌≡◌, ◌≤◌, ◌∙◌, sym, ap, arith, subst, length, map, All, List, Vec, Global}
+use Rattle.std.proofs.Common.{◌≡◌, ◌≤◌, ◌∙◌, sym, ap, arith, subst, length, map, All, List, Vec, Global}
 use Rattle.std.proofs.lemmas.List.{length-map}
 use Rattle.std.specs.Prelude.{false, is_some, true}
 use Rattle.tide_model.specs.declared.op.Op.{Op}
