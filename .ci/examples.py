@@ -104,11 +104,12 @@ def summaries_differ(name, page):
 
 
 def lines_differ(name, page):
-    """The blocks of lines of cells are those of a run with a snapshot."""
-    shown = [path.read_text().partition("\nlive ")[2].partition("\n")[2] for path in DATA.rglob("*.snapshot.txt")]
+    """The blocks of lines of cells, and of cycles, are those that stand behind the text of a run."""
+    behind = [*DATA.rglob("*.snapshot.txt"), *DATA.rglob("*.stats.txt")]
+    shown = [path.read_text().partition("\nlive ")[2].partition("\n")[2] for path in behind]
     for _, text in blocks(page):
-        if text.startswith("cell #") and text not in shown:
-            yield f"{name}: no run with a snapshot has these lines:\n{text}"
+        if text.startswith(("cell #", "stats ")) and text not in shown:
+            yield f"{name}: no run with --snapshot or --stats has these lines:\n{text}"
 
 
 def tables_differ(name, page):

@@ -259,7 +259,7 @@ def option_named(name, value):
     number = f" {value.data}" if value.kind == "integer" else " N"
     if name in ("visitors", "make"):
         return f"take it out, and run riptide --{name}{number}"
-    if name in ("plain", "snapshot"):
+    if name in ("plain", "snapshot", "stats"):
         return f"take it out, and run riptide --{name}"
     if name == "threads":
         return "take it out: mutators and visitors run on up to four threads; riptide --visitors N asks for visitors"

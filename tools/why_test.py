@@ -33,7 +33,7 @@ PAGE, CASES = TOP / "docs" / "WHY.md", TOP / "tools" / "why_cases.txt"
 PIECES = [*" \n\t\"'[]{},=#.09-_r\\é", "[[mutator]]", "r16", "1.5"]
 LINE = re.compile(r"(\d+):(?: (.*))?")
 WORDS = """--visitors --visitors=2 --visitors=8 --visitors=9 --visitors=+1 --visitors=-1 --visitors= --plain --plain=1 --make
-    --make=7 --make=18446744073709551616 --snapshot --snapshot= -- - -p --fast --mak 2 08 seven --help -h w.toml
+    --make=7 --make=18446744073709551616 --snapshot --snapshot= --stats --stats= -- - -p --fast --mak 2 08 seven --help -h w.toml
     --trigger -v true""".split() + ["", "--visitors 2"]
 
 

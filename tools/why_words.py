@@ -7,13 +7,15 @@ import re
 
 from why_ops import NUMBERS
 
-USAGE = "riptide: usage: riptide [--visitors N] [--plain] [--make N] [--snapshot]"
-NUMBERED, FLAGS, MAX_VISITORS = ("--visitors", "--make"), ("--plain", "--snapshot"), 8
+USAGE = "riptide: usage: riptide [--visitors N] [--plain] [--make N] [--snapshot] [--stats]"
+NUMBERED, FLAGS, MAX_VISITORS = ("--visitors", "--make"), ("--plain", "--snapshot", "--stats"), 8
 ON = ("true", "yes", "on")
 APART = [
     ("--plain", "--visitors", "a plain run has one thread and no visitor, be their number 0"),
     ("--plain", "--snapshot", "a snapshot is of the heap that threads share"),
     ("--make", "--snapshot", "a generated workload prints a summary, and no cells"),
+    ("--plain", "--stats", "the lines of cycles are of a run on the heap that threads share"),
+    ("--make", "--stats", "a generated workload prints a summary, and no cycles"),
 ]
 
 
@@ -53,7 +55,7 @@ def written(option, word, rest):
 
 
 def bare(word, before):
-    """Why a word without a dash is none of the four options, and what to change. `before` is the word before it."""
+    """Why a word without a dash is none of the five options, and what to change. `before` is the word before it."""
     told = shown(word)
     if before == "--snapshot" and word:
         return f"`{told}` is no option, and the snapshot goes to the output", f"take it out, and write > {told} behind the words"
@@ -71,7 +73,7 @@ def bare(word, before):
 
 
 def strange(word, is_behind, before, rest):
-    """Why a word is none of the four options, and what to change. `before` is the word before it, `rest` are those behind."""
+    """Why a word is none of the five options, and what to change. `before` is the word before it, `rest` are those behind."""
     told = shown(word)
     if any("\udc80" <= letter <= "\udcff" for letter in word):
         return f"`{told}` isn't UTF-8", "write it in UTF-8"

@@ -13,7 +13,7 @@ use Rattle.tide_options.specs.declared.options.Options.{Options}
 use Rattle.tide_options.specs.declared.options.Refused.{Refused}
 use Rattle.tide_options.specs.declared.options.Refused.TheVariants.{Memory}
 use Rattle.tide_options.specs.Command.{command}
-use Rattle.tide_options.specs.Options.{is_set, is_too_much, number_at, options_in, reads_options}
+use Rattle.tide_options.specs.Options.{is_set, is_too_much, number_at, options_in, reads_options, wants_more}
 
 -- the command is one of which `clap` states all
 pub command_is_simple : is_simple command ≡ true
@@ -58,6 +58,7 @@ given_by rows = record {
   plain = is_set (codes "plain") rows;
   make = number_at (codes "make") rows;
   snapshot = is_set (codes "snapshot") rows;
+  stats = is_set (codes "stats") rows;
 }
 
 -- the options that rows give can be had
@@ -74,9 +75,9 @@ given rows options is = go (is_too_much rows) refl
 abbrev has_both : List Row → Bool
 has_both rows = is_set (codes "plain") rows && is_some (number_at (codes "visitors") rows)
 
--- a snapshot that can't be had
+-- lines behind the text that can't be had
 abbrev shows_too_much : List Row → Bool
-shows_too_much rows = is_set (codes "snapshot") rows && (is_set (codes "plain") rows || is_some (number_at (codes "make") rows))
+shows_too_much rows = wants_more rows && (is_set (codes "plain") rows || is_some (number_at (codes "make") rows))
 
 -- there are few visitors
 few_visitors : (rows : List Row) (options : Options) → options_in rows ≡ Some options → options.visitors ≤ 8
@@ -85,17 +86,17 @@ few_visitors rows options is =
     subst (λ (o : Options). o.visitors ≤ 8) same
     (no_more (unwrap_or (number_at (codes "visitors") rows) 0) (second_false (shows_too_much rows) _ (second_false (has_both rows) _ much)))
 
-plain_shows_nothing : (plain snapshot made : Bool) → (snapshot && (plain || made)) ≡ false → plain ≡ true → snapshot ≡ false
+plain_shows_nothing : (plain more made : Bool) → (more && (plain || made)) ≡ false → plain ≡ true → more ≡ false
 plain_shows_nothing true true made none is = absurd (cc)
 plain_shows_nothing true false made none is = refl
-plain_shows_nothing false snapshot made none is = absurd (cc)
+plain_shows_nothing false more made none is = absurd (cc)
 
--- and no snapshot of a plain run
-none_of_plain : (rows : List Row) (options : Options) → options_in rows ≡ Some options → options.plain ≡ true → options.snapshot ≡ false
+-- and no lines behind the text of a plain run
+none_of_plain : (rows : List Row) (options : Options) → options_in rows ≡ Some options → options.plain ≡ true → (options.snapshot || options.stats) ≡ false
 none_of_plain rows options is =
     let (much, same) = given rows options is in
-    subst (λ (o : Options). o.plain ≡ true → o.snapshot ≡ false) same
-    (plain_shows_nothing (is_set (codes "plain") rows) (is_set (codes "snapshot") rows) (is_some (number_at (codes "make") rows))
+    subst (λ (o : Options). o.plain ≡ true → (o.snapshot || o.stats) ≡ false) same
+    (plain_shows_nothing (is_set (codes "plain") rows) (wants_more rows) (is_some (number_at (codes "make") rows))
     (first_false (shows_too_much rows) _ (second_false (has_both rows) _ much)))
 
 -- the options that are handed on are those that were asked for
@@ -116,8 +117,14 @@ few_asked rows given (Err why) part same = tt
 -- nor have they a snapshot of a plain run
 pub shared_asked : (rows : List Row) (given : Option Options) (r : Result Options Refused) → given ≡ result_ok r → given ≡ options_in rows →
     IfOk r (λ options. options.plain ≡ true → options.snapshot ≡ false)
-shared_asked rows given (Ok options) part same = none_of_plain rows options (sym same ∙ part)
+shared_asked rows given (Ok options) part same = λ plain. first_false options.snapshot options.stats (none_of_plain rows options (sym same ∙ part) plain)
 shared_asked rows given (Err why) part same = tt
+
+-- nor lines of its cycles
+pub uncounted_asked : (rows : List Row) (given : Option Options) (r : Result Options Refused) → given ≡ result_ok r → given ≡ options_in rows →
+    IfOk r (λ options. options.plain ≡ true → options.stats ≡ false)
+uncounted_asked rows given (Ok options) part same = λ plain. second_false options.snapshot options.stats (none_of_plain rows options (sym same ∙ part) plain)
+uncounted_asked rows given (Err why) part same = tt
 
 -- a word that names no option is refused, as is one that is no text, in whose place it stands
 pub stray_word : reads_options (codes "riptide" ∷ codes "?" ∷ []) ≡ None

@@ -17,6 +17,8 @@ flag name = record (new_rule name) { long = Some name; action = Some SetTrue }
 abbrev pub named : App
 named = on_top (λ shape. record shape { disable_help_flag = true }) (new_app (codes "riptide"))
 
--- the command with its two options and its two flags
+-- the command with its two options and its three flags
 abbrev pub command : App
-command = with_rule (with_rule (with_rule (with_rule named (number_option (codes "visitors"))) (flag (codes "plain"))) (number_option (codes "make"))) (flag (codes "snapshot"))
+command =
+    with_rule (with_rule (with_rule (with_rule (with_rule named (number_option (codes "visitors"))) (flag (codes "plain")))
+    (number_option (codes "make"))) (flag (codes "snapshot"))) (flag (codes "stats"))

@@ -24,11 +24,15 @@ number_at name rows = option_and_then number_in (one_of name rows)
 abbrev pub is_set : Text → List Row → Bool
 is_set name rows = option_map_or (λ text. bytes_eq text (codes "true")) (one_of name rows) false
 
--- what was given can't be had: a number of visitors beside a plain run, a snapshot of a plain run or of a generated
--- workload, or more visitors than there may be
+-- lines behind a text were asked for: those of cells, or those of cycles
+abbrev pub wants_more : List Row → Bool
+wants_more rows = is_set (codes "snapshot") rows || is_set (codes "stats") rows
+
+-- what was given can't be had: a number of visitors beside a plain run, lines behind the text of a plain run or of a
+-- generated workload, or more visitors than there may be
 abbrev pub is_too_much : List Row → Bool
 is_too_much rows = (is_set (codes "plain") rows && is_some (number_at (codes "visitors") rows))
-    || ((is_set (codes "snapshot") rows && (is_set (codes "plain") rows || is_some (number_at (codes "make") rows)))
+    || ((wants_more rows && (is_set (codes "plain") rows || is_some (number_at (codes "make") rows)))
     || nat_lt MAX_VISITORS (unwrap_or (number_at (codes "visitors") rows) 0))
 
 -- the options that matches give
@@ -38,6 +42,7 @@ options_in rows = if is_too_much rows then None else Some (record {
   plain = is_set (codes "plain") rows;
   make = number_at (codes "make") rows;
   snapshot = is_set (codes "snapshot") rows;
+  stats = is_set (codes "stats") rows;
 })
 
 -- the options that the words of a command line ask for, or none where they are refused: the command takes them with no

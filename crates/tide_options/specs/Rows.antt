@@ -10,15 +10,20 @@ after_name words = reads_options (codes "riptide" ∷ words)
 
 -- so many visitors, and nothing else
 abbrev pub beside : ℕ → Option Options
-beside visitors = Some (record { visitors = visitors; plain = false; make = None; snapshot = false })
+beside visitors = Some (record { visitors = visitors; plain = false; make = None; snapshot = false; stats = false })
 
 -- no visitors, and so
 abbrev pub alone : Bool → Option ℕ → Option Options
-alone plain make = Some (record { visitors = 0; plain = plain; make = make; snapshot = false })
+alone plain make = Some (record { visitors = 0; plain = plain; make = make; snapshot = false; stats = false })
 
 -- so many visitors, and a snapshot
 abbrev pub shown : ℕ → Option Options
-shown visitors = Some (record { visitors = visitors; plain = false; make = None; snapshot = true })
+shown visitors = Some (record { visitors = visitors; plain = false; make = None; snapshot = true; stats = false })
+
+-- so many visitors, lines of cycles, and a snapshot or none
+abbrev pub counted : ℕ → Bool → Option Options
+counted visitors snapshot =
+    Some (record { visitors = visitors; plain = false; make = None; snapshot = snapshot; stats = true })
 
 -- what some command lines ask for
 pub record Asked : Type 0 where
@@ -37,6 +42,9 @@ pub record Asked : Type 0 where
   pub end_of_options : after_name (codes "--plain" ∷ codes "--" ∷ []) ≡ alone true None
   pub snapshot : after_name (codes "--snapshot" ∷ []) ≡ shown 0
   pub snapshot_beside_visitors : after_name (codes "--snapshot" ∷ codes "--visitors" ∷ codes "2" ∷ []) ≡ shown 2
+  pub stats : after_name (codes "--stats" ∷ []) ≡ counted 0 false
+  pub stats_beside_visitors : after_name (codes "--visitors" ∷ codes "2" ∷ codes "--stats" ∷ []) ≡ counted 2 false
+  pub stats_and_snapshot : after_name (codes "--stats" ∷ codes "--snapshot" ∷ []) ≡ counted 0 true
 
 -- each kind of mistake
 pub record Mistaken : Type 0 where
@@ -61,3 +69,8 @@ pub record Mistaken : Type 0 where
   pub snapshot_of_made : after_name (codes "--snapshot" ∷ codes "--make" ∷ codes "7" ∷ []) ≡ None
   pub snapshot_twice : after_name (codes "--snapshot" ∷ codes "--snapshot" ∷ []) ≡ None
   pub snapshot_with_value : after_name (codes "--snapshot=1" ∷ []) ≡ None
+  pub stats_of_plain : after_name (codes "--stats" ∷ codes "--plain" ∷ []) ≡ None
+  pub stats_of_made : after_name (codes "--make" ∷ codes "7" ∷ codes "--stats" ∷ []) ≡ None
+  pub stats_twice : after_name (codes "--stats" ∷ codes "--stats" ∷ []) ≡ None
+  pub stats_with_value : after_name (codes "--stats=1" ∷ []) ≡ None
+  pub stats_abbreviated : after_name (codes "--stat" ∷ []) ≡ None

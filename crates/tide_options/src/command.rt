@@ -21,7 +21,7 @@ fn flag<'a>(alloc: Global, name: &'a str) -> Arg<'a>
     Arg::new(alloc, name).long(name).action(ArgAction::SetTrue)
 }
 
-/// The command `riptide`: two options that take a number, and two flags. A word that asks for help is one it doesn't
+/// The command `riptide`: two options that take a number, and three flags. A word that asks for help is one it doesn't
 /// know.
 pub fn command<'a>(alloc: Global) -> Result<Command<'a>, AllocError>
     ensures { IfOk result (λ made. app_of made ≡ command) }
@@ -31,5 +31,6 @@ pub fn command<'a>(alloc: Global) -> Result<Command<'a>, AllocError>
         .arg(number_option(alloc, "visitors"))?
         .arg(flag(alloc, "plain"))?
         .arg(number_option(alloc, "make"))?
-        .arg(flag(alloc, "snapshot"))
+        .arg(flag(alloc, "snapshot"))?
+        .arg(flag(alloc, "stats"))
 }

@@ -23,6 +23,8 @@ pub struct Options {
     pub make: Option<u64>,
     /// Whether a line of each cell that lives at the end is printed behind the text.
     pub snapshot: bool,
+    /// Whether a line of each cycle that ended is printed behind the text.
+    pub stats: bool,
 }
 
 /// Why words give no options.
@@ -58,8 +60,9 @@ fn is_set(matches: &ArgMatches, name: &str) -> bool
     matches.get_one::<bool>(name).unwrap_or(false)
 }
 
-/// The options that matches give. A plain run has no visitors, so it isn't asked for their number. A snapshot is of a
-/// heap that threads shared, and behind a text, so it isn't asked of a plain run nor of a generated workload.
+/// The options that matches give. A plain run has no visitors, so it isn't asked for their number. A snapshot and the
+/// lines of cycles are of a heap that threads shared, and behind a text, so they aren't asked of a plain run nor of a
+/// generated workload.
 fn options_in(matches: &ArgMatches) -> Option<Options>
     ensures { result ≡ options_in (rows_of (found_of matches.now)) }
 {
@@ -67,10 +70,11 @@ fn options_in(matches: &ArgMatches) -> Option<Options>
     let plain = is_set(matches, "plain");
     let make = number_at(matches, "make");
     let snapshot = is_set(matches, "snapshot");
+    let stats = is_set(matches, "stats");
     if plain && visitors.is_some() {
         return None;
     }
-    if snapshot && (plain || make.is_some()) {
+    if (snapshot || stats) && (plain || make.is_some()) {
         return None;
     }
     let visitors = visitors.unwrap_or(0);
@@ -82,6 +86,7 @@ fn options_in(matches: &ArgMatches) -> Option<Options>
         plain,
         make,
         snapshot,
+        stats,
     })
 }
 
@@ -102,6 +107,7 @@ pub fn options_of(alloc: Global, words: &[String]) -> Result<Options, Refused>
     ensures refused { IfErr result (λ why. why ≢ Refused.Memory → asked_by words.now ≡ None) }
     ensures few { IfOk result (λ options. options.visitors ≤ 8) }
     ensures shared { IfOk result (λ options. options.plain ≡ true → options.snapshot ≡ false) }
+    ensures uncounted { IfOk result (λ options. options.plain ≡ true → options.stats ≡ false) }
 {
     let matches = match command(alloc)?.try_get_matches_from(words) {
         Ok(matches) => matches,

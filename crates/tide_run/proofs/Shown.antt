@@ -1,5 +1,5 @@
--- What is printed of a run with its snapshot is what was asked for.
-use Rattle.std.proofs.Common.{ℕ, ◌≡◌, ◌∙◌, sym, ap, subst, Bool, true, false, List, ◌++◌, Option, None, Some}
+-- What is printed of a run, with what stands behind its text, is what was asked for.
+use Rattle.std.proofs.Common.{ℕ, ◌≡◌, ◌∙◌, sym, subst, Bool, true, false, List, ◌++◌, Option, None, Some}
 use Rattle.std.specs.Prelude.{IfSome}
 use Rattle.tide_model.specs.History.{state_after}
 use Rattle.tide_model.specs.Refused.{ShapeLists}
@@ -8,7 +8,7 @@ use Rattle.tide_retained.specs.declared.contents.Contents.{Contents}
 use Rattle.tide_retained.specs.Contents.{HasKeysOf}
 use Rattle.tide_snapshot.specs.Line.{AreLines}
 use Rattle.tide_run.specs.declared.asking.Printable.{Printable}
-use Rattle.tide_run.specs.Asked.{AreLinesOf, IsPrintedOf, IsShownOf, asks_for_snapshot, printed_of, printed_with}
+use Rattle.tide_run.specs.Asked.{AreLinesOf, IsPrintedOf, IsShownOf, asks_for_snapshot, asks_for_stats, printed_of, printed_with, statistics_of}
 use Rattle.tide_run.specs.Printing.{AreShownLines, IsPrintedWith}
 use Rattle.tide_run.specs.Runs.{Ran}
 
@@ -30,10 +30,10 @@ keys_shown false shapes ran (Some snapshot) is = absurd (cc)
 
 -- so what is printed is what was asked for
 pub printed_is_asked : (asked : Option Options) (shapes : ShapeLists) (done : Printable) (text : List ℕ) → done.outcome.keys ≡ done.load.keys →
-    printed_with done.counts done.outcome ≡ printed_of asked done.outcome → IsShownOf (asks_for_snapshot asked) shapes done.outcome done.snapshot → IsPrintedWith done text →
+    printed_with done.counts done.outcome ≡ printed_of asked done.outcome → done.stats ≡ asks_for_stats asked → IsShownOf (asks_for_snapshot asked) shapes done.outcome done.snapshot → IsPrintedWith done text →
     IsPrintedOf asked done.outcome text
-printed_is_asked asked shapes done text same prints is with = record {
+printed_is_asked asked shapes done text same prints stats is with = record {
   lines = with.lines;
   are = lines_of (asks_for_snapshot asked) shapes done.outcome done.load.keys done.snapshot with.lines same is with.are;
-  is = with.is ∙ ap (λ (l : List ℕ). l ++ with.lines) prints;
+  is = with.is ∙ (λ i. prints i ++ (statistics_of (stats i) done.outcome ++ with.lines));
 }

@@ -1,5 +1,6 @@
 -- What the words of a command line ask for, and what that comes to.
 use Rattle.std.specs.Prelude.{ℕ, ◌≡◌, Bool, true, false, List, [], ◌++◌, Option, Some, None, is_some, if◌then◌else◌}
+use Rattle.std.specs.List.{flat_map}
 use Rattle.std.specs.Option.{option_map_or}
 use Rattle.std.specs.Io.KnownBytes.{Appends, Keeps}
 use Rattle.tide_io.specs.Faults.{AppendsPart}
@@ -12,7 +13,9 @@ use Rattle.tide_retained.specs.declared.contents.Contents.{Contents}
 use Rattle.tide_retained.specs.Contents.{HasKeysOf}
 use Rattle.tide_retained.specs.Holding.{IsSnapshotOf}
 use Rattle.tide_snapshot.specs.Line.{AreLines}
-use Rattle.tide_workload.specs.Words.{Counts, Work, summary_of, summary_text, text_of}
+use Rattle.tide_threads.specs.tide_statistics.Statistics.{statistics_in}
+use Rattle.tide_threads.specs.tide_statistics.declared.log.CycleStatistics.{CycleStatistics}
+use Rattle.tide_workload.specs.Words.{Counts, Work, statistics_line, summary_of, summary_text, text_of}
 use Rattle.tide_run.specs.Program.{ReadWork}
 use Rattle.tide_run.specs.Runs.{IsRunOf, Ran, setting_of_work}
 
@@ -73,12 +76,27 @@ abbrev pub AreLinesOf : Bool → Ran → List ℕ → Type 0
 AreLinesOf true ran lines = AreLines ran.layout ran.keys (state_after ran.layout ran.history) lines
 AreLinesOf false ran lines = lines ≡ []
 
--- The text is what is printed of a run that options asked for: its summary or its text, and then the line of each cell
--- that lives at its end, where a snapshot is asked for. Of the paths of the fewest steps to a cell any will do.
+-- the options ask for a line of each cycle
+abbrev pub asks_for_stats : Option Options → Bool
+asks_for_stats asked = option_map_or (λ options. options.stats) asked false
+
+-- the line of a cycle behind a text
+abbrev pub told_line : CycleStatistics → List ℕ
+told_line told =
+    statistics_line told.number told.full told.freezes told.before told.marking told.paused told.visited
+
+-- the line of each cycle of a run where these are wanted, and else none
+abbrev pub statistics_of : Bool → Ran → List ℕ
+statistics_of true ran = flat_map told_line (statistics_in ran.history)
+statistics_of false ran = []
+
+-- The text is what is printed of a run that options asked for: its summary or its text, then a line of each cycle that
+-- ended, where these are asked for, and then the line of each cell that lives at its end, where a snapshot is asked for.
+-- Of the paths of the fewest steps to a cell any will do.
 pub record IsPrintedOf (asked : Option Options) (ran : Ran) (text : List ℕ) : Type 0 where
   pub lines : List ℕ
   pub are : AreLinesOf (asks_for_snapshot asked) ran lines
-  pub is : text ≡ printed_of asked ran ++ lines
+  pub is : text ≡ printed_of asked ran ++ (statistics_of (asks_for_stats asked) ran ++ lines)
 
 -- all that the run prints was printed
 abbrev pub Prints : Option Options → Option (List ℕ) → Option (List ℕ) → Ran → Type 0

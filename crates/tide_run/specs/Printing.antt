@@ -6,7 +6,7 @@ use Rattle.tide_retained.specs.declared.contents.Contents.{Contents}
 use Rattle.tide_snapshot.specs.Line.{AreLinesIn}
 use Rattle.tide_workload.specs.Words.{call_line, cycle_line}
 use Rattle.tide_run.specs.declared.asking.Printable.{Printable}
-use Rattle.tide_run.specs.Asked.{printed_with}
+use Rattle.tide_run.specs.Asked.{printed_with, statistics_of}
 
 -- the line of a call, under the names of the property keys
 abbrev pub answered_line : List (List ℕ) → Answered → List ℕ
@@ -21,9 +21,9 @@ abbrev pub AreShownLines : List (List ℕ) → Option Contents → List ℕ → 
 AreShownLines names (Some snapshot) lines = AreLinesIn snapshot names lines
 AreShownLines names None lines = lines ≡ []
 
--- the text is what is printed of a run: its summary where there are counts of it, and else its text, and behind it the
--- lines of a snapshot
+-- the text is what is printed of a run: its summary where there are counts of it, and else its text, and behind it a
+-- line of each cycle, where these are wanted, and the lines of a snapshot
 pub record IsPrintedWith (done : Printable) (text : List ℕ) : Type 0 where
   pub lines : List ℕ
   pub are : AreShownLines done.load.keys done.snapshot lines
-  pub is : text ≡ printed_with done.counts done.outcome ++ lines
+  pub is : text ≡ printed_with done.counts done.outcome ++ (statistics_of done.stats done.outcome ++ lines)

@@ -51,7 +51,7 @@ stop_status Memory = 6
 
 -- the line of a program that ran nothing
 abbrev pub stop_line : Stop → List ℕ
-stop_line Usage = codes "riptide: usage: riptide [--visitors N] [--plain] [--make N] [--snapshot]\n"
+stop_line Usage = codes "riptide: usage: riptide [--visitors N] [--plain] [--make N] [--snapshot] [--stats]\n"
 stop_line ReadFault = codes "riptide: read fault\n"
 stop_line (BadInput fault) = fault_line fault
 stop_line Memory = codes "riptide: no memory\n"
@@ -60,7 +60,7 @@ stop_line Memory = codes "riptide: no memory\n"
 -- fault
 abbrev pub status_line : ℕ → List ℕ
 status_line status =
-    if status == 2 then codes "riptide: usage: riptide [--visitors N] [--plain] [--make N] [--snapshot]\n"
+    if status == 2 then codes "riptide: usage: riptide [--visitors N] [--plain] [--make N] [--snapshot] [--stats]\n"
     else if status == 4 then codes "riptide: read fault\n"
     else if status == 5 then codes "riptide: write fault\n"
     else codes "riptide: no memory\n"

@@ -5,7 +5,7 @@ ghost use Rattle.tide_io.specs.Faults.{Rose};
 ghost use Rattle.tide_options.specs.Options.{asked_by};
 ghost use Rattle.tide_shape.specs.Shapes.{shapes_of_paths};
 ghost use Rattle.tide_workload.specs.Words.{Fault as FaultValue};
-ghost use Rattle.tide_run.specs.Asked.{AsksToRead, IsAskedFor, IsShownOf, RanAsked, asks_for_made, asks_for_snapshot, printed_as, printed_of, printed_with, setting_for, trigger_for, visitors_for};
+ghost use Rattle.tide_run.specs.Asked.{AsksToRead, IsAskedFor, IsShownOf, RanAsked, asks_for_made, asks_for_snapshot, asks_for_stats, printed_as, printed_of, printed_with, setting_for, trigger_for, visitors_for};
 ghost use Rattle.tide_run.specs.Program.{ReadWork, RefusedInput};
 ghost use Rattle.tide_run.specs.Runs.{IsRunOf, setting_of_work};
 
@@ -22,14 +22,16 @@ use tide_options::{Options, Refused, options_of};
 use tide_snapshot::Snapshot;
 use tide_workload::{Counts, Fault, MAX_BYTES, Workload, read};
 
-/// A run, and what is to be printed of it: the counts of its calls, or the text of them where there are no counts, and
-/// the lines of a snapshot where there is one.
+/// A run, and what is to be printed of it: the counts of its calls, or the text of them where there are no counts; then
+/// a line of each cycle where those are wanted, and the lines of a snapshot where there is one.
 #[derive(Drop)]
 pub struct Printable {
     pub load: Workload,
     pub outcome: Outcome,
     pub counts: Option<Counts>,
+    pub stats: bool,
     pub snapshot: Option<Snapshot>,
+    ghost on_heap: { stats ≡ true → is_some outcome.heap ≡ true },
 }
 
 /// The options that words ask for.
@@ -39,6 +41,7 @@ fn asked_options(alloc: Global, words: &[String]) -> Result<Options, Stop>
     ensures others { IfErr result (λ stop. (stop ≡ Stop.Usage) ⊎ (stop ≡ Stop.Memory)) }
     ensures few { IfOk result (λ options. options.visitors ≤ 8) }
     ensures shared { IfOk result (λ options. options.plain ≡ true → options.snapshot ≡ false) }
+    ensures uncounted { IfOk result (λ options. options.plain ≡ true → options.stats ≡ false) }
 {
     match options_of(alloc, words) {
         Ok(options) => Ok(options),
@@ -165,12 +168,14 @@ fn attempt_with<R: Threads + Sync, S: Source, T: Turnstile>(
 ) -> Result<Printable, Stop>
     requires few { options.visitors ≤ 8 }
     requires shared { options.plain ≡ true → options.snapshot ≡ false }
+    requires uncounted { options.plain ≡ true → options.stats ≡ false }
     ensures ran { IfOk result (λ done. RanAsked (Some options) (S.left source.old) (S.left source.new) done.outcome) }
     ensures keys { IfOk result (λ done. done.outcome.keys ≡ done.load.keys) }
     ensures prints { IfOk result (λ done.
         printed_with done.counts done.outcome ≡ printed_of (Some options) done.outcome) }
     ensures shown { IfOk result (λ done.
         IsShownOf options.snapshot (shapes_of_paths done.load.paths) done.outcome done.snapshot) }
+    ensures stats { IfOk result (λ done. done.stats ≡ options.stats) }
     ensures usage { result ≢ Err Stop.Usage }
     ensures unread { is_some options.make ≡ true → Keeps (S.left source.old) (S.left source.new) }
     ensures read_fault { result ≡ Err Stop.ReadFault →
@@ -189,6 +194,7 @@ fn attempt_with<R: Threads + Sync, S: Source, T: Turnstile>(
             load,
             outcome,
             counts,
+            stats: options.stats,
             snapshot,
         }),
         Err(Memory) => Err(Stop::Memory),
@@ -211,6 +217,7 @@ pub fn attempt<R: Threads + Sync, S: Source, T: Turnstile>(
         printed_with done.counts done.outcome ≡ printed_of (asked_by words.now) done.outcome) }
     ensures shown { IfOk result (λ done. IsShownOf (asks_for_snapshot (asked_by words.now))
         (shapes_of_paths done.load.paths) done.outcome done.snapshot) }
+    ensures stats { IfOk result (λ done. done.stats ≡ asks_for_stats (asked_by words.now)) }
     ensures usage { result ≡ Err Stop.Usage → asked_by words.now ≡ None }
     ensures words { IfErr result (λ stop. asked_by words.now ≡ None → (stop ≡ Stop.Usage) ⊎ (stop ≡ Stop.Memory)) }
     ensures unread { result ≡ Err Stop.Usage → Keeps (S.left source.old) (S.left source.new) }

@@ -7,7 +7,7 @@ ghost use Rattle.tide_retained.specs.Contents.{HasKeysOf};
 ghost use Rattle.tide_shape.specs.Shapes.{shapes_of_paths};
 ghost use Rattle.tide_workload.specs.Words.{HasText, cycles_from, mutator_text, mutators_text, text_of};
 ghost use Rattle.tide_model.specs.State.{empty_state};
-ghost use Rattle.tide_run.specs.Asked.{printed_with};
+ghost use Rattle.tide_run.specs.Asked.{printed_with, statistics_of, told_line};
 ghost use Rattle.tide_run.specs.Printing.{answered_line, reported_line, AreShownLines, IsPrintedWith};
 
 use crate::asking::Printable;
@@ -15,7 +15,10 @@ use crate::running::Outcome;
 use tide_io::{Failed, Sink};
 use tide_periods::Answered;
 use tide_report::{CycleLine, Report};
-use tide_workload::{Workload, write_call, write_cycle, write_live, write_mutator, write_summary};
+use tide_threads::CycleStatistics;
+use tide_workload::{
+    Workload, write_call, write_cycle, write_live, write_mutator, write_statistics, write_summary,
+};
 
 /// Writes the line of each call.
 fn write_calls<K: Sink>(out: &mut K, load: &Workload, calls: &[Answered]) -> Result<(), Failed>
@@ -132,6 +135,42 @@ fn write_run<K: Sink>(out: &mut K, done: &Printable) -> Result<(), Failed>
     }
 }
 
+/// Writes a line of each cycle.
+fn write_told<K: Sink>(out: &mut K, told: &[CycleStatistics]) -> Result<(), Failed>
+    ensures whole { OnOk result (Appends (K.held out.old) (K.held out.new) (flat_map told_line told.now)) }
+    ensures part { OnErr result (AppendsPart (K.held out.old) (K.held out.new) (flat_map told_line told.now)) }
+    ensures cause { HasCause (K.faults out.old) (K.faults out.new) result }
+{
+    for cycle in told {
+        write_statistics(
+            out,
+            cycle.number,
+            cycle.full,
+            cycle.freezes,
+            cycle.before,
+            cycle.marking,
+            cycle.paused,
+            cycle.visited,
+        )?;
+    }
+    Ok(())
+}
+
+/// Writes a line of each cycle, where these are wanted.
+fn write_told_of<K: Sink>(out: &mut K, done: &Printable) -> Result<(), Failed>
+    ensures whole { OnOk result (Appends (K.held out.old) (K.held out.new)
+        (statistics_of done.now.stats done.now.outcome)) }
+    ensures part { OnErr result (AppendsPart (K.held out.old) (K.held out.new)
+        (statistics_of done.now.stats done.now.outcome)) }
+    ensures cause { HasCause (K.faults out.old) (K.faults out.new) result }
+{
+    if done.stats {
+        write_told(out, done.outcome.statistics())
+    } else {
+        Ok(())
+    }
+}
+
 /// Writes the lines of a snapshot, where there is one.
 fn write_snapshot<K: Sink>(out: &mut K, done: &Printable) -> Result<(), Failed>
     requires shapes { IfSome done.now.snapshot (HasKeysOf (shapes_of_paths done.now.load.paths)) }
@@ -171,6 +210,7 @@ pub fn print_run<K: Sink>(out: &mut K, done: &Printable) -> Result<(), Failed>
     // where the text fails, it is a part of it with its lines
     has_lines(done);
     write_run(out, done)?;
+    write_told_of(out, done)?;
     write_snapshot(out, done)?;
     out.flush()
 }

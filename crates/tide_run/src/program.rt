@@ -67,8 +67,8 @@ fn print<K: Sink, E: Sink>(out: &mut K, err: &mut E, done: Printable) -> Ended
 /// `words` are those of the command line, of which the first is the program's name. A workload is read from `source`,
 /// run on the store that the words ask for, on no more than so many threads, and the text of the run is printed to
 /// `out`. Where the words ask for the generated workload of a number, nothing is read, and a summary is printed in
-/// place of the text; where they ask for a snapshot, a line of each cell that lives at the end follows the text. Where
-/// one of these fails, a line on `err` says why.
+/// place of the text; where they ask for lines of cycles, a line of each that ended follows the text, and where they ask
+/// for a snapshot, a line of each cell that lives at the end. Where one of these fails, a line on `err` says why.
 pub fn riptide<R: Threads + Sync, S: Source, K: Sink, E: Sink, T: Turnstile>(
     rt: &R,
     threads: usize,

@@ -35,7 +35,7 @@ impl Stop {
         match self {
             Stop::Usage => tell(
                 err,
-                "riptide: usage: riptide [--visitors N] [--plain] [--make N] [--snapshot]\n",
+                "riptide: usage: riptide [--visitors N] [--plain] [--make N] [--snapshot] [--stats]\n",
             ),
             Stop::ReadFault => tell(err, "riptide: read fault\n"),
             Stop::BadInput { fault } => {

@@ -1,4 +1,5 @@
 -- The lemmas of this crate.
+pub mod FewLaws
 pub mod FreezeLaws
 pub mod LogLaws
 pub mod ToldLaws

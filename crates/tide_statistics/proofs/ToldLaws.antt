@@ -56,7 +56,7 @@ fold_more n (v ∷ visits) =
     let right = fold_more (0 + v) visits in
     omega (arith, left, right)
 
-sum_cons : (v : ℕ) (visits : List ℕ) → sum (v ∷ visits) ≡ v + sum visits
+pub sum_cons : (v : ℕ) (visits : List ℕ) → sum (v ∷ visits) ≡ v + sum visits
 sum_cons v visits = fold_more (0 + v) visits ∙ ap (λ (m : ℕ). m + fold ◌+◌ 0 visits) (zero-add v)
 
 -- what visitors made black is added up

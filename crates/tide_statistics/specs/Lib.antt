@@ -1,4 +1,5 @@
 -- The definitions of this crate.
+pub mod Few
 pub mod Rows
 pub mod Statistics
 pub mod Told

@@ -3,7 +3,7 @@
 //!
 //! It is plain data: it may touch `tide_model`, and knows no store, no word and no text. Whoever enters the events of a
 //! history tells a `CycleLog` of each part that opens, of each cycle that begins and ends, and of what is made black.
-//! That the log then has what the history says is `HasLogged` of specs/Statistics.antt. Nobody stands on it yet.
+//! That the log then has what the history says is `HasLogged` of specs/Statistics.antt. `tide_threads` keeps one of a run.
 #![tactic(auto)]
 
 mod log;

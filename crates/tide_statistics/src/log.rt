@@ -12,7 +12,7 @@ pub struct CycleStatistics {
     /// Whether it was a full one, and no Eden cycle.
     pub full: bool,
     /// How many freezes it went through, from the one in which it began to the one in which it ended.
-    pub freezes: u32,
+    pub freezes: u64,
     /// How many cells were born since the end before it until it began.
     pub before: u32,
     /// How many cells were born while it marked.
@@ -30,7 +30,7 @@ pub struct CycleLog {
     begun: u64,
     full: bool,
     /// How many parts were opened since it began.
-    parts: u32,
+    parts: u64,
     before: u32,
     paused: u64,
     visited: u64,
@@ -72,7 +72,7 @@ impl CycleLog {
 
     /// A part was opened.
     pub fn open(&mut self)
-        requires few { self.old.parts < 2 ^ 32 - 1 }
+        requires few { self.old.parts < 2 ^ 64 - 1 }
         ensures { self.new ≡ record self.old { parts = self.old.parts + 1 } }
     {
         self.parts += 1;
@@ -116,7 +116,7 @@ impl CycleLog {
 
     /// The cycle that began last ended, once so many cells were born in it.
     pub fn end(&mut self, born: u32) -> Result<(), Memory>
-        requires few { self.old.parts < 2 ^ 32 - 1 }
+        requires few { self.old.parts < 2 ^ 64 - 1 }
         ensures { OnOk result (self.new ≡ record self.old { ended = self.old.ended ++ told_by self.old born ∷ [] }) }
     {
         let told = CycleStatistics {
@@ -130,6 +130,13 @@ impl CycleLog {
         };
         self.ended.push(told)?;
         Ok(())
+    }
+
+    /// How many cycles began.
+    pub fn begun(&self) -> u64
+        ensures { result ≡ self.now.begun }
+    {
+        self.begun
     }
 
     /// The cycles that ended, in order.

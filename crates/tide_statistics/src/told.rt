@@ -29,7 +29,7 @@ pub struct FreezeTold {
 /// Tells a log of a pause, and of the end behind it, if its cycle ended once so many cells were born in it.
 fn tell_pause(log: &mut CycleLog, told: PauseTold, born: u32) -> Result<(), Memory>
     requires few { log.old.paused + told.visits < 2 ^ 64 }
-    requires parts { log.old.parts < 2 ^ 32 - 1 }
+    requires parts { log.old.parts < 2 ^ 64 - 1 }
     ensures { OnOk result (log.new ≡ with_pause log.old told born) }
 {
     log.pause(told.visits);
@@ -42,7 +42,7 @@ fn tell_pause(log: &mut CycleLog, told: PauseTold, born: u32) -> Result<(), Memo
 /// Tells a log how the cycle that marked went on, if one did.
 fn tell_on(log: &mut CycleLog, told: Option<PauseTold>, in_cycle: u32) -> Result<(), Memory>
     requires few { log.old.paused + 2 ^ 32 ≤ 2 ^ 64 }
-    requires parts { log.old.parts < 2 ^ 32 - 1 }
+    requires parts { log.old.parts < 2 ^ 64 - 1 }
     ensures { OnOk result (log.new ≡ with_on log.old told in_cycle) }
 {
     match told {
@@ -87,7 +87,7 @@ pub fn tell_freeze(
     requires visited { log.old.visited + visited < 2 ^ 64 }
     requires paused { log.old.paused + 2 ^ 32 ≤ 2 ^ 64 }
     requires begun { log.old.begun < 2 ^ 64 - 1 }
-    requires parts { log.old.parts < 2 ^ 32 - 1 }
+    requires parts { log.old.parts < 2 ^ 64 - 1 }
     ensures { OnOk result (log.new ≡ with_freeze log.old visited told since_end in_cycle) }
 {
     log.visit(visited);

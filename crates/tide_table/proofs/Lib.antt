@@ -1,4 +1,5 @@
 pub mod Tallies
+pub mod Pauses
 pub mod FrozenWords
 pub mod Heeding
 pub mod Spans

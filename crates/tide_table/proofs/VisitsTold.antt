@@ -1,10 +1,12 @@
 -- How what the notes of visitors tell grows, note by note.
-use Rattle.std.proofs.Common.{ℕ, zero, suc, ◌≡◌, ◌<◌, ◌≤◌, ◌+◌, ◌∙◌, refl, sym, ap, arith, Bool, true, List, [], ◌∷◌, inl, inr}
+use Rattle.std.proofs.Common.{ℕ, zero, suc, ◌≡◌, ◌<◌, ◌≤◌, ◌+◌, ◌∙◌, refl, sym, subst, ap, arith, Bool, true, List, [], ◌∷◌, inl, inr}
 use Rattle.std.proofs.lemmas.Bool.{cases_eq, eq-eqb, ne_eqb}
-use Rattle.std.specs.Prelude.{Some, None, if◌then◌else◌}
+use Rattle.std.proofs.lemmas.List.Elements.{All-head, All-tail}
+use Rattle.std.specs.Prelude.{◌*◌, ◌^◌, All, Some, None, if◌then◌else◌, slice_index}
 use Rattle.tide_heap.specs.tide_core.machine.World.{first_visitor}
 use Rattle.tide_heap.specs.tide_core.declared.machine.view.NotedVisits.{NotedVisits}
-use Rattle.tide_table.specs.VisitsTold.{HaveTold, told_by, visits_in, visits_left}
+use Rattle.tide_model.specs.Layout.{Layout}
+use Rattle.tide_table.specs.VisitsTold.{AreNumbersTold, AreTold, HaveTold, told_by, visits_in, visits_left, visits_told}
 
 -- so many visitors told, the first ones, and the others nothing yet
 pub record HasTold (most count : ℕ) (visited : List NotedVisits) : Type 0 where
@@ -29,7 +31,7 @@ visits_left-other told visited from (suc count) apart =
     let rest = visits_left-other told visited (from + 1) count (λ visitor below. apart visitor (omega (arith, below))) in
     omega (arith, here, rest)
 
-visits_left-more : (visited : List NotedVisits) (from count : ℕ) → visits_left visited from (suc count)
+pub visits_left-more : (visited : List NotedVisits) (from count : ℕ) → visits_left visited from (suc count)
     ≡ visits_left visited from count + visits_in (told_by (first_visitor + (from + count)) visited)
 visits_left-more visited from zero =
     let same : from + 0 ≡ from = omega arith in
@@ -100,3 +102,47 @@ HasTold-visitor most count k told visited is few has = record {
   where
     plain : first_visitor + count ≡ first_visitor + (0 + count)
     plain = omega arith
+
+-- each visitor told no more visits than the most that one of them told
+each_most : (visited : List NotedVisits) (most from count : ℕ) → All (λ k. k ≤ most) (visits_told visited from count) →
+    (i : ℕ) → i < count → visits_in (told_by (first_visitor + (from + i)) visited) ≤ most
+each_most visited most from zero all i below = absurd (omega (arith, below))
+each_most visited most from (suc count) all zero below =
+    let same : from ≡ from + 0 = omega arith in
+    subst (λ (n : ℕ). visits_in (told_by (first_visitor + n) visited) ≤ most) same
+    (All-head (λ k. k ≤ most) (visits_in (told_by (first_visitor + from) visited)) (visits_told visited (from + 1) count) all)
+each_most visited most from (suc count) all (suc i) below =
+    let same : from + 1 + i ≡ from + suc i = omega arith in
+    subst (λ (n : ℕ). visits_in (told_by (first_visitor + n) visited) ≤ most) same
+    (each_most visited most (from + 1) count
+    (All-tail (λ k. k ≤ most) (visits_in (told_by (first_visitor + from) visited)) (visits_told visited (from + 1) count) all)
+    i (omega (arith, below)))
+
+-- so that the first ones, of at most 2^16 each, told so many together at most
+pub visits_left-most : (visited : List NotedVisits) (most count n : ℕ) → most ≤ 2 ^ 16 → n ≤ count →
+    All (λ k. k ≤ most) (visits_told visited 0 count) → visits_left visited 0 n ≤ n * 2 ^ 16
+visits_left-most visited most count zero few within all = omega arith
+visits_left-most visited most count (suc n) few within all =
+    let before = visits_left-most visited most count n few (omega (arith, within)) all in
+    let more = visits_left-more visited 0 n in
+    let here = each_most visited most 0 count all n (omega (arith, within)) in
+    omega (arith, before, more, here, few)
+
+-- one more visitor's number is what its note told
+pub visits_left-next : (layout : Layout) (run : ℕ) (visited : List NotedVisits) (numbers : List ℕ) (n : ℕ) → AreTold layout run visited →
+    AreNumbersTold numbers visited → layout.visitors ≤ 8 → n < layout.visitors →
+    visits_left visited 0 (n + 1) ≡ visits_left visited 0 n + slice_index numbers n
+visits_left-next layout run visited numbers n are numbered few below =
+    let (k, told) = are.each n below in
+    let more = visits_left-more visited 0 n in
+    let number = numbered n (record { who = first_visitor + n; visits = k; done = true }) (omega (arith, few, below)) told in
+    let here = ap visits_in told in
+    let count = ap (visits_left visited 0) (one_more n) in
+    let same = ap (λ (m : ℕ). visits_in (told_by (first_visitor + m) visited)) (none_more n) in
+    omega (arith, more, number, here, count, same)
+  where
+    one_more : (m : ℕ) → m + 1 ≡ suc m
+    one_more m = omega arith
+
+    none_more : (m : ℕ) → 0 + m ≡ m
+    none_more m = omega arith

@@ -1,5 +1,6 @@
 pub mod Blacks
 pub mod Openings
+pub mod Pauses
 pub mod Plays
 pub mod Shown
 pub mod Standing

@@ -13,6 +13,7 @@ mod zeros;
 mod collector;
 // these stand on those listed before
 mod closed;
+mod figures;
 mod frozen;
 mod opening;
 mod start;

@@ -55,6 +55,7 @@ impl<S: ShapeTable + Drop> Start<S> {
             base: 0,
             born: 0,
             visits: [0; 8],
+            pauses: (0, 0),
         };
         collector.fill(&heap, Region::Base, 1, 1);
         collector.fill(&heap, Region::Active, mutators, 1);

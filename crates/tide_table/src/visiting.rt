@@ -5,6 +5,7 @@ ghost use Rattle.tide_model.specs.Lawful.{Stands};
 ghost use Rattle.tide_heap.specs.tide_core.machine.World.{first_visitor};
 ghost use Rattle.tide_heap.specs.Turns.{visits_entered, visits_over};
 ghost use Rattle.tide_table.specs.Blacks.{BlacksStay};
+ghost use Rattle.tide_table.specs.Pauses.{is_pause};
 ghost use Rattle.tide_heap.specs.tide_words.heap.Heap.{heap_of};
 ghost use Rattle.tide_heap.specs.tide_words.heap.Reading.{ReadsAs};
 
@@ -26,6 +27,7 @@ impl Collector {
         requires stands { Stands heap.now.key.layout (S.lists heap.now.key.shapes) self.old.seat.me.0.seen J.event }
         requires no_call { (p : ℕ) → is_call_of p J.event.entry ≡ false }
         requires no_open { is_open J.event.entry ≡ false }
+        requires no_pause { is_pause J.event.entry ≡ false }
         ensures same { (self.new.seat.table_id ≡ self.old.seat.table_id) × (self.new.seat.id ≡ self.old.seat.id) }
         ensures entered { self.new.seat.me.0 ≡ visits_over J.number J.event self.old.seat.me.0 }
     {

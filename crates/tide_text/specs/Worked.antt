@@ -1,5 +1,5 @@
 -- Lines of real runs, to which the definitions compute.
-use Rattle.std.specs.Prelude.{◌≡◌, ℕ, true, List, [], ◌∷◌, codes}
+use Rattle.std.specs.Prelude.{◌≡◌, ℕ, false, true, List, [], ◌∷◌, codes}
 use Rattle.tide_model.specs.declared.op.Op.TheVariants.{Alloc, Table, Get, Put, Move, Set, Drop, Claim, Release, Unclaim, Add, GetProp, SetProp, StrongSet, StrongGet, WeakSet, WeakGet, PairSet, PairGet, PairDel, Group, Collect, Retire}
 use Rattle.tide_model.specs.declared.op.Refusal.TheVariants.{NotCell, IsTable, NotTable, NoSlot, Held, NotHeld, Present, Absent, NoShape, PairsFull, ClaimsFull, Full}
 use Rattle.tide_model.specs.declared.op.Reply.TheVariants.{Done, Born, Seen, Asked, Refused}
@@ -10,7 +10,7 @@ use Rattle.tide_model.specs.declared.entry.Entry.TheVariants.{Call, Begin, Pause
 use Rattle.tide_model.specs.History.{plain}
 use Rattle.tide_model.specs.Rows.{small}
 use Rattle.tide_text.specs.lines.FaultLine.{fault_line}
-use Rattle.tide_text.specs.lines.Line.{call_line, cycle_line, live_line, mutator_line, refusal_text}
+use Rattle.tide_text.specs.lines.Line.{call_line, cycle_line, live_line, mutator_line, refusal_text, statistics_line}
 use Rattle.tide_text.specs.declared.counts.Counts.{Counts}
 use Rattle.tide_text.specs.Summary.{counts_with, summary_of, summary_text}
 
@@ -72,6 +72,8 @@ WorkedFrame =
     × (cycle_line 2 0 (0 ∷ []) ≡ codes "cycle 2 kept 0 freed 1: #0\n")
     × (cycle_line 2 0 (0 ∷ 1 ∷ 2 ∷ 64 ∷ []) ≡ codes "cycle 2 kept 0 freed 4: #0 #1 #2 #64\n")
     × (live_line 0 ≡ codes "live 0\n")
+    × (statistics_line 1 false 3 6 2 9 4 ≡ codes "stats 1 Eden freezes 3 born 6 marking 2 paused 9 visited 4\n")
+    × (statistics_line 4 true 1 0 0 17 0 ≡ codes "stats 4 full freezes 1 born 0 marking 0 paused 17 visited 0\n")
 
 -- what is wrong with bytes that are no workload
 abbrev pub WorkedFaults : Type 0

@@ -32,4 +32,6 @@ pub use work::{
     Fault, Field, Keys, MAX_KEY_BYTES, MAX_KEYS, MAX_MUTATORS, MAX_OPS, OpArguments, Settings,
     Workload, is_key, is_trimmed, next_word, op_of,
 };
-pub use writing::{write_call, write_cycle, write_fault_line, write_live, write_mutator};
+pub use writing::{
+    write_call, write_cycle, write_fault_line, write_live, write_mutator, write_statistics,
+};

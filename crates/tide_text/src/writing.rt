@@ -1,10 +1,10 @@
-//! Writing lines to a sink, each as one piece but for the line of a cycle. How a line is composed, `lines` says.
+//! Writing lines to a sink, each as one piece but for the lines of a cycle. How a line is composed, `lines` says.
 ghost use Rattle.std.specs.Prelude.{◌≡◌, ◌+◌, ◌≤◌, [], ◌++◌, length, OnErr, OnOk};
 ghost use Rattle.std.specs.List.{flat_map};
 ghost use Rattle.std.specs.Io.KnownBytes.{Appends};
 ghost use Rattle.tide_io.specs.Faults.{AppendsPart, HasCause};
 ghost use Rattle.tide_text.specs.lines.FaultLine.{fault_line};
-ghost use Rattle.tide_text.specs.lines.Line.{call_line, counts_text, cycle_line, freed_cell_text, freed_text, live_line, mutator_line};
+ghost use Rattle.tide_text.specs.lines.Line.{blackened_text, call_line, counts_text, cycle_line, freed_cell_text, freed_text, kind_text, live_line, mutator_line, statistics_line, told_text};
 ghost use Rattle.tide_text.specs.lines.OpText.{HasText};
 
 use crate::lines::{LONGEST_LINE, Line};
@@ -101,6 +101,97 @@ fn write_counts<K: Sink>(out: &mut K, number: u64, kept: u32, freed: usize) -> R
     let mut line = RunLine::new();
     compose_counts(&mut line, number, kept, freed);
     write_all(out, line.as_bytes())
+}
+
+// The kind of a cycle.
+#[tactic(auto, unfolding(crate::specs::lines::Line::kind_text))]
+fn kind_text(full: bool) -> &'static str
+    ensures is { result.now ≡ kind_text full }
+    ensures short { length result.now ≡ 5 }
+{
+    if full { " full" } else { " Eden" }
+}
+
+// What is told of a cycle behind a text, but for what was made black.
+#[tactic(auto, unfolding(crate::specs::lines::Line::told_text))]
+fn compose_told(
+    line: &mut RunLine,
+    number: u64,
+    full: bool,
+    freezes: u64,
+    before: u32,
+    marking: u32,
+)
+    requires { line.old ≡ [] }
+    ensures { line.new ≡ told_text number full freezes before marking }
+{
+    line.text("stats").operand(number).text(kind_text(full));
+    line.text(" freezes").operand(freezes);
+    line.text(" born").operand(before);
+    line.text(" marking").operand(marking);
+}
+
+// How many cells pauses and visitors made black for it.
+#[tactic(auto, unfolding(crate::specs::lines::Line::blackened_text))]
+fn compose_blackened(line: &mut RunLine, paused: u64, visited: u64)
+    requires { line.old ≡ [] }
+    ensures { line.new ≡ blackened_text paused visited }
+{
+    line.text(" paused").operand(paused);
+    line.text(" visited").operand(visited).text("\n");
+}
+
+// Writes the first of these as one piece.
+fn write_told<K: Sink>(
+    out: &mut K,
+    number: u64,
+    full: bool,
+    freezes: u64,
+    before: u32,
+    marking: u32,
+) -> Result<(), Failed>
+    ensures whole { OnOk result (Appends (K.held out.old) (K.held out.new)
+        (told_text number full freezes before marking)) }
+    ensures part { OnErr result (AppendsPart (K.held out.old) (K.held out.new)
+        (told_text number full freezes before marking)) }
+    ensures cause { HasCause (K.faults out.old) (K.faults out.new) result }
+{
+    let mut line = RunLine::new();
+    compose_told(&mut line, number, full, freezes, before, marking);
+    write_all(out, line.as_bytes())
+}
+
+// Writes the second.
+fn write_blackened<K: Sink>(out: &mut K, paused: u64, visited: u64) -> Result<(), Failed>
+    ensures whole { OnOk result (Appends (K.held out.old) (K.held out.new) (blackened_text paused visited)) }
+    ensures part { OnErr result (AppendsPart (K.held out.old) (K.held out.new) (blackened_text paused visited)) }
+    ensures cause { HasCause (K.faults out.old) (K.faults out.new) result }
+{
+    let mut line = RunLine::new();
+    compose_blackened(&mut line, paused, visited);
+    write_all(out, line.as_bytes())
+}
+
+/// Writes the line of a cycle behind a text: its kind, how many freezes it went through, how many cells were born
+/// before it, since the last end, and how many while it marked, and how many its pauses and the visitors made black.
+pub fn write_statistics<K: Sink>(
+    out: &mut K,
+    number: u64,
+    full: bool,
+    freezes: u64,
+    before: u32,
+    marking: u32,
+    paused: u64,
+    visited: u64,
+) -> Result<(), Failed>
+    ensures whole { OnOk result (Appends (K.held out.old) (K.held out.new)
+        (statistics_line number full freezes before marking paused visited)) }
+    ensures part { OnErr result (AppendsPart (K.held out.old) (K.held out.new)
+        (statistics_line number full freezes before marking paused visited)) }
+    ensures cause { HasCause (K.faults out.old) (K.faults out.new) result }
+{
+    write_told(out, number, full, freezes, before, marking)?;
+    write_blackened(out, paused, visited)
 }
 
 // The cells after a colon, if there are any.

@@ -4,6 +4,7 @@ pub mod Counting
 pub mod Ending
 pub mod Freezes
 pub mod Fresh
+pub mod Logs
 pub mod Loops
 pub mod Making
 pub mod Parking

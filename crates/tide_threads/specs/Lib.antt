@@ -1,6 +1,8 @@
--- The definitions of this crate.
+-- The definitions of this crate, and those of the log of cycles, which this one hands on.
+pub use Rattle.tide_statistics.specs as tide_statistics
 pub mod Acting
 pub mod Fresh
+pub mod Logging
 pub mod Marking
 pub mod OnThreads
 pub mod Parked

@@ -4,6 +4,7 @@ ghost use Rattle.std.specs.List.{list_all};
 ghost use Rattle.atomic_table.specs.Seated.{TableId};
 ghost use Rattle.crossbeam_utils.specs.Padded.{padded_value};
 ghost use Rattle.crossbeam_utils.specs.declared.cache_padded.CachePadded.{CachePadded};
+ghost use Rattle.tide_heap.specs.tide_freeze.Freezing.{HasFrozenWhole};
 ghost use Rattle.tide_model.specs.Cycle.{live_count};
 ghost use Rattle.tide_periods.specs.Asking.{scripts_of, IsAskable};
 ghost use Rattle.tide_periods.specs.Part.{AreCursors, RanPartBy};
@@ -13,7 +14,9 @@ ghost use Rattle.tide_periods.specs.declared.cursor.ScriptCursor.{ScriptCursor};
 ghost use Rattle.tide_report.specs.Ends.{TellsEnds};
 ghost use Rattle.tide_retained.specs.Contents.{HasKeysOf};
 ghost use Rattle.tide_retained.specs.Holding.{IsSnapshotOf};
+ghost use Rattle.tide_sched.specs.Paces.{last_run};
 ghost use Rattle.tide_shape.specs.Lists.{lists_of};
+ghost use Rattle.tide_table.specs.Standing.{EntersTold};
 ghost use Rattle.tide_table.specs.Started.{ArePasses};
 ghost use Rattle.tide_threads.specs.Acting.{before_all, cursor_of, cursors_in, is_silent, races_in};
 ghost use Rattle.tide_threads.specs.Fresh.{AreFresh};
@@ -42,8 +45,8 @@ use tide_table::{Closed, Collector, Heap, Pass, Start};
 /// of its freezes.
 #[derive(Drop)]
 pub struct OnThreads {
-    heap: Heap<Shapes>,
-    collector: Collector,
+    pub(crate) heap: Heap<Shapes>,
+    pub(crate) collector: Collector,
     participants: Vec<CachePadded<Participant>>,
     pub(crate) books: Books,
     /// Room for each mutator's calls, of which none is in it yet.
@@ -293,6 +296,12 @@ impl OnThreads {
         ensures pacing { self.new.books.pacing ≡ self.old.books.pacing }
         ensures cursors { cursors_on self.new ≡ cursors_on self.old }
         ensures opens { IfOk result (MayOpenOn self.new) }
+        ensures froze { OnOk result (HasFrozenWhole (pace_on self.old) (setting_in self.old).layout
+            (last_run (recorded_in self.old).history) (recorded_in self.old).history (recorded_in self.new).history
+            is_forced) }
+        ensures told { OnOk result (EntersTold (setting_in self.old).layout self.old.collector.seat.me.0
+            (recorded_in self.new).history) }
+        ensures same { setting_in self.new ≡ setting_in self.old }
         ensures untouched { OnErr result (recorded_in self.new ≡ recorded_in self.old) }
     {
         let next = self

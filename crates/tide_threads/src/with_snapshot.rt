@@ -7,6 +7,7 @@ ghost use Rattle.tide_periods.specs.Run.{HasRun};
 ghost use Rattle.tide_retained.specs.Contents.{HasKeysOf};
 ghost use Rattle.tide_retained.specs.Holding.{IsSnapshotOf};
 ghost use Rattle.tide_shape.specs.Lists.{lists_of};
+ghost use Rattle.tide_statistics.specs.Statistics.{statistics_in};
 ghost use Rattle.tide_threads.specs.OnThreads.{cursors_on, pace_on, recorded_in, setting_in, setting_left};
 ghost use Rattle.tide_threads.specs.OnThreads.{MayOpenOn, Stands};
 
@@ -17,6 +18,7 @@ use std::marker::Sync;
 use std::thread::Threads;
 use tide_model::{Memory, Turnstile};
 use tide_snapshot::Snapshot;
+use tide_statistics::CycleLog;
 
 /// Runs the scripts of a heap's mutators as `run_on_threads` does, and takes a snapshot of what the heap holds at the
 /// end.
@@ -37,14 +39,16 @@ pub fn run_with_snapshot<R: Threads + Sync, T: Turnstile>(
         left.0.finished.kept.seat.me.0.seen left.0.finished.report
         (map (λ own. own.items) left.0.finished.calls.items) left.0.finished.live) }
     ensures heap { IfOk result (λ left. setting_left left.0.finished.kept ≡ setting_in on) }
+    ensures told { IfOk result (λ left. left.0.log.ended ≡ statistics_in left.0.finished.kept.seat.me.0.seen) }
     ensures none_met { IfOk result (λ left. (setting_in on).layout.visitors ≡ 0 → left.0.deferred ≡ 0) }
     ensures snapshot { IfOk result (λ left. IsSnapshotOf (setting_in on).layout
         (state_after (setting_in on).layout left.0.finished.kept.seat.me.0.seen) left.1) }
     ensures keys { IfOk result (λ left. HasKeysOf (setting_in on).shapes left.1) }
 {
     let mut on = on;
-    run_periods(rt, threads, turnstile, &mut on)?;
+    let mut log = CycleLog::new(alloc);
+    run_periods(rt, threads, turnstile, &mut on, &mut log)?;
     let snapshot = on.snapshot(alloc)?;
-    let left = close_run(on)?;
+    let left = close_run(on, log)?;
     Ok((left, snapshot))
 }

@@ -10,7 +10,7 @@ pub use Rattle.tide_text.specs.work.ReadOp.{op_of}
 unfoldable pub use Rattle.tide_workload.specs.Reading.{reads_workload}
 pub use Rattle.tide_text.specs.lines.OpText.{HasText}
 unfoldable pub use Rattle.tide_text.specs.lines.OpText.{op_text}
-unfoldable pub use Rattle.tide_text.specs.lines.Line.{call_line, cycle_line, live_line, mutator_line}
+unfoldable pub use Rattle.tide_text.specs.lines.Line.{call_line, cycle_line, live_line, mutator_line, statistics_line}
 unfoldable pub use Rattle.tide_text.specs.lines.FaultLine.{fault_line}
 pub use Rattle.tide_text.specs.Text.{call_lines, mutator_text, mutators_text, end_line, cycles_from, text_of}
 pub use Rattle.tide_text.specs.declared.counts.Counts.{Counts}

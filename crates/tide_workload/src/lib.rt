@@ -20,5 +20,5 @@ pub use reading::{MAX_BYTES, read};
 pub use tide_text::{
     Counts, Fault, Field, MAX_KEY_BYTES, MAX_KEYS, MAX_MUTATORS, MAX_OPS, Settings, Workload,
     texts_read_back, write_call, write_cycle, write_fault_line, write_live, write_mutator,
-    write_summary,
+    write_statistics, write_summary,
 };

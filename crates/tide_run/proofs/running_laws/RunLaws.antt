@@ -3,7 +3,7 @@ use Rattle.std.proofs.Common.{ℕ, ◌≡◌, ◌<◌, ◌≤◌, refl, sym, ◌
 use Rattle.std.proofs.lemmas.List.{length-map}
 use Rattle.std.proofs.lemmas.List.Elements.{All-cons, All-get_or, All-head, All-nil, All-tail, All-weaker}
 use Rattle.std.proofs.lemmas.Option.{slice_get_within, slice_get-get_or}
-use Rattle.std.specs.Prelude.{All, map, slice_get, Some}
+use Rattle.std.specs.Prelude.{All, is_some, map, slice_get, Some, true}
 use Rattle.tide_model.specs.declared.op.Op.{Op}
 use Rattle.tide_model.specs.declared.op.Op.TheVariants.{Alloc, Table, Get, Put, Move, Set, Drop, Claim, Release, Unclaim, Add, GetProp, SetProp, StrongSet, StrongGet, WeakSet, WeakGet, PairSet, PairGet, PairDel, Group, Collect, Retire}
 use Rattle.tide_model.specs.declared.entry.Event.{Event}
@@ -22,9 +22,10 @@ use Rattle.tide_periods.specs.Store.{Setting}
 use Rattle.tide_report.specs.Reports.{Reported}
 use Rattle.tide_periods.specs.Answered.{pair_of}
 use Rattle.tide_shape.specs.Shapes.{shapes_of_paths}
+use Rattle.tide_threads.specs.tide_statistics.Statistics.{Logged, statistics_in}
 use Rattle.tide_workload.specs.Words.{HasText, IsOperation, Settings, Work, limits_of, limits_with}
 use Rattle.tide_run.specs.declared.running.outcome.Kept.{Kept}
-use Rattle.tide_run.specs.running.Outcome.{HasLeft, IsOutcome, history_of}
+use Rattle.tide_run.specs.running.Outcome.{HasLeft, IsOutcome, heap_of_kept, history_of}
 use Rattle.tide_run.proofs.running_laws.Outsiders.{none_above}
 use Rattle.tide_run.specs.running.Runs.{AreScripts, IsRunOf, Ran, layout_of_work, layout_with, pace_of_work, setting_of_work}
 
@@ -105,11 +106,12 @@ All-before f P (x ∷ xs) all = All-cons (λ y. P (f y)) x xs (All-head P (f x) 
 
 -- what a run left is an outcome
 pub IsOutcome-ran : (work : Work) (layout : Layout) (keys : List (List ℕ)) (setting : Setting) (pace : Pace) (scripts : List (List Op)) (kept : Kept) (report : Reported)
-    (calls : List (List Answered)) (live deferred : ℕ) → HasRun setting pace scripts (history_of kept) report calls live → setting.layout ≡ layout → keys ≡ work.keys →
+    (calls : List (List Answered)) (live : ℕ) (log : Logged) (deferred : ℕ) → HasRun setting pace scripts (history_of kept) report calls live → setting.layout ≡ layout → keys ≡ work.keys →
     length scripts ≡ layout.mutators → All (All (IsOperation (limits_of work))) scripts →
-    (layout.visitors ≡ 0 → deferred ≡ 0) → IsOutcome layout keys kept calls live report deferred
-IsOutcome-ran work layout keys setting pace scripts kept report calls live deferred ran same names one_each within none_met =
-    subst (λ (l : Layout). IsOutcome l keys kept calls live report deferred) same (record {
+    (is_some (heap_of_kept kept) ≡ true → log.ended ≡ statistics_in (history_of kept)) →
+    (layout.visitors ≡ 0 → deferred ≡ 0) → IsOutcome layout keys kept calls live report log deferred
+IsOutcome-ran work layout keys setting pace scripts kept report calls live log deferred ran same names one_each within logged none_met =
+    subst (λ (l : Layout). IsOutcome l keys kept calls live report log deferred) same (record {
       one_each = ran.one_each;
       calls_are = ran.calls_are;
       no_others = none_above setting.layout setting.shapes (history_of kept) ran.legal.lawful;
@@ -127,6 +129,7 @@ IsOutcome-ran work layout keys setting pace scripts kept report calls live defer
           (All-before pair_of (λ call. IsAskedBy ops call.0) own asked);
       living = ran.living;
       told = ran.told;
+      logged = logged;
       none_met = λ none. none_met (ap (λ (l : Layout). l.visitors) (sym same) ∙ none);
     })
 

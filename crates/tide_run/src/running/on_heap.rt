@@ -66,7 +66,12 @@ pub fn run<R: Threads + Sync, T: Turnstile>(
     let names = names_of(alloc, load)?;
     let pacing = pacing_with(settings, settings.trigger);
     let on = heap_for(alloc, load, visitors, pacing)?;
-    let HeapRun { finished, deferred } = run_on_threads(rt, threads, turnstile, on)?;
+    let left = run_on_threads(rt, threads, alloc, turnstile, on)?;
+    let HeapRun {
+        finished,
+        log,
+        deferred,
+    } = left;
     let kept = kept_by_heap(finished);
-    Ok(outcome_of(load, visitors, names, kept, deferred))
+    Ok(outcome_of(load, visitors, names, kept, log, deferred))
 }

@@ -9,6 +9,7 @@ use std::alloc::Global;
 use tide_model::{Memory, Op};
 use tide_periods::{InTurn, Pacing, Recorder, Recording, room_for, run_on};
 use tide_plain::PlainStore;
+use tide_threads::CycleLog;
 use tide_workload::Workload;
 
 /// The plain store of a workload's layout and shapes, on which nothing was run yet, with room for so many events beside
@@ -44,7 +45,8 @@ fn run_with<T: Recorder + Drop>(
     let names = names_of(alloc, load)?;
     let parts = InTurn::new(alloc, recorder, scripts)?;
     let ran = run_on(alloc, parts, pacing)?;
-    Ok(outcome_of(load, 0, names, kept_itself(ran), 0))
+    let nothing = CycleLog::new(alloc);
+    Ok(outcome_of(load, 0, names, kept_itself(ran), nothing, 0))
 }
 
 /// Runs a workload on the plain store, in periods: in each running part the mutators make their calls one after

@@ -1,5 +1,5 @@
 //! The outcome of a run.
-ghost use Rattle.std.specs.Prelude.{◌≡◌, ◌≤◌, ◌<◌, [], ℕ, All, map};
+ghost use Rattle.std.specs.Prelude.{◌≡◌, ◌≤◌, ◌<◌, [], ℕ, true, All, is_some, map};
 
 use std::marker::Model;
 use tide_layout::Layout;
@@ -8,6 +8,7 @@ use tide_periods::{Answered, Finished};
 use tide_report::Report;
 use tide_shape::Shapes;
 use tide_table::Closed;
+use tide_threads::{CycleLog, CycleStatistics};
 
 /// A history that a run kept itself: its events, in order.
 #[derive(Drop)]
@@ -35,6 +36,8 @@ pub struct Outcome {
     calls: Vec<Vec<Answered>>,
     live: u32,
     report: Report,
+    /// What is told of the cycles, on a heap that threads shared.
+    log: CycleLog,
     /// How many races visitors met, as far as 64 bits count them.
     deferred: u64,
 }
@@ -50,7 +53,7 @@ impl Model for Outcome {
     ghost view = { λ o. ran_of o.layout (map (λ name. name.items) o.names.items) o.kept };
 
     ghost invariant = { λ o. IsOutcome o.layout (map (λ name. name.items) o.names.items) o.kept
-        (map (λ own. own.items) o.calls.items) o.live o.report o.deferred };
+        (map (λ own. own.items) o.calls.items) o.live o.report o.log o.deferred };
 }
 
 impl Outcome {
@@ -60,6 +63,7 @@ impl Outcome {
     ghost use Rattle.tide_model.specs.Script.{calls_of};
     ghost use Rattle.tide_periods.specs.Answered.{pair_of};
     ghost use Rattle.tide_report.specs.Ends.{all_freed, ends_in, ends_of};
+    ghost use Rattle.tide_threads.specs.tide_statistics.Statistics.{statistics_in};
     ghost use Rattle.tide_workload.specs.Words.{HasText};
     ghost use Rattle.tide_run.specs.running.Outcome.{ran_of, IsOutcome};
 
@@ -68,10 +72,11 @@ impl Outcome {
         layout: Layout,
         names: Vec<Vec<u8>>,
         ran: Finished<Kept>,
+        log: CycleLog,
         deferred: u64,
     ) -> Outcome
         requires { IsOutcome layout (map (λ name. name.items) names.items) ran.kept
-            (map (λ own. own.items) ran.calls.items) ran.live ran.report deferred }
+            (map (λ own. own.items) ran.calls.items) ran.live ran.report log deferred }
         ensures { result ≡ ran_of layout (map (λ name. name.items) names.items) ran.kept }
     {
         let Finished {
@@ -87,6 +92,7 @@ impl Outcome {
             calls,
             live,
             report,
+            log,
             deferred,
         }
     }
@@ -121,6 +127,14 @@ impl Outcome {
         ensures ids { result.now.ids ≡ all_freed (ends_in self.now.layout self.now.history) }
     {
         &self.report
+    }
+
+    /// What is told of each cycle that ended, in order, of a run on a heap that threads shared. A run on the plain store
+    /// tells nothing.
+    pub fn statistics(&self) -> &[CycleStatistics]
+        ensures { is_some self.now.heap ≡ true → result.now ≡ statistics_in self.now.history }
+    {
+        self.log.cycles()
     }
 
     /// How many races visitors met in all parts, as far as 64 bits count them, and so none without visitors.

@@ -40,8 +40,12 @@ pub fn run_with_snapshot<R: Threads + Sync, T: Turnstile>(
     let pacing = pacing_with(settings, settings.trigger);
     let on = heap_for(alloc, load, visitors, pacing)?;
     let (left, snapshot) = run_to_snapshot(rt, threads, alloc, turnstile, on)?;
-    let HeapRun { finished, deferred } = left;
+    let HeapRun {
+        finished,
+        log,
+        deferred,
+    } = left;
     let kept = kept_by_heap(finished);
-    let outcome = outcome_of(load, visitors, names, kept, deferred);
+    let outcome = outcome_of(load, visitors, names, kept, log, deferred);
     Ok((outcome, snapshot))
 }

@@ -1,5 +1,5 @@
 -- The lines of a run's text.
-use Rattle.std.specs.Prelude.{ℕ, List, [], ◌∷◌, ◌++◌, length, codes, decimal}
+use Rattle.std.specs.Prelude.{ℕ, Bool, List, [], ◌∷◌, ◌++◌, length, codes, decimal, if◌then◌else◌}
 use Rattle.std.specs.List.{flat_map}
 use Rattle.tide_model.specs.declared.op.Op.{Op}
 use Rattle.tide_model.specs.declared.op.Refusal.{Refusal}
@@ -68,6 +68,26 @@ counts_text number kept freed =
 -- a cycle, with the cells that it freed
 unfoldable pub cycle_line : ℕ → ℕ → List ℕ → List ℕ
 cycle_line number kept freed = counts_text number kept (length freed) ++ freed_text freed ++ codes "\n"
+
+-- the kind of a cycle, after a space
+unfoldable pub kind_text : Bool → List ℕ
+kind_text full = if full then codes " full" else codes " Eden"
+
+-- what is told of a cycle behind a text: its number and its kind, how many freezes it went through, and how many cells
+-- were born since the end before it until it began, and how many while it marked
+unfoldable pub told_text : ℕ → Bool → ℕ → ℕ → ℕ → List ℕ
+told_text number full freezes before marking =
+    codes "stats" ++ number_operand number ++ kind_text full ++ codes " freezes" ++ number_operand freezes
+    ++ codes " born" ++ number_operand before ++ codes " marking" ++ number_operand marking
+
+-- how many cells its pauses made black, and how many the visitors, and the end of the line
+unfoldable pub blackened_text : ℕ → ℕ → List ℕ
+blackened_text paused visited = codes " paused" ++ number_operand paused ++ codes " visited" ++ number_operand visited ++ codes "\n"
+
+-- the line of a cycle behind a text
+unfoldable pub statistics_line : ℕ → Bool → ℕ → ℕ → ℕ → ℕ → ℕ → List ℕ
+statistics_line number full freezes before marking paused visited =
+    told_text number full freezes before marking ++ blackened_text paused visited
 
 -- the last line: how many cells live at the end
 unfoldable pub live_line : ℕ → List ℕ

@@ -1,4 +1,4 @@
--- The command has the four arguments.
+-- The command has the five arguments.
 use Rattle.std.proofs.Common.{◌≡◌, ◌∙◌, ap, ap₂, true}
 use Rattle.std.proofs.lemmas.Result.{IfOk-weaker}
 use Rattle.clap.specs.Words.{Rule, app_of, with_rule}
@@ -18,5 +18,7 @@ returns c =
     let with_plain = c.in_ok-arg-2.ensures.shape (not_global c.flag.result (ap (λ (rule : Rule). rule.is_simple) plain_is)) ∙ ap₂ with_rule with_visitors plain_is in
     let snapshot_is = c.flag-2.ensures in
     let with_make = c.in_ok-arg-3.ensures.shape (not_global c.number_option-2.result (ap (λ (rule : Rule). rule.is_simple) make_is)) ∙ ap₂ with_rule with_plain make_is in
-    IfOk-weaker c.arg-4.result _ _
-    (λ made added. added.shape (not_global c.flag-2.result (ap (λ (rule : Rule). rule.is_simple) snapshot_is)) ∙ ap₂ with_rule with_make snapshot_is) c.arg-4.ensures
+    let stats_is = c.flag-3.ensures in
+    let with_snapshot = c.in_ok-arg-4.ensures.shape (not_global c.flag-2.result (ap (λ (rule : Rule). rule.is_simple) snapshot_is)) ∙ ap₂ with_rule with_make snapshot_is in
+    IfOk-weaker c.arg-5.result _ _
+    (λ made added. added.shape (not_global c.flag-3.result (ap (λ (rule : Rule). rule.is_simple) stats_is)) ∙ ap₂ with_rule with_snapshot stats_is) c.arg-5.ensures

@@ -2,7 +2,7 @@
 use Rattle.std.proofs.Common.{◌≡◌, ◌∙◌, ap, subst, ℕ, [], List, map, string_bytes}
 use Rattle.clap.specs.Words.{App, HasKind, fault_of, found_of, is_simple, is_simple_and_free, matches_of, rows_of}
 use Rattle.tide_options.specs.Command.{command}
-use Rattle.tide_options.proofs.Reading.{asked_for, command_is_free, command_is_simple, few_asked, refused, shared_asked, taken, untaken}
+use Rattle.tide_options.proofs.Reading.{asked_for, command_is_free, command_is_simple, few_asked, refused, shared_asked, taken, uncounted_asked, untaken}
 use Rattle.tide_options.proofs.options.options_of.Goals as goal
 
 pub returns-in-Err-clause-refused : goal.returns-in-Err-clause-refused
@@ -36,3 +36,6 @@ returns-clause-few c = few_asked (rows_of (found_of c.in-Ok.matches)) c.options_
 
 pub returns-clause-shared : goal.returns-clause-shared
 returns-clause-shared c = shared_asked (rows_of (found_of c.in-Ok.matches)) c.options_in.result c.ok_or.result c.ok_or.ensures.ok_part c.options_in.ensures
+
+pub returns-clause-uncounted : goal.returns-clause-uncounted
+returns-clause-uncounted c = uncounted_asked (rows_of (found_of c.in-Ok.matches)) c.options_in.result c.ok_or.result c.ok_or.ensures.ok_part c.options_in.ensures

@@ -22,4 +22,7 @@ returns c = record {
   end_of_options = refl;
   snapshot = refl;
   snapshot_beside_visitors = refl;
+  stats = refl;
+  stats_beside_visitors = refl;
+  stats_and_snapshot = refl;
 }

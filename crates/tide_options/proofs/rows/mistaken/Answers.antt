@@ -28,4 +28,9 @@ returns c = record {
   snapshot_of_made = refl;
   snapshot_twice = refl;
   snapshot_with_value = refl;
+  stats_of_plain = refl;
+  stats_of_made = refl;
+  stats_twice = refl;
+  stats_with_value = refl;
+  stats_abbreviated = refl;
 }

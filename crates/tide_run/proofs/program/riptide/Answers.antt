@@ -33,11 +33,11 @@ returns-in-Ok g c =
       printed = λ is.
           let (text, whole, appends) = ended.printed is in
           subst (λ (o : Option Ran). IsSomeAnd o (Prints asked held printed)) (sym ended.outcome)
-          (text, printed_is_asked asked (shapes_of_paths c.in-Ok.done.load.paths) c.in-Ok.done text was.keys was.prints was.shown whole, appends);
+          (text, printed_is_asked asked (shapes_of_paths c.in-Ok.done.load.paths) c.in-Ok.done text was.keys was.prints was.stats was.shown whole, appends);
       printed_part = λ is.
           let (text, whole, appends) = ended.part is in
           subst (λ (o : Option Ran). IsSomeAnd o (PrintsPart asked held printed)) (sym ended.outcome)
-          (text, printed_is_asked asked (shapes_of_paths c.in-Ok.done.load.paths) c.in-Ok.done text was.keys was.prints was.shown whole, appends);
+          (text, printed_is_asked asked (shapes_of_paths c.in-Ok.done.load.paths) c.in-Ok.done text was.keys was.prints was.stats was.shown whole, appends);
       handed_on = ended.handed_on;
       no_outcome = λ not_whole not_part. absurd (ran_neither status ended.status not_whole not_part);
       nothing_printed = λ not_whole not_part. absurd (ran_neither status ended.status not_whole not_part);

@@ -1,5 +1,5 @@
 -- What is left of a heap that was closed is what its history tells.
-use Rattle.std.proofs.Common.{◌∙◌, ap, map, subst}
+use Rattle.std.proofs.Common.{◌∙◌, ap, map, refl, subst}
 use Rattle.tide_periods.specs.Recorded.{Recorded}
 use Rattle.tide_periods.specs.declared.cursor.ScriptCursor.{ScriptCursor}
 use Rattle.tide_report.specs.Ends.{TellsEnds}
@@ -18,5 +18,6 @@ returns c =
       report = subst (λ (r : Recorded). TellsEnds r.setting.layout r.history left.report) same left.ensures.report;
       calls = left.ensures.calls ∙ ap (map (λ (x : ScriptCursor). x.calls.items)) c.live-live.ensures.cursors;
       live = c.live-live.ensures.live;
+      log = refl;
       none_met = λ none. c.deferred-deferred.ensures.none (ap (λ (r : Recorded). r.setting.layout.visitors) same ∙ none);
     }

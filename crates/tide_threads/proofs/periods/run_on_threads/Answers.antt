@@ -9,6 +9,7 @@ use Rattle.tide_periods.specs.Asking.{scripts_of}
 use Rattle.tide_periods.specs.Recorded.{Recorded}
 use Rattle.tide_periods.specs.Store.{Setting}
 use Rattle.tide_report.specs.Ends.{TellsEnds}
+use Rattle.tide_statistics.specs.Statistics.{Logged, statistics_in}
 use Rattle.tide_threads.specs.OnThreads.{cursors_on, pace_on, recorded_in, setting_in}
 use Rattle.tide_threads.proofs.Fresh.{IsSettled-fresh}
 use Rattle.tide_threads.proofs.periods.run_on_threads.Goals as goal
@@ -42,5 +43,6 @@ returns g c =
           (subst (λ (h : List Event). TellsEnds recorded.setting.layout h left.report) (sym made.ensures.history) made.ensures.report)
           made.ensures.calls made.ensures.live;
       heap = made.ensures.heap ∙ ran.same;
+      told = ap (λ (l : Logged). l.ended) made.ensures.log ∙ ran.logged.ended ∙ ap statistics_in (sym made.ensures.history);
       none_met = λ none. made.ensures.none_met (ap (λ (s : Setting). s.layout.visitors) ran.same ∙ none);
     }

@@ -1,11 +1,16 @@
 -- Why periods follow one another until all have retired.
-use Rattle.std.proofs.Common.{◌∙◌, refl, sym, arith, subst}
+use Rattle.std.proofs.Common.{ℕ, ◌∙◌, refl, sym, arith, subst, List}
 use Rattle.tide_model.specs.Periods.{ArePeriods, no_period}
 use Rattle.tide_periods.proofs.Freezing.{is_over-cursors}
 use Rattle.tide_periods.proofs.Running.{ArePeriods-ran, RanAll-over, run_of_nothing}
 use Rattle.tide_periods.specs.Periods.{RanPeriod}
+use Rattle.tide_model.specs.declared.entry.Event.{Event}
 use Rattle.tide_sched.specs.Paces.{pace_of}
 use Rattle.tide_sched.specs.declared.pacing.Pacing.{Pacing}
+use Rattle.tide_statistics.proofs.FewLaws.{AreFew-nothing}
+use Rattle.tide_statistics.proofs.LogLaws.{HasLogged-nothing}
+use Rattle.tide_statistics.specs.Few.{AreFew}
+use Rattle.tide_statistics.specs.Statistics.{HasLogged, nothing}
 use Rattle.tide_threads.specs.OnThreads.{cursors_on, pace_on, recorded_in, setting_in}
 use Rattle.tide_threads.proofs.periods.run_periods.Goals as goal
 
@@ -23,6 +28,10 @@ loop-on-init g c = record {
   run = run_of_nothing (pace_on c.args.on.now) (recorded_in c.args.on.now) c.requires.nothing;
   some = (let least = c.args.on.now.books.pacing.period_least in omega (arith, least));
   opens = c.requires.opens;
+  logged = subst (HasLogged (recorded_in c.args.on.now).history) (sym c.requires.logged)
+      (subst (λ (h : List Event). HasLogged h nothing) (sym c.requires.nothing) HasLogged-nothing);
+  told_few = subst (AreFew (recorded_in c.args.on.now).parts) (sym c.requires.logged)
+      (subst (λ (n : ℕ). AreFew n nothing) (sym c.requires.parts) AreFew-nothing);
 }
 
 pub run_period-requires-clause-goes_on : goal.run_period-requires-clause-goes_on
@@ -65,11 +74,14 @@ loop-on-preserved g c =
       run = ran.next;
       some = ran.some;
       opens = c.in_ok-run.ensures.opens;
+      logged = c.in_ok-run.ensures.logged;
+      told_few = c.in_ok-run.ensures.told_few;
     }
 
 pub returns : goal.returns
 returns g c = record {
   stands = c.loop-on.invariant.stands;
+  logged = c.loop-on.invariant.logged;
   same = c.loop-on.invariant.same;
   scripts = c.loop-on.invariant.scripts;
   retired = sym c.are_all_retired.ensures ∙ c.loop-on-test.false;

@@ -5,6 +5,8 @@ use Rattle.tide_periods.specs.Asking.{scripts_of}
 use Rattle.tide_periods.specs.Left.{total_left}
 use Rattle.tide_periods.specs.Part.{AreCursors}
 use Rattle.tide_periods.specs.Recorded.{IsSettled}
+use Rattle.tide_statistics.specs.Few.{AreFew}
+use Rattle.tide_statistics.specs.Statistics.{HasLogged}
 use Rattle.tide_threads.specs.OnThreads.{MayOpenOn, Stands, cursors_on, pace_on, recorded_in, setting_in}
 use Rattle.tide_threads.proofs.periods.run_periods.Given as goal
 
@@ -25,6 +27,8 @@ invariant-loop-on g l =
       run : l.run ≡ next_run (pace_on l.initial.on) now.setting.layout now.history;
       some : 0 < l.run;
       opens : MayOpenOn l.on l.run;
+      logged : HasLogged now.history l.log;
+      told_few : AreFew now.parts l.log;
     }
 
 abbrev pub decreases-loop-on : goal.decreases-loop-on

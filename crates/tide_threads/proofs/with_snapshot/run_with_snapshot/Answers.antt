@@ -13,6 +13,7 @@ use Rattle.tide_report.specs.Ends.{TellsEnds}
 use Rattle.tide_model.specs.History.{state_after}
 use Rattle.tide_retained.specs.Contents.{HasKeysOf}
 use Rattle.tide_retained.specs.Holding.{IsSnapshotOf}
+use Rattle.tide_statistics.specs.Statistics.{Logged, statistics_in}
 use Rattle.tide_threads.specs.OnThreads.{cursors_on, pace_on, recorded_in, setting_in}
 use Rattle.tide_threads.proofs.Fresh.{IsSettled-fresh}
 use Rattle.tide_threads.proofs.with_snapshot.run_with_snapshot.Goals as goal
@@ -56,6 +57,7 @@ returns g c =
           (made.ensures.calls ∙ ap (map (λ (x : ScriptCursor). x.calls.items)) shown.ensures.cursors)
           (made.ensures.live ∙ ap (λ (r : Recorded). live_count r.setting.layout r.state) same);
       heap = made.ensures.heap ∙ ap (λ (r : Recorded). r.setting) same ∙ ran.same;
+      told = ap (λ (l : Logged). l.ended) made.ensures.log ∙ ran.logged.ended ∙ ap statistics_in (sym history);
       none_met = λ none. made.ensures.none_met (ap (λ (r : Recorded). r.setting.layout.visitors) same ∙ ap (λ (s : Setting). s.layout.visitors) ran.same ∙ none);
       snapshot = subst (λ (h : List Event). IsSnapshotOf (setting_in c.args.on).layout (state_after (setting_in c.args.on).layout h) shown.snapshot) (sym history)
           (subst (λ (s : Setting). IsSnapshotOf s.layout (state_after s.layout recorded.history) shown.snapshot) ran.same shown.ensures.snapshot);

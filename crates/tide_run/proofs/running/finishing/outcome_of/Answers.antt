@@ -12,8 +12,8 @@ new-requires c =
     let ran = c.args.ran in
     let left = c.requires.left in
     IsOutcome-ran work c.layout_of.result (map (λ name. name.items) c.args.names.items) (setting_of_work work c.args.visitors) (pace_of_work work left.0) work.scripts
-    ran.kept ran.report (map (λ own. own.items) ran.calls.items) ran.live c.args.deferred left.1.has_run (sym c.layout_of.ensures) c.requires.names
-    (ap (λ (l : Layout). l.mutators) (sym c.layout_of.ensures)) left.1.within
+    ran.kept ran.report (map (λ own. own.items) ran.calls.items) ran.live c.args.log c.args.deferred left.1.has_run (sym c.layout_of.ensures) c.requires.names
+    (ap (λ (l : Layout). l.mutators) (sym c.layout_of.ensures)) left.1.within c.requires.logged
     (λ none. c.requires.none_met (ap (λ (l : Layout). l.visitors) (sym c.layout_of.ensures) ∙ none))
 
 pub returns-clause-run : goal.returns-clause-run

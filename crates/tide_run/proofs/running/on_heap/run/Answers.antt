@@ -1,12 +1,13 @@
 -- Why a workload's scripts may run on a heap that threads share, and what that leaves.
-use Rattle.std.proofs.Common.{ℕ, ◌≡◌, ◌≤◌, ◌∙◌, Some, sym, ap, arith, subst, length, map, List}
+use Rattle.std.proofs.Common.{ℕ, ◌≡◌, ◌≤◌, ◌∙◌, Some, sym, ap, arith, subst, length, map}
 use Rattle.std.proofs.lemmas.List.{length-map}
 use Rattle.tide_periods.specs.Asking.{scripts_of}
 use Rattle.tide_periods.specs.declared.cursor.ScriptCursor.{ScriptCursor}
 use Rattle.tide_periods.specs.declared.run.Finished.{Finished}
 use Rattle.tide_threads.specs.OnThreads.{cursors_on, setting_in}
+use Rattle.tide_threads.specs.tide_statistics.Statistics.{statistics_in}
 use Rattle.tide_workload.specs.Words.{Settings}
-use Rattle.tide_run.specs.running.Outcome.{HasLeft, heap_of_kept}
+use Rattle.tide_run.specs.running.Outcome.{HasLeft, heap_of_kept, history_of}
 use Rattle.tide_run.specs.declared.running.outcome.Kept.{Kept}
 use Rattle.tide_run.specs.declared.running.outcome.Kept.TheVariants.{Heap}
 use Rattle.tide_periods.specs.Run.{HasRun}
@@ -30,14 +31,18 @@ run_on_threads-requires-clause-short g c κs within = c.in_ok-on.ensures.scripts
 pub run_on_threads-requires-clause-opens : goal.run_on_threads-requires-clause-opens
 run_on_threads-requires-clause-opens g c κs within = c.in_ok-on.ensures.opens
 
+pub outcome_of-requires-clause-logged : goal.outcome_of-requires-clause-logged
+outcome_of-requires-clause-logged g c = λ _.
+    c.in_ok-left.ensures.told ∙ ap (λ (x : Finished Kept). statistics_in (history_of x.kept)) (sym c.kept_by_heap-kept.ensures)
+
 pub outcome_of-requires-clause-none_met : goal.outcome_of-requires-clause-none_met
 outcome_of-requires-clause-none_met g c = λ none.
-    c.in_ok-finished.ensures.none_met (ap (λ (s : Setting). s.layout.visitors) c.in_ok-on.ensures.setting ∙ none)
+    c.in_ok-left.ensures.none_met (ap (λ (s : Setting). s.layout.visitors) c.in_ok-on.ensures.setting ∙ none)
 
 pub outcome_of-requires-clause-left : goal.outcome_of-requires-clause-left
 outcome_of-requires-clause-left g c =
     let work = c.args.load.now in
-    let ran = c.in_ok-finished.field-0.finished in
+    let ran = c.in_ok-left.left.finished in
     let on = c.in_ok-on in
     let pacing = c.pacing_with-pacing in
     let value = c.settings-settings.ensures.value in (
@@ -46,7 +51,7 @@ outcome_of-requires-clause-left g c =
           (HasLeft-ran work pacing.result c.args.visitors (record { kept = Heap ran.kept; report = ran.report; calls = ran.calls; live = ran.live })
           (setting_in on.on) (scripts_of (cursors_on on.on))
           (subst (λ (p : Pacing). HasRun (setting_in on.on) (pace_of p) (scripts_of (cursors_on on.on)) ran.kept.seat.me.0.seen
-          ran.report (map (λ own. own.items) ran.calls.items) ran.live) on.ensures.pacing c.in_ok-finished.ensures.ran)
+          ran.report (map (λ own. own.items) ran.calls.items) ran.live) on.ensures.pacing c.in_ok-left.ensures.ran)
           on.ensures.setting on.ensures.scripts
           (pacing.ensures.period ∙ ap (λ (s : Settings). s.period) value) (pacing.ensures.headroom ∙ ap (λ (s : Settings). s.headroom) value)),
     )
@@ -63,4 +68,4 @@ returns-clause-run g c =
 pub returns-clause-heap : goal.returns-clause-heap
 returns-clause-heap g c =
     c.outcome_of.ensures.heap ∙ ap (λ (x : Finished Kept). heap_of_kept x.kept) c.kept_by_heap-kept.ensures
-    ∙ ap Some (c.in_ok-finished.ensures.heap ∙ c.in_ok-on.ensures.setting)
+    ∙ ap Some (c.in_ok-left.ensures.heap ∙ c.in_ok-on.ensures.setting)

@@ -1,6 +1,7 @@
 -- Why a workload's scripts may run in turn on a store that the workload asks for, and what that leaves.
-use Rattle.std.proofs.Common.{ℕ, ◌≡◌, ◌≤◌, ◌∙◌, sym, ap, arith, subst, length, map, All, List, Vec, Global}
+use Rattle.std.proofs.Common.{◌≡◌, ◌≤◌, ◌∙◌, sym, ap, arith, subst, length, map, All, List, Vec, Global}
 use Rattle.std.proofs.lemmas.List.{length-map}
+use Rattle.std.specs.Prelude.{false, is_some, true}
 use Rattle.tide_model.specs.declared.op.Op.{Op}
 use Rattle.tide_periods.specs.Asking.{IsAskable, scripts_of}
 use Rattle.tide_sched.specs.Paces.{pace_of}
@@ -59,6 +60,10 @@ run_on-requires-clause-few g c =
 pub run_on-requires-clause-short : goal.run_on-requires-clause-short
 run_on-requires-clause-short g c =
     subst (All (λ (ops : List Op). length ops ≤ 65536)) (sym c.in_ok-parts.ensures.scripts) c.requires.scripts.short
+
+pub outcome_of-requires-clause-logged : goal.outcome_of-requires-clause-logged
+outcome_of-requires-clause-logged g c = λ kept.
+    absurd (let clash : false ≡ true = sym (ap (λ (x : Finished Kept). is_some (heap_of_kept x.kept)) c.kept_itself.ensures) ∙ kept in cc)
 
 pub outcome_of-requires-clause-left : goal.outcome_of-requires-clause-left
 outcome_of-requires-clause-left g c =

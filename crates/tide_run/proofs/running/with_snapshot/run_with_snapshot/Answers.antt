@@ -10,6 +10,7 @@ use Rattle.tide_periods.specs.declared.run.Finished.{Finished}
 use Rattle.tide_retained.specs.Contents.{HasKeysOf}
 use Rattle.tide_retained.specs.Holding.{IsSnapshotOf}
 use Rattle.tide_threads.specs.OnThreads.{cursors_on, setting_in}
+use Rattle.tide_threads.specs.tide_statistics.Statistics.{statistics_in}
 use Rattle.tide_workload.specs.Words.{Settings}
 use Rattle.tide_run.specs.running.Outcome.{HasLeft, heap_of_kept, history_of}
 use Rattle.tide_run.specs.running.Runs.{layout_of_work}
@@ -35,6 +36,10 @@ run_with_snapshot-requires-clause-short g c κs within = c.in_ok-on.ensures.scri
 
 pub run_with_snapshot-requires-clause-opens : goal.run_with_snapshot-requires-clause-opens
 run_with_snapshot-requires-clause-opens g c κs within = c.in_ok-on.ensures.opens
+
+pub outcome_of-outcome-requires-clause-logged : goal.outcome_of-outcome-requires-clause-logged
+outcome_of-outcome-requires-clause-logged g c = λ _.
+    c.in_ok-left.ensures.told ∙ ap (λ (x : Finished Kept). statistics_in (history_of x.kept)) (sym c.kept_by_heap-kept.ensures)
 
 pub outcome_of-outcome-requires-clause-none_met : goal.outcome_of-outcome-requires-clause-none_met
 outcome_of-outcome-requires-clause-none_met g c = λ none.

@@ -10,6 +10,7 @@ use Rattle.tide_heap.specs.Turns.{visits_over}
 use Rattle.tide_heap.specs.tide_core.declared.machine.view.View.{View}
 use Rattle.tide_table.proofs.Visits.{AreNumbersTold-over}
 use Rattle.tide_table.specs.VisitsTold.{AreNumbersTold}
+use Rattle.tide_table.proofs.Pauses.{pauses-entered}
 use Rattle.tide_table.proofs.collector.Collector.enter_visits_as.Goals as goal
 
 pub load-requires : goal.load-requires
@@ -43,6 +44,8 @@ invariant_of-self g c =
       told = λ running. (let clash : true ≡ false = sym ((λ i. (e i).frozen) ∙ c.requires.frozen) ∙ running in absurd (cc));
       visits_are = subst (λ (v : View). AreNumbersTold s.visits v.visited) (sym e)
           (AreNumbersTold-over g.J.Choice.number s.visits s.seat.me.0.visited s.visits_are);
+      pauses_are = pauses-entered s.seat.me.0 c.load.new.seat.me.0 g.J.Choice.event s.pauses c.requires.frozen
+          ((λ i. (e i).frozen) ∙ c.requires.frozen) (λ i. (e i).seen) c.requires.no_pause s.pauses_are;
     }
 
 pub returns : goal.returns

@@ -48,6 +48,9 @@ returns-in_err-next c =
       pacing = e.kept.pacing;
       cursors = refl;
       opens = tt;
+      froze = tt;
+      told = tt;
+      same = refl;
       untouched = ap (λ (x : View). recorded_at (setting_in self) x.seen) e.untouched;
     })
 
@@ -79,5 +82,8 @@ returns c =
       pacing = e.books.pacing;
       cursors = refl;
       opens = MayOpenPart-collected layout shapes pace c.args.is_forced v w run e.collected;
+      froze = e.collected.freezes;
+      told = e.collected.told;
+      same = refl;
       untouched = tt;
     }
