@@ -6,7 +6,7 @@ use Rattle.std.proofs.lemmas.List.Sums.{sum_by_more, sum_by-append}
 use Rattle.std.proofs.Math.Seq.{take-append-add}
 use Rattle.tide_model.specs.Layout.{Layout, IsBlockOf, first_block_of, blocks_of, cell_count, class_of, block_of_cell}
 use Rattle.tide_layout.specs.Slots.{class_among}
-use Rattle.tide_block.proofs.RisingLaws.{IsRising, count_up_to, count_up_to-le, count_up_to-is, count_up_to-more, count_up_to-stays, counted_are_below, uncounted_are_above, rising-le}
+use Rattle.tide_block.proofs.RisingLaws.{IsRising, count_up_to, count_up_to-le, count_up_to-is, counted_are_below, uncounted_are_above, rising-le}
 
 -- the sum of one more number
 sum-take_more : (numbers : List ℕ) (count : ℕ) → sum (take (count + 1) numbers) ≡ sum (take count numbers) + get_or numbers count 0
@@ -25,33 +25,6 @@ first_block_of-next layout class = sum-take_more (layout.cell_blocks ++ layout.a
 
 pub first_block_of-rises : (layout : Layout) → IsRising (first_block_of layout)
 first_block_of-rises layout class = let next = first_block_of-next layout class in omega (arith, next)
-
--- the class so many places behind another ends where the next begins
-pub first_block_of-step : (layout : Layout) (first count : ℕ) → first_block_of layout (first + (count + 1)) ≡ first_block_of layout (first + count) + blocks_of layout (first + count)
-first_block_of-step layout first count =
-    let same : first + (count + 1) ≡ first + count + 1 = omega arith in
-    ap (first_block_of layout) same ∙ first_block_of-next layout (first + count)
-
--- one more of the classes behind `first` that begins at the block or before it counts, and another doesn't
-module _ (layout : Layout) (first count block end : ℕ) (ends : end ≡ first_block_of layout (first + (count + 1))) where
-  begins_there : end ≡ first_block_of layout (count + 1 + first)
-  begins_there =
-      let same : first + (count + 1) ≡ count + 1 + first = omega arith in
-      ends ∙ ap (first_block_of layout) same
-
-  pub class_from-more : end ≤ block
-      → count_up_to (λ k. first_block_of layout (k + 1 + first)) block (count + 1) ≡ count_up_to (λ k. first_block_of layout (k + 1 + first)) block count + 1
-  class_from-more within =
-      let row : ℕ → ℕ = λ k. first_block_of layout (k + 1 + first) in
-      let one : count + 1 ≡ suc count = omega arith in
-      ap (count_up_to row block) one ∙ count_up_to-more row block count (omega (arith, begins_there, within))
-
-  pub class_from-stays : block < end
-      → count_up_to (λ k. first_block_of layout (k + 1 + first)) block (count + 1) ≡ count_up_to (λ k. first_block_of layout (k + 1 + first)) block count
-  class_from-stays above =
-      let row : ℕ → ℕ = λ k. first_block_of layout (k + 1 + first) in
-      let one : count + 1 ≡ suc count = omega arith in
-      ap (count_up_to row block) one ∙ count_up_to-stays row block count (omega (arith, begins_there, above))
 
 -- a class of arrays begins after all blocks of cells and those of the smaller classes of arrays
 pub first_block_of-arrays : (layout : Layout) (class : ℕ) → length layout.cell_blocks ≡ 5 → 5 ≤ class

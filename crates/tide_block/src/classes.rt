@@ -1,7 +1,6 @@
 //! The classes of cells and arrays, and the blocks and ids that each class has.
 ghost use Rattle.std.specs.Prelude.{◌≡◌, ◌+◌, ◌*◌, ◌<◌, ◌≤◌};
 ghost use Rattle.tide_model.specs.Layout.{array_count, block_of_array, block_of_cell, cell_count, class_of, class_of_array, first_block_of};
-ghost use Rattle.tide_layout.specs.Slots.{class_among};
 ghost use Rattle.tide_block.specs.Places.{bit_of, first_array_of, first_cell_of};
 
 use tide_layout::{BLOCK_SIZE, Layout};
@@ -64,7 +63,7 @@ pub fn class_of(layout: &Layout, cell: u32) -> u8
     ensures class { result ≡ class_of layout.now cell }
     ensures small { result < 5 }
 {
-    class_from(layout, 0, block_of_cell(cell))
+    layout.class_of(cell)
 }
 
 /// The class of an array, from 5 to 9.
@@ -74,23 +73,5 @@ pub fn class_of_array(layout: &Layout, array: u32) -> u8
     ensures large { 5 ≤ result }
     ensures small { result < 10 }
 {
-    class_from(layout, 5, block_of_array(layout, array))
-}
-
-/// The last of the five classes from `first` on that begins at the block or before it, or `first` where none does.
-fn class_from(layout: &Layout, first: u8, block: u32) -> u8
-    requires { first ≤ 5 }
-    ensures class { result ≡ first + class_among (λ class. first_block_of layout.now (class + first)) block }
-    ensures large { first ≤ result }
-    ensures small { result < first + 5 }
-{
-    let mut class = first;
-    let mut end = first_block_of(layout, first);
-    for earlier in 0..4 {
-        end += layout.blocks(first + earlier);
-        if end <= block {
-            class += 1;
-        }
-    }
-    class
+    layout.class_of_array(array)
 }

@@ -154,7 +154,7 @@ pub record Freezes (layout : Layout) (shapes : ShapeLists) (v w : View) : Type 0
   pub births : v.births ≡ count_by (λ event. is_birth event.entry) part
   pub few : v.births ≤ most_cells
   -- a note of each participant is in, or was before it left for good: what it tells of the history is a beginning of
-  -- it, and what it tells of its participant's calls are all that the history has, so that this is the whole history
+  -- it, and what it tells of its participant's calls are all that the history has, so that no call is left out
   pub all : (i : ℕ) → IsParty layout i → HasNoted v i
   pub heard : (noted : NotedCalls) → IsParty layout noted.who → Contains v.noted_calls noted → IsPrefix noted.seen v.seen
   pub own : (noted : NotedCalls) → IsParty layout noted.who → Contains v.noted_calls noted →

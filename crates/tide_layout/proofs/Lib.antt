@@ -1,4 +1,5 @@
 pub mod ClassWidths
+mod FirstsLaws
 mod LayoutRows
 pub mod LimitLaws
 pub mod Places

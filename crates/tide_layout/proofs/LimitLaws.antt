@@ -32,7 +32,7 @@ few_array_blocks layout limits class =
     omega (arith, few, at)
 
 -- five classes of few blocks have few blocks
-few_in_all : (blocks : List ℕ) → length blocks ≡ 5 → ((class : ℕ) → slice_index blocks class ≤ 262144) → sum blocks ≤ 1310720
+pub few_in_all : (blocks : List ℕ) → length blocks ≡ 5 → ((class : ℕ) → slice_index blocks class ≤ 262144) → sum blocks ≤ 1310720
 few_in_all blocks five few =
     let all : All (λ (x : ℕ). x ≤ 262144) blocks = λ k d h. subst (λ (x : ℕ). x ≤ 262144) (get_or_default blocks k 0 d h) (few k) in
     let within = sum_by-le (λ (x : ℕ). x) 262144 blocks all in

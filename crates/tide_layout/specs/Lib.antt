@@ -1,3 +1,4 @@
+pub mod Firsts
 pub mod Layout
 pub mod Limits
 pub mod Region

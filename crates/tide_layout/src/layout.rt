@@ -2,9 +2,10 @@
 ghost use Rattle.std.specs.Prelude.{◌≡◌, ◌≤◌, ℕ, slice_index, sum, take};
 ghost use Rattle.tide_layout.specs.Limits.{most_words};
 
+use crate::firsts::{Firsts, firsts_of};
 use crate::numbers::Numbers;
 use crate::region::Region;
-use crate::sizes::GAP;
+use crate::sizes::{GAP, width};
 use std::marker::Model;
 
 /// How large a heap is: its blocks of each class, its registers and handles, and who takes part.
@@ -13,18 +14,25 @@ pub struct Layout {
     numbers: Numbers,
     /// Where each region begins, and last where all of them end.
     starts: [u32; 23],
+    /// How many cells there are, and how many arrays: both are asked for often.
+    cells: u32,
+    arrays: u32,
+    /// Where each class begins, of cells and of arrays.
+    cell_firsts: Firsts,
+    array_firsts: Firsts,
 }
 
 impl Model for Layout {
-    ghost use Rattle.tide_model.specs.Layout.{Layout as PlainLayout};
+    ghost use Rattle.tide_model.specs.Layout.{array_count, cell_count, Layout as PlainLayout};
 
     ghost Value = { PlainLayout };
 
+    ghost use Rattle.tide_layout.specs.Firsts.{firsts_of};
     ghost use Rattle.tide_layout.specs.Layout.{layout_of, starts_of, IsLaidOut};
 
     ghost view = { λ l. layout_of l.numbers };
 
-    ghost invariant = { λ l. IsLaidOut (layout_of l.numbers) l.starts };
+    ghost invariant = { λ l. IsLaidOut (layout_of l.numbers) l.starts l.cells l.arrays l.cell_firsts l.array_firsts };
 
     ghost inverse = { λ v. record {
       numbers = record {
@@ -37,11 +45,22 @@ impl Model for Layout {
         visitors = v.visitors;
       };
       starts = starts_of v;
+      cells = cell_count v;
+      arrays = array_count v;
+      cell_firsts = firsts_of v.cell_blocks 0;
+      array_firsts = firsts_of v.array_blocks 5;
     } };
 
-    ghost use Rattle.std.proofs.Common.{ap, sym};
+    ghost use Rattle.std.proofs.Common.{sym};
 
-    ghost inverse_ok = { λ a h. ap (λ starts. record { numbers = a.numbers; starts = starts }) (sym h.begins) };
+    ghost inverse_ok = { λ a h i. record {
+      numbers = a.numbers;
+      starts = sym h.begins i;
+      cells = sym h.all_cells i;
+      arrays = sym h.all_arrays i;
+      cell_firsts = sym h.of_cells i;
+      array_firsts = sym h.of_arrays i;
+    } };
 }
 
 /// The same numbers, with room for larger ones.
@@ -71,7 +90,7 @@ fn starts_of(rooms: &[u32; 22]) -> [u32; 23]
 
 impl Layout {
     ghost use Rattle.std.specs.Prelude.{◌≡◌, ◌≢◌, ◌<◌, ◌≤◌, All, ℕ};
-    ghost use Rattle.tide_model.specs.Layout.{array_count, blocks_of, cell_count};
+    ghost use Rattle.tide_model.specs.Layout.{array_count, blocks_of, cell_count, class_of, class_of_array};
     ghost use Rattle.tide_layout.specs.Limits.{most_blocks, most_cells, most_words, HasFewBlocks, IsWithinLimits};
     ghost use Rattle.tide_layout.specs.Region.{AreApart, block_count, index_of_register, owner_of, place_in};
     ghost use Rattle.tide_layout.specs.Region.{place_of_element, place_of_slot, size_of, word_count};
@@ -158,7 +177,14 @@ impl Layout {
             visitors,
         };
         let starts = starts_of(&numbers.rooms());
-        Layout { numbers, starts }
+        Layout {
+            numbers,
+            starts,
+            cells: numbers.cells(),
+            arrays: numbers.arrays(),
+            cell_firsts: firsts_of(&blocks, 0),
+            array_firsts: firsts_of(&arrays, 5),
+        }
     }
 
     /// How many cells there are.
@@ -167,7 +193,7 @@ impl Layout {
         ensures few { result ≤ most_cells }
         ensures limits { IsWithinLimits self.now }
     {
-        self.numbers.cells()
+        self.cells
     }
 
     /// How many arrays there are.
@@ -176,7 +202,7 @@ impl Layout {
         ensures few { result ≤ most_cells }
         ensures limits { IsWithinLimits self.now }
     {
-        self.numbers.arrays()
+        self.arrays
     }
 
     /// How many blocks there are: those of cells, and then those of arrays.
@@ -276,12 +302,34 @@ impl Layout {
             + (mutator * row + u32::from(register)) as usize
     }
 
+    /// The class of a cell, from 0 to 4.
+    pub fn class_of(&self, cell: u32) -> u8
+        requires { cell < cell_count self.now }
+        ensures class { result ≡ class_of self.now cell }
+        ensures small { result < 5 }
+    {
+        self.cell_firsts.class_of(cell)
+    }
+
+    /// The class of an array, from 5 to 9.
+    pub fn class_of_array(&self, array: u32) -> u8
+        requires { array < array_count self.now }
+        ensures class { result ≡ class_of_array self.now array }
+        ensures large { 5 ≤ result }
+        ensures small { result < 10 }
+    {
+        5 + self.array_firsts.class_of(array)
+    }
+
     /// Where among the words of all cells a slot lies.
     fn index_of_slot(&self, cell: u32, k: u8) -> u32
         requires { HasSlot self.now cell k }
         ensures { result ≡ index_of_slot self.now cell k }
     {
-        self.numbers.words_before_cell(cell) + u32::from(k)
+        let class = self.cell_firsts.class_of(cell);
+        let at = usize::from(class);
+        let before = (cell - self.cell_firsts.ids[at]) * u32::from(width(class));
+        self.cell_firsts.words[at] + before + u32::from(k)
     }
 
     /// Where among the words of all arrays an element lies.
@@ -289,7 +337,10 @@ impl Layout {
         requires { HasElement self.now array k }
         ensures { result ≡ index_of_element self.now array k }
     {
-        self.numbers.words_before_array(array) + u32::from(k)
+        let class = self.array_firsts.class_of(array);
+        let at = usize::from(class);
+        let before = (array - self.array_firsts.ids[at]) * u32::from(width(5 + class));
+        self.array_firsts.words[at] + before + u32::from(k)
     }
 
     /// The place of a cell's slot, or of a table's pair. No other slot or pair has it.

@@ -11,6 +11,8 @@ mod sizes;
 // these stand on those listed before
 mod numbers;
 // these stand on those listed before
+mod firsts;
+// these stand on those listed before
 mod layout;
 // these stand on those listed before
 mod operands;

@@ -35,7 +35,7 @@ fn blocks_of_all(blocks: &[u32; 5]) -> u32
 }
 
 /// How many words the first ids of five classes from `first` on have together.
-fn words_among(blocks: &[u32; 5], first: u8, ids: u32) -> u32
+pub(crate) fn words_among(blocks: &[u32; 5], first: u8, ids: u32) -> u32
     requires few_blocks { HasFewBlocks blocks.now }
     requires few { first ≤ 5 }
     requires within { ids ≤ 64 * sum blocks.now }

@@ -142,16 +142,35 @@ WereKept-counted layout history old counted books others kept = record {
   told = subst (λ (b : Books). AddsEnds layout history history b.report books.report) others kept.told;
 }
 
+-- no cycle ends in a running part: what a report has of the ends since it was frozen, it has since it was opened
+AddsEnds-frozen : (layout : Layout) (shapes : ShapeLists) (after : List Event) (report longer : Reported) (v u : View) →
+    Freezes layout shapes v u → AddsEnds layout u.seen after report longer → AddsEnds layout v.start after report longer
+AddsEnds-frozen layout shapes after report longer v u froze told =
+    AddsEnds-then layout v.start u.seen after report report longer
+    (AddsEnds-same layout v.start u.seen report report
+    (ap (λ (y : View). ends_in layout y.seen) froze.view
+    ∙ ap (ends_in layout) froze.since
+    ∙ ends_in-part layout v.start froze.part (no_ends froze.part froze.of_part)) refl refl)
+    told
+
+-- books in which the births of a part that was frozen were counted, and which were kept then, were kept since the part
+-- was opened
+pub WereKept-frozen : (layout : Layout) (shapes : ShapeLists) (old counted books : Books) (v u w : View) →
+    Freezes layout shapes v u → counted ≡ record old { births = counted.births } →
+    WereKept layout u.seen w.seen counted books → WereKept layout v.start w.seen old books
+WereKept-frozen layout shapes old counted books v u w froze others kept = record {
+  are = kept.are;
+  pacing = kept.pacing ∙ ap (λ (b : Books). b.pacing) others;
+  told = AddsEnds-frozen layout shapes w.seen old.report books.report v u froze
+      (subst (λ (b : Books). AddsEnds layout u.seen w.seen b.report books.report) others kept.told);
+}
+
 -- and the report has just the ends that came
 pub AddsEnds-next : (layout : Layout) (shapes : ShapeLists) (run : ℕ) (report longer : Reported) (v u w x : View) →
     Freezes layout shapes v u → AddsEnds layout u.seen w.seen report longer → x ≡ opened layout run w →
     AddsEnds layout v.start x.start report longer
 AddsEnds-next layout shapes run report longer v u w x froze told is =
-    AddsEnds-then layout v.start u.seen x.start report report longer
-    (AddsEnds-same layout v.start u.seen report report
-    (ap (λ (y : View). ends_in layout y.seen) froze.view
-    ∙ ap (ends_in layout) froze.since
-    ∙ ends_in-part layout v.start froze.part (no_ends froze.part froze.of_part)) refl refl)
+    AddsEnds-frozen layout shapes x.start report longer v u froze
     (AddsEnds-then layout u.seen w.seen x.start report longer longer told
     (AddsEnds-same layout w.seen x.start longer longer
     (ap (λ (y : View). ends_in layout y.start) is

@@ -17,6 +17,9 @@ use tide_words::{GreyList, Region, Words, word_phase};
 /// No cycle begins from this one on.
 const LAST_CYCLE: u64 = 1 << 60;
 
+/// How many blocks of cells a heap has at most.
+const BLOCKS: usize = 320;
+
 /// What cycles use: the list of grey cells, which is empty between pauses, and the report.
 #[derive(Drop)]
 pub struct Room {
@@ -75,7 +78,8 @@ pub fn end_in(heap: &mut Heap, report: &mut Report) -> Option<u32>
     if !cycle_marks(heap) || !has_room_to_end(report, &heap.layout) {
         return None;
     }
-    Some(end(&mut heap.words, &heap.layout, report))
+    let mut marks = [0; BLOCKS];
+    Some(end(&mut heap.words, &heap.layout, &mut marks, report))
 }
 
 /// Sweeps a block where something is dead in it, and answers whether it did.

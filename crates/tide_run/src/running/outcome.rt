@@ -21,7 +21,7 @@ pub struct OwnHistory {
 pub enum Kept {
     /// By the run itself.
     Own(OwnHistory),
-    /// By a heap that threads shared, which this run opened and closed. Its history is for contracts alone.
+    /// By a heap that threads shared, and that is closed. Its history is for contracts alone.
     Heap(Closed<Shapes>),
 }
 

@@ -1,7 +1,6 @@
 -- Why `words_among` meets its contract.
-use Rattle.std.proofs.Common.{ℕ, ◌≡◌, ◌+◌, ◌*◌, ◌≤◌, ◌∙◌, ap, arith, min, sum, take}
+use Rattle.std.proofs.Common.{◌+◌, ◌*◌, ◌∙◌, ap, arith, min, sum, take}
 use Rattle.std.specs.Prelude.{slice_index}
-use Rattle.tide_layout.specs.Slots.{words_among}
 use Rattle.tide_layout.proofs.ClassWidths.{words_among-more, words_among-none}
 use Rattle.tide_layout.proofs.LimitLaws.{words_among-small}
 use Rattle.tide_layout.proofs.numbers.words_among.Goals as goal

@@ -18,4 +18,8 @@ invariant_of-result c =
       limits = IsWithinLimits-each layout (omega arith) (omega arith) c.requires.few_blocks c.requires.few_arrays c.requires.few_registers
           (omega arith) (omega arith) c.requires.few_mutators c.requires.few_visitors;
       begins = starts_of-is layout c.rooms.result c.starts_of-starts.result c.rooms.ensures (omega arith) c.starts_of-starts.ensures;
+      all_cells = c.cells.ensures.count;
+      all_arrays = c.arrays.ensures.count;
+      of_cells = c.firsts_of.ensures;
+      of_arrays = c.firsts_of-2.ensures;
     }
