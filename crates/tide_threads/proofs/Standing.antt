@@ -10,8 +10,9 @@ use Rattle.tide_model.specs.Refused.{ShapeLists}
 use Rattle.tide_model.specs.declared.entry.Event.{Event}
 use Rattle.tide_sched.specs.Paces.{last_run}
 use Rattle.tide_table.proofs.Nexts.{RunsPart-opened}
-use Rattle.tide_table.specs.Standing.{RunsPart, StandsStill}
-use Rattle.tide_table.specs.VisitsTold.{HaveTold, VisitsAreIn, most_visits}
+use Rattle.tide_table.proofs.Telling.{MayEnterVisits-froze}
+use Rattle.tide_table.specs.Standing.{MayEnterVisits, RunsPart, StandsStill}
+use Rattle.tide_table.specs.VisitsTold.{CountsTold, HaveTold, most_visits}
 use Rattle.tide_threads.proofs.Taking.{TookNotes}
 
 -- a part runs once it was opened, and while its notes are taken in
@@ -42,11 +43,13 @@ module _ (layout : Layout) (shapes : ShapeLists) (v0 v1 v2 v3 : View) (run : ℕ
   pub period_part : v3.period ≡ v0.period + 1
   period_part = ap (λ (x : View). x.period) freezes.view ∙ taken.period ∙ ap (λ (x : View). x.period) is_opened
 
--- once all notes of a part are taken in, they tell of all its visitors
-pub VisitsAreIn-taken : (layout : Layout) (v w : View) → TookNotes v w → HaveTold (most_visits v) layout.visitors w.visited →
-    w.done ≡ true → VisitsAreIn layout w
-VisitsAreIn-taken layout v w taken told done = record {
-  told = subst (λ (n : ℕ). HaveTold n layout.visitors w.visited)
-      (λ i. if (sym taken.marks i) then (sym taken.run i) else 0) told;
-  done = λ visitors. done;
-}
+  -- what notes told of visits may be entered
+  pub MayEnterVisits-part : StandsStill layout shapes v3 → HaveTold (most_visits v1) layout.visitors v2.visited →
+      v2.done ≡ true → CountsTold v2 → MayEnterVisits layout v3
+  MayEnterVisits-part stands told done counts =
+      MayEnterVisits-froze layout shapes v2 v3 freezes stands (taken.frozen ∙ ap (λ (x : View). x.frozen) is_opened) counts
+      (record {
+        told = subst (λ (n : ℕ). HaveTold n layout.visitors v2.visited)
+            (λ i. if (sym taken.marks i) then (sym taken.run i) else 0) told;
+        done = λ visitors. done;
+      })

@@ -19,7 +19,7 @@ use Rattle.tide_heap.specs.declared.steps.notes.Note.{Note}
 use Rattle.tide_table.proofs.Standing.{blacks_stay, no_ends}
 use Rattle.tide_threads.proofs.Acting.{cursors_at, note_among}
 use Rattle.tide_threads.proofs.Shares.{AllIn-turns, AllStandBy-frozen, RanPartBy-frozen}
-use Rattle.tide_threads.proofs.Standing.{RunsPart-taken, VisitsAreIn-taken, seen_part}
+use Rattle.tide_threads.proofs.Standing.{MayEnterVisits-part, RunsPart-taken, seen_part}
 use Rattle.tide_threads.proofs.Taking.{IsTold, IsTold-all, TookNotes, TookNotes-all}
 use Rattle.tide_threads.proofs.Turns.{AreParted-standing, Both-left, MayHear-opened, MayTake-turn, TellsAt-turn}
 use Rattle.tide_threads.proofs.Visits.{HaveTold-all}
@@ -105,8 +105,6 @@ take_in-requires g c =
 pub freeze_part-requires : goal.freeze_part-requires
 freeze_part-requires g c =
     let key = c.args.heap.now.key in
-    let layout = key.layout in
-    let shapes = lists_of key.shapes in
     let id = c.args.heap.now.table.shared.table_id in
     let v0 = c.args.collector.now.seat.me.0 in
     let v1 = c.open.new.self.seat.me.0 in
@@ -117,15 +115,8 @@ freeze_part-requires g c =
     let all : v2 ≡ noted_all (notes_in ys) v1 = c.take_in.ensures.taken
     ∙ ap (noted_all (notes_in ys)) c.play_part.ensures.same.1 in
     let taken : TookNotes v1 v2 = subst (TookNotes v1) (sym all) (TookNotes-all (notes_in ys) v1) in
-    let turns = c.in_ok-ended.ensures.turns in
-    let visits = HaveTold-all layout.mutators layout.visitors (most_visits v1) ys v1 (ap (λ (v : View). v.visited) is_opened)
-    (ap (λ (v : View). v.done) is_opened) (turns.as_many ∙ c.requires.all.one_each)
-    (λ at y found. let x = Both-left (TookTurn id layout shapes v1) xs ys turns at y found in
-    TellsAt-turn id layout shapes v0 v1 at (padded_value x.0) (padded_value y) c.requires.still.limits
-    (c.requires.all.each at x.0 x.1) x.2) in record {
+    let turns = c.in_ok-ended.ensures.turns in record {
       own = c.take_in.ensures.same ∙ c.play_part.ensures.same.0 ∙ c.open.ensures.same.0 ∙ c.requires.own;
-      visits = VisitsAreIn-taken layout v1 v2 taken (subst (λ (v : View). HaveTold (most_visits v1) layout.visitors v.visited) (sym all) visits.0)
-          (ap (λ (v : View). v.done) all ∙ visits.1);
       part = RunsPart-taken key.layout (lists_of key.shapes) v0 v1 v2 c.args.run c.requires.still is_opened taken;
       all = AllIn-turns id key.layout (lists_of key.shapes) v0 v1 v2 c.args.run is_opened taken xs ys c.requires.all turns
           (λ at y note found out. subst (λ (v : View). IsTold v note.seat.me.0) (sym all)
@@ -158,10 +149,17 @@ returns g c =
     let zs = c.take_in.new.participants in
     let freezes = c.freeze_part.ensures.frozen in
     let seen = seen_part layout shapes v0 v1 v2 v3 c.args.run c.requires.still is_opened taken freezes in
-    let begun : List Event = v0.seen ++ open_entry c.args.run v0 ∷ [] in record {
+    let begun : List Event = v0.seen ++ open_entry c.args.run v0 ∷ [] in
+    let visits = HaveTold-all layout.mutators layout.visitors (most_visits v1) ys v1 (ap (λ (v : View). v.visited) is_opened)
+    (ap (λ (v : View). v.done) is_opened) (turns.as_many ∙ c.requires.all.one_each)
+    (λ at y found. let x = Both-left (TookTurn id layout shapes v1) xs ys turns at y found in
+    TellsAt-turn id layout shapes v0 v1 at (padded_value x.0) (padded_value y) c.requires.still.limits
+    (c.requires.all.each at x.0 x.1) x.2) in record {
       own = c.freeze_part.ensures.own ∙ c.take_in.ensures.same ∙ c.play_part.ensures.same.0 ∙ c.open.ensures.same.0;
       still = c.freeze_part.ensures.still;
-      visits = c.freeze_part.ensures.left;
+      visits = MayEnterVisits-part layout shapes v0 v1 v2 v3 c.args.run c.requires.still is_opened taken freezes
+          c.freeze_part.ensures.still (subst (λ (v : View). HaveTold (most_visits v1) layout.visitors v.visited) (sym all) visits.0)
+          (ap (λ (v : View). v.done) all ∙ visits.1) c.take_in.new.collector.told;
       all = AllStandBy-frozen id layout shapes v0 v1 v2 v3 c.args.run c.requires.still is_opened taken freezes xs ys zs
           c.requires.all turns c.take_in.ensures.gave told;
       books = subst (λ (h : List Event). AreBooks layout h c.freeze_part.new.books) (sym (ap (λ (v : View). v.seen) freezes.view)) c.freeze_part.ensures.books;
