@@ -3,4 +3,5 @@ pub use Rattle.tide_hands.proofs as tide_hands
 pub use Rattle.tide_heap.proofs as tide_heap
 pub mod Keeping
 pub mod Openings
+pub mod Schedule
 pub mod Sharing

@@ -5,4 +5,5 @@ pub use Rattle.tide_heap.specs as tide_heap
 pub mod Name
 pub mod Openings
 pub mod Posts
+pub mod Schedule
 pub mod Shares
