@@ -14,15 +14,17 @@ use Rattle.tide_model.specs.Layout.{Layout}
 use Rattle.tide_model.specs.Prefix.{IsPrefix, prefix_trans}
 use Rattle.tide_model.specs.Refused.{ShapeLists}
 use Rattle.tide_model.specs.Script.{calls_of, retry_of}
-use Rattle.tide_model.specs.Share.{IsShare, has_ended}
+use Rattle.tide_model.specs.Share.{has_ended}
 use Rattle.tide_model.specs.declared.op.Op.{Op}
 use Rattle.tide_model.specs.declared.op.Reply.{Reply}
 use Rattle.tide_model.specs.declared.entry.Entry.{Entry}
 use Rattle.tide_model.specs.declared.entry.Entry.TheVariants.{Call, Begin, Pause, Visits, End, Taken, Sweep, Open}
 use Rattle.tide_model.specs.declared.entry.Event.{Event}
-use Rattle.tide_model.proofs.OwnCalls.{IsShare-by, calls_of-own, own_calls-other, stands_last}
+use Rattle.tide_model.proofs.OwnCalls.{calls_of-own, own_calls-other, stands_last}
 use Rattle.tide_posts.proofs.Openings.{one_opening, one_run}
+use Rattle.tide_posts.proofs.Schedule.{IsShareWhere-by}
 use Rattle.tide_posts.specs.Openings.{IsOpening}
+use Rattle.tide_posts.specs.Schedule.{IsShareWhere}
 use Rattle.tide_posts.specs.Shares.{HasMarked, HasShared}
 
 -- who isn't active stays so in all that follows
@@ -69,8 +71,8 @@ none_of_inactive layout shapes who before (event ∷ more) lawful gone =
 
 -- Below, a part was opened with `start`, and `part` came in it. A mutator's note of that part tells what it has seen
 -- and its own calls, of which the whole history has no others.
-module _ (layout : Layout) (who number run run' : ℕ) (start part seen mine : List Event) (left ended : Bool)
-    (opening : IsOpening number run' start) (did : HasShared who number run seen mine left ended)
+module _ (layout : Layout) (who number run run' : ℕ) (start part seen mine : List Event) (left ended early : Bool)
+    (opening : IsOpening number run' start) (did : HasShared who number run seen mine left ended early)
     (heard : IsPrefix seen (start ++ part)) (own : IsOwn who (start ++ part) mine) where
   same_start : did.told ≡ start
   same_start = one_opening number run run' did.told start (start ++ part) did.opening opening
@@ -89,10 +91,10 @@ module _ (layout : Layout) (who number run run' : ℕ) (start part seen mine : L
       ∙ calls_of-own who part
 
   pub shared_share : (left ≡ false → (state_after layout (start ++ part)).active who ≡ true) →
-      IsShare run' (retry_of who start) ((state_after layout (start ++ part)).active who) (calls_of who part)
+      IsShareWhere run' (retry_of who start) ((state_after layout (start ++ part)).active who) early (calls_of who part)
   shared_share stays =
-      subst (λ (n : ℕ). IsShare n (retry_of who start) ((state_after layout (start ++ part)).active who) (calls_of who part)) shared_run
-      (IsShare-by run (retry_of who did.told) (retry_of who start) (not left) ((state_after layout (start ++ part)).active who)
+      subst (λ (n : ℕ). IsShareWhere n (retry_of who start) ((state_after layout (start ++ part)).active who) early (calls_of who part)) shared_run
+      (IsShareWhere-by run early (retry_of who did.told) (retry_of who start) (not left) ((state_after layout (start ++ part)).active who)
       (calls_of who did.more) (calls_of who part) (ap (retry_of who) same_start) (sym (active left refl)) shared_calls did.share)
     where
       active : (b : Bool) → left ≡ b → (state_after layout (start ++ part)).active who ≡ not left

@@ -67,6 +67,14 @@ module _ (run : ℕ) (retry : Option Op) (active : Bool) (calls : List (Op × Re
         | inr told ↦ absurd (cc)
       ]
 
+-- a share of equal things
+pub IsShareWhere-by : (run : ℕ) (early : Bool) (retry retry' : Option Op) (active active' : Bool) (calls calls' : List (Op × Reply)) →
+    retry ≡ retry' → active ≡ active' → calls ≡ calls' → IsShareWhere run retry active early calls →
+    IsShareWhere run retry' active' early calls'
+IsShareWhere-by run early retry retry' active active' calls calls' e1 e2 e3 share =
+    subst (λ (r : Option Op). IsShareWhere run r active' early calls') e1
+    (subst (λ (a : Bool). IsShareWhere run retry a early calls') e2 (subst (IsShareWhere run retry active early) e3 share))
+
 -- a part with nobody who stopped early stands as any
 StandsPeriod-where : (pace : Pace) (layout : Layout) (early : List Bool) (before : List Event) (period : Period) →
     ((who : ℕ) → who < layout.mutators → get_or early who false ≡ false) →

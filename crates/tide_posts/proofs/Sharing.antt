@@ -101,7 +101,7 @@ IsSharing-more layout shapes who number run made op reply seen seen_now mine min
 -- the share is made: all calls, or the last one ended it
 pub HasShared-over : (who number run made : ℕ) (seen mine : List Event) (ended : Bool) →
     IsSharing who number run seen mine made ended → (made < run → ended ≡ true) →
-    HasShared who number run seen mine false ended
+    HasShared who number run seen mine false ended false
 HasShared-over who number run made seen mine ended sharing over = record {
   told = sharing.told;
   opening = sharing.opening;
@@ -110,7 +110,26 @@ HasShared-over who number run made seen mine ended sharing over = record {
   adds = sharing.adds;
   share = record {
     each = sharing.each;
-    fewer = λ few. inr (sharing.stops ∙ over (let count = sharing.count in omega (arith, count, few)));
+    fewer = λ few. inl (inr (sharing.stops ∙ over (let count = sharing.count in omega (arith, count, few))));
+    early = λ is. absurd (cc);
+  };
+  stops = sym sharing.stops;
+  retired = λ is. absurd (cc);
+}
+
+-- or the mutator stops early: it has calls left, and the last one let it go on
+pub HasShared-early : (who number run made : ℕ) (seen mine : List Event) → IsSharing who number run seen mine made false →
+    made < run → HasShared who number run seen mine false false true
+HasShared-early who number run made seen mine sharing below = record {
+  told = sharing.told;
+  opening = sharing.opening;
+  grows = sharing.grows;
+  more = sharing.more;
+  adds = sharing.adds;
+  share = record {
+    each = sharing.each;
+    fewer = λ few. inr refl;
+    early = λ is. (let count = sharing.count in omega (arith, count, below), refl, sharing.stops);
   };
   stops = sym sharing.stops;
   retired = λ is. absurd (cc);
@@ -120,14 +139,14 @@ HasShared-over who number run made seen mine ended sharing over = record {
 pub HasShared-retired : (layout : Layout) (shapes : ShapeLists) (who number run made : ℕ)
     (seen seen_now mine mine_now : List Event) (ended : Bool) → IsSharing who number run seen_now mine_now made ended →
     MakesCall layout shapes who Retire Done seen seen_now mine mine_now →
-    HasShared who number run seen_now mine_now true ended
+    HasShared who number run seen_now mine_now true ended false
 HasShared-retired layout shapes who number run made seen seen_now mine mine_now ended sharing makes = record {
   told = sharing.told;
   opening = sharing.opening;
   grows = sharing.grows;
   more = sharing.more;
   adds = sharing.adds;
-  share = record { each = sharing.each; fewer = λ few. inl refl };
+  share = record { each = sharing.each; fewer = λ few. inl (inl refl); early = λ is. absurd (cc) };
   stops = sym sharing.stops;
   retired = λ is l. ap (λ (h : List Event). (state_after l h).active who) makes.ends ∙ inactive-retired l makes.between who makes.took;
 }

@@ -6,6 +6,7 @@ use Rattle.tide_model.specs.Layout.{Layout}
 use Rattle.tide_posts.specs.Name.{Name, who_at}
 use Rattle.tide_posts.specs.Openings.{IsOpening}
 use Rattle.tide_posts.specs.Shares.{HasMarked, HasShared}
+use Rattle.tide_posts.specs.declared.handed.HandedIn.{HandedIn}
 use Rattle.tide_heap.specs.declared.steps.notes.Note.{Note}
 use Rattle.tide_heap.specs.declared.steps.notes.Ticket.{Ticket}
 
@@ -21,22 +22,26 @@ pub record IsTicketFor (name : Name) (ticket : Ticket) : Type 0 where
   pub of_heap : ticket.seat.table_id ≡ name.table_id
   pub tells : TicketTells name.layout ticket.seat.me.0
 
--- a mutator's note tells that it made its share, and whether its last call ended that
-pub record MutatorTells (u : View) (ended : Bool) : Type 0 where
-  pub shared : HasShared u.who u.period u.run u.seen u.mine u.left ended
+-- a mutator's note tells that it made its share, and whether its last call ended that, or it stopped early
+pub record MutatorTells (u : View) (ended early : Bool) : Type 0 where
+  pub shared : HasShared u.who u.period u.run u.seen u.mine u.left ended early
   pub still : u.visits ≡ 0
 
 -- a visitor's note tells its visits
-pub record VisitorTells (layout : Layout) (u : View) (ended : Bool) : Type 0 where
+pub record VisitorTells (layout : Layout) (u : View) (ended early : Bool) : Type 0 where
   pub marked : HasMarked layout u.period u.run u.marks u.seen u.visits
   pub stays : u.left ≡ false
-  pub none : ended ≡ false
+  pub none : (ended ≡ false) × (early ≡ false)
 
 -- a note is of the heap, and of the participant at a place, which has done its part
-pub record IsNoteFor (name : Name) (place : ℕ) (note : Note) (ended : Bool) : Type 0 where
+pub record IsNoteFor (name : Name) (place : ℕ) (note : Note) (ended early : Bool) : Type 0 where
   pub of_heap : note.seat.table_id ≡ name.table_id
   pub is : note.seat.me.0.who ≡ who_at name.layout place
   pub begun : note.seat.me.0.begun ≡ note.seat.me.0.period
   pub done : note.seat.me.0.done ≡ true
-  pub did : MatchBool (nat_lt place name.layout.mutators) (MutatorTells note.seat.me.0 ended)
-      (VisitorTells name.layout note.seat.me.0 ended)
+  pub did : MatchBool (nat_lt place name.layout.mutators) (MutatorTells note.seat.me.0 ended early)
+      (VisitorTells name.layout note.seat.me.0 ended early)
+
+-- what is handed in for a place: its participant's note, and how its share ended
+abbrev pub IsHandedIn : Name → ℕ → HandedIn → Bool → Type 0
+IsHandedIn name place handed ended = IsNoteFor name place handed.note ended handed.early

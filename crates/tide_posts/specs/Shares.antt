@@ -8,9 +8,10 @@ use Rattle.tide_model.specs.History.{is_call_of, state_after}
 use Rattle.tide_model.specs.Layout.{Layout}
 use Rattle.tide_model.specs.Prefix.{IsPrefix}
 use Rattle.tide_model.specs.Script.{calls_of, retry_of}
-use Rattle.tide_model.specs.Share.{IsShare, HasCallLeft, has_ended}
+use Rattle.tide_model.specs.Share.{HasCallLeft, has_ended}
 use Rattle.tide_model.specs.declared.entry.Event.{Event}
 use Rattle.tide_posts.specs.Openings.{IsOpening}
+use Rattle.tide_posts.specs.Schedule.{IsShareWhere}
 
 -- In the part of a ticket that told `told` a mutator has made so many calls, behind those that the history had of it
 -- then, and the last of them ended its share or none did.
@@ -25,15 +26,15 @@ pub record IsSharing (who number run : ℕ) (seen mine : List Event) (made : ℕ
   pub stops : has_ended (retry_of who told) (calls_of who more) ≡ ended
   pub own : IsOwn who seen mine
 
--- It has made its share: all of its calls, or fewer where it has retired or the last one ended its share. Where it has
--- retired what it has seen says so.
-pub record HasShared (who number run : ℕ) (seen mine : List Event) (left ended : Bool) : Type 0 where
+-- It has made its share: all of its calls, or fewer where it has retired, where the last one ended its share, or where
+-- it stopped early. Where it has retired what it has seen says so.
+pub record HasShared (who number run : ℕ) (seen mine : List Event) (left ended early : Bool) : Type 0 where
   pub told : List Event
   pub opening : IsOpening number run told
   pub grows : IsPrefix told seen
   pub more : List Event
   pub adds : mine ≡ filter (λ event. is_call_of who event.entry) told ++ more
-  pub share : IsShare run (retry_of who told) (not left) (calls_of who more)
+  pub share : IsShareWhere run (retry_of who told) (not left) early (calls_of who more)
   pub stops : ended ≡ has_ended (retry_of who told) (calls_of who more)
   pub retired : left ≡ true → (layout : Layout) → (state_after layout seen).active who ≡ false
 

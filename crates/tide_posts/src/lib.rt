@@ -8,11 +8,13 @@
 //! contracts to speak of. `tide_server` hands over by it.
 #![tactic(auto)]
 
+mod handed;
 mod name;
 // these stand on those listed before
 mod facts;
 
 pub use facts::Facts;
+pub use handed::HandedIn;
 pub use name::HeapName;
 pub use tide_hands::{
     Found, HandTable, HandView, Hands, KeeperSeat, Keyed, MemberSeat, Parcel, Parcels, open_table,
