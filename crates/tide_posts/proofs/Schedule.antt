@@ -127,6 +127,13 @@ ArePeriodsWhere-nobody pace layout _ (periods.one_more before period are stands)
     All-push (λ (some : List Bool). (who : ℕ) → who < layout.mutators → get_or some who false ≡ false) earlier.0 [] earlier.1 (λ who below. refl),
     where_early.one_more earlier.0 [] before period earlier.2 (StandsPeriodWhere-nobody pace layout before period stands))
 
+-- where nobody stopped early so far, nor in the next part, nobody did
+pub NoneStopped-more : (layout : Layout) (stops : List (List Bool)) (early : List Bool) → NoneStopped layout stops →
+    ((who : ℕ) → get_or early who false ≡ false) → NoneStopped layout (stops ++ early ∷ [])
+NoneStopped-more layout stops early none nobody =
+    All-push (λ (some : List Bool). (who : ℕ) → who < layout.mutators → get_or some who false ≡ false) stops early none
+    (λ who below. nobody who)
+
 -- A history is legal just where it is legal with some stops of which there are none.
 pub legal_where_none : (pace : Pace) (layout : Layout) (shapes : ShapeLists) (history : List Event) →
     IsLegal pace layout shapes history

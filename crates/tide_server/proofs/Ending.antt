@@ -17,13 +17,14 @@ use Rattle.tide_model.specs.Periods.{is_forced, is_over, next_run, open_count, o
 use Rattle.tide_model.specs.Prefix.{IsPrefix}
 use Rattle.tide_model.specs.Refused.{ShapeLists}
 use Rattle.tide_model.specs.Script.{calls_of, retry_after_all, retry_of}
-use Rattle.tide_model.specs.Share.{HasCallLeft, IsShare, has_ended}
+use Rattle.tide_model.specs.Share.{HasCallLeft, has_ended}
 use Rattle.tide_model.specs.declared.entry.Entry.TheVariants.{Open}
 use Rattle.tide_model.specs.declared.entry.Event.{Event}
 use Rattle.tide_model.specs.declared.op.Op.{Op}
 use Rattle.tide_posts.proofs.Keeping.{inactive-more, inactive-prefix, marked_most, none_of_inactive, shared_ended, shared_share}
 use Rattle.tide_posts.specs.Name.{places}
 use Rattle.tide_posts.specs.Openings.{IsOpening}
+use Rattle.tide_posts.specs.Schedule.{IsShareWhere}
 use Rattle.tide_posts.specs.Shares.{HasShared}
 use Rattle.tide_posts.specs.tide_heap.Parties.{In, IsParty}
 use Rattle.tide_posts.specs.tide_heap.Turns.{Freezes, calls_of as noted_calls_of}
@@ -108,17 +109,18 @@ module _ (layout : Layout) (shapes : ShapeLists) (heap hands : TableId) (k : Kee
         froze.gone who party (subst (λ (h : List Event). (state_after layout h).active who ≡ false) (sym froze.since) is)
 
     -- what a mutator did in the part: it made its share, and where it has left for good it isn't active
-    pub record HasDone (who : ℕ) (ended : Bool) : Type 0 where
-      pub share : IsShare here.run (retry_of who here.start) (active_now who) (calls_of who froze.part)
+    pub record HasDone (who : ℕ) (ended early : Bool) : Type 0 where
+      pub share : IsShareWhere here.run (retry_of who here.start) (active_now who) early (calls_of who froze.part)
       pub stops : has_ended (retry_of who here.start) (calls_of who froze.part) ≡ ended
       pub gone : In who here.gone → active_now who ≡ false
 
-    HasDone-told : (who : ℕ) (ended : Bool) → who < layout.mutators → HasToldShare here who ended → HasDone who ended
-    HasDone-told who ended below told = subst (λ (n : ℕ). HasDone n ended) told.is (record {
+    HasDone-told : (who : ℕ) (ended early : Bool) → who < layout.mutators → HasToldShare here who ended early →
+        HasDone who ended early
+    HasDone-told who ended early below told = subst (λ (n : ℕ). HasDone n ended early) told.is (record {
       share = shared_share layout note.who note.period note.run here.run here.start froze.part note.seen note.mine note.left
-          ended opens shared heard own stays;
+          ended early opens shared heard own stays;
       stops = shared_ended layout note.who note.period note.run here.run here.start froze.part note.seen note.mine note.left
-          ended opens shared heard own;
+          ended early opens shared heard own;
       gone = λ is. inactive-prefix layout note.who note.seen whole heard (shared.retired (told.is_in.left.1 is) layout);
     })
       where
@@ -131,7 +133,7 @@ module _ (layout : Layout) (shapes : ShapeLists) (heap hands : TableId) (k : Kee
         opens : IsOpening note.period here.run here.start
         opens = subst (λ (n : ℕ). IsOpening n here.run here.start) (sym told.period) IsOpening-here
 
-        shared : HasShared note.who note.period note.run note.seen note.mine note.left ended
+        shared : HasShared note.who note.period note.run note.seen note.mine note.left ended early
         shared = told.tells.shared
 
         heard : IsPrefix note.seen whole
@@ -146,12 +148,14 @@ module _ (layout : Layout) (shapes : ShapeLists) (heap hands : TableId) (k : Kee
           | inr isnt ↦ absurd (true≢false (sym (told.is_in.left.1 (gone_of note.who party isnt)) ∙ left))
         ]
 
-    HasDone-left : (who : ℕ) (ended : Bool) → HadLeft layout here who → ended ≡ false → HasDone who ended
-    HasDone-left who ended had none = record {
+    HasDone-left : (who : ℕ) (ended early : Bool) → HadLeft layout here who → ended ≡ false → early ≡ false →
+        HasDone who ended early
+    HasDone-left who ended early had none never = record {
       share = record {
         each = subst (Each (HasCallLeft here.run (retry_of who here.start))) (sym nothing)
             (Each-nil (HasCallLeft here.run (retry_of who here.start)));
-        fewer = λ few. inl inactive;
+        fewer = λ few. inl (inl inactive);
+        early = λ is. absurd (true≢false (sym is ∙ never));
       };
       stops = ap (has_ended (retry_of who here.start)) nothing ∙ sym none;
       gone = λ is. inactive;
@@ -163,13 +167,14 @@ module _ (layout : Layout) (shapes : ShapeLists) (heap hands : TableId) (k : Kee
         inactive : active_now who ≡ false
         inactive = inactive-more layout who here.start froze.part had.inactive
 
-    in_it : (who : ℕ) → who < layout.mutators → MutatorIsIn layout here who (stands.notes.ended_by who)
+    in_it : (who : ℕ) → who < layout.mutators →
+        MutatorIsIn layout here who (stands.notes.ended_by who) (get_or k.early who false)
     in_it who below = stands.notes.mutators who (omega (arith, below, all)) below
 
-    pub has_done : (who : ℕ) → who < layout.mutators → HasDone who (stands.notes.ended_by who)
+    pub has_done : (who : ℕ) → who < layout.mutators → HasDone who (stands.notes.ended_by who) (get_or k.early who false)
     has_done who below = elim (in_it who below) [
-      | inl told ↦ HasDone-told who (stands.notes.ended_by who) below told
-      | inr had ↦ HasDone-left who (stands.notes.ended_by who) had.0 had.1
+      | inl told ↦ HasDone-told who (stands.notes.ended_by who) (get_or k.early who false) below told
+      | inr had ↦ HasDone-left who (stands.notes.ended_by who) (get_or k.early who false) had.0 had.1 had.2
     ]
 
     -- who hasn't left is active
@@ -201,15 +206,17 @@ module _ (layout : Layout) (shapes : ShapeLists) (heap hands : TableId) (k : Kee
         (λ i. (sym ended_is i) || ((ap not is ∙ sym is_over-here) i))
         ∙ ap (λ (h : List Event). is_forced layout h froze.part) stands.opened
 
-    -- each mutator made its share
-    pub shares_here : (who : ℕ) → who < layout.mutators → IsShare (next_run pace layout stands.before) (retry_of who stands.before)
-        ((state_after layout (opened pace layout stands.before ++ froze.part)).active who) (calls_of who froze.part)
+    -- each mutator made its share, or stopped early
+    pub shares_here : (who : ℕ) → who < layout.mutators → IsShareWhere (next_run pace layout stands.before) (retry_of who stands.before)
+        ((state_after layout (opened pace layout stands.before ++ froze.part)).active who) (get_or k.early who false)
+        (calls_of who froze.part)
     shares_here who below =
-        subst (λ (n : ℕ). IsShare n (retry_of who stands.before)
-        ((state_after layout (opened pace layout stands.before ++ froze.part)).active who) (calls_of who froze.part)) (sym run_is)
-        (subst (λ (h : List Event). IsShare here.run (retry_of who stands.before)
-        ((state_after layout (h ++ froze.part)).active who) (calls_of who froze.part)) stands.opened
-        (subst (λ (o : Option Op). IsShare here.run o (active_now who) (calls_of who froze.part))
+        subst (λ (n : ℕ). IsShareWhere n (retry_of who stands.before)
+        ((state_after layout (opened pace layout stands.before ++ froze.part)).active who) (get_or k.early who false)
+        (calls_of who froze.part)) (sym run_is)
+        (subst (λ (h : List Event). IsShareWhere here.run (retry_of who stands.before)
+        ((state_after layout (h ++ froze.part)).active who) (get_or k.early who false) (calls_of who froze.part)) stands.opened
+        (subst (λ (o : Option Op). IsShareWhere here.run o (active_now who) (get_or k.early who false) (calls_of who froze.part))
         (ap (retry_of who) stands.opened ∙ retry_of-opened who pace layout stands.before) (has_done who below).share))
 
     -- each participant's note is in, or it has left

@@ -14,7 +14,7 @@ use Rattle.tide_model.specs.Lawful.{IsLawful}
 use Rattle.tide_model.specs.Layout.{Layout}
 use Rattle.tide_model.specs.Numbers.{any_below}
 use Rattle.tide_model.specs.Pace.{Pace}
-use Rattle.tide_model.specs.Periods.{ArePeriods, IsLegal, is_forced, is_over, next_run, open_count, opened as opened_history}
+use Rattle.tide_model.specs.Periods.{is_forced, is_over, next_run, open_count, opened as opened_history}
 use Rattle.tide_model.specs.Prefix.{IsPrefix}
 use Rattle.tide_model.specs.Refused.{ShapeLists}
 use Rattle.tide_model.specs.Since.{is_call, is_of_freeze, is_of_part}
@@ -22,11 +22,12 @@ use Rattle.tide_model.specs.State.{State, empty_state}
 use Rattle.tide_model.specs.declared.entry.Entry.TheVariants.{Open}
 use Rattle.tide_model.specs.declared.entry.Event.{Event}
 use Rattle.tide_posts.proofs.Keeping.{inactive-prefix}
+use Rattle.tide_posts.proofs.Schedule.{NoneStopped-more, periods_go_on_where}
 use Rattle.tide_posts.proofs.tide_heap.tide_freeze.BookLaws.{AddsEnds-same, AddsEnds-then, ends_in-part}
-use Rattle.tide_posts.proofs.tide_heap.tide_freeze.FreezeLaws.{periods_go_on}
 use Rattle.tide_posts.proofs.tide_heap.tide_freeze.QuietLaws.{HasFrozenWhole-quiet, kept_by_quiet}
 use Rattle.tide_posts.specs.Name.{places}
 use Rattle.tide_posts.specs.Posts.{TicketTells}
+use Rattle.tide_posts.specs.Schedule.{ArePeriodsWhere, IsLegalWhere, NoneStopped}
 use Rattle.tide_posts.specs.Among.{Among}
 use Rattle.tide_posts.specs.tide_heap.Parties.{In}
 use Rattle.tide_posts.specs.tide_heap.Turns.{Freezes, open_entry, opened}
@@ -73,8 +74,9 @@ TicketTells-opened layout shapes v run still some = record {
 }
 
 -- no note of a part that was just opened is in
-NotesAreIn-none : (layout : Layout) (v : View) → v.visited ≡ [] → v.done ≡ true → NotesAreIn layout v 0 false
-NotesAreIn-none layout v none done =
+NotesAreIn-none : (layout : Layout) (v : View) (early : List Bool) → v.visited ≡ [] → v.done ≡ true →
+    ((who : ℕ) → get_or early who false ≡ false) → NotesAreIn layout v 0 false early
+NotesAreIn-none layout v early none done nobody =
     let told = subst (λ (l : List NotedVisits). HasTold 0 (0 - layout.mutators) l) (sym none)
     (subst (λ (n : ℕ). HasTold 0 n []) (let same : 0 ≡ 0 - layout.mutators = omega arith in same) (HasTold-nothing 0)) in record {
       ended_by = λ place. false;
@@ -82,6 +84,7 @@ NotesAreIn-none layout v none done =
       mutators = λ who less. absurd (omega (arith, less));
       visitors = λ visitor less. absurd (omega (arith, less));
       none_ends = λ place behind. refl;
+      none_early = λ who past. nobody who;
       most = 0;
       visits = told.told;
       later = told.later;
@@ -89,24 +92,29 @@ NotesAreIn-none layout v none done =
     }
 
 -- A keeper stands right after an opening, if it has no note in yet, and if who has left isn't active.
-pub KeeperStands-opened : (layout : Layout) (heap hands : TableId) (k : Keeper) (before : List Event) →
-    IsKeeperOf layout heap hands k → RunsWith layout k.books (view_of k) → ArePeriods (pace_of k.books.pacing) layout before →
+pub KeeperStands-opened : (layout : Layout) (heap hands : TableId) (k : Keeper) (stops : List (List Bool)) (before : List Event) →
+    IsKeeperOf layout heap hands k → RunsWith layout k.books (view_of k) →
+    ArePeriodsWhere (pace_of k.books.pacing) layout stops before → (k.stopped ≡ false → NoneStopped layout stops) →
+    ((who : ℕ) → get_or k.early who false ≡ false) →
     is_over layout before ≡ false → (view_of k).start ≡ opened_history (pace_of k.books.pacing) layout before →
     (view_of k).marks ≡ marks_after layout (view_of k).start → (view_of k).visited ≡ [] → (view_of k).done ≡ true →
     k.next ≡ 0 → k.ended ≡ false → AreLeft layout (view_of k) 0 k.left →
     ((place : ℕ) → has_left layout k.left place ≡ true → Among place k.seat.seat.me.0.free) →
     k.seat.seat.me.0.over ≡ false → KeeperStands layout heap hands k
-KeeperStands-opened layout heap hands k before of runs periods goes_on is marking none done next ended left due no_end = record {
+KeeperStands-opened layout heap hands k stops before of runs periods never nobody goes_on is marking none done next ended left due no_end = record {
   of = of;
   runs = runs;
   before = before;
+  stops = stops;
   periods = periods;
+  none = λ e. (never e, nobody);
   goes_on = goes_on;
   opened = is;
   marking = marking;
   within = omega (arith, next);
-  notes = subst (λ (n : ℕ). NotesAreIn layout (view_of k) n k.ended) (sym next)
-      (subst (NotesAreIn layout (view_of k) 0) (sym ended) (NotesAreIn-none layout (view_of k) none done));
+  notes = subst (λ (n : ℕ). NotesAreIn layout (view_of k) n k.ended k.early) (sym next)
+      (subst (λ (b : Bool). NotesAreIn layout (view_of k) 0 b k.early) (sym ended)
+      (NotesAreIn-none layout (view_of k) k.early none done nobody));
   left = subst (λ (n : ℕ). AreLeft layout (view_of k) n k.left) (sym next) left;
   due = λ place is. by place is;
   no_end = no_end;
@@ -178,11 +186,12 @@ module _ (layout : Layout) (shapes : ShapeLists) (heap hands : TableId) (k : Kee
 
   -- the freeze made a whole period of the part
   pub MakesPeriod-frozen : forces ≡ is_forced layout (opened_history pace layout stands.before) froze.part →
-      MakesPeriod layout shapes k w.seen
+      MakesPeriod layout shapes k k.stopped w.seen
   MakesPeriod-frozen forced = record {
     grows = begun_is;
     lawful = did.collected.still.wave.lawful;
-    periods = periods_go_on pace layout stands.before froze.part w.seen stands.periods stands.goes_on
+    stops = stands.stops ++ k.early ∷ [];
+    periods = periods_go_on_where pace layout stands.stops k.early stands.before froze.part w.seen stands.periods stands.goes_on
         (AllPass-from_list_all (λ (e : Event). is_of_part e.entry) froze.part froze.of_part)
         (λ marks. AllPass-from_list_all (λ (e : Event). is_call e.entry) froze.part
         (calls_where_marking layout shapes froze.part (opened_history pace layout stands.before)
@@ -195,6 +204,7 @@ module _ (layout : Layout) (shapes : ShapeLists) (heap hands : TableId) (k : Kee
         (is_forced layout (opened_history pace layout stands.before) froze.part))
         (seen_is ∙ ap (λ (h : List Event). h ++ froze.part) stands.opened)
         (subst (HasFrozenWhole pace layout (last_run u.seen) u.seen w.seen) forced did.collected.freezes)));
+    none = λ e. NoneStopped-more layout stands.stops k.early (stands.none e).0 (stands.none e).1;
     ends = did.collected.still.ends;
   }
 
@@ -208,25 +218,25 @@ module _ (layout : Layout) (shapes : ShapeLists) (heap hands : TableId) (k : Kee
 
   -- where all have left the history is finished
   pub HasFinished-frozen : (final : Keeper) → final.collector ≡ new.collector → final.books.pacing ≡ k.books.pacing →
-      new.collector.seat.table_id ≡ heap → MakesPeriod layout shapes k w.seen →
+      final.stopped ≡ k.stopped → new.collector.seat.table_id ≡ heap → MakesPeriod layout shapes k k.stopped w.seen →
       any_below (λ who. not (get_or k.left who false)) layout.mutators ≡ false → HasPostedEnds layout k final →
       HasFinished layout shapes heap k final report longer
-  HasFinished-frozen final same pacing table makes over posted = record {
+  HasFinished-frozen final same pacing stopped table makes over posted = record {
     grows = subst (IsPrefix v.start) (sym seen_now) begun_is;
     finished = record {
       table = ap (λ (c : Collector). c.seat.table_id) same ∙ table;
       frozen = ap (λ (c : Collector). c.seat.me.0.frozen) same ∙ did.collected.still.frozen;
       gone = λ i below. subst (In i) (sym (ap (λ (c : Collector). c.seat.me.0.gone) same ∙ gone_is))
           ((stands.left.known i below).0 (left_all i below));
-      legal = subst (λ (p : Pacing). IsLegal (pace_of p) layout shapes (view_of final).seen) (sym pacing)
-          (subst (IsLegal pace layout shapes) (sym seen_now) (record {
+      stops = makes.stops;
+      legal = subst (λ (p : Pacing). IsLegalWhere (pace_of p) layout shapes makes.stops (view_of final).seen) (sym pacing)
+          (subst (IsLegalWhere pace layout shapes makes.stops) (sym seen_now) (record {
             lawful = makes.lawful;
-            scheduled = record {
-              periods = makes.periods;
-              ends = makes.ends;
-              over = is_over-frozen ∙ ap not over;
-            };
+            periods = makes.periods;
+            ends = makes.ends;
+            over = is_over-frozen ∙ ap not over;
           }));
+      none = λ e. makes.none (sym stopped ∙ e);
     };
     posted = posted;
     told = subst (λ (h : List Event). AddsEnds layout v.start h report longer) (sym seen_now) AddsEnds-frozen;
@@ -244,11 +254,13 @@ module _ (layout : Layout) (shapes : ShapeLists) (heap hands : TableId) (k : Kee
           of_not false e = absurd (cc)
 
   -- where the number of the part was the last one none is opened
-  pub HasSpentParts-frozen : (final : Keeper) → view_of final ≡ w → MakesPeriod layout shapes k w.seen →
+  pub HasSpentParts-frozen : (final : Keeper) → view_of final ≡ w → final.stopped ≡ k.stopped →
+      MakesPeriod layout shapes k k.stopped w.seen →
       any_below (λ who. not (get_or k.left who false)) layout.mutators ≡ true → w.period ≡ 2 ^ 32 - 1 →
       HasPostedEnds layout k final → HasSpentParts layout shapes k final report longer
-  HasSpentParts-frozen final same makes goes_on last posted = record {
-    makes = subst (MakesPeriod layout shapes k) (sym seen_now) makes;
+  HasSpentParts-frozen final same stopped makes goes_on last posted = record {
+    makes = subst (λ (b : Bool). MakesPeriod layout shapes k b (view_of final).seen) (sym stopped)
+        (subst (MakesPeriod layout shapes k k.stopped) (sym seen_now) makes);
     goes_on = ap (is_over layout) seen_now ∙ is_over-frozen ∙ ap not goes_on;
     last = sym (ap (λ (x : View). x.period) did.collected.rest ∙ ap (λ (x : View). x.period) froze.view) ∙ last;
     posted = posted;
@@ -293,25 +305,27 @@ module _ (layout : Layout) (shapes : ShapeLists) (heap hands : TableId) (k : Kee
         gone_now = ap (λ (y : View). y.gone) is_opened ∙ gone_is
 
     pub HasOpenedPart-frozen : IsKeeperOf layout heap hands final → final.next ≡ 0 → final.ended ≡ false →
-        final.left ≡ k.left → final.seat.seat.me.0.over ≡ false →
+        final.left ≡ k.left → final.stopped ≡ k.stopped → ((who : ℕ) → get_or final.early who false ≡ false) →
+        final.seat.seat.me.0.over ≡ false →
         final.seat.seat.me.0.given ≡ k.seat.seat.me.0.given + ticket_count layout k.left →
         ((place : ℕ) → has_left layout k.left place ≡ true → Among place final.seat.seat.me.0.free) →
-        MakesPeriod layout shapes k w.seen → any_below (λ who. not (get_or k.left who false)) layout.mutators ≡ true →
+        MakesPeriod layout shapes k k.stopped w.seen → any_below (λ who. not (get_or k.left who false)) layout.mutators ≡ true →
         HasOpenedPart layout shapes heap hands k final report longer
-    HasOpenedPart-frozen of none ended left no_end posted due makes goes_on = record {
+    HasOpenedPart-frozen of none ended left stopped nobody no_end posted due makes goes_on = record {
       after = w.seen;
-      makes = makes;
+      makes = subst (λ (b : Bool). MakesPeriod layout shapes k b w.seen) (sym stopped) makes;
       goes_on = over;
       opened = start_is;
       period = next.period;
-      stands = KeeperStands-opened layout heap hands final w.seen of
+      stands = KeeperStands-opened layout heap hands final makes.stops w.seen of
           (subst (λ (b : Books). RunsWith layout b x) (sym same_books) (record {
             runs = next.runs.runs;
             few = next.runs.few;
             numbered = next.runs.numbered;
             are = record { births = next.runs.are.births; room = next.runs.are.room };
           }))
-          (subst (λ (p : Pacing). ArePeriods (pace_of p) layout w.seen) (sym same_pacing) makes.periods) over
+          (subst (λ (p : Pacing). ArePeriodsWhere (pace_of p) layout makes.stops w.seen) (sym same_pacing) makes.periods)
+          (λ e. makes.none (sym stopped ∙ e)) nobody over
           (subst (λ (p : Pacing). x.start ≡ opened_history (pace_of p) layout w.seen) (sym same_pacing) start_is) marking next.visited
           next.done none ended (subst (AreLeft layout x 0) (sym left) left_now)
           (λ place is. due place (ap (λ (l : List Bool). has_left layout l place) (sym left) ∙ is)) no_end;

@@ -71,18 +71,19 @@ module _ (v u : View) where
     left = gone_here u.left isnt;
   }
 
-  MutatorIsIn-more : (layout : Layout) (who : ℕ) (ended : Bool) → (who ≡ u.who → ⊥) → MutatorIsIn layout v who ended →
-      MutatorIsIn layout (noted v u) who ended
-  MutatorIsIn-more layout who ended apart (inl told) = inl (record {
+  MutatorIsIn-more : (layout : Layout) (who : ℕ) (ended early : Bool) → (who ≡ u.who → ⊥) →
+      MutatorIsIn layout v who ended early → MutatorIsIn layout (noted v u) who ended early
+  MutatorIsIn-more layout who ended early apart (inl told) = inl (record {
     note = told.note;
     is = told.is;
     period = told.period;
     tells = told.tells;
     is_in = NoteIsIn-more told.note (λ e. apart (sym told.is ∙ e)) told.is_in;
   })
-  MutatorIsIn-more layout who ended apart (inr had) = inr (
+  MutatorIsIn-more layout who ended early apart (inr had) = inr (
     record { gone = gone_more who u.left had.0.gone; inactive = had.0.inactive },
     had.1,
+    had.2,
   )
 
   HasToldVisits-more : (layout : Layout) (visitor : ℕ) → (first_visitor + visitor ≡ u.who → ⊥) →
@@ -141,22 +142,27 @@ AreLeft-later layout v place left are = record {
 }
 
 -- one more place is done with, that of a mutator
-NotesAreIn-mutator : (layout : Layout) (v w : View) (place : ℕ) (ended ends : Bool) → place < layout.mutators →
-    MutatorIsIn layout w place ends →
-    ((who : ℕ) (b : Bool) → who < place → MutatorIsIn layout v who b → MutatorIsIn layout w who b) →
-    (in_it : NotesAreIn layout v place ended) → HasTold in_it.most (suc place - layout.mutators) w.visited → w.done ≡ true →
-    NotesAreIn layout w (suc place) (ended || ends)
-NotesAreIn-mutator layout v w place ended ends below here others in_it told done = record {
+NotesAreIn-mutator : (layout : Layout) (v w : View) (place : ℕ) (ended ends : Bool) (early now : List Bool) →
+    place < layout.mutators → MutatorIsIn layout w place ends (get_or now place false) →
+    ((who : ℕ) (b s : Bool) → who < place → MutatorIsIn layout v who b s → MutatorIsIn layout w who b s) →
+    ((who : ℕ) → (who ≡ place → ⊥) → get_or now who false ≡ get_or early who false) →
+    (in_it : NotesAreIn layout v place ended early) → HasTold in_it.most (suc place - layout.mutators) w.visited →
+    w.done ≡ true → NotesAreIn layout w (suc place) (ended || ends) now
+NotesAreIn-mutator layout v w place ended ends early now below here others kept in_it told done = record {
   ended_by = by;
   is_ended = λ i. ((in_it.is_ended ∙ any_below-same in_it.ended_by by place (λ n less. sym (by_other n (λ e. omega (arith, e, less))))) i)
       || (sym by_here i);
   mutators = λ who less few. elim (cases_eq who place) [
-    | inl same ↦ subst (λ (n : ℕ). MutatorIsIn layout w n (by n)) (sym same) (subst (MutatorIsIn layout w place) (sym by_here) here)
-    | inr apart ↦ subst (MutatorIsIn layout w who) (sym (by_other who apart))
-        (others who (in_it.ended_by who) (omega (arith, less, apart)) (in_it.mutators who (omega (arith, less, apart)) few))
+    | inl same ↦ subst (λ (n : ℕ). MutatorIsIn layout w n (by n) (get_or now n false)) (sym same)
+        (subst (λ (b : Bool). MutatorIsIn layout w place b (get_or now place false)) (sym by_here) here)
+    | inr apart ↦ subst (λ (b : Bool). MutatorIsIn layout w who b (get_or now who false)) (sym (by_other who apart))
+        (subst (MutatorIsIn layout w who (in_it.ended_by who)) (sym (kept who apart))
+        (others who (in_it.ended_by who) (get_or early who false) (omega (arith, less, apart))
+        (in_it.mutators who (omega (arith, less, apart)) few)))
   ];
   visitors = λ visitor less. absurd (omega (arith, less, below));
   none_ends = λ n behind. by_other n (λ e. omega (arith, e, behind, below)) ∙ in_it.none_ends n behind;
+  none_early = λ who past. kept who (λ e. omega (arith, e, past)) ∙ in_it.none_early who (omega (arith, past));
   most = in_it.most;
   visits = told.told;
   later = told.later;
@@ -181,44 +187,48 @@ same_count : (mutators place : ℕ) → place < mutators → place - mutators �
 same_count mutators place below = omega (arith, below)
 
 -- a mutator's note is taken in
-pub NotesAreIn-told : (layout : Layout) (v u : View) (place : ℕ) (ended ends : Bool) → place < layout.mutators →
-    place < first_visitor → u.who ≡ place → u.period ≡ v.period → MutatorTells u ends → u.done ≡ true →
-    (In place v.gone → ⊥) → NotesAreIn layout v place ended → NotesAreIn layout (noted v u) (suc place) (ended || ends)
-NotesAreIn-told layout v u place ended ends below few is now tells done isnt in_it =
-    NotesAreIn-mutator layout v (noted v u) place ended ends below
-    (inl (record {
+pub NotesAreIn-told : (layout : Layout) (v u : View) (place : ℕ) (ended ends : Bool) (early : List Bool) (stops : Bool) →
+    place < layout.mutators → place < length early → place < first_visitor → u.who ≡ place → u.period ≡ v.period →
+    MutatorTells u ends stops → u.done ≡ true → (In place v.gone → ⊥) → NotesAreIn layout v place ended early →
+    NotesAreIn layout (noted v u) (suc place) (ended || ends) (set early place stops)
+NotesAreIn-told layout v u place ended ends early stops below within few is now tells done isnt in_it =
+    NotesAreIn-mutator layout v (noted v u) place ended ends early (set early place stops) below
+    (subst (MutatorIsIn layout (noted v u) place ends) (sym (get_or-set_same early place stops false within)) (inl (record {
       note = u;
       is = is;
       period = now;
       tells = tells;
       is_in = NoteIsIn-here v u (subst (λ (n : ℕ). In n v.gone → ⊥) (sym is) isnt);
-    }))
-    (λ who b less. MutatorIsIn-more v u layout who b (λ e. omega (arith, e, is, less))) in_it
+    })))
+    (λ who b s less. MutatorIsIn-more v u layout who b s (λ e. omega (arith, e, is, less)))
+    (λ who apart. get_or-set_other early place who stops false apart) in_it
     (subst (λ (n : ℕ). HasTold in_it.most n (visited_of v.period u ∷ v.visited)) (same_count layout.mutators place below)
     (HasTold-mutator in_it.most (place - layout.mutators) (visited_of v.period u) v.visited (omega (arith, is, few))
     (none_by u.visits tells.still (u.begun == v.period)) (record { told = in_it.visits; later = in_it.later })))
     (ap (λ (b : Bool). b && u.done) in_it.done ∙ done)
 
 -- a mutator had left, so that it hands none in
-pub NotesAreIn-left : (layout : Layout) (v : View) (place : ℕ) (ended : Bool) → place < layout.mutators →
-    HadLeft layout v place → NotesAreIn layout v place ended → NotesAreIn layout v (suc place) ended
-NotesAreIn-left layout v place ended below had in_it =
-    subst (NotesAreIn layout v (suc place)) (or_false ended)
-    (NotesAreIn-mutator layout v v place ended false below (inr (had, refl)) (λ who b less is. is) in_it
+pub NotesAreIn-left : (layout : Layout) (v : View) (place : ℕ) (ended : Bool) (early : List Bool) → place < layout.mutators →
+    HadLeft layout v place → NotesAreIn layout v place ended early → NotesAreIn layout v (suc place) ended early
+NotesAreIn-left layout v place ended early below had in_it =
+    subst (λ (b : Bool). NotesAreIn layout v (suc place) b early) (or_false ended)
+    (NotesAreIn-mutator layout v v place ended false early early below (inr (had, refl, in_it.none_early place (omega arith)))
+    (λ who b s less is. is) (λ who apart. refl) in_it
     (subst (λ (n : ℕ). HasTold in_it.most n v.visited) (same_count layout.mutators place below)
     (record { told = in_it.visits; later = in_it.later }))
     in_it.done)
 
 -- a visitor's note is taken in
-pub NotesAreIn-visited : (layout : Layout) (v u : View) (place : ℕ) (ended : Bool) → layout.mutators ≤ place →
+pub NotesAreIn-visited : (layout : Layout) (v u : View) (place : ℕ) (ended : Bool) (early : List Bool) → layout.mutators ≤ place →
     layout.mutators ≤ first_visitor → u.who ≡ first_visitor + (place - layout.mutators) → u.period ≡ v.period →
     u.begun ≡ v.period → HasMarked layout u.period u.run u.marks u.seen u.visits → u.done ≡ true →
-    (In u.who v.gone → ⊥) → NotesAreIn layout v place ended → NotesAreIn layout (noted v u) (suc place) ended
-NotesAreIn-visited layout v u place ended behind few is now begun marked done isnt in_it = record {
+    (In u.who v.gone → ⊥) → NotesAreIn layout v place ended early → NotesAreIn layout (noted v u) (suc place) ended early
+NotesAreIn-visited layout v u place ended early behind few is now begun marked done isnt in_it = record {
   ended_by = in_it.ended_by;
   is_ended = in_it.is_ended ∙ sym (or_false (any_below in_it.ended_by place))
       ∙ ap (λ (b : Bool). any_below in_it.ended_by place || b) (sym (in_it.none_ends place behind));
-  mutators = λ who less below. MutatorIsIn-more v u layout who (in_it.ended_by who) (λ e. omega (arith, e, is, below, few))
+  mutators = λ who less below. MutatorIsIn-more v u layout who (in_it.ended_by who) (get_or early who false)
+      (λ e. omega (arith, e, is, below, few))
       (in_it.mutators who (omega (arith, below, behind)) below);
   visitors = λ visitor less. elim (cases_eq visitor (place - layout.mutators)) [
     | inl same ↦ subst (HasToldVisits layout (noted v u)) (sym same) here
@@ -226,6 +236,7 @@ NotesAreIn-visited layout v u place ended behind few is now begun marked done is
         (in_it.visitors visitor (omega (arith, less, apart, behind)))
   ];
   none_ends = in_it.none_ends;
+  none_early = λ who past. in_it.none_early who (omega (arith, past));
   most = in_it.most + u.visits;
   visits = told.told;
   later = told.later;

@@ -16,17 +16,17 @@ use Rattle.tide_table.specs.VisitsTold.{most_visits}
 use Rattle.tide_visitor.specs.Visits.{visit_frame}
 
 -- the note of a mutator that made its share
-pub IsNoteFor-mutator : (name : Name) (place : ℕ) (note : Note) (v : View) (ended : Bool) →
+pub IsNoteFor-mutator : (name : Name) (place : ℕ) (note : Note) (v : View) (ended early : Bool) →
     note.seat.table_id ≡ name.table_id → note.seat.me.0 ≡ note_of true (stopped_view v) → v.who ≡ place →
     place < name.layout.mutators → v.begun ≡ v.ticket → v.visits ≡ 0 →
-    HasShared v.who v.ticket v.run v.seen v.mine v.left ended → IsNoteFor name place note ended
-IsNoteFor-mutator name place note v ended of_heap is its below begun still shared = record {
+    HasShared v.who v.ticket v.run v.seen v.mine v.left ended early → IsNoteFor name place note ended early
+IsNoteFor-mutator name place note v ended early of_heap is its below begun still shared = record {
   of_heap = of_heap;
   is = ap (λ (u : View). u.who) is ∙ its ∙ sym (ap (λ (b : Bool). if b then place else first_visitor + (place - name.layout.mutators)) first);
   begun = ap (λ (u : View). u.begun) is ∙ begun ∙ sym (ap (λ (u : View). u.period) is);
   done = ap (λ (u : View). u.done) is;
-  did = subst (λ (b : Bool). MatchBool b (MutatorTells note.seat.me.0 ended) (VisitorTells name.layout note.seat.me.0 ended))
-      (sym first) (subst (λ (u : View). MutatorTells u ended) (sym is) record { shared = shared; still = still });
+  did = subst (λ (b : Bool). MatchBool b (MutatorTells note.seat.me.0 ended early) (VisitorTells name.layout note.seat.me.0 ended early))
+      (sym first) (subst (λ (u : View). MutatorTells u ended early) (sym is) record { shared = shared; still = still });
 }
   where
     first : nat_lt place name.layout.mutators ≡ true
@@ -43,14 +43,14 @@ module _ (name : Name) (place : ℕ) (note : Note) (v t u w : View) {done : Bool
 
   pub IsNoteFor-visitor : TicketTells name.layout t → v.who ≡ who_at name.layout place → name.layout.mutators ≤ place →
       IsPrefix t.seen u.seen → v.left ≡ false → note.seat.me.0.done ≡ true → note.seat.me.0.visits ≡ w.visits →
-      IsNoteFor name place note false
+      IsNoteFor name place note false false
   IsNoteFor-visitor tells who behind told stays has_done visits = record {
     of_heap = of_heap;
     is = ap (λ (x : View). x.who) is ∙ ap (λ (x : View). x.who) kept ∙ ap (λ (x : View). x.who) first ∙ who;
     begun = ap (λ (x : View). x.begun) is ∙ ap (λ (x : View). x.begun) kept ∙ ap (λ (x : View). x.begun) first
         ∙ sym (ap (λ (x : View). x.period) is ∙ ap (λ (x : View). x.ticket) kept ∙ ap (λ (x : View). x.ticket) first);
     done = has_done;
-    did = subst (λ (b : Bool). MatchBool b (MutatorTells at_last false) (VisitorTells name.layout at_last false)) (sym isnt) record {
+    did = subst (λ (b : Bool). MatchBool b (MutatorTells at_last false false) (VisitorTells name.layout at_last false false)) (sym isnt) record {
       marked = record {
         told = t.seen;
         opening = subst (λ (n : ℕ). IsOpening n at_last.run t.seen) (sym period)
@@ -61,7 +61,7 @@ module _ (name : Name) (place : ℕ) (note : Note) (v t u w : View) {done : Bool
             (subst (λ (n : ℕ). w.visits ≤ n) same most);
       };
       stays = ap (λ (x : View). x.left) is ∙ ap (λ (x : View). x.left) kept ∙ ap (λ (x : View). x.left) first ∙ stays;
-      none = refl;
+      none = (refl, refl);
     };
   }
     where

@@ -1,14 +1,15 @@
 -- A keeper whose part is open goes on, place by place.
-use Rattle.std.proofs.Common.{ℕ, suc, ◌≡◌, ◌+◌, ◌-◌, ◌<◌, ◌≤◌, ◌∙◌, refl, sym, ap, subst, arith, Bool, true, false, List, get_or, set, length, get_or-set_other, inl, inr, ◌⊎◌, lt-ltb, le-ltb, true≢false}
+use Rattle.std.proofs.Common.{ℕ, suc, ◌≡◌, ◌+◌, ◌-◌, ◌<◌, ◌≤◌, ◌∙◌, refl, sym, ap, subst, arith, Bool, true, false, List, get_or, set, length, get_or-set_same, get_or-set_other, inl, inr, ◌⊎◌, lt-ltb, le-ltb, true≢false}
 use Rattle.std.proofs.lemmas.Bool.{and_parts, cases_eq, ltb-true}
 use Rattle.std.specs.Prelude.{◌||◌, ◌&&◌, MatchBool, if◌then◌else◌, nat_lt}
 use Rattle.atomic_table.specs.Seated.{TableId}
 use Rattle.tide_model.specs.Freeze.{marks_after}
 use Rattle.tide_model.specs.Layout.{Layout}
-use Rattle.tide_model.specs.Periods.{ArePeriods, opened}
+use Rattle.tide_model.specs.Periods.{opened}
 use Rattle.tide_posts.specs.Name.{Name, places}
 use Rattle.tide_posts.specs.Posts.{IsNoteFor, MutatorTells, VisitorTells}
 use Rattle.tide_posts.specs.Among.{Among}
+use Rattle.tide_posts.specs.Schedule.{ArePeriodsWhere, NoneStopped}
 use Rattle.tide_posts.specs.tide_hands.Seats.{frame}
 use Rattle.tide_posts.specs.tide_hands.declared.view.HandView.{HandView}
 use Rattle.tide_posts.specs.tide_heap.Parties.{In}
@@ -29,6 +30,11 @@ use Rattle.tide_table.specs.declared.collector.Collector.{Collector}
 one_more : (n : ℕ) → suc n ≡ n + 1
 one_more n = omega arith
 
+stopped_parts : (a b : Bool) → (a || b) ≡ false → (a ≡ false) × (b ≡ false)
+stopped_parts false false e = (refl, refl)
+stopped_parts false true e = absurd (cc)
+stopped_parts true b e = absurd (cc)
+
 module _ (layout : Layout) (heap hands : TableId) (k : Keeper) (stands : KeeperStands layout heap hands k) where
   -- of the keeper's seat a look leaves this, and makes nothing else than places known at which a ticket is due
   pub record HasLooked (now : Keeper) : Type 0 where
@@ -42,10 +48,11 @@ module _ (layout : Layout) (heap hands : TableId) (k : Keeper) (stands : KeeperS
   IsWaiting-by : (now : Keeper) → HasLooked now → now.collector.seat.table_id ≡ k.collector.seat.table_id →
       now.books ≡ k.books → RunsWith layout k.books (view_of now) → (view_of now).start ≡ (view_of k).start →
       (view_of now).period ≡ (view_of k).period → (view_of now).marks ≡ (view_of k).marks → now.next ≤ places layout →
-      NotesAreIn layout (view_of now) now.next now.ended → AreLeft layout (view_of now) now.next now.left →
+      NotesAreIn layout (view_of now) now.next now.ended now.early →
+      (now.stopped ≡ false → (k.stopped ≡ false) × ((who : ℕ) → get_or now.early who false ≡ false)) → AreLeft layout (view_of now) now.next now.left →
       ((place : ℕ) → (place < now.next) ⊎ (has_left layout now.left place ≡ true) → Among place now.seat.seat.me.0.free) →
       IsWaiting layout heap hands k now
-  IsWaiting-by now looked table books runs start period marks within notes left due = record {
+  IsWaiting-by now looked table books runs start period marks within notes none left due = record {
     stands = record {
       of = record {
         table = table ∙ stands.of.table;
@@ -54,7 +61,9 @@ module _ (layout : Layout) (heap hands : TableId) (k : Keeper) (stands : KeeperS
       };
       runs = subst (λ (b : Books). RunsWith layout b (view_of now)) (sym books) runs;
       before = stands.before;
-      periods = subst (λ (b : Books). ArePeriods (pace_of b.pacing) layout stands.before) (sym books) stands.periods;
+      stops = stands.stops;
+      periods = subst (λ (b : Books). ArePeriodsWhere (pace_of b.pacing) layout stands.stops stands.before) (sym books) stands.periods;
+      none = λ e. ((stands.none (none e).0).0, (none e).1);
       goes_on = stands.goes_on;
       opened = start ∙ stands.opened ∙ ap (λ (b : Books). opened (pace_of b.pacing) layout stands.before) (sym books);
       marking = marks ∙ stands.marking ∙ ap (marks_after layout) (sym start);
@@ -70,17 +79,27 @@ module _ (layout : Layout) (heap hands : TableId) (k : Keeper) (stands : KeeperS
     posted = looked.given;
   }
 
+  -- who stopped early stays known
+  none_still : (now : Keeper) → now.stopped ≡ k.stopped → now.early ≡ k.early → now.stopped ≡ false →
+      (k.stopped ≡ false) × ((who : ℕ) → get_or now.early who false ≡ false)
+  none_still now stopped early e =
+      let so = sym stopped ∙ e in
+      (so, λ who. ap (λ (l : List Bool). get_or l who false) early ∙ (stands.none so).1 who)
+
   -- nothing was found
   pub IsWaiting-same : (now : Keeper) → HasLooked now → now.collector ≡ k.collector → now.books ≡ k.books →
-      now.next ≡ k.next → now.ended ≡ k.ended → now.left ≡ k.left → IsWaiting layout heap hands k now
-  IsWaiting-same now looked collector books next ended left =
+      now.next ≡ k.next → now.ended ≡ k.ended → now.early ≡ k.early → now.stopped ≡ k.stopped → now.left ≡ k.left →
+      IsWaiting layout heap hands k now
+  IsWaiting-same now looked collector books next ended early stopped left =
       IsWaiting-by now looked (ap (λ (c : Collector). c.seat.table_id) collector) books
       (subst (RunsWith layout k.books) (sym same) stands.runs)
       (ap (λ (v : View). v.start) same) (ap (λ (v : View). v.period) same) (ap (λ (v : View). v.marks) same)
       (subst (λ (n : ℕ). n ≤ places layout) (sym next) stands.within)
-      (subst (λ (v : View). NotesAreIn layout v now.next now.ended) (sym same)
-      (subst (λ (n : ℕ). NotesAreIn layout (view_of k) n now.ended) (sym next)
-      (subst (NotesAreIn layout (view_of k) k.next) (sym ended) stands.notes)))
+      (subst (λ (v : View). NotesAreIn layout v now.next now.ended now.early) (sym same)
+      (subst (λ (n : ℕ). NotesAreIn layout (view_of k) n now.ended now.early) (sym next)
+      (subst (λ (b : Bool). NotesAreIn layout (view_of k) k.next b now.early) (sym ended)
+      (subst (NotesAreIn layout (view_of k) k.next k.ended) (sym early) stands.notes))))
+      (none_still now stopped early)
       (subst (λ (v : View). AreLeft layout v now.next now.left) (sym same)
       (subst (λ (n : ℕ). AreLeft layout (view_of k) n now.left) (sym next)
       (subst (AreLeft layout (view_of k) k.next) (sym left) stands.left)))
@@ -102,9 +121,10 @@ module _ (layout : Layout) (heap hands : TableId) (k : Keeper) (stands : KeeperS
       IsWaiting-by (record k { next = place + 1; period_is = period_is })
       (record { seated = refl; kept = refl; over = refl; given = refl; free = λ q e. e }) refl refl stands.runs refl refl refl
       (omega (arith, below))
-      (subst (λ (n : ℕ). NotesAreIn layout (view_of k) n k.ended) (one_more place)
-      (NotesAreIn-left layout (view_of k) place k.ended below had
-      (subst (λ (n : ℕ). NotesAreIn layout (view_of k) n k.ended) next stands.notes)))
+      (subst (λ (n : ℕ). NotesAreIn layout (view_of k) n k.ended k.early) (one_more place)
+      (NotesAreIn-left layout (view_of k) place k.ended k.early below had
+      (subst (λ (n : ℕ). NotesAreIn layout (view_of k) n k.ended k.early) next stands.notes)))
+      (λ e. (e, (stands.none e).1))
       (subst (λ (n : ℕ). AreLeft layout (view_of k) n k.left) (one_more place)
       (AreLeft-later layout (view_of k) place k.left (subst (λ (n : ℕ). AreLeft layout (view_of k) n k.left) next stands.left)))
       (λ q e. stands.due q (was q e))
@@ -135,8 +155,8 @@ module _ (layout : Layout) (heap hands : TableId) (k : Keeper) (stands : KeeperS
 
   -- a note of the part was taken in
   module _ (place : ℕ) (next : k.next ≡ place) (within : place < places layout) (few : layout.mutators ≤ 16)
-      (long : length k.left ≡ 16) (note : Note) (ends : Bool)
-      (told : IsNoteFor (record { layout = layout; table_id = heap }) place note ends) where
+      (long : length k.left ≡ 16) (note : Note) (ends stops : Bool)
+      (told : IsNoteFor (record { layout = layout; table_id = heap }) place note ends stops) where
     abbrev u : View
     u = note.seat.me.0
 
@@ -156,8 +176,8 @@ module _ (layout : Layout) (heap hands : TableId) (k : Keeper) (stands : KeeperS
         was apart (inl less) = inl (omega (arith, less, later, next, apart))
         was apart (inr is) = inr (sym (same q apart) ∙ is)
 
-    notes_were : NotesAreIn layout v place k.ended
-    notes_were = subst (λ (n : ℕ). NotesAreIn layout v n k.ended) next stands.notes
+    notes_were : NotesAreIn layout v place k.ended k.early
+    notes_were = subst (λ (n : ℕ). NotesAreIn layout v n k.ended k.early) next stands.notes
 
     left_were : AreLeft layout v place k.left
     left_were = subst (λ (n : ℕ). AreLeft layout v n k.left) next stands.left
@@ -165,15 +185,19 @@ module _ (layout : Layout) (heap hands : TableId) (k : Keeper) (stands : KeeperS
     pub IsWaiting-told : (now : Keeper) → HasLooked now → Among place now.seat.seat.me.0.free →
         now.collector.seat.table_id ≡ k.collector.seat.table_id → view_of now ≡ noted v u → now.books ≡ k.books →
         now.next ≡ place + 1 → now.ended ≡ (k.ended || ends) → now.left ≡ set k.left place u.left → place < layout.mutators →
-        get_or k.left place false ≡ false → u.period ≡ v.period → IsWaiting layout heap hands k now
-    IsWaiting-told now looked here table is books later ended left below stays period =
+        get_or k.left place false ≡ false → u.period ≡ v.period → length k.early ≡ 16 → now.early ≡ set k.early place stops →
+        now.stopped ≡ (k.stopped || stops) → IsWaiting layout heap hands k now
+    IsWaiting-told now looked here table is books later ended left below stays period wide early stopped =
         IsWaiting-by now looked table books (subst (RunsWith layout k.books) (sym is) (RunsWith-noted layout k.books v u stands.runs))
         (ap (λ (x : View). x.start) is) (ap (λ (x : View). x.period) is) (ap (λ (x : View). x.marks) is) (omega (arith, later, within))
-        (subst (λ (x : View). NotesAreIn layout x now.next now.ended) (sym is)
-        (subst (λ (n : ℕ). NotesAreIn layout (noted v u) n now.ended) (sym later)
-        (subst (NotesAreIn layout (noted v u) (place + 1)) (sym ended)
-        (subst (λ (n : ℕ). NotesAreIn layout (noted v u) n (k.ended || ends)) (one_more place)
-        (NotesAreIn-told layout v u place k.ended ends below (omega (arith, below, few)) who period tells told.done isnt notes_were)))))
+        (subst (λ (x : View). NotesAreIn layout x now.next now.ended now.early) (sym is)
+        (subst (λ (n : ℕ). NotesAreIn layout (noted v u) n now.ended now.early) (sym later)
+        (subst (λ (b : Bool). NotesAreIn layout (noted v u) (place + 1) b now.early) (sym ended)
+        (subst (NotesAreIn layout (noted v u) (place + 1) (k.ended || ends)) (sym early)
+        (subst (λ (n : ℕ). NotesAreIn layout (noted v u) n (k.ended || ends) (set k.early place stops)) (one_more place)
+        (NotesAreIn-told layout v u place k.ended ends k.early stops below (omega (arith, below, few, wide)) (omega (arith, below, few)) who
+        period tells told.done isnt notes_were))))))
+        (none_now (λ e. stopped_parts k.stopped stops (sym stopped ∙ e)) early)
         (subst (λ (x : View). AreLeft layout x now.next now.left) (sym is)
         (subst (λ (n : ℕ). AreLeft layout (noted v u) n now.left) (sym later)
         (subst (AreLeft layout (noted v u) (place + 1)) (sym left)
@@ -189,24 +213,41 @@ module _ (layout : Layout) (heap hands : TableId) (k : Keeper) (stands : KeeperS
         who : u.who ≡ place
         who = told.is ∙ ap (λ (b : Bool). if b then place else first_visitor + (place - layout.mutators)) is_mutator
 
-        tells : MutatorTells u ends
-        tells = subst (λ (b : Bool). MatchBool b (MutatorTells u ends) (VisitorTells layout u ends)) is_mutator told.did
+        tells : MutatorTells u ends stops
+        tells = subst (λ (b : Bool). MatchBool b (MutatorTells u ends stops) (VisitorTells layout u ends stops)) is_mutator told.did
+
+        none_now : (now.stopped ≡ false → (k.stopped ≡ false) × (stops ≡ false)) → now.early ≡ set k.early place stops →
+            now.stopped ≡ false → (k.stopped ≡ false) × ((who : ℕ) → get_or now.early who false ≡ false)
+        none_now parts is e =
+            let so = parts e in
+            (so.0, λ who. ap (λ (l : List Bool). get_or l who false) is ∙ none_at who so.1 ((stands.none so.0).1 who))
+          where
+            none_at : (who : ℕ) → stops ≡ false → get_or k.early who false ≡ false → get_or (set k.early place stops) who false ≡ false
+            none_at who isnt had = elim (cases_eq who place) [
+              | inl same ↦ ap (λ (n : ℕ). get_or (set k.early place stops) n false) same
+                  ∙ get_or-set_same k.early place stops false (omega (arith, below, few, wide)) ∙ isnt
+              | inr apart ↦ get_or-set_other k.early place who stops false apart ∙ had
+            ]
 
         isnt : In place v.gone → ⊥
         isnt e = true≢false (sym ((stands.left.known place below).1 e) ∙ stays)
 
     pub IsWaiting-visited : (now : Keeper) → HasLooked now → Among place now.seat.seat.me.0.free →
         now.collector.seat.table_id ≡ k.collector.seat.table_id → view_of now ≡ noted v u → now.books ≡ k.books →
-        now.next ≡ place + 1 → now.ended ≡ (k.ended || ends) → now.left ≡ k.left → layout.mutators ≤ place →
-        u.period ≡ v.period → IsWaiting layout heap hands k now
-    IsWaiting-visited now looked here table is books later ended left behind period =
+        now.next ≡ place + 1 → now.ended ≡ (k.ended || ends) → now.early ≡ k.early → now.stopped ≡ k.stopped →
+        now.left ≡ k.left → layout.mutators ≤ place → u.period ≡ v.period → IsWaiting layout heap hands k now
+    IsWaiting-visited now looked here table is books later ended early stopped left behind period =
         IsWaiting-by now looked table books (subst (RunsWith layout k.books) (sym is) (RunsWith-noted layout k.books v u stands.runs))
         (ap (λ (x : View). x.start) is) (ap (λ (x : View). x.period) is) (ap (λ (x : View). x.marks) is) (omega (arith, later, within))
-        (subst (λ (x : View). NotesAreIn layout x now.next now.ended) (sym is)
-        (subst (λ (n : ℕ). NotesAreIn layout (noted v u) n now.ended) (sym later)
-        (subst (NotesAreIn layout (noted v u) (place + 1)) (sym (ended ∙ ap (λ (b : Bool). k.ended || b) tells.none ∙ or_false k.ended))
-        (subst (λ (n : ℕ). NotesAreIn layout (noted v u) n k.ended) (one_more place)
-        (NotesAreIn-visited layout v u place k.ended behind few who period (told.begun ∙ period) tells.marked told.done isnt notes_were)))))
+        (subst (λ (x : View). NotesAreIn layout x now.next now.ended now.early) (sym is)
+        (subst (λ (n : ℕ). NotesAreIn layout (noted v u) n now.ended now.early) (sym later)
+        (subst (λ (b : Bool). NotesAreIn layout (noted v u) (place + 1) b now.early)
+        (sym (ended ∙ ap (λ (b : Bool). k.ended || b) tells.none.0 ∙ or_false k.ended))
+        (subst (NotesAreIn layout (noted v u) (place + 1) k.ended) (sym early)
+        (subst (λ (n : ℕ). NotesAreIn layout (noted v u) n k.ended k.early) (one_more place)
+        (NotesAreIn-visited layout v u place k.ended k.early behind few who period (told.begun ∙ period) tells.marked told.done isnt
+        notes_were))))))
+        (none_still now stopped early)
         (subst (λ (x : View). AreLeft layout x now.next now.left) (sym is)
         (subst (λ (n : ℕ). AreLeft layout (noted v u) n now.left) (sym later)
         (subst (AreLeft layout (noted v u) (place + 1)) (sym left)
@@ -220,8 +261,8 @@ module _ (layout : Layout) (heap hands : TableId) (k : Keeper) (stands : KeeperS
         who : u.who ≡ first_visitor + (place - layout.mutators)
         who = told.is ∙ ap (λ (b : Bool). if b then place else first_visitor + (place - layout.mutators)) is_visitor
 
-        tells : VisitorTells layout u ends
-        tells = subst (λ (b : Bool). MatchBool b (MutatorTells u ends) (VisitorTells layout u ends)) is_visitor told.did
+        tells : VisitorTells layout u ends stops
+        tells = subst (λ (b : Bool). MatchBool b (MutatorTells u ends stops) (VisitorTells layout u ends stops)) is_visitor told.did
 
         isnt : In u.who v.gone → ⊥
         isnt e = (let below = stands.left.are u.who e in omega (arith, below, who, few))

@@ -5,10 +5,11 @@ use Rattle.tide_model.specs.Freeze.{marks_after}
 use Rattle.tide_model.specs.History.{state_after}
 use Rattle.tide_model.specs.Layout.{Layout}
 use Rattle.tide_model.specs.Numbers.{any_below, count_where}
-use Rattle.tide_model.specs.Periods.{ArePeriods, is_over, opened}
+use Rattle.tide_model.specs.Periods.{is_over, opened}
 use Rattle.tide_model.specs.declared.entry.Event.{Event}
 use Rattle.tide_posts.specs.Name.{places}
 use Rattle.tide_posts.specs.Posts.{MutatorTells}
+use Rattle.tide_posts.specs.Schedule.{ArePeriodsWhere, NoneStopped}
 use Rattle.tide_posts.specs.Shares.{HasMarked}
 use Rattle.tide_posts.specs.Among.{Among}
 use Rattle.tide_posts.specs.tide_heap.Parties.{In}
@@ -45,12 +46,13 @@ pub record NoteIsIn (v note : View) : Type 0 where
   pub calls : Contains v.noted_calls (calls_of note)
   pub left : (note.left ≡ true) ↔ In note.who v.gone
 
--- a mutator's note of the open part is in, which tells its share, and whether its last call ended that
-pub record HasToldShare (v : View) (who : ℕ) (ended : Bool) : Type 0 where
+-- a mutator's note of the open part is in, which tells its share, and whether its last call ended that, or it stopped
+-- early
+pub record HasToldShare (v : View) (who : ℕ) (ended early : Bool) : Type 0 where
   pub note : View
   pub is : note.who ≡ who
   pub period : note.period ≡ v.period
-  pub tells : MutatorTells note ended
+  pub tells : MutatorTells note ended early
   pub is_in : NoteIsIn v note
 
 -- a mutator had left for good before the part was opened
@@ -59,8 +61,9 @@ pub record HadLeft (layout : Layout) (v : View) (who : ℕ) : Type 0 where
   pub inactive : (state_after layout v.start).active who ≡ false
 
 -- a mutator's note of the open part is in, or the mutator had left before
-abbrev pub MutatorIsIn : Layout → View → ℕ → Bool → Type 0
-MutatorIsIn layout v who ended = HasToldShare v who ended ⊎ (HadLeft layout v who × (ended ≡ false))
+abbrev pub MutatorIsIn : Layout → View → ℕ → Bool → Bool → Type 0
+MutatorIsIn layout v who ended early =
+    HasToldShare v who ended early ⊎ (HadLeft layout v who × (ended ≡ false) × (early ≡ false))
 
 -- a visitor's note of the open part is in, which tells its visits, and that it has done its part
 pub record HasToldVisits (layout : Layout) (v : View) (visitor : ℕ) : Type 0 where
@@ -73,13 +76,15 @@ pub record HasToldVisits (layout : Layout) (v : View) (visitor : ℕ) : Type 0 w
       ≡ Some (record { who = first_visitor + visitor; visits = note.visits; done = true })
 
 -- The notes of the open part are in of all places below this one, and no others of it. `ended` says whether one of them
--- tells that its mutator's last call ended its share.
-pub record NotesAreIn (layout : Layout) (v : View) (next : ℕ) (ended : Bool) : Type 0 where
+-- tells that its mutator's last call ended its share, and `early` which mutators' notes tell that they stopped early.
+pub record NotesAreIn (layout : Layout) (v : View) (next : ℕ) (ended : Bool) (early : List Bool) : Type 0 where
   pub ended_by : ℕ → Bool
   pub is_ended : ended ≡ any_below ended_by next
-  pub mutators : (who : ℕ) → who < next → who < layout.mutators → MutatorIsIn layout v who (ended_by who)
+  pub mutators : (who : ℕ) → who < next → who < layout.mutators →
+      MutatorIsIn layout v who (ended_by who) (get_or early who false)
   pub visitors : (visitor : ℕ) → layout.mutators + visitor < next → HasToldVisits layout v visitor
   pub none_ends : (place : ℕ) → layout.mutators ≤ place → ended_by place ≡ false
+  pub none_early : (who : ℕ) → next ≤ who → get_or early who false ≡ false
   pub most : ℕ
   pub visits : HaveTold most (next - layout.mutators) v.visited
   pub later : (visitor : ℕ) → next - layout.mutators ≤ visitor → told_by (first_visitor + visitor) v.visited ≡ None
@@ -99,12 +104,14 @@ pub record KeeperStands (layout : Layout) (heap hands : TableId) (k : Keeper) : 
   pub of : IsKeeperOf layout heap hands k
   pub runs : RunsWith layout k.books (view_of k)
   pub before : List Event
-  pub periods : ArePeriods (pace_of k.books.pacing) layout before
+  pub stops : List (List Bool)
+  pub periods : ArePeriodsWhere (pace_of k.books.pacing) layout stops before
+  pub none : k.stopped ≡ false → NoneStopped layout stops × ((who : ℕ) → get_or k.early who false ≡ false)
   pub goes_on : is_over layout before ≡ false
   pub opened : (view_of k).start ≡ opened (pace_of k.books.pacing) layout before
   pub marking : (view_of k).marks ≡ marks_after layout (view_of k).start
   pub within : k.next ≤ places layout
-  pub notes : NotesAreIn layout (view_of k) k.next k.ended
+  pub notes : NotesAreIn layout (view_of k) k.next k.ended k.early
   pub left : AreLeft layout (view_of k) k.next k.left
   pub due : (place : ℕ) → (place < k.next) ⊎ (has_left layout k.left place ≡ true) → Among place k.seat.seat.me.0.free
   pub no_end : k.seat.seat.me.0.over ≡ false

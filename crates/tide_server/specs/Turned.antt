@@ -4,10 +4,11 @@ use Rattle.atomic_table.specs.Seated.{TableId}
 use Rattle.tide_model.specs.Each.{Each}
 use Rattle.tide_model.specs.Lawful.{IsLawful}
 use Rattle.tide_model.specs.Layout.{Layout}
-use Rattle.tide_model.specs.Periods.{ArePeriods, EndsInTime, IsLegal, is_over, opened}
+use Rattle.tide_model.specs.Periods.{EndsInTime, is_over, opened}
 use Rattle.tide_model.specs.Prefix.{IsPrefix}
 use Rattle.tide_model.specs.Refused.{ShapeLists}
 use Rattle.tide_model.specs.declared.entry.Event.{Event}
+use Rattle.tide_posts.specs.Schedule.{ArePeriodsWhere, IsLegalWhere, NoneStopped}
 use Rattle.tide_posts.specs.tide_heap.Parties.{In}
 use Rattle.tide_posts.specs.tide_heap.tide_freeze.Books.{AddsEnds, AreBooks}
 use Rattle.tide_posts.specs.tide_heap.Turns.{Freezes}
@@ -21,11 +22,15 @@ use Rattle.tide_server.specs.declared.turning.Turn.TheVariants.{Opened, Over, Sp
 use Rattle.tide_table.specs.Standing.{HasCollected}
 
 -- The freeze after the keeper's open part made one more whole period of the history: it goes on from where the part was
--- opened, is lawful, and its cycles end in time.
-pub record MakesPeriod (layout : Layout) (shapes : ShapeLists) (k : Keeper) (after : List Event) : Type 0 where
+-- opened, is lawful, and its cycles end in time. Where the keeper says that nobody stopped early in a part so far, nobody
+-- did.
+pub record MakesPeriod (layout : Layout) (shapes : ShapeLists) (k : Keeper) (stopped : Bool) (after : List Event) : Type 0
+    where
   pub grows : IsPrefix (view_of k).start after
   pub lawful : IsLawful layout shapes after
-  pub periods : ArePeriods (pace_of k.books.pacing) layout after
+  pub stops : List (List Bool)
+  pub periods : ArePeriodsWhere (pace_of k.books.pacing) layout stops after
+  pub none : stopped ≡ false → NoneStopped layout stops
   pub ends : Each (EndsInTime layout) after
 
 -- A freeze ended the keeper's open part and did what the schedule asks for, in which each mutator has so many calls
@@ -43,7 +48,7 @@ pub record HasFrozenPart (layout : Layout) (shapes : ShapeLists) (is_forced : Bo
 pub record HasOpenedPart (layout : Layout) (shapes : ShapeLists) (heap hands : TableId) (old new : Keeper)
     (report longer : Reported) : Type 0 where
   pub after : List Event
-  pub makes : MakesPeriod layout shapes old after
+  pub makes : MakesPeriod layout shapes old new.stopped after
   pub goes_on : is_over layout after ≡ false
   pub opened : (view_of new).start ≡ opened (pace_of old.books.pacing) layout after
   pub period : (view_of new).period ≡ (view_of old).period + 1
@@ -52,12 +57,14 @@ pub record HasOpenedPart (layout : Layout) (shapes : ShapeLists) (heap hands : T
   pub told : AddsEnds layout (view_of old).start (view_of new).start report longer
 
 -- A keeper whose heap is frozen for good: all mutators have left, and its history is legal for its pace, its layout and
--- as many visitors as that has.
+-- as many visitors as that has, with who stopped early in which part: nobody where the keeper says so.
 pub record IsFinished (layout : Layout) (shapes : ShapeLists) (heap : TableId) (k : Keeper) : Type 0 where
   pub table : k.collector.seat.table_id ≡ heap
   pub frozen : (view_of k).frozen ≡ true
   pub gone : (i : ℕ) → i < layout.mutators → In i (view_of k).gone
-  pub legal : IsLegal (pace_of k.books.pacing) layout shapes (view_of k).seen
+  pub stops : List (List Bool)
+  pub legal : IsLegalWhere (pace_of k.books.pacing) layout shapes stops (view_of k).seen
+  pub none : k.stopped ≡ false → NoneStopped layout stops
 
 -- as much was posted as there are visitors, and the end among that
 abbrev pub HasPostedEnds : Layout → Keeper → Keeper → Type 0
@@ -75,7 +82,7 @@ pub record HasFinished (layout : Layout) (shapes : ShapeLists) (heap : TableId) 
 -- some mutator is active, but the part was the last that a word can number
 pub record HasSpentParts (layout : Layout) (shapes : ShapeLists) (old new : Keeper) (report longer : Reported)
     : Type 0 where
-  pub makes : MakesPeriod layout shapes old (view_of new).seen
+  pub makes : MakesPeriod layout shapes old new.stopped (view_of new).seen
   pub goes_on : is_over layout (view_of new).seen ≡ false
   pub last : (view_of old).period ≡ 2 ^ 32 - 1
   pub posted : HasPostedEnds layout old new

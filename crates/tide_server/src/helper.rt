@@ -3,14 +3,14 @@ ghost use Rattle.std.specs.Prelude.{ℕ, ◌≡◌, [], false};
 ghost use Rattle.tide_posts.specs.tide_heap.tide_core.machine.Frozen.{newcomer};
 ghost use Rattle.tide_visitor.specs.Viewed.{stack_room_of, table_of, view_of};
 
-use tide_posts::{GreyList, HeapName, MemberSeat, Note, Pass, Ticket};
+use tide_posts::{GreyList, HandedIn, HeapName, MemberSeat, Pass, Ticket};
 use tide_visitor::Visitor;
 
 /// A visitor of a standing heap, between two calls.
 #[derive(Drop)]
 pub struct Helper {
     pub(crate) visitor: Visitor,
-    pub(crate) seat: MemberSeat<Ticket, Note, HeapName>,
+    pub(crate) seat: MemberSeat<Ticket, HandedIn, HeapName>,
     /// The part of its last note.
     pub(crate) period: u32,
     ghost period_is: { period ≡ (view_of visitor).period },
@@ -22,7 +22,7 @@ impl Helper {
     pub(crate) fn new(
         pass: Pass,
         stack: GreyList,
-        seat: MemberSeat<Ticket, Note, HeapName>,
+        seat: MemberSeat<Ticket, HandedIn, HeapName>,
     ) -> Helper
         requires newcomer { (who : ℕ) × (pass.seat.me.0 ≡ newcomer who) }
         requires empty { stack.cells ≡ [] }

@@ -14,7 +14,7 @@ use crate::helper::{Helper, Worked};
 use crate::standing::Standing;
 use std::sync::Wait;
 use tide_model::{Memory, Turnstile};
-use tide_posts::{Found, Heap, HeapShapes, Ticket};
+use tide_posts::{Found, HandedIn, Heap, HeapShapes, Ticket};
 use tide_shape::ShapeTable;
 use tide_visitor::Visitor;
 
@@ -73,7 +73,8 @@ impl Helper {
         visit_part(&mut self.visitor, &standing.heap, turnstile, run, marks);
         let note = self.visitor.stop(&standing.heap);
         self.period = note.numbers().part;
-        self.seat.post_note(&standing.hands.shared, note, false);
+        let handed = HandedIn { note, early: false };
+        self.seat.post_note(&standing.hands.shared, handed, false);
     }
 
     /// Takes part in one part, as soon as its ticket comes: it visits as many cells as a mutator has calls, if a cycle

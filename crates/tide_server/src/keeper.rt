@@ -1,14 +1,14 @@
 //! `Keeper`: who freezes a standing heap between two parts. It takes no note and opens no part.
 ghost use Rattle.std.specs.Prelude.{◌≡◌, false, replicate};
 
-use tide_posts::{Books, HeapName, KeeperSeat, Note, Ticket};
+use tide_posts::{Books, HandedIn, HeapName, KeeperSeat, Ticket};
 use tide_table::Collector;
 
 /// Who freezes a standing heap and opens its parts.
 #[derive(Drop)]
 pub struct Keeper {
     pub(crate) collector: Collector,
-    pub(crate) seat: KeeperSeat<Ticket, Note, HeapName>,
+    pub(crate) seat: KeeperSeat<Ticket, HandedIn, HeapName>,
     pub(crate) books: Books,
     /// The number of the open part.
     pub(crate) period: u32,
@@ -18,6 +18,10 @@ pub struct Keeper {
     pub(crate) ended: bool,
     /// Which mutators have left for good.
     pub(crate) left: [bool; 16],
+    /// Which mutators' notes say that they stopped early in the open part.
+    pub(crate) early: [bool; 16],
+    /// Some mutator has stopped early, in the open part or in one before.
+    pub(crate) stopped: bool,
     ghost period_is: { period ≡ collector.seat.me.0.period },
 }
 
@@ -25,7 +29,7 @@ impl Keeper {
     /// A keeper that has opened no part yet.
     pub(crate) fn new(
         collector: Collector,
-        seat: KeeperSeat<Ticket, Note, HeapName>,
+        seat: KeeperSeat<Ticket, HandedIn, HeapName>,
         books: Books,
     ) -> Keeper
         requires first { collector.seat.me.0.period ≡ 0 }
@@ -33,6 +37,7 @@ impl Keeper {
         ensures seat { result.seat ≡ seat }
         ensures books { result.books ≡ books }
         ensures nothing { (result.next ≡ 0) × (result.ended ≡ false) × (result.left ≡ replicate 16 false) }
+        ensures nobody { (result.early ≡ replicate 16 false) × (result.stopped ≡ false) }
     {
         Keeper {
             collector,
@@ -42,6 +47,15 @@ impl Keeper {
             next: 0,
             ended: false,
             left: [false; 16],
+            early: [false; 16],
+            stopped: false,
         }
+    }
+
+    /// Whether some mutator has stopped early, as far as notes tell that are in: one came early to a freeze.
+    pub fn has_stopped(&self) -> bool
+        ensures { result ≡ self.now.stopped }
+    {
+        self.stopped
     }
 }

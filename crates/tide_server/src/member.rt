@@ -6,13 +6,13 @@ ghost use Rattle.tide_mutator.specs.calls.Viewed.{table_of, view_of};
 ghost use Rattle.tide_posts.specs.tide_heap.tide_core.machine.Frozen.{newcomer};
 
 use tide_mutator::Mutator;
-use tide_posts::{HeapName, MemberSeat, Note, Pass, Ticket};
+use tide_posts::{HandedIn, HeapName, MemberSeat, Pass, Ticket};
 
 /// A mutator of a standing heap, between two calls.
 #[derive(Drop)]
 pub struct Member {
     pub(crate) mutator: Mutator,
-    pub(crate) seat: MemberSeat<Ticket, Note, HeapName>,
+    pub(crate) seat: MemberSeat<Ticket, HandedIn, HeapName>,
     /// The part of its last note.
     pub(crate) period: u32,
     /// How many calls it has left in its part.
@@ -31,7 +31,7 @@ pub struct Member {
 
 impl Member {
     /// A mutator that has made no call yet, with its seat.
-    pub(crate) fn new(pass: Pass, seat: MemberSeat<Ticket, Note, HeapName>) -> Member
+    pub(crate) fn new(pass: Pass, seat: MemberSeat<Ticket, HandedIn, HeapName>) -> Member
         requires newcomer { pass.seat.me.0 ≡ newcomer seat.place }
         ensures table { table_of result.mutator ≡ pass.seat.table_id }
         ensures view { view_of result.mutator ≡ newcomer seat.place }

@@ -16,9 +16,7 @@ use crate::standing::Standing;
 use std::alloc::Global;
 use std::sync::atomic::AtomicBool;
 use tide_model::Memory;
-use tide_posts::{
-    Books, GreyList, Heap, HeapName, HeapShapes, KeeperSeat, Note, Pacing, Pass, Ticket, open_table,
-};
+use tide_posts::{Books, GreyList, HandedIn, Heap, HeapName, HeapShapes, KeeperSeat, Pacing, Pass, Ticket, open_table};
 use tide_shape::ShapeTable;
 use tide_table::Start;
 use tide_text::Settings;
@@ -38,7 +36,7 @@ pub struct Opened<S: HeapShapes> {
 fn stand<S: HeapShapes + Drop>(
     alloc: Global,
     heap: Heap<S>,
-) -> Result<(Standing<S>, KeeperSeat<Ticket, Note, HeapName>), Memory>
+) -> Result<(Standing<S>, KeeperSeat<Ticket, HandedIn, HeapName>), Memory>
     ensures heap { IfOk result (λ made. made.0.heap ≡ heap) }
     ensures own { IfOk result (λ made. made.1.seat.table_id ≡ made.0.hands.shared.table_id) }
     ensures named { IfOk result (λ made. made.1.seat.me.0.name ≡ record {
@@ -66,7 +64,7 @@ fn stand<S: HeapShapes + Drop>(
 fn seat_members<S: HeapShapes>(
     alloc: Global,
     standing: &Standing<S>,
-    seat: &mut KeeperSeat<Ticket, Note, HeapName>,
+    seat: &mut KeeperSeat<Ticket, HandedIn, HeapName>,
     passes: Vec<Pass>,
 ) -> Result<Vec<Member>, Memory>
     requires own { seat.old.seat.table_id ≡ standing.now.hands.shared.table_id }
@@ -98,7 +96,7 @@ fn seat_members<S: HeapShapes>(
 fn seat_helpers<S: HeapShapes>(
     alloc: Global,
     standing: &Standing<S>,
-    seat: &mut KeeperSeat<Ticket, Note, HeapName>,
+    seat: &mut KeeperSeat<Ticket, HandedIn, HeapName>,
     passes: Vec<Pass>,
 ) -> Result<Vec<Helper>, Memory>
     requires own { seat.old.seat.table_id ≡ standing.now.hands.shared.table_id }

@@ -22,7 +22,7 @@ use crate::standing::Standing;
 use std::sync::atomic::Ordering;
 use tide_model::{Op, Refusal, Reply, Turnstile};
 use tide_mutator::Mutator;
-use tide_posts::{Found, HeapName, HeapShapes, MemberSeat, Note, Ticket};
+use tide_posts::{Found, HandedIn, HeapName, HeapShapes, MemberSeat, Ticket};
 use tide_shape::ShapeTable;
 
 /// What a member finds when it is offered a part.
@@ -53,9 +53,10 @@ fn ends(reply: Reply, is_first_full: bool) -> bool
 /// Stops a mutator, and posts its note, which tells that it made its share of the part. Answers the number of the part.
 pub(crate) fn stop_and_post<S: HeapShapes>(
     mutator: &mut Mutator,
-    seat: &mut MemberSeat<Ticket, Note, HeapName>,
+    seat: &mut MemberSeat<Ticket, HandedIn, HeapName>,
     standing: &Standing<S>,
     ended: bool,
+    early: bool,
 ) -> u32
     requires own { table_of mutator.old ≡ standing.now.heap.table.shared.table_id }
     requires seated { seat.old.seat.table_id ≡ standing.now.hands.shared.table_id }
@@ -70,7 +71,7 @@ pub(crate) fn stop_and_post<S: HeapShapes>(
     requires of_part { (view_of mutator.old).begun ≡ (view_of mutator.old).ticket }
     requires once { (view_of mutator.old).period < (view_of mutator.old).ticket }
     requires shared { HasShared (view_of mutator.old).who (view_of mutator.old).ticket (view_of mutator.old).run
-        (view_of mutator.old).seen (view_of mutator.old).mine (view_of mutator.old).left ended }
+        (view_of mutator.old).seen (view_of mutator.old).mine (view_of mutator.old).left ended early }
     requires still { (view_of mutator.old).visits ≡ 0 }
     ensures part { result ≡ (view_of mutator.old).ticket }
     ensures same { table_of mutator.new ≡ table_of mutator.old }
@@ -86,7 +87,7 @@ pub(crate) fn stop_and_post<S: HeapShapes>(
         // A hint for who polls: the keeper's freeze waits for each note in any case.
         standing.wanted.store(true, Ordering::SeqCst);
     }
-    seat.post_note(&standing.hands.shared, note, ended);
+    seat.post_note(&standing.hands.shared, HandedIn { note, early }, ended);
     part
 }
 
@@ -175,7 +176,32 @@ impl Member {
         ensures seen { (view_of self.new.mutator).seen ≡ (view_of self.old.mutator).seen }
         ensures posted { self.new.seat.seat.me.0.given ≡ self.old.seat.seat.me.0.given + 1 }
     {
-        self.period = stop_and_post(&mut self.mutator, &mut self.seat, standing, self.ended);
+        self.period = stop_and_post(
+            &mut self.mutator,
+            &mut self.seat,
+            standing,
+            self.ended,
+            false,
+        );
+        self.works = false;
+    }
+
+    /// Comes early to a freeze: it stops with calls of its share left, and posts its note, which tells so.
+    pub fn come_early<S: HeapShapes>(&mut self, standing: &Standing<S>)
+        requires of { IsMemberOf standing.now.heap.key.layout standing.now.heap.table.shared.table_id
+            standing.now.hands.shared.table_id self.old }
+        requires stays { (view_of self.old.mutator).left ≡ false }
+        requires works { self.old.works ≡ true }
+        requires left { MayMake self.old }
+        ensures of { IsMemberOf standing.now.heap.key.layout standing.now.heap.table.shared.table_id
+            standing.now.hands.shared.table_id self.new }
+        ensures rests { self.new.works ≡ false }
+        ensures same { caller_of self.new ≡ caller_of self.old }
+        ensures seen { (view_of self.new.mutator).seen ≡ (view_of self.old.mutator).seen }
+        ensures posted { self.new.seat.seat.me.0.given ≡ self.old.seat.seat.me.0.given + 1 }
+    {
+        self.period =
+            stop_and_post(&mut self.mutator, &mut self.seat, standing, false, true);
         self.works = false;
     }
 

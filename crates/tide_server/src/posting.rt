@@ -38,6 +38,7 @@ impl Keeper {
             Among place self.new.seat.seat.me.0.free }
         ensures same { (self.new.next ≡ self.old.next) × (self.new.ended ≡ self.old.ended)
             × (self.new.left ≡ self.old.left) }
+        ensures early { (self.new.early ≡ self.old.early) × (self.new.stopped ≡ self.old.stopped) }
     {
         let layout = standing.heap.layout();
         for place in 0..usize::from(layout.mutators()) + usize::from(layout.visitors()) {
@@ -62,6 +63,7 @@ impl Keeper {
         ensures over { 0 < standing.now.heap.key.layout.visitors → self.new.seat.seat.me.0.over ≡ true }
         ensures collector { self.new.collector ≡ self.old.collector }
         ensures books { self.new.books ≡ self.old.books }
+        ensures stopped { self.new.stopped ≡ self.old.stopped }
     {
         let layout = standing.heap.layout();
         let mutators = usize::from(layout.mutators());
@@ -92,6 +94,7 @@ impl Keeper {
             Among place self.new.seat.seat.me.0.free }
         ensures same { (self.new.next ≡ self.old.next) × (self.new.ended ≡ self.old.ended)
             × (self.new.left ≡ self.old.left) }
+        ensures early { (self.new.early ≡ self.old.early) × (self.new.stopped ≡ self.old.stopped) }
     {
         self.collector.open_first(&standing.heap, run);
         self.period = 1;

@@ -5,14 +5,14 @@ ghost use Rattle.tide_posts.specs.Name.{places};
 use atomic_table::Table;
 use std::alloc::Global;
 use std::sync::atomic::AtomicBool;
-use tide_posts::{Facts, HandView, Hands, Heap, HeapName, HeapShapes, Note, Parcel, Ticket};
+use tide_posts::{Facts, HandView, HandedIn, Hands, Heap, HeapName, HeapShapes, Parcel, Ticket};
 
 /// The table by which the tickets and notes of a heap are handed over.
 pub(crate) type HeapHands<S> = Table<
-    Parcel<Ticket, Note>,
+    Parcel<Ticket, HandedIn>,
     HandView<HeapName>,
     Heap<S>,
-    Hands<Ticket, Note, HeapName, Facts, Heap<S>>,
+    Hands<Ticket, HandedIn, HeapName, Facts, Heap<S>>,
     Global,
 >;
 

@@ -6,7 +6,7 @@ ghost use Rattle.tide_server.specs.Turned.{IsWaiting};
 
 use crate::keeper::Keeper;
 use crate::standing::Standing;
-use tide_posts::HeapShapes;
+use tide_posts::{HandedIn, HeapShapes};
 
 impl Keeper {
     /// Takes the note of the next place in, where it lies there; who had left for good hands none in. Says whether that
@@ -26,9 +26,10 @@ impl Keeper {
             self.next = place + 1;
             return true;
         }
-        let Some((note, ended)) = self.seat.take_note(&standing.hands.shared, place) else {
+        let Some((handed, ended)) = self.seat.take_note(&standing.hands.shared, place) else {
             return false;
         };
+        let HandedIn { note, early } = handed;
         let numbers = note.numbers();
         // Not met otherwise: a place has one note a ticket.
         if numbers.begun != self.period {
@@ -41,6 +42,8 @@ impl Keeper {
             return true;
         }
         self.left[place] = numbers.left;
+        self.early[place] = early;
+        self.stopped = self.stopped || early;
         true
     }
 

@@ -6,7 +6,7 @@ use Rattle.tide_posts.specs.Name.{Name, places}
 use Rattle.tide_posts.specs.tide_hands.declared.keeper.KeeperSeat.{KeeperSeat}
 use Rattle.tide_posts.specs.tide_hands.declared.view.HandView.{HandView}
 use Rattle.tide_posts.specs.tide_heap.Turns.{opened}
-use Rattle.tide_posts.specs.tide_heap.declared.steps.notes.Note.{Note}
+use Rattle.tide_posts.specs.declared.handed.HandedIn.{HandedIn}
 use Rattle.tide_posts.specs.tide_heap.declared.steps.notes.Ticket.{Ticket}
 use Rattle.tide_posts.specs.tide_heap.tide_freeze.Books.{AreBooks}
 use Rattle.tide_posts.specs.tide_heap.tide_freeze.declared.books.Books.{Books}
@@ -19,7 +19,7 @@ pub open_first-requires-clause-due : goal.open_first-requires-clause-due
 open_first-requires-clause-due g c = λ place below.
     let layout : c.in_ok-standing.standing.heap.key.layout ≡ c.args.start.heap.key.layout =
     λ i. (c.in_ok-standing.ensures.heap i).key.layout in
-    let free = ap (λ (s : KeeperSeat Ticket Note Name). s.seat.me.0.free) c.new-keeper.ensures.seat
+    let free = ap (λ (s : KeeperSeat Ticket HandedIn Name). s.seat.me.0.free) c.new-keeper.ensures.seat
     ∙ ap (λ (v : HandView Name). v.free) c.in_ok-helpers.ensures.kept
     ∙ ap (λ (v : HandView Name). v.free) c.in_ok-members.ensures.kept in
     subst (Among place) (sym free)
@@ -47,9 +47,9 @@ returns-clause-stands g c = λ many.
       seated = did.of.seated;
       named = did.of.named ∙ (λ i. record { layout = (same i).key.layout; table_id = (same i).table.shared.table_id });
     })
-    (did.same.0 ∙ nothing.0) (did.same.1 ∙ nothing.1) (did.same.2 ∙ nothing.2)
+    (did.same.0 ∙ nothing.0) (did.same.1 ∙ nothing.1) (did.same.2 ∙ nothing.2) (did.early.0 ∙ c.new-keeper.ensures.nobody.0)
     (λ place is. did.due place ((λ i. has_left (same i).key.layout (sym did.same.2 i) place) ∙ is))
-    (did.over ∙ ap (λ (s : KeeperSeat Ticket Note Name). s.seat.me.0.over) c.new-keeper.ensures.seat
+    (did.over ∙ ap (λ (s : KeeperSeat Ticket HandedIn Name). s.seat.me.0.over) c.new-keeper.ensures.seat
     ∙ ap (λ (v : HandView Name). v.over) c.in_ok-helpers.ensures.kept
     ∙ ap (λ (v : HandView Name). v.over) c.in_ok-members.ensures.kept ∙ c.in_ok-standing.ensures.nothing.0)
 
@@ -61,7 +61,7 @@ returns-clause-posted g c =
     let same = c.in_ok-standing.ensures.heap in
     let left = c.new-keeper.ensures.nothing.2 in
     let none : old.seat.seat.me.0.given ≡ 0 =
-    ap (λ (s : KeeperSeat Ticket Note Name). s.seat.me.0.given) c.new-keeper.ensures.seat
+    ap (λ (s : KeeperSeat Ticket HandedIn Name). s.seat.me.0.given) c.new-keeper.ensures.seat
     ∙ ap (λ (v : HandView Name). v.given) c.in_ok-helpers.ensures.kept
     ∙ ap (λ (v : HandView Name). v.given) c.in_ok-members.ensures.kept ∙ c.in_ok-standing.ensures.nothing.1 in
     let all : ticket_count here old.left ≡ places layout =

@@ -8,7 +8,7 @@ use Rattle.tide_posts.specs.Name.{Name}
 use Rattle.tide_posts.specs.tide_hands.declared.member.MemberSeat.{MemberSeat}
 use Rattle.tide_posts.specs.tide_hands.declared.parcel.Parcel.{Parcel}
 use Rattle.tide_posts.specs.tide_hands.declared.view.HandView.{HandView}
-use Rattle.tide_posts.specs.tide_heap.declared.steps.notes.Note.{Note}
+use Rattle.tide_posts.specs.declared.handed.HandedIn.{HandedIn}
 use Rattle.tide_posts.specs.tide_heap.declared.steps.notes.Ticket.{Ticket}
 use Rattle.tide_posts.specs.tide_heap.tide_core.machine.Frozen.{newcomer}
 use Rattle.tide_posts.specs.tide_heap.tide_words.marking.Greys.{Greys}
@@ -57,19 +57,19 @@ loop-pass-preserved g c =
     let made = c.new-helper.ensures in
     let at = subst (ArePasses heap (16 + length yielded)) c.in-Some.ensures.steps.0 so.left in
     let seated = c.seat_member-own.ensures in
-    let next = ap (λ (m : Me (Parcel Ticket Note) (HandView Name)). m.0.next) seated.keeper in
+    let next = ap (λ (m : Me (Parcel Ticket HandedIn) (HandView Name)). m.0.next) seated.keeper in
     let one_more = length_push yielded c.in-Some.pass in
     let fewer = ap length c.in-Some.ensures.steps.0 in
     let had = so.next in
     let all = so.all in
     let have = so.seated in
-    let place = ap (λ (s : MemberSeat Ticket Note Name). s.place) made.seat ∙ c.seat_member-own.result.its
-    ∙ ap (λ (m : Me (Parcel Ticket Note) (HandView Name)). m.0.place) seated.member.1 in
+    let place = ap (λ (s : MemberSeat Ticket HandedIn Name). s.place) made.seat ∙ c.seat_member-own.result.its
+    ∙ ap (λ (m : Me (Parcel Ticket HandedIn) (HandView Name)). m.0.place) seated.member.1 in
     let pushed = c.in_ok-push.ensures.items in
     record {
       own = seated.same.0 ∙ so.own;
-      named = ap (λ (m : Me (Parcel Ticket Note) (HandView Name)). m.0.name) seated.keeper ∙ so.named;
-      kept = ap (λ (m : Me (Parcel Ticket Note) (HandView Name)). record m.0 { next = 0 }) seated.keeper ∙ so.kept;
+      named = ap (λ (m : Me (Parcel Ticket HandedIn) (HandView Name)). m.0.name) seated.keeper ∙ so.named;
+      kept = ap (λ (m : Me (Parcel Ticket HandedIn) (HandView Name)). record m.0 { next = 0 }) seated.keeper ∙ so.kept;
       next = omega (arith, next, had, one_more);
       seated = (let grown = ap length pushed ∙ length_push items helper in omega (arith, grown, have, one_more));
       all = omega (arith, one_more, fewer, all);
@@ -77,9 +77,9 @@ loop-pass-preserved g c =
           (let more : suc (16 + length yielded) ≡ 16 + length (yielded ++ c.in-Some.pass ∷ []) = omega (arith, one_more) in more) at.2;
       are = subst (AreHelpers layout heap hands 16) (sym pushed) (AreHelpers-push layout heap hands 16 items helper so.are
           (IsHelperOf-newcomer layout heap hands helper (length yielded) (made.table ∙ at.0)
-          (ap (λ (s : MemberSeat Ticket Note Name). s.seat.table_id) made.seat ∙ seated.member.0 ∙ so.own ∙ c.requires.own)
-          (ap (λ (s : MemberSeat Ticket Note Name). s.seat.me.0.name) made.seat
-          ∙ ap (λ (m : Me (Parcel Ticket Note) (HandView Name)). m.0.name) seated.member.1 ∙ so.named ∙ c.requires.named)
+          (ap (λ (s : MemberSeat Ticket HandedIn Name). s.seat.table_id) made.seat ∙ seated.member.0 ∙ so.own ∙ c.requires.own)
+          (ap (λ (s : MemberSeat Ticket HandedIn Name). s.seat.me.0.name) made.seat
+          ∙ ap (λ (m : Me (Parcel Ticket HandedIn) (HandView Name)). m.0.name) seated.member.1 ∙ so.named ∙ c.requires.named)
           (made.view ∙ at.1) (omega (arith, all, fewer)) (place ∙ had)
           (subst (λ (n : ℕ). n ≤ stack_room_of helper.visitor)
           (ap (λ (s : Greys). s.cap) c.in_ok-stack.ensures ∙ c.cells.ensures.count ∙ ap cell_count c.layout-layout.ensures)

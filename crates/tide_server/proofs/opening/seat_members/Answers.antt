@@ -7,7 +7,7 @@ use Rattle.tide_posts.specs.Name.{Name}
 use Rattle.tide_posts.specs.tide_hands.declared.member.MemberSeat.{MemberSeat}
 use Rattle.tide_posts.specs.tide_hands.declared.parcel.Parcel.{Parcel}
 use Rattle.tide_posts.specs.tide_hands.declared.view.HandView.{HandView}
-use Rattle.tide_posts.specs.tide_heap.declared.steps.notes.Note.{Note}
+use Rattle.tide_posts.specs.declared.handed.HandedIn.{HandedIn}
 use Rattle.tide_posts.specs.tide_heap.declared.steps.notes.Ticket.{Ticket}
 use Rattle.tide_posts.specs.tide_heap.tide_core.machine.Frozen.{newcomer}
 use Rattle.tide_server.proofs.Lists.{AreMembers-push, IsMemberOf-newcomer}
@@ -41,18 +41,18 @@ loop-pass-preserved g c =
     let member = c.new-member.result in
     let at = subst (ArePasses standing.heap.table.shared.table_id (length yielded)) c.in-Some.ensures.steps.0 so.left in
     let seated = c.seat_member-own.ensures in
-    let next = ap (λ (m : Me (Parcel Ticket Note) (HandView Name)). m.0.next) seated.keeper in
+    let next = ap (λ (m : Me (Parcel Ticket HandedIn) (HandView Name)). m.0.next) seated.keeper in
     let one_more = length_push yielded c.in-Some.pass in
     let fewer = ap length c.in-Some.ensures.steps.0 in
     let had = so.next in
     let all = so.all in
     let have = so.seated in
-    let place = c.seat_member-own.result.its ∙ ap (λ (m : Me (Parcel Ticket Note) (HandView Name)). m.0.place) seated.member.1 in
+    let place = c.seat_member-own.result.its ∙ ap (λ (m : Me (Parcel Ticket HandedIn) (HandView Name)). m.0.place) seated.member.1 in
     let pushed = c.in_ok-push.ensures.items in
     record {
       own = seated.same.0 ∙ so.own;
-      named = ap (λ (m : Me (Parcel Ticket Note) (HandView Name)). m.0.name) seated.keeper ∙ so.named;
-      kept = ap (λ (m : Me (Parcel Ticket Note) (HandView Name)). record m.0 { next = 0 }) seated.keeper ∙ so.kept;
+      named = ap (λ (m : Me (Parcel Ticket HandedIn) (HandView Name)). m.0.name) seated.keeper ∙ so.named;
+      kept = ap (λ (m : Me (Parcel Ticket HandedIn) (HandView Name)). record m.0 { next = 0 }) seated.keeper ∙ so.kept;
       next = omega (arith, next, had, one_more);
       seated = (let grown = ap length pushed ∙ length_push items member in omega (arith, grown, have, one_more));
       all = omega (arith, one_more, fewer, all);
@@ -62,9 +62,9 @@ loop-pass-preserved g c =
           (AreMembers-push layout standing.heap.table.shared.table_id standing.hands.shared.table_id 0 items member so.are
           (IsMemberOf-newcomer layout standing.heap.table.shared.table_id standing.hands.shared.table_id member
           c.seat_member-own.result.place (c.new-member.ensures.table ∙ at.0)
-          (ap (λ (s : MemberSeat Ticket Note Name). s.seat.table_id) c.new-member.ensures.seat ∙ seated.member.0 ∙ so.own ∙ c.requires.own)
-          (ap (λ (s : MemberSeat Ticket Note Name). s.seat.me.0.name) c.new-member.ensures.seat
-          ∙ ap (λ (m : Me (Parcel Ticket Note) (HandView Name)). m.0.name) seated.member.1 ∙ so.named ∙ c.requires.named)
+          (ap (λ (s : MemberSeat Ticket HandedIn Name). s.seat.table_id) c.new-member.ensures.seat ∙ seated.member.0 ∙ so.own ∙ c.requires.own)
+          (ap (λ (s : MemberSeat Ticket HandedIn Name). s.seat.me.0.name) c.new-member.ensures.seat
+          ∙ ap (λ (m : Me (Parcel Ticket HandedIn) (HandView Name)). m.0.name) seated.member.1 ∙ so.named ∙ c.requires.named)
           c.new-member.ensures.view c.new-member.ensures.rests (omega (arith, place, had, all, fewer)))
           (c.new-member.ensures.view
           ∙ ap newcomer (let e : c.seat_member-own.result.place ≡ 0 + length items = omega (arith, place, had, have) in e)));

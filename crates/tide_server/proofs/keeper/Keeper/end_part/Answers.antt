@@ -1,13 +1,14 @@
 -- What a turn answers, by what the freeze made of the part.
-use Rattle.std.proofs.Common.{◌+◌, ◌∙◌, sym, ap, false, not, get_or, rules}
+use Rattle.std.proofs.Common.{◌+◌, ◌∙◌, sym, ap, Bool, List, false, not, get_or, rules}
 use Rattle.tide_model.specs.Layout.{Layout}
 use Rattle.tide_model.specs.Numbers.{any_below}
 use Rattle.tide_posts.specs.tide_heap.tide_freeze.declared.books.Books.{Books}
 use Rattle.tide_server.proofs.Ending.{is_forced-here}
+use Rattle.tide_server.proofs.First.{none_left}
 use Rattle.tide_server.proofs.Frozen.{HasFinished-frozen, HasOpenedPart-frozen, HasSpentParts-frozen, MakesPeriod-frozen}
 use Rattle.tide_posts.specs.Name.{Name}
 use Rattle.tide_posts.specs.tide_hands.declared.keeper.KeeperSeat.{KeeperSeat}
-use Rattle.tide_posts.specs.tide_heap.declared.steps.notes.Note.{Note}
+use Rattle.tide_posts.specs.declared.handed.HandedIn.{HandedIn}
 use Rattle.tide_posts.specs.tide_heap.declared.steps.notes.Ticket.{Ticket}
 use Rattle.tide_posts.specs.tide_heap.tide_core.declared.machine.view.View.{View}
 use Rattle.tide_table.specs.declared.collector.Collector.{Collector}
@@ -33,8 +34,9 @@ returns-then-not-goes_on-clause-turned g c =
     let makes = MakesPeriod-frozen layout shapes heap hands k c.requires.stands c.requires.all forces run new report longer did forced in
     HasFinished-frozen layout shapes heap hands k c.requires.stands c.requires.all forces run new report longer did
     c.post_ends.new.self c.post_ends.ensures.collector (ap (λ (b : Books). b.pacing) c.post_ends.ensures.books ∙ c.freeze-run.ensures.pacing)
+    (c.post_ends.ensures.stopped ∙ c.freeze-run.ensures.same.3)
     c.freeze-run.ensures.of.table makes (sym goes ∙ c.if-not-goes_on.true) (
-      c.post_ends.ensures.posted ∙ ap (λ (q : KeeperSeat Ticket Note Name). q.seat.me.0.given + layout.visitors) c.freeze-run.ensures.seat,
+      c.post_ends.ensures.posted ∙ ap (λ (q : KeeperSeat Ticket HandedIn Name). q.seat.me.0.given + layout.visitors) c.freeze-run.ensures.seat,
       c.post_ends.ensures.over,
     )
 
@@ -61,7 +63,9 @@ returns-then-open_next-clause-turned g c =
     let seat = c.freeze-run.ensures.seat in
     HasOpenedPart-frozen layout shapes heap hands k c.requires.stands c.requires.all forces run new report longer did
     c.open_next.new.self (next.opened yes) (next.later yes) next.books c.freeze-run.ensures.pacing next.of (next.none yes).0
-    (next.none yes).1 (next.left ∙ c.freeze-run.ensures.same.2) (search rules) (search rules) (search rules) makes
+    (next.none yes).1 (next.left.0 ∙ c.freeze-run.ensures.same.2) (next.left.1 ∙ c.freeze-run.ensures.same.3)
+    (λ who. ap (λ (l : List Bool). get_or l who false) (next.none yes).2 ∙ none_left 16 who) (search rules) (search rules)
+    (search rules) makes
     (sym goes ∙ c.if-not-goes_on.false)
 
 pub returns-clause-turned : goal.returns-clause-turned
@@ -85,7 +89,8 @@ returns-clause-turned g c =
     let next = c.open_next.ensures in
     let no = c.if-open_next.false in
     HasSpentParts-frozen layout shapes heap hands k c.requires.stands c.requires.all forces run new report longer did
-    c.post_ends-2.new.self (ap view_of_collector c.post_ends-2.ensures.collector ∙ (next.spent no).1) makes
+    c.post_ends-2.new.self (ap view_of_collector c.post_ends-2.ensures.collector ∙ (next.spent no).1)
+    (c.post_ends-2.ensures.stopped ∙ next.left.1 ∙ c.freeze-run.ensures.same.3) makes
     (sym goes ∙ c.if-not-goes_on.false) (next.spent no).0 (search rules, c.post_ends-2.ensures.over)
   where
     view_of_collector : Collector → View

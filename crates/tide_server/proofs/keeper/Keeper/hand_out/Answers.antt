@@ -38,6 +38,7 @@ loop-place-init g c = record {
   next = refl;
   ended = refl;
   left = refl;
+  early = (refl, refl);
 }
 
 pub loop-place-preserved-then-has_left : goal.loop-place-preserved-then-has_left
@@ -59,6 +60,7 @@ loop-place-preserved-then-has_left g c =
       next = so.next;
       ended = so.ended;
       left = so.left;
+      early = so.early;
     }
 
 pub loop-place-preserved : goal.loop-place-preserved
@@ -90,4 +92,5 @@ loop-place-preserved g c =
       next = so.next;
       ended = so.ended;
       left = so.left;
+      early = so.early;
     }

@@ -20,4 +20,5 @@ invariant-loop-place g l = record {
   next : l.self.next ≡ l.initial.self.next;
   ended : l.self.ended ≡ l.initial.self.ended;
   left : l.self.left ≡ l.initial.self.left;
+  early : (l.self.early ≡ l.initial.self.early) × (l.self.stopped ≡ l.initial.self.stopped);
 }

@@ -14,6 +14,7 @@ loop-place-init g c = record {
   ahead = λ q later below. c.requires.due q below;
   collector = refl;
   books = refl;
+  stopped = refl;
 }
 
 pub loop-place-preserved : goal.loop-place-preserved
@@ -39,4 +40,5 @@ loop-place-preserved g c =
       ahead = ahead-more layout c.args.self.now.left place was.free now.free post.free so.ahead;
       collector = so.collector;
       books = so.books;
+      stopped = so.stopped;
     }

@@ -13,4 +13,5 @@ invariant-loop-place g l = record {
   ahead : (place : ℕ) → l.place ≤ place → place < places l.standing.heap.key.layout → Among place l.self.seat.seat.me.0.free;
   collector : l.self.collector ≡ l.initial.self.collector;
   books : l.self.books ≡ l.initial.self.books;
+  stopped : l.self.stopped ≡ l.initial.self.stopped;
 }

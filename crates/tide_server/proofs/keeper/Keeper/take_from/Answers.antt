@@ -22,7 +22,7 @@ returns-in_default-clause-waits g c =
     let e = c.take_note.ensures in
     IsWaiting-same s.heap.key.layout s.heap.table.shared.table_id s.hands.shared.table_id k c.requires.stands
     _
-    (record { seated = e.same.0; kept = e.kept; over = e.over; given = e.given; free = e.free }) refl refl refl refl refl
+    (record { seated = e.same.0; kept = e.kept; over = e.over; given = e.given; free = e.free }) refl refl refl refl refl refl refl
 
 pub returns-then-numbers-self-clause-waits : goal.returns-then-numbers-self-clause-waits
 returns-then-numbers-self-clause-waits g c =
@@ -31,7 +31,7 @@ returns-then-numbers-self-clause-waits g c =
     let e = c.take_note.ensures in
     IsWaiting-same s.heap.key.layout s.heap.table.shared.table_id s.hands.shared.table_id k c.requires.stands
     _
-    (record { seated = e.same.0; kept = e.kept; over = e.over; given = e.given; free = e.free }) refl refl refl refl refl
+    (record { seated = e.same.0; kept = e.kept; over = e.over; given = e.given; free = e.free }) refl refl refl refl refl refl refl
 
 pub returns-then-place-mutators-clause-waits : goal.returns-then-place-mutators-clause-waits
 returns-then-place-mutators-clause-waits g c =
@@ -40,12 +40,12 @@ returns-then-place-mutators-clause-waits g c =
     let k = c.args.self.now in
     let place = c.args.place in
     let e = c.take_note.ensures in
-    let told : IsNoteFor (record { layout = layout; table_id = s.heap.table.shared.table_id }) place c.in-Some.note c.in-Some.ended =
-    subst (λ (n : Name). IsNoteFor n place c.in-Some.note c.in-Some.ended) c.requires.stands.of.named c.in-Some.ensures.note in
+    let told : IsNoteFor (record { layout = layout; table_id = s.heap.table.shared.table_id }) place c.in-Some.handed.note c.in-Some.ended c.in-Some.handed.early =
+    subst (λ (n : Name). IsNoteFor n place c.in-Some.handed.note c.in-Some.ended c.in-Some.handed.early) c.requires.stands.of.named c.in-Some.ensures.note in
     IsWaiting-visited layout s.heap.table.shared.table_id s.hands.shared.table_id k c.requires.stands place c.requires.next
-    c.requires.within (search rules) (search rules) c.in-Some.note c.in-Some.ended told _
+    c.requires.within (search rules) (search rules) c.in-Some.handed.note c.in-Some.ended c.in-Some.handed.early told _
     (record { seated = e.same.0; kept = e.kept; over = e.over; given = e.given; free = e.free }) c.in-Some.ensures.due
-    c.take.ensures.same.0 c.take.ensures.noted refl refl (search rules) refl (search rules) (search rules)
+    c.take.ensures.same.0 c.take.ensures.noted refl refl (search rules) refl refl refl (search rules) (search rules)
 
 pub returns-clause-waits : goal.returns-clause-waits
 returns-clause-waits g c =
@@ -54,9 +54,10 @@ returns-clause-waits g c =
     let k = c.args.self.now in
     let place = c.args.place in
     let e = c.take_note.ensures in
-    let told : IsNoteFor (record { layout = layout; table_id = s.heap.table.shared.table_id }) place c.in-Some.note c.in-Some.ended =
-    subst (λ (n : Name). IsNoteFor n place c.in-Some.note c.in-Some.ended) c.requires.stands.of.named c.in-Some.ensures.note in
+    let told : IsNoteFor (record { layout = layout; table_id = s.heap.table.shared.table_id }) place c.in-Some.handed.note c.in-Some.ended c.in-Some.handed.early =
+    subst (λ (n : Name). IsNoteFor n place c.in-Some.handed.note c.in-Some.ended c.in-Some.handed.early) c.requires.stands.of.named c.in-Some.ensures.note in
     IsWaiting-told layout s.heap.table.shared.table_id s.hands.shared.table_id k c.requires.stands place c.requires.next
-    c.requires.within (search rules) (search rules) c.in-Some.note c.in-Some.ended told _
+    c.requires.within (search rules) (search rules) c.in-Some.handed.note c.in-Some.ended c.in-Some.handed.early told _
     (record { seated = e.same.0; kept = e.kept; over = e.over; given = e.given; free = e.free }) c.in-Some.ensures.due
     c.take.ensures.same.0 c.take.ensures.noted refl refl (search rules) (search rules) (search rules) (search rules) (search rules)
+    (search rules) (search rules) (search rules)

@@ -31,7 +31,7 @@ stop_and_post-self-requires g c =
       runs = works.runs;
       of_part = works.begun;
       once = works.once;
-      shared = subst (λ (b : Bool). HasShared v.who v.ticket v.run v.seen v.mine b m.ended) (sym c.requires.stays)
+      shared = subst (λ (b : Bool). HasShared v.who v.ticket v.run v.seen v.mine b m.ended false) (sym c.requires.stays)
           (HasShared-over v.who v.ticket v.run works.made v.seen v.mine m.ended works.sharing (has_ended works.made m.left v.run m.ended works.count c.requires.over));
       still = works.visits;
     }

@@ -24,7 +24,7 @@ use Rattle.tide_server.proofs.member.Member.leave.Goals as goal
 -- with its last call a mutator that had nothing to try again has made its share
 retired : (layout : Layout) (shapes : ShapeLists) (v w : View) (left : ℕ) (works : IsAtWork v left false) → 0 < left →
     retry_of v.who v.mine ≡ None → MakesCall layout shapes v.who Retire Done v.seen w.seen v.mine w.mine →
-    HasShared v.who v.ticket v.run w.seen w.mine true false
+    HasShared v.who v.ticket v.run w.seen w.mine true false false
 retired layout shapes v w left works some none makes =
     let count = works.count in
     HasShared-retired layout shapes v.who v.ticket v.run (works.made + 1) v.seen w.seen v.mine w.mine false
@@ -76,8 +76,8 @@ stop_and_post-self-requires g c =
       runs = ap (λ (k : Kept). k.runs) told.kept ∙ works.runs;
       of_part = ap (λ (k : Kept). k.begun) told.kept ∙ works.begun ∙ sym ticket;
       once = omega (arith, ticket, period, once);
-      shared = subst (λ (b : Bool). HasShared w.who w.ticket w.run w.seen w.mine b false) (sym told.left)
-          (subst (λ (k : Kept). HasShared k.who k.ticket k.run w.seen w.mine true false) (sym told.kept)
+      shared = subst (λ (b : Bool). HasShared w.who w.ticket w.run w.seen w.mine b false false) (sym told.left)
+          (subst (λ (k : Kept). HasShared k.who k.ticket k.run w.seen w.mine true false false) (sym told.kept)
           (retired c.args.standing.now.heap.key.layout (g.S.ShapeTable.lists c.args.standing.now.heap.key.shapes) v w n.left
           (subst (IsAtWork v n.left) come.works.1.1 works) come.works.1.0 none (subst (λ (r : Reply). MakesCall c.args.standing.now.heap.key.layout
           (g.S.ShapeTable.lists c.args.standing.now.heap.key.shapes) v.who Retire r v.seen w.seen v.mine w.mine) told.done told.makes)));
