@@ -1,6 +1,6 @@
 -- When mutators run and when cycles do, where a mutator may stop early: one that rests, or comes early to a freeze. Who
 -- did in a part is told by a list with a place for each mutator.
-use Rattle.std.specs.Prelude.{ℕ, ◌≡◌, ◌<◌, ◌⊎◌, Bool, true, false, List, [], ◌∷◌, ◌++◌, length, All, Option, get_or}
+use Rattle.std.specs.Prelude.{ℕ, ◌≡◌, ◌<◌, ◌⊎◌, ◌||◌, Bool, true, false, List, [], ◌∷◌, ◌++◌, length, Option, get_or}
 use Rattle.std.specs.List.{AllPass}
 use Rattle.tide_model.specs.declared.op.Op.{Op}
 use Rattle.tide_model.specs.declared.op.Reply.{Reply}
@@ -11,6 +11,7 @@ use Rattle.tide_model.specs.Freeze.{IsFreeze, marks_after, marks_of}
 use Rattle.tide_model.specs.History.{state_after}
 use Rattle.tide_model.specs.Lawful.{IsLawful}
 use Rattle.tide_model.specs.Layout.{Layout}
+use Rattle.tide_model.specs.Numbers.{any_below}
 use Rattle.tide_model.specs.Pace.{Pace}
 use Rattle.tide_model.specs.Periods.{EndsInTime, Period, after_part, after_period, is_forced, is_over, next_run, opened}
 use Rattle.tide_model.specs.Refused.{ShapeLists}
@@ -62,6 +63,11 @@ pub record IsLegalWhere (pace : Pace) (layout : Layout) (shapes : ShapeLists) (s
   pub ends : Each (EndsInTime layout) history
   pub over : is_over layout history ≡ true
 
--- nobody stopped early in any part
-abbrev pub NoneStopped : Layout → List (List Bool) → Type 0
-NoneStopped layout stops = All (λ early. (who : ℕ) → who < layout.mutators → get_or early who false ≡ false) stops
+-- some mutator stopped early in a part of which a list tells who did
+abbrev pub has_stop : Layout → List Bool → Bool
+has_stop layout early = any_below (λ who. get_or early who false) layout.mutators
+
+-- some mutator did in one of these parts
+abbrev pub have_stops : Layout → List (List Bool) → Bool
+have_stops layout [] = false
+have_stops layout (early ∷ stops) = has_stop layout early || have_stops layout stops

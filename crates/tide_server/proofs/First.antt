@@ -1,6 +1,5 @@
 -- A keeper stands once it has opened the first part.
 use Rattle.std.proofs.Common.{ℕ, zero, suc, ◌≡◌, ◌+◌, ◌<◌, ◌∙◌, refl, sym, ap, subst, arith, Bool, true, false, not, List, [], ◌∷◌, ◌++◌, get_or, replicate, true≢false}
-use Rattle.std.proofs.lemmas.List.Elements.{All-nil}
 use Rattle.std.specs.Prelude.{◌||◌, ◌&&◌, if◌then◌else◌, nat_lt}
 use Rattle.atomic_table.specs.Seated.{TableId}
 use Rattle.tide_model.specs.Freeze.{marks_after}
@@ -76,14 +75,13 @@ module _ (layout : Layout) (shapes : ShapeLists) (heap hands : TableId) (k : Kee
       nobody who e = absurd e
 
   pub KeeperStands-first : 0 < layout.mutators → AreBooks layout [] k.books → IsKeeperOf layout heap hands k → k.next ≡ 0 →
-      k.ended ≡ false → k.left ≡ replicate 16 false → k.early ≡ replicate 16 false →
+      k.ended ≡ false → k.left ≡ replicate 16 false → k.early ≡ replicate 16 false → k.stopped ≡ false →
       ((place : ℕ) → has_left layout k.left place ≡ true → Among place k.seat.seat.me.0.free) →
       k.seat.seat.me.0.over ≡ false → KeeperStands layout heap hands k
-  KeeperStands-first many are of next ended left early due no_end =
+  KeeperStands-first many are of next ended left early stopped due no_end =
       KeeperStands-opened layout heap hands k [] [] of
       (HasOpenedNext-first layout shapes run k.books start (view_of k) started is are).runs no_period
-      (λ e. All-nil (λ (some : List Bool). (who : ℕ) → who < layout.mutators → get_or some who false ≡ false))
-      (λ who. ap (λ (l : List Bool). get_or l who false) early ∙ none_left 16 who)
+      stopped (λ who. ap (λ (l : List Bool). get_or l who false) early ∙ none_left 16 who)
       (ap not (any_true layout.mutators many))
       (ap (λ (v : View). v.start) is ∙ (λ i. started.seen i ++ plain (Open (started.period i + 1) run) ∷ []))
       (subst (λ (v : View). v.marks ≡ marks_after layout v.start) (sym is)

@@ -2,7 +2,7 @@
 use Rattle.std.proofs.Common.{ℕ, ◌≡◌, ◌↔◌, ◌+◌, ◌-◌, ◌<◌, ◌^◌, ◌∙◌, refl, sym, ap, subst, arith, Bool, true, false, not, List, [], ◌∷◌, ◌++◌, append_assoc, get_or, inl, inr}
 use Rattle.std.proofs.lemmas.List.Sums.{AllPass-from_list_all}
 use Rattle.std.specs.List.{list_all}
-use Rattle.std.specs.Prelude.{◌⊎◌}
+use Rattle.std.specs.Prelude.{◌⊎◌, ◌||◌}
 use Rattle.atomic_table.specs.Seated.{TableId}
 use Rattle.tide_model.proofs.DeadLaws.{calls_where_marking}
 use Rattle.tide_model.proofs.Histories.{state_after-push, state_from-append}
@@ -22,12 +22,12 @@ use Rattle.tide_model.specs.State.{State, empty_state}
 use Rattle.tide_model.specs.declared.entry.Entry.TheVariants.{Open}
 use Rattle.tide_model.specs.declared.entry.Event.{Event}
 use Rattle.tide_posts.proofs.Keeping.{inactive-prefix}
-use Rattle.tide_posts.proofs.Schedule.{NoneStopped-more, periods_go_on_where}
+use Rattle.tide_posts.proofs.Schedule.{has_stop-nobody, have_stops-push, periods_go_on_where}
 use Rattle.tide_posts.proofs.tide_heap.tide_freeze.BookLaws.{AddsEnds-same, AddsEnds-then, ends_in-part}
 use Rattle.tide_posts.proofs.tide_heap.tide_freeze.QuietLaws.{HasFrozenWhole-quiet, kept_by_quiet}
 use Rattle.tide_posts.specs.Name.{places}
 use Rattle.tide_posts.specs.Posts.{TicketTells}
-use Rattle.tide_posts.specs.Schedule.{ArePeriodsWhere, IsLegalWhere, NoneStopped}
+use Rattle.tide_posts.specs.Schedule.{ArePeriodsWhere, IsLegalWhere, has_stop, have_stops}
 use Rattle.tide_posts.specs.Among.{Among}
 use Rattle.tide_posts.specs.tide_heap.Parties.{In}
 use Rattle.tide_posts.specs.tide_heap.Turns.{Freezes, open_entry, opened}
@@ -41,6 +41,7 @@ use Rattle.tide_report.specs.Reports.{Reported}
 use Rattle.tide_sched.proofs.RunLaws.{last_run-opened, last_run-same}
 use Rattle.tide_sched.specs.Paces.{last_run, pace_of}
 use Rattle.tide_sched.specs.declared.pacing.Pacing.{Pacing}
+use Rattle.tide_server.proofs.Noted.{or_false}
 use Rattle.tide_server.proofs.Ending.{has_done, is_over-here, lawful, shares_here}
 use Rattle.tide_server.specs.Keepers.{AreLeft, IsKeeperOf, KeeperStands, NotesAreIn, has_left, ticket_count, view_of}
 use Rattle.tide_server.specs.Turned.{HasFinished, HasFrozenPart, HasOpenedPart, HasPostedEnds, HasSpentParts, MakesPeriod}
@@ -94,20 +95,21 @@ NotesAreIn-none layout v early none done nobody =
 -- A keeper stands right after an opening, if it has no note in yet, and if who has left isn't active.
 pub KeeperStands-opened : (layout : Layout) (heap hands : TableId) (k : Keeper) (stops : List (List Bool)) (before : List Event) →
     IsKeeperOf layout heap hands k → RunsWith layout k.books (view_of k) →
-    ArePeriodsWhere (pace_of k.books.pacing) layout stops before → (k.stopped ≡ false → NoneStopped layout stops) →
+    ArePeriodsWhere (pace_of k.books.pacing) layout stops before → k.stopped ≡ have_stops layout stops →
     ((who : ℕ) → get_or k.early who false ≡ false) →
     is_over layout before ≡ false → (view_of k).start ≡ opened_history (pace_of k.books.pacing) layout before →
     (view_of k).marks ≡ marks_after layout (view_of k).start → (view_of k).visited ≡ [] → (view_of k).done ≡ true →
     k.next ≡ 0 → k.ended ≡ false → AreLeft layout (view_of k) 0 k.left →
     ((place : ℕ) → has_left layout k.left place ≡ true → Among place k.seat.seat.me.0.free) →
     k.seat.seat.me.0.over ≡ false → KeeperStands layout heap hands k
-KeeperStands-opened layout heap hands k stops before of runs periods never nobody goes_on is marking none done next ended left due no_end = record {
+KeeperStands-opened layout heap hands k stops before of runs periods stopped nobody goes_on is marking none done next ended left due no_end = record {
   of = of;
   runs = runs;
   before = before;
   stops = stops;
   periods = periods;
-  none = λ e. (never e, nobody);
+  stopped = stopped ∙ sym (or_false (have_stops layout stops))
+      ∙ ap (λ (b : Bool). have_stops layout stops || b) (sym (has_stop-nobody layout k.early nobody));
   goes_on = goes_on;
   opened = is;
   marking = marking;
@@ -204,7 +206,7 @@ module _ (layout : Layout) (shapes : ShapeLists) (heap hands : TableId) (k : Kee
         (is_forced layout (opened_history pace layout stands.before) froze.part))
         (seen_is ∙ ap (λ (h : List Event). h ++ froze.part) stands.opened)
         (subst (HasFrozenWhole pace layout (last_run u.seen) u.seen w.seen) forced did.collected.freezes)));
-    none = λ e. NoneStopped-more layout stands.stops k.early (stands.none e).0 (stands.none e).1;
+    is_stopped = stands.stopped ∙ sym (have_stops-push layout stands.stops k.early);
     ends = did.collected.still.ends;
   }
 
@@ -236,7 +238,7 @@ module _ (layout : Layout) (shapes : ShapeLists) (heap hands : TableId) (k : Kee
             ends = makes.ends;
             over = is_over-frozen ∙ ap not over;
           }));
-      none = λ e. makes.none (sym stopped ∙ e);
+      is_stopped = stopped ∙ makes.is_stopped;
     };
     posted = posted;
     told = subst (λ (h : List Event). AddsEnds layout v.start h report longer) (sym seen_now) AddsEnds-frozen;
@@ -325,7 +327,7 @@ module _ (layout : Layout) (shapes : ShapeLists) (heap hands : TableId) (k : Kee
             are = record { births = next.runs.are.births; room = next.runs.are.room };
           }))
           (subst (λ (p : Pacing). ArePeriodsWhere (pace_of p) layout makes.stops w.seen) (sym same_pacing) makes.periods)
-          (λ e. makes.none (sym stopped ∙ e)) nobody over
+          (stopped ∙ makes.is_stopped) nobody over
           (subst (λ (p : Pacing). x.start ≡ opened_history (pace_of p) layout w.seen) (sym same_pacing) start_is) marking next.visited
           next.done none ended (subst (AreLeft layout x 0) (sym left) left_now)
           (λ place is. due place (ap (λ (l : List Bool). has_left layout l place) (sym left) ∙ is)) no_end;

@@ -1,15 +1,16 @@
 -- A keeper whose part is open goes on, place by place.
-use Rattle.std.proofs.Common.{ℕ, suc, ◌≡◌, ◌+◌, ◌-◌, ◌<◌, ◌≤◌, ◌∙◌, refl, sym, ap, subst, arith, Bool, true, false, List, get_or, set, length, get_or-set_same, get_or-set_other, inl, inr, ◌⊎◌, lt-ltb, le-ltb, true≢false}
+use Rattle.std.proofs.Common.{ℕ, suc, ◌≡◌, ◌+◌, ◌-◌, ◌<◌, ◌≤◌, ◌∙◌, refl, sym, ap, subst, arith, Bool, true, false, List, get_or, set, length, get_or-set_other, inl, inr, ◌⊎◌, lt-ltb, le-ltb, true≢false}
 use Rattle.std.proofs.lemmas.Bool.{and_parts, cases_eq, ltb-true}
 use Rattle.std.specs.Prelude.{◌||◌, ◌&&◌, MatchBool, if◌then◌else◌, nat_lt}
 use Rattle.atomic_table.specs.Seated.{TableId}
 use Rattle.tide_model.specs.Freeze.{marks_after}
 use Rattle.tide_model.specs.Layout.{Layout}
 use Rattle.tide_model.specs.Periods.{opened}
+use Rattle.tide_posts.proofs.Schedule.{has_stop-set}
 use Rattle.tide_posts.specs.Name.{Name, places}
 use Rattle.tide_posts.specs.Posts.{IsNoteFor, MutatorTells, VisitorTells}
 use Rattle.tide_posts.specs.Among.{Among}
-use Rattle.tide_posts.specs.Schedule.{ArePeriodsWhere, NoneStopped}
+use Rattle.tide_posts.specs.Schedule.{ArePeriodsWhere, has_stop, have_stops}
 use Rattle.tide_posts.specs.tide_hands.Seats.{frame}
 use Rattle.tide_posts.specs.tide_hands.declared.view.HandView.{HandView}
 use Rattle.tide_posts.specs.tide_heap.Parties.{In}
@@ -30,10 +31,9 @@ use Rattle.tide_table.specs.declared.collector.Collector.{Collector}
 one_more : (n : ℕ) → suc n ≡ n + 1
 one_more n = omega arith
 
-stopped_parts : (a b : Bool) → (a || b) ≡ false → (a ≡ false) × (b ≡ false)
-stopped_parts false false e = (refl, refl)
-stopped_parts false true e = absurd (cc)
-stopped_parts true b e = absurd (cc)
+or_assoc : (a b c : Bool) → ((a || b) || c) ≡ (a || (b || c))
+or_assoc true b c = refl
+or_assoc false b c = refl
 
 module _ (layout : Layout) (heap hands : TableId) (k : Keeper) (stands : KeeperStands layout heap hands k) where
   -- of the keeper's seat a look leaves this, and makes nothing else than places known at which a ticket is due
@@ -49,10 +49,10 @@ module _ (layout : Layout) (heap hands : TableId) (k : Keeper) (stands : KeeperS
       now.books ≡ k.books → RunsWith layout k.books (view_of now) → (view_of now).start ≡ (view_of k).start →
       (view_of now).period ≡ (view_of k).period → (view_of now).marks ≡ (view_of k).marks → now.next ≤ places layout →
       NotesAreIn layout (view_of now) now.next now.ended now.early →
-      (now.stopped ≡ false → (k.stopped ≡ false) × ((who : ℕ) → get_or now.early who false ≡ false)) → AreLeft layout (view_of now) now.next now.left →
+      now.stopped ≡ (have_stops layout stands.stops || has_stop layout now.early) → AreLeft layout (view_of now) now.next now.left →
       ((place : ℕ) → (place < now.next) ⊎ (has_left layout now.left place ≡ true) → Among place now.seat.seat.me.0.free) →
       IsWaiting layout heap hands k now
-  IsWaiting-by now looked table books runs start period marks within notes none left due = record {
+  IsWaiting-by now looked table books runs start period marks within notes stopped left due = record {
     stands = record {
       of = record {
         table = table ∙ stands.of.table;
@@ -63,7 +63,7 @@ module _ (layout : Layout) (heap hands : TableId) (k : Keeper) (stands : KeeperS
       before = stands.before;
       stops = stands.stops;
       periods = subst (λ (b : Books). ArePeriodsWhere (pace_of b.pacing) layout stands.stops stands.before) (sym books) stands.periods;
-      none = λ e. ((stands.none (none e).0).0, (none e).1);
+      stopped = stopped;
       goes_on = stands.goes_on;
       opened = start ∙ stands.opened ∙ ap (λ (b : Books). opened (pace_of b.pacing) layout stands.before) (sym books);
       marking = marks ∙ stands.marking ∙ ap (marks_after layout) (sym start);
@@ -80,11 +80,10 @@ module _ (layout : Layout) (heap hands : TableId) (k : Keeper) (stands : KeeperS
   }
 
   -- who stopped early stays known
-  none_still : (now : Keeper) → now.stopped ≡ k.stopped → now.early ≡ k.early → now.stopped ≡ false →
-      (k.stopped ≡ false) × ((who : ℕ) → get_or now.early who false ≡ false)
-  none_still now stopped early e =
-      let so = sym stopped ∙ e in
-      (so, λ who. ap (λ (l : List Bool). get_or l who false) early ∙ (stands.none so).1 who)
+  stopped_still : (now : Keeper) → now.stopped ≡ k.stopped → now.early ≡ k.early →
+      now.stopped ≡ (have_stops layout stands.stops || has_stop layout now.early)
+  stopped_still now stopped early = stopped ∙ stands.stopped
+      ∙ ap (λ (l : List Bool). have_stops layout stands.stops || has_stop layout l) (sym early)
 
   -- nothing was found
   pub IsWaiting-same : (now : Keeper) → HasLooked now → now.collector ≡ k.collector → now.books ≡ k.books →
@@ -99,7 +98,7 @@ module _ (layout : Layout) (heap hands : TableId) (k : Keeper) (stands : KeeperS
       (subst (λ (n : ℕ). NotesAreIn layout (view_of k) n now.ended now.early) (sym next)
       (subst (λ (b : Bool). NotesAreIn layout (view_of k) k.next b now.early) (sym ended)
       (subst (NotesAreIn layout (view_of k) k.next k.ended) (sym early) stands.notes))))
-      (none_still now stopped early)
+      (stopped_still now stopped early)
       (subst (λ (v : View). AreLeft layout v now.next now.left) (sym same)
       (subst (λ (n : ℕ). AreLeft layout (view_of k) n now.left) (sym next)
       (subst (AreLeft layout (view_of k) k.next) (sym left) stands.left)))
@@ -124,7 +123,7 @@ module _ (layout : Layout) (heap hands : TableId) (k : Keeper) (stands : KeeperS
       (subst (λ (n : ℕ). NotesAreIn layout (view_of k) n k.ended k.early) (one_more place)
       (NotesAreIn-left layout (view_of k) place k.ended k.early below had
       (subst (λ (n : ℕ). NotesAreIn layout (view_of k) n k.ended k.early) next stands.notes)))
-      (λ e. (e, (stands.none e).1))
+      stands.stopped
       (subst (λ (n : ℕ). AreLeft layout (view_of k) n k.left) (one_more place)
       (AreLeft-later layout (view_of k) place k.left (subst (λ (n : ℕ). AreLeft layout (view_of k) n k.left) next stands.left)))
       (λ q e. stands.due q (was q e))
@@ -197,7 +196,11 @@ module _ (layout : Layout) (heap hands : TableId) (k : Keeper) (stands : KeeperS
         (subst (λ (n : ℕ). NotesAreIn layout (noted v u) n (k.ended || ends) (set k.early place stops)) (one_more place)
         (NotesAreIn-told layout v u place k.ended ends k.early stops below (omega (arith, below, few, wide)) (omega (arith, below, few)) who
         period tells told.done isnt notes_were))))))
-        (none_now (λ e. stopped_parts k.stopped stops (sym stopped ∙ e)) early)
+        (stopped ∙ ap (λ (b : Bool). b || stops) stands.stopped
+        ∙ or_assoc (have_stops layout stands.stops) (has_stop layout k.early) stops
+        ∙ ap (λ (b : Bool). have_stops layout stands.stops || b) (sym (has_stop-set layout k.early place stops
+        (omega (arith, below, few, wide)) (notes_were.none_early place (omega arith)) below)
+        ∙ ap (has_stop layout) (sym early)))
         (subst (λ (x : View). AreLeft layout x now.next now.left) (sym is)
         (subst (λ (n : ℕ). AreLeft layout (noted v u) n now.left) (sym later)
         (subst (AreLeft layout (noted v u) (place + 1)) (sym left)
@@ -215,19 +218,6 @@ module _ (layout : Layout) (heap hands : TableId) (k : Keeper) (stands : KeeperS
 
         tells : MutatorTells u ends stops
         tells = subst (λ (b : Bool). MatchBool b (MutatorTells u ends stops) (VisitorTells layout u ends stops)) is_mutator told.did
-
-        none_now : (now.stopped ≡ false → (k.stopped ≡ false) × (stops ≡ false)) → now.early ≡ set k.early place stops →
-            now.stopped ≡ false → (k.stopped ≡ false) × ((who : ℕ) → get_or now.early who false ≡ false)
-        none_now parts is e =
-            let so = parts e in
-            (so.0, λ who. ap (λ (l : List Bool). get_or l who false) is ∙ none_at who so.1 ((stands.none so.0).1 who))
-          where
-            none_at : (who : ℕ) → stops ≡ false → get_or k.early who false ≡ false → get_or (set k.early place stops) who false ≡ false
-            none_at who isnt had = elim (cases_eq who place) [
-              | inl same ↦ ap (λ (n : ℕ). get_or (set k.early place stops) n false) same
-                  ∙ get_or-set_same k.early place stops false (omega (arith, below, few, wide)) ∙ isnt
-              | inr apart ↦ get_or-set_other k.early place who stops false apart ∙ had
-            ]
 
         isnt : In place v.gone → ⊥
         isnt e = true≢false (sym ((stands.left.known place below).1 e) ∙ stays)
@@ -247,7 +237,7 @@ module _ (layout : Layout) (heap hands : TableId) (k : Keeper) (stands : KeeperS
         (subst (λ (n : ℕ). NotesAreIn layout (noted v u) n k.ended k.early) (one_more place)
         (NotesAreIn-visited layout v u place k.ended k.early behind few who period (told.begun ∙ period) tells.marked told.done isnt
         notes_were))))))
-        (none_still now stopped early)
+        (stopped_still now stopped early)
         (subst (λ (x : View). AreLeft layout x now.next now.left) (sym is)
         (subst (λ (n : ℕ). AreLeft layout (noted v u) n now.left) (sym later)
         (subst (AreLeft layout (noted v u) (place + 1)) (sym left)

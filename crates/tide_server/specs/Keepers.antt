@@ -1,5 +1,5 @@
 -- The keeper of a standing heap, between two of its turns.
-use Rattle.std.specs.Prelude.{ℕ, ◌≡◌, ◌≤◌, ◌<◌, ◌+◌, ◌-◌, ◌⊎◌, ◌↔◌, ◌&&◌, Bool, true, false, not, Contains, List, None, Some, get_or, nat_lt}
+use Rattle.std.specs.Prelude.{ℕ, ◌≡◌, ◌≤◌, ◌<◌, ◌+◌, ◌-◌, ◌⊎◌, ◌↔◌, ◌&&◌, ◌||◌, Bool, true, false, not, Contains, List, None, Some, get_or, nat_lt}
 use Rattle.atomic_table.specs.Seated.{TableId}
 use Rattle.tide_model.specs.Freeze.{marks_after}
 use Rattle.tide_model.specs.History.{state_after}
@@ -9,7 +9,7 @@ use Rattle.tide_model.specs.Periods.{is_over, opened}
 use Rattle.tide_model.specs.declared.entry.Event.{Event}
 use Rattle.tide_posts.specs.Name.{places}
 use Rattle.tide_posts.specs.Posts.{MutatorTells}
-use Rattle.tide_posts.specs.Schedule.{ArePeriodsWhere, NoneStopped}
+use Rattle.tide_posts.specs.Schedule.{ArePeriodsWhere, has_stop, have_stops}
 use Rattle.tide_posts.specs.Shares.{HasMarked}
 use Rattle.tide_posts.specs.Among.{Among}
 use Rattle.tide_posts.specs.tide_heap.Parties.{In}
@@ -106,7 +106,7 @@ pub record KeeperStands (layout : Layout) (heap hands : TableId) (k : Keeper) : 
   pub before : List Event
   pub stops : List (List Bool)
   pub periods : ArePeriodsWhere (pace_of k.books.pacing) layout stops before
-  pub none : k.stopped ≡ false → NoneStopped layout stops × ((who : ℕ) → get_or k.early who false ≡ false)
+  pub stopped : k.stopped ≡ (have_stops layout stops || has_stop layout k.early)
   pub goes_on : is_over layout before ≡ false
   pub opened : (view_of k).start ≡ opened (pace_of k.books.pacing) layout before
   pub marking : (view_of k).marks ≡ marks_after layout (view_of k).start

@@ -3,4 +3,5 @@ pub mod Helpers
 pub mod Keepers
 pub mod Members
 pub mod Opened
+pub mod Rests
 pub mod Turned

@@ -8,7 +8,7 @@ use Rattle.tide_model.specs.Periods.{EndsInTime, is_over, opened}
 use Rattle.tide_model.specs.Prefix.{IsPrefix}
 use Rattle.tide_model.specs.Refused.{ShapeLists}
 use Rattle.tide_model.specs.declared.entry.Event.{Event}
-use Rattle.tide_posts.specs.Schedule.{ArePeriodsWhere, IsLegalWhere, NoneStopped}
+use Rattle.tide_posts.specs.Schedule.{ArePeriodsWhere, IsLegalWhere, have_stops}
 use Rattle.tide_posts.specs.tide_heap.Parties.{In}
 use Rattle.tide_posts.specs.tide_heap.tide_freeze.Books.{AddsEnds, AreBooks}
 use Rattle.tide_posts.specs.tide_heap.Turns.{Freezes}
@@ -22,15 +22,15 @@ use Rattle.tide_server.specs.declared.turning.Turn.TheVariants.{Opened, Over, Sp
 use Rattle.tide_table.specs.Standing.{HasCollected}
 
 -- The freeze after the keeper's open part made one more whole period of the history: it goes on from where the part was
--- opened, is lawful, and its cycles end in time. Where the keeper says that nobody stopped early in a part so far, nobody
--- did.
+-- opened, is lawful, and its cycles end in time. `stopped` says whether some mutator has
+-- stopped early in one of the periods.
 pub record MakesPeriod (layout : Layout) (shapes : ShapeLists) (k : Keeper) (stopped : Bool) (after : List Event) : Type 0
     where
   pub grows : IsPrefix (view_of k).start after
   pub lawful : IsLawful layout shapes after
   pub stops : List (List Bool)
   pub periods : ArePeriodsWhere (pace_of k.books.pacing) layout stops after
-  pub none : stopped ≡ false → NoneStopped layout stops
+  pub is_stopped : stopped ≡ have_stops layout stops
   pub ends : Each (EndsInTime layout) after
 
 -- A freeze ended the keeper's open part and did what the schedule asks for, in which each mutator has so many calls
@@ -57,14 +57,14 @@ pub record HasOpenedPart (layout : Layout) (shapes : ShapeLists) (heap hands : T
   pub told : AddsEnds layout (view_of old).start (view_of new).start report longer
 
 -- A keeper whose heap is frozen for good: all mutators have left, and its history is legal for its pace, its layout and
--- as many visitors as that has, with who stopped early in which part: nobody where the keeper says so.
+-- as many visitors as that has, with who stopped early in which part. The keeper says whether somebody did.
 pub record IsFinished (layout : Layout) (shapes : ShapeLists) (heap : TableId) (k : Keeper) : Type 0 where
   pub table : k.collector.seat.table_id ≡ heap
   pub frozen : (view_of k).frozen ≡ true
   pub gone : (i : ℕ) → i < layout.mutators → In i (view_of k).gone
   pub stops : List (List Bool)
   pub legal : IsLegalWhere (pace_of k.books.pacing) layout shapes stops (view_of k).seen
-  pub none : k.stopped ≡ false → NoneStopped layout stops
+  pub is_stopped : k.stopped ≡ have_stops layout stops
 
 -- as much was posted as there are visitors, and the end among that
 abbrev pub HasPostedEnds : Layout → Keeper → Keeper → Type 0

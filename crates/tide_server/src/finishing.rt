@@ -1,7 +1,7 @@
 //! A standing heap is closed, and hands over its history.
 ghost use Rattle.std.specs.Prelude.{◌≡◌, Bool, List, false};
 ghost use Rattle.tide_model.specs.Periods.{IsLegal};
-ghost use Rattle.tide_posts.specs.Schedule.{IsLegalWhere};
+ghost use Rattle.tide_posts.specs.Schedule.{IsLegalWhere, have_stops};
 ghost use Rattle.tide_sched.specs.Paces.{pace_of};
 ghost use Rattle.tide_server.specs.Turned.{IsFinished};
 
@@ -18,8 +18,9 @@ impl Keeper {
             standing.heap.table.shared.table_id self }
         ensures history { result.seat.me.0.seen ≡ self.collector.seat.me.0.seen }
         ensures heap { result.key ≡ standing.heap.key }
-        ensures where_early { (stops : List (List Bool)) × IsLegalWhere (pace_of self.books.pacing)
-            standing.heap.key.layout (S.lists standing.heap.key.shapes) stops result.seat.me.0.seen }
+        ensures where_early { (stops : List (List Bool)) × (self.stopped ≡ have_stops standing.heap.key.layout stops)
+            × IsLegalWhere (pace_of self.books.pacing) standing.heap.key.layout (S.lists standing.heap.key.shapes) stops
+            result.seat.me.0.seen }
         ensures legal { self.stopped ≡ false → IsLegal (pace_of self.books.pacing) standing.heap.key.layout
             (S.lists standing.heap.key.shapes) result.seat.me.0.seen }
     {

@@ -22,6 +22,7 @@ mod posting;
 mod calls;
 mod finishing;
 mod opening;
+mod resting;
 mod taking;
 // these stand on those listed before
 mod turning;
@@ -31,6 +32,7 @@ pub use keeper::Keeper;
 pub use member::Member;
 pub use opening::{Opened, open};
 pub use parts::Offered;
+pub use resting::Resting;
 pub use standing::Standing;
 pub use tide_report::Report;
 pub use tide_table::Closed;

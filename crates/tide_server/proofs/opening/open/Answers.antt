@@ -48,6 +48,7 @@ returns-clause-stands g c = λ many.
       named = did.of.named ∙ (λ i. record { layout = (same i).key.layout; table_id = (same i).table.shared.table_id });
     })
     (did.same.0 ∙ nothing.0) (did.same.1 ∙ nothing.1) (did.same.2 ∙ nothing.2) (did.early.0 ∙ c.new-keeper.ensures.nobody.0)
+    (did.early.1 ∙ c.new-keeper.ensures.nobody.1)
     (λ place is. did.due place ((λ i. has_left (same i).key.layout (sym did.same.2 i) place) ∙ is))
     (did.over ∙ ap (λ (s : KeeperSeat Ticket HandedIn Name). s.seat.me.0.over) c.new-keeper.ensures.seat
     ∙ ap (λ (v : HandView Name). v.over) c.in_ok-helpers.ensures.kept

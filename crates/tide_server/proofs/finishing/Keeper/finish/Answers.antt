@@ -1,5 +1,5 @@
 -- The history that a finished keeper hands over, with who stopped early in which part.
-use Rattle.std.proofs.Common.{sym, subst}
+use Rattle.std.proofs.Common.{◌∙◌, sym, subst}
 use Rattle.tide_model.specs.Periods.{IsLegal}
 use Rattle.tide_model.specs.declared.entry.Event.{Event}
 use Rattle.tide_posts.proofs.Schedule.{legal_where_none}
@@ -13,6 +13,7 @@ returns-clause-where_early g c =
     let key = c.args.standing.heap.key in
     let finished = c.requires.finished in (
       finished.stops,
+      finished.is_stopped,
       subst (IsLegalWhere (pace_of c.args.self.books.pacing) key.layout (g.S.HeapShapes.lists key.shapes) finished.stops)
           (sym c.close.ensures.history) finished.legal,
     )
@@ -25,4 +26,4 @@ returns-clause-legal g c = λ nobody.
     let shapes = g.S.HeapShapes.lists key.shapes in
     subst (IsLegal pace key.layout shapes) (sym c.close.ensures.history)
     ((legal_where_none pace key.layout shapes c.args.self.collector.seat.me.0.seen).1
-    (finished.stops, finished.none nobody, finished.legal))
+    (finished.stops, sym finished.is_stopped ∙ nobody, finished.legal))
