@@ -1,5 +1,5 @@
 //! `Resting`: a member that rests. It makes no call; who has it begins and stops in its place, and waits for nobody.
-ghost use Rattle.std.specs.Prelude.{◌≡◌, ◌+◌, false, if◌then◌else◌};
+ghost use Rattle.std.specs.Prelude.{◌≡◌, ◌+◌, false, true, if◌then◌else◌};
 ghost use Rattle.tide_model.specs.Prefix.{IsPrefix};
 ghost use Rattle.tide_mutator.specs.calls.Viewed.{view_of};
 ghost use Rattle.tide_server.specs.Members.{IsMemberOf, caller_of};
@@ -19,6 +19,26 @@ pub struct Resting {
 }
 
 impl Member {
+    /// Stops in the midst of its part, and posts its note, which tells whether calls of its share are left.
+    fn break_off<S: HeapShapes>(&mut self, standing: &Standing<S>)
+        requires of { IsMemberOf standing.now.heap.key.layout standing.now.heap.table.shared.table_id
+            standing.now.hands.shared.table_id self.old }
+        requires stays { (view_of self.old.mutator).left ≡ false }
+        requires works { self.old.works ≡ true }
+        ensures of { IsMemberOf standing.now.heap.key.layout standing.now.heap.table.shared.table_id
+            standing.now.hands.shared.table_id self.new }
+        ensures rests { self.new.works ≡ false }
+        ensures same { caller_of self.new ≡ caller_of self.old }
+        ensures seen { (view_of self.new.mutator).seen ≡ (view_of self.old.mutator).seen }
+        ensures posted { self.new.seat.seat.me.0.given ≡ self.old.seat.seat.me.0.given + 1 }
+    {
+        if self.is_over() {
+            self.hand_in(standing);
+            return;
+        }
+        self.come_early(standing);
+    }
+
     /// Rests. In the midst of a part it hands its note in before, with calls of its share left or not.
     pub fn rest<S: HeapShapes>(self, standing: &Standing<S>) -> Resting
         requires of { IsMemberOf standing.now.heap.key.layout standing.now.heap.table.shared.table_id
@@ -32,11 +52,10 @@ impl Member {
             ≡ self.seat.seat.me.0.given + (if self.works then 1 else 0) }
     {
         let mut member = self;
-        if member.is_over() {
-            member.hand_in(standing);
-        } else if member.works {
-            member.come_early(standing);
+        if !member.works {
+            return Resting { member };
         }
+        member.break_off(standing);
         Resting { member }
     }
 }
@@ -54,14 +73,12 @@ impl Resting {
         ensures posted { self.new.member.seat.seat.me.0.given
             ≡ self.old.member.seat.seat.me.0.given + (if result then 1 else 0) }
     {
-        match self.member.offer(standing) {
-            Offered::Begun => {
-                self.member.come_early(standing);
-                true
-            }
-            // An end is posted to helpers alone.
-            Offered::NotYet | Offered::Over => false,
-        }
+        // An end is posted to helpers alone.
+        let Offered::Begun = self.member.offer(standing) else {
+            return false;
+        };
+        self.member.come_early(standing);
+        true
     }
 
     /// Its member wakes, and is as it was when it came to rest, but for what it has seen.
