@@ -15,6 +15,7 @@ use Rattle.tide_server.specs.Members.{IsMemberOf}
 use Rattle.tide_server.specs.declared.helper.Helper.{Helper}
 use Rattle.tide_server.specs.declared.keeper.Keeper.{Keeper}
 use Rattle.tide_server.specs.declared.member.Member.{Member}
+use Rattle.tide_server.specs.declared.resting.Resting.{Resting}
 
 -- a layout with as many registers and strong handles as the scripts name
 pub record HasRoomForScripts (layout : Layout) : Type 0 where
@@ -33,6 +34,10 @@ pub record MayCall (layout : Layout) (heap hands : TableId) (m : Member) : Type 
   pub stays : (view_of m.mutator).left ≡ false
   pub bare : claims_of (view_of m.mutator) ≡ []
   pub settled : retry_of (view_of m.mutator).who (view_of m.mutator).mine ≡ None
+
+-- a member that rests: it hasn't left, claims no cell, and has nothing to try again
+abbrev pub MayWake : Layout → TableId → TableId → Resting → Type 0
+MayWake layout heap hands r = MayCall layout heap hands r.member
 
 -- the actors of a heap whose first part is open: its keeper may turn, each member may make any call, and each helper
 -- may work

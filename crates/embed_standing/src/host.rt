@@ -1,5 +1,5 @@
 //! A host of a standing heap: it opens one, and its members, its helpers and its keeper each get a thread.
-ghost use Rattle.embed_standing.specs.Playing.{HasRoomForScripts, MayCall, MayPlay};
+ghost use Rattle.embed_standing.specs.Playing.{HasRoomForScripts, MayCall, MayPlay, MayWake};
 ghost use Rattle.std.specs.Prelude.{◌≡◌, All, IfOk, IfSome, true};
 ghost use Rattle.tide_server.specs.Helpers.{IsHelperOf};
 ghost use Rattle.tide_server.specs.Keepers.{KeeperStands};
@@ -8,6 +8,7 @@ ghost use Rattle.tide_shape.specs.Lists.{lists_of};
 ghost use Rattle.tide_text.specs.work.Work.{AreSettings};
 
 use crate::playing::{Kept, keep, play_helper, play_member};
+use crate::resting::{keep_until_it_wakes, rest_with_a_cell};
 use crate::row::Row;
 use crate::tally::Tally;
 use std::alloc::Global;
@@ -143,6 +144,56 @@ fn play_all<R: Threads + Wait + Sync>(
     kept
 }
 
+/// The last member makes a cell, and rests with it; the keeper turns beside it and the others until it wakes, and then
+/// until no mutator is active. Without members nobody plays.
+fn play_beside_one_that_rests<R: Threads + Wait + Sync>(
+    rt: &R,
+    standing: &Standing<Shapes>,
+    keeper: Keeper,
+    report: Report,
+    mut members: Vec<Member>,
+    helpers: Vec<Helper>,
+    row: &Row,
+    tally: &Tally,
+) -> Result<Option<Kept>, Memory>
+    requires stands { KeeperStands standing.now.heap.key.layout standing.now.heap.table.shared.table_id
+        standing.now.hands.shared.table_id keeper }
+    requires may { All (λ member. MayCall standing.now.heap.key.layout standing.now.heap.table.shared.table_id
+        standing.now.hands.shared.table_id member) members.items }
+    requires of { All (λ helper. IsHelperOf standing.now.heap.key.layout standing.now.heap.table.shared.table_id
+        standing.now.hands.shared.table_id helper) helpers.items }
+    requires room { HasRoomForScripts standing.now.heap.key.layout }
+    ensures finished { IfOk result (λ found. IfSome found (λ kept. kept.is_over ≡ true →
+        IsFinished standing.now.heap.key.layout (lists_of standing.now.heap.key.shapes)
+        standing.now.heap.table.shared.table_id kept.keeper)) }
+{
+    let Some(sleeper) = members.pop() else {
+        return Ok(None);
+    };
+    let resting = rest_with_a_cell(rt, standing, sleeper, tally)?;
+    let (kept, ()) = join(
+        rt,
+        || -> Kept
+            requires { HasRoomForScripts standing.now.heap.key.layout
+                × KeeperStands standing.now.heap.key.layout standing.now.heap.table.shared.table_id
+                standing.now.hands.shared.table_id keeper
+                × MayWake standing.now.heap.key.layout standing.now.heap.table.shared.table_id
+                standing.now.hands.shared.table_id resting }
+            ensures { result.is_over ≡ true → IsFinished standing.entry.now.heap.key.layout
+                (lists_of standing.entry.now.heap.key.shapes) standing.entry.now.heap.table.shared.table_id
+                result.keeper }
+        { keep_until_it_wakes(rt, standing, keeper, report, resting, row, tally) },
+        || -> ()
+            requires { HasRoomForScripts standing.now.heap.key.layout
+                × All (λ member. MayCall standing.now.heap.key.layout standing.now.heap.table.shared.table_id
+                standing.now.hands.shared.table_id member) members.items
+                × All (λ helper. IsHelperOf standing.now.heap.key.layout standing.now.heap.table.shared.table_id
+                standing.now.hands.shared.table_id helper) helpers.items }
+        { play_others(rt, standing, members, helpers, row, tally) },
+    );
+    Ok(Some(kept))
+}
+
 /// What was seen of a heap that is over.
 #[derive(Drop)]
 pub struct Seen {
@@ -153,6 +204,8 @@ pub struct Seen {
     pub parts: u64,
     /// Each member was answered as its script has it, and each helper came to the end.
     pub is_right: bool,
+    /// Some mutator stopped early.
+    pub stopped: bool,
 }
 
 /// The numbers of a row's schedule.
@@ -210,7 +263,18 @@ pub fn run<R: Threads + Wait + Sync>(
         helpers,
     } = opened;
     let tally = Tally::new(row.meets);
-    let kept = play_all(rt, &standing, keeper, report, members, helpers, row, &tally);
+    let played = if row.rests > 0 {
+        play_beside_one_that_rests(
+            rt, &standing, keeper, report, members, helpers, row, &tally,
+        )?
+    } else {
+        Some(play_all(
+            rt, &standing, keeper, report, members, helpers, row, &tally,
+        ))
+    };
+    let Some(kept) = played else {
+        return Ok(None);
+    };
     let Kept {
         keeper,
         report,
@@ -220,11 +284,13 @@ pub fn run<R: Threads + Wait + Sync>(
     if !is_over {
         return Ok(None);
     }
+    let stopped = keeper.has_stopped();
     drop(keeper.finish(standing));
     Ok(Some(Seen {
         report,
         turns,
         parts: tally.parts(),
         is_right: tally.is_right(),
+        stopped,
     }))
 }

@@ -22,7 +22,7 @@ fn is_full(reply: Reply) -> bool
 }
 
 /// Makes a call, and tries it again where it was refused for room.
-fn ask<R: Wait, T: Turnstile>(
+pub fn ask<R: Wait, T: Turnstile>(
     rt: &R,
     standing: &Standing<Shapes>,
     member: &mut Member,

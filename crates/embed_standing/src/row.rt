@@ -17,6 +17,8 @@ pub struct Row {
     pub second_calls: u32,
     /// The first calls of two members are held until both have come.
     pub meets: bool,
+    /// How many turns the last member rests, before it leaves; 0 where none rests.
+    pub rests: u64,
     ghost some: { 0 < members },
     ghost few: { members ≤ 16 },
     ghost few_helpers: { helpers ≤ 8 },

@@ -21,9 +21,11 @@ fn are_in_turn(report: &Report) -> bool {
     true
 }
 
-/// Whether all went right, each helper took part in each part, and the cycles are numbered in turn.
+/// Whether all went right, each helper took part in each part, the cycles are numbered in turn, and a mutator stopped
+/// early only where one rested.
 fn is_whole(row: &Row, seen: &Seen) -> bool {
     seen.is_right
+        && seen.stopped == (row.rests > 0)
         && seen.parts == seen.turns.saturating_mul(u64::from(row.helpers))
         && are_in_turn(&seen.report)
 }
@@ -44,6 +46,7 @@ fn one_asks_in_its_second_call<R: Threads + Wait + Sync>(rt: &R, alloc: Global) 
         calls: 2,
         second_calls: 0,
         meets: false,
+        rests: 0,
     };
     let seen = run(rt, alloc, &row).ok()??;
     let [kept, freed] = seen.report.cycles() else {
@@ -64,6 +67,7 @@ fn two_first_calls_meet<R: Threads + Wait + Sync>(rt: &R, alloc: Global) -> Opti
         calls: 4,
         second_calls: 4,
         meets: true,
+        rests: 0,
     };
     let seen = run(rt, alloc, &row).ok()??;
     Some(is_whole(&row, &seen) && seen.report.ids().len() == 2)
@@ -87,8 +91,26 @@ fn long_row(name: &str) -> Option<(Row, u64)> {
         calls,
         second_calls,
         meets: false,
+        rests: 0,
     };
     Some((row, parts))
+}
+
+/// Beside three members that make cells, a fourth rests for 600 turns with its cell in a register, and then wakes on
+/// another thread. Its cell is still there, and some cycles ended meanwhile.
+fn one_rests_beside_three<R: Threads + Wait + Sync>(rt: &R, alloc: Global) -> Option<bool> {
+    let row = Row {
+        members: 4,
+        helpers: 2,
+        trigger: 8,
+        script: Script::Births,
+        calls: 3999,
+        second_calls: 3999,
+        meets: false,
+        rests: 600,
+    };
+    let seen = run(rt, alloc, &row).ok()??;
+    Some(is_whole(&row, &seen) && seen.turns > 600 && seen.report.cycles().len() > 4)
 }
 
 /// Plays the row of this name, and answers whether all was as expected.
@@ -96,6 +118,7 @@ pub fn check_standing<R: Threads + Wait + Sync>(rt: &R, alloc: Global, name: &st
     let found = match name {
         "one_asks_in_its_second_call" => one_asks_in_its_second_call(rt, alloc),
         "two_first_calls_meet" => two_first_calls_meet(rt, alloc),
+        "one_rests_beside_three" => one_rests_beside_three(rt, alloc),
         _ => match long_row(name) {
             Some((row, parts)) => lasts(rt, alloc, &row, parts),
             None => None,

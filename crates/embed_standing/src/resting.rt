@@ -1,0 +1,195 @@
+//! A member that rests beside others, and wakes on a thread of its own.
+ghost use Rattle.embed_standing.specs.Playing.{HasRoomForScripts, MayCall, MayWake};
+ghost use Rattle.std.specs.Prelude.{◌≡◌, IfOk, true};
+ghost use Rattle.tide_server.specs.Keepers.{KeeperStands};
+ghost use Rattle.tide_server.specs.Turned.{IsFinished};
+ghost use Rattle.tide_shape.specs.Lists.{lists_of};
+
+use crate::playing::{Kept, ask, keep};
+use crate::row::Row;
+use crate::tally::Tally;
+use std::marker::Sync;
+use std::sync::Wait;
+use std::thread::{Threads, join};
+use tide_model::{Memory, Op, Reply, Val};
+use tide_server::{Keeper, Member, Report, Resting, Standing, Turn};
+use tide_shape::Shapes;
+
+/// A keeper that turned while a member rested.
+#[derive(Drop)]
+struct Attended {
+    keeper: Keeper,
+    report: Report,
+    resting: Resting,
+    /// How many turns it made.
+    turns: u64,
+    /// The next part is open.
+    is_open: bool,
+}
+
+/// A member makes a cell, the first of the heap, and rests with it in a register.
+pub fn rest_with_a_cell<R: Wait>(
+    rt: &R,
+    standing: &Standing<Shapes>,
+    mut member: Member,
+    tally: &Tally,
+) -> Result<Resting, Memory>
+    requires may { MayCall standing.now.heap.key.layout standing.now.heap.table.shared.table_id
+        standing.now.hands.shared.table_id member }
+    requires room { HasRoomForScripts standing.now.heap.key.layout }
+    ensures may { IfOk result (MayWake standing.now.heap.key.layout standing.now.heap.table.shared.table_id
+        standing.now.hands.shared.table_id) }
+{
+    let born = ask(
+        rt,
+        standing,
+        &mut member,
+        Op::Alloc { dst: 0, class: 0 },
+        tally,
+    )?;
+    if born != Reply::Born(0) {
+        tally.add_wrong();
+    }
+    Ok(member.rest(standing))
+}
+
+/// The keeper makes so many turns, and before each it begins and stops in the place of who rests.
+fn keep_beside<R: Wait>(
+    rt: &R,
+    standing: &Standing<Shapes>,
+    mut keeper: Keeper,
+    mut report: Report,
+    mut resting: Resting,
+    turns: u64,
+) -> Attended
+    requires stands { KeeperStands standing.now.heap.key.layout standing.now.heap.table.shared.table_id
+        standing.now.hands.shared.table_id keeper }
+    requires may { MayWake standing.now.heap.key.layout standing.now.heap.table.shared.table_id
+        standing.now.hands.shared.table_id resting }
+    ensures stands { result.is_open ≡ true → KeeperStands standing.now.heap.key.layout
+        standing.now.heap.table.shared.table_id standing.now.hands.shared.table_id result.keeper }
+    ensures may { MayWake standing.now.heap.key.layout standing.now.heap.table.shared.table_id
+        standing.now.hands.shared.table_id result.resting }
+{
+    let mut made = 0u64;
+    for _ in 0..turns {
+        resting.attend(standing);
+        let Ok(turn) = keeper.turn(rt, standing, &mut report) else {
+            continue;
+        };
+        made = made.saturating_add(1);
+        if turn != Turn::Opened {
+            return Attended {
+                keeper,
+                report,
+                resting,
+                turns: made,
+                is_open: false,
+            };
+        }
+    }
+    Attended {
+        keeper,
+        report,
+        resting,
+        turns: made,
+        is_open: true,
+    }
+}
+
+/// Puts the cell in its register into that cell's own slot, reads it from there, and leaves. Says whether that is the
+/// cell which it had made before it rested.
+fn finds_its_cell<R: Wait>(
+    rt: &R,
+    standing: &Standing<Shapes>,
+    member: &mut Member,
+    tally: &Tally,
+) -> Result<bool, Memory>
+    requires may { MayCall standing.now.heap.key.layout standing.now.heap.table.shared.table_id
+        standing.now.hands.shared.table_id member.old }
+    requires room { HasRoomForScripts standing.now.heap.key.layout }
+{
+    let put = Op::Put {
+        src: 0,
+        slot: 0,
+        val: 0,
+    };
+    let get = Op::Get {
+        dst: 1,
+        src: 0,
+        slot: 0,
+    };
+    ask(rt, standing, member, put, tally)?;
+    let seen = ask(rt, standing, member, get, tally)?;
+    member.leave(rt, standing, tally)?;
+    Ok(seen == Reply::Seen(Val::Cell(0)))
+}
+
+/// Wakes, looks for its cell, and leaves.
+fn wake_and_leave<R: Wait>(rt: &R, standing: &Standing<Shapes>, resting: Resting, tally: &Tally)
+    requires may { MayWake standing.now.heap.key.layout standing.now.heap.table.shared.table_id
+        standing.now.hands.shared.table_id resting }
+    requires room { HasRoomForScripts standing.now.heap.key.layout }
+{
+    let mut member = resting.wake();
+    if finds_its_cell(rt, standing, &mut member, tally) != Ok(true) {
+        tally.add_wrong();
+    }
+}
+
+/// The keeper turns while a member rests, as often as the row says, and then until no mutator is active, while that one
+/// has woken on another thread.
+pub fn keep_until_it_wakes<R: Threads + Wait + Sync>(
+    rt: &R,
+    standing: &Standing<Shapes>,
+    keeper: Keeper,
+    report: Report,
+    resting: Resting,
+    row: &Row,
+    tally: &Tally,
+) -> Kept
+    requires stands { KeeperStands standing.now.heap.key.layout standing.now.heap.table.shared.table_id
+        standing.now.hands.shared.table_id keeper }
+    requires may { MayWake standing.now.heap.key.layout standing.now.heap.table.shared.table_id
+        standing.now.hands.shared.table_id resting }
+    requires room { HasRoomForScripts standing.now.heap.key.layout }
+    ensures finished { result.is_over ≡ true → IsFinished standing.now.heap.key.layout
+        (lists_of standing.now.heap.key.shapes) standing.now.heap.table.shared.table_id result.keeper }
+{
+    let attended = keep_beside(rt, standing, keeper, report, resting, row.rests);
+    let Attended {
+        keeper,
+        report,
+        resting,
+        turns,
+        is_open,
+    } = attended;
+    if !is_open {
+        tally.add_wrong();
+        return Kept {
+            keeper,
+            report,
+            turns,
+            is_over: false,
+        };
+    }
+    let (kept, ()) = join(
+        rt,
+        || -> Kept
+            requires { KeeperStands standing.now.heap.key.layout standing.now.heap.table.shared.table_id
+                standing.now.hands.shared.table_id keeper }
+            ensures { result.is_over ≡ true → IsFinished standing.entry.now.heap.key.layout
+                (lists_of standing.entry.now.heap.key.shapes) standing.entry.now.heap.table.shared.table_id
+                result.keeper }
+        { keep(rt, standing, keeper, report) },
+        || -> ()
+            requires { HasRoomForScripts standing.now.heap.key.layout
+                × MayWake standing.now.heap.key.layout standing.now.heap.table.shared.table_id
+                standing.now.hands.shared.table_id resting }
+        { wake_and_leave(rt, standing, resting, tally) },
+    );
+    Kept {
+        turns: turns.saturating_add(kept.turns),
+        ..kept
+    }
+}
