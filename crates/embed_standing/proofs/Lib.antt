@@ -1,3 +1,4 @@
 -- The proofs that several functions share.
 pub mod Calling
+pub mod Rests
 pub mod Seats
