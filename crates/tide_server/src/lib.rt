@@ -18,11 +18,12 @@ mod standing;
 mod helping;
 mod parts;
 mod posting;
+mod resting;
 // these stand on those listed before
+mod attending;
 mod calls;
 mod finishing;
 mod opening;
-mod resting;
 mod taking;
 // these stand on those listed before
 mod turning;

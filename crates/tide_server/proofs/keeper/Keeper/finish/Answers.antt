@@ -5,7 +5,7 @@ use Rattle.tide_model.specs.declared.entry.Event.{Event}
 use Rattle.tide_posts.proofs.Schedule.{legal_where_none}
 use Rattle.tide_posts.specs.Schedule.{IsLegalWhere}
 use Rattle.tide_sched.specs.Paces.{pace_of}
-use Rattle.tide_server.proofs.finishing.Keeper.finish.Goals as goal
+use Rattle.tide_server.proofs.keeper.Keeper.finish.Goals as goal
 use Rattle.std.specs.Prelude.{List}
 
 pub returns-clause-where_early : goal.returns-clause-where_early
