@@ -1,5 +1,5 @@
-//! A host of a standing heap: it opens one, and its members, its helpers and its keeper each get a thread.
-ghost use Rattle.embed_standing.specs.Playing.{HasRoomForScripts, MayCall, MayPlay, MayWake};
+//! A host of a standing heap: it opens one, and the keeper plays beside the members and the helpers.
+ghost use Rattle.embed_standing.specs.Playing.{HasRoomForScripts, MayCall, MayPlay};
 ghost use Rattle.std.specs.Prelude.{◌≡◌, All, IfOk, IfSome, true};
 ghost use Rattle.tide_server.specs.Helpers.{IsHelperOf};
 ghost use Rattle.tide_server.specs.Keepers.{KeeperStands};
@@ -7,14 +7,14 @@ ghost use Rattle.tide_server.specs.Turned.{IsFinished};
 ghost use Rattle.tide_shape.specs.Lists.{lists_of};
 ghost use Rattle.tide_text.specs.work.Work.{AreSettings};
 
-use crate::playing::{Kept, keep, play_helper, play_member};
-use crate::resting::{keep_until_it_wakes, rest_with_a_cell};
+use crate::others::play_others;
+use crate::playing::{Kept, keep};
+use crate::resting::play_beside_one_that_rests;
 use crate::row::Row;
 use crate::tally::Tally;
 use std::alloc::Global;
 use std::marker::Sync;
 use std::sync::Wait;
-use std::thread;
 use std::thread::{Threads, join};
 use tide_heap::Layout;
 use tide_model::Memory;
@@ -22,86 +22,6 @@ use tide_server::{Helper, Keeper, Member, Opened, Report, Standing, open};
 use tide_shape::{Paths, Shapes};
 use tide_table::Start;
 use tide_text::Settings;
-
-/// Each member makes its calls and leaves, on a thread of its own.
-fn play_members<R: Threads + Wait + Sync>(
-    rt: &R,
-    standing: &Standing<Shapes>,
-    mut members: Vec<Member>,
-    row: &Row,
-    tally: &Tally,
-)
-    requires may { All (λ member. MayCall standing.now.heap.key.layout standing.now.heap.table.shared.table_id
-        standing.now.hands.shared.table_id member) members.items }
-    requires room { HasRoomForScripts standing.now.heap.key.layout }
-{
-    let count = members.len();
-    if count > 0 {
-        thread::for_each_mut(
-            rt,
-            members.as_mut_slice(),
-            count,
-            &|who, member|
-                requires { HasRoomForScripts standing.now.heap.key.layout
-                    × MayCall standing.now.heap.key.layout standing.now.heap.table.shared.table_id
-                    standing.now.hands.shared.table_id member.old }
-            { play_member(rt, standing, member, who, row, tally) },
-        );
-    }
-}
-
-/// Each helper works until no part is opened any more, on a thread of its own.
-fn play_helpers<R: Threads + Wait + Sync>(
-    rt: &R,
-    standing: &Standing<Shapes>,
-    mut helpers: Vec<Helper>,
-    tally: &Tally,
-)
-    requires of { All (λ helper. IsHelperOf standing.now.heap.key.layout standing.now.heap.table.shared.table_id
-        standing.now.hands.shared.table_id helper) helpers.items }
-{
-    let count = helpers.len();
-    if count > 0 {
-        thread::for_each_mut(
-            rt,
-            helpers.as_mut_slice(),
-            count,
-            &|_, helper|
-                requires { IsHelperOf standing.now.heap.key.layout standing.now.heap.table.shared.table_id
-                    standing.now.hands.shared.table_id helper.old }
-            { play_helper(rt, standing, helper, tally) },
-        );
-    }
-}
-
-/// The members and the helpers play side by side.
-fn play_others<R: Threads + Wait + Sync>(
-    rt: &R,
-    standing: &Standing<Shapes>,
-    members: Vec<Member>,
-    helpers: Vec<Helper>,
-    row: &Row,
-    tally: &Tally,
-)
-    requires may { All (λ member. MayCall standing.now.heap.key.layout standing.now.heap.table.shared.table_id
-        standing.now.hands.shared.table_id member) members.items }
-    requires of { All (λ helper. IsHelperOf standing.now.heap.key.layout standing.now.heap.table.shared.table_id
-        standing.now.hands.shared.table_id helper) helpers.items }
-    requires room { HasRoomForScripts standing.now.heap.key.layout }
-{
-    join(
-        rt,
-        || -> ()
-            requires { HasRoomForScripts standing.now.heap.key.layout
-                × All (λ member. MayCall standing.now.heap.key.layout standing.now.heap.table.shared.table_id
-                standing.now.hands.shared.table_id member) members.items }
-        { play_members(rt, standing, members, row, tally) },
-        || -> ()
-            requires { All (λ helper. IsHelperOf standing.now.heap.key.layout
-                standing.now.heap.table.shared.table_id standing.now.hands.shared.table_id helper) helpers.items }
-        { play_helpers(rt, standing, helpers, tally) },
-    );
-}
 
 /// The keeper turns until no mutator is active, beside the members and the helpers.
 fn play_all<R: Threads + Wait + Sync>(
@@ -144,14 +64,13 @@ fn play_all<R: Threads + Wait + Sync>(
     kept
 }
 
-/// The last member makes a cell, and rests with it; the keeper turns beside it and the others until it wakes, and then
-/// until no mutator is active. Without members nobody plays.
-fn play_beside_one_that_rests<R: Threads + Wait + Sync>(
+/// All play at once, one at rest where the row says so. `None` where one should rest and there is none.
+fn play<R: Threads + Wait + Sync>(
     rt: &R,
     standing: &Standing<Shapes>,
     keeper: Keeper,
     report: Report,
-    mut members: Vec<Member>,
+    members: Vec<Member>,
     helpers: Vec<Helper>,
     row: &Row,
     tally: &Tally,
@@ -167,31 +86,14 @@ fn play_beside_one_that_rests<R: Threads + Wait + Sync>(
         IsFinished standing.now.heap.key.layout (lists_of standing.now.heap.key.shapes)
         standing.now.heap.table.shared.table_id kept.keeper)) }
 {
-    let Some(sleeper) = members.pop() else {
-        return Ok(None);
-    };
-    let resting = rest_with_a_cell(rt, standing, sleeper, tally)?;
-    let (kept, ()) = join(
-        rt,
-        || -> Kept
-            requires { HasRoomForScripts standing.now.heap.key.layout
-                × KeeperStands standing.now.heap.key.layout standing.now.heap.table.shared.table_id
-                standing.now.hands.shared.table_id keeper
-                × MayWake standing.now.heap.key.layout standing.now.heap.table.shared.table_id
-                standing.now.hands.shared.table_id resting }
-            ensures { result.is_over ≡ true → IsFinished standing.entry.now.heap.key.layout
-                (lists_of standing.entry.now.heap.key.shapes) standing.entry.now.heap.table.shared.table_id
-                result.keeper }
-        { keep_until_it_wakes(rt, standing, keeper, report, resting, row, tally) },
-        || -> ()
-            requires { HasRoomForScripts standing.now.heap.key.layout
-                × All (λ member. MayCall standing.now.heap.key.layout standing.now.heap.table.shared.table_id
-                standing.now.hands.shared.table_id member) members.items
-                × All (λ helper. IsHelperOf standing.now.heap.key.layout standing.now.heap.table.shared.table_id
-                standing.now.hands.shared.table_id helper) helpers.items }
-        { play_others(rt, standing, members, helpers, row, tally) },
-    );
-    Ok(Some(kept))
+    if row.rests > 0 {
+        return play_beside_one_that_rests(
+            rt, standing, keeper, report, members, helpers, row, tally,
+        );
+    }
+    Ok(Some(play_all(
+        rt, standing, keeper, report, members, helpers, row, tally,
+    )))
 }
 
 /// What was seen of a heap that is over.
@@ -263,15 +165,9 @@ pub fn run<R: Threads + Wait + Sync>(
         helpers,
     } = opened;
     let tally = Tally::new(row.meets);
-    let played = if row.rests > 0 {
-        play_beside_one_that_rests(
-            rt, &standing, keeper, report, members, helpers, row, &tally,
-        )?
-    } else {
-        Some(play_all(
-            rt, &standing, keeper, report, members, helpers, row, &tally,
-        ))
-    };
+    let played = play(
+        rt, &standing, keeper, report, members, helpers, row, &tally,
+    )?;
     let Some(kept) = played else {
         return Ok(None);
     };

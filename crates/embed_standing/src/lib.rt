@@ -14,6 +14,8 @@ mod row;
 // these stand on those listed before
 mod playing;
 // these stand on those listed before
+mod others;
+// these stand on those listed before
 mod resting;
 // these stand on those listed before
 mod host;

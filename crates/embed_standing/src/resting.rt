@@ -1,10 +1,12 @@
 //! A member that rests beside others, and wakes on a thread of its own.
 ghost use Rattle.embed_standing.specs.Playing.{HasRoomForScripts, MayCall, MayWake};
-ghost use Rattle.std.specs.Prelude.{◌≡◌, IfOk, true};
+ghost use Rattle.std.specs.Prelude.{◌≡◌, All, IfOk, IfSome, true};
+ghost use Rattle.tide_server.specs.Helpers.{IsHelperOf};
 ghost use Rattle.tide_server.specs.Keepers.{KeeperStands};
 ghost use Rattle.tide_server.specs.Turned.{IsFinished};
 ghost use Rattle.tide_shape.specs.Lists.{lists_of};
 
+use crate::others::play_others;
 use crate::playing::{Kept, ask, keep};
 use crate::row::Row;
 use crate::tally::Tally;
@@ -12,7 +14,7 @@ use std::marker::Sync;
 use std::sync::Wait;
 use std::thread::{Threads, join};
 use tide_model::{Memory, Op, Reply, Val};
-use tide_server::{Keeper, Member, Report, Resting, Standing, Turn};
+use tide_server::{Helper, Keeper, Member, Report, Resting, Standing, Turn};
 use tide_shape::Shapes;
 
 /// A keeper that turned while a member rested.
@@ -78,7 +80,7 @@ fn keep_beside<R: Wait>(
             continue;
         };
         made = made.saturating_add(1);
-        if turn != Turn::Opened {
+        let Turn::Opened = turn else {
             return Attended {
                 keeper,
                 report,
@@ -86,7 +88,7 @@ fn keep_beside<R: Wait>(
                 turns: made,
                 is_open: false,
             };
-        }
+        };
     }
     Attended {
         keeper,
@@ -192,4 +194,84 @@ pub fn keep_until_it_wakes<R: Threads + Wait + Sync>(
         turns: turns.saturating_add(kept.turns),
         ..kept
     }
+}
+
+/// The keeper turns beside a member that rests and the others, until that one wakes, and then until no mutator is
+/// active.
+fn play_while_it_rests<R: Threads + Wait + Sync>(
+    rt: &R,
+    standing: &Standing<Shapes>,
+    keeper: Keeper,
+    report: Report,
+    members: Vec<Member>,
+    helpers: Vec<Helper>,
+    resting: Resting,
+    row: &Row,
+    tally: &Tally,
+) -> Kept
+    requires stands { KeeperStands standing.now.heap.key.layout standing.now.heap.table.shared.table_id
+        standing.now.hands.shared.table_id keeper }
+    requires may { All (λ member. MayCall standing.now.heap.key.layout standing.now.heap.table.shared.table_id
+        standing.now.hands.shared.table_id member) members.items }
+    requires of { All (λ helper. IsHelperOf standing.now.heap.key.layout standing.now.heap.table.shared.table_id
+        standing.now.hands.shared.table_id helper) helpers.items }
+    requires rests { MayWake standing.now.heap.key.layout standing.now.heap.table.shared.table_id
+        standing.now.hands.shared.table_id resting }
+    requires room { HasRoomForScripts standing.now.heap.key.layout }
+    ensures finished { result.is_over ≡ true → IsFinished standing.now.heap.key.layout
+        (lists_of standing.now.heap.key.shapes) standing.now.heap.table.shared.table_id result.keeper }
+{
+    let (kept, ()) = join(
+        rt,
+        || -> Kept
+            requires { HasRoomForScripts standing.now.heap.key.layout
+                × KeeperStands standing.now.heap.key.layout standing.now.heap.table.shared.table_id
+                standing.now.hands.shared.table_id keeper
+                × MayWake standing.now.heap.key.layout standing.now.heap.table.shared.table_id
+                standing.now.hands.shared.table_id resting }
+            ensures { result.is_over ≡ true → IsFinished standing.entry.now.heap.key.layout
+                (lists_of standing.entry.now.heap.key.shapes) standing.entry.now.heap.table.shared.table_id
+                result.keeper }
+        { keep_until_it_wakes(rt, standing, keeper, report, resting, row, tally) },
+        || -> ()
+            requires { HasRoomForScripts standing.now.heap.key.layout
+                × All (λ member. MayCall standing.now.heap.key.layout standing.now.heap.table.shared.table_id
+                standing.now.hands.shared.table_id member) members.items
+                × All (λ helper. IsHelperOf standing.now.heap.key.layout standing.now.heap.table.shared.table_id
+                standing.now.hands.shared.table_id helper) helpers.items }
+        { play_others(rt, standing, members, helpers, row, tally) },
+    );
+    kept
+}
+
+/// The last member makes a cell, and rests with it; the keeper turns beside it and the others until it wakes, and then
+/// until no mutator is active. Without members nobody plays.
+pub fn play_beside_one_that_rests<R: Threads + Wait + Sync>(
+    rt: &R,
+    standing: &Standing<Shapes>,
+    keeper: Keeper,
+    report: Report,
+    mut members: Vec<Member>,
+    helpers: Vec<Helper>,
+    row: &Row,
+    tally: &Tally,
+) -> Result<Option<Kept>, Memory>
+    requires stands { KeeperStands standing.now.heap.key.layout standing.now.heap.table.shared.table_id
+        standing.now.hands.shared.table_id keeper }
+    requires may { All (λ member. MayCall standing.now.heap.key.layout standing.now.heap.table.shared.table_id
+        standing.now.hands.shared.table_id member) members.items }
+    requires of { All (λ helper. IsHelperOf standing.now.heap.key.layout standing.now.heap.table.shared.table_id
+        standing.now.hands.shared.table_id helper) helpers.items }
+    requires room { HasRoomForScripts standing.now.heap.key.layout }
+    ensures finished { IfOk result (λ found. IfSome found (λ kept. kept.is_over ≡ true →
+        IsFinished standing.now.heap.key.layout (lists_of standing.now.heap.key.shapes)
+        standing.now.heap.table.shared.table_id kept.keeper)) }
+{
+    let Some(sleeper) = members.pop() else {
+        return Ok(None);
+    };
+    let resting = rest_with_a_cell(rt, standing, sleeper, tally)?;
+    Ok(Some(play_while_it_rests(
+        rt, standing, keeper, report, members, helpers, resting, row, tally,
+    )))
 }
