@@ -22,6 +22,10 @@ is_end word = word == 4
 abbrev pub is_post : ℕ → ℕ → Bool
 is_post found word = ((found == 0) && ((word == 1) || (word == 4))) || ((found == 2) && (word == 3))
 
+-- an end is put where a ticket is due
+abbrev pub is_end_post : ℕ → ℕ → Bool
+is_end_post found word = (found == 0) && is_end word
+
 -- a ticket or a note is taken from where it lies
 abbrev pub is_take : ℕ → ℕ → Bool
 is_take found word = ((found == 1) && (word == 2)) || ((found == 3) && (word == 0))
@@ -39,6 +43,7 @@ module _ {I : Type 0} where
     out = 0;
     next = 0;
     free = places_below count;
+    ends = [];
     over = false;
     due = false;
     at = 0;
@@ -64,6 +69,7 @@ module _ {I : Type 0} where
   resting word v = record v {
     out = 0;
     free = if word == 0 then pred v.out ∷ v.free else without (pred v.out) v.free;
+    ends = if is_end_post v.found word then pred v.out ∷ v.ends else v.ends;
     over = v.over || is_end word;
     due = word == 2;
     given = v.given + (if is_post v.found word then 1 else 0);

@@ -1,5 +1,5 @@
 //! The keeper's side: it posts tickets and ends, and takes notes.
-ghost use Rattle.std.specs.Prelude.{ℕ, ◌≡◌, ◌≢◌, ◌<◌, ◌+◌, IfSome, None, true, false};
+ghost use Rattle.std.specs.Prelude.{ℕ, ◌≡◌, ◌≢◌, ◌<◌, ◌+◌, ◌∷◌, IfSome, None, true, false, if◌then◌else◌};
 ghost use Rattle.tide_hands.specs.Among.{Among};
 ghost use Rattle.tide_hands.specs.Seats.{IsIdle, IsPosted, frame};
 
@@ -33,6 +33,7 @@ impl<T: Drop, N: Drop, I> KeeperSeat<T, N, I> {
         ensures same { (self.new.seat.table_id ≡ self.old.seat.table_id) × (self.new.seat.id ≡ self.old.seat.id) }
         ensures kept { frame self.new.seat.me.0 ≡ frame self.old.seat.me.0 }
         ensures over { self.new.seat.me.0.over ≡ self.old.seat.me.0.over }
+        ensures ends { self.new.seat.me.0.ends ≡ self.old.seat.me.0.ends }
         ensures taken { self.new.seat.me.0.taken ≡ self.old.seat.me.0.taken }
         ensures posted { IsPosted place ticket self.old.seat.me.0 self.new.seat.me.0 result }
         ensures sure { Among place self.old.seat.me.0.free → result ≡ None }
@@ -71,6 +72,8 @@ impl<T: Drop, N: Drop, I> KeeperSeat<T, N, I> {
         ensures taken { self.new.seat.me.0.taken ≡ self.old.seat.me.0.taken }
         ensures posted { result ≡ true → (self.new.seat.me.0.over ≡ true)
             × (self.new.seat.me.0.given ≡ self.old.seat.me.0.given + 1) × (self.new.seat.me.0.at ≡ place) }
+        ensures ends { self.new.seat.me.0.ends
+            ≡ (if result then place ∷ self.old.seat.me.0.ends else self.old.seat.me.0.ends) }
         ensures stays { result ≡ false → (self.new.seat.me.0.over ≡ self.old.seat.me.0.over)
             × (self.new.seat.me.0.given ≡ self.old.seat.me.0.given) }
         ensures sure { Among place self.old.seat.me.0.free → result ≡ true }
@@ -101,6 +104,7 @@ impl<T: Drop, N: Drop, I> KeeperSeat<T, N, I> {
         ensures same { (self.new.seat.table_id ≡ self.old.seat.table_id) × (self.new.seat.id ≡ self.old.seat.id) }
         ensures kept { frame self.new.seat.me.0 ≡ frame self.old.seat.me.0 }
         ensures over { self.new.seat.me.0.over ≡ self.old.seat.me.0.over }
+        ensures ends { self.new.seat.me.0.ends ≡ self.old.seat.me.0.ends }
         ensures given { self.new.seat.me.0.given ≡ self.old.seat.me.0.given }
         ensures note { IfSome result (λ note. P.note_ok self.old.seat.me.0.name place note.0 note.1) }
         ensures taken { IfSome result (λ note. self.new.seat.me.0.taken ≡ self.old.seat.me.0.taken + 1) }
@@ -153,6 +157,7 @@ impl<T: Drop, N: Drop, I> KeeperSeat<T, N, I> {
         ensures same { (self.new.seat.table_id ≡ self.old.seat.table_id) × (self.new.seat.id ≡ self.old.seat.id) }
         ensures kept { frame self.new.seat.me.0 ≡ frame self.old.seat.me.0 }
         ensures over { self.new.seat.me.0.over ≡ self.old.seat.me.0.over }
+        ensures ends { self.new.seat.me.0.ends ≡ self.old.seat.me.0.ends }
         ensures given { self.new.seat.me.0.given ≡ self.old.seat.me.0.given }
         ensures note { P.note_ok self.old.seat.me.0.name place result.0 result.1 }
         ensures taken { self.new.seat.me.0.taken ≡ self.old.seat.me.0.taken + 1 }

@@ -9,6 +9,7 @@ invariant-loop g l =
     (l.self.seat.table_id ≡ l.initial.self.seat.table_id) × (l.self.seat.id ≡ l.initial.self.seat.id)
     × (frame l.self.seat.me.0 ≡ frame l.initial.self.seat.me.0)
     × (l.self.seat.me.0.over ≡ l.initial.self.seat.me.0.over)
+    × (l.self.seat.me.0.ends ≡ l.initial.self.seat.me.0.ends)
     × (l.self.seat.me.0.given ≡ l.initial.self.seat.me.0.given)
     × (l.self.seat.me.0.taken ≡ l.initial.self.seat.me.0.taken)
     × ((q : ℕ) → Among q l.initial.self.seat.me.0.free → Among q l.self.seat.me.0.free)
