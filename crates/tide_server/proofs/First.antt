@@ -17,7 +17,7 @@ use Rattle.tide_posts.specs.tide_heap.tide_core.declared.machine.view.View.{View
 use Rattle.tide_posts.specs.tide_heap.tide_freeze.Books.{AreBooks}
 use Rattle.tide_server.proofs.Tickets.{TicketTells-first}
 use Rattle.tide_server.proofs.Frozen.{KeeperStands-opened}
-use Rattle.tide_server.specs.Keepers.{AreLeft, IsKeeperOf, KeeperStands, has_left, ticket_count, view_of}
+use Rattle.tide_server.specs.Keepers.{AreLeft, HasNoEnd, IsKeeperOf, KeeperStands, has_left, ticket_count, view_of}
 use Rattle.tide_server.specs.declared.keeper.Keeper.{Keeper}
 use Rattle.tide_table.proofs.Nexts.{HasOpenedNext-first}
 use Rattle.tide_table.specs.Started.{IsStarted}
@@ -77,7 +77,7 @@ module _ (layout : Layout) (shapes : ShapeLists) (heap hands : TableId) (k : Kee
   pub KeeperStands-first : 0 < layout.mutators → AreBooks layout [] k.books → IsKeeperOf layout heap hands k → k.next ≡ 0 →
       k.ended ≡ false → k.left ≡ replicate 16 false →
       ((place : ℕ) → has_left layout k.left place ≡ true → Among place k.seat.seat.me.0.free) →
-      k.seat.seat.me.0.over ≡ false → KeeperStands layout heap hands k
+      HasNoEnd k → KeeperStands layout heap hands k
   KeeperStands-first many are of next ended left due no_end =
       KeeperStands-opened layout heap hands k [] of
       (HasOpenedNext-first layout shapes run k.books start (view_of k) started is are).runs no_period

@@ -41,7 +41,7 @@ use Rattle.tide_sched.proofs.RunLaws.{last_run-opened, last_run-same}
 use Rattle.tide_sched.specs.Paces.{last_run, pace_of}
 use Rattle.tide_sched.specs.declared.pacing.Pacing.{Pacing}
 use Rattle.tide_server.proofs.Ending.{has_done, is_over-here, lawful, shares_here}
-use Rattle.tide_server.specs.Keepers.{AreLeft, IsKeeperOf, KeeperStands, NotesAreIn, has_left, ticket_count, view_of}
+use Rattle.tide_server.specs.Keepers.{AreLeft, HasNoEnd, IsKeeperOf, KeeperStands, NotesAreIn, has_left, ticket_count, view_of}
 use Rattle.tide_server.specs.Turned.{HasFinished, HasFrozenPart, HasOpenedPart, HasPostedEnds, HasSpentParts, MakesPeriod}
 use Rattle.tide_server.specs.declared.keeper.Keeper.{Keeper}
 use Rattle.tide_table.proofs.Nexts.{AddsEnds-next, HasOpenedNext-by}
@@ -95,7 +95,7 @@ pub KeeperStands-opened : (layout : Layout) (heap hands : TableId) (k : Keeper) 
     (view_of k).marks ≡ marks_after layout (view_of k).start → (view_of k).visited ≡ [] → (view_of k).done ≡ true →
     k.next ≡ 0 → k.ended ≡ false → AreLeft layout (view_of k) 0 k.left →
     ((place : ℕ) → has_left layout k.left place ≡ true → Among place k.seat.seat.me.0.free) →
-    k.seat.seat.me.0.over ≡ false → KeeperStands layout heap hands k
+    HasNoEnd k → KeeperStands layout heap hands k
 KeeperStands-opened layout heap hands k before of runs periods goes_on is marking none done next ended left due no_end = record {
   of = of;
   runs = runs;
@@ -293,7 +293,7 @@ module _ (layout : Layout) (shapes : ShapeLists) (heap hands : TableId) (k : Kee
         gone_now = ap (λ (y : View). y.gone) is_opened ∙ gone_is
 
     pub HasOpenedPart-frozen : IsKeeperOf layout heap hands final → final.next ≡ 0 → final.ended ≡ false →
-        final.left ≡ k.left → final.seat.seat.me.0.over ≡ false →
+        final.left ≡ k.left → HasNoEnd final →
         final.seat.seat.me.0.given ≡ k.seat.seat.me.0.given + ticket_count layout k.left →
         ((place : ℕ) → has_left layout k.left place ≡ true → Among place final.seat.seat.me.0.free) →
         MakesPeriod layout shapes k w.seen → any_below (λ who. not (get_or k.left who false)) layout.mutators ≡ true →

@@ -35,6 +35,7 @@ module _ (layout : Layout) (heap hands : TableId) (k : Keeper) (stands : KeeperS
     pub seated : now.seat.seat.table_id ≡ k.seat.seat.table_id
     pub kept : frame now.seat.seat.me.0 ≡ frame k.seat.seat.me.0
     pub over : now.seat.seat.me.0.over ≡ k.seat.seat.me.0.over
+    pub ends : now.seat.seat.me.0.ends ≡ k.seat.seat.me.0.ends
     pub given : now.seat.seat.me.0.given ≡ k.seat.seat.me.0.given
     pub free : (q : ℕ) → Among q k.seat.seat.me.0.free → Among q now.seat.seat.me.0.free
 
@@ -62,7 +63,7 @@ module _ (layout : Layout) (heap hands : TableId) (k : Keeper) (stands : KeeperS
       notes = notes;
       left = left;
       due = due;
-      no_end = looked.over ∙ stands.no_end;
+      no_end = (looked.over ∙ stands.no_end.0, looked.ends ∙ stands.no_end.1);
     };
     start = start;
     period = period;
@@ -100,7 +101,7 @@ module _ (layout : Layout) (heap hands : TableId) (k : Keeper) (stands : KeeperS
       IsWaiting layout heap hands k (record k { next = place + 1; period_is = period_is })
   IsWaiting-left place period_is next has =
       IsWaiting-by (record k { next = place + 1; period_is = period_is })
-      (record { seated = refl; kept = refl; over = refl; given = refl; free = λ q e. e }) refl refl stands.runs refl refl refl
+      (record { seated = refl; kept = refl; over = refl; ends = refl; given = refl; free = λ q e. e }) refl refl stands.runs refl refl refl
       (omega (arith, below))
       (subst (λ (n : ℕ). NotesAreIn layout (view_of k) n k.ended) (one_more place)
       (NotesAreIn-left layout (view_of k) place k.ended below had

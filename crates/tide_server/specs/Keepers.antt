@@ -1,5 +1,5 @@
 -- The keeper of a standing heap, between two of its turns.
-use Rattle.std.specs.Prelude.{ℕ, ◌≡◌, ◌≤◌, ◌<◌, ◌+◌, ◌-◌, ◌⊎◌, ◌↔◌, ◌&&◌, Bool, true, false, not, Contains, List, None, Some, get_or, nat_lt}
+use Rattle.std.specs.Prelude.{ℕ, ◌≡◌, ◌≤◌, ◌<◌, ◌+◌, ◌-◌, ◌⊎◌, ◌↔◌, ◌&&◌, Bool, true, false, not, Contains, List, [], None, Some, get_or, nat_lt}
 use Rattle.atomic_table.specs.Seated.{TableId}
 use Rattle.tide_model.specs.Freeze.{marks_after}
 use Rattle.tide_model.specs.History.{state_after}
@@ -93,6 +93,10 @@ pub record AreLeft (layout : Layout) (v : View) (next : ℕ) (left : List Bool) 
   pub early : (who : ℕ) → who < layout.mutators → next ≤ who → In who v.gone →
       (state_after layout v.start).active who ≡ false
 
+-- no end was posted
+abbrev pub HasNoEnd : Keeper → Type 0
+HasNoEnd k = (k.seat.seat.me.0.over ≡ false) × (k.seat.seat.me.0.ends ≡ [])
+
 -- A keeper whose part is open. It was opened behind whole periods, after which some mutator was active; the notes of
 -- some places are in, and there a ticket is due, as it is where who has left was; and no end was posted.
 pub record KeeperStands (layout : Layout) (heap hands : TableId) (k : Keeper) : Type 0 where
@@ -107,4 +111,4 @@ pub record KeeperStands (layout : Layout) (heap hands : TableId) (k : Keeper) : 
   pub notes : NotesAreIn layout (view_of k) k.next k.ended
   pub left : AreLeft layout (view_of k) k.next k.left
   pub due : (place : ℕ) → (place < k.next) ⊎ (has_left layout k.left place ≡ true) → Among place k.seat.seat.me.0.free
-  pub no_end : k.seat.seat.me.0.over ≡ false
+  pub no_end : HasNoEnd k

@@ -1,5 +1,5 @@
 //! Tickets and ends are posted, and the first part is opened.
-ghost use Rattle.std.specs.Prelude.{ℕ, ◌≡◌, ◌<◌, ◌+◌, false, true};
+ghost use Rattle.std.specs.Prelude.{ℕ, ◌≡◌, ◌<◌, ◌≤◌, ◌+◌, ◌⊎◌, ◌↔◌, false, true};
 ghost use Rattle.tide_posts.specs.Name.{places};
 ghost use Rattle.tide_posts.specs.Posts.{TicketTells};
 ghost use Rattle.tide_posts.specs.Among.{Among};
@@ -32,6 +32,7 @@ impl Keeper {
         ensures view { self.new.collector.seat.me.0 ≡ self.old.collector.seat.me.0 }
         ensures books { self.new.books ≡ self.old.books }
         ensures over { self.new.seat.seat.me.0.over ≡ self.old.seat.seat.me.0.over }
+        ensures ends { self.new.seat.seat.me.0.ends ≡ self.old.seat.seat.me.0.ends }
         ensures posted { self.new.seat.seat.me.0.given
             ≡ self.old.seat.seat.me.0.given + ticket_count standing.now.heap.key.layout self.old.left }
         ensures due { (place : ℕ) → has_left standing.now.heap.key.layout self.old.left place ≡ true →
@@ -60,6 +61,9 @@ impl Keeper {
         ensures posted { self.new.seat.seat.me.0.given
             ≡ self.old.seat.seat.me.0.given + standing.now.heap.key.layout.visitors }
         ensures over { 0 < standing.now.heap.key.layout.visitors → self.new.seat.seat.me.0.over ≡ true }
+        ensures ends { (place : ℕ) → Among place self.new.seat.seat.me.0.ends
+            ↔ (Among place self.old.seat.seat.me.0.ends ⊎ ((standing.now.heap.key.layout.mutators ≤ place)
+            × (place < places standing.now.heap.key.layout))) }
         ensures collector { self.new.collector ≡ self.old.collector }
         ensures books { self.new.books ≡ self.old.books }
     {
@@ -86,6 +90,7 @@ impl Keeper {
             ≡ opened standing.now.heap.key.layout run self.old.collector.seat.me.0 }
         ensures books { self.new.books ≡ self.old.books }
         ensures over { self.new.seat.seat.me.0.over ≡ self.old.seat.seat.me.0.over }
+        ensures ends { self.new.seat.seat.me.0.ends ≡ self.old.seat.seat.me.0.ends }
         ensures posted { self.new.seat.seat.me.0.given
             ≡ self.old.seat.seat.me.0.given + ticket_count standing.now.heap.key.layout self.old.left }
         ensures due { (place : ℕ) → has_left standing.now.heap.key.layout self.old.left place ≡ true →

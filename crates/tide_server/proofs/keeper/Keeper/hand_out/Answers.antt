@@ -32,6 +32,7 @@ loop-place-init g c = record {
   view = refl;
   books = refl;
   over = refl;
+  ends = refl;
   posted = (let same : c.args.self.now.seat.seat.me.0.given ≡ c.args.self.now.seat.seat.me.0.given + 0 = omega arith in same);
   ahead = λ place from below. c.requires.due place below;
   due = λ place is. c.requires.due place (let below = has_left-below c.args.standing.now.heap.key.layout c.args.self.now.left place is in omega (arith, below));
@@ -53,6 +54,7 @@ loop-place-preserved-then-has_left g c =
       view = so.view;
       books = so.books;
       over = so.over;
+      ends = so.ends;
       posted = posted-none layout left place c.args.self.now.seat.seat.me.0.given c.loop-place.self.seat.seat.me.0.given so.posted has;
       ahead = λ q later below. so.ahead q (omega (arith, later)) below;
       due = so.due;
@@ -84,6 +86,7 @@ loop-place-preserved g c =
       view = c.ticket-ticket.ensures.same.2 ∙ so.view;
       books = so.books;
       over = post.over ∙ so.over;
+      ends = post.ends ∙ so.ends;
       posted = posted-one layout left place c.args.self.now.seat.seat.me.0.given was.given so.posted now.given isnt posted.0;
       ahead = ahead-more layout left place was.free now.free post.free so.ahead;
       due = due-more layout left place was.free now.free post.free isnt so.due;

@@ -12,6 +12,7 @@ invariant-loop-place g l = record {
   view : l.self.collector.seat.me.0 ≡ l.initial.self.collector.seat.me.0;
   books : l.self.books ≡ l.initial.self.books;
   over : l.self.seat.seat.me.0.over ≡ l.initial.self.seat.seat.me.0.over;
+  ends : l.self.seat.seat.me.0.ends ≡ l.initial.self.seat.seat.me.0.ends;
   posted : l.self.seat.seat.me.0.given ≡ l.initial.self.seat.seat.me.0.given
       + count_where (λ place. not (has_left l.standing.heap.key.layout l.initial.self.left place)) l.place;
   ahead : (place : ℕ) → l.place ≤ place → place < places l.standing.heap.key.layout → Among place l.self.seat.seat.me.0.free;

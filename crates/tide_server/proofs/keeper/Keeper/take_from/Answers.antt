@@ -22,7 +22,7 @@ returns-in_default-clause-waits g c =
     let e = c.take_note.ensures in
     IsWaiting-same s.heap.key.layout s.heap.table.shared.table_id s.hands.shared.table_id k c.requires.stands
     _
-    (record { seated = e.same.0; kept = e.kept; over = e.over; given = e.given; free = e.free }) refl refl refl refl refl
+    (record { seated = e.same.0; kept = e.kept; over = e.over; ends = e.ends; given = e.given; free = e.free }) refl refl refl refl refl
 
 pub returns-then-numbers-self-clause-waits : goal.returns-then-numbers-self-clause-waits
 returns-then-numbers-self-clause-waits g c =
@@ -31,7 +31,7 @@ returns-then-numbers-self-clause-waits g c =
     let e = c.take_note.ensures in
     IsWaiting-same s.heap.key.layout s.heap.table.shared.table_id s.hands.shared.table_id k c.requires.stands
     _
-    (record { seated = e.same.0; kept = e.kept; over = e.over; given = e.given; free = e.free }) refl refl refl refl refl
+    (record { seated = e.same.0; kept = e.kept; over = e.over; ends = e.ends; given = e.given; free = e.free }) refl refl refl refl refl
 
 pub returns-then-place-mutators-clause-waits : goal.returns-then-place-mutators-clause-waits
 returns-then-place-mutators-clause-waits g c =
@@ -44,7 +44,7 @@ returns-then-place-mutators-clause-waits g c =
     subst (λ (n : Name). IsNoteFor n place c.in-Some.note c.in-Some.ended) c.requires.stands.of.named c.in-Some.ensures.note in
     IsWaiting-visited layout s.heap.table.shared.table_id s.hands.shared.table_id k c.requires.stands place c.requires.next
     c.requires.within (search rules) (search rules) c.in-Some.note c.in-Some.ended told _
-    (record { seated = e.same.0; kept = e.kept; over = e.over; given = e.given; free = e.free }) c.in-Some.ensures.due
+    (record { seated = e.same.0; kept = e.kept; over = e.over; ends = e.ends; given = e.given; free = e.free }) c.in-Some.ensures.due
     c.take.ensures.same.0 c.take.ensures.noted refl refl (search rules) refl (search rules) (search rules)
 
 pub returns-clause-waits : goal.returns-clause-waits
@@ -58,5 +58,5 @@ returns-clause-waits g c =
     subst (λ (n : Name). IsNoteFor n place c.in-Some.note c.in-Some.ended) c.requires.stands.of.named c.in-Some.ensures.note in
     IsWaiting-told layout s.heap.table.shared.table_id s.hands.shared.table_id k c.requires.stands place c.requires.next
     c.requires.within (search rules) (search rules) c.in-Some.note c.in-Some.ended told _
-    (record { seated = e.same.0; kept = e.kept; over = e.over; given = e.given; free = e.free }) c.in-Some.ensures.due
+    (record { seated = e.same.0; kept = e.kept; over = e.over; ends = e.ends; given = e.given; free = e.free }) c.in-Some.ensures.due
     c.take.ensures.same.0 c.take.ensures.noted refl refl (search rules) (search rules) (search rules) (search rules) (search rules)
