@@ -125,7 +125,7 @@ impl Member {
     {
         self.come_to_work(rt, standing);
         self.mutator.retire(&standing.heap, turnstile);
-        self.period = stop_and_post(&mut self.mutator, &mut self.seat, standing, false);
+        stop_and_post(&mut self.mutator, &mut self.seat, standing, false);
         self.works = false;
         Ok(())
     }

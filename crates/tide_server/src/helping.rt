@@ -61,18 +61,18 @@ impl Helper {
         requires ticket { IsTicketFor (record {
           layout = standing.now.heap.key.layout;
           table_id = standing.now.heap.table.shared.table_id;
-        }) ticket }
+        }) self.old.seat.seat.me.0.taken ticket }
         requires later { (view_of self.old.visitor).period < ticket.seat.me.0.period }
         ensures of { IsHelperOf standing.now.heap.key.layout standing.now.heap.table.shared.table_id
             standing.now.hands.shared.table_id self.new }
-        ensures posted { self.new.seat.seat.me.0.given ≡ self.old.seat.seat.me.0.given + 1 }
+        ensures posted { (self.new.seat.seat.me.0.given ≡ self.old.seat.seat.me.0.given + 1)
+            × (self.new.seat.seat.me.0.taken ≡ self.old.seat.seat.me.0.taken) }
     {
         let run = ticket.run();
         let marks = ticket.marking();
         self.visitor.begin(&standing.heap, ticket);
         visit_part(&mut self.visitor, &standing.heap, turnstile, run, marks);
         let note = self.visitor.stop(&standing.heap);
-        self.period = note.numbers().part;
         self.seat.post_note(&standing.hands.shared, note, false);
     }
 
@@ -90,20 +90,19 @@ impl Helper {
         ensures of { IsHelperOf standing.now.heap.key.layout standing.now.heap.table.shared.table_id
             standing.now.hands.shared.table_id self.new }
         ensures again { IfOk result (λ answer. answer ≡ worked.Again →
-            self.new.seat.seat.me.0.given ≡ self.old.seat.seat.me.0.given + 1) }
+            (self.new.seat.seat.me.0.given ≡ self.old.seat.seat.me.0.given + 1)
+            × (self.new.seat.seat.me.0.taken ≡ self.old.seat.seat.me.0.taken + 1)) }
         ensures over { IfOk result (λ answer. answer ≡ worked.Over → (self.new.seat.seat.me.0.over ≡ true)
-            × (self.new.seat.seat.me.0.given ≡ self.old.seat.seat.me.0.given)) }
+            × (self.new.seat.seat.me.0.given ≡ self.old.seat.seat.me.0.given)
+            × (self.new.seat.seat.me.0.taken ≡ self.old.seat.seat.me.0.taken)) }
     {
         for _ in rt.forever() {
             match self.seat.take_ticket(&standing.hands.shared) {
                 Found::Nothing => self.seat.wait_for_turn(rt, &standing.hands.shared),
                 Found::End => return Ok(Worked::Over),
                 Found::Ticket(ticket) => {
-                    // Always so: a place has one note a ticket.
-                    if ticket.period() > self.period {
-                        self.take_part(standing, ticket, turnstile);
-                        return Ok(Worked::Again);
-                    }
+                    self.take_part(standing, ticket, turnstile);
+                    return Ok(Worked::Again);
                 }
             }
         }

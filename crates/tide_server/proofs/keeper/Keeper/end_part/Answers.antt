@@ -1,16 +1,19 @@
 -- What a turn answers, by what the freeze made of the part.
-use Rattle.std.proofs.Common.{◌+◌, ◌∙◌, sym, ap, false, not, get_or, rules}
+use Rattle.std.proofs.Common.{◌+◌, ◌∙◌, sym, ap, Bool, List, false, not, get_or, rules}
+use Rattle.std.specs.Prelude.{if◌then◌else◌}
 use Rattle.tide_model.specs.Layout.{Layout}
 use Rattle.tide_model.specs.Numbers.{any_below}
 use Rattle.tide_posts.specs.tide_heap.tide_freeze.declared.books.Books.{Books}
 use Rattle.tide_server.proofs.Ending.{is_forced-here}
 use Rattle.tide_server.proofs.Handing.{ends_are}
-use Rattle.tide_server.proofs.Frozen.{HasFinished-frozen, HasOpenedPart-frozen, HasSpentParts-frozen, MakesPeriod-frozen}
+use Rattle.tide_server.proofs.Frozen.{HasFinished-frozen, HasOpenedPart-frozen, HasSpentParts-frozen, MakesPeriod-frozen, period_is}
+use Rattle.tide_posts.specs.Among.{times}
 use Rattle.tide_posts.specs.Name.{Name, places}
 use Rattle.tide_posts.specs.tide_hands.declared.keeper.KeeperSeat.{KeeperSeat}
 use Rattle.tide_posts.specs.tide_heap.declared.steps.notes.Note.{Note}
 use Rattle.tide_posts.specs.tide_heap.declared.steps.notes.Ticket.{Ticket}
 use Rattle.tide_posts.specs.tide_heap.tide_core.declared.machine.view.View.{View}
+use Rattle.tide_server.specs.Keepers.{has_left}
 use Rattle.tide_table.specs.declared.collector.Collector.{Collector}
 use Rattle.tide_server.proofs.keeper.Keeper.end_part.Goals as goal
 
@@ -69,7 +72,10 @@ returns-then-open_next-clause-turned g c =
     (next.none yes).1 (next.left ∙ c.freeze-run.ensures.same.2) (
       next.over ∙ ap (λ (q : KeeperSeat Ticket Note Name). q.seat.me.0.over) seat ∙ c.requires.stands.no_end.0,
       next.ends ∙ ap (λ (q : KeeperSeat Ticket Note Name). q.seat.me.0.ends) seat ∙ c.requires.stands.no_end.1,
-    ) (search rules) (search rules) makes
+    ) (search rules) (search rules)
+    (λ place below. next.tickets yes place below
+    ∙ (λ i. times place (seat i).seat.me.0.tickets + (if has_left layout (c.freeze-run.ensures.same.2 i) place then 0 else 1)))
+    (next.notes ∙ ap (λ (q : KeeperSeat Ticket Note Name). q.seat.me.0.notes) seat) makes
     (sym goes ∙ c.if-not-goes_on.false)
 
 pub returns-clause-turned : goal.returns-clause-turned
@@ -105,3 +111,14 @@ returns-clause-turned g c =
   where
     view_of_collector : Collector → View
     view_of_collector q = q.seat.me.0
+
+pub open_next-requires-clause-rounds : goal.open_next-requires-clause-rounds
+open_next-requires-clause-rounds g c = λ place below isnt.
+    let s = c.args.standing.now in
+    let layout = s.heap.key.layout in
+    let k = c.args.self.now in
+    ap (λ (q : KeeperSeat Ticket Note Name). times place q.seat.me.0.tickets) c.freeze-run.ensures.seat
+    ∙ c.requires.stands.rounds place below (ap (λ (l : List Bool). has_left layout l place) (sym c.freeze-run.ensures.same.2) ∙ isnt)
+    ∙ sym (period_is layout (g.S.HeapShapes.lists s.heap.key.shapes) s.heap.table.shared.table_id s.hands.shared.table_id k
+    c.requires.stands c.requires.all c.is_forced-is_forced.result c.freeze-run.result c.freeze-run.new.self c.args.report.now
+    c.freeze-run.new.report c.freeze-run.ensures.frozen)

@@ -53,8 +53,8 @@ pub retire-requires-clause-bare : goal.retire-requires-clause-bare
 retire-requires-clause-bare g c κs within =
     ap (λ (k : Calling). k.claims) c.come_to_work.ensures.same ∙ c.requires.bare
 
-pub stop_and_post-self-requires : goal.stop_and_post-self-requires
-stop_and_post-self-requires g c =
+pub stop_and_post-requires : goal.stop_and_post-requires
+stop_and_post-requires g c =
     let n = c.come_to_work.new.self in
     let come = c.come_to_work.ensures in
     let v = view_of n.mutator in
@@ -76,6 +76,7 @@ stop_and_post-self-requires g c =
       runs = ap (λ (k : Kept). k.runs) told.kept ∙ works.runs;
       of_part = ap (λ (k : Kept). k.begun) told.kept ∙ works.begun ∙ sym ticket;
       once = omega (arith, ticket, period, once);
+      numbered = ticket ∙ n.numbered come.works.0;
       shared = subst (λ (b : Bool). HasShared w.who w.ticket w.run w.seen w.mine b false) (sym told.left)
           (subst (λ (k : Kept). HasShared k.who k.ticket k.run w.seen w.mine true false) (sym told.kept)
           (retired c.args.standing.now.heap.key.layout (g.S.ShapeTable.lists c.args.standing.now.heap.key.shapes) v w n.left
@@ -91,12 +92,18 @@ invariant_of-self g c =
     let v = view_of n.mutator in
     let w = view_of c.retire.new.self in
     let made = c.retire.ensures in
-    let told = c.stop_and_post-self.ensures in
+    let told = c.stop_and_post.ensures in
     let works = at_work n.works v n.left n.ended come.of.stands come.works.0 in
     let who = ap (λ (k : Kept). k.who) made.kept in
     record {
       its = ap (λ (x : View). x.who) told.stopped ∙ who ∙ n.its ∙ sym told.seated.1;
-      period_is = told.part ∙ sym (ap (λ (x : View). x.period) told.stopped);
+      before =
+          let number = n.numbered come.works.0 in
+          let ticket = ap (λ (k : Kept). k.ticket) made.kept in
+          let period = ap (λ (x : View). x.period) told.stopped in
+          let taken = told.posted.1 in
+          omega (arith, number, ticket, period, taken);
+      numbered = λ is. absurd (cc);
       retries_is = n.retries_is ∙ ap (λ (o : Option Op). is_some o)
           (ap (λ (k : Calling). retry_of k.who k.mine) come.same ∙ c.requires.settled)
           ∙ sym (ap (λ (x : View). is_some (retry_of x.who x.mine)) told.stopped
@@ -108,7 +115,7 @@ invariant_of-self g c =
 pub returns-clause-of : goal.returns-clause-of
 returns-clause-of g c =
     let come = c.come_to_work.ensures in
-    let told = c.stop_and_post-self.ensures in
+    let told = c.stop_and_post.ensures in
     let v = view_of c.come_to_work.new.self.mutator in
     let n = c.come_to_work.new.self in
     let w = view_of c.retire.new.self in
@@ -121,7 +128,7 @@ returns-clause-of g c =
       named = told.named ∙ come.of.named;
       is_mutator = subst (λ (k : ℕ). k < c.args.standing.now.heap.key.layout.mutators)
           (sym (ap (λ (x : View). x.who) told.stopped ∙ ap (λ (k : Kept). k.who) c.retire.ensures.kept)) come.of.is_mutator;
-      stands = IsParked-stopped w (view_of c.stop_and_post-self.new.mutator) told.stopped
+      stands = IsParked-stopped w (view_of c.stop_and_post.new.mutator) told.stopped
           (ap (λ (k : Kept). k.begun) made.kept ∙ works.begun ∙ sym (ap (λ (k : Kept). k.ticket) made.kept))
           (subst (λ (k : ℕ). IsOwn k w.seen w.mine) (sym who) made.makes.are_own) told.opens;
     }
@@ -136,7 +143,7 @@ returns-clause-makes g c =
     let shapes = g.S.ShapeTable.lists c.args.standing.now.heap.key.shapes in
     let same = c.come_to_work.ensures.same in
     subst (λ (x : View). MakesCall layout shapes v.who Retire Done v.seen x.seen v.mine x.mine)
-    (sym c.stop_and_post-self.ensures.stopped)
+    (sym c.stop_and_post.ensures.stopped)
     (MakesCall-later layout shapes v.who Retire Done v.seen mid.seen w.seen v.mine mid.mine w.mine
     c.come_to_work.ensures.seen (ap (λ (k : Calling). k.mine) same) (owns m.works v m.left m.ended c.requires.of.stands)
     (subst (λ (n : ℕ). MakesCall layout shapes n Retire Done mid.seen w.seen mid.mine w.mine)
@@ -145,4 +152,4 @@ returns-clause-makes g c =
     c.retire.ensures.makes)))
 
 pub returns-clause-left : goal.returns-clause-left
-returns-clause-left g c = ap (λ (x : View). x.left) c.stop_and_post-self.ensures.stopped ∙ c.retire.ensures.left
+returns-clause-left g c = ap (λ (x : View). x.left) c.stop_and_post.ensures.stopped ∙ c.retire.ensures.left
