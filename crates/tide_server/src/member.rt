@@ -1,5 +1,5 @@
 //! `Member`: a mutator of a standing heap, on a thread of its caller's. It makes no call.
-ghost use Rattle.std.specs.Prelude.{◌≡◌, ◌≤◌, false, is_some, length, true};
+ghost use Rattle.std.specs.Prelude.{◌≡◌, ◌≤◌, None, false, is_some, length, true};
 ghost use Rattle.tide_model.specs.Script.{retry_of};
 ghost use Rattle.tide_mutator.specs.owed.Standing.{claims_of};
 ghost use Rattle.tide_mutator.specs.calls.Viewed.{table_of, view_of};
@@ -45,6 +45,22 @@ impl Member {
             ended: false,
             works: false,
         }
+    }
+
+    /// Whether its last call was refused for room a first time: then the same operation comes next.
+    pub fn retries(&self) -> bool
+        ensures is { result ≡ is_some (retry_of (view_of self.now.mutator).who (view_of self.now.mutator).mine) }
+        ensures settled { result ≡ false →
+            retry_of (view_of self.now.mutator).who (view_of self.now.mutator).mine ≡ None }
+    {
+        self.retries
+    }
+
+    /// Whether it is in the midst of a part.
+    pub fn works(&self) -> bool
+        ensures { result ≡ self.now.works }
+    {
+        self.works
     }
 
     /// How many cells it claims.

@@ -1,12 +1,13 @@
 //! A member's part, from its ticket to its note. It waits for nobody.
-ghost use Rattle.std.specs.Prelude.{◌≡◌, ◌≢◌, ◌≤◌, ◌<◌, ◌+◌, ◌&&◌, ◌||◌, not, true, false};
+ghost use Rattle.std.specs.Prelude.{◌≡◌, ◌≢◌, ◌≤◌, ◌<◌, ◌+◌, ◌&&◌, ◌||◌, [], None, not, true, false};
 ghost use Rattle.tide_model.specs.Lawful.{FitsLayout};
 ghost use Rattle.tide_model.specs.Caller.{MakesCall};
 ghost use Rattle.tide_model.specs.Periods.{open_count};
 ghost use Rattle.tide_model.specs.Prefix.{IsPrefix};
-ghost use Rattle.tide_model.specs.Script.{is_full_reply};
+ghost use Rattle.tide_model.specs.Script.{is_full_reply, retry_of};
 ghost use Rattle.tide_model.specs.Share.{is_asked};
 ghost use Rattle.tide_model.specs.declared.op.Op.TheVariants.{Retire};
+ghost use Rattle.tide_model.specs.declared.op.Reply.TheVariants.{Done as IsDone};
 ghost use Rattle.tide_mutator.specs.calls.Called.{is_of_claims};
 ghost use Rattle.tide_mutator.specs.calls.Viewed.{table_of, view_of};
 ghost use Rattle.tide_mutator.specs.owed.Standing.{claims_of};
@@ -51,7 +52,7 @@ fn ends(reply: Reply, is_first_full: bool) -> bool
 }
 
 /// Stops a mutator, and posts its note, which tells that it made its share of the part.
-pub(crate) fn stop_and_post<S: HeapShapes>(
+fn stop_and_post<S: HeapShapes>(
     mutator: &mut Mutator,
     seat: &mut MemberSeat<Ticket, Note, HeapName>,
     standing: &Standing<S>,
@@ -176,8 +177,8 @@ impl Member {
         self.works = false;
     }
 
-    /// Makes one more call of its part.
-    pub(crate) fn make<S: ShapeTable, T: Turnstile>(
+    /// Makes one more call of its part, which it is in the midst of. It waits for nobody, and takes no memory.
+    pub fn make<S: ShapeTable, T: Turnstile>(
         &mut self,
         standing: &Standing<S>,
         op: Op,
@@ -207,5 +208,29 @@ impl Member {
         self.retries = is_first_full(self.retries, reply);
         self.ended = ends(reply, self.retries);
         reply
+    }
+
+    /// Retires with a call of its part, and hands its last note in. It waits for nobody, and takes no memory. No call may
+    /// be made after it.
+    pub fn retire<S: ShapeTable, T: Turnstile>(&mut self, standing: &Standing<S>, turnstile: &T)
+        requires of { IsMemberOf standing.now.heap.key.layout standing.now.heap.table.shared.table_id
+            standing.now.hands.shared.table_id self.old }
+        requires stays { (view_of self.old.mutator).left ≡ false }
+        requires works { self.old.works ≡ true }
+        requires may { MayMake self.old }
+        requires bare { claims_of (view_of self.old.mutator) ≡ [] }
+        requires settled { retry_of (view_of self.old.mutator).who (view_of self.old.mutator).mine ≡ None }
+        ensures of { IsMemberOf standing.now.heap.key.layout standing.now.heap.table.shared.table_id
+            standing.now.hands.shared.table_id self.new }
+        ensures makes { MakesCall standing.now.heap.key.layout (S.lists standing.now.heap.key.shapes)
+            (view_of self.old.mutator).who Retire IsDone (view_of self.old.mutator).seen
+            (view_of self.new.mutator).seen (view_of self.old.mutator).mine (view_of self.new.mutator).mine }
+        ensures rests { self.new.works ≡ false }
+        ensures left { (view_of self.new.mutator).left ≡ true }
+        ensures posted { self.new.seat.seat.me.0.given ≡ self.old.seat.seat.me.0.given + 1 }
+    {
+        self.mutator.retire(&standing.heap, turnstile);
+        stop_and_post(&mut self.mutator, &mut self.seat, standing, false);
+        self.works = false;
     }
 }
