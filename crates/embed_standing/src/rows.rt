@@ -47,6 +47,7 @@ fn one_asks_in_its_second_call<R: Threads + Wait + Sync>(rt: &R, alloc: Global) 
         second_calls: 0,
         meets: false,
         rests: 0,
+        polls: false,
     };
     let seen = run(rt, alloc, &row).ok()??;
     let [kept, freed] = seen.report.cycles() else {
@@ -68,6 +69,7 @@ fn two_first_calls_meet<R: Threads + Wait + Sync>(rt: &R, alloc: Global) -> Opti
         second_calls: 4,
         meets: true,
         rests: 0,
+        polls: false,
     };
     let seen = run(rt, alloc, &row).ok()??;
     Some(is_whole(&row, &seen) && seen.report.ids().len() == 2)
@@ -79,6 +81,7 @@ fn long_row(name: &str) -> Option<(Row, u64)> {
         "cycles_begin_at_each_birth" => (2, 1, 1, Script::Births, 3999, 3999, 1000),
         "one_leaves_in_its_first_part" => (4, 2, 8, Script::Births, 3999, 0, 1000),
         "some_ask_for_cycles" => (4, 2, 8, Script::Asks, 3999, 0, 1000),
+        "all_wait_in_their_own_way" => (3, 2, 8, Script::Asks, 3999, 0, 1000),
         "sixteen_beside_eight" => (16, 8, 0, Script::Sets, 1199, 1199, 300),
         "sixteen_ask_beside_eight" => (16, 8, 4, Script::Asks, 1199, 1199, 300),
         _ => return None,
@@ -92,6 +95,7 @@ fn long_row(name: &str) -> Option<(Row, u64)> {
         second_calls,
         meets: false,
         rests: 0,
+        polls: name == "all_wait_in_their_own_way",
     };
     Some((row, parts))
 }
@@ -108,6 +112,7 @@ fn one_rests_beside_three<R: Threads + Wait + Sync>(rt: &R, alloc: Global) -> Op
         second_calls: 3999,
         meets: false,
         rests: 600,
+        polls: false,
     };
     let seen = run(rt, alloc, &row).ok()??;
     Some(is_whole(&row, &seen) && seen.turns > 600 && seen.report.cycles().len() > 4)

@@ -10,8 +10,6 @@ pub struct Keeper {
     pub(crate) collector: Collector,
     pub(crate) seat: KeeperSeat<Ticket, HandedIn, HeapName>,
     pub(crate) books: Books,
-    /// The number of the open part.
-    pub(crate) period: u32,
     /// The notes of the open part are in of all places below this one.
     pub(crate) next: usize,
     /// One of them says that its mutator's last call ended its share.
@@ -22,7 +20,6 @@ pub struct Keeper {
     pub(crate) early: [bool; 16],
     /// Some mutator has stopped early, in the open part or in one before.
     pub(crate) stopped: bool,
-    ghost period_is: { period ≡ collector.seat.me.0.period },
 }
 
 impl Keeper {
@@ -32,7 +29,6 @@ impl Keeper {
         seat: KeeperSeat<Ticket, HandedIn, HeapName>,
         books: Books,
     ) -> Keeper
-        requires first { collector.seat.me.0.period ≡ 0 }
         ensures collector { result.collector ≡ collector }
         ensures seat { result.seat ≡ seat }
         ensures books { result.books ≡ books }
@@ -43,7 +39,6 @@ impl Keeper {
             collector,
             seat,
             books,
-            period: 0,
             next: 0,
             ended: false,
             left: [false; 16],

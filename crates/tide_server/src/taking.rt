@@ -30,18 +30,14 @@ impl Keeper {
             return false;
         };
         let HandedIn { note, early } = handed;
-        let numbers = note.numbers();
-        // Not met otherwise: a place has one note a ticket.
-        if numbers.begun != self.period {
-            return false;
-        }
+        let left = note.numbers().left;
         self.collector.take(&standing.heap, note);
         self.next = place + 1;
         self.ended = self.ended || ended;
         if place >= mutators {
             return true;
         }
-        self.left[place] = numbers.left;
+        self.left[place] = left;
         self.early[place] = early;
         self.stopped = self.stopped || early;
         true

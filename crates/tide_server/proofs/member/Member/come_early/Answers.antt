@@ -1,6 +1,6 @@
 -- A member with calls left stops early, and is parked.
-use Rattle.std.proofs.Common.{◌<◌, ◌∙◌, ap, arith, sym, subst, Bool, false, true}
-use Rattle.std.specs.Prelude.{is_some}
+use Rattle.std.proofs.Common.{ℕ, ◌≡◌, ◌+◌, ◌<◌, ◌∙◌, ap, arith, sym, subst, Bool, false, true, inl, inr}
+use Rattle.std.specs.Prelude.{is_some, ◌⊎◌}
 use Rattle.tide_model.specs.Script.{retry_of}
 use Rattle.tide_mutator.specs.calls.Viewed.{view_of}
 use Rattle.tide_mutator.specs.owed.Standing.{claims_of}
@@ -10,8 +10,8 @@ use Rattle.tide_posts.specs.tide_heap.tide_core.declared.machine.view.View.{View
 use Rattle.tide_server.proofs.Working.{IsParked-stopped, at_work}
 use Rattle.tide_server.proofs.member.Member.come_early.Goals as goal
 
-pub stop_and_post-self-requires : goal.stop_and_post-self-requires
-stop_and_post-self-requires g c =
+pub stop_and_post-requires : goal.stop_and_post-requires
+stop_and_post-requires g c =
     let m = c.args.self.now in
     let v = view_of m.mutator in
     let works = at_work m.works v m.left m.ended c.requires.of.stands c.requires.works in
@@ -26,6 +26,7 @@ stop_and_post-self-requires g c =
       runs = works.runs;
       of_part = works.begun;
       once = works.once;
+      numbered = m.numbered c.requires.works;
       shared = subst (λ (b : Bool). HasShared v.who v.ticket v.run v.seen v.mine b false true) (sym c.requires.stays)
           (HasShared-early v.who v.ticket v.run works.made v.seen v.mine
           (subst (IsSharing v.who v.ticket v.run v.seen v.mine works.made) c.requires.left.1 works.sharing)
@@ -38,10 +39,15 @@ invariant_of-self g c =
     let m = c.args.self.now in
     let v = view_of m.mutator in
     let works = at_work m.works v m.left m.ended c.requires.of.stands c.requires.works in
-    let told = c.stop_and_post-self.ensures in
+    let told = c.stop_and_post.ensures in
     record {
       its = ap (λ (x : View). x.who) told.stopped ∙ m.its ∙ sym told.seated.1;
-      period_is = told.part ∙ sym (ap (λ (x : View). x.period) told.stopped);
+      before =
+          let number = m.numbered c.requires.works in
+          let period = ap (λ (x : View). x.period) told.stopped in
+          let taken = told.posted.1 in
+          omega (arith, number, period, taken);
+      numbered = λ is. absurd (cc);
       retries_is = m.retries_is ∙ ap (λ (x : View). is_some (retry_of x.who x.mine)) (sym told.stopped);
       owes = λ is. absurd (cc);
     }
@@ -49,7 +55,7 @@ invariant_of-self g c =
 pub returns-clause-of : goal.returns-clause-of
 returns-clause-of g c =
     let of = c.requires.of in
-    let told = c.stop_and_post-self.ensures in
+    let told = c.stop_and_post.ensures in
     let m = c.args.self.now in
     let v = view_of m.mutator in
     let works = at_work m.works v m.left m.ended of.stands c.requires.works in
@@ -58,14 +64,14 @@ returns-clause-of g c =
       seated = told.seated.0 ∙ of.seated;
       named = told.named ∙ of.named;
       is_mutator = subst (λ (x : View). x.who < c.args.standing.now.heap.key.layout.mutators) (sym told.stopped) of.is_mutator;
-      stands = IsParked-stopped v (view_of c.stop_and_post-self.new.mutator) told.stopped works.begun works.sharing.own told.opens;
+      stands = IsParked-stopped v (view_of c.stop_and_post.new.mutator) told.stopped works.begun works.sharing.own told.opens;
     }
 
 pub returns-clause-same : goal.returns-clause-same
 returns-clause-same g c =
     let m = c.args.self.now in
     ap (λ (x : View). record { who = x.who; mine = x.mine; claims = claims_of x; has_left = x.left; retries = m.retries })
-    c.stop_and_post-self.ensures.stopped
+    c.stop_and_post.ensures.stopped
 
 pub returns-clause-seen : goal.returns-clause-seen
-returns-clause-seen g c = ap (λ (x : View). x.seen) c.stop_and_post-self.ensures.stopped
+returns-clause-seen g c = ap (λ (x : View). x.seen) c.stop_and_post.ensures.stopped
