@@ -272,7 +272,7 @@ def only_fields(document):
             raise bad_other(name, value, *ops_at_the_top(value))
         if value.origin is None and (change := option_named(name, value)):
             raise bad_other(name, value, f"no field of the top is named `{seen(name)}`", change)
-        meant, listed = near(name, FIELDS), value.kind == "array" and value.origin == "header"
+        meant, listed = near(name, FIELDS, 0.7), value.kind == "array" and value.origin == "header"
         change = f"take it out; the fields are {', '.join(FIELDS)}"
         if value.origin in ("header", "implicit", "dotted"):
             change = "take it out, with the lines below it" if value.origin != "dotted" else "take its lines out"
