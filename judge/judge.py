@@ -83,6 +83,8 @@ class Run:
         self.work, self.replies, self.cycles = work, replies, cycles
         self.store = model.Store(work)
         self.count = len(work["mutators"])
+        # in which order the mutators make their calls of a part, one after another
+        self.order = range(self.count)
         self.done, self.retry, self.told = [0] * self.count, [False] * self.count, [0] * self.count
         self.ended = 0
         self.span, self.spared = None, set()
@@ -104,7 +106,8 @@ class Run:
         """A running part. Answers whether the freeze after it is forced."""
         run = self.work["period"] if self.span is None else self.shares()[1]
         is_forced = False
-        for who, ops in enumerate(self.work["mutators"]):
+        for who in self.order:
+            ops = self.work["mutators"][who]
             for _ in range(run):
                 if not self.store.active[who]:
                     break

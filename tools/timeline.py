@@ -167,11 +167,11 @@ def parts_of(document, printed):
         found, _ = schedule.ways_through(document, printed, visitors, is_plain)
         if found:
             return found[0].parts
-    sys.exit(schedule.no_way(document))
+    sys.exit(schedule.no_way(document, printed))
 
 
 def picture(name, printed, document=None):
-    mutators, cycles, live = read([line for line in printed.splitlines() if not line.startswith("cell ")])
+    mutators, cycles, live = read([line for line in printed.splitlines() if not line.startswith(("cell ", "stats "))])
     parts = parts_of(document, printed) if document else ()
     begins = [event for part in parts for event in part.events if isinstance(event, schedule.Begin)]
     calls, y = draw_calls(mutators, parts)
