@@ -386,8 +386,10 @@ class Reader:
             change = "a comment begins with #: write # in place of --"
         elif name == "mutator" and re.fullmatch("[0-9]+", value) and found[0].isdigit():
             change = "this is how a printed text begins: take the workload that it was printed of"
-        elif name == "mutator" and not value:
+        elif "mutator" in name and not value or name == "mutator" and value.endswith(":") or value == "mutator:":
             change = "write [[mutator]]"
+        elif name == "ops" and (is_list := re.match(r"\[ *\] *= *", found)):
+            change = f"write ops = {seen(found[is_list.end():])}"
         elif name in ("blocks", "arrays") and re.match(r"\[[0-9]+\]", found):
             change = f"write five numbers in brackets: {name} = [1, 0, 0, 0, 1]"
         elif self.open and found[:1] in (",", "}"):
@@ -494,6 +496,8 @@ def no_character(character):
 
 def no_name(found):
     """What to change where this stands in place of a name."""
+    if re.fullmatch("[<({] *mutators? *[>)}]", found):
+        return "write [[mutator]]"
     if comment := COMMENT.match(found):
         return f"a comment begins with #: write # in place of {comment[0]}"
     if found[:1] == "{":

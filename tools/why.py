@@ -16,7 +16,7 @@ import sys
 
 import toml_lines
 from toml_lines import seen
-from why_ops import NUMBERS, Limits, near, op_fault, path_fault, quoted
+from why_ops import FORMS, NUMBERS, Limits, near, op_fault, path_fault, quoted
 from why_words import words_explained
 
 if __name__ == "__main__" and sys.argv[1:] in ([], ["--help"]):
@@ -220,7 +220,8 @@ def keys_of(document):
     if value is None:
         return [], None
     if value.kind != "array":
-        path = value.data if value.kind == "string" and not path_fault(value.data) else "name next"
+        path = " ".join(re.split("[ ,;]+", value.data.strip())) if value.kind == "string" else ""
+        path = path if path and not path_fault(path) else "name next"
         raise bad("shapes", value.line, f"it is {shown(value)}, and has to be a list of texts",
                   f"write it as a list of paths: shapes = [{quoted(path)}]")
     if len(value.data) > MAX_PATHS:
@@ -249,7 +250,7 @@ def as_text(value, is_path=False):
     if value.kind != "array" or any(one.kind != "string" for one in value.data):
         return "write it in quotes"
     texts = [one.data for one in value.data]
-    if len(texts) > 1 and not any(" " in text for text in texts):
+    if len(texts) > 1 and texts[1] not in FORMS and not any(" " in text for text in texts):
         return f"write it as one text: {quoted(' '.join(texts))}"
     return "take the inner brackets out"
 

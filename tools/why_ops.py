@@ -58,13 +58,19 @@ MEANT = {"new": "alloc", "malloc": "alloc", "read": "get", "load": "get", "write
          "clear": "drop", "free": "drop", "delete": "drop", "unset": "drop", "null": "drop", "lock": "claim",
          "unlock": "release", "root": "strong", "pin": "strong", "assign": "move", "gc": "collect", "pput": "pair",
          "link": "put", "handle": "strong", "global": "strong", "static": "strong", "keep": "strong", "hold": "strong",
-         "major": "collect", "minor": "collect", "full": "collect", "eden": "collect"}
+         "major": "collect", "minor": "collect", "full": "collect", "eden": "collect", "cell": "alloc", "object": "alloc",
+         "node": "alloc", "map": "table", "hashmap": "table", "weakmap": "table", "dict": "table", "own": "claim",
+         "acquire": "claim", "give": "release", "forget": "drop", "getattr": "getp", "getfield": "getp", "setattr": "setp",
+         "setfield": "setp", "sset": "strong", "setstrong": "strong", "strongget": "sget", "getstrong": "sget", "wset": "weak",
+         "setweak": "weak", "deref": "wget", "getweak": "wget", "opaque": "group"}
 # names whose operands tell what is meant: by their looks the operation, which takes them all and {empty} for an empty register
 MEANT_BY = {
     **dict.fromkeys(("del", "delete", "remove", "unset", "erase", "delp"), [
         (["r", "KEY"], "setp {0} {1} {empty}"), (["r", "N"], "put {0} {1} {empty}"), (["r", "r"], "pdel {0} {1}"),
     ]),
     "pset": [(["r", "r", "r"], "pair {0} {1} {2}"), (["r", "KEY", "r"], "setp {0} {1} {2}")],
+    **dict.fromkeys(("insert", "map"), [(["r", "r", "r"], "pair {0} {1} {2}")]),
+    "prop": [(["r", "KEY", "r"], "setp {0} {1} {2}"), (["r", "r", "KEY"], "getp {0} {1} {2}")],
     "ungroup": [(["r"], "group {0} 0")],
 }
 # names of what no operation does, and of what a handle of this kind does with an empty register
@@ -79,6 +85,7 @@ HAS_NOT = [
      "no operation repeats others or chooses", "write each call as a text of its own, as often as it is meant"),
     (TELLS, "what a call is answered stands in the printed text", "take it out"),
     (["inc", "dec", "incr", "decr", "sub", "mul", "div", "plus"], "no operation counts", "write the number itself, as set r0 1"),
+    (["mark", "sweep", "visit", "safepoint"], "a cycle marks and sweeps by itself", "take it out, or write collect"),
     (["nop", "noop", "pass", "skip", "idle"], "each operation is a call",
      "take it out, or write move r0 r0, which changes nothing"),
 ]
@@ -101,7 +108,7 @@ STATEMENTS = [
     (r"(r[0-9]+)\.([a-z][a-z0-9_]*) *:?= *(r[0-9]+)", "setp {0} {1} {2}"),
 ]
 # what stands in front of a statement elsewhere
-DECLARED = "(?:(?:let|const|var|auto|local|mut|final) +)*"
+DECLARED = "(?:(?:let|const|var|auto|local|mut|final|int|number|ref) +)*"
 # of an operand that is a number: what it is of
 OF_NUMBERS = {"C": "a class", "K": "a slot or a handle", "N": "a number"}
 
@@ -343,6 +350,8 @@ def parted(text, letter):
             meant = quoted(operation.format(*stated.groups()))
             return f"a `{letter}` stands in it, and an operation is its name and its operands", f"write {meant}"
     assigned = re.fullmatch(DECLARED + r"(r[0-9]+) *:?= *([a-z]+)[ (]*([^()]*)\)?", text)
+    if made := re.fullmatch(DECLARED + r"(r[0-9]+) *:?= *(?:new )?(?:new|cell|object|node|alloc)(?: *\(? *([0-3]) *\)?)?", text):
+        return why, f"write {quoted(f'alloc {made[1]} {made[2] or 0}')}"
     if assigned and assigned[2] in FORMS:
         words = [assigned[2], assigned[1], *re.split("[ ,]+", assigned[3])]
         return why, instead(" ".join(words).strip(" "), "write the register behind the operation")
@@ -370,7 +379,9 @@ def texts_in(pieces):
 
 
 def copied(text):
-    """Of a text that was copied from a printed one: it has a reply, or a cell's number among its operands."""
+    """Of a text that was copied from a printed one: it has a reply, or a cell's number among its operands, or is no call."""
+    if re.fullmatch(r"mutator \d+|retire = ok|cycle \d+ kept .*|live \d+|(?:stats|cell) #?\d.*", text):
+        return "it is a printed line, and no operation", "take it out"
     call = re.fullmatch("([a-z]+(?: [^=#]*?)?) (=|->|=>) [^=]*", text)
     name, *words = call[1].split(" ") if call else [""]
     if name in FORMS and len(words) == len(FORMS[name].split()):
@@ -441,7 +452,7 @@ def name_fault(name, words, limits):
         if len(looks) == len(words) and look_right(looks, words):
             with_empty = f", where {empty} is empty, as drop {empty} leaves it" if "{empty}" in shape else ""
             return f"no operation is named `{told}`", f"write {shape.format(*map(seen, words), empty=empty)}{with_empty}"
-    meant = MEANT.get(name.lower()) or near(re.sub("[^A-Za-z].*", "", name), list(FORMS))
+    meant = MEANT.get(name.lower()) or near(re.sub("[^A-Za-z].*", "", name), list(FORMS), 0.7)
     if meant:
         fits = len(words) == len(FORMS[meant].split()) and not limits.operands(meant, words)
         shown = " ".join([meant, *words]) if fits else limits.example(meant)
