@@ -353,7 +353,7 @@ def told_apart(names):
         sys.exit(f"{name}: {lines[0]}; python3 tools/why.py {name} says more")
     blocks, count = len(read(text)[0]), len(judge_threads.read_workload(document)["mutators"])
     if blocks != count:
-        sys.exit(f"the text has the calls of {blocks} mutators, and the workload has {count}")
+        sys.exit(f"the text has the calls of {counted(blocks, 'mutator')}, and the workload has {count}")
     return workloads[0], texts[0]
 
 

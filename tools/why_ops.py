@@ -350,7 +350,7 @@ def parted(text, letter):
             meant = quoted(operation.format(*stated.groups()))
             return f"a `{letter}` stands in it, and an operation is its name and its operands", f"write {meant}"
     assigned = re.fullmatch(DECLARED + r"(r[0-9]+) *:?= *([a-z]+)[ (]*([^()]*)\)?", text)
-    if made := re.fullmatch(DECLARED + r"(r[0-9]+) *:?= *(?:new )?(?:new|cell|object|node|alloc)(?: *\(? *([0-3]) *\)?)?", text):
+    if made := re.fullmatch(DECLARED + r"(r[0-9]+) *:?= *(?:new )?(?:cell|object|node|alloc)(?: *\(? *([0-3]) *\)?)?", text):
         return why, f"write {quoted(f'alloc {made[1]} {made[2] or 0}')}"
     if assigned and assigned[2] in FORMS:
         words = [assigned[2], assigned[1], *re.split("[ ,]+", assigned[3])]
