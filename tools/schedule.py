@@ -217,12 +217,11 @@ def read(text):
     return [[line for line in block if " = " in line and not line.startswith("cell ")] for block in blocks], cycles
 
 
-def after_part(run):
-    """A run after its next part, with the mutators in the first order that gives the text, and whether its freeze is forced;
-    or None where no order does."""
-    are_few = run.count <= MOST_ORDERED
-    for order in itertools.permutations(range(run.count)) if are_few else [tuple(range(run.count))]:
-        after = copy.deepcopy(run) if are_few and run.count > 1 else run
+def after_part(run, orders):
+    """A run after its next part, with the mutators in the first of these orders that gives the text, and whether its freeze
+    is forced; or None where none does."""
+    for order in orders:
+        after = copy.deepcopy(run) if len(orders) > 1 else run
         after.order = order
         try:
             return after, after.part()
@@ -238,9 +237,12 @@ def ways_through(document, text, visitors=0, is_plain=False):
     if is_plain:
         work["trigger"] = 0
     ways, found, looked = [Told(work, replies, cycles, visitors)], [], 0
+    orders = [tuple(range(ways[0].count))]
+    if not is_plain and ways[0].count <= MOST_ORDERED:
+        orders = list(itertools.permutations(orders[0]))
     while ways and len(found) < MOST_WAYS and looked < MOST_LOOKED:
         looked += 1
-        after = after_part(ways.pop())
+        after = after_part(ways.pop(), orders)
         for way in freezes(*after) if after else []:
             if any(way.store.active):
                 ways.append(way)
