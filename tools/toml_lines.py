@@ -386,6 +386,11 @@ class Reader:
             change = "a comment begins with #: write # in place of --"
         elif name == "mutator" and re.fullmatch("[0-9]+", value) and found[0].isdigit():
             change = "this is how a printed text begins: take the workload that it was printed of"
+        elif name in ("cycle", "live", "stats", "cell") and re.match("#?[0-9]", found):
+            change = "this is a line of a printed text: take the workload that it was printed of"
+        elif not self.open and (re.match("r[0-9]", found) or name in ("collect", "unclaim") and not found):
+            text = seen(f"{name} {found}").rstrip()
+            change = f'write operations as texts of a mutator: [[mutator]], and below it ops = ["{text}"]'
         elif "mutator" in name and not value or name == "mutator" and value.endswith(":") or value == "mutator:":
             change = "write [[mutator]]"
         elif name == "ops" and (is_list := re.match(r"\[ *\] *= *", found)):

@@ -67,6 +67,11 @@ def others(table, names):
     return sorted(((name, value) for name, value in table.data.items() if name not in names), key=lambda found: found[1].named)
 
 
+def header_of(name, value):
+    """The header of a table, or of a list of tables, by its name."""
+    return f"[[{seen(name)}]]" if value.kind == "array" else f"[{seen(name)}]"
+
+
 # the fields of the top
 
 
@@ -98,8 +103,9 @@ def in_another_table(field, document):
             continue
         where, name = f"line {table.data[field].named}", seen(".".join(path))
         if path == ["mutator"]:
-            line = document.data["mutator"].line
-            change = f"move the line above the first [[mutator]], which is on line {line}"
+            line, more = document.data["mutator"].line, [name for name in table.data if name in FIELDS and name != field]
+            lines = f"lines of {', '.join([field, *more])}" if more else "line"
+            change = f"move the {lines} above the first [[mutator]], which is on line {line}"
             return Fault(told, where, f"`{field}` stands below [[mutator]], and so is that mutator's", change)
         why = f"`{field}` stands in the table `{name}` on line {table.line}"
         if table.origin == "dotted":
@@ -120,8 +126,10 @@ def missing(field, document):
         return fault
     for name, value in others(document, FIELDS)[:MOST_COMPARED]:
         if near(name, FIELDS) == field:
-            why, change = f"there is no `{field}`, but a field `{seen(name)}`", f"write {field} in place of {seen(name)}"
-            return Fault(told, f"line {value.named}", why, change)
+            change = f"write {field} in place of {seen(name)}"
+            if field == "mutator" and value.origin == "header":
+                change = f"write [[mutator]] in place of {header_of(name, value)}"
+            return Fault(told, f"line {value.named}", f"there is no `{field}`, but a field `{seen(name)}`", change)
     if field == "mutator":
         return no_mutator(told, document)
     change = f"write {REQUIRED[field]}, or another value, {above(document)}"
@@ -147,8 +155,8 @@ def no_mutator(told, document):
             return Fault(told, f"line {table.data['mutator'].line}", f"{why}, but one in `{name}`", f"take `{name}.` off")
     for name, value in others(document, FIELDS)[:MOST_COMPARED]:
         if value.origin == "header":
-            header = f"[[{seen(name)}]]" if value.kind == "array" else f"[{seen(name)}]"
-            return Fault(told, f"line {value.line}", f"{why}, but `{seen(name)}`", f"write [[mutator]] in place of {header}")
+            change = f"write [[mutator]] in place of {header_of(name, value)}"
+            return Fault(told, f"line {value.line}", f"{why}, but `{seen(name)}`", change)
     return Fault(told, "the end of the file", why, f"write {REQUIRED['mutator']}")
 
 

@@ -443,9 +443,9 @@ def name_fault(name, words, limits):
         return f"no operation is named `{told}`: mutators wait for each other where a part ends, and nowhere else", "take it out"
     if (run := re.fullmatch("([a-z]+?)(r?[0-9].*)", name)) and run[1] in FORMS:
         return f"no space stands behind `{run[1]}`", instead(" ".join([run[1], run[2], *words]), "write one there")
-    for moved in ([*words[:1], name, *words[1:]], words):
+    for moved in ([*words[:1], name, *words[1:]], words, [*name.split("_"), *words]):
         if is_formed(moved):
-            return f"no operation is named `{told}`", instead(" ".join(moved), f"write {words[0]} in front")
+            return f"no operation is named `{told}`", instead(" ".join(moved), f"write {moved[0]} in front")
     if has_not := next(((why, change) for names, why, change in HAS_NOT if name.lower() in names), None):
         return f"no operation is named `{told}`: {has_not[0]}", has_not[1]
     for looks, shape in MEANT_BY.get(name.lower(), []):
