@@ -400,7 +400,8 @@ class Reader:
         elif self.open and found[:1] in (",", "}"):
             change = "write [ and ] in place of { and }"
         elif FIELD.match(found):
-            change = f"take `{told}` out"
+            extra = found.split("=")[0].strip() if name in (*self.wanted, "shapes", "ops") else name
+            change = f"take `{seen(extra)}` out"
         elif self.text[start] in "\"'" and "=" in name:
             change = f"take the quotes off: {told}"
         elif self.text[start] in "\"'" and not found.startswith(":"):

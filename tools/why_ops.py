@@ -62,7 +62,7 @@ MEANT = {"new": "alloc", "malloc": "alloc", "read": "get", "load": "get", "write
          "node": "alloc", "map": "table", "hashmap": "table", "weakmap": "table", "dict": "table", "own": "claim",
          "acquire": "claim", "give": "release", "forget": "drop", "getattr": "getp", "getfield": "getp", "setattr": "setp",
          "setfield": "setp", "sset": "strong", "setstrong": "strong", "strongget": "sget", "getstrong": "sget", "wset": "weak",
-         "setweak": "weak", "deref": "wget", "getweak": "wget", "opaque": "group"}
+         "setweak": "weak", "deref": "wget", "getweak": "wget", "opaque": "group", "cycle": "collect"}
 # names whose operands tell what is meant: by their looks the operation, which takes them all and {empty} for an empty register
 MEANT_BY = {
     **dict.fromkeys(("del", "delete", "remove", "unset", "erase", "delp"), [
