@@ -17,6 +17,8 @@ pub struct Row {
     pub second_calls: u32,
     /// The first calls of two members are held until both have come.
     pub meets: bool,
+    /// The keeper polls for notes in place of waiting for them.
+    pub polls: bool,
     ghost some: { 0 < members },
     ghost few: { members ≤ 16 },
     ghost few_helpers: { helpers ≤ 8 },

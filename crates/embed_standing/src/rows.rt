@@ -44,6 +44,7 @@ fn one_asks_in_its_second_call<R: Threads + Wait + Sync>(rt: &R, alloc: Global) 
         calls: 2,
         second_calls: 0,
         meets: false,
+        polls: false,
     };
     let seen = run(rt, alloc, &row).ok()??;
     let [kept, freed] = seen.report.cycles() else {
@@ -64,6 +65,7 @@ fn two_first_calls_meet<R: Threads + Wait + Sync>(rt: &R, alloc: Global) -> Opti
         calls: 4,
         second_calls: 4,
         meets: true,
+        polls: false,
     };
     let seen = run(rt, alloc, &row).ok()??;
     Some(is_whole(&row, &seen) && seen.report.ids().len() == 2)
@@ -75,6 +77,8 @@ fn long_row(name: &str) -> Option<(Row, u64)> {
         "cycles_begin_at_each_birth" => (2, 1, 1, Script::Births, 3999, 3999, 1000),
         "one_leaves_in_its_first_part" => (4, 2, 8, Script::Births, 3999, 0, 1000),
         "some_ask_for_cycles" => (4, 2, 8, Script::Asks, 3999, 0, 1000),
+        "keeper_polls" => (4, 2, 8, Script::Births, 1199, 1199, 300),
+        "one_of_sixteen_leaves" => (16, 8, 0, Script::Sets, 1199, 0, 300),
         "sixteen_beside_eight" => (16, 8, 0, Script::Sets, 1199, 1199, 300),
         "sixteen_ask_beside_eight" => (16, 8, 4, Script::Asks, 1199, 1199, 300),
         _ => return None,
@@ -87,6 +91,7 @@ fn long_row(name: &str) -> Option<(Row, u64)> {
         calls,
         second_calls,
         meets: false,
+        polls: name == "keeper_polls",
     };
     Some((row, parts))
 }
