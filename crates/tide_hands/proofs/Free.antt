@@ -47,7 +47,7 @@ module _ {I : Type 0} where
   pub free_here : (v : HandView I) (place : ℕ) → v.out ≡ suc place → Among place (resting 0 v).free
   free_here v place out = inl (sym (ap pred out))
 
-module _ {T N I : Type 0} (ticket_ok : I → T → Type 0) (note_ok : I → ℕ → N → Bool → Type 0) (name : I) (place found : ℕ)
+module _ {T N I : Type 0} (ticket_ok : I → ℕ → T → Type 0) (note_ok : I → ℕ → ℕ → N → Bool → Type 0) (name : I) (place found : ℕ)
     (me after : Me (Parcel T N) (HandView I)) (keeps : me.0.keeper ≡ true) (turn : is_keepers found ≡ true)
     (looked : MatchBool (is_turn me.0 found) (TookSlot ticket_ok note_ok name place found me after) (after ≡ me)) where
   -- at its turn the keeper took the slot

@@ -2,6 +2,8 @@ pub mod Free
 pub mod Giving
 pub mod Lists
 pub mod Looking
+pub mod Moves
 pub mod Opening
+pub mod Rounds
 pub mod Splitting
 pub mod Turns

@@ -1,8 +1,8 @@
 -- A look keeps the rule: at the seat's turn it takes the slot, and else it changes nothing.
-use Rattle.std.proofs.Common.{ℕ, suc, ◌≡◌, ◌<◌, Bool, true, false, arith, refl, sym, ◌∙◌, ap, subst, List, [], ◌∷◌, inl, inr}
-use Rattle.std.proofs.lemmas.Bool.{cases_eq, or_cases}
+use Rattle.std.proofs.Common.{ℕ, suc, ◌≡◌, ◌+◌, ◌<◌, Bool, true, false, arith, refl, sym, ◌∙◌, ap, subst, List, [], ◌∷◌, inl, inr}
+use Rattle.std.proofs.lemmas.Bool.{cases_eq, cases_Bool, or_cases}
 use Rattle.std.proofs.lemmas.List.{set-get_or}
-use Rattle.std.specs.Prelude.{slice_index, slice_set, ◌||◌, MatchBool}
+use Rattle.std.specs.Prelude.{slice_index, slice_set, ◌||◌, MatchBool, if◌then◌else◌}
 use lib.ListN.{get_elem?, length-set}
 use mathlib.Core.Option.{Option, none, some, some-injective}
 use Rattle.atomic_table.proofs.Lists.{at_set, set_here, set_else, set_again}
@@ -11,10 +11,10 @@ use Rattle.tide_hands.proofs.Lists.{is_there}
 use Rattle.tide_hands.proofs.Turns.{keeper_turn, or_false, same_seat}
 use Rattle.tide_hands.specs.declared.parcel.Parcel.{Parcel}
 use Rattle.tide_hands.specs.declared.view.HandView.{HandView}
-use Rattle.tide_hands.specs.Among.{Among}
-use Rattle.tide_hands.specs.Rule.{is_end, is_turn, holding, Content, IsOut, SeatOk, Rule, TookSlot, Looked}
+use Rattle.tide_hands.specs.Among.{Among, times}
+use Rattle.tide_hands.specs.Rule.{is_end, is_turn, holding, lying, round_at, Content, IsOut, SeatOk, Rule, TookSlot, Looked}
 
-module _ {T N I : Type 0} (ticket_ok : I → T → Type 0) (note_ok : I → ℕ → N → Bool → Type 0) (name : I) (count : ℕ)
+module _ {T N I : Type 0} (ticket_ok : I → ℕ → T → Type 0) (note_ok : I → ℕ → ℕ → N → Bool → Type 0) (name : I) (count : ℕ)
     (slots id place : ℕ) (me : HandView I) (idle : me.out ≡ 0) (its : me.keeper ≡ false → place ≡ me.place) where
   abbrev S : Type 0
   S = State (Parcel T N) (HandView I)
@@ -22,7 +22,7 @@ module _ {T N I : Type 0} (ticket_ok : I → T → Type 0) (note_ok : I → ℕ 
   abbrev R : S → Type 0
   R = Rule ticket_ok note_ok name count
 
-  abbrev Ok : ℕ → Bool → (ℕ → ℕ) → List ℕ → ℕ → HandView I → Type 0
+  abbrev Ok : ℕ → Bool → (taken seats : ℕ → ℕ) → List ℕ → ℕ → HandView I → Type 0
   Ok = SeatOk ticket_ok note_ok name count
 
   abbrev after : ℕ → HandView I
@@ -44,11 +44,13 @@ module _ {T N I : Type 0} (ticket_ok : I → T → Type 0) (note_ok : I → ℕ 
     seats = r.seats;
     next = r.next;
     over = r.over;
+    taken = r.taken;
+    none = r.none;
     words = r.words;
     homes = length-set s.homes place none ∙ r.homes;
     each = λ seat view is. elim (at_set s.views id seat (after word) view is) [
-      | inl here ↦ subst (λ (v : HandView I). Ok r.next r.over r.seats s.words seat v) here.1
-          (subst (λ (k : ℕ). Ok r.next r.over r.seats s.words k (after word)) (sym here.0) mine)
+      | inl here ↦ subst (λ (v : HandView I). Ok r.next r.over r.taken r.seats s.words seat v) here.1
+          (subst (λ (k : ℕ). Ok r.next r.over r.taken r.seats s.words k (after word)) (sym here.0) mine)
       | inr there ↦ r.each seat view there.1
     ];
     place = λ q in_q. elim (cases_eq q place) [
@@ -82,10 +84,10 @@ module _ {T N I : Type 0} (ticket_ok : I → T → Type 0) (note_ok : I → ℕ 
       word : ℕ
       word = slice_index s.words place
 
-      old : Ok r.next r.over r.seats s.words id me
+      old : Ok r.next r.over r.taken r.seats s.words id me
       old = r.each id me at
 
-      mine : Ok r.next r.over r.seats s.words id (after word)
+      mine : Ok r.next r.over r.taken r.seats s.words id (after word)
       mine = record {
         named = old.named;
         keeper = λ k. let was = old.keeper k in (
@@ -95,6 +97,9 @@ module _ {T N I : Type 0} (ticket_ok : I → T → Type 0) (note_ok : I → ℕ 
         );
         member = old.member;
         free = old.free;
+        posted = old.posted;
+        took = old.took;
+        found = λ q is. let same : q ≡ place = omega (arith, is) in ap (slice_index s.words) (sym same);
         heard = λ h. elim (or_cases me.over (is_end word) h) [
           | inl before ↦ old.heard before
           | inr now ↦ r.ended place within now
@@ -163,8 +168,9 @@ module _ {T N I : Type 0} (ticket_ok : I → T → Type 0) (note_ok : I → ℕ 
             (TookSlot ticket_ok note_ok me.name place word (me, []) (after word, (place, home.parcel) ∷ []))
             (IsSame (after word, (place, home.parcel) ∷ []) (me, []))) (sym turn) record {
               parcel = home.parcel;
-              content = subst (λ (n : I). Content ticket_ok note_ok n place word home.parcel)
-                  (sym (r.each id me at).named) home.content;
+              content = subst (λ (n : ℕ). Content ticket_ok note_ok me.name place n word home.parcel) (sym round)
+                  (subst (λ (n : I). Content ticket_ok note_ok n place (r.taken place + lying word) word home.parcel)
+                  (sym (r.each id me at).named) home.content);
               is = refl;
             },
         finds_free s r at,
@@ -175,6 +181,14 @@ module _ {T N I : Type 0} (ticket_ok : I → T → Type 0) (note_ok : I → ℕ 
     where
       word : ℕ
       word = slice_index s.words place
+
+      -- the number of the last ticket of this place
+      round : round_at place (holding place word me) ≡ r.taken place + lying word
+      round = elim (cases_Bool me.keeper) [
+        | inl k ↦ ap (λ (b : Bool). if b then times place me.tickets else me.taken + lying word) k ∙ (r.each id me at).posted k place
+        | inr k ↦ ap (λ (b : Bool). if b then times place me.tickets else me.taken + lying word) k
+            ∙ ap (λ (n : ℕ). n + lying word) ((r.each id me at).took k ∙ ap r.taken (sym (its k)))
+      ]
   look s r within at false turn = (
     me,
     keeps,

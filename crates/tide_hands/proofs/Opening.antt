@@ -9,24 +9,26 @@ use Rattle.tide_hands.specs.declared.parcel.Parcel.{Parcel}
 use Rattle.tide_hands.specs.declared.parcel.Parcel.TheVariants.{Nothing}
 use Rattle.tide_hands.specs.declared.view.HandView.{HandView}
 use Rattle.tide_hands.specs.Among.{Among, places_below}
-use Rattle.tide_hands.specs.Rule.{is_end, keeper_view, SeatOk, Rule}
+use Rattle.tide_hands.specs.Rule.{is_end, keeper_view, lying, SeatOk, Rule}
 
-module _ {T N I : Type 0} (ticket_ok : I → T → Type 0) (note_ok : I → ℕ → N → Bool → Type 0) (name : I) (count : ℕ) where
+module _ {T N I : Type 0} (ticket_ok : I → ℕ → T → Type 0) (note_ok : I → ℕ → ℕ → N → Bool → Type 0) (name : I) (count : ℕ) where
   abbrev Opened : List ℕ → List (Parcel T N) → Type 0
   Opened words parcels = Rule ticket_ok note_ok name count (opening words parcels (keeper_view name count))
 
   opening_stands : (words : List ℕ) (parcels : List (Parcel T N)) → length words ≡ count → length parcels ≡ count →
-      ((k : ℕ) → k < count → slice_index words k ≡ 0) →
+      ((k : ℕ) → slice_index words k ≡ 0) →
       ((k : ℕ) → k < count → get_elem? (map some parcels) k ≡ some (some Nothing)) → Opened words parcels
   opening_stands words parcels long_words long_parcels zeros nothing = record {
     seats = λ p. 0;
     next = 0;
     over = false;
+    taken = λ p. 0;
+    none = λ p behind. refl;
     words = long_words;
     homes = length-map parcels some ∙ long_parcels;
     each = first;
-    place = λ q in_q. inl record { parcel = Nothing; at = nothing q in_q; content = inl (zeros q in_q) };
-    ended = λ q in_q is. absurd (true≢false (sym is ∙ ap is_end (zeros q in_q)));
+    place = λ q in_q. inl record { parcel = Nothing; at = nothing q in_q; content = inl (zeros q) };
+    ended = λ q in_q is. absurd (true≢false (sym is ∙ ap is_end (zeros q)));
   }
     where
       none_out : (q : ℕ) → 0 ≡ suc q → ⊥
@@ -38,13 +40,16 @@ module _ {T N I : Type 0} (ticket_ok : I → T → Type 0) (note_ok : I → ℕ 
       below_of (suc n) q (inr is) = let below = below_of n q is in omega (arith, below)
 
       first : (seat : ℕ) (view : HandView I) → get_elem? (keeper_view name count ∷ []) seat ≡ some view →
-          SeatOk ticket_ok note_ok name count 0 false (λ p. 0) words seat view
-      first zero view is = subst (λ (v : HandView I). SeatOk ticket_ok note_ok name count 0 false (λ p. 0) words 0 v)
+          SeatOk ticket_ok note_ok name count 0 false (λ p. 0) (λ p. 0) words seat view
+      first zero view is = subst (λ (v : HandView I). SeatOk ticket_ok note_ok name count 0 false (λ p. 0) (λ p. 0) words 0 v)
           (some-injective (keeper_view name count) view is) record {
             named = refl;
             keeper = λ k. (refl, refl, refl);
             member = λ k. absurd (true≢false k);
-            free = λ k q is'. let below = below_of count q is' in (below, zeros q below);
+            free = λ k q is'. let below = below_of count q is' in (below, zeros q);
+            posted = λ k q. let none = ap lying (zeros q) in omega (arith, none);
+            took = λ k. absurd (true≢false k);
+            found = λ q is'. absurd (none_out q is');
             heard = λ h. absurd (true≢false (sym h));
             own = λ q is'. absurd (none_out q is');
             its = λ q k is'. absurd (none_out q is');
@@ -58,7 +63,7 @@ module _ {T N I : Type 0} (ticket_ok : I → T → Type 0) (note_ok : I → ℕ 
   opening_of words parcels is_words is_parcels = opening_stands words parcels
       (ap (λ (l : List ℕ). length l) is_words ∙ length-replicate count 0)
       (ap (λ (l : List (Parcel T N)). length l) is_parcels ∙ length-replicate count Nothing)
-      (λ k below. ap (λ (l : List ℕ). slice_index l k) is_words ∙ zero_at count k)
+      (λ k. ap (λ (l : List ℕ). slice_index l k) is_words ∙ zero_at count k)
       (λ k below. ap (λ (l : List (Parcel T N)). get_elem? (map some l) k) is_parcels ∙ there count k below)
     where
       zero_at : (n k : ℕ) → slice_index (replicate n 0) k ≡ 0

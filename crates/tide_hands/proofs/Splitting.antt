@@ -11,7 +11,7 @@ use Rattle.tide_hands.specs.declared.parcel.Parcel.{Parcel}
 use Rattle.tide_hands.specs.declared.view.HandView.{HandView}
 use Rattle.tide_hands.specs.Rule.{keeper_after, member_view, SeatOk, Rule}
 
-module _ {T N I : Type 0} (ticket_ok : I → T → Type 0) (note_ok : I → ℕ → N → Bool → Type 0) (name : I) (count : ℕ)
+module _ {T N I : Type 0} (ticket_ok : I → ℕ → T → Type 0) (note_ok : I → ℕ → ℕ → N → Bool → Type 0) (name : I) (count : ℕ)
     (id : ℕ) (me : HandView I) (idle : me.out ≡ 0) (keeps_it : me.keeper ≡ true) (room : me.next < count) where
   abbrev S : Type 0
   S = State (Parcel T N) (HandView I)
@@ -24,7 +24,7 @@ module _ {T N I : Type 0} (ticket_ok : I → T → Type 0) (note_ok : I → ℕ 
   seats_after s r place = cond (place == me.next) (length s.views) (r.seats place)
 
   abbrev OkAfter : (s : S) → R s → ℕ → HandView I → Type 0
-  OkAfter s r = SeatOk ticket_ok note_ok name count (me.next + 1) r.over (seats_after s r) s.words
+  OkAfter s r = SeatOk ticket_ok note_ok name count (me.next + 1) r.over r.taken (seats_after s r) s.words
 
   seated : (s : S) → R s → get_elem? s.views id ≡ some me → R record {
     words = s.words;
@@ -35,6 +35,8 @@ module _ {T N I : Type 0} (ticket_ok : I → T → Type 0) (note_ok : I → ℕ 
     seats = seats_after s r;
     next = me.next + 1;
     over = r.over;
+    taken = r.taken;
+    none = λ place behind. r.none place (let next = (old.keeper keeps_it).1 in omega (arith, behind, next));
     words = r.words;
     homes = r.homes;
     each = λ seat view is. elim (at_end left (member_view me) view seat is) [
@@ -67,7 +69,7 @@ module _ {T N I : Type 0} (ticket_ok : I → T → Type 0) (note_ok : I → ℕ 
       left : List (HandView I)
       left = slice_set s.views id (keeper_after me)
 
-      old : SeatOk ticket_ok note_ok name count r.next r.over r.seats s.words id me
+      old : SeatOk ticket_ok note_ok name count r.next r.over r.taken r.seats s.words id me
       old = r.each id me at
 
       none_out : (q : ℕ) → 0 ≡ suc q → ⊥
@@ -82,6 +84,9 @@ module _ {T N I : Type 0} (ticket_ok : I → T → Type 0) (note_ok : I → ℕ 
         keeper = λ k. ((old.keeper k).0, refl, (old.keeper k).2);
         member = λ k. absurd (true≢false (sym keeps_it ∙ k));
         free = old.free;
+        posted = old.posted;
+        took = λ k. absurd (true≢false (sym keeps_it ∙ k));
+        found = λ q is. absurd (none_out q (sym idle ∙ is));
         heard = old.heard;
         own = λ q is. absurd (none_out q (sym idle ∙ is));
         its = λ q k is. absurd (none_out q (sym idle ∙ is));
@@ -98,6 +103,9 @@ module _ {T N I : Type 0} (ticket_ok : I → T → Type 0) (note_ok : I → ℕ 
           ap (λ (b : Bool). cond b (length s.views) (r.seats me.next)) (eq-eqb me.next me.next refl),
         );
         free = λ k. absurd (true≢false (sym k));
+        posted = λ k. absurd (true≢false (sym k));
+        took = λ k. sym (r.none me.next (let next = (old.keeper keeps_it).1 in omega (arith, next)));
+        found = λ q is. absurd (none_out q is);
         heard = λ h. absurd (true≢false (sym h));
         own = λ q is. absurd (none_out q is);
         its = λ q k is. absurd (none_out q is);
@@ -118,6 +126,9 @@ module _ {T N I : Type 0} (ticket_ok : I → T → Type 0) (note_ok : I → ℕ 
                       (ne_eqb view.place me.next (λ same. let b = below in omega (arith, b, same))) ∙ m.2,
                 );
             free = was.free;
+            posted = was.posted;
+            took = was.took;
+            found = was.found;
             heard = was.heard;
             own = was.own;
             its = was.its;

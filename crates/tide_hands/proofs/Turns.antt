@@ -33,7 +33,7 @@ pub keeper_turn : {I : Type 0} (v : HandView I) (word : ℕ) → v.keeper ≡ tr
 keeper_turn v word k turn = keepers_go_on word
     (sym (ap (λ (b : Bool). cond b (is_keepers word) (cond (is_keepers word) false true)) k) ∙ turn)
 
-module _ {T N I : Type 0} (ticket_ok : I → T → Type 0) (note_ok : I → ℕ → N → Bool → Type 0) (name : I) (count : ℕ) where
+module _ {T N I : Type 0} (ticket_ok : I → ℕ → T → Type 0) (note_ok : I → ℕ → ℕ → N → Bool → Type 0) (name : I) (count : ℕ) where
   -- two seats whose turn it is at one place are one
   pub same_seat : (s : State (Parcel T N) (HandView I)) → Rule ticket_ok note_ok name count s → (a b place : ℕ)
       (u v : HandView I) → get_elem? s.views a ≡ some u → get_elem? s.views b ≡ some v →

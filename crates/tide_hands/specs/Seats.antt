@@ -1,5 +1,5 @@
 -- A seat between two calls, and what a call tells of it.
-use Rattle.std.specs.Prelude.{ℕ, ◌≡◌, ◌+◌, true, false, [], Option, None, Some}
+use Rattle.std.specs.Prelude.{ℕ, ◌≡◌, ◌+◌, true, false, [], ◌∷◌, Option, None, Some}
 use Rattle.atomic_table.specs.Table.{Me}
 use Rattle.tide_hands.specs.declared.found.Found.{Found}
 use Rattle.tide_hands.specs.declared.found.Found.TheVariants.{Nothing, Ticket, End}
@@ -11,7 +11,8 @@ IsIdle me = (me.0.out ≡ 0) × (me.1 ≡ [])
 
 -- of a view what no call changes but the one that seats a member
 abbrev pub frame : {I : Type 0} → HandView I → HandView I
-frame v = record v { out = 0; free = []; over = false; due = false; at = 0; found = 0; given = 0; taken = 0 }
+frame v = record v { out = 0; free = []; tickets = []; notes = []; ends = []; over = false; due = false; at = 0; found = 0;
+    given = 0; taken = 0 }
 
 module _ {T I : Type 0} where
   -- what was found is a ticket, which was taken, so that a note is due, or an end that was posted; or nothing was taken
@@ -22,5 +23,5 @@ module _ {T I : Type 0} where
 
   -- what came back wasn't posted, and where nothing came back it was, at this place
   abbrev pub IsPosted : ℕ → T → HandView I → HandView I → Option T → Type 0
-  IsPosted place parcel v w None = (w.given ≡ v.given + 1) × (w.at ≡ place)
-  IsPosted place parcel v w (Some back) = (back ≡ parcel) × (w.given ≡ v.given)
+  IsPosted place parcel v w None = (w.given ≡ v.given + 1) × (w.at ≡ place) × (w.tickets ≡ place ∷ v.tickets)
+  IsPosted place parcel v w (Some back) = (back ≡ parcel) × (w.given ≡ v.given) × (w.tickets ≡ v.tickets)

@@ -1,6 +1,6 @@
 //! The keeper's side: it posts tickets and ends, and takes notes.
-ghost use Rattle.std.specs.Prelude.{ℕ, ◌≡◌, ◌≢◌, ◌<◌, ◌+◌, IfSome, None, true, false};
-ghost use Rattle.tide_hands.specs.Among.{Among};
+ghost use Rattle.std.specs.Prelude.{ℕ, ◌≡◌, ◌≢◌, ◌<◌, ◌+◌, ◌∷◌, IfSome, None, true, false, if◌then◌else◌};
+ghost use Rattle.tide_hands.specs.Among.{Among, times};
 ghost use Rattle.tide_hands.specs.Seats.{IsIdle, IsPosted, frame};
 
 use crate::parcel::Parcel;
@@ -29,11 +29,13 @@ impl<T: Drop, N: Drop, I> KeeperSeat<T, N, I> {
     ) -> Option<T>
         requires own { self.old.seat.table_id ≡ table.now.table_id }
         requires within { (place < table.now.table_id.words) × (place < table.now.table_id.slots) }
-        requires ticket { P.ticket_ok self.old.seat.me.0.name ticket }
+        requires ticket { P.ticket_ok self.old.seat.me.0.name (times place self.old.seat.me.0.tickets + 1) ticket }
         ensures same { (self.new.seat.table_id ≡ self.old.seat.table_id) × (self.new.seat.id ≡ self.old.seat.id) }
         ensures kept { frame self.new.seat.me.0 ≡ frame self.old.seat.me.0 }
         ensures over { self.new.seat.me.0.over ≡ self.old.seat.me.0.over }
-        ensures taken { self.new.seat.me.0.taken ≡ self.old.seat.me.0.taken }
+        ensures ends { self.new.seat.me.0.ends ≡ self.old.seat.me.0.ends }
+        ensures taken { (self.new.seat.me.0.taken ≡ self.old.seat.me.0.taken)
+            × (self.new.seat.me.0.notes ≡ self.old.seat.me.0.notes) }
         ensures posted { IsPosted place ticket self.old.seat.me.0 self.new.seat.me.0 result }
         ensures sure { Among place self.old.seat.me.0.free → result ≡ None }
         ensures free { (q : ℕ) → q ≢ place → Among q self.old.seat.me.0.free → Among q self.new.seat.me.0.free }
@@ -68,9 +70,13 @@ impl<T: Drop, N: Drop, I> KeeperSeat<T, N, I> {
         requires within { (place < table.now.table_id.words) × (place < table.now.table_id.slots) }
         ensures same { (self.new.seat.table_id ≡ self.old.seat.table_id) × (self.new.seat.id ≡ self.old.seat.id) }
         ensures kept { frame self.new.seat.me.0 ≡ frame self.old.seat.me.0 }
-        ensures taken { self.new.seat.me.0.taken ≡ self.old.seat.me.0.taken }
+        ensures taken { (self.new.seat.me.0.taken ≡ self.old.seat.me.0.taken)
+            × (self.new.seat.me.0.notes ≡ self.old.seat.me.0.notes) }
+        ensures tickets { self.new.seat.me.0.tickets ≡ self.old.seat.me.0.tickets }
         ensures posted { result ≡ true → (self.new.seat.me.0.over ≡ true)
             × (self.new.seat.me.0.given ≡ self.old.seat.me.0.given + 1) × (self.new.seat.me.0.at ≡ place) }
+        ensures ends { self.new.seat.me.0.ends
+            ≡ (if result then place ∷ self.old.seat.me.0.ends else self.old.seat.me.0.ends) }
         ensures stays { result ≡ false → (self.new.seat.me.0.over ≡ self.old.seat.me.0.over)
             × (self.new.seat.me.0.given ≡ self.old.seat.me.0.given) }
         ensures sure { Among place self.old.seat.me.0.free → result ≡ true }
@@ -101,10 +107,15 @@ impl<T: Drop, N: Drop, I> KeeperSeat<T, N, I> {
         ensures same { (self.new.seat.table_id ≡ self.old.seat.table_id) × (self.new.seat.id ≡ self.old.seat.id) }
         ensures kept { frame self.new.seat.me.0 ≡ frame self.old.seat.me.0 }
         ensures over { self.new.seat.me.0.over ≡ self.old.seat.me.0.over }
-        ensures given { self.new.seat.me.0.given ≡ self.old.seat.me.0.given }
-        ensures note { IfSome result (λ note. P.note_ok self.old.seat.me.0.name place note.0 note.1) }
-        ensures taken { IfSome result (λ note. self.new.seat.me.0.taken ≡ self.old.seat.me.0.taken + 1) }
-        ensures none { result ≡ None → self.new.seat.me.0.taken ≡ self.old.seat.me.0.taken }
+        ensures ends { self.new.seat.me.0.ends ≡ self.old.seat.me.0.ends }
+        ensures given { (self.new.seat.me.0.given ≡ self.old.seat.me.0.given)
+            × (self.new.seat.me.0.tickets ≡ self.old.seat.me.0.tickets) }
+        ensures note { IfSome result (λ note. P.note_ok self.old.seat.me.0.name place
+            (times place self.old.seat.me.0.tickets) note.0 note.1) }
+        ensures taken { IfSome result (λ note. (self.new.seat.me.0.taken ≡ self.old.seat.me.0.taken + 1)
+            × (self.new.seat.me.0.notes ≡ place ∷ self.old.seat.me.0.notes)) }
+        ensures none { result ≡ None → (self.new.seat.me.0.taken ≡ self.old.seat.me.0.taken)
+            × (self.new.seat.me.0.notes ≡ self.old.seat.me.0.notes) }
         ensures due { IfSome result (λ note. Among place self.new.seat.me.0.free) }
         ensures free { (q : ℕ) → Among q self.old.seat.me.0.free → Among q self.new.seat.me.0.free }
     {
@@ -153,9 +164,13 @@ impl<T: Drop, N: Drop, I> KeeperSeat<T, N, I> {
         ensures same { (self.new.seat.table_id ≡ self.old.seat.table_id) × (self.new.seat.id ≡ self.old.seat.id) }
         ensures kept { frame self.new.seat.me.0 ≡ frame self.old.seat.me.0 }
         ensures over { self.new.seat.me.0.over ≡ self.old.seat.me.0.over }
-        ensures given { self.new.seat.me.0.given ≡ self.old.seat.me.0.given }
-        ensures note { P.note_ok self.old.seat.me.0.name place result.0 result.1 }
-        ensures taken { self.new.seat.me.0.taken ≡ self.old.seat.me.0.taken + 1 }
+        ensures ends { self.new.seat.me.0.ends ≡ self.old.seat.me.0.ends }
+        ensures given { (self.new.seat.me.0.given ≡ self.old.seat.me.0.given)
+            × (self.new.seat.me.0.tickets ≡ self.old.seat.me.0.tickets) }
+        ensures note { P.note_ok self.old.seat.me.0.name place (times place self.old.seat.me.0.tickets)
+            result.0 result.1 }
+        ensures taken { (self.new.seat.me.0.taken ≡ self.old.seat.me.0.taken + 1)
+            × (self.new.seat.me.0.notes ≡ place ∷ self.old.seat.me.0.notes) }
         ensures due { Among place self.new.seat.me.0.free }
         ensures free { (q : ℕ) → Among q self.old.seat.me.0.free → Among q self.new.seat.me.0.free }
     {

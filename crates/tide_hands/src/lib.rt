@@ -2,7 +2,7 @@
 //!
 //! The keeper posts a ticket, its member takes it and posts a note, and the keeper takes that. Instead of a ticket the
 //! keeper may post an end. What a ticket and a note are the caller says, by `Parcels`: whoever takes one has what its
-//! poster showed. Each call but `await_ticket` and `await_note` returns at once; those two park on the member's word.
+//! poster showed. Each call returns at once, but for those that take a `Wait`: they park on the member's word.
 //!
 //! It may touch `atomic_table` alone: it knows no heap. What a heap's tickets and notes are, `tide_posts` says over it.
 #![tactic(auto)]

@@ -33,7 +33,8 @@ impl<T: Drop, N: Drop, I> MemberSeat<T, N, I> {
             × (self.new.place ≡ self.old.place) }
         ensures kept { frame self.new.seat.me.0 ≡ frame self.old.seat.me.0 }
         ensures given { self.new.seat.me.0.given ≡ self.old.seat.me.0.given }
-        ensures found { IsFound (P.ticket_ok self.old.seat.me.0.name) self.old.seat.me.0 self.new.seat.me.0 result }
+        ensures found { IsFound (P.ticket_ok self.old.seat.me.0.name (self.old.seat.me.0.taken + 1))
+            self.old.seat.me.0 self.new.seat.me.0 result }
     {
         let place = self.place;
         match look(table, &mut self.seat, place) {
@@ -97,7 +98,7 @@ impl<T: Drop, N: Drop, I> MemberSeat<T, N, I> {
             × (self.new.place ≡ self.old.place) }
         ensures kept { frame self.new.seat.me.0 ≡ frame self.old.seat.me.0 }
         ensures given { self.new.seat.me.0.given ≡ self.old.seat.me.0.given }
-        ensures ticket { IfSome result (P.ticket_ok self.old.seat.me.0.name) }
+        ensures ticket { IfSome result (P.ticket_ok self.old.seat.me.0.name (self.old.seat.me.0.taken + 1)) }
         ensures taken { IfSome result (λ ticket. (self.new.seat.me.0.taken ≡ self.old.seat.me.0.taken + 1)
             × (self.new.seat.me.0.due ≡ true)) }
         ensures over { result ≡ None → (self.new.seat.me.0.over ≡ true)
@@ -122,7 +123,7 @@ impl<T: Drop, N: Drop, I> MemberSeat<T, N, I> {
     )
         requires own { self.old.seat.table_id ≡ table.now.table_id }
         requires due { self.old.seat.me.0.due ≡ true }
-        requires note { P.note_ok self.old.seat.me.0.name self.old.place note flag }
+        requires note { P.note_ok self.old.seat.me.0.name self.old.place self.old.seat.me.0.taken note flag }
         ensures same { (self.new.seat.table_id ≡ self.old.seat.table_id) × (self.new.seat.id ≡ self.old.seat.id)
             × (self.new.place ≡ self.old.place) }
         ensures kept { frame self.new.seat.me.0 ≡ frame self.old.seat.me.0 }

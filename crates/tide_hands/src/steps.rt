@@ -2,7 +2,7 @@
 ghost use Rattle.std.specs.Prelude.{◌≡◌, ◌<◌, ◌∷◌, suc, [], true, false};
 ghost use Rattle.atomic_table.specs.Table.{step};
 ghost use mathlib.Core.Option.{none};
-ghost use Rattle.tide_hands.specs.Rule.{Content, Gave, Lies, Looked, is_end, resting};
+ghost use Rattle.tide_hands.specs.Rule.{Content, Gave, Lies, Looked, is_move, resting, round_after};
 ghost use Rattle.tide_hands.specs.Seats.{IsIdle};
 
 use crate::parcel::Parcel;
@@ -57,8 +57,9 @@ pub(crate) fn give<T, N, I, P: Parcels<T, N, I>, K: Keyed<I>>(
     requires within { (place < table.now.table_id.words) × (place < table.now.table_id.slots) }
     requires holds { seat.old.me.0.out ≡ suc place }
     requires its { seat.old.me.0.keeper ≡ false → place ≡ seat.old.me.0.place }
-    requires lies { Lies P.ticket_ok P.note_ok seat.old.me.0.name place word seat.old.me.1 }
-    requires ends { seat.old.me.0.keeper ≡ false → is_end word ≡ true → seat.old.me.0.over ≡ true }
+    requires moves { is_move seat.old.me.0.found word ≡ true }
+    requires lies { Lies P.ticket_ok P.note_ok seat.old.me.0.name place (round_after place word seat.old.me.0) word
+        seat.old.me.1 }
     ensures same { (seat.new.table_id ≡ seat.old.table_id) × (seat.new.id ≡ seat.old.id) }
     ensures gave { seat.new.me ≡ (resting word seat.old.me.0, []) }
 {
@@ -79,8 +80,9 @@ pub(crate) fn put<T, N, I, P: Parcels<T, N, I>, K: Keyed<I>>(
     requires holds { seat.old.me.0.out ≡ suc place }
     requires slot { (old : _) × (seat.old.me.1 ≡ (place, old) ∷ []) }
     requires its { seat.old.me.0.keeper ≡ false → place ≡ seat.old.me.0.place }
-    requires content { Content P.ticket_ok P.note_ok seat.old.me.0.name place word parcel }
-    requires ends { seat.old.me.0.keeper ≡ false → is_end word ≡ true → seat.old.me.0.over ≡ true }
+    requires moves { is_move seat.old.me.0.found word ≡ true }
+    requires content { Content P.ticket_ok P.note_ok seat.old.me.0.name place (round_after place word seat.old.me.0) word
+        parcel }
     ensures same { (seat.new.table_id ≡ seat.old.table_id) × (seat.new.id ≡ seat.old.id) }
     ensures gave { seat.new.me ≡ (resting word seat.old.me.0, []) }
     ensures came { seat.old.me.1 ≡ (place, result) ∷ [] }

@@ -7,12 +7,12 @@ use crate::view::HandView;
 use atomic_table::{Shared, TableRule};
 use std::marker::PhantomData;
 
-/// What a ticket and a note that lie in a slot are, by the name of what they are of. A note is that of a place, and has
-/// a flag beside it.
+/// What a ticket and a note that lie in a slot are, by the name of what they are of, and by a number: the tickets of a
+/// place are numbered from 1, and a note has that of its ticket. A note is that of a place, and has a flag beside it.
 pub trait Parcels<T, N, I> {
-    ghost ticket_ok: { I → T → Type 0 };
+    ghost ticket_ok: { I → ℕ → T → Type 0 };
 
-    ghost note_ok: { I → ℕ → N → Bool → Type 0 };
+    ghost note_ok: { I → ℕ → ℕ → N → Bool → Type 0 };
 }
 
 /// What a table is made for: a name, and how many members there are.

@@ -13,6 +13,11 @@ pub struct HandView<I> {
     pub next: u64,
     /// The keeper's: places at which a ticket is due, as far as it knows.
     pub free: LinkedList<u64>,
+    /// The keeper's: places at which it posted a ticket, and of which it took a note, each as often as it did.
+    pub tickets: LinkedList<u64>,
+    pub notes: LinkedList<u64>,
+    /// The keeper's: places at which it posted an end.
+    pub ends: LinkedList<u64>,
     /// An end was posted, as far as it knows.
     pub over: bool,
     /// A member's: it has taken a ticket, and its note is due.

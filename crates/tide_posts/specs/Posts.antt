@@ -16,9 +16,10 @@ pub record TicketTells (layout : Layout) (u : View) : Type 0 where
   pub some : 0 < u.run
   pub marking : u.marks ≡ marks_after layout u.seen
 
--- it is of the heap
-pub record IsTicketFor (name : Name) (ticket : Ticket) : Type 0 where
+-- it is of the heap, and of the part with this number
+pub record IsTicketFor (name : Name) (number : ℕ) (ticket : Ticket) : Type 0 where
   pub of_heap : ticket.seat.table_id ≡ name.table_id
+  pub part : ticket.seat.me.0.period ≡ number
   pub tells : TicketTells name.layout ticket.seat.me.0
 
 -- a mutator's note tells that it made its share, and whether its last call ended that
@@ -32,9 +33,10 @@ pub record VisitorTells (layout : Layout) (u : View) (ended : Bool) : Type 0 whe
   pub stays : u.left ≡ false
   pub none : ended ≡ false
 
--- a note is of the heap, and of the participant at a place, which has done its part
-pub record IsNoteFor (name : Name) (place : ℕ) (note : Note) (ended : Bool) : Type 0 where
+-- a note is of the heap, of the part with this number, and of the participant at a place, which has done its part
+pub record IsNoteFor (name : Name) (place number : ℕ) (note : Note) (ended : Bool) : Type 0 where
   pub of_heap : note.seat.table_id ≡ name.table_id
+  pub part : note.seat.me.0.period ≡ number
   pub is : note.seat.me.0.who ≡ who_at name.layout place
   pub begun : note.seat.me.0.begun ≡ note.seat.me.0.period
   pub done : note.seat.me.0.done ≡ true

@@ -1,5 +1,5 @@
 -- A keeper stands once it has opened the first part.
-use Rattle.std.proofs.Common.{ℕ, zero, suc, ◌≡◌, ◌+◌, ◌<◌, ◌∙◌, refl, sym, ap, subst, arith, Bool, true, false, not, [], ◌∷◌, ◌++◌, get_or, replicate, true≢false}
+use Rattle.std.proofs.Common.{ℕ, zero, suc, ◌≡◌, ◌+◌, ◌<◌, ◌∙◌, refl, sym, ap, subst, arith, Bool, true, false, not, List, [], ◌∷◌, ◌++◌, get_or, replicate, true≢false}
 use Rattle.std.specs.Prelude.{◌||◌, ◌&&◌, if◌then◌else◌, nat_lt}
 use Rattle.atomic_table.specs.Seated.{TableId}
 use Rattle.tide_model.specs.Freeze.{marks_after}
@@ -10,14 +10,14 @@ use Rattle.tide_model.specs.Periods.{no_period}
 use Rattle.tide_model.specs.Refused.{ShapeLists}
 use Rattle.tide_model.specs.declared.entry.Entry.TheVariants.{Open}
 use Rattle.tide_posts.specs.Name.{places}
-use Rattle.tide_posts.specs.Among.{Among}
+use Rattle.tide_posts.specs.Among.{Among, times}
 use Rattle.tide_posts.specs.tide_heap.Parties.{In}
 use Rattle.tide_posts.specs.tide_heap.Turns.{opened}
 use Rattle.tide_posts.specs.tide_heap.tide_core.declared.machine.view.View.{View}
 use Rattle.tide_posts.specs.tide_heap.tide_freeze.Books.{AreBooks}
 use Rattle.tide_server.proofs.Tickets.{TicketTells-first}
 use Rattle.tide_server.proofs.Frozen.{KeeperStands-opened}
-use Rattle.tide_server.specs.Keepers.{AreLeft, IsKeeperOf, KeeperStands, has_left, ticket_count, view_of}
+use Rattle.tide_server.specs.Keepers.{AreLeft, HasNoEnd, IsKeeperOf, KeeperStands, has_left, ticket_count, view_of}
 use Rattle.tide_server.specs.declared.keeper.Keeper.{Keeper}
 use Rattle.tide_table.proofs.Nexts.{HasOpenedNext-first}
 use Rattle.tide_table.specs.Started.{IsStarted}
@@ -77,8 +77,10 @@ module _ (layout : Layout) (shapes : ShapeLists) (heap hands : TableId) (k : Kee
   pub KeeperStands-first : 0 < layout.mutators → AreBooks layout [] k.books → IsKeeperOf layout heap hands k → k.next ≡ 0 →
       k.ended ≡ false → k.left ≡ replicate 16 false →
       ((place : ℕ) → has_left layout k.left place ≡ true → Among place k.seat.seat.me.0.free) →
-      k.seat.seat.me.0.over ≡ false → KeeperStands layout heap hands k
-  KeeperStands-first many are of next ended left due no_end =
+      ((place : ℕ) → place < places layout →
+      times place k.seat.seat.me.0.tickets ≡ (if has_left layout k.left place then 0 else 1)) →
+      k.seat.seat.me.0.notes ≡ [] → HasNoEnd k → KeeperStands layout heap hands k
+  KeeperStands-first many are of next ended left due tickets notes no_end =
       KeeperStands-opened layout heap hands k [] of
       (HasOpenedNext-first layout shapes run k.books start (view_of k) started is are).runs no_period
       (ap not (any_true layout.mutators many))
@@ -86,4 +88,9 @@ module _ (layout : Layout) (shapes : ShapeLists) (heap hands : TableId) (k : Kee
       (subst (λ (v : View). v.marks ≡ marks_after layout v.start) (sym is)
       (TicketTells-first layout shapes start run started some).marking)
       (ap (λ (v : View). v.visited) is) (ap (λ (v : View). v.done) is) next ended
-      (subst (AreLeft layout (view_of k) 0) (sym left) left_none) due no_end
+      (subst (AreLeft layout (view_of k) 0) (sym left) left_none) due
+      (λ place below isnt. tickets place below ∙ ap {B = ℕ} (λ (b : Bool). if b then 0 else 1) isnt ∙ sym first)
+      (λ place below isnt. ap (λ (l : List ℕ). times place l + 1) notes ∙ sym first) no_end
+    where
+      first : (view_of k).period ≡ 1
+      first = ap (λ (v : View). v.period) is ∙ ap (λ (n : ℕ). n + 1) started.period

@@ -1,8 +1,8 @@
 -- What a freeze makes of the open part, and what the next part begins with.
-use Rattle.std.proofs.Common.{ℕ, ◌≡◌, ◌↔◌, ◌+◌, ◌-◌, ◌<◌, ◌^◌, ◌∙◌, refl, sym, ap, subst, arith, Bool, true, false, not, List, [], ◌∷◌, ◌++◌, append_assoc, get_or, inl, inr}
+use Rattle.std.proofs.Common.{ℕ, ◌≡◌, ◌↔◌, ◌+◌, ◌-◌, ◌<◌, ◌^◌, ◌∙◌, refl, sym, ap, subst, arith, Bool, true, false, not, List, [], ◌∷◌, ◌++◌, append_assoc, get_or, inl, inr, le-ltb, lt-ltb}
 use Rattle.std.proofs.lemmas.List.Sums.{AllPass-from_list_all}
 use Rattle.std.specs.List.{list_all}
-use Rattle.std.specs.Prelude.{◌⊎◌}
+use Rattle.std.specs.Prelude.{◌⊎◌, if◌then◌else◌}
 use Rattle.atomic_table.specs.Seated.{TableId}
 use Rattle.tide_model.proofs.DeadLaws.{calls_where_marking}
 use Rattle.tide_model.proofs.Histories.{state_after-push, state_from-append}
@@ -27,7 +27,7 @@ use Rattle.tide_posts.proofs.tide_heap.tide_freeze.FreezeLaws.{periods_go_on}
 use Rattle.tide_posts.proofs.tide_heap.tide_freeze.QuietLaws.{HasFrozenWhole-quiet, kept_by_quiet}
 use Rattle.tide_posts.specs.Name.{places}
 use Rattle.tide_posts.specs.Posts.{TicketTells}
-use Rattle.tide_posts.specs.Among.{Among}
+use Rattle.tide_posts.specs.Among.{Among, times}
 use Rattle.tide_posts.specs.tide_heap.Parties.{In}
 use Rattle.tide_posts.specs.tide_heap.Turns.{Freezes, open_entry, opened}
 use Rattle.tide_posts.specs.tide_heap.tide_core.declared.machine.view.NotedVisits.{NotedVisits}
@@ -41,7 +41,7 @@ use Rattle.tide_sched.proofs.RunLaws.{last_run-opened, last_run-same}
 use Rattle.tide_sched.specs.Paces.{last_run, pace_of}
 use Rattle.tide_sched.specs.declared.pacing.Pacing.{Pacing}
 use Rattle.tide_server.proofs.Ending.{has_done, is_over-here, lawful, shares_here}
-use Rattle.tide_server.specs.Keepers.{AreLeft, IsKeeperOf, KeeperStands, NotesAreIn, has_left, ticket_count, view_of}
+use Rattle.tide_server.specs.Keepers.{AreLeft, HasNoEnd, IsKeeperOf, KeeperStands, NotesAreIn, has_left, ticket_count, view_of}
 use Rattle.tide_server.specs.Turned.{HasFinished, HasFrozenPart, HasOpenedPart, HasPostedEnds, HasSpentParts, MakesPeriod}
 use Rattle.tide_server.specs.declared.keeper.Keeper.{Keeper}
 use Rattle.tide_table.proofs.Nexts.{AddsEnds-next, HasOpenedNext-by}
@@ -95,8 +95,11 @@ pub KeeperStands-opened : (layout : Layout) (heap hands : TableId) (k : Keeper) 
     (view_of k).marks ≡ marks_after layout (view_of k).start → (view_of k).visited ≡ [] → (view_of k).done ≡ true →
     k.next ≡ 0 → k.ended ≡ false → AreLeft layout (view_of k) 0 k.left →
     ((place : ℕ) → has_left layout k.left place ≡ true → Among place k.seat.seat.me.0.free) →
-    k.seat.seat.me.0.over ≡ false → KeeperStands layout heap hands k
-KeeperStands-opened layout heap hands k before of runs periods goes_on is marking none done next ended left due no_end = record {
+    ((place : ℕ) → place < places layout → has_left layout k.left place ≡ false →
+    times place k.seat.seat.me.0.tickets ≡ (view_of k).period) →
+    ((place : ℕ) → place < places layout → has_left layout k.left place ≡ false →
+    times place k.seat.seat.me.0.notes + 1 ≡ (view_of k).period) → HasNoEnd k → KeeperStands layout heap hands k
+KeeperStands-opened layout heap hands k before of runs periods goes_on is marking none done next ended left due rounds noted no_end = record {
   of = of;
   runs = runs;
   before = before;
@@ -109,6 +112,9 @@ KeeperStands-opened layout heap hands k before of runs periods goes_on is markin
       (subst (NotesAreIn layout (view_of k) 0) (sym ended) (NotesAreIn-none layout (view_of k) none done));
   left = subst (λ (n : ℕ). AreLeft layout (view_of k) n k.left) (sym next) left;
   due = λ place is. by place is;
+  rounds = rounds;
+  noted = λ place below isnt. ap (λ (b : Bool). times place k.seat.seat.me.0.notes + (if b then 0 else 1))
+      (le-ltb place k.next (omega (arith, next))) ∙ noted place below isnt;
   no_end = no_end;
 }
   where
@@ -175,6 +181,9 @@ module _ (layout : Layout) (shapes : ShapeLists) (heap hands : TableId) (k : Kee
   run_now : last_run u.seen ≡ next_run pace layout stands.before
   run_now = ap last_run seen_is ∙ last_run-same v.start froze.part (no_opens froze.part froze.of_part) ∙ ap last_run stands.opened
       ∙ last_run-opened stands.before (open_count stands.before + 1) (next_run pace layout stands.before)
+
+  pub period_is : w.period ≡ v.period
+  period_is = ap (λ (x : View). x.period) did.collected.rest ∙ ap (λ (x : View). x.period) froze.view
 
   -- the freeze made a whole period of the part
   pub MakesPeriod-frozen : forces ≡ is_forced layout (opened_history pace layout stands.before) froze.part →
@@ -250,7 +259,7 @@ module _ (layout : Layout) (shapes : ShapeLists) (heap hands : TableId) (k : Kee
   HasSpentParts-frozen final same makes goes_on last posted = record {
     makes = subst (MakesPeriod layout shapes k) (sym seen_now) makes;
     goes_on = ap (is_over layout) seen_now ∙ is_over-frozen ∙ ap not goes_on;
-    last = sym (ap (λ (x : View). x.period) did.collected.rest ∙ ap (λ (x : View). x.period) froze.view) ∙ last;
+    last = sym period_is ∙ last;
     posted = posted;
     told = subst (λ (h : List Event). AddsEnds layout v.start h report longer) (sym seen_now) AddsEnds-frozen;
   }
@@ -293,12 +302,14 @@ module _ (layout : Layout) (shapes : ShapeLists) (heap hands : TableId) (k : Kee
         gone_now = ap (λ (y : View). y.gone) is_opened ∙ gone_is
 
     pub HasOpenedPart-frozen : IsKeeperOf layout heap hands final → final.next ≡ 0 → final.ended ≡ false →
-        final.left ≡ k.left → final.seat.seat.me.0.over ≡ false →
+        final.left ≡ k.left → HasNoEnd final →
         final.seat.seat.me.0.given ≡ k.seat.seat.me.0.given + ticket_count layout k.left →
         ((place : ℕ) → has_left layout k.left place ≡ true → Among place final.seat.seat.me.0.free) →
-        MakesPeriod layout shapes k w.seen → any_below (λ who. not (get_or k.left who false)) layout.mutators ≡ true →
+        ((place : ℕ) → place < places layout → times place final.seat.seat.me.0.tickets
+        ≡ times place k.seat.seat.me.0.tickets + (if has_left layout k.left place then 0 else 1)) →
+        final.seat.seat.me.0.notes ≡ k.seat.seat.me.0.notes → MakesPeriod layout shapes k w.seen → any_below (λ who. not (get_or k.left who false)) layout.mutators ≡ true →
         HasOpenedPart layout shapes heap hands k final report longer
-    HasOpenedPart-frozen of none ended left no_end posted due makes goes_on = record {
+    HasOpenedPart-frozen of none ended left no_end posted due tickets notes makes goes_on = record {
       after = w.seen;
       makes = makes;
       goes_on = over;
@@ -314,13 +325,36 @@ module _ (layout : Layout) (shapes : ShapeLists) (heap hands : TableId) (k : Kee
           (subst (λ (p : Pacing). ArePeriods (pace_of p) layout w.seen) (sym same_pacing) makes.periods) over
           (subst (λ (p : Pacing). x.start ≡ opened_history (pace_of p) layout w.seen) (sym same_pacing) start_is) marking next.visited
           next.done none ended (subst (AreLeft layout x 0) (sym left) left_now)
-          (λ place is. due place (ap (λ (l : List Bool). has_left layout l place) (sym left) ∙ is)) no_end;
+          (λ place is. due place (ap (λ (l : List Bool). has_left layout l place) (sym left) ∙ is)) rounds noted no_end;
       posted = posted ∙ ap (λ (l : List Bool). k.seat.seat.me.0.given + ticket_count layout l) (sym left);
       told = AddsEnds-next layout shapes run report longer v u w x froze did.told is_opened;
     }
       where
         same_pacing : final.books.pacing ≡ k.books.pacing
         same_pacing = ap (λ (b : Books). b.pacing) same_books ∙ pacing
+
+        stays : (place : ℕ) → has_left layout final.left place ≡ false → has_left layout k.left place ≡ false
+        stays place isnt = ap (λ (l : List Bool). has_left layout l place) (sym left) ∙ isnt
+
+        -- each got one more ticket
+        rounds : (place : ℕ) → place < places layout → has_left layout final.left place ≡ false →
+            times place final.seat.seat.me.0.tickets ≡ x.period
+        rounds place below isnt =
+            let more = tickets place below in
+            let one = ap {B = ℕ} (λ (b : Bool). if b then 0 else 1) (stays place isnt) in
+            let were = stands.rounds place below (stays place isnt) in
+            let period = next.period in
+            omega (arith, more, one, were, period)
+
+        -- and of each the note of the part before was in
+        noted : (place : ℕ) → place < places layout → has_left layout final.left place ≡ false →
+            times place final.seat.seat.me.0.notes + 1 ≡ x.period
+        noted place below isnt =
+            let same = ap (times place) notes in
+            let were = stands.noted place below (stays place isnt) in
+            let in_it = ap {B = ℕ} (λ (b : Bool). if b then 0 else 1) (lt-ltb place k.next (omega (arith, below, all))) in
+            let period = next.period in
+            omega (arith, same, were, in_it, period)
 
         over : is_over layout w.seen ≡ false
         over = is_over-frozen ∙ ap not goes_on

@@ -16,12 +16,13 @@ use Rattle.tide_table.specs.VisitsTold.{most_visits}
 use Rattle.tide_visitor.specs.Visits.{visit_frame}
 
 -- the note of a mutator that made its share
-pub IsNoteFor-mutator : (name : Name) (place : ℕ) (note : Note) (v : View) (ended : Bool) →
+pub IsNoteFor-mutator : (name : Name) (place number : ℕ) (note : Note) (v : View) (ended : Bool) →
     note.seat.table_id ≡ name.table_id → note.seat.me.0 ≡ note_of true (stopped_view v) → v.who ≡ place →
-    place < name.layout.mutators → v.begun ≡ v.ticket → v.visits ≡ 0 →
-    HasShared v.who v.ticket v.run v.seen v.mine v.left ended → IsNoteFor name place note ended
-IsNoteFor-mutator name place note v ended of_heap is its below begun still shared = record {
+    place < name.layout.mutators → v.begun ≡ v.ticket → v.ticket ≡ number → v.visits ≡ 0 →
+    HasShared v.who v.ticket v.run v.seen v.mine v.left ended → IsNoteFor name place number note ended
+IsNoteFor-mutator name place number note v ended of_heap is its below begun part still shared = record {
   of_heap = of_heap;
+  part = ap (λ (u : View). u.period) is ∙ part;
   is = ap (λ (u : View). u.who) is ∙ its ∙ sym (ap (λ (b : Bool). if b then place else first_visitor + (place - name.layout.mutators)) first);
   begun = ap (λ (u : View). u.begun) is ∙ begun ∙ sym (ap (λ (u : View). u.period) is);
   done = ap (λ (u : View). u.done) is;
@@ -34,18 +35,19 @@ IsNoteFor-mutator name place note v ended of_heap is its below begun still share
 
 -- The note of a visitor that began with the view `u` the part of a ticket with the view `t`, and visited up to the view
 -- `w`.
-module _ (name : Name) (place : ℕ) (note : Note) (v t u w : View) {done : Bool} {found : ℕ}
+module _ (name : Name) (place number : ℕ) (note : Note) (v t u w : View) {done : Bool} {found : ℕ}
     (of_heap : note.seat.table_id ≡ name.table_id) (first : u ≡ begun_first v t) (kept : visit_frame w ≡ visit_frame u)
     (most : w.visits ≤ most_visits u)
     (is : note.seat.me.0 ≡ note_of done (stopped_view (record w { held = []; found = found }))) where
   abbrev at_last : View
   at_last = note.seat.me.0
 
-  pub IsNoteFor-visitor : TicketTells name.layout t → v.who ≡ who_at name.layout place → name.layout.mutators ≤ place →
+  pub IsNoteFor-visitor : TicketTells name.layout t → t.period ≡ number → v.who ≡ who_at name.layout place → name.layout.mutators ≤ place →
       IsPrefix t.seen u.seen → v.left ≡ false → note.seat.me.0.done ≡ true → note.seat.me.0.visits ≡ w.visits →
-      IsNoteFor name place note false
-  IsNoteFor-visitor tells who behind told stays has_done visits = record {
+      IsNoteFor name place number note false
+  IsNoteFor-visitor tells part who behind told stays has_done visits = record {
     of_heap = of_heap;
+    part = period ∙ part;
     is = ap (λ (x : View). x.who) is ∙ ap (λ (x : View). x.who) kept ∙ ap (λ (x : View). x.who) first ∙ who;
     begun = ap (λ (x : View). x.begun) is ∙ ap (λ (x : View). x.begun) kept ∙ ap (λ (x : View). x.begun) first
         ∙ sym (ap (λ (x : View). x.period) is ∙ ap (λ (x : View). x.ticket) kept ∙ ap (λ (x : View). x.ticket) first);

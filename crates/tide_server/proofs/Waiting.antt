@@ -1,5 +1,5 @@
 -- A keeper whose part is open goes on, place by place.
-use Rattle.std.proofs.Common.{ℕ, suc, ◌≡◌, ◌+◌, ◌-◌, ◌<◌, ◌≤◌, ◌∙◌, refl, sym, ap, subst, arith, Bool, true, false, List, get_or, set, length, get_or-set_other, inl, inr, ◌⊎◌, lt-ltb, le-ltb, true≢false}
+use Rattle.std.proofs.Common.{ℕ, suc, ◌≡◌, ◌+◌, ◌-◌, ◌<◌, ◌≤◌, ◌∙◌, refl, sym, ap, subst, arith, Bool, true, false, List, ◌∷◌, get_or, set, length, get_or-set_other, inl, inr, ◌⊎◌, lt-ltb, le-ltb, true≢false}
 use Rattle.std.proofs.lemmas.Bool.{and_parts, cases_eq, ltb-true}
 use Rattle.std.specs.Prelude.{◌||◌, ◌&&◌, MatchBool, if◌then◌else◌, nat_lt}
 use Rattle.atomic_table.specs.Seated.{TableId}
@@ -8,7 +8,7 @@ use Rattle.tide_model.specs.Layout.{Layout}
 use Rattle.tide_model.specs.Periods.{ArePeriods, opened}
 use Rattle.tide_posts.specs.Name.{Name, places}
 use Rattle.tide_posts.specs.Posts.{IsNoteFor, MutatorTells, VisitorTells}
-use Rattle.tide_posts.specs.Among.{Among}
+use Rattle.tide_posts.specs.Among.{Among, times}
 use Rattle.tide_posts.specs.tide_hands.Seats.{frame}
 use Rattle.tide_posts.specs.tide_hands.declared.view.HandView.{HandView}
 use Rattle.tide_posts.specs.tide_heap.Parties.{In}
@@ -18,6 +18,7 @@ use Rattle.tide_posts.specs.tide_heap.tide_core.declared.machine.view.View.{View
 use Rattle.tide_posts.specs.tide_heap.tide_core.machine.World.{first_visitor}
 use Rattle.tide_posts.specs.tide_heap.tide_freeze.declared.books.Books.{Books}
 use Rattle.tide_sched.specs.Paces.{pace_of}
+use Rattle.tide_server.proofs.Handing.{out-more, out-one, out_of}
 use Rattle.tide_server.proofs.Noted.{AreLeft-later, AreLeft-mutator, AreLeft-visitor, NotesAreIn-left, NotesAreIn-told, NotesAreIn-visited, or_false}
 use Rattle.tide_server.specs.Keepers.{AreLeft, HadLeft, KeeperStands, NotesAreIn, has_left, view_of}
 use Rattle.tide_server.specs.Turned.{IsWaiting}
@@ -25,6 +26,10 @@ use Rattle.tide_server.specs.declared.keeper.Keeper.{Keeper}
 use Rattle.tide_table.proofs.Nexts.{RunsWith-noted}
 use Rattle.tide_table.specs.Standing.{RunsWith}
 use Rattle.tide_table.specs.declared.collector.Collector.{Collector}
+
+and_false : (b : Bool) → (b && false) ≡ false
+and_false true = refl
+and_false false = refl
 
 one_more : (n : ℕ) → suc n ≡ n + 1
 one_more n = omega arith
@@ -35,8 +40,15 @@ module _ (layout : Layout) (heap hands : TableId) (k : Keeper) (stands : KeeperS
     pub seated : now.seat.seat.table_id ≡ k.seat.seat.table_id
     pub kept : frame now.seat.seat.me.0 ≡ frame k.seat.seat.me.0
     pub over : now.seat.seat.me.0.over ≡ k.seat.seat.me.0.over
+    pub ends : now.seat.seat.me.0.ends ≡ k.seat.seat.me.0.ends
     pub given : now.seat.seat.me.0.given ≡ k.seat.seat.me.0.given
+    pub tickets : now.seat.seat.me.0.tickets ≡ k.seat.seat.me.0.tickets
     pub free : (q : ℕ) → Among q k.seat.seat.me.0.free → Among q now.seat.seat.me.0.free
+
+  -- of each place whose participant hasn't left the note of the open part was taken, or is out
+  abbrev pub AreNoted : Keeper → Type 0
+  AreNoted now = (place : ℕ) → place < places layout → has_left layout now.left place ≡ false →
+      times place now.seat.seat.me.0.notes + out_of now.next place ≡ (view_of k).period
 
   -- the part is the same, and more notes are in
   IsWaiting-by : (now : Keeper) → HasLooked now → now.collector.seat.table_id ≡ k.collector.seat.table_id →
@@ -44,8 +56,9 @@ module _ (layout : Layout) (heap hands : TableId) (k : Keeper) (stands : KeeperS
       (view_of now).period ≡ (view_of k).period → (view_of now).marks ≡ (view_of k).marks → now.next ≤ places layout →
       NotesAreIn layout (view_of now) now.next now.ended → AreLeft layout (view_of now) now.next now.left →
       ((place : ℕ) → (place < now.next) ⊎ (has_left layout now.left place ≡ true) → Among place now.seat.seat.me.0.free) →
+      ((place : ℕ) → has_left layout now.left place ≡ false → has_left layout k.left place ≡ false) → AreNoted now →
       IsWaiting layout heap hands k now
-  IsWaiting-by now looked table books runs start period marks within notes left due = record {
+  IsWaiting-by now looked table books runs start period marks within notes left due stays are_noted = record {
     stands = record {
       of = record {
         table = table ∙ stands.of.table;
@@ -62,7 +75,9 @@ module _ (layout : Layout) (heap hands : TableId) (k : Keeper) (stands : KeeperS
       notes = notes;
       left = left;
       due = due;
-      no_end = looked.over ∙ stands.no_end;
+      rounds = λ place below isnt. ap (times place) looked.tickets ∙ stands.rounds place below (stays place isnt) ∙ sym period;
+      noted = λ place below isnt. are_noted place below isnt ∙ sym period;
+      no_end = (looked.over ∙ stands.no_end.0, looked.ends ∙ stands.no_end.1);
     };
     start = start;
     period = period;
@@ -71,9 +86,9 @@ module _ (layout : Layout) (heap hands : TableId) (k : Keeper) (stands : KeeperS
   }
 
   -- nothing was found
-  pub IsWaiting-same : (now : Keeper) → HasLooked now → now.collector ≡ k.collector → now.books ≡ k.books →
+  pub IsWaiting-same : (now : Keeper) → HasLooked now → now.seat.seat.me.0.notes ≡ k.seat.seat.me.0.notes → now.collector ≡ k.collector → now.books ≡ k.books →
       now.next ≡ k.next → now.ended ≡ k.ended → now.left ≡ k.left → IsWaiting layout heap hands k now
-  IsWaiting-same now looked collector books next ended left =
+  IsWaiting-same now looked took collector books next ended left =
       IsWaiting-by now looked (ap (λ (c : Collector). c.seat.table_id) collector) books
       (subst (RunsWith layout k.books) (sym same) stands.runs)
       (ap (λ (v : View). v.start) same) (ap (λ (v : View). v.period) same) (ap (λ (v : View). v.marks) same)
@@ -85,6 +100,9 @@ module _ (layout : Layout) (heap hands : TableId) (k : Keeper) (stands : KeeperS
       (subst (λ (n : ℕ). AreLeft layout (view_of k) n now.left) (sym next)
       (subst (AreLeft layout (view_of k) k.next) (sym left) stands.left)))
       (λ place is. looked.free place (stands.due place (had place is)))
+      (λ place isnt. ap (λ (l : List Bool). has_left layout l place) (sym left) ∙ isnt)
+      (λ place below isnt. (λ i. times place (took i) + out_of (next i) place)
+      ∙ stands.noted place below (ap (λ (l : List Bool). has_left layout l place) (sym left) ∙ isnt))
     where
       same : view_of now ≡ view_of k
       same = ap (λ (c : Collector). c.seat.me.0) collector
@@ -95,19 +113,21 @@ module _ (layout : Layout) (heap hands : TableId) (k : Keeper) (stands : KeeperS
       had place (inr is) = inr (ap (λ (l : List Bool). has_left layout l place) (sym left) ∙ is)
 
   -- a mutator had left
-  pub IsWaiting-left : (place : ℕ) (period_is : k.period ≡ (view_of k).period) → k.next ≡ place →
-      has_left layout k.left place ≡ true →
-      IsWaiting layout heap hands k (record k { next = place + 1; period_is = period_is })
-  IsWaiting-left place period_is next has =
-      IsWaiting-by (record k { next = place + 1; period_is = period_is })
-      (record { seated = refl; kept = refl; over = refl; given = refl; free = λ q e. e }) refl refl stands.runs refl refl refl
+  pub IsWaiting-left : (place : ℕ) → k.next ≡ place → has_left layout k.left place ≡ true →
+      IsWaiting layout heap hands k (record k { next = place + 1 })
+  IsWaiting-left place next has =
+      IsWaiting-by (record k { next = place + 1 })
+      (record { seated = refl; kept = refl; over = refl; ends = refl; given = refl; tickets = refl; free = λ q e. e }) refl refl stands.runs refl refl refl
       (omega (arith, below))
       (subst (λ (n : ℕ). NotesAreIn layout (view_of k) n k.ended) (one_more place)
       (NotesAreIn-left layout (view_of k) place k.ended below had
       (subst (λ (n : ℕ). NotesAreIn layout (view_of k) n k.ended) next stands.notes)))
       (subst (λ (n : ℕ). AreLeft layout (view_of k) n k.left) (one_more place)
       (AreLeft-later layout (view_of k) place k.left (subst (λ (n : ℕ). AreLeft layout (view_of k) n k.left) next stands.left)))
-      (λ q e. stands.due q (was q e))
+      (λ q e. stands.due q (was q e)) (λ q isnt. isnt)
+      (λ q below isnt. ap (λ (n : ℕ). times q k.seat.seat.me.0.notes + n)
+      (out-more place q (λ same. true≢false (sym has ∙ ap (has_left layout k.left) (sym same) ∙ isnt))
+      ∙ ap (λ (n : ℕ). out_of n q) (sym next)) ∙ stands.noted q below isnt)
     where
       parts : (nat_lt place layout.mutators ≡ true) × (get_or k.left place false ≡ true)
       parts = and_parts (nat_lt place layout.mutators) (get_or k.left place false) has
@@ -136,7 +156,7 @@ module _ (layout : Layout) (heap hands : TableId) (k : Keeper) (stands : KeeperS
   -- a note of the part was taken in
   module _ (place : ℕ) (next : k.next ≡ place) (within : place < places layout) (few : layout.mutators ≤ 16)
       (long : length k.left ≡ 16) (note : Note) (ends : Bool)
-      (told : IsNoteFor (record { layout = layout; table_id = heap }) place note ends) where
+      (number : ℕ) (told : IsNoteFor (record { layout = layout; table_id = heap }) place number note ends) where
     abbrev u : View
     u = note.seat.me.0
 
@@ -156,17 +176,24 @@ module _ (layout : Layout) (heap hands : TableId) (k : Keeper) (stands : KeeperS
         was apart (inl less) = inl (omega (arith, less, later, next, apart))
         was apart (inr is) = inr (sym (same q apart) ∙ is)
 
+    -- and the note of this place was taken
+    noted_now : (now : Keeper) → now.seat.seat.me.0.notes ≡ place ∷ k.seat.seat.me.0.notes → now.next ≡ place + 1 →
+        ((q : ℕ) → has_left layout now.left q ≡ false → has_left layout k.left q ≡ false) → AreNoted now
+    noted_now now took later stays q below isnt = ap (λ (n : ℕ). times q now.seat.seat.me.0.notes + out_of n q) later
+        ∙ out-one place q v.period k.seat.seat.me.0.notes now.seat.seat.me.0.notes took
+        (ap (λ (n : ℕ). times q k.seat.seat.me.0.notes + out_of n q) (sym next) ∙ stands.noted q below (stays q isnt))
+
     notes_were : NotesAreIn layout v place k.ended
     notes_were = subst (λ (n : ℕ). NotesAreIn layout v n k.ended) next stands.notes
 
     left_were : AreLeft layout v place k.left
     left_were = subst (λ (n : ℕ). AreLeft layout v n k.left) next stands.left
 
-    pub IsWaiting-told : (now : Keeper) → HasLooked now → Among place now.seat.seat.me.0.free →
+    pub IsWaiting-told : (now : Keeper) → HasLooked now → now.seat.seat.me.0.notes ≡ place ∷ k.seat.seat.me.0.notes → Among place now.seat.seat.me.0.free →
         now.collector.seat.table_id ≡ k.collector.seat.table_id → view_of now ≡ noted v u → now.books ≡ k.books →
         now.next ≡ place + 1 → now.ended ≡ (k.ended || ends) → now.left ≡ set k.left place u.left → place < layout.mutators →
         get_or k.left place false ≡ false → u.period ≡ v.period → IsWaiting layout heap hands k now
-    IsWaiting-told now looked here table is books later ended left below stays period =
+    IsWaiting-told now looked took here table is books later ended left below stays period =
         IsWaiting-by now looked table books (subst (RunsWith layout k.books) (sym is) (RunsWith-noted layout k.books v u stands.runs))
         (ap (λ (x : View). x.start) is) (ap (λ (x : View). x.period) is) (ap (λ (x : View). x.marks) is) (omega (arith, later, within))
         (subst (λ (x : View). NotesAreIn layout x now.next now.ended) (sym is)
@@ -182,7 +209,17 @@ module _ (layout : Layout) (heap hands : TableId) (k : Keeper) (stands : KeeperS
         (subst (λ (n : ℕ). In n v.gone → ⊥) (sym who) isnt) left_were)))))
         (due_now now looked here later (λ q apart. ap (λ (l : List Bool). has_left layout l q) left
         ∙ ap (λ (b : Bool). nat_lt q layout.mutators && b) (get_or-set_other k.left place q u.left false apart)))
+        left_before (noted_now now took later left_before)
       where
+        -- who hasn't left now hadn't before
+        left_before : (q : ℕ) → has_left layout now.left q ≡ false → has_left layout k.left q ≡ false
+        left_before q isnt_now = elim (cases_eq q place) [
+          | inl same ↦ ap (has_left layout k.left) same ∙ ap (λ (b : Bool). nat_lt place layout.mutators && b) stays
+              ∙ and_false (nat_lt place layout.mutators)
+          | inr apart ↦ sym (ap (λ (b : Bool). nat_lt q layout.mutators && b) (get_or-set_other k.left place q u.left false apart))
+              ∙ ap (λ (l : List Bool). has_left layout l q) (sym left) ∙ isnt_now
+        ]
+
         is_mutator : nat_lt place layout.mutators ≡ true
         is_mutator = lt-ltb place layout.mutators below
 
@@ -195,11 +232,11 @@ module _ (layout : Layout) (heap hands : TableId) (k : Keeper) (stands : KeeperS
         isnt : In place v.gone → ⊥
         isnt e = true≢false (sym ((stands.left.known place below).1 e) ∙ stays)
 
-    pub IsWaiting-visited : (now : Keeper) → HasLooked now → Among place now.seat.seat.me.0.free →
+    pub IsWaiting-visited : (now : Keeper) → HasLooked now → now.seat.seat.me.0.notes ≡ place ∷ k.seat.seat.me.0.notes → Among place now.seat.seat.me.0.free →
         now.collector.seat.table_id ≡ k.collector.seat.table_id → view_of now ≡ noted v u → now.books ≡ k.books →
         now.next ≡ place + 1 → now.ended ≡ (k.ended || ends) → now.left ≡ k.left → layout.mutators ≤ place →
         u.period ≡ v.period → IsWaiting layout heap hands k now
-    IsWaiting-visited now looked here table is books later ended left behind period =
+    IsWaiting-visited now looked took here table is books later ended left behind period =
         IsWaiting-by now looked table books (subst (RunsWith layout k.books) (sym is) (RunsWith-noted layout k.books v u stands.runs))
         (ap (λ (x : View). x.start) is) (ap (λ (x : View). x.period) is) (ap (λ (x : View). x.marks) is) (omega (arith, later, within))
         (subst (λ (x : View). NotesAreIn layout x now.next now.ended) (sym is)
@@ -212,8 +249,12 @@ module _ (layout : Layout) (heap hands : TableId) (k : Keeper) (stands : KeeperS
         (subst (AreLeft layout (noted v u) (place + 1)) (sym left)
         (subst (λ (n : ℕ). AreLeft layout (noted v u) n k.left) (one_more place)
         (AreLeft-visitor v u layout place k.left behind tells.stays left_were)))))
-        (due_now now looked here later (λ q apart. ap (λ (l : List Bool). has_left layout l q) left))
+        (due_now now looked here later (λ q apart. ap (λ (l : List Bool). has_left layout l q) left)) left_before
+        (noted_now now took later left_before)
       where
+        left_before : (q : ℕ) → has_left layout now.left q ≡ false → has_left layout k.left q ≡ false
+        left_before q isnt_now = ap (λ (l : List Bool). has_left layout l q) (sym left) ∙ isnt_now
+
         is_visitor : nat_lt place layout.mutators ≡ false
         is_visitor = le-ltb place layout.mutators behind
 

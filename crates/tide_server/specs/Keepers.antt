@@ -1,5 +1,5 @@
 -- The keeper of a standing heap, between two of its turns.
-use Rattle.std.specs.Prelude.{ℕ, ◌≡◌, ◌≤◌, ◌<◌, ◌+◌, ◌-◌, ◌⊎◌, ◌↔◌, ◌&&◌, Bool, true, false, not, Contains, List, None, Some, get_or, nat_lt}
+use Rattle.std.specs.Prelude.{ℕ, ◌≡◌, ◌≤◌, ◌<◌, ◌+◌, ◌-◌, ◌⊎◌, ◌↔◌, ◌&&◌, Bool, true, false, not, Contains, List, [], None, Some, get_or, if◌then◌else◌, nat_lt}
 use Rattle.atomic_table.specs.Seated.{TableId}
 use Rattle.tide_model.specs.Freeze.{marks_after}
 use Rattle.tide_model.specs.History.{state_after}
@@ -10,7 +10,7 @@ use Rattle.tide_model.specs.declared.entry.Event.{Event}
 use Rattle.tide_posts.specs.Name.{places}
 use Rattle.tide_posts.specs.Posts.{MutatorTells}
 use Rattle.tide_posts.specs.Shares.{HasMarked}
-use Rattle.tide_posts.specs.Among.{Among}
+use Rattle.tide_posts.specs.Among.{Among, times}
 use Rattle.tide_posts.specs.tide_heap.Parties.{In}
 use Rattle.tide_posts.specs.tide_heap.Turns.{calls_of}
 use Rattle.tide_posts.specs.tide_heap.tide_core.declared.machine.view.View.{View}
@@ -93,6 +93,10 @@ pub record AreLeft (layout : Layout) (v : View) (next : ℕ) (left : List Bool) 
   pub early : (who : ℕ) → who < layout.mutators → next ≤ who → In who v.gone →
       (state_after layout v.start).active who ≡ false
 
+-- no end was posted
+abbrev pub HasNoEnd : Keeper → Type 0
+HasNoEnd k = (k.seat.seat.me.0.over ≡ false) × (k.seat.seat.me.0.ends ≡ [])
+
 -- A keeper whose part is open. It was opened behind whole periods, after which some mutator was active; the notes of
 -- some places are in, and there a ticket is due, as it is where who has left was; and no end was posted.
 pub record KeeperStands (layout : Layout) (heap hands : TableId) (k : Keeper) : Type 0 where
@@ -107,4 +111,10 @@ pub record KeeperStands (layout : Layout) (heap hands : TableId) (k : Keeper) : 
   pub notes : NotesAreIn layout (view_of k) k.next k.ended
   pub left : AreLeft layout (view_of k) k.next k.left
   pub due : (place : ℕ) → (place < k.next) ⊎ (has_left layout k.left place ≡ true) → Among place k.seat.seat.me.0.free
-  pub no_end : k.seat.seat.me.0.over ≡ false
+  -- who hasn't left got a ticket of each part so far, and of each the note was taken, but for those of the open part that
+  -- are out
+  pub rounds : (place : ℕ) → place < places layout → has_left layout k.left place ≡ false →
+      times place k.seat.seat.me.0.tickets ≡ (view_of k).period
+  pub noted : (place : ℕ) → place < places layout → has_left layout k.left place ≡ false →
+      times place k.seat.seat.me.0.notes + (if nat_lt place k.next then 0 else 1) ≡ (view_of k).period
+  pub no_end : HasNoEnd k

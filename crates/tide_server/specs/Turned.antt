@@ -1,5 +1,5 @@
 -- What a turn of a standing heap's keeper makes of the history, and what it answers.
-use Rattle.std.specs.Prelude.{ℕ, ◌≡◌, ◌+◌, ◌-◌, ◌<◌, ◌^◌, true, false, Bool, List}
+use Rattle.std.specs.Prelude.{ℕ, ◌≡◌, ◌↔◌, ◌+◌, ◌-◌, ◌<◌, ◌≤◌, ◌^◌, true, false, Bool, List}
 use Rattle.atomic_table.specs.Seated.{TableId}
 use Rattle.tide_model.specs.Each.{Each}
 use Rattle.tide_model.specs.Lawful.{IsLawful}
@@ -8,6 +8,8 @@ use Rattle.tide_model.specs.Periods.{ArePeriods, EndsInTime, IsLegal, is_over, o
 use Rattle.tide_model.specs.Prefix.{IsPrefix}
 use Rattle.tide_model.specs.Refused.{ShapeLists}
 use Rattle.tide_model.specs.declared.entry.Event.{Event}
+use Rattle.tide_posts.specs.Among.{Among}
+use Rattle.tide_posts.specs.Name.{places}
 use Rattle.tide_posts.specs.tide_heap.Parties.{In}
 use Rattle.tide_posts.specs.tide_heap.tide_freeze.Books.{AddsEnds, AreBooks}
 use Rattle.tide_posts.specs.tide_heap.Turns.{Freezes}
@@ -59,10 +61,12 @@ pub record IsFinished (layout : Layout) (shapes : ShapeLists) (heap : TableId) (
   pub gone : (i : ℕ) → i < layout.mutators → In i (view_of k).gone
   pub legal : IsLegal (pace_of k.books.pacing) layout shapes (view_of k).seen
 
--- as much was posted as there are visitors, and the end among that
-abbrev pub HasPostedEnds : Layout → Keeper → Keeper → Type 0
-HasPostedEnds layout old new = (new.seat.seat.me.0.given ≡ old.seat.seat.me.0.given + layout.visitors)
-    × (0 < layout.visitors → new.seat.seat.me.0.over ≡ true)
+-- each visitor's place has its end, no other place has one, and nothing else was posted
+pub record HasPostedEnds (layout : Layout) (old new : Keeper) : Type 0 where
+  pub ends : (place : ℕ) →
+      Among place new.seat.seat.me.0.ends ↔ ((layout.mutators ≤ place) × (place < places layout))
+  pub over : 0 < layout.visitors → new.seat.seat.me.0.over ≡ true
+  pub posted : new.seat.seat.me.0.given ≡ old.seat.seat.me.0.given + layout.visitors
 
 -- no mutator is active any more, and the history is finished
 pub record HasFinished (layout : Layout) (shapes : ShapeLists) (heap : TableId) (old new : Keeper)

@@ -12,7 +12,7 @@ ghost use Rattle.tide_mutator.specs.owed.Standing.{claims_of};
 ghost use Rattle.tide_server.specs.Members.{IsMemberOf, MayMake, Retries, is_over, caller_of};
 
 use crate::member::Member;
-use crate::parts::{Offered, stop_and_post};
+use crate::parts::Offered;
 use crate::standing::Standing;
 use std::sync::Wait;
 use tide_model::{Memory, Op, Reply, Turnstile};
@@ -124,9 +124,7 @@ impl Member {
             ≡ self.old.seat.seat.me.0.given + (if is_over self.old then 1 else 0) + 1 }
     {
         self.come_to_work(rt, standing);
-        self.mutator.retire(&standing.heap, turnstile);
-        self.period = stop_and_post(&mut self.mutator, &mut self.seat, standing, false);
-        self.works = false;
+        self.retire(standing, turnstile);
         Ok(())
     }
 }

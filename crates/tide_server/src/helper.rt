@@ -1,5 +1,5 @@
 //! `Helper`: a visitor of a standing heap, on a thread of its caller's. It makes no visit.
-ghost use Rattle.std.specs.Prelude.{ℕ, ◌≡◌, [], false};
+ghost use Rattle.std.specs.Prelude.{ℕ, ◌≡◌, ◌≤◌, [], false};
 ghost use Rattle.tide_posts.specs.tide_heap.tide_core.machine.Frozen.{newcomer};
 ghost use Rattle.tide_visitor.specs.Viewed.{stack_room_of, table_of, view_of};
 
@@ -11,9 +11,7 @@ use tide_visitor::Visitor;
 pub struct Helper {
     pub(crate) visitor: Visitor,
     pub(crate) seat: MemberSeat<Ticket, Note, HeapName>,
-    /// The part of its last note.
-    pub(crate) period: u32,
-    ghost period_is: { period ≡ (view_of visitor).period },
+    ghost before: { (view_of visitor).period ≤ seat.seat.me.0.taken },
     ghost rests: { (view_of visitor).runs ≡ false },
 }
 
@@ -34,7 +32,6 @@ impl Helper {
         Helper {
             visitor: Visitor::new(pass, stack),
             seat,
-            period: 0,
         }
     }
 }

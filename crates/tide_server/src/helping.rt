@@ -1,5 +1,5 @@
 //! What a helper does in a part, and its call that waits for one.
-ghost use Rattle.std.specs.Prelude.{◌≡◌, ◌≤◌, ◌<◌, ◌+◌, [], IfOk, IsOk, false, true};
+ghost use Rattle.std.specs.Prelude.{◌≡◌, ◌≤◌, ◌<◌, ◌+◌, [], IfOk, IsOk, None, Some, false, true};
 ghost use Rattle.tide_model.specs.Layout.{cell_count};
 ghost use Rattle.tide_posts.specs.Posts.{IsTicketFor};
 ghost use Rattle.tide_server.specs.Helpers.{IsHelperOf};
@@ -61,19 +61,50 @@ impl Helper {
         requires ticket { IsTicketFor (record {
           layout = standing.now.heap.key.layout;
           table_id = standing.now.heap.table.shared.table_id;
-        }) ticket }
+        }) self.old.seat.seat.me.0.taken ticket }
         requires later { (view_of self.old.visitor).period < ticket.seat.me.0.period }
         ensures of { IsHelperOf standing.now.heap.key.layout standing.now.heap.table.shared.table_id
             standing.now.hands.shared.table_id self.new }
-        ensures posted { self.new.seat.seat.me.0.given ≡ self.old.seat.seat.me.0.given + 1 }
+        ensures posted { (self.new.seat.seat.me.0.given ≡ self.old.seat.seat.me.0.given + 1)
+            × (self.new.seat.seat.me.0.taken ≡ self.old.seat.seat.me.0.taken) }
     {
         let run = ticket.run();
         let marks = ticket.marking();
         self.visitor.begin(&standing.heap, ticket);
         visit_part(&mut self.visitor, &standing.heap, turnstile, run, marks);
         let note = self.visitor.stop(&standing.heap);
-        self.period = note.numbers().part;
         self.seat.post_note(&standing.hands.shared, note, false);
+    }
+
+    /// Takes part in one part, where the ticket of it lies there: it visits as many cells as a mutator has calls, if a
+    /// cycle marks. Or says that no part is opened any more, or `None` where nothing lies there yet. It waits for nobody,
+    /// and takes no memory.
+    pub fn try_work<S: ShapeTable, T: Turnstile>(
+        &mut self,
+        standing: &Standing<S>,
+        turnstile: &T,
+    ) -> Option<Worked>
+        requires of { IsHelperOf standing.now.heap.key.layout standing.now.heap.table.shared.table_id
+            standing.now.hands.shared.table_id self.old }
+        ensures of { IsHelperOf standing.now.heap.key.layout standing.now.heap.table.shared.table_id
+            standing.now.hands.shared.table_id self.new }
+        ensures again { result ≡ Some worked.Again →
+            (self.new.seat.seat.me.0.given ≡ self.old.seat.seat.me.0.given + 1)
+            × (self.new.seat.seat.me.0.taken ≡ self.old.seat.seat.me.0.taken + 1) }
+        ensures over { result ≡ Some worked.Over → (self.new.seat.seat.me.0.over ≡ true)
+            × (self.new.seat.seat.me.0.given ≡ self.old.seat.seat.me.0.given)
+            × (self.new.seat.seat.me.0.taken ≡ self.old.seat.seat.me.0.taken) }
+        ensures not_yet { result ≡ None → (self.new.seat.seat.me.0.given ≡ self.old.seat.seat.me.0.given)
+            × (self.new.seat.seat.me.0.taken ≡ self.old.seat.seat.me.0.taken) }
+    {
+        match self.seat.take_ticket(&standing.hands.shared) {
+            Found::Nothing => None,
+            Found::End => Some(Worked::Over),
+            Found::Ticket(ticket) => {
+                self.take_part(standing, ticket, turnstile);
+                Some(Worked::Again)
+            }
+        }
     }
 
     /// Takes part in one part, as soon as its ticket comes: it visits as many cells as a mutator has calls, if a cycle
@@ -90,22 +121,17 @@ impl Helper {
         ensures of { IsHelperOf standing.now.heap.key.layout standing.now.heap.table.shared.table_id
             standing.now.hands.shared.table_id self.new }
         ensures again { IfOk result (λ answer. answer ≡ worked.Again →
-            self.new.seat.seat.me.0.given ≡ self.old.seat.seat.me.0.given + 1) }
+            (self.new.seat.seat.me.0.given ≡ self.old.seat.seat.me.0.given + 1)
+            × (self.new.seat.seat.me.0.taken ≡ self.old.seat.seat.me.0.taken + 1)) }
         ensures over { IfOk result (λ answer. answer ≡ worked.Over → (self.new.seat.seat.me.0.over ≡ true)
-            × (self.new.seat.seat.me.0.given ≡ self.old.seat.seat.me.0.given)) }
+            × (self.new.seat.seat.me.0.given ≡ self.old.seat.seat.me.0.given)
+            × (self.new.seat.seat.me.0.taken ≡ self.old.seat.seat.me.0.taken)) }
     {
         for _ in rt.forever() {
-            match self.seat.take_ticket(&standing.hands.shared) {
-                Found::Nothing => self.seat.wait_for_turn(rt, &standing.hands.shared),
-                Found::End => return Ok(Worked::Over),
-                Found::Ticket(ticket) => {
-                    // Always so: a place has one note a ticket.
-                    if ticket.period() > self.period {
-                        self.take_part(standing, ticket, turnstile);
-                        return Ok(Worked::Again);
-                    }
-                }
+            if let Some(worked) = self.try_work(standing, turnstile) {
+                return Ok(worked);
             }
+            self.seat.wait_for_turn(rt, &standing.hands.shared);
         }
         unreachable!()
     }

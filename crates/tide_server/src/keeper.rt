@@ -10,15 +10,12 @@ pub struct Keeper {
     pub(crate) collector: Collector,
     pub(crate) seat: KeeperSeat<Ticket, Note, HeapName>,
     pub(crate) books: Books,
-    /// The number of the open part.
-    pub(crate) period: u32,
     /// The notes of the open part are in of all places below this one.
     pub(crate) next: usize,
     /// One of them says that its mutator's last call ended its share.
     pub(crate) ended: bool,
     /// Which mutators have left for good.
     pub(crate) left: [bool; 16],
-    ghost period_is: { period ≡ collector.seat.me.0.period },
 }
 
 impl Keeper {
@@ -28,7 +25,6 @@ impl Keeper {
         seat: KeeperSeat<Ticket, Note, HeapName>,
         books: Books,
     ) -> Keeper
-        requires first { collector.seat.me.0.period ≡ 0 }
         ensures collector { result.collector ≡ collector }
         ensures seat { result.seat ≡ seat }
         ensures books { result.books ≡ books }
@@ -38,7 +34,6 @@ impl Keeper {
             collector,
             seat,
             books,
-            period: 0,
             next: 0,
             ended: false,
             left: [false; 16],

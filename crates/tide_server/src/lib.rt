@@ -3,8 +3,8 @@
 //!
 //! `open` makes of a started heap a `Standing`, which threads share, a `Member` for each mutator, a `Helper` for each
 //! visitor, and the `Keeper`. A member makes its calls: where its share of a part is over it hands its note in, and
-//! waits for the next ticket. A helper takes part in one part a call. Beside each call that waits stands what waits for
-//! nobody: `Member::offer`, `Member::hand_in` and `Member::poll`.
+//! waits for the next ticket. A helper takes part in one part a call. Each call that waits is a loop over what waits for
+//! nobody: `Member::offer`, `make`, `hand_in` and `retire`, `Helper::try_work` and `Keeper::try_turn`.
 //!
 //! It may touch the heap's collector, mutators and visitors by their calls, and hands tickets and notes over by
 //! `tide_hands`. It knows no step.

@@ -1,5 +1,5 @@
 //! `Member`: a mutator of a standing heap, on a thread of its caller's. It makes no call.
-ghost use Rattle.std.specs.Prelude.{◌≡◌, false, is_some, length, true};
+ghost use Rattle.std.specs.Prelude.{◌≡◌, ◌≤◌, None, false, is_some, length, true};
 ghost use Rattle.tide_model.specs.Script.{retry_of};
 ghost use Rattle.tide_mutator.specs.owed.Standing.{claims_of};
 ghost use Rattle.tide_mutator.specs.calls.Viewed.{table_of, view_of};
@@ -13,8 +13,6 @@ use tide_posts::{HeapName, MemberSeat, Note, Pass, Ticket};
 pub struct Member {
     pub(crate) mutator: Mutator,
     pub(crate) seat: MemberSeat<Ticket, Note, HeapName>,
-    /// The part of its last note.
-    pub(crate) period: u32,
     /// How many calls it has left in its part.
     pub(crate) left: u32,
     /// Its last call was refused for room a first time, and is to be tried again.
@@ -24,7 +22,8 @@ pub struct Member {
     /// It has begun a part, and not handed its note in.
     pub(crate) works: bool,
     ghost its: { (view_of mutator).who ≡ seat.place },
-    ghost period_is: { period ≡ (view_of mutator).period },
+    ghost before: { (view_of mutator).period ≤ seat.seat.me.0.taken },
+    ghost numbered: { works ≡ true → (view_of mutator).ticket ≡ seat.seat.me.0.taken },
     ghost retries_is: { retries ≡ is_some (retry_of (view_of mutator).who (view_of mutator).mine) },
     ghost owes: { works ≡ true → seat.seat.me.0.due ≡ true },
 }
@@ -41,12 +40,27 @@ impl Member {
         Member {
             mutator: Mutator::new(pass),
             seat,
-            period: 0,
             left: 0,
             retries: false,
             ended: false,
             works: false,
         }
+    }
+
+    /// Whether its last call was refused for room a first time: then the same operation comes next.
+    pub fn retries(&self) -> bool
+        ensures is { result ≡ is_some (retry_of (view_of self.now.mutator).who (view_of self.now.mutator).mine) }
+        ensures settled { result ≡ false →
+            retry_of (view_of self.now.mutator).who (view_of self.now.mutator).mine ≡ None }
+    {
+        self.retries
+    }
+
+    /// Whether it is in the midst of a part.
+    pub fn works(&self) -> bool
+        ensures { result ≡ self.now.works }
+    {
+        self.works
     }
 
     /// How many cells it claims.

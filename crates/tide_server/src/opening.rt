@@ -46,7 +46,8 @@ fn stand<S: HeapShapes + Drop>(
       table_id = heap.table.shared.table_id;
     }) }
     ensures first { IfOk result (λ made. made.1.seat.me.0.next ≡ 0) }
-    ensures nothing { IfOk result (λ made. (made.1.seat.me.0.over ≡ false) × (made.1.seat.me.0.given ≡ 0)) }
+    ensures nothing { IfOk result (λ made. (made.1.seat.me.0.over ≡ false) × (made.1.seat.me.0.ends ≡ [])
+        × (made.1.seat.me.0.given ≡ 0) × (made.1.seat.me.0.tickets ≡ []) × (made.1.seat.me.0.notes ≡ [])) }
     ensures due { IfOk result (λ made. (place : ℕ) → place < places heap.key.layout →
         Among place made.1.seat.me.0.free) }
 {

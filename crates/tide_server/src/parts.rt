@@ -1,12 +1,13 @@
 //! A member's part, from its ticket to its note. It waits for nobody.
-ghost use Rattle.std.specs.Prelude.{◌≡◌, ◌≢◌, ◌≤◌, ◌<◌, ◌+◌, ◌&&◌, ◌||◌, not, true, false};
+ghost use Rattle.std.specs.Prelude.{◌≡◌, ◌≢◌, ◌≤◌, ◌<◌, ◌+◌, ◌&&◌, ◌||◌, [], None, not, true, false};
 ghost use Rattle.tide_model.specs.Lawful.{FitsLayout};
 ghost use Rattle.tide_model.specs.Caller.{MakesCall};
 ghost use Rattle.tide_model.specs.Periods.{open_count};
 ghost use Rattle.tide_model.specs.Prefix.{IsPrefix};
-ghost use Rattle.tide_model.specs.Script.{is_full_reply};
+ghost use Rattle.tide_model.specs.Script.{is_full_reply, retry_of};
 ghost use Rattle.tide_model.specs.Share.{is_asked};
 ghost use Rattle.tide_model.specs.declared.op.Op.TheVariants.{Retire};
+ghost use Rattle.tide_model.specs.declared.op.Reply.TheVariants.{Done as IsDone};
 ghost use Rattle.tide_mutator.specs.calls.Called.{is_of_claims};
 ghost use Rattle.tide_mutator.specs.calls.Viewed.{table_of, view_of};
 ghost use Rattle.tide_mutator.specs.owed.Standing.{claims_of};
@@ -50,13 +51,13 @@ fn ends(reply: Reply, is_first_full: bool) -> bool
     matches!(reply, Reply::Asked) || is_first_full
 }
 
-/// Stops a mutator, and posts its note, which tells that it made its share of the part. Answers the number of the part.
-pub(crate) fn stop_and_post<S: HeapShapes>(
+/// Stops a mutator, and posts its note, which tells that it made its share of the part.
+fn stop_and_post<S: HeapShapes>(
     mutator: &mut Mutator,
     seat: &mut MemberSeat<Ticket, Note, HeapName>,
     standing: &Standing<S>,
     ended: bool,
-) -> u32
+)
     requires own { table_of mutator.old ≡ standing.now.heap.table.shared.table_id }
     requires seated { seat.old.seat.table_id ≡ standing.now.hands.shared.table_id }
     requires named { seat.old.seat.me.0.name ≡ record {
@@ -69,25 +70,24 @@ pub(crate) fn stop_and_post<S: HeapShapes>(
     requires runs { (view_of mutator.old).runs ≡ true }
     requires of_part { (view_of mutator.old).begun ≡ (view_of mutator.old).ticket }
     requires once { (view_of mutator.old).period < (view_of mutator.old).ticket }
+    requires numbered { (view_of mutator.old).ticket ≡ seat.old.seat.me.0.taken }
     requires shared { HasShared (view_of mutator.old).who (view_of mutator.old).ticket (view_of mutator.old).run
         (view_of mutator.old).seen (view_of mutator.old).mine (view_of mutator.old).left ended }
     requires still { (view_of mutator.old).visits ≡ 0 }
-    ensures part { result ≡ (view_of mutator.old).ticket }
     ensures same { table_of mutator.new ≡ table_of mutator.old }
     ensures stopped { view_of mutator.new ≡ split_view (stopped_view (view_of mutator.old)) }
     ensures opens { open_count (view_of mutator.old).seen ≤ (view_of mutator.old).ticket }
     ensures seated { (seat.new.seat.table_id ≡ seat.old.seat.table_id) × (seat.new.place ≡ seat.old.place) }
     ensures named { seat.new.seat.me.0.name ≡ seat.old.seat.me.0.name }
-    ensures posted { seat.new.seat.me.0.given ≡ seat.old.seat.me.0.given + 1 }
+    ensures posted { (seat.new.seat.me.0.given ≡ seat.old.seat.me.0.given + 1)
+        × (seat.new.seat.me.0.taken ≡ seat.old.seat.me.0.taken) }
 {
     let note = mutator.stop(&standing.heap);
-    let part = note.numbers().part;
     if ended {
         // A hint for who polls: the keeper's freeze waits for each note in any case.
         standing.wanted.store(true, Ordering::SeqCst);
     }
     seat.post_note(&standing.hands.shared, note, ended);
-    part
 }
 
 impl Member {
@@ -117,7 +117,7 @@ impl Member {
         requires ticket { IsTicketFor (record {
           layout = standing.now.heap.key.layout;
           table_id = standing.now.heap.table.shared.table_id;
-        }) ticket }
+        }) self.old.seat.seat.me.0.taken ticket }
         requires later { (view_of self.old.mutator).period < ticket.seat.me.0.period }
         ensures of { IsMemberOf standing.now.heap.key.layout standing.now.heap.table.shared.table_id
             standing.now.hands.shared.table_id self.new }
@@ -143,18 +143,16 @@ impl Member {
         ensures same { caller_of self.new ≡ caller_of self.old }
         ensures seen { IsPrefix (view_of self.old.mutator).seen (view_of self.new.mutator).seen }
         ensures given { self.new.seat.seat.me.0.given ≡ self.old.seat.seat.me.0.given }
-        ensures begun { result ≡ offered.Begun → (self.new.works ≡ true) × MayMake self.new }
-        ensures not_yet { result ≢ offered.Begun → (self.new.works ≡ false) × (self.new.mutator ≡ self.old.mutator) }
+        ensures begun { result ≡ offered.Begun → (self.new.works ≡ true) × MayMake self.new
+            × (self.new.seat.seat.me.0.taken ≡ self.old.seat.seat.me.0.taken + 1) }
+        ensures not_yet { result ≢ offered.Begun → (self.new.works ≡ false) × (self.new.mutator ≡ self.old.mutator)
+            × (self.new.seat.seat.me.0.taken ≡ self.old.seat.seat.me.0.taken) }
         ensures over { result ≡ offered.Over → self.new.seat.seat.me.0.over ≡ true }
     {
         match self.seat.take_ticket(&standing.hands.shared) {
             Found::Nothing => Offered::NotYet,
             Found::End => Offered::Over,
             Found::Ticket(ticket) => {
-                // Not met otherwise: a place has one note a ticket.
-                if ticket.period() <= self.period {
-                    return Offered::NotYet;
-                }
                 self.begin(standing, ticket);
                 Offered::Begun
             }
@@ -175,12 +173,12 @@ impl Member {
         ensures seen { (view_of self.new.mutator).seen ≡ (view_of self.old.mutator).seen }
         ensures posted { self.new.seat.seat.me.0.given ≡ self.old.seat.seat.me.0.given + 1 }
     {
-        self.period = stop_and_post(&mut self.mutator, &mut self.seat, standing, self.ended);
+        stop_and_post(&mut self.mutator, &mut self.seat, standing, self.ended);
         self.works = false;
     }
 
-    /// Makes one more call of its part.
-    pub(crate) fn make<S: ShapeTable, T: Turnstile>(
+    /// Makes one more call of its part, which it is in the midst of. It waits for nobody, and takes no memory.
+    pub fn make<S: ShapeTable, T: Turnstile>(
         &mut self,
         standing: &Standing<S>,
         op: Op,
@@ -210,5 +208,29 @@ impl Member {
         self.retries = is_first_full(self.retries, reply);
         self.ended = ends(reply, self.retries);
         reply
+    }
+
+    /// Retires with a call of its part, and hands its last note in. It waits for nobody, and takes no memory. No call may
+    /// be made after it.
+    pub fn retire<S: ShapeTable, T: Turnstile>(&mut self, standing: &Standing<S>, turnstile: &T)
+        requires of { IsMemberOf standing.now.heap.key.layout standing.now.heap.table.shared.table_id
+            standing.now.hands.shared.table_id self.old }
+        requires stays { (view_of self.old.mutator).left ≡ false }
+        requires works { self.old.works ≡ true }
+        requires may { MayMake self.old }
+        requires bare { claims_of (view_of self.old.mutator) ≡ [] }
+        requires settled { retry_of (view_of self.old.mutator).who (view_of self.old.mutator).mine ≡ None }
+        ensures of { IsMemberOf standing.now.heap.key.layout standing.now.heap.table.shared.table_id
+            standing.now.hands.shared.table_id self.new }
+        ensures makes { MakesCall standing.now.heap.key.layout (S.lists standing.now.heap.key.shapes)
+            (view_of self.old.mutator).who Retire IsDone (view_of self.old.mutator).seen
+            (view_of self.new.mutator).seen (view_of self.old.mutator).mine (view_of self.new.mutator).mine }
+        ensures rests { self.new.works ≡ false }
+        ensures left { (view_of self.new.mutator).left ≡ true }
+        ensures posted { self.new.seat.seat.me.0.given ≡ self.old.seat.seat.me.0.given + 1 }
+    {
+        self.mutator.retire(&standing.heap, turnstile);
+        stop_and_post(&mut self.mutator, &mut self.seat, standing, false);
+        self.works = false;
     }
 }

@@ -1,8 +1,8 @@
 //! Tickets and ends are posted, and the first part is opened.
-ghost use Rattle.std.specs.Prelude.{ℕ, ◌≡◌, ◌<◌, ◌+◌, false, true};
+ghost use Rattle.std.specs.Prelude.{ℕ, ◌≡◌, ◌<◌, ◌≤◌, ◌+◌, ◌⊎◌, ◌↔◌, [], false, true, if◌then◌else◌};
 ghost use Rattle.tide_posts.specs.Name.{places};
 ghost use Rattle.tide_posts.specs.Posts.{TicketTells};
-ghost use Rattle.tide_posts.specs.Among.{Among};
+ghost use Rattle.tide_posts.specs.Among.{Among, times};
 ghost use Rattle.tide_posts.specs.tide_heap.Turns.{opened};
 ghost use Rattle.tide_server.specs.Keepers.{IsKeeperOf, has_left, ticket_count};
 ghost use Rattle.tide_table.specs.Started.{IsStarted};
@@ -25,6 +25,9 @@ impl Keeper {
             standing.now.hands.shared.table_id self.old }
         requires running { self.old.collector.seat.me.0.frozen ≡ false }
         requires tells { TicketTells standing.now.heap.key.layout self.old.collector.seat.me.0 }
+        requires rounds { (place : ℕ) → place < places standing.now.heap.key.layout →
+            has_left standing.now.heap.key.layout self.old.left place ≡ false →
+            times place self.old.seat.seat.me.0.tickets + 1 ≡ self.old.collector.seat.me.0.period }
         requires due { (place : ℕ) → place < places standing.now.heap.key.layout →
             Among place self.old.seat.seat.me.0.free }
         ensures of { IsKeeperOf standing.now.heap.key.layout standing.now.heap.table.shared.table_id
@@ -32,8 +35,13 @@ impl Keeper {
         ensures view { self.new.collector.seat.me.0 ≡ self.old.collector.seat.me.0 }
         ensures books { self.new.books ≡ self.old.books }
         ensures over { self.new.seat.seat.me.0.over ≡ self.old.seat.seat.me.0.over }
+        ensures ends { self.new.seat.seat.me.0.ends ≡ self.old.seat.seat.me.0.ends }
         ensures posted { self.new.seat.seat.me.0.given
             ≡ self.old.seat.seat.me.0.given + ticket_count standing.now.heap.key.layout self.old.left }
+        ensures tickets { (place : ℕ) → place < places standing.now.heap.key.layout →
+            times place self.new.seat.seat.me.0.tickets ≡ times place self.old.seat.seat.me.0.tickets
+            + (if has_left standing.now.heap.key.layout self.old.left place then 0 else 1) }
+        ensures notes { self.new.seat.seat.me.0.notes ≡ self.old.seat.seat.me.0.notes }
         ensures due { (place : ℕ) → has_left standing.now.heap.key.layout self.old.left place ≡ true →
             Among place self.new.seat.seat.me.0.free }
         ensures same { (self.new.next ≡ self.old.next) × (self.new.ended ≡ self.old.ended)
@@ -60,6 +68,9 @@ impl Keeper {
         ensures posted { self.new.seat.seat.me.0.given
             ≡ self.old.seat.seat.me.0.given + standing.now.heap.key.layout.visitors }
         ensures over { 0 < standing.now.heap.key.layout.visitors → self.new.seat.seat.me.0.over ≡ true }
+        ensures ends { (place : ℕ) → Among place self.new.seat.seat.me.0.ends
+            ↔ (Among place self.old.seat.seat.me.0.ends ⊎ ((standing.now.heap.key.layout.mutators ≤ place)
+            × (place < places standing.now.heap.key.layout))) }
         ensures collector { self.new.collector ≡ self.old.collector }
         ensures books { self.new.books ≡ self.old.books }
     {
@@ -78,6 +89,7 @@ impl Keeper {
         requires started { IsStarted standing.now.heap.key.layout (S.lists standing.now.heap.key.shapes)
             self.old.collector.seat.me.0 }
         requires some { 0 < run }
+        requires none { self.old.seat.seat.me.0.tickets ≡ [] }
         requires due { (place : ℕ) → place < places standing.now.heap.key.layout →
             Among place self.old.seat.seat.me.0.free }
         ensures of { IsKeeperOf standing.now.heap.key.layout standing.now.heap.table.shared.table_id
@@ -86,15 +98,19 @@ impl Keeper {
             ≡ opened standing.now.heap.key.layout run self.old.collector.seat.me.0 }
         ensures books { self.new.books ≡ self.old.books }
         ensures over { self.new.seat.seat.me.0.over ≡ self.old.seat.seat.me.0.over }
+        ensures ends { self.new.seat.seat.me.0.ends ≡ self.old.seat.seat.me.0.ends }
         ensures posted { self.new.seat.seat.me.0.given
             ≡ self.old.seat.seat.me.0.given + ticket_count standing.now.heap.key.layout self.old.left }
+        ensures tickets { (place : ℕ) → place < places standing.now.heap.key.layout →
+            times place self.new.seat.seat.me.0.tickets
+            ≡ (if has_left standing.now.heap.key.layout self.old.left place then 0 else 1) }
+        ensures notes { self.new.seat.seat.me.0.notes ≡ self.old.seat.seat.me.0.notes }
         ensures due { (place : ℕ) → has_left standing.now.heap.key.layout self.old.left place ≡ true →
             Among place self.new.seat.seat.me.0.free }
         ensures same { (self.new.next ≡ self.old.next) × (self.new.ended ≡ self.old.ended)
             × (self.new.left ≡ self.old.left) }
     {
         self.collector.open_first(&standing.heap, run);
-        self.period = 1;
         self.hand_out(standing);
     }
 }

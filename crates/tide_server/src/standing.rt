@@ -5,7 +5,7 @@ ghost use Rattle.tide_posts.specs.Name.{places};
 use atomic_table::Table;
 use std::alloc::Global;
 use std::sync::atomic::AtomicBool;
-use tide_posts::{Facts, HandView, Hands, Heap, HeapName, HeapShapes, Note, Parcel, Ticket};
+use tide_posts::{Facts, HandView, Hands, Heap, HeapName, HeapShapes, Layout, Note, Parcel, Ticket};
 
 /// The table by which the tickets and notes of a heap are handed over.
 pub(crate) type HeapHands<S> = Table<
@@ -26,4 +26,13 @@ pub struct Standing<S: HeapShapes> {
     ghost same: { hands.shared.key ≡ heap },
     ghost words: { hands.shared.table_id.words ≡ places heap.key.layout },
     ghost slots: { hands.shared.table_id.slots ≡ places heap.key.layout },
+}
+
+impl<S: HeapShapes> Standing<S> {
+    /// What its heap was made with: an operation of a call has to fit it.
+    pub fn layout(&self) -> &Layout
+        ensures { result.now ≡ self.now.heap.key.layout }
+    {
+        self.heap.layout()
+    }
 }

@@ -29,18 +29,14 @@ impl Keeper {
         let Some((note, ended)) = self.seat.take_note(&standing.hands.shared, place) else {
             return false;
         };
-        let numbers = note.numbers();
-        // Not met otherwise: a place has one note a ticket.
-        if numbers.begun != self.period {
-            return false;
-        }
+        let left = note.numbers().left;
         self.collector.take(&standing.heap, note);
         self.next = place + 1;
         self.ended = self.ended || ended;
         if place >= mutators {
             return true;
         }
-        self.left[place] = numbers.left;
+        self.left[place] = left;
         true
     }
 

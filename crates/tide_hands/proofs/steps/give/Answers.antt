@@ -25,5 +25,5 @@ store-requires g c =
           Allows (Rule ticket_ok note_ok name count) slots id (me, carried) place (λ _. word)
           (λ _. Gave ticket_ok note_ok me.name (step slots place word 0 none) (me, carried) word)) (sym lies.is)
           (give_allowed ticket_ok note_ok name count slots id place word me lies.parcel c.requires.holds c.requires.its
-          lies.content c.requires.ends c.requires.within.1),
+          lies.content c.requires.moves c.requires.within.1),
     )

@@ -1,5 +1,6 @@
 -- The keeper of a heap that was opened stands, and each participant has its ticket.
 use Rattle.std.proofs.Common.{◌≡◌, ◌<◌, ◌∙◌, ap, arith, subst, sym, []}
+use Rattle.std.specs.Prelude.{if◌then◌else◌}
 use Rattle.tide_model.specs.Layout.{Layout}
 use Rattle.tide_posts.specs.Among.{Among}
 use Rattle.tide_posts.specs.Name.{Name, places}
@@ -49,9 +50,19 @@ returns-clause-stands g c = λ many.
     })
     (did.same.0 ∙ nothing.0) (did.same.1 ∙ nothing.1) (did.same.2 ∙ nothing.2)
     (λ place is. did.due place ((λ i. has_left (same i).key.layout (sym did.same.2 i) place) ∙ is))
-    (did.over ∙ ap (λ (s : KeeperSeat Ticket Note Name). s.seat.me.0.over) c.new-keeper.ensures.seat
-    ∙ ap (λ (v : HandView Name). v.over) c.in_ok-helpers.ensures.kept
-    ∙ ap (λ (v : HandView Name). v.over) c.in_ok-members.ensures.kept ∙ c.in_ok-standing.ensures.nothing.0)
+    (λ place below. did.tickets place (subst (λ (l : Layout). place < places l) (λ i. (sym same i).key.layout) below)
+    ∙ (λ i. if has_left (same i).key.layout (sym did.same.2 i) place then 0 else 1))
+    (did.notes ∙ ap (λ (s : KeeperSeat Ticket Note Name). s.seat.me.0.notes) c.new-keeper.ensures.seat
+    ∙ ap (λ (v : HandView Name). v.notes) c.in_ok-helpers.ensures.kept
+    ∙ ap (λ (v : HandView Name). v.notes) c.in_ok-members.ensures.kept ∙ c.in_ok-standing.ensures.nothing.4)
+    (
+      did.over ∙ ap (λ (s : KeeperSeat Ticket Note Name). s.seat.me.0.over) c.new-keeper.ensures.seat
+          ∙ ap (λ (v : HandView Name). v.over) c.in_ok-helpers.ensures.kept
+          ∙ ap (λ (v : HandView Name). v.over) c.in_ok-members.ensures.kept ∙ c.in_ok-standing.ensures.nothing.0,
+      did.ends ∙ ap (λ (s : KeeperSeat Ticket Note Name). s.seat.me.0.ends) c.new-keeper.ensures.seat
+          ∙ ap (λ (v : HandView Name). v.ends) c.in_ok-helpers.ensures.kept
+          ∙ ap (λ (v : HandView Name). v.ends) c.in_ok-members.ensures.kept ∙ c.in_ok-standing.ensures.nothing.1,
+    )
 
 pub returns-clause-posted : goal.returns-clause-posted
 returns-clause-posted g c =
@@ -63,8 +74,14 @@ returns-clause-posted g c =
     let none : old.seat.seat.me.0.given ≡ 0 =
     ap (λ (s : KeeperSeat Ticket Note Name). s.seat.me.0.given) c.new-keeper.ensures.seat
     ∙ ap (λ (v : HandView Name). v.given) c.in_ok-helpers.ensures.kept
-    ∙ ap (λ (v : HandView Name). v.given) c.in_ok-members.ensures.kept ∙ c.in_ok-standing.ensures.nothing.1 in
+    ∙ ap (λ (v : HandView Name). v.given) c.in_ok-members.ensures.kept ∙ c.in_ok-standing.ensures.nothing.2 in
     let all : ticket_count here old.left ≡ places layout =
     (λ i. ticket_count (same i).key.layout (left i)) ∙ ticket_count-first layout 16 in
     let posted = c.open_first.ensures.posted in
     omega (arith, posted, none, all)
+
+pub open_first-requires-clause-none : goal.open_first-requires-clause-none
+open_first-requires-clause-none g c =
+    ap (λ (s : KeeperSeat Ticket Note Name). s.seat.me.0.tickets) c.new-keeper.ensures.seat
+    ∙ ap (λ (v : HandView Name). v.tickets) c.in_ok-helpers.ensures.kept
+    ∙ ap (λ (v : HandView Name). v.tickets) c.in_ok-members.ensures.kept ∙ c.in_ok-standing.ensures.nothing.3

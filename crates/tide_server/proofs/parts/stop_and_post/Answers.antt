@@ -14,10 +14,8 @@ post_note-requires-clause-note g c =
     let name : Name = record { layout = layout; table_id = heap.table.shared.table_id } in
     let place = c.args.seat.now.place in
     let told = c.stop-note.ensures.note in
-    subst (λ (n : Name). IsNoteFor n place c.stop-note.result c.args.ended) (sym c.requires.named)
-    (IsNoteFor-mutator name place c.stop-note.result (view_of c.args.mutator.now) c.args.ended (told.0 ∙ c.requires.own)
+    let number = c.args.seat.now.seat.me.0.taken in
+    subst (λ (n : Name). IsNoteFor n place number c.stop-note.result c.args.ended) (sym c.requires.named)
+    (IsNoteFor-mutator name place number c.stop-note.result (view_of c.args.mutator.now) c.args.ended (told.0 ∙ c.requires.own)
     told.1 c.requires.its (subst (λ (n : ℕ). n < layout.mutators) c.requires.its c.requires.mutator) c.requires.of_part
-    c.requires.still c.requires.shared)
-
-pub returns-clause-part : goal.returns-clause-part
-returns-clause-part g c = c.numbers-part.ensures.part ∙ ap (λ (u : View). u.ticket) c.stop-note.ensures.note.1
+    c.requires.numbered c.requires.still c.requires.shared)

@@ -104,7 +104,8 @@ post_note-requires-clause-note g c =
     let w = view_of c.visit_part.new.visitor in
     let stop = c.stop-note.ensures in
     let table = c.visit_part.ensures.same ∙ c.begin.ensures.same.0 ∙ of.table in
-    subst (λ (n : Name). IsNoteFor n h.seat.place c.stop-note.result false) (sym of.named)
-    (IsNoteFor-visitor name h.seat.place c.stop-note.result v t u w (stop.table ∙ table) first c.visit_part.ensures.kept
-    c.visit_part.ensures.most stop.stopped.note_is c.requires.ticket.tells of.who of.behind c.begin.ensures.told
+    let number = h.seat.seat.me.0.taken in
+    subst (λ (n : Name). IsNoteFor n h.seat.place number c.stop-note.result false) (sym of.named)
+    (IsNoteFor-visitor name h.seat.place number c.stop-note.result v t u w (stop.table ∙ table) first c.visit_part.ensures.kept
+    c.visit_part.ensures.most stop.stopped.note_is c.requires.ticket.tells c.requires.ticket.part of.who of.behind c.begin.ensures.told
     h.visitor.between.stays (stop.done.1 c.visit_part.ensures.done) stop.visits)

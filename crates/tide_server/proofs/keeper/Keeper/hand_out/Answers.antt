@@ -1,11 +1,13 @@
 -- Each ticket tells what the keeper's view does.
-use Rattle.std.proofs.Common.{◌≡◌, ◌+◌, ◌<◌, ◌∙◌, true, false, Option, arith, ap, refl, rules, sym, subst}
+use Rattle.std.proofs.Common.{ℕ, ◌≡◌, ◌+◌, ◌<◌, ◌∙◌, true, false, Option, arith, ap, refl, rules, sym, subst}
 use Rattle.tide_posts.specs.Posts.{IsTicketFor, TicketTells}
 use Rattle.tide_posts.specs.Name.{Name, places}
 use Rattle.tide_posts.specs.tide_hands.Seats.{IsPosted}
 use Rattle.tide_posts.specs.tide_hands.declared.view.HandView.{HandView}
 use Rattle.tide_posts.specs.tide_heap.declared.steps.notes.Ticket.{Ticket}
-use Rattle.tide_server.proofs.Handing.{ahead-more, due-more, has_left-below, posted-none, posted-one}
+use Rattle.tide_posts.specs.Among.{times}
+use Rattle.tide_posts.specs.tide_heap.tide_core.declared.machine.view.View.{View}
+use Rattle.tide_server.proofs.Handing.{ahead-more, due-more, got-all, got-left, got-none, got-one, has_left-below, posted-none, posted-one}
 use Rattle.tide_server.specs.Keepers.{has_left}
 use Rattle.tide_server.proofs.keeper.Keeper.hand_out.Goals as goal
 
@@ -17,8 +19,19 @@ post_ticket-requires-clause-ticket g c =
     let so = c.loop-place.invariant in
     let told = c.ticket-ticket.ensures.ticket in
     let tells = subst (TicketTells layout) (sym so.view) c.requires.tells in
-    subst (λ (n : Name). IsTicketFor n c.ticket-ticket.result) (sym so.of.named) record {
+    let place = c.loop-place.place in
+    let left = c.args.self.now.left in
+    let isnt : has_left layout left place ≡ false =
+    (λ i. has_left (sym c.layout-layout.ensures i) (sym so.left i) place) ∙ sym c.has_left.ensures ∙ c.if-has_left.false in
+    let below : place < places layout = search rules in
+    let next = c.requires.rounds place below isnt in
+    let were = so.tickets place in
+    let none = got-none layout left place place (omega arith) in
+    let period = ap (λ (v : View). v.period) told.1 ∙ ap (λ (v : View). v.period) so.view in
+    subst (λ (n : Name). IsTicketFor n (times place c.loop-place.self.seat.seat.me.0.tickets + 1) c.ticket-ticket.result)
+    (sym so.of.named) record {
       of_heap = told.0 ∙ so.of.table;
+      part = omega (arith, next, were, none, period);
       tells = subst (TicketTells layout) (sym told.1) record {
         opening = tells.opening;
         some = tells.some;
@@ -32,6 +45,9 @@ loop-place-init g c = record {
   view = refl;
   books = refl;
   over = refl;
+  ends = refl;
+  tickets = λ q. (let none = got-none c.args.standing.now.heap.key.layout c.args.self.now.left 0 q (omega arith) in omega (arith, none));
+  notes = refl;
   posted = (let same : c.args.self.now.seat.seat.me.0.given ≡ c.args.self.now.seat.seat.me.0.given + 0 = omega arith in same);
   ahead = λ place from below. c.requires.due place below;
   due = λ place is. c.requires.due place (let below = has_left-below c.args.standing.now.heap.key.layout c.args.self.now.left place is in omega (arith, below));
@@ -53,6 +69,10 @@ loop-place-preserved-then-has_left g c =
       view = so.view;
       books = so.books;
       over = so.over;
+      ends = so.ends;
+      tickets = λ q. so.tickets q ∙ ap (λ (n : ℕ). times q c.args.self.now.seat.seat.me.0.tickets + n)
+          (sym (got-left layout left place q has));
+      notes = so.notes;
       posted = posted-none layout left place c.args.self.now.seat.seat.me.0.given c.loop-place.self.seat.seat.me.0.given so.posted has;
       ahead = λ q later below. so.ahead q (omega (arith, later)) below;
       due = so.due;
@@ -84,6 +104,10 @@ loop-place-preserved g c =
       view = c.ticket-ticket.ensures.same.2 ∙ so.view;
       books = so.books;
       over = post.over ∙ so.over;
+      ends = post.ends ∙ so.ends;
+      tickets = λ q. got-one layout left place q c.args.self.now.seat.seat.me.0.tickets was.tickets now.tickets isnt posted.2
+          (so.tickets q);
+      notes = post.taken.1 ∙ so.notes;
       posted = posted-one layout left place c.args.self.now.seat.seat.me.0.given was.given so.posted now.given isnt posted.0;
       ahead = ahead-more layout left place was.free now.free post.free so.ahead;
       due = due-more layout left place was.free now.free post.free isnt so.due;
@@ -91,3 +115,10 @@ loop-place-preserved g c =
       ended = so.ended;
       left = so.left;
     }
+
+pub returns-clause-tickets : goal.returns-clause-tickets
+returns-clause-tickets g c = λ q below.
+    let layout = c.args.standing.now.heap.key.layout in
+    let all : c.loop-place.place ≡ places layout = search rules in
+    c.loop-place.invariant.tickets q ∙ ap (λ (n : ℕ). times q c.args.self.now.seat.seat.me.0.tickets + n)
+    (got-all layout c.args.self.now.left c.loop-place.place q (omega (arith, below, all)))

@@ -2,7 +2,8 @@
 use Rattle.std.proofs.Common.{ℕ, ◌≡◌, ◌+◌, ◌≤◌, ◌<◌, not, true}
 use Rattle.tide_model.specs.Numbers.{count_where}
 use Rattle.tide_posts.specs.Name.{places}
-use Rattle.tide_posts.specs.Among.{Among}
+use Rattle.tide_posts.specs.Among.{Among, times}
+use Rattle.tide_server.proofs.Handing.{got}
 use Rattle.tide_server.specs.Keepers.{IsKeeperOf, has_left}
 use Rattle.tide_server.proofs.keeper.Keeper.hand_out.Given as goal
 
@@ -12,8 +13,12 @@ invariant-loop-place g l = record {
   view : l.self.collector.seat.me.0 ≡ l.initial.self.collector.seat.me.0;
   books : l.self.books ≡ l.initial.self.books;
   over : l.self.seat.seat.me.0.over ≡ l.initial.self.seat.seat.me.0.over;
+  ends : l.self.seat.seat.me.0.ends ≡ l.initial.self.seat.seat.me.0.ends;
   posted : l.self.seat.seat.me.0.given ≡ l.initial.self.seat.seat.me.0.given
       + count_where (λ place. not (has_left l.standing.heap.key.layout l.initial.self.left place)) l.place;
+  tickets : (q : ℕ) → times q l.self.seat.seat.me.0.tickets
+      ≡ times q l.initial.self.seat.seat.me.0.tickets + got l.standing.heap.key.layout l.initial.self.left l.place q;
+  notes : l.self.seat.seat.me.0.notes ≡ l.initial.self.seat.seat.me.0.notes;
   ahead : (place : ℕ) → l.place ≤ place → place < places l.standing.heap.key.layout → Among place l.self.seat.seat.me.0.free;
   due : (place : ℕ) → has_left l.standing.heap.key.layout l.initial.self.left place ≡ true →
       Among place l.self.seat.seat.me.0.free;

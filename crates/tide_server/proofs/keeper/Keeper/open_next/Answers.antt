@@ -1,5 +1,5 @@
 -- Why the next part may be opened, and what its tickets tell.
-use Rattle.std.proofs.Common.{sym, ap, subst}
+use Rattle.std.proofs.Common.{sym, ap, arith, subst}
 use Rattle.tide_posts.proofs.tide_heap.tide_core.machine_laws.freezes.Entering.{FrozenWave-of}
 use Rattle.tide_posts.specs.Posts.{TicketTells}
 use Rattle.tide_posts.specs.tide_heap.tide_core.declared.machine.view.View.{View}
@@ -39,3 +39,9 @@ hand_out-requires-clause-tells g c =
     subst (TicketTells key.layout) (sym c.in-Ok.ensures.opened)
     (TicketTells-opened key.layout (g.S.HeapShapes.lists key.shapes) c.args.self.now.collector.seat.me.0 c.args.run
     c.requires.still c.requires.some)
+
+pub hand_out-requires-clause-rounds : goal.hand_out-requires-clause-rounds
+hand_out-requires-clause-rounds g c = λ place below isnt.
+    let were = c.requires.rounds place below isnt in
+    let period = ap (λ (v : View). v.period) c.in-Ok.ensures.opened in
+    omega (arith, were, period)

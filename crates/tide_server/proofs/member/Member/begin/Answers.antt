@@ -35,7 +35,8 @@ invariant_of-self g c =
     let run = c.run-self.ensures in
     record {
       its = ap (λ (x : View). x.who) first ∙ m.its;
-      period_is = m.period_is ∙ ap (λ (x : View). x.period) (sym first);
+      before = (let period = ap (λ (x : View). x.period) first in let before = m.before in omega (arith, period, before));
+      numbered = λ _. ap (λ (x : View). x.ticket) first ∙ c.requires.ticket.part;
       retries_is = m.retries_is ∙ ap (λ (x : View). is_some (retry_of x.who x.mine)) (sym first);
       owes = λ _. c.requires.owes;
     }

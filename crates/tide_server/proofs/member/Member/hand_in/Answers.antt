@@ -15,8 +15,8 @@ has_ended : (made left run : ℕ) (e : Bool) → made + left ≡ run → (left �
 has_ended made left run e count (inl none) few = absurd (omega (arith, count, none, few))
 has_ended made left run e count (inr is) few = is
 
-pub stop_and_post-self-requires : goal.stop_and_post-self-requires
-stop_and_post-self-requires g c =
+pub stop_and_post-requires : goal.stop_and_post-requires
+stop_and_post-requires g c =
     let m = c.args.self.now in
     let v = view_of m.mutator in
     let works = at_work m.works v m.left m.ended c.requires.of.stands c.requires.works in
@@ -31,6 +31,7 @@ stop_and_post-self-requires g c =
       runs = works.runs;
       of_part = works.begun;
       once = works.once;
+      numbered = m.numbered c.requires.works;
       shared = subst (λ (b : Bool). HasShared v.who v.ticket v.run v.seen v.mine b m.ended) (sym c.requires.stays)
           (HasShared-over v.who v.ticket v.run works.made v.seen v.mine m.ended works.sharing (has_ended works.made m.left v.run m.ended works.count c.requires.over));
       still = works.visits;
@@ -41,10 +42,15 @@ invariant_of-self g c =
     let m = c.args.self.now in
     let v = view_of m.mutator in
     let works = at_work m.works v m.left m.ended c.requires.of.stands c.requires.works in
-    let told = c.stop_and_post-self.ensures in
+    let told = c.stop_and_post.ensures in
     record {
       its = ap (λ (x : View). x.who) told.stopped ∙ m.its ∙ sym told.seated.1;
-      period_is = told.part ∙ sym (ap (λ (x : View). x.period) told.stopped);
+      before =
+          let number = m.numbered c.requires.works in
+          let period = ap (λ (x : View). x.period) told.stopped in
+          let taken = told.posted.1 in
+          omega (arith, number, period, taken);
+      numbered = λ is. absurd (cc);
       retries_is = m.retries_is ∙ ap (λ (x : View). is_some (retry_of x.who x.mine)) (sym told.stopped);
       owes = λ is. absurd (cc);
     }
@@ -52,7 +58,7 @@ invariant_of-self g c =
 pub returns-clause-of : goal.returns-clause-of
 returns-clause-of g c =
     let of = c.requires.of in
-    let told = c.stop_and_post-self.ensures in
+    let told = c.stop_and_post.ensures in
     let m = c.args.self.now in
     let v = view_of m.mutator in
     let works = at_work m.works v m.left m.ended of.stands c.requires.works in
@@ -61,14 +67,14 @@ returns-clause-of g c =
       seated = told.seated.0 ∙ of.seated;
       named = told.named ∙ of.named;
       is_mutator = subst (λ (x : View). x.who < c.args.standing.now.heap.key.layout.mutators) (sym told.stopped) of.is_mutator;
-      stands = IsParked-stopped v (view_of c.stop_and_post-self.new.mutator) told.stopped works.begun works.sharing.own told.opens;
+      stands = IsParked-stopped v (view_of c.stop_and_post.new.mutator) told.stopped works.begun works.sharing.own told.opens;
     }
 
 pub returns-clause-same : goal.returns-clause-same
 returns-clause-same g c =
     let m = c.args.self.now in
     ap (λ (x : View). record { who = x.who; mine = x.mine; claims = claims_of x; has_left = x.left; retries = m.retries })
-    c.stop_and_post-self.ensures.stopped
+    c.stop_and_post.ensures.stopped
 
 pub returns-clause-seen : goal.returns-clause-seen
-returns-clause-seen g c = ap (λ (x : View). x.seen) c.stop_and_post-self.ensures.stopped
+returns-clause-seen g c = ap (λ (x : View). x.seen) c.stop_and_post.ensures.stopped

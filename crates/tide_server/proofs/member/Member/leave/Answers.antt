@@ -1,49 +1,13 @@
--- A member that leaves has retired with its last call, and its note says so.
-use Rattle.std.proofs.Common.{◌≡◌, ◌+◌, ◌<◌, ◌∙◌, ap, arith, sym, subst, ℕ, Bool, true, false, [], ◌∷◌, ◌++◌}
-use Rattle.std.specs.Prelude.{None, Option, Some, is_some}
-use Rattle.tide_model.proofs.OwnCalls.{called, retry_of-push}
-use Rattle.tide_model.specs.Caller.{IsOwn, MakesCall}
-use Rattle.tide_model.specs.Layout.{Layout}
-use Rattle.tide_model.specs.Refused.{ShapeLists}
-use Rattle.tide_model.specs.Script.{retry_after, retry_of}
-use Rattle.tide_model.specs.Share.{ends_share}
-use Rattle.tide_model.specs.declared.op.Op.{Op}
+-- A member that leaves retires in a part, which stands after what it had seen.
+use Rattle.std.proofs.Common.{ℕ, ◌∙◌, ap, sym, subst}
+use Rattle.tide_model.specs.Caller.{MakesCall}
+use Rattle.tide_model.specs.Script.{retry_of}
 use Rattle.tide_model.specs.declared.op.Op.TheVariants.{Retire}
-use Rattle.tide_model.specs.declared.op.Reply.{Reply}
 use Rattle.tide_model.specs.declared.op.Reply.TheVariants.{Done}
 use Rattle.tide_mutator.specs.calls.Viewed.{view_of}
-use Rattle.tide_mutator.specs.owed.Calling.{Kept}
-use Rattle.tide_posts.proofs.Sharing.{HasShared-retired, IsSharing-more}
-use Rattle.tide_posts.specs.Shares.{HasShared, IsSharing}
-use Rattle.tide_posts.specs.tide_heap.tide_core.declared.machine.view.View.{View}
-use Rattle.tide_server.proofs.Working.{IsParked-stopped, MakesCall-later, at_work, owns}
-use Rattle.tide_server.specs.AtWork.{IsAtWork}
+use Rattle.tide_server.proofs.Working.{MakesCall-later, owns}
 use Rattle.tide_server.specs.Members.{Calling}
 use Rattle.tide_server.proofs.member.Member.leave.Goals as goal
-
--- with its last call a mutator that had nothing to try again has made its share
-retired : (layout : Layout) (shapes : ShapeLists) (v w : View) (left : ℕ) (works : IsAtWork v left false) → 0 < left →
-    retry_of v.who v.mine ≡ None → MakesCall layout shapes v.who Retire Done v.seen w.seen v.mine w.mine →
-    HasShared v.who v.ticket v.run w.seen w.mine true false
-retired layout shapes v w left works some none makes =
-    let count = works.count in
-    HasShared-retired layout shapes v.who v.ticket v.run (works.made + 1) v.seen w.seen v.mine w.mine false
-    (subst (λ (o : Option Op). IsSharing v.who v.ticket v.run w.seen w.mine (works.made + 1) (ends_share o (Retire, Done))) none
-    (IsSharing-more layout shapes v.who v.ticket v.run works.made Retire Done v.seen w.seen v.mine w.mine works.sharing
-    (omega (arith, count, some)) (λ o pending. let clash : None ≡ Some o = sym none ∙ pending in absurd (cc)) makes)) makes
-
--- and has nothing to try again
-settled : (v w : View) (reply : Reply) → reply ≡ Done → (took : Option ℕ) → w.who ≡ v.who →
-    w.mine ≡ v.mine ++ called v.who Retire reply took ∷ [] → retry_of v.who v.mine ≡ None → retry_of w.who w.mine ≡ None
-settled v w reply done took who adds none =
-    ap (λ (n : ℕ). retry_of n w.mine) who ∙ ap (retry_of v.who) adds ∙ retry_of-push v.who v.mine Retire reply took
-    ∙ ap (λ (o : Option Op). retry_after o (Retire, reply)) none ∙ ap (λ (r : Reply). retry_after None (Retire, r)) done
-
-pub retire-requires-clause-begun : goal.retire-requires-clause-begun
-retire-requires-clause-begun g c κs within =
-    let n = c.come_to_work.new.self in
-    let come = c.come_to_work.ensures in
-    (at_work n.works (view_of n.mutator) n.left n.ended come.of.stands come.works.0).runs
 
 pub retire-requires-clause-stays : goal.retire-requires-clause-stays
 retire-requires-clause-stays g c κs within =
@@ -53,96 +17,20 @@ pub retire-requires-clause-bare : goal.retire-requires-clause-bare
 retire-requires-clause-bare g c κs within =
     ap (λ (k : Calling). k.claims) c.come_to_work.ensures.same ∙ c.requires.bare
 
-pub stop_and_post-self-requires : goal.stop_and_post-self-requires
-stop_and_post-self-requires g c =
-    let n = c.come_to_work.new.self in
-    let come = c.come_to_work.ensures in
-    let v = view_of n.mutator in
-    let w = view_of c.retire.new.self in
-    let told = c.retire.ensures in
-    let works = at_work n.works v n.left n.ended come.of.stands come.works.0 in
-    let who = ap (λ (k : Kept). k.who) told.kept in
-    let ticket = ap (λ (k : Kept). k.ticket) told.kept in
-    let period = ap (λ (k : Kept). k.period) told.kept in
-    let once = works.once in
-    let none = ap (λ (k : Calling). retry_of k.who k.mine) come.same ∙ c.requires.settled in
-    record {
-      own = told.same.0 ∙ come.of.table;
-      seated = come.of.seated;
-      named = come.of.named;
-      its = who ∙ n.its;
-      mutator = subst (λ (k : ℕ). k < c.args.standing.now.heap.key.layout.mutators) (sym who) come.of.is_mutator;
-      owes = n.owes come.works.0;
-      runs = ap (λ (k : Kept). k.runs) told.kept ∙ works.runs;
-      of_part = ap (λ (k : Kept). k.begun) told.kept ∙ works.begun ∙ sym ticket;
-      once = omega (arith, ticket, period, once);
-      shared = subst (λ (b : Bool). HasShared w.who w.ticket w.run w.seen w.mine b false) (sym told.left)
-          (subst (λ (k : Kept). HasShared k.who k.ticket k.run w.seen w.mine true false) (sym told.kept)
-          (retired c.args.standing.now.heap.key.layout (g.S.ShapeTable.lists c.args.standing.now.heap.key.shapes) v w n.left
-          (subst (IsAtWork v n.left) come.works.1.1 works) come.works.1.0 none (subst (λ (r : Reply). MakesCall c.args.standing.now.heap.key.layout
-          (g.S.ShapeTable.lists c.args.standing.now.heap.key.shapes) v.who Retire r v.seen w.seen v.mine w.mine) told.done told.makes)));
-      still = ap (λ (k : Kept). k.visits) told.kept ∙ works.visits;
-    }
-
-pub invariant_of-self : goal.invariant_of-self
-invariant_of-self g c =
-    let n = c.come_to_work.new.self in
-    let come = c.come_to_work.ensures in
-    let v = view_of n.mutator in
-    let w = view_of c.retire.new.self in
-    let made = c.retire.ensures in
-    let told = c.stop_and_post-self.ensures in
-    let works = at_work n.works v n.left n.ended come.of.stands come.works.0 in
-    let who = ap (λ (k : Kept). k.who) made.kept in
-    record {
-      its = ap (λ (x : View). x.who) told.stopped ∙ who ∙ n.its ∙ sym told.seated.1;
-      period_is = told.part ∙ sym (ap (λ (x : View). x.period) told.stopped);
-      retries_is = n.retries_is ∙ ap (λ (o : Option Op). is_some o)
-          (ap (λ (k : Calling). retry_of k.who k.mine) come.same ∙ c.requires.settled)
-          ∙ sym (ap (λ (x : View). is_some (retry_of x.who x.mine)) told.stopped
-          ∙ ap (λ (o : Option Op). is_some o) (settled v w c.retire.result made.done made.makes.took who made.makes.adds
-          (ap (λ (k : Calling). retry_of k.who k.mine) come.same ∙ c.requires.settled)));
-      owes = λ is. absurd (cc);
-    }
-
-pub returns-clause-of : goal.returns-clause-of
-returns-clause-of g c =
-    let come = c.come_to_work.ensures in
-    let told = c.stop_and_post-self.ensures in
-    let v = view_of c.come_to_work.new.self.mutator in
-    let n = c.come_to_work.new.self in
-    let w = view_of c.retire.new.self in
-    let made = c.retire.ensures in
-    let works = at_work n.works v n.left n.ended come.of.stands come.works.0 in
-    let who = ap (λ (k : Kept). k.who) made.kept in
-    record {
-      table = told.same ∙ c.retire.ensures.same.0 ∙ come.of.table;
-      seated = told.seated.0 ∙ come.of.seated;
-      named = told.named ∙ come.of.named;
-      is_mutator = subst (λ (k : ℕ). k < c.args.standing.now.heap.key.layout.mutators)
-          (sym (ap (λ (x : View). x.who) told.stopped ∙ ap (λ (k : Kept). k.who) c.retire.ensures.kept)) come.of.is_mutator;
-      stands = IsParked-stopped w (view_of c.stop_and_post-self.new.mutator) told.stopped
-          (ap (λ (k : Kept). k.begun) made.kept ∙ works.begun ∙ sym (ap (λ (k : Kept). k.ticket) made.kept))
-          (subst (λ (k : ℕ). IsOwn k w.seen w.mine) (sym who) made.makes.are_own) told.opens;
-    }
+pub retire-requires-clause-settled : goal.retire-requires-clause-settled
+retire-requires-clause-settled g c κs within =
+    ap (λ (k : Calling). retry_of k.who k.mine) c.come_to_work.ensures.same ∙ c.requires.settled
 
 pub returns-clause-makes : goal.returns-clause-makes
 returns-clause-makes g c =
     let m = c.args.self.now in
     let v = view_of m.mutator in
     let mid = view_of c.come_to_work.new.self.mutator in
-    let w = view_of c.retire.new.self in
+    let w = view_of c.retire.new.self.mutator in
     let layout = c.args.standing.now.heap.key.layout in
     let shapes = g.S.ShapeTable.lists c.args.standing.now.heap.key.shapes in
     let same = c.come_to_work.ensures.same in
-    subst (λ (x : View). MakesCall layout shapes v.who Retire Done v.seen x.seen v.mine x.mine)
-    (sym c.stop_and_post-self.ensures.stopped)
-    (MakesCall-later layout shapes v.who Retire Done v.seen mid.seen w.seen v.mine mid.mine w.mine
+    MakesCall-later layout shapes v.who Retire Done v.seen mid.seen w.seen v.mine mid.mine w.mine
     c.come_to_work.ensures.seen (ap (λ (k : Calling). k.mine) same) (owns m.works v m.left m.ended c.requires.of.stands)
     (subst (λ (n : ℕ). MakesCall layout shapes n Retire Done mid.seen w.seen mid.mine w.mine)
-    (ap (λ (k : Calling). k.who) same)
-    (subst (λ (r : Reply). MakesCall layout shapes mid.who Retire r mid.seen w.seen mid.mine w.mine) c.retire.ensures.done
-    c.retire.ensures.makes)))
-
-pub returns-clause-left : goal.returns-clause-left
-returns-clause-left g c = ap (λ (x : View). x.left) c.stop_and_post-self.ensures.stopped ∙ c.retire.ensures.left
+    (ap (λ (k : Calling). k.who) same) c.retire.ensures.makes)

@@ -52,7 +52,8 @@ invariant_of-self g c =
     let left = c.requires.may.0 in
     record {
       its = who ∙ m.its;
-      period_is = m.period_is ∙ sym (ap (λ (k : Kept). k.period) told.kept);
+      before = (let period = ap (λ (k : Kept). k.period) told.kept in let before = m.before in omega (arith, period, before));
+      numbered = λ _. ap (λ (k : Kept). k.ticket) told.kept ∙ m.numbered c.requires.works;
       retries_is = say.0 ∙ ap (λ (o : Option Op). is_some o) (sym (ap (λ (h : List Event). retry_of w.who h) told.makes.adds
           ∙ ap (λ (n : ℕ). retry_of n (v.mine ++ called v.who op reply told.makes.took ∷ [])) who
           ∙ retry_of-push v.who v.mine op reply told.makes.took));
