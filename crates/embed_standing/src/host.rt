@@ -54,6 +54,7 @@ fn play_helpers<R: Threads + Wait + Sync>(
     rt: &R,
     standing: &Standing<Shapes>,
     mut helpers: Vec<Helper>,
+    row: &Row,
     tally: &Tally,
 )
     requires of { All (λ helper. IsHelperOf standing.now.heap.key.layout standing.now.heap.table.shared.table_id
@@ -68,7 +69,7 @@ fn play_helpers<R: Threads + Wait + Sync>(
             &|_, helper|
                 requires { IsHelperOf standing.now.heap.key.layout standing.now.heap.table.shared.table_id
                     standing.now.hands.shared.table_id helper.old }
-            { play_helper(rt, standing, helper, tally) },
+            { play_helper(rt, standing, helper, row, tally) },
         );
     }
 }
@@ -98,7 +99,7 @@ fn play_others<R: Threads + Wait + Sync>(
         || -> ()
             requires { All (λ helper. IsHelperOf standing.now.heap.key.layout
                 standing.now.heap.table.shared.table_id standing.now.hands.shared.table_id helper) helpers.items }
-        { play_helpers(rt, standing, helpers, tally) },
+        { play_helpers(rt, standing, helpers, row, tally) },
     );
 }
 

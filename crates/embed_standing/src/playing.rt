@@ -1,13 +1,21 @@
 //! What each actor of a row does in its thread.
 ghost use Rattle.embed_standing.specs.Playing.{HasRoomForScripts, IsScriptCall, MayCall};
-ghost use Rattle.std.specs.Prelude.{◌≡◌, Ok, OnErr, OnOk, true};
+ghost use Rattle.std.specs.Prelude.{◌≡◌, ◌≢◌, IfOk, Ok, OnErr, OnOk, false, true};
+ghost use Rattle.tide_model.specs.Caller.{MakesCall};
+ghost use Rattle.tide_model.specs.Lawful.{FitsLayout};
 ghost use Rattle.tide_model.specs.Script.{is_full_reply};
+ghost use Rattle.tide_model.specs.declared.op.Op.TheVariants.{Retire};
+ghost use Rattle.tide_mutator.specs.calls.Called.{is_of_claims};
+ghost use Rattle.tide_mutator.specs.calls.Viewed.{view_of};
+ghost use Rattle.tide_mutator.specs.owed.Standing.{claims_of};
 ghost use Rattle.tide_server.specs.Helpers.{IsHelperOf};
 ghost use Rattle.tide_server.specs.Keepers.{KeeperStands};
+ghost use Rattle.tide_server.specs.Members.{IsMemberOf, Retries};
 ghost use Rattle.tide_server.specs.Turned.{IsFinished};
 ghost use Rattle.tide_server.specs.declared.turning.Turn.TheVariants as Turn;
 ghost use Rattle.tide_shape.specs.Lists.{lists_of};
 
+use crate::polling;
 use crate::row::Row;
 use crate::tally::Tally;
 use std::sync::Wait;
@@ -23,6 +31,37 @@ fn is_full(reply: Reply) -> bool
     matches!(reply, Reply::Refused(Refusal::Full { .. }))
 }
 
+/// Makes a call, waiting as the row has it.
+fn call<R: Wait, T: Turnstile>(
+    rt: &R,
+    standing: &Standing<Shapes>,
+    member: &mut Member,
+    op: Op,
+    turnstile: &T,
+    polls: bool,
+) -> Result<Reply, Memory>
+    requires of { IsMemberOf standing.now.heap.key.layout standing.now.heap.table.shared.table_id
+        standing.now.hands.shared.table_id member.old }
+    requires stays { (view_of member.old.mutator).left ≡ false }
+    requires fits { FitsLayout standing.now.heap.key.layout op }
+    requires goes_on { op ≢ Retire }
+    requires retries { Retries (view_of member.old.mutator) op }
+    ensures of { IsMemberOf standing.now.heap.key.layout standing.now.heap.table.shared.table_id
+        standing.now.hands.shared.table_id member.new }
+    ensures makes { IfOk result (λ reply. MakesCall standing.now.heap.key.layout
+        (lists_of standing.now.heap.key.shapes) (view_of member.old.mutator).who op reply
+        (view_of member.old.mutator).seen (view_of member.new.mutator).seen
+        (view_of member.old.mutator).mine (view_of member.new.mutator).mine) }
+    ensures stays { (view_of member.new.mutator).left ≡ false }
+    ensures claims { is_of_claims op ≡ false →
+        claims_of (view_of member.new.mutator) ≡ claims_of (view_of member.old.mutator) }
+{
+    if polls {
+        return Ok(polling::call(rt, standing, member, op, turnstile));
+    }
+    member.call(rt, standing, op, turnstile)
+}
+
 /// Makes a call, and tries it again where it was refused for room.
 fn ask<R: Wait, T: Turnstile>(
     rt: &R,
@@ -30,6 +69,7 @@ fn ask<R: Wait, T: Turnstile>(
     member: &mut Member,
     op: Op,
     turnstile: &T,
+    polls: bool,
 ) -> Result<Reply, Memory>
     requires may { MayCall standing.now.heap.key.layout standing.now.heap.table.shared.table_id
         standing.now.hands.shared.table_id member.old }
@@ -37,9 +77,9 @@ fn ask<R: Wait, T: Turnstile>(
     ensures may { OnOk result (MayCall standing.now.heap.key.layout standing.now.heap.table.shared.table_id
         standing.now.hands.shared.table_id member.new) }
 {
-    let reply = member.call(rt, standing, op, turnstile)?;
+    let reply = call(rt, standing, member, op, turnstile, polls)?;
     if is_full(reply) {
-        let again = member.call(rt, standing, op, turnstile)?;
+        let again = call(rt, standing, member, op, turnstile, polls)?;
         return Ok(again);
     }
     Ok(reply)
@@ -60,10 +100,16 @@ fn make_calls<R: Wait>(
 {
     let mut is_right = true;
     for n in 0..row.calls_of(who) {
-        let reply = ask(rt, standing, member, row.script.call_of(who, n), tally)?;
+        let op = row.script.call_of(who, n);
+        let reply = ask(rt, standing, member, op, tally, row.polls)?;
         if let Some(wanted) = row.script.reply_to(who, n) {
             is_right = is_right && reply == wanted;
         }
+    }
+    if row.polls {
+        polling::come_to_work(rt, standing, member);
+        member.retire(standing, tally);
+        return Ok(is_right);
     }
     member.leave(rt, standing, tally)?;
     Ok(is_right)
@@ -87,13 +133,37 @@ pub fn play_member<R: Wait>(
     }
 }
 
+/// Takes part in one part, waiting as the row has it.
+fn work<R: Wait>(
+    rt: &R,
+    standing: &Standing<Shapes>,
+    helper: &mut Helper,
+    polls: bool,
+) -> Result<Worked, Memory>
+    requires of { IsHelperOf standing.now.heap.key.layout standing.now.heap.table.shared.table_id
+        standing.now.hands.shared.table_id helper.old }
+    ensures of { IsHelperOf standing.now.heap.key.layout standing.now.heap.table.shared.table_id
+        standing.now.hands.shared.table_id helper.new }
+{
+    if polls {
+        return Ok(polling::work(rt, standing, helper, &FreePass));
+    }
+    helper.work(rt, standing, &FreePass)
+}
+
 /// A helper works until no part is opened any more, and tells each part that it took part in.
-pub fn play_helper<R: Wait>(rt: &R, standing: &Standing<Shapes>, helper: &mut Helper, tally: &Tally)
+pub fn play_helper<R: Wait>(
+    rt: &R,
+    standing: &Standing<Shapes>,
+    helper: &mut Helper,
+    row: &Row,
+    tally: &Tally,
+)
     requires of { IsHelperOf standing.now.heap.key.layout standing.now.heap.table.shared.table_id
         standing.now.hands.shared.table_id helper.old }
 {
     for _ in rt.forever() {
-        match helper.work(rt, standing, &FreePass) {
+        match work(rt, standing, helper, row.polls) {
             Ok(Worked::Again) => tally.add_part(),
             Ok(Worked::Over) => return,
             Err(_) => {

@@ -17,7 +17,7 @@ pub struct Row {
     pub second_calls: u32,
     /// The first calls of two members are held until both have come.
     pub meets: bool,
-    /// The keeper polls for notes in place of waiting for them.
+    /// All actors wait in their own way: each tries again, and leaves the processor to others meanwhile.
     pub polls: bool,
     ghost some: { 0 < members },
     ghost few: { members ≤ 16 },

@@ -1,5 +1,5 @@
 -- Why a heap that was just opened may be played on.
-use Rattle.std.proofs.Common.{ℕ, ◌≡◌, ◌∙◌, ◌<◌, ◌≤◌, ap, subst, sym, arith}
+use Rattle.std.proofs.Common.{◌≡◌, ◌∙◌, ◌<◌, ap, subst, sym, arith}
 use Rattle.atomic_table.specs.Seated.{TableId}
 use Rattle.embed_standing.specs.Playing.{MayPlay}
 use Rattle.embed_standing.proofs.Seats.{all_may_call, all_may_work}

@@ -1,5 +1,5 @@
 -- What is to be tried again after each call.
-use Rattle.std.proofs.Common.{◌≡◌, ◌∙◌}
+use Rattle.std.proofs.Common.{◌∙◌}
 use Rattle.tide_model.specs.Script.{retry_of}
 use Rattle.tide_mutator.specs.calls.Viewed.{view_of}
 use Rattle.tide_shape.specs.Lists.{lists_of}
@@ -10,7 +10,7 @@ pub call-requires-then-is_full-clause-retries : goal.call-requires-then-is_full-
 call-requires-then-is_full-clause-retries g c κs within = λ other is.
     let k = c.args.standing.now in
     let old = c.args.member.now in
-    let new = c.call.new.self in
+    let new = c.call.new.member in
     one_is_tried (retry_of (view_of new.mutator).who (view_of new.mutator).mine) c.args.op other
     (retry_called k.heap.key.layout k.heap.table.shared.table_id k.hands.shared.table_id (lists_of k.heap.key.shapes)
     c.args.op c.in_ok-reply.reply old new c.in_ok-reply.ensures.of c.in_ok-reply.ensures.makes
@@ -22,8 +22,8 @@ pub returns-then-is_full : goal.returns-then-is_full
 returns-then-is_full g c =
     let k = c.args.standing.now in
     let old = c.args.member.now in
-    let mid = c.call.new.self in
-    let new = c.call-then-is_full.new.self in
+    let mid = c.call.new.member in
+    let new = c.call-then-is_full.new.member in
     record {
       may = record {
         of = c.in_ok-again.ensures.of;
@@ -47,7 +47,7 @@ pub returns : goal.returns
 returns g c =
     let k = c.args.standing.now in
     let old = c.args.member.now in
-    let new = c.call.new.self in
+    let new = c.call.new.member in
     record {
       may = record {
         of = c.in_ok-reply.ensures.of;

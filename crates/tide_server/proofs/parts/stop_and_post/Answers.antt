@@ -1,9 +1,8 @@
 -- What the note of a mutator that made its share tells.
-use Rattle.std.proofs.Common.{◌<◌, ◌∙◌, ap, sym, subst, ℕ}
+use Rattle.std.proofs.Common.{◌<◌, ◌∙◌, sym, subst, ℕ}
 use Rattle.tide_mutator.specs.calls.Viewed.{view_of}
 use Rattle.tide_posts.specs.Name.{Name}
 use Rattle.tide_posts.specs.Posts.{IsNoteFor}
-use Rattle.tide_posts.specs.tide_heap.tide_core.declared.machine.view.View.{View}
 use Rattle.tide_server.proofs.Notes.{IsNoteFor-mutator}
 use Rattle.tide_server.proofs.parts.stop_and_post.Goals as goal
 

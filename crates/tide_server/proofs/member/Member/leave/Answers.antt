@@ -1,5 +1,5 @@
 -- A member that leaves retires in a part, which stands after what it had seen.
-use Rattle.std.proofs.Common.{ℕ, ◌∙◌, ap, sym, subst}
+use Rattle.std.proofs.Common.{ℕ, ◌∙◌, ap, subst}
 use Rattle.tide_model.specs.Caller.{MakesCall}
 use Rattle.tide_model.specs.Script.{retry_of}
 use Rattle.tide_model.specs.declared.op.Op.TheVariants.{Retire}

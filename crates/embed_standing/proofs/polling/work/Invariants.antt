@@ -1,0 +1,7 @@
+-- Nothing came yet.
+use Rattle.tide_server.specs.Helpers.{IsHelperOf}
+use Rattle.embed_standing.proofs.polling.work.Given as goal
+
+abbrev pub invariant-loop : goal.invariant-loop
+invariant-loop g l = IsHelperOf l.standing.heap.key.layout l.standing.heap.table.shared.table_id
+    l.standing.hands.shared.table_id l.helper
