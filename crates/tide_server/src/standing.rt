@@ -5,7 +5,9 @@ ghost use Rattle.tide_posts.specs.Name.{places};
 use atomic_table::Table;
 use std::alloc::Global;
 use std::sync::atomic::AtomicBool;
-use tide_posts::{Facts, HandView, Hands, Heap, HeapName, HeapShapes, Layout, Note, Parcel, Ticket};
+use tide_posts::{
+    Facts, HandView, Hands, Heap, HeapName, HeapShapes, Layout, Note, Parcel, Ticket,
+};
 
 /// The table by which the tickets and notes of a heap are handed over.
 pub(crate) type HeapHands<S> = Table<
