@@ -28,7 +28,7 @@ frame v = record v {
 module _ {T I : Type 0} where
   -- what was found is a ticket, which was taken, so that a note is due, or an end that was posted; or nothing was taken
   abbrev pub IsFound : (T → Type 0) → HandView I → HandView I → Found T → Type 0
-  IsFound ticket_ok v w Nothing = w.taken ≡ v.taken
+  IsFound ticket_ok v w Nothing = (w.taken ≡ v.taken) × (w.over ≡ v.over)
   IsFound ticket_ok v w (Ticket ticket) = ticket_ok ticket × (w.taken ≡ v.taken + 1) × (w.due ≡ true)
   IsFound ticket_ok v w End = (w.over ≡ true) × (w.taken ≡ v.taken)
 
