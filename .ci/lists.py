@@ -28,7 +28,7 @@ listed after it, beside it in lib.rt or in the file of the module around both. I
   CamelCase) that they do,
 - an edit that doesn't fit its file any more, and a table of edits in docs/GATE.md that names others than the files of
   must-fail,
-- a README.md, a docs/DECISIONS.md or a room's README that is longer than it may be.
+- a README.md, a docs/DECISIONS.md or a room's README that is longer than it may be, and the pages to read together.
 """
 import re
 import sys
@@ -510,6 +510,8 @@ def trusted():
 
 
 WORKLOADS = TOP / "crates" / "checks" / "data" / "workloads"
+# the pages that are to be read, beside the README, and how many KB all of these may have together
+TO_READ, MOST_TO_READ = ("TOUR", "LIFE-OF-A-CELL", "READING-A-RUN", "WORDS"), 50
 
 
 def told_by(stem):
@@ -532,12 +534,16 @@ def examples(text):
 
 
 def too_long():
-    """Pages that are longer than they may be: they grow by a line at a time, and nobody reads what is too long."""
+    """Pages that are longer than they may be, alone or together: they grow by a line at a time, and nobody reads what is too
+    long."""
     limits = {TOP / "README.md": 8, TOP / "docs" / "DECISIONS.md": 60}
     limits |= {path: 2 for path in sorted(TOP.glob("crates/*/README.md"))}
     for path, most in limits.items():
         if (size := path.stat().st_size) > 1024 * most:
             yield f"{path.relative_to(TOP)} has {size:,} bytes, and may have {most} KB: {1024 * most:,}"
+    to_read = [TOP / "README.md", *(TOP / "docs" / f"{page}.md" for page in TO_READ)]
+    if (size := sum(path.stat().st_size for path in to_read)) > 1024 * MOST_TO_READ:
+        yield f"README.md, {', '.join(TO_READ)} have {size:,} bytes, and may have {MOST_TO_READ} KB: {1024 * MOST_TO_READ:,}"
 
 
 def examples_missed():

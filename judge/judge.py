@@ -9,9 +9,9 @@ some way through the freezes, in which all of this holds:
 
 - each reply is the one of a plain store from which just the cells went that the text says, and in which a block is swept by
   the operation that finds nothing free in it, by the freeze that next begins a cycle before it does, and by a forced freeze;
-- a cycle frees nothing that is retained where it ends, keeps nothing that was held by nothing while it ran, and what it
-  keeps holds nothing that it frees; an Eden cycle, which begins in no forced freeze and whose number is no
-  multiple of four, keeps all that lived at the last end, as if that were held;
+- a cycle frees nothing that is retained where it ends, keeps only what the roots, links, pairs and groups of all its moments
+  reach together, and what it keeps holds nothing that it frees; an Eden cycle, which begins in no forced freeze and whose
+  number is no multiple of four, keeps all that lived at the last end, as if that were held;
 - what it kept and freed adds up, and so do the live cells at the end;
 - it begins where the schedule says, and ends at the latest where the schedule says.
 
@@ -83,6 +83,8 @@ class Run:
         self.work, self.replies, self.cycles = work, replies, cycles
         self.store = model.Store(work)
         self.count = len(work["mutators"])
+        # in which order the mutators make their calls of a part, one after another
+        self.order = range(self.count)
         self.done, self.retry, self.told = [0] * self.count, [False] * self.count, [0] * self.count
         self.ended = 0
         self.span, self.spared = None, set()
@@ -104,7 +106,8 @@ class Run:
         """A running part. Answers whether the freeze after it is forced."""
         run = self.work["period"] if self.span is None else self.shares()[1]
         is_forced = False
-        for who, ops in enumerate(self.work["mutators"]):
+        for who in self.order:
+            ops = self.work["mutators"][who]
             for _ in range(run):
                 if not self.store.active[who]:
                     break

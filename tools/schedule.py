@@ -8,8 +8,8 @@ the number of visitors that the run had, and --plain stands for a run with that 
 apart. This looks for the ways through the freezes that the schedule allows, as judge/judge.py does, and prints each, part
 by part:
 
-- which calls stand in a part, as places in each mutator's block, from 1; the freeze behind it is forced where a mutator
-  stopped there or all have retired;
+- which calls stand in a part, as places in each mutator's block, from 1, with `then` between mutators that came in another
+  order than that of their numbers; the freeze behind it is forced where a mutator stopped there or all have retired;
 - where a cycle begins, its kind, how many old cells it spares, and how many its first pause has to make black of how many
   that it may; a cycle that goes on marks beside the next part's calls;
 - where it ends, the cells that it freed, those that it kept for their age, and those that float, each with the call by which
@@ -20,11 +20,14 @@ With --cycles it prints a line a cycle in their place: its kind, from which free
 behind part 3), how many cells were born since the end before it until it began, how many while it marked, and how many it
 kept and freed.
 
-It is of a run whose mutators called one after another: of one mutator, a plain one, or on threads that came out so. Where
-several ways give the text it prints up to eight: the text doesn't tell them apart. Its status is 1 where it found none.
+It is of a run whose mutators called one after another in each part: of one mutator, a plain one, or on threads that came
+out so. Where the order of their numbers doesn't give the text of a part, other orders of up to four mutators are tried, and
+the first that does is told. Where several ways give the text it prints up to eight: the text doesn't tell them apart, unless
+it was printed with --stats, whose lines have to be those of the way. Its status is 1 where it found none.
 """
 import argparse
 import copy
+import itertools
 import re
 import sys
 from dataclasses import dataclass, replace
@@ -40,6 +43,9 @@ if __name__ == "__main__" and sys.argv[1:] in ([], ["--help"]):
     sys.exit(print(__doc__.strip()) or len(sys.argv) < 2)
 
 MOST_WAYS, MOST_LOOKED = 8, 5000
+# of more mutators than so many no other order is tried than that of their numbers
+MOST_ORDERED = 4
+STATS = re.compile(r"^stats (\d+) (full|Eden) freezes (\d+) born (\d+) marking (\d+) paused \d+ visited \d+$", re.M)
 STORES = ("put", "setp", "add")
 
 
@@ -67,10 +73,12 @@ class End:
 
 @dataclass
 class Part:
-    """A part with the freeze behind it. `calls` has for each mutator how many calls it had made before and after it."""
+    """A part with the freeze behind it. `calls` has for each mutator how many calls it had made before and after it, and
+    `order` in which order they made them."""
 
     number: int
     calls: list
+    order: tuple
     marks: int
     is_forced: bool
     events: tuple = ()
@@ -105,7 +113,7 @@ class Told(judge.Run):
         self.blackened += self.visitors * self.shares()[1] if marks else 0
         is_forced = super().part()
         calls = list(zip(before, self.told))
-        self.parts += (Part(len(self.parts) + 1, calls, self.ended + 1 if marks else 0, is_forced),)
+        self.parts += (Part(len(self.parts) + 1, calls, tuple(self.order), self.ended + 1 if marks else 0, is_forced),)
         return is_forced
 
     def note(self):
@@ -209,22 +217,36 @@ def read(text):
     return [[line for line in block if " = " in line and not line.startswith("cell ")] for block in blocks], cycles
 
 
+def after_part(run, orders):
+    """A run after its next part, with the mutators in the first of these orders that gives the text, and whether its freeze
+    is forced; or None where none does."""
+    for order in orders:
+        after = copy.deepcopy(run) if len(orders) > 1 else run
+        after.order = order
+        try:
+            return after, after.part()
+        except judge.Wrong:
+            continue
+    return None
+
+
 def ways_through(document, text, visitors=0, is_plain=False):
     """The ways through the freezes that give this text, at most so many, and whether there may be more."""
     (replies, cycles), work = read(text), judge_threads.read_workload(document)
+    stats = [tuple(map(str, line)) for line in STATS.findall(text)]
     if is_plain:
         work["trigger"] = 0
     ways, found, looked = [Told(work, replies, cycles, visitors)], [], 0
+    orders = [tuple(range(ways[0].count))]
+    if not is_plain and ways[0].count <= MOST_ORDERED:
+        orders = list(itertools.permutations(orders[0]))
     while ways and len(found) < MOST_WAYS and looked < MOST_LOOKED:
-        run, looked = ways.pop(), looked + 1
-        try:
-            is_forced = run.part()
-        except judge.Wrong:
-            continue
-        for way in freezes(run, is_forced):
+        looked += 1
+        after = after_part(ways.pop(), orders)
+        for way in freezes(*after) if after else []:
             if any(way.store.active):
                 ways.append(way)
-            elif way.ended == len(cycles) and way.span is None:
+            elif way.ended == len(cycles) and way.span is None and stats in ([], [line_of(one) for one in cycles_of(way)]):
                 found.append(way)
     return found, bool(ways)
 
@@ -255,11 +277,12 @@ def told(way):
     for part in way.parts:
         calls = [
             f"mutator {who} makes " + (f"call {b}" if b == a + 1 else f"calls {a + 1} to {b}")
-            for who, (a, b) in enumerate(part.calls) if b > a
+            for who in part.order for a, b in [part.calls[who]] if b > a
         ]
         marks = f"; cycle {part.marks} marks" if part.marks else ""
         forced = "; the freeze is forced" if part.is_forced else ""
-        yield f"part {part.number}: {', '.join(calls) or 'no calls'}{marks}{forced}"
+        between = ", " if list(part.order) == sorted(part.order) else ", then "
+        yield f"part {part.number}: {between.join(calls) or 'no calls'}{marks}{forced}"
         for event in part.events:
             yield from lines_of(event)
 
@@ -269,8 +292,20 @@ def is_birth(reply):
     return reply.startswith(("alloc ", "table ")) and " = #" in reply
 
 
-def cycles_told(way):
-    """A way through the freezes, a line a cycle."""
+@dataclass
+class Cycle:
+    """A cycle: its kind, the freezes in which it began and ended, and the births before it and while it marked."""
+
+    end: End
+    kind: str
+    first: int
+    last: int
+    before: int
+    marking: int
+
+
+def cycles_of(way):
+    """The cycles of a way through the freezes."""
     born, begun = 0, None
     for part in way.parts:
         born += sum(is_birth(reply) for own, (a, b) in zip(way.replies, part.calls) for reply in own[a:b])
@@ -279,10 +314,21 @@ def cycles_told(way):
                 begun = event.kind, part.number, born
                 continue
             kind, first, before = begun
-            freezes = f"freeze {first}" if first == part.number else f"freezes {first} to {part.number}"
-            births = f"born {before} before it, {born - before} while it marked"
-            yield f"cycle {event.cycle}, {kind}, {freezes}: {births}; kept {event.kept}, freed {event.freed}"
+            yield Cycle(event, kind, first, part.number, before, born - before)
             born = 0
+
+
+def line_of(cycle):
+    """What a line of --stats says of a cycle, as far as a text of calls tells it."""
+    return tuple(map(str, (cycle.end.cycle, cycle.kind, cycle.last - cycle.first + 1, cycle.before, cycle.marking)))
+
+
+def cycles_told(way):
+    """A way through the freezes, a line a cycle."""
+    for one in cycles_of(way):
+        freezes = f"freeze {one.first}" if one.first == one.last else f"freezes {one.first} to {one.last}"
+        births = f"born {one.before} before it, {one.marking} while it marked"
+        yield f"cycle {one.end.cycle}, {one.kind}, {freezes}: {births}; kept {one.end.kept}, freed {one.end.freed}"
 
 
 def content_of(name):
@@ -309,17 +355,18 @@ def told_apart(names):
         sys.exit(f"{name}: {lines[0]}; python3 tools/why.py {name} says more")
     blocks, count = len(read(text)[0]), len(judge_threads.read_workload(document)["mutators"])
     if blocks != count:
-        sys.exit(f"the text has the calls of {blocks} mutators, and the workload has {count}")
+        sys.exit(f"the text has the calls of {counted(blocks, 'mutator')}, and the workload has {count}")
     return workloads[0], texts[0]
 
 
-def no_way(document):
+def no_way(document, text):
     """What is said where no way was found: which mutators may have met, and what the text says all the same."""
     mutators = judge_threads.read_workload(document)["mutators"]
     classes = [{op[2] if op[0] == "alloc" else 4 for op in ops if op[0] in ("alloc", "table")} for ops in mutators]
     pairs = [(one, other) for other in range(len(classes)) for one in range(other)]
     met = next(((one, other, min(both)) for one, other in pairs if (both := classes[one] & classes[other])), None)
-    told = "no way through the freezes was found that gives this text with the mutators one after another"
+    lines = " and its lines of --stats" if STATS.search(text) else ""
+    told = f"no way through the freezes was found that gives this text{lines} with the mutators one after another in each part"
     if met:
         why_not = "mutators {} and {} both allocate in class {}, so each may have called between the other's calls"
         told += ": " + why_not.format(*met)
@@ -340,7 +387,7 @@ def main():
     document = workload[1]
     found, may_be_more = ways_through(document, text, given.visitors, given.plain)
     if not found:
-        sys.exit(no_way(document))
+        sys.exit(no_way(document, text))
     for number, way in enumerate(found, 1):
         if len(found) > 1 or may_be_more:
             print(f"way {number} of {len(found)}{' or more' if may_be_more else ''}")

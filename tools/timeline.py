@@ -1,7 +1,7 @@
 #!/usr/bin/env python3
 """Draws the printed text of a run as an SVG picture.
 
-    python3 tools/timeline.py [WORKLOAD.toml] TEXT [PICTURE.svg]
+    python3 tools/timeline.py [--visitors N | --plain] [WORKLOAD.toml] TEXT [PICTURE.svg]
 
 TEXT is a file with what riptide printed; either file may be named first, and be - for standard input. Without a PICTURE the
 picture goes to standard output.
@@ -13,8 +13,10 @@ an axis each.
 
 With the WORKLOAD the freezes are drawn between the calls, by the first way through them that tools/schedule.py finds: a
 line each, with the cycles that began and ended there, and the parts in which a cycle marked in grey. Below each bar stands
-the cycle's kind. Where no way is found, a line says so, no PICTURE is written, and the status is 1.
+the cycle's kind. N is the number of visitors that the run had, and --plain stands for a run with that option; without either
+all three kinds of runs are tried. Where no way is found, a line says so, no PICTURE is written, and the status is 1.
 """
+import argparse
 import re
 import sys
 from pathlib import Path
@@ -161,18 +163,22 @@ def draw_legend(y):
     return shapes
 
 
-def parts_of(document, printed):
-    """The parts of the first way through the freezes that gives this text: of a run without visitors, with them, or plain."""
-    for visitors, is_plain in ((0, False), (8, False), (0, True)):
+# runs by their visitors, and whether they are plain
+RUNS = ((0, False), (8, False), (0, True))
+
+
+def parts_of(document, printed, runs):
+    """The parts of the first way through the freezes that gives this text as that of one of these runs."""
+    for visitors, is_plain in runs:
         found, _ = schedule.ways_through(document, printed, visitors, is_plain)
         if found:
             return found[0].parts
-    sys.exit(schedule.no_way(document))
+    sys.exit(schedule.no_way(document, printed))
 
 
-def picture(name, printed, document=None):
-    mutators, cycles, live = read([line for line in printed.splitlines() if not line.startswith("cell ")])
-    parts = parts_of(document, printed) if document else ()
+def picture(name, printed, document=None, runs=RUNS):
+    mutators, cycles, live = read([line for line in printed.splitlines() if not line.startswith(("cell ", "stats "))])
+    parts = parts_of(document, printed, runs) if document else ()
     begins = [event for part in parts for event in part.events if isinstance(event, schedule.Begin)]
     calls, y = draw_calls(mutators, parts)
     ends, y = draw_cycles(cycles, live, {event.cycle: event.kind for event in begins}, y)
@@ -181,12 +187,20 @@ def picture(name, printed, document=None):
 
 
 def main():
-    to = sys.argv.pop() if sys.argv[-1].endswith(".svg") else None
-    if len(sys.argv) not in (2, 3):
-        sys.exit(__doc__.strip())
-    workload, (name, printed) = schedule.told_apart(sys.argv[1:])
+    usage = "python3 tools/timeline.py [--visitors N | --plain] [WORKLOAD.toml] TEXT [PICTURE.svg]"
+    parser = argparse.ArgumentParser(usage=usage, add_help=False)
+    parser.add_argument("files", nargs="+")
+    kinds = parser.add_mutually_exclusive_group()
+    kinds.add_argument("--visitors", type=int)
+    kinds.add_argument("--plain", action="store_true")
+    given = parser.parse_args()
+    to = given.files.pop() if given.files[-1].endswith(".svg") else None
+    if len(given.files) not in (1, 2):
+        parser.error("a text is wanted, and no more than its workload beside it")
+    workload, (name, printed) = schedule.told_apart(given.files)
+    runs = RUNS if given.visitors is None and not given.plain else [(given.visitors or 0, given.plain)]
     name = "a run" if name == "-" else re.sub(r".*/|\.txt$", "", name)
-    drawn = picture(name, printed, workload[1] if workload else None)
+    drawn = picture(name, printed, workload[1] if workload else None, runs)
     try:
         Path(to).write_text(drawn, encoding="utf-8") if to else sys.stdout.write(drawn)
     except OSError as error:

@@ -202,6 +202,8 @@ class Reader:
             self.fail(why, "take the > out")
         if first == "(":
             self.fail(why, "write [ and ] in place of ( and )")
+        if found == ";":
+            self.fail(why, "take the ; out")
         if COMMENT.match(found):
             self.fail(why, f"a comment begins with #: write # in place of {COMMENT.match(found)[0]}")
         self.fail(why, "write a number, a text in quotes, or a list in brackets")
@@ -255,6 +257,8 @@ class Reader:
             self.fail(why, "a comment begins with #: write # in place of --", start)
         if re.fullmatch(r"[0-9]+\.", word):
             self.fail(why, f"write {seen(word[:-1])}", start)
+        if not word.strip("."):
+            self.fail(why, "take it out: each value is written", start)
         if word.lower() in ("true", "false"):
             self.fail(why, f"write {word.lower()}", start)
         if word[0] in "0123456789+-.":
@@ -289,6 +293,10 @@ class Reader:
             change = "take one of the two quotes out"
         elif found[0] in ";.:|":
             change = f"write a comma in place of the {found[0]}"
+        elif found[0] == "*":
+            change = "take it out, and write the value as often as it is meant"
+        elif not re.match(r"[\"'\[{(0-9+-]", found) and found[0].isascii():
+            change = f"take `{seen(found.split(',')[0].rstrip(closing))}` out"
         elif unseen(found):
             change = no_character(found[0])
         self.fail(f"behind a value {whose} stands `{seen(found)}`, and no comma or {closing}", change, end)
@@ -378,12 +386,22 @@ class Reader:
             change = "a comment begins with #: write # in place of --"
         elif name == "mutator" and re.fullmatch("[0-9]+", value) and found[0].isdigit():
             change = "this is how a printed text begins: take the workload that it was printed of"
-        elif name == "mutator" and not value:
+        elif name in ("cycle", "live", "stats", "cell") and re.match("#?[0-9]", found):
+            change = "this is a line of a printed text: take the workload that it was printed of"
+        elif not self.open and (re.match("r[0-9]", found) or name in ("collect", "unclaim") and not found):
+            text = seen(f"{name} {found}").rstrip()
+            change = f'write operations as texts of a mutator: [[mutator]], and below it ops = ["{text}"]'
+        elif "mutator" in name and not value or name == "mutator" and value.endswith(":") or value == "mutator:":
             change = "write [[mutator]]"
+        elif name == "ops" and (is_list := re.match(r"\[ *\] *= *", found)):
+            change = f"write ops = {seen(found[is_list.end():])}"
+        elif name in ("blocks", "arrays") and re.match(r"\[[0-9]+\]", found):
+            change = f"write five numbers in brackets: {name} = [1, 0, 0, 0, 1]"
         elif self.open and found[:1] in (",", "}"):
             change = "write [ and ] in place of { and }"
         elif FIELD.match(found):
-            change = f"take `{told}` out"
+            extra = found.split("=")[0].strip() if name in (*self.wanted, "shapes", "ops") else name
+            change = f"take `{seen(extra)}` out"
         elif self.text[start] in "\"'" and "=" in name:
             change = f"take the quotes off: {told}"
         elif self.text[start] in "\"'" and not found.startswith(":"):
@@ -484,6 +502,8 @@ def no_character(character):
 
 def no_name(found):
     """What to change where this stands in place of a name."""
+    if re.fullmatch("[<({] *mutators? *[>)}]", found):
+        return "write [[mutator]]"
     if comment := COMMENT.match(found):
         return f"a comment begins with #: write # in place of {comment[0]}"
     if found[:1] == "{":
@@ -513,7 +533,7 @@ def behind(value, rest, is_header):
         return f"a comment begins with #: write # in place of {comment[0]}"
     if re.fullmatch(r"[+-]?[0-9]{1,3}(?:,[0-9]{3})+", value + rest):
         return f"a number has no comma within: write {seen((value + rest).replace(',', ''))}"
-    if re.match(r"[-+*/] *[0-9]", rest):
+    if re.match(r"(?:[-+*/^%]|<<|\*\*) *[0-9]", rest):
         return "write the number itself"
     if not is_header and value[0] not in "[{" and (rest[0] in ",;" or rest[0] in "\"'" and value[0] in "\"'"):
         listed = ", ".join(re.findall(r"\"[^\"]*\"|'[^']*'|[^ \t,;]+", f"{value} {rest}"))

@@ -16,7 +16,7 @@ import sys
 
 import toml_lines
 from toml_lines import seen
-from why_ops import NUMBERS, Limits, near, op_fault, path_fault, quoted
+from why_ops import FORMS, NUMBERS, Limits, near, op_fault, path_fault, quoted
 from why_words import words_explained
 
 if __name__ == "__main__" and sys.argv[1:] in ([], ["--help"]):
@@ -67,6 +67,11 @@ def others(table, names):
     return sorted(((name, value) for name, value in table.data.items() if name not in names), key=lambda found: found[1].named)
 
 
+def header_of(name, value):
+    """The header of a table, or of a list of tables, by its name."""
+    return f"[[{seen(name)}]]" if value.kind == "array" else f"[{seen(name)}]"
+
+
 # the fields of the top
 
 
@@ -98,8 +103,9 @@ def in_another_table(field, document):
             continue
         where, name = f"line {table.data[field].named}", seen(".".join(path))
         if path == ["mutator"]:
-            line = document.data["mutator"].line
-            change = f"move the line above the first [[mutator]], which is on line {line}"
+            line, more = document.data["mutator"].line, [name for name in table.data if name in FIELDS and name != field]
+            lines = f"lines of {', '.join([field, *more])}" if more else "line"
+            change = f"move the {lines} above the first [[mutator]], which is on line {line}"
             return Fault(told, where, f"`{field}` stands below [[mutator]], and so is that mutator's", change)
         why = f"`{field}` stands in the table `{name}` on line {table.line}"
         if table.origin == "dotted":
@@ -120,8 +126,10 @@ def missing(field, document):
         return fault
     for name, value in others(document, FIELDS)[:MOST_COMPARED]:
         if near(name, FIELDS) == field:
-            why, change = f"there is no `{field}`, but a field `{seen(name)}`", f"write {field} in place of {seen(name)}"
-            return Fault(told, f"line {value.named}", why, change)
+            change = f"write {field} in place of {seen(name)}"
+            if field == "mutator" and value.origin == "header":
+                change = f"write [[mutator]] in place of {header_of(name, value)}"
+            return Fault(told, f"line {value.named}", f"there is no `{field}`, but a field `{seen(name)}`", change)
     if field == "mutator":
         return no_mutator(told, document)
     change = f"write {REQUIRED[field]}, or another value, {above(document)}"
@@ -147,8 +155,8 @@ def no_mutator(told, document):
             return Fault(told, f"line {table.data['mutator'].line}", f"{why}, but one in `{name}`", f"take `{name}.` off")
     for name, value in others(document, FIELDS)[:MOST_COMPARED]:
         if value.origin == "header":
-            header = f"[[{seen(name)}]]" if value.kind == "array" else f"[{seen(name)}]"
-            return Fault(told, f"line {value.line}", f"{why}, but `{seen(name)}`", f"write [[mutator]] in place of {header}")
+            change = f"write [[mutator]] in place of {header_of(name, value)}"
+            return Fault(told, f"line {value.line}", f"{why}, but `{seen(name)}`", change)
     return Fault(told, "the end of the file", why, f"write {REQUIRED['mutator']}")
 
 
@@ -220,7 +228,8 @@ def keys_of(document):
     if value is None:
         return [], None
     if value.kind != "array":
-        path = value.data if value.kind == "string" and not path_fault(value.data) else "name next"
+        path = " ".join(re.split("[ ,;]+", value.data.strip())) if value.kind == "string" else ""
+        path = path if path and not path_fault(path) else "name next"
         raise bad("shapes", value.line, f"it is {shown(value)}, and has to be a list of texts",
                   f"write it as a list of paths: shapes = [{quoted(path)}]")
     if len(value.data) > MAX_PATHS:
@@ -249,7 +258,7 @@ def as_text(value, is_path=False):
     if value.kind != "array" or any(one.kind != "string" for one in value.data):
         return "write it in quotes"
     texts = [one.data for one in value.data]
-    if len(texts) > 1 and not any(" " in text for text in texts):
+    if len(texts) > 1 and texts[1] not in FORMS and not any(" " in text for text in texts):
         return f"write it as one text: {quoted(' '.join(texts))}"
     return "take the inner brackets out"
 
@@ -272,7 +281,7 @@ def only_fields(document):
             raise bad_other(name, value, *ops_at_the_top(value))
         if value.origin is None and (change := option_named(name, value)):
             raise bad_other(name, value, f"no field of the top is named `{seen(name)}`", change)
-        meant, listed = near(name, FIELDS), value.kind == "array" and value.origin == "header"
+        meant, listed = near(name, FIELDS, 0.7), value.kind == "array" and value.origin == "header"
         change = f"take it out; the fields are {', '.join(FIELDS)}"
         if value.origin in ("header", "implicit", "dotted"):
             change = "take it out, with the lines below it" if value.origin != "dotted" else "take its lines out"

@@ -40,16 +40,55 @@ OTHER = [
      "to store a slot write put {0} {1} {2}"),
     ("pget", ["r", "r", "KEY"], "`{2}` is no register, and pget reads pairs", "to read a property write getp {0} {1} {2}"),
     ("pget", ["r", "r", "N"], "`{2}` is no register, and pget reads pairs", "to read a slot write get {0} {1} {2}"),
+    ("group", ["r", "r"], "`{1}` is a register, and a group is a number",
+     "write group {0} 1, and group {1} 1 as a text of its own"),
+]
+# the same of operations that were given more operands, or fewer
+LONGER = [
+    ("set", ["r", "N", "r"], "set stores a number in a register", "to store a slot write put {0} {1} {2}"),
+    ("set", ["r", "KEY", "r"], "set stores a number in a register", "to store a property write setp {0} {1} {2}"),
+    ("set", ["r", "r", "N"], "set stores a number in a register", "to read a slot write get {0} {1} {2}"),
+    ("set", ["r", "r", "KEY"], "set stores a number in a register", "to read a property write getp {0} {1} {2}"),
+    ("move", ["r", "N", "r"], "move copies a register", "to store a slot write put {0} {1} {2}"),
+    ("move", ["r", "r", "N"], "move copies a register", "to read a slot write get {0} {1} {2}"),
+    ("add", ["r", "N"], "add gives a cell a property, and adds no numbers", "write the number itself, as set {0} {1}"),
 ]
 # names that other stores have for an operation
 MEANT = {"new": "alloc", "malloc": "alloc", "read": "get", "load": "get", "write": "put", "store": "put", "copy": "move",
          "clear": "drop", "free": "drop", "delete": "drop", "unset": "drop", "null": "drop", "lock": "claim",
          "unlock": "release", "root": "strong", "pin": "strong", "assign": "move", "gc": "collect", "pput": "pair",
-         "link": "put", "handle": "strong"}
+         "link": "put", "handle": "strong", "global": "strong", "static": "strong", "keep": "strong", "hold": "strong",
+         "major": "collect", "minor": "collect", "full": "collect", "eden": "collect", "cell": "alloc", "object": "alloc",
+         "node": "alloc", "map": "table", "hashmap": "table", "weakmap": "table", "dict": "table", "own": "claim",
+         "acquire": "claim", "give": "release", "forget": "drop", "getattr": "getp", "getfield": "getp", "setattr": "setp",
+         "setfield": "setp", "sset": "strong", "setstrong": "strong", "strongget": "sget", "getstrong": "sget", "wset": "weak",
+         "setweak": "weak", "deref": "wget", "getweak": "wget", "opaque": "group", "cycle": "collect"}
+# names whose operands tell what is meant: by their looks the operation, which takes them all and {empty} for an empty register
+MEANT_BY = {
+    **dict.fromkeys(("del", "delete", "remove", "unset", "erase", "delp"), [
+        (["r", "KEY"], "setp {0} {1} {empty}"), (["r", "N"], "put {0} {1} {empty}"), (["r", "r"], "pdel {0} {1}"),
+    ]),
+    "pset": [(["r", "r", "r"], "pair {0} {1} {2}"), (["r", "KEY", "r"], "setp {0} {1} {2}")],
+    **dict.fromkeys(("insert", "map"), [(["r", "r", "r"], "pair {0} {1} {2}")]),
+    "prop": [(["r", "KEY", "r"], "setp {0} {1} {2}"), (["r", "r", "KEY"], "getp {0} {1} {2}")],
+    "ungroup": [(["r"], "group {0} 0")],
+}
 # names of what no operation does, and of what a handle of this kind does with an empty register
 WAITS = ["sleep", "wait", "yield", "join", "pause", "sync", "barrier", "freeze"]
 ENDS = ["retire", "end", "exit", "quit", "halt", "stop", "return"]
-EMPTIES = {"unstrong": "strong", "unroot": "strong", "unpin": "strong", "unweak": "weak"}
+EMPTIES = {"unstrong": "strong", "unroot": "strong", "unpin": "strong", "sdrop": "strong", "sclear": "strong", "sdel": "strong",
+           "unweak": "weak", "wdrop": "weak", "wclear": "weak", "wdel": "weak"}
+# names of what a workload hasn't: why, and what to change
+TELLS = ["assert", "expect", "check", "print", "log", "echo", "dump", "show", "trace", "debug"]
+HAS_NOT = [
+    (["for", "while", "loop", "repeat", "times", "until", "do", "if", "else", "when", "def", "macro"],
+     "no operation repeats others or chooses", "write each call as a text of its own, as often as it is meant"),
+    (TELLS, "what a call is answered stands in the printed text", "take it out"),
+    (["inc", "dec", "incr", "decr", "sub", "mul", "div", "plus"], "no operation counts", "write the number itself, as set r0 1"),
+    (["mark", "sweep", "visit", "safepoint"], "a cycle marks and sweeps by itself", "take it out, or write collect"),
+    (["nop", "noop", "pass", "skip", "idle"], "each operation is a call",
+     "take it out, or write move r0 r0, which changes nothing"),
+]
 # a statement of another language, and the operation that does what it says
 STATEMENTS = [
     (r"(r[0-9]+) *:?= *(r[0-9]+)", "move {0} {1}"),
@@ -57,17 +96,29 @@ STATEMENTS = [
     (r"(r[0-9]+) *:?= *(?:-|nil|null|none|empty)", "drop {0}"),
     (r"(r[0-9]+) *:?= *(r[0-9]+)\[([0-9]+)\]", "get {0} {1} {2}"),
     (r"(r[0-9]+)\[([0-9]+)\] *:?= *(r[0-9]+)", "put {0} {1} {2}"),
+    (r"(r[0-9]+) *:?= *(r[0-9]+)\[(r[0-9]+)\]", "pget {0} {1} {2}"),
+    (r"(r[0-9]+)\[(r[0-9]+)\] *:?= *(r[0-9]+)", "pair {0} {1} {2}"),
+    (r"(r[0-9]+) *:?= *(r[0-9]+)\.([0-9]+)", "get {0} {1} {2}"),
+    (r"(r[0-9]+)\.([0-9]+) *:?= *(r[0-9]+)", "put {0} {1} {2}"),
+    (r"s(?:trong)? ?\[?([0-9]+)\]? *:?= *(r[0-9]+)", "strong {0} {1}"),
+    (r"(r[0-9]+) *:?= *s(?:trong)? ?\[?([0-9]+)\]?", "sget {0} {1}"),
+    (r"w(?:eak)? ?\[?([0-9]+)\]? *:?= *(r[0-9]+)", "weak {0} {1}"),
+    (r"(r[0-9]+) *:?= *w(?:eak)? ?\[?([0-9]+)\]?", "wget {0} {1}"),
     (r"(r[0-9]+) *:?= *(r[0-9]+)\.([a-z][a-z0-9_]*)", "getp {0} {1} {2}"),
     (r"(r[0-9]+)\.([a-z][a-z0-9_]*) *:?= *(r[0-9]+)", "setp {0} {1} {2}"),
 ]
+# what stands in front of a statement elsewhere
+DECLARED = "(?:(?:let|const|var|auto|local|mut|final|int|number|ref) +)*"
+# of an operand that is a number: what it is of
+OF_NUMBERS = {"C": "a class", "K": "a slot or a handle", "N": "a number"}
 
 
-def near(name, names):
+def near(name, names, least=0.6):
     """The name of these that is meant, if any is near."""
     for known in names:
         if name.lower() == known:
             return known
-    return next(iter(difflib.get_close_matches(name.lower(), names, 1, 0.6)), None)
+    return next(iter(difflib.get_close_matches(name.lower(), names, 1, least)), None)
 
 
 def quoted(text, most=80):
@@ -118,6 +169,8 @@ def key_fault(word):
     if not re.fullmatch(r"[\x21-\x7e]+", word):
         return (f"`{told}` has a character that no key has",
                 "part keys by spaces alone, and take letters from a to z, digits and _")
+    if not re.search("[A-Za-z0-9_]", word):
+        return f"`{told}` is no key", f"take {told} out: spaces alone part keys"
     if other := re.search("[^A-Za-z0-9_]", word):
         change = "write _ in its place" if other[0] in "-./" and other.start() else "take letters from a to z, digits and _"
         parted = ", or a space, where two keys are meant" if other[0] in "./" and other.start() else ""
@@ -136,6 +189,9 @@ def path_fault(text):
         return "it has no key", "write its keys with spaces between, or take it out"
     if text != text.strip(" "):
         return f"a space stands at its {end_of(text)}", instead(text.strip(" "), "take it out")
+    if re.fullmatch(r"\w+ *:[^:,;]*(?:[,;] *\w+ *:[^:,;]*)*", text):
+        keys = " ".join(re.findall(r"(\w+) *:", text))
+        return "a `:` stands in it, and a key has no type", f"write its keys alone: {quoted(keys)}"
     if parted := re.search("[,;]", text):
         spaced = " ".join(re.sub("[,;]", " ", text).split())
         change = f"part keys by spaces: {quoted(spaced)}" if len(spaced) <= 80 else "part keys by spaces"
@@ -227,15 +283,21 @@ class Limits:
             return self.register(word, form)
         if form == "K" and name not in ("get", "put"):
             return self.handle("strong" if name in ("strong", "sget") else "weak", word)
+        if name == "group" and word.lower() in NOTHING:
+            return f"`{seen(word)}` is no number", "write 0: group 0 is none"
         return {"C": self.cell_class, "K": self.slot, "KEY": self.key, "N": numeral}[form](word)
 
     def operands(self, name, words):
         """Of as many words as the operation has operands."""
         forms = FORMS[name].split()
         if not look_right(forms, words):
-            for other, looks, why, change in OTHER:
-                if name == other and look_right(looks, words):
-                    return why.format(*map(seen, words)), change.format(*map(seen, words))
+            for form, word in zip(forms, words):
+                named = re.fullmatch(r"(?!r\d)[a-z]+_?(\d{1,3})|<(\d+)>", word)
+                if named and form in OF_NUMBERS and word not in self.keys:
+                    why = f"`{seen(word)}` stands for {OF_NUMBERS[form]}, which is a number alone"
+                    return why, f"write {named[1] or named[2]}"
+            if fault := other_fault(OTHER, name, words):
+                return fault
             for order in orders(words):
                 if look_right(forms, order):
                     return (f"its operands stand in another order than {name} {FORMS[name]}",
@@ -251,9 +313,23 @@ class Limits:
         return " ".join([name, *(shown[form] for form in FORMS[name].split())])
 
 
+def other_fault(rows, name, words):
+    """Of operands that are those of another operation, by the rows of a table."""
+    for other, looks, why, change in rows:
+        if name == other and len(looks) == len(words) and look_right(looks, words):
+            return why.format(*map(seen, words)), change.format(*map(seen, words))
+    return None
+
+
 def look_right(forms, words):
     """Whether each word looks like what stands in its place."""
     return all(re.fullmatch(LOOKS[form[0] if form[0] == "r" else form], word) for form, word in zip(forms, words))
+
+
+def is_formed(words):
+    """Whether these are the name of an operation and as many words as it has operands, each of which looks right."""
+    forms = FORMS[words[0]].split() if words and words[0] in FORMS else None
+    return forms is not None and len(words) == 1 + len(forms) and look_right(forms, words[1:])
 
 
 def orders(words):
@@ -270,9 +346,12 @@ def parted(text, letter):
     """Of a text with one of the letters that part nothing."""
     why = f"a `{letter}` stands in it, and words are parted by spaces alone"
     for statement, operation in STATEMENTS:
-        if stated := re.fullmatch(f"(?:let +)?{statement}", text):
-            return f"a `{letter}` stands in it, and an operation is its name and its operands", f"write {quoted(operation.format(*stated.groups()))}"
-    assigned = re.fullmatch(r"(?:let +)?(r[0-9]+) *:?= *([a-z]+)[ (]*([^()]*)\)?", text)
+        if stated := re.fullmatch(DECLARED + statement, text):
+            meant = quoted(operation.format(*stated.groups()))
+            return f"a `{letter}` stands in it, and an operation is its name and its operands", f"write {meant}"
+    assigned = re.fullmatch(DECLARED + r"(r[0-9]+) *:?= *([a-z]+)[ (]*([^()]*)\)?", text)
+    if made := re.fullmatch(DECLARED + r"(r[0-9]+) *:?= *(?:new )?(?:cell|object|node|alloc)(?: *\(? *([0-3]) *\)?)?", text):
+        return why, f"write {quoted(f'alloc {made[1]} {made[2] or 0}')}"
     if assigned and assigned[2] in FORMS:
         words = [assigned[2], assigned[1], *re.split("[ ,]+", assigned[3])]
         return why, instead(" ".join(words).strip(" "), "write the register behind the operation")
@@ -282,6 +361,7 @@ def parted(text, letter):
     is_named = any(re.fullmatch("[a-z]+=[a-z0-9]+", one) for one in words)
     if is_named and name in FORMS and len(words) == len(FORMS[name].split()):
         return why, instead(" ".join([name, *(re.sub("^[a-z]+=", "", word) for word in words)]), f"take the {letter} out")
+    text = re.sub(r"\br\[(\d+)\]", r"r\1", text)
     pieces = [" ".join(re.sub(r"[,;()=\[\]]", " ", piece).split()) for piece in re.split("[,;]", text)]
     if letter == "," and len(FORMS.get(name, "").split()) == 1 and all(re.fullmatch("r[0-9]+", one) for one in pieces[1:]):
         pieces[1:] = [f"{name} {one}" for one in pieces[1:]]
@@ -299,14 +379,19 @@ def texts_in(pieces):
 
 
 def copied(text):
-    """Of a text that was copied from a printed one: it has a reply, or a cell's number among its operands."""
-    call = re.fullmatch("([a-z]+(?: [^=#]*)?) = [^=]*", text)
+    """Of a text that was copied from a printed one: it has a reply, or a cell's number among its operands, or is no call."""
+    if re.fullmatch(r"mutator \d+|retire = ok|cycle \d+ kept .*|live \d+|(?:stats|cell) #?\d.*", text):
+        return "it is a printed line, and no operation", "take it out"
+    call = re.fullmatch("([a-z]+(?: [^=#]*?)?) (=|->|=>) [^=]*", text)
     name, *words = call[1].split(" ") if call else [""]
     if name in FORMS and len(words) == len(FORMS[name].split()):
-        return "it is a printed line, with its reply behind the `=`", instead(call[1], "take the reply out")
+        return f"it is a printed line, with its reply behind the `{call[2]}`", instead(call[1], "take the reply out")
     if cell := re.search("(?:^| )(#[0-9]+)(?: |$)", text):
         name, *words = text[:cell.start()].split(" ")
         if name in FORMS and len(words) < len(FORMS[name].split()):
+            if of := OF_NUMBERS.get(FORMS[name].split()[len(words)]):
+                return (f"`{cell[1]}` stands for {of}, and is a cell in a printed text",
+                        instead(text.replace(cell[1], cell[1][1:]), f"write {cell[1][1:]}"))
             return (f"`{cell[1]}` is a cell in a printed text, and a file has no names for cells",
                     "write a register that holds it: alloc, get or wget puts it into one")
     return None
@@ -330,7 +415,8 @@ def text_fault(text):
         return f"the character {seen(other[0])} stands in it", change
     if fault := copied(text):
         return fault
-    if comment := re.search("(?:^| )(#|//|--)", text):
+    comment = re.search("(?:^| )(#|//|--)", text)
+    if comment and text.split(" ")[0] not in TELLS:
         before = text[:comment.start()].rstrip(" ,;")
         return f"a comment stands in it, behind a `{comment[1]}`" if before else "it is a comment", \
             f'write {quoted(before)}, and # and the comment behind it' if before else "write # in front of its quote"
@@ -348,8 +434,8 @@ def name_fault(name, words, limits):
         return f"`{told}` has a capital", f"write {told.lower()}"
     if name.lower() in ENDS:
         return f"no operation is named `{told}`: a mutator retires by itself, after its last one", "take it out"
+    empty = f"r{limits.settings['registers'][0] - 1}"
     if kind := EMPTIES.get(name.lower()):
-        empty = f"r{limits.settings['registers'][0] - 1}"
         handle = words[0] if words and re.fullmatch("[0-9]+", words[0]) else "0"
         return (f"no operation is named `{told}`: a handle is emptied by {kind}, with an empty register",
                 f"write {kind} {handle} {empty}, where {empty} is empty, as drop {empty} leaves it")
@@ -357,9 +443,16 @@ def name_fault(name, words, limits):
         return f"no operation is named `{told}`: mutators wait for each other where a part ends, and nowhere else", "take it out"
     if (run := re.fullmatch("([a-z]+?)(r?[0-9].*)", name)) and run[1] in FORMS:
         return f"no space stands behind `{run[1]}`", instead(" ".join([run[1], run[2], *words]), "write one there")
-    if words and words[0] in FORMS:
-        return f"no operation is named `{told}`", instead(" ".join([words[0], name, *words[1:]]), f"write {words[0]} in front")
-    meant = MEANT.get(name.lower()) or near(re.sub("[^A-Za-z].*", "", name), list(FORMS))
+    for moved in ([*words[:1], name, *words[1:]], words, [*name.split("_"), *words]):
+        if is_formed(moved):
+            return f"no operation is named `{told}`", instead(" ".join(moved), f"write {moved[0]} in front")
+    if has_not := next(((why, change) for names, why, change in HAS_NOT if name.lower() in names), None):
+        return f"no operation is named `{told}`: {has_not[0]}", has_not[1]
+    for looks, shape in MEANT_BY.get(name.lower(), []):
+        if len(looks) == len(words) and look_right(looks, words):
+            with_empty = f", where {empty} is empty, as drop {empty} leaves it" if "{empty}" in shape else ""
+            return f"no operation is named `{told}`", f"write {shape.format(*map(seen, words), empty=empty)}{with_empty}"
+    meant = MEANT.get(name.lower()) or near(re.sub("[^A-Za-z].*", "", name), list(FORMS), 0.7)
     if meant:
         fits = len(words) == len(FORMS[meant].split()) and not limits.operands(meant, words)
         shown = " ".join([meant, *words]) if fits else limits.example(meant)
@@ -381,9 +474,21 @@ def op_fault(text, limits):
     if second == count < len(words):
         parts = [" ".join([name, *words[:second]]), " ".join(words[second:])]
         return "two operations stand in one text", f"write them as two texts: {', '.join(map(quoted, parts))}"
+    if fault := other_fault(LONGER, name, words):
+        return fault
+    loosened = [word for word in re.sub(r"->|=>|[.:]", " ", text).split(" ") if word]
+    if is_formed(loosened):
+        return "words are parted by spaces alone", instead(" ".join(loosened), "take the other signs out")
     has = f"{count} operand{'s'[:count != 1]}, {form}" if count else "no operand"
     stand = f"{len(words)} stand{'s'[:len(words) == 1]} here" if words else "none stands here"
     change = f"write {name} {form}, as {limits.example(name)}" if count else f"write {name} alone"
-    if name == "unclaim" and re.fullmatch("r[0-9]+", words[0]):
-        change = f"write release {words[0]}, or unclaim alone, which gives up the oldest claim"
+    slots = {"2": 0, "4": 1, "8": 2, "16": 3}
+    if name == "unclaim":
+        change += ", which gives up the oldest claim"
+        if re.fullmatch("r[0-9]+", words[0]):
+            change = f"write release {words[0]}, or unclaim alone, which gives up the oldest claim"
+    elif name == "collect" and words[0].lower() in ("eden", "minor", "young"):
+        change += ": what is asked for is full, and Eden cycles begin by `trigger`"
+    elif name == "alloc" and len(words) == 3 and words[2].startswith("slot") and words[1] in slots:
+        change = f"a cell of {words[1]} slots is of class {slots[words[1]]}: write alloc {words[0]} {slots[words[1]]}"
     return f"`{name}` has {has}, and {stand}", change

@@ -9,7 +9,11 @@ from why_ops import NUMBERS
 
 USAGE = "riptide: usage: riptide [--visitors N] [--plain] [--make N] [--snapshot] [--stats]"
 NUMBERED, FLAGS, MAX_VISITORS = ("--visitors", "--make"), ("--plain", "--snapshot", "--stats"), 8
-ON = ("true", "yes", "on")
+ON, OFF = ("true", "yes", "on"), ("false", "no", "off")
+# options that other programs have for a file that is read, and for one that is written
+READS, WRITES = ("--file", "--input", "--in", "--workload", "-i", "-f"), ("--output", "--out", "-o")
+# words that other programs have for what this one always does
+VERBS = ("run", "exec", "start")
 APART = [
     ("--plain", "--visitors", "a plain run has one thread and no visitor, be their number 0"),
     ("--plain", "--snapshot", "a snapshot is of the heap that threads share"),
@@ -42,8 +46,8 @@ def meant_by(word):
     name = word.split("=")[0]
     dashed = "--" + name.lstrip("-").lower()
     begun = [option for option in (*NUMBERED, *FLAGS) if option.startswith(word) or option[1:3] == word]
-    near = difflib.get_close_matches(dashed, [*NUMBERED, *FLAGS], 1, 0.6)
-    return next(iter(begun if word.startswith("-") else []), None) or next(iter(near), None)
+    near = difflib.get_close_matches(dashed, [*NUMBERED, *FLAGS], 1, 0.75)
+    return next(iter(begun if word.startswith("-") else []), None) or next(iter(near if len(dashed) > 3 else []), None)
 
 
 def written(option, word, rest):
@@ -54,20 +58,24 @@ def written(option, word, rest):
     return f"write {option}" + (f" {number}" if re.fullmatch("[0-9]{1,3}", number) else " 2")
 
 
-def bare(word, before):
-    """Why a word without a dash is none of the five options, and what to change. `before` is the word before it."""
+def bare(word, before, rest):
+    """Why a word without a dash is none of the five options, and what to change. `before` is the word before it, `rest` are
+    those behind."""
     told = shown(word)
-    if before == "--snapshot" and word:
-        return f"`{told}` is no option, and the snapshot goes to the output", f"take it out, and write > {told} behind the words"
-    if before in FLAGS and word.lower() in ("true", "false", "yes", "no", "on", "off"):
-        rest = "" if word.lower() in ON else f", and {before} too"
-        return f"`{told}` is no option, and {before} has no value", f"take it out{rest}"
     if word in ("<", ">", "|"):
         return f"`{told}` is the shell's, and came to the program as a word", "write it without quotes"
+    if before in ("--snapshot", "--stats") and word and word.lower() not in ON + OFF and not word.endswith(".toml"):
+        return f"`{told}` is no option, and its lines go to the output", f"take it out, and write > {told} behind the words"
+    if before in FLAGS and word.lower() in ON + OFF:
+        rest = "" if word.lower() in ON else f", and {before} too"
+        return f"`{told}` is no option, and {before} has no value", f"take it out{rest}"
     if re.fullmatch("[0-9]+", word):
         return f"`{told}` is no option, and no number is wanted here", "take it out"
-    if word.isalpha() and (meant := meant_by(word)):
-        return f"`{told}` is no option: each begins with --", f"write {meant}"
+    if word in VERBS:
+        return f"`{told}` is no option, and a run is what the program makes", "take it out"
+    name = word.lstrip("/\u2010\u2011\u2012\u2013\u2014\u2212")
+    if re.fullmatch("[A-Za-z]+(?:=.*)?", name) and (meant := meant_by(name)):
+        return f"`{told}` is no option: each begins with --", written(meant, name, rest)
     given = f": riptide < {told}" if word and word != "-" else ""
     return f"`{told}` is no option, and no file is named", f"take it out, and give the workload on the input{given}"
 
@@ -83,11 +91,21 @@ def strange(word, is_behind, before, rest):
         return (f"`{told}` isn't taken",
                 "take it out; docs/WORKLOAD.md says what is taken, and docs/CHANGELOG.md which version it is")
     if not word.startswith("-") or word == "-":
-        return bare(word, before)
-    name = re.match("--([a-z]*)", word)
-    if name and name[1] in NUMBERS:
-        return (f"`{name[1]}` is a field of the workload, and no option",
-                f"take {told} out, with its number, and write {name[1]} in the file")
+        return bare(word, before, rest)
+    name, _, given = word.partition("=")
+    if name[2:] in ("mutator", "mutators"):
+        return "mutators stand in the workload", f"take {told} out, and write [[mutator]] in the file for each"
+    if name[2:] in (*NUMBERS, "shapes"):
+        number = "number" if name[2:] in NUMBERS else "value"
+        return (f"`{name[2:]}` is a field of the workload, and no option",
+                f"take {told} out, with its {number}, and write {name[2:]} in the file")
+    if name in READS + WRITES:
+        given = shown(given or next((one for one in rest[:1] if not one.startswith("-")), "FILE"))
+        sign, where = (">", "the text goes to the output") if name in WRITES else ("<", "the workload is read from the input")
+        why = f"there is no option `{shown(name)}`: {where}"
+        return why, f"take it out, with its file, and write {sign} {given} behind the words"
+    if re.fullmatch("--no-?(visitors|plain|make|snapshot|stats)", name):
+        return f"there is no option `{told}`", "take it out: what no word asks for isn't done"
     if " " in word and word.split(" ")[0] in (*NUMBERED, *FLAGS):
         return f"`{told}` is one word", f"write its words apart, without quotes: {' '.join(told.split())}"
     if meant := meant_by(word):
@@ -111,7 +129,7 @@ def words_fault(words):
         if name not in (*NUMBERED, *FLAGS):
             return place, *strange(word, False, words[place - 1] if place else None, words[at:])
         if name in FLAGS and equals:
-            return place, f"`{name}` has no value", f"write {name} alone"
+            return place, f"`{name}` has no value", "take it out" if text.lower() in OFF else f"write {name} alone"
         if name in found:
             return place, f"`{name}` stands here for the second time", "take one of the two out"
         if name in NUMBERED and not equals:

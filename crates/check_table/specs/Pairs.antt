@@ -8,7 +8,6 @@ use Rattle.tide_heap.specs.declared.heap.Heap.{Heap}
 use Rattle.tide_heap.specs.tide_core.machine.Frozen.{newcomer}
 use Rattle.tide_model.specs.History.{state_after}
 use Rattle.tide_model.specs.Lawful.{IsLawful}
-use Rattle.tide_model.specs.Layout.{Layout}
 use Rattle.tide_model.specs.declared.entry.Event.{Event}
 use Rattle.tide_shape.specs.Lists.{lists_of}
 use Rattle.tide_shape.specs.declared.shapes.Shapes.{Shapes}

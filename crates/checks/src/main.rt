@@ -28,8 +28,9 @@
 //!   (`embed_standing`).
 //!
 //! Of each check it prints what ended otherwise than expected, once the check is over, and then a line. Where one was
-//! not as expected, the status is 1. It may touch the libraries of checks, `embed_heap`, `embed_standing` and `embed_weakref`,
-//! files and the outputs. The workloads and the refused documents of its folder `data` are run by `.ci/workloads`.
+//! not as expected, the status is 1. It may touch the libraries of checks, `embed_heap`, `embed_standing` and
+//! `embed_weakref`, files and the outputs. The workloads and the refused documents of its folder `data` are run by
+//! `.ci/workloads`.
 #![tactic(auto)]
 
 use check_heap::{check_rows, joined, number, text, words_of};

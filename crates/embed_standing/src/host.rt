@@ -52,7 +52,7 @@ fn play_all<R: Threads + Wait + Sync>(
             ensures { result.is_over ≡ true → IsFinished standing.entry.now.heap.key.layout
                 (lists_of standing.entry.now.heap.key.shapes) standing.entry.now.heap.table.shared.table_id
                 result.keeper }
-        { keep(rt, standing, keeper, report) },
+        { keep(rt, standing, keeper, report, row.polls) },
         || -> ()
             requires { HasRoomForScripts standing.now.heap.key.layout
                 × All (λ member. MayCall standing.now.heap.key.layout standing.now.heap.table.shared.table_id

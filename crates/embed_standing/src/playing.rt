@@ -1,6 +1,6 @@
 //! What each actor of a row does in its thread.
 ghost use Rattle.embed_standing.specs.Playing.{HasRoomForScripts, IsScriptCall, MayCall};
-ghost use Rattle.std.specs.Prelude.{◌≡◌, ◌≢◌, IfOk, OnOk, false, true};
+ghost use Rattle.std.specs.Prelude.{◌≡◌, ◌≢◌, IfOk, Ok, OnErr, OnOk, false, true};
 ghost use Rattle.tide_model.specs.Caller.{MakesCall};
 ghost use Rattle.tide_model.specs.Lawful.{FitsLayout};
 ghost use Rattle.tide_model.specs.Script.{is_full_reply};
@@ -12,12 +12,14 @@ ghost use Rattle.tide_server.specs.Helpers.{IsHelperOf};
 ghost use Rattle.tide_server.specs.Keepers.{KeeperStands};
 ghost use Rattle.tide_server.specs.Members.{IsMemberOf, Retries};
 ghost use Rattle.tide_server.specs.Turned.{IsFinished};
+ghost use Rattle.tide_server.specs.declared.turning.Turn.TheVariants as Turn;
 ghost use Rattle.tide_shape.specs.Lists.{lists_of};
 
 use crate::polling;
 use crate::row::Row;
 use crate::tally::Tally;
 use std::sync::Wait;
+use std::thread::yield_now;
 use tide_model::{FreePass, Memory, Op, Refusal, Reply, Turnstile};
 use tide_server::{Helper, Keeper, Member, Report, Standing, Turn, Worked};
 use tide_shape::Shapes;
@@ -184,12 +186,42 @@ pub struct Kept {
     pub is_over: bool,
 }
 
+/// Makes the next turn: the keeper waits for the notes, or it polls for them.
+fn next_turn<R: Wait>(
+    rt: &R,
+    standing: &Standing<Shapes>,
+    keeper: &mut Keeper,
+    report: &mut Report,
+    polls: bool,
+) -> Result<Turn, Memory>
+    requires stands { KeeperStands standing.now.heap.key.layout standing.now.heap.table.shared.table_id
+        standing.now.hands.shared.table_id keeper.old }
+    ensures opened { result ≡ Ok Turn.Opened → KeeperStands standing.now.heap.key.layout
+        standing.now.heap.table.shared.table_id standing.now.hands.shared.table_id keeper.new }
+    ensures over { result ≡ Ok Turn.Over → IsFinished standing.now.heap.key.layout
+        (lists_of standing.now.heap.key.shapes) standing.now.heap.table.shared.table_id keeper.new }
+    ensures waits { OnErr result (KeeperStands standing.now.heap.key.layout
+        standing.now.heap.table.shared.table_id standing.now.hands.shared.table_id keeper.new) }
+{
+    if !polls {
+        return keeper.turn(rt, standing, report);
+    }
+    for _ in rt.forever() {
+        if let Some(turn) = keeper.try_turn(standing, report)? {
+            return Ok(turn);
+        }
+        yield_now();
+    }
+    unreachable!()
+}
+
 /// The keeper turns until no part is opened any more. A turn for which memory was wanting it makes again.
 pub fn keep<R: Wait>(
     rt: &R,
     standing: &Standing<Shapes>,
     mut keeper: Keeper,
     mut report: Report,
+    polls: bool,
 ) -> Kept
     requires stands { KeeperStands standing.now.heap.key.layout standing.now.heap.table.shared.table_id
         standing.now.hands.shared.table_id keeper }
@@ -198,7 +230,7 @@ pub fn keep<R: Wait>(
 {
     let mut turns = 0u64;
     for _ in rt.forever() {
-        let Ok(turn) = keeper.turn(rt, standing, &mut report) else {
+        let Ok(turn) = next_turn(rt, standing, &mut keeper, &mut report, polls) else {
             continue;
         };
         turns = turns.saturating_add(1);

@@ -19,7 +19,7 @@ pub struct Row {
     pub meets: bool,
     /// How many turns the last member rests, before it leaves; 0 where none rests.
     pub rests: u64,
-    /// Members and helpers wait in their own way: each tries again, and leaves the processor to others meanwhile.
+    /// All actors wait in their own way: each tries again, and leaves the processor to others meanwhile.
     pub polls: bool,
     ghost some: { 0 < members },
     ghost few: { members ≤ 16 },

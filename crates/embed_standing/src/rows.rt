@@ -82,6 +82,7 @@ fn long_row(name: &str) -> Option<(Row, u64)> {
         "one_leaves_in_its_first_part" => (4, 2, 8, Script::Births, 3999, 0, 1000),
         "some_ask_for_cycles" => (4, 2, 8, Script::Asks, 3999, 0, 1000),
         "all_wait_in_their_own_way" => (3, 2, 8, Script::Asks, 3999, 0, 1000),
+        "one_of_sixteen_leaves" => (16, 8, 0, Script::Sets, 1199, 0, 300),
         "sixteen_beside_eight" => (16, 8, 0, Script::Sets, 1199, 1199, 300),
         "sixteen_ask_beside_eight" => (16, 8, 4, Script::Asks, 1199, 1199, 300),
         _ => return None,

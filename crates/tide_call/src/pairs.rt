@@ -110,6 +110,7 @@ impl<'a, S: ShapeTable> Planner<'a, S> {
     }
 
     /// What a `PairSet` is to do.
+    #[inline(always)]
     pub(crate) fn plan_pair_set<C, O: OwnWords<C>>(
         &self,
         own: &mut O,
@@ -145,6 +146,7 @@ impl<'a, S: ShapeTable> Planner<'a, S> {
     }
 
     /// What a `PairGet` is to do.
+    #[inline(always)]
     pub(crate) fn plan_pair_get<C, O: OwnWords<C>>(
         &self,
         own: &mut O,

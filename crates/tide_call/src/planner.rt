@@ -77,6 +77,7 @@ impl<'a, S: ShapeTable> Planner<'a, S> {
     }
 
     /// The value that a register of the caller holds.
+    #[inline(always)]
     pub(crate) fn value_in<C, O: OwnRegisters<C>>(
         &self,
         own: &mut O,
@@ -93,6 +94,7 @@ impl<'a, S: ShapeTable> Planner<'a, S> {
     }
 
     /// The cell that a register of the caller holds, or that it holds none.
+    #[inline(always)]
     pub(crate) fn cell_in<C, O: OwnRegisters<C>>(
         &self,
         own: &mut O,

@@ -35,6 +35,7 @@ impl<'a, S: ShapeTable> Planner<'a, S> {
 
     /// What a call is to do whose mutator's registers and claims alone tell it: the first refusal that these tell, or
     /// what it does then. It takes no memory.
+    #[inline(always)]
     pub fn plan_by_registers<C, O: OwnRegisters<C>>(
         &self,
         own: &mut O,
@@ -86,6 +87,7 @@ impl<'a, S: ShapeTable> Planner<'a, S> {
 
     /// What a call of the operation is to do: the first refusal that the caller's own words tell, or what it does then.
     /// Whether another mutator claims a cell, and whether a class has room, they don't tell. It takes no memory.
+    #[inline(always)]
     pub fn plan_call<C, O: OwnWords<C>>(&self, own: &mut O, context: &C, op: Op) -> Action
         requires fits { FitsLayout self.now.layout op }
         requires known { MayCallNow (O.owns own.old context.now) self.now }

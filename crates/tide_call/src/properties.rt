@@ -92,6 +92,7 @@ impl<'a, S: ShapeTable> Planner<'a, S> {
     }
 
     /// What a `GetProp` is to do.
+    #[inline(always)]
     pub(crate) fn plan_get_property<C, O: OwnWords<C>>(
         &self,
         own: &mut O,
@@ -113,6 +114,7 @@ impl<'a, S: ShapeTable> Planner<'a, S> {
     }
 
     /// What a `SetProp` is to do.
+    #[inline(always)]
     pub(crate) fn plan_set_property<C, O: OwnWords<C>>(
         &self,
         own: &mut O,

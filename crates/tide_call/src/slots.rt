@@ -16,6 +16,7 @@ use tide_words::{TABLE, class_of, slots};
 
 impl<'a, S: ShapeTable> Planner<'a, S> {
     /// The cell in a register, which has this slot, or why the slot can't be read or written.
+    #[inline(always)]
     fn slot_holder<C, O: OwnRegisters<C>>(
         &self,
         own: &mut O,
@@ -46,6 +47,7 @@ impl<'a, S: ShapeTable> Planner<'a, S> {
     }
 
     /// What a `Get` is to do.
+    #[inline(always)]
     pub(crate) fn plan_get<C, O: OwnRegisters<C>>(
         &self,
         own: &mut O,
@@ -67,6 +69,7 @@ impl<'a, S: ShapeTable> Planner<'a, S> {
     }
 
     /// What a `Put` is to do.
+    #[inline(always)]
     pub(crate) fn plan_put<C, O: OwnRegisters<C>>(
         &self,
         own: &mut O,

@@ -146,11 +146,11 @@ module _ {T N I : Type 0} (ticket_ok : I → ℕ → T → Type 0) (note_ok : I 
       none q behind = elim (cases_eq q place) [
         | inl same ↦ elim (cases_Bool me.keeper) [
           | inl k ↦
-            let zero = (keepers k).none in
-            let were = r.none q behind in
-            let at = ap taken same ∙ taken_here in
-            let here = ap r.taken same in
-            omega (arith, at, zero, were, here)
+              let zero = (keepers k).none in
+              let were = r.none q behind in
+              let at = ap taken same ∙ taken_here in
+              let here = ap r.taken same in
+              omega (arith, at, zero, were, here)
           | inr k ↦ let seated = (old.member k).1 in let mine = its k in absurd (omega (arith, seated, mine, same, behind))
         ]
         | inr other ↦ taken_else q other ∙ r.none q behind
@@ -160,18 +160,18 @@ module _ {T N I : Type 0} (ticket_ok : I → ℕ → T → Type 0) (note_ok : I 
       round : round_after place word me ≡ taken place + lying word
       round = elim (cases_Bool me.keeper) [
         | inl k ↦
-          let at = round_of true k in
-          let posted = old.posted k place ∙ ap (λ (w : ℕ). r.taken place + lying w) found in
-          let more = (keepers k).posted in
-          let zero = (keepers k).none in
-          let bare = (keepers k).bare in
-          omega (arith, at, posted, more, zero, bare, taken_here)
+            let at = round_of true k in
+            let posted = old.posted k place ∙ ap (λ (w : ℕ). r.taken place + lying w) found in
+            let more = (keepers k).posted in
+            let zero = (keepers k).none in
+            let bare = (keepers k).bare in
+            omega (arith, at, posted, more, zero, bare, taken_here)
         | inr k ↦
-          let at = round_of false k in
-          let took = old.took k ∙ ap r.taken (sym (its k)) in
-          let zero = (members k).none in
-          let lay = (members k).lay in
-          omega (arith, at, took, zero, lay, taken_here)
+            let at = round_of false k in
+            let took = old.took k ∙ ap r.taken (sym (its k)) in
+            let zero = (members k).none in
+            let lay = (members k).lay in
+            omega (arith, at, took, zero, lay, taken_here)
       ]
         where
           round_of : (b : Bool) → me.keeper ≡ b → round_after place word me
@@ -279,20 +279,20 @@ module _ {T N I : Type 0} (ticket_ok : I → ℕ → T → Type 0) (note_ok : I 
             ];
             posted = λ k q. elim (cases_eq q place) [
               | inl same ↦
-                let lay = (members (no_keeper (was.keeper k).0)).lay in
-                let now = ap lying (ap (slice_index words) same ∙ stored) in
-                let were = was.posted k q ∙ (λ i. r.taken (same i) + lying ((ap (slice_index s.words) same ∙ found) i)) in
-                let at = ap taken same in
-                omega (arith, lay, now, were, at, taken_here)
+                  let lay = (members (no_keeper (was.keeper k).0)).lay in
+                  let now = ap lying (ap (slice_index words) same ∙ stored) in
+                  let were = was.posted k q ∙ (λ i. r.taken (same i) + lying ((ap (slice_index s.words) same ∙ found) i)) in
+                  let at = ap taken same in
+                  omega (arith, lay, now, were, at, taken_here)
               | inr other ↦ was.posted k q ∙ (λ i. sym (taken_else q other) i + lying (sym (elsewhere q other) i))
             ];
             took = λ k. elim (cases_eq view.place place) [
               | inl same ↦ elim (cases_Bool me.keeper) [
                 | inl keeps ↦
-                  let zero = (keepers keeps).none in
-                  let were = was.took k ∙ ap r.taken same in
-                  let at = ap taken same in
-                  omega (arith, zero, were, at, taken_here)
+                    let zero = (keepers keeps).none in
+                    let were = was.took k ∙ ap r.taken same in
+                    let at = ap taken same in
+                    omega (arith, zero, were, at, taken_here)
                 | inr plays ↦ absurd (apart (sym (was.member k).2 ∙ ap r.seats (same ∙ its plays) ∙ (old.member plays).2))
               ]
               | inr other ↦ was.took k ∙ sym (taken_else view.place other)

@@ -48,22 +48,25 @@ moves_of found word moves = elim (or_cases (found == word) (is_post found word |
   | inr other ↦ elim (or_cases (is_post found word) (is_take found word) other) [
     | inl post ↦ elim (or_cases ((found == 0) && ((word == 1) || (word == 4))) ((found == 2) && (word == 3)) post) [
       | inl opens ↦
-        let parts = and_parts (found == 0) ((word == 1) || (word == 4)) opens in
-        inr (inl (eqb-true found 0 parts.0, elim (or_cases (word == 1) (word == 4) parts.1) [
-          | inl one ↦ inl (eqb-true word 1 one)
-          | inr four ↦ inr (eqb-true word 4 four)
-        ]))
+          let parts = and_parts (found == 0) ((word == 1) || (word == 4)) opens in
+          inr (inl (
+            eqb-true found 0 parts.0,
+            elim (or_cases (word == 1) (word == 4) parts.1) [
+              | inl one ↦ inl (eqb-true word 1 one)
+              | inr four ↦ inr (eqb-true word 4 four)
+            ],
+          ))
       | inr notes ↦
-        let parts = and_parts (found == 2) (word == 3) notes in
-        inr (inr (inl (eqb-true found 2 parts.0, eqb-true word 3 parts.1)))
+          let parts = and_parts (found == 2) (word == 3) notes in
+          inr (inr (inl (eqb-true found 2 parts.0, eqb-true word 3 parts.1)))
     ]
     | inr take ↦ elim (or_cases ((found == 1) && (word == 2)) ((found == 3) && (word == 0)) take) [
       | inl ticket ↦
-        let parts = and_parts (found == 1) (word == 2) ticket in
-        inr (inr (inr (inl (eqb-true found 1 parts.0, eqb-true word 2 parts.1))))
+          let parts = and_parts (found == 1) (word == 2) ticket in
+          inr (inr (inr (inl (eqb-true found 1 parts.0, eqb-true word 2 parts.1))))
       | inr note ↦
-        let parts = and_parts (found == 3) (word == 0) note in
-        inr (inr (inr (inr (eqb-true found 3 parts.0, eqb-true word 0 parts.1))))
+          let parts = and_parts (found == 3) (word == 0) note in
+          inr (inr (inr (inr (eqb-true found 3 parts.0, eqb-true word 0 parts.1))))
     ]
   ]
 ]

@@ -11,13 +11,24 @@ IsIdle me = (me.0.out ≡ 0) × (me.1 ≡ [])
 
 -- of a view what no call changes but the one that seats a member
 abbrev pub frame : {I : Type 0} → HandView I → HandView I
-frame v = record v { out = 0; free = []; tickets = []; notes = []; ends = []; over = false; due = false; at = 0; found = 0;
-    given = 0; taken = 0 }
+frame v = record v {
+  out = 0;
+  free = [];
+  tickets = [];
+  notes = [];
+  ends = [];
+  over = false;
+  due = false;
+  at = 0;
+  found = 0;
+  given = 0;
+  taken = 0;
+}
 
 module _ {T I : Type 0} where
   -- what was found is a ticket, which was taken, so that a note is due, or an end that was posted; or nothing was taken
   abbrev pub IsFound : (T → Type 0) → HandView I → HandView I → Found T → Type 0
-  IsFound ticket_ok v w Nothing = w.taken ≡ v.taken
+  IsFound ticket_ok v w Nothing = (w.taken ≡ v.taken) × (w.over ≡ v.over)
   IsFound ticket_ok v w (Ticket ticket) = ticket_ok ticket × (w.taken ≡ v.taken + 1) × (w.due ≡ true)
   IsFound ticket_ok v w End = (w.over ≡ true) × (w.taken ≡ v.taken)
 

@@ -116,9 +116,9 @@ module _ (layout : Layout) (left : List Bool) where
   pub got-left : (place q : ℕ) → has_left layout left place ≡ true → got layout left (place + 1) q ≡ got layout left place q
   got-left place q is = elim (cases_eq q place) [
     | inl same ↦
-      let has = ap (has_left layout left) same ∙ is in
-      ap {B = ℕ} (λ (b : Bool). if b then 0 else (if nat_lt q (place + 1) then 1 else 0)) has
-      ∙ sym (ap {B = ℕ} (λ (b : Bool). if b then 0 else (if nat_lt q place then 1 else 0)) has)
+        let has = ap (has_left layout left) same ∙ is in
+        ap {B = ℕ} (λ (b : Bool). if b then 0 else (if nat_lt q (place + 1) then 1 else 0)) has
+        ∙ sym (ap {B = ℕ} (λ (b : Bool). if b then 0 else (if nat_lt q place then 1 else 0)) has)
     | inr apart ↦ ap {B = ℕ} (λ (b : Bool). if has_left layout left q then 0 else (if b then 1 else 0)) (below-more q place apart)
   ]
 
@@ -127,15 +127,15 @@ module _ (layout : Layout) (left : List Bool) where
       times q was ≡ times q start + got layout left place q → times q now ≡ times q start + got layout left (place + 1) q
   got-one place q start was now isnt is were = elim (cases_eq q place) [
     | inl same ↦
-      let here = ap (times q) is ∙ ap {B = ℕ} (λ (b : Bool). (if b then 1 else 0) + times q was) (eq-eqb q place same) in
-      let none = got-none place q (let at = same in omega (arith, at)) in
-      let one = got-all (place + 1) q (let at = same in omega (arith, at))
-      ∙ ap {B = ℕ} (λ (b : Bool). if b then 0 else 1) (ap (has_left layout left) same ∙ isnt) in
-      omega (arith, here, none, one, were)
+        let here = ap (times q) is ∙ ap {B = ℕ} (λ (b : Bool). (if b then 1 else 0) + times q was) (eq-eqb q place same) in
+        let none = got-none place q (let at = same in omega (arith, at)) in
+        let one = got-all (place + 1) q (let at = same in omega (arith, at))
+        ∙ ap {B = ℕ} (λ (b : Bool). if b then 0 else 1) (ap (has_left layout left) same ∙ isnt) in
+        omega (arith, here, none, one, were)
     | inr apart ↦
-      let there = ap (times q) is ∙ ap {B = ℕ} (λ (b : Bool). (if b then 1 else 0) + times q was) (ne_eqb q place apart) in
-      let as_was = ap {B = ℕ} (λ (b : Bool). if has_left layout left q then 0 else (if b then 1 else 0)) (below-more q place apart) in
-      omega (arith, there, as_was, were)
+        let there = ap (times q) is ∙ ap {B = ℕ} (λ (b : Bool). (if b then 1 else 0) + times q was) (ne_eqb q place apart) in
+        let as_was = ap {B = ℕ} (λ (b : Bool). if has_left layout left q then 0 else (if b then 1 else 0)) (below-more q place apart) in
+        omega (arith, there, as_was, were)
   ]
 
 -- how many notes of the open part are out of a place, where those of all places below one are in
@@ -150,12 +150,12 @@ pub out-one : (place q number : ℕ) (was now : List ℕ) → now ≡ place ∷ 
     times q now + out_of (place + 1) q ≡ number
 out-one place q number was now is were = elim (cases_eq q place) [
   | inl same ↦
-    let here = ap (times q) is ∙ ap {B = ℕ} (λ (b : Bool). (if b then 1 else 0) + times q was) (eq-eqb q place same) in
-    let before = ap {B = ℕ} (λ (b : Bool). if b then 0 else 1) (le-ltb q place (let at = same in omega (arith, at))) in
-    let after = ap {B = ℕ} (λ (b : Bool). if b then 0 else 1) (lt-ltb q (place + 1) (let at = same in omega (arith, at))) in
-    omega (arith, here, before, after, were)
+      let here = ap (times q) is ∙ ap {B = ℕ} (λ (b : Bool). (if b then 1 else 0) + times q was) (eq-eqb q place same) in
+      let before = ap {B = ℕ} (λ (b : Bool). if b then 0 else 1) (le-ltb q place (let at = same in omega (arith, at))) in
+      let after = ap {B = ℕ} (λ (b : Bool). if b then 0 else 1) (lt-ltb q (place + 1) (let at = same in omega (arith, at))) in
+      omega (arith, here, before, after, were)
   | inr apart ↦
-    let there = ap (times q) is ∙ ap {B = ℕ} (λ (b : Bool). (if b then 1 else 0) + times q was) (ne_eqb q place apart) in
-    let as_was = out-more place q apart in
-    omega (arith, there, as_was, were)
+      let there = ap (times q) is ∙ ap {B = ℕ} (λ (b : Bool). (if b then 1 else 0) + times q was) (ne_eqb q place apart) in
+      let as_was = out-more place q apart in
+      omega (arith, there, as_was, were)
 ]

@@ -96,7 +96,8 @@ impl Helper {
             × (self.new.seat.seat.me.0.given ≡ self.old.seat.seat.me.0.given)
             × (self.new.seat.seat.me.0.taken ≡ self.old.seat.seat.me.0.taken) }
         ensures not_yet { result ≡ None → (self.new.seat.seat.me.0.given ≡ self.old.seat.seat.me.0.given)
-            × (self.new.seat.seat.me.0.taken ≡ self.old.seat.seat.me.0.taken) }
+            × (self.new.seat.seat.me.0.taken ≡ self.old.seat.seat.me.0.taken)
+            × (self.new.seat.seat.me.0.over ≡ self.old.seat.seat.me.0.over) }
     {
         match self.seat.take_ticket(&standing.hands.shared) {
             Found::Nothing => None,

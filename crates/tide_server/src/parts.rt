@@ -149,6 +149,7 @@ impl Member {
         ensures not_yet { result ≢ offered.Begun → (self.new.works ≡ false) × (self.new.mutator ≡ self.old.mutator)
             × (self.new.seat.seat.me.0.taken ≡ self.old.seat.seat.me.0.taken) }
         ensures over { result ≡ offered.Over → self.new.seat.seat.me.0.over ≡ true }
+        ensures waits { result ≡ offered.NotYet → self.new.seat.seat.me.0.over ≡ self.old.seat.seat.me.0.over }
     {
         match self.seat.take_ticket(&standing.hands.shared) {
             Found::Nothing => Offered::NotYet,

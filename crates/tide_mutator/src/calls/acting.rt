@@ -20,6 +20,7 @@ use tide_heap::{Action, Heap, HeapShapes, Pass};
 use tide_model::{Reply, Turnstile};
 
 /// Carries out an action of a handle, of a pair or of a group, or one to retire or to ask for a cycle.
+#[inline(always)]
 fn act_on_rest<S: HeapShapes>(pass: &mut Pass, heap: &Heap<S>, call: Call, action: Action) -> Reply
     requires may { MayAct S.lists heap.now pass.old call action }
     requires rest { is_rest action ≡ true }
@@ -50,6 +51,7 @@ fn act_on_rest<S: HeapShapes>(pass: &mut Pass, heap: &Heap<S>, call: Call, actio
 }
 
 /// Carries out any action but a growth.
+#[inline(always)]
 fn act_without_growth<S: HeapShapes, T: Turnstile>(
     pass: &mut Pass,
     heap: &Heap<S>,
@@ -93,6 +95,7 @@ fn act_without_growth<S: HeapShapes, T: Turnstile>(
 }
 
 /// Carries out the action of a call, whose number its call word tells then.
+#[inline(always)]
 pub(crate) fn act<S: HeapShapes, T: Turnstile>(
     pass: &mut Pass,
     heap: &Heap<S>,

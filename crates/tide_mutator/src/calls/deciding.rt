@@ -15,6 +15,7 @@ use tide_shape::ShapeTable;
 
 /// Decides what a call of a mutator with these claims is to do. The first step of a call is a load of its call word: of
 /// any step its mutator knows that references are live, and that the words read as some state.
+#[inline(always)]
 pub(crate) fn decide<S: ShapeTable>(
     own: &mut OwnPass,
     heap: &Heap<S>,

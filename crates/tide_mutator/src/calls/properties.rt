@@ -7,6 +7,7 @@ use tide_heap::{Addition, Heap, HeapShapes, Pass, val_word};
 use tide_model::{Reply, Turnstile, Val};
 
 /// Loads a property, and fills a register with what it holds.
+#[inline(always)]
 pub(crate) fn get_property<S: HeapShapes>(
     pass: &mut Pass,
     heap: &Heap<S>,
@@ -23,6 +24,7 @@ pub(crate) fn get_property<S: HeapShapes>(
 }
 
 /// Stores a property, and pays the barrier of its cell.
+#[inline(always)]
 pub(crate) fn put_property<S: HeapShapes, T: Turnstile>(
     pass: &mut Pass,
     heap: &Heap<S>,

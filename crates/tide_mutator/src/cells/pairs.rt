@@ -7,6 +7,7 @@ use tide_heap::{Heap, HeapShapes, Pass, pair_word};
 use tide_model::{Reply, Val};
 
 /// Stores a pair of a table.
+#[inline(always)]
 pub fn put_pair<S: HeapShapes>(
     pass: &mut Pass,
     heap: &Heap<S>,
@@ -41,6 +42,7 @@ pub fn drop_pair<S: HeapShapes>(
 }
 
 /// Sees the value of a pair of a table, and fills a register with it.
+#[inline(always)]
 pub fn get_pair<S: HeapShapes>(
     pass: &mut Pass,
     heap: &Heap<S>,

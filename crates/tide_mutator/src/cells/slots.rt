@@ -7,6 +7,7 @@ use tide_heap::{Heap, HeapShapes, Pass, val_word};
 use tide_model::{Reply, Turnstile, Val};
 
 /// Loads a slot, and fills a register with what it holds.
+#[inline(always)]
 pub fn get<S: HeapShapes>(
     pass: &mut Pass,
     heap: &Heap<S>,
@@ -23,6 +24,7 @@ pub fn get<S: HeapShapes>(
 }
 
 /// Stores a slot, and pays the barrier of its cell.
+#[inline(always)]
 pub fn put<S: HeapShapes, T: Turnstile>(
     pass: &mut Pass,
     heap: &Heap<S>,

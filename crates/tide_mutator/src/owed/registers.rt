@@ -25,6 +25,7 @@ pub fn pay<S: HeapShapes>(pass: &mut Pass, heap: &Heap<S>, call_number: u64, dst
 }
 
 /// Tells the value of a word that a call has seen, with which it fills a register.
+#[inline(always)]
 pub fn show<S: HeapShapes>(
     pass: &mut Pass,
     heap: &Heap<S>,

@@ -55,8 +55,7 @@ returns-clause-stands g c = λ many.
     ∙ (λ i. if has_left (same i).key.layout (sym did.same.2 i) place then 0 else 1))
     (did.notes ∙ ap (λ (s : KeeperSeat Ticket HandedIn Name). s.seat.me.0.notes) c.new-keeper.ensures.seat
     ∙ ap (λ (v : HandView Name). v.notes) c.in_ok-helpers.ensures.kept
-    ∙ ap (λ (v : HandView Name). v.notes) c.in_ok-members.ensures.kept ∙ c.in_ok-standing.ensures.nothing.4)
-    (
+    ∙ ap (λ (v : HandView Name). v.notes) c.in_ok-members.ensures.kept ∙ c.in_ok-standing.ensures.nothing.4) (
       did.over ∙ ap (λ (s : KeeperSeat Ticket HandedIn Name). s.seat.me.0.over) c.new-keeper.ensures.seat
           ∙ ap (λ (v : HandView Name). v.over) c.in_ok-helpers.ensures.kept
           ∙ ap (λ (v : HandView Name). v.over) c.in_ok-members.ensures.kept ∙ c.in_ok-standing.ensures.nothing.0,

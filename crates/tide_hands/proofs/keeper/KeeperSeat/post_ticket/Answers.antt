@@ -29,10 +29,12 @@ put-requires-clause-content g c =
     let taken = took g.P.Parcels.ticket_ok g.P.Parcels.note_ok place c.look.result me c.look.new.seat.me
     (turn_keeper me.0 c.look.result 0 c.args.self.now.keeper c.in-0.is refl) c.look.ensures.looked.1 in
     subst (λ (m : Me (Parcel g.row.T.Denot g.row.N.Denot) (HandView g.row.I.Denot)).
-    Content g.P.Parcels.ticket_ok g.P.Parcels.note_ok m.0.name place (round_after place 1 m.0) 1 (Ticket c.args.ticket)) (sym taken.is)
-    (refl, subst (λ (n : ℕ). g.P.Parcels.ticket_ok me.0.name n c.args.ticket)
-    (sym (λ i. round_keeper me.0 place c.look.result 0 c.in-0.is c.args.self.now.keeper i
-    + (if is_ticket_post (c.in-0.is i) 1 then 1 else 0))) c.requires.ticket)
+    Content g.P.Parcels.ticket_ok g.P.Parcels.note_ok m.0.name place (round_after place 1 m.0) 1 (Ticket c.args.ticket)) (sym taken.is) (
+      refl,
+      subst (λ (n : ℕ). g.P.Parcels.ticket_ok me.0.name n c.args.ticket)
+          (sym (λ i. round_keeper me.0 place c.look.result 0 c.in-0.is c.args.self.now.keeper i
+          + (if is_ticket_post (c.in-0.is i) 1 then 1 else 0))) c.requires.ticket,
+    )
 
 pub give-requires-clause-lies : goal.give-requires-clause-lies
 give-requires-clause-lies g c =
