@@ -23,6 +23,13 @@ pub struct MemberSeat<T, N, I> {
 }
 
 impl<T: Drop, N: Drop, I> MemberSeat<T, N, I> {
+    /// Its place in the table.
+    pub fn place(&self) -> usize
+        ensures { result ≡ self.now.place }
+    {
+        self.place
+    }
+
     /// The ticket that lies at its place, where one does; a note is due then. Or an end, where one was posted.
     pub fn take_ticket<P: Parcels<T, N, I>, K: Keyed<I>>(
         &mut self,

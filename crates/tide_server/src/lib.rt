@@ -26,8 +26,10 @@ mod finishing;
 mod opening;
 mod taking;
 // these stand on those listed before
+mod beds;
 mod turning;
 
+pub use beds::{Beds, Woken};
 pub use helper::{Helper, Worked};
 pub use keeper::Keeper;
 pub use member::Member;

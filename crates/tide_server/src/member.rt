@@ -47,6 +47,13 @@ impl Member {
         }
     }
 
+    /// Its number, which counts from 0.
+    pub fn number(&self) -> usize
+        ensures { result ≡ (view_of self.now.mutator).who }
+    {
+        self.seat.place()
+    }
+
     /// Whether its last call was refused for room a first time: then the same operation comes next.
     pub fn retries(&self) -> bool
         ensures is { result ≡ is_some (retry_of (view_of self.now.mutator).who (view_of self.now.mutator).mine) }

@@ -1,5 +1,6 @@
 //! `Resting`: a member that rests. It makes no call.
 ghost use Rattle.std.specs.Prelude.{◌≡◌, false};
+ghost use Rattle.tide_mutator.specs.calls.Viewed.{view_of};
 
 use crate::member::Member;
 
@@ -18,6 +19,13 @@ impl Resting {
         ensures { result.member ≡ member }
     {
         Resting { member }
+    }
+
+    /// The number of its mutator, which counts from 0.
+    pub fn number(&self) -> usize
+        ensures { result ≡ (view_of self.now.member.mutator).who }
+    {
+        self.member.number()
     }
 
     /// Its member wakes, and is as it was when it came to rest, but for what it has seen.
