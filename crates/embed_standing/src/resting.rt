@@ -48,6 +48,7 @@ pub fn rest_with_a_cell<R: Wait>(
         &mut member,
         Op::Alloc { dst: 0, class: 0 },
         tally,
+        false,
     )?;
     if born != Reply::Born(0) {
         tally.add_wrong();
@@ -121,8 +122,8 @@ fn finds_its_cell<R: Wait>(
         src: 0,
         slot: 0,
     };
-    ask(rt, standing, member, put, tally)?;
-    let seen = ask(rt, standing, member, get, tally)?;
+    ask(rt, standing, member, put, tally, false)?;
+    let seen = ask(rt, standing, member, get, tally, false)?;
     member.leave(rt, standing, tally)?;
     Ok(seen == Reply::Seen(Val::Cell(0)))
 }
