@@ -91,9 +91,7 @@ fn play<R: Threads + Wait + Sync>(
             rt, standing, keeper, report, members, helpers, row, tally,
         );
     }
-    Ok(Some(play_all(
-        rt, standing, keeper, report, members, helpers, row, tally,
-    )))
+    Ok(Some(play_all(rt, standing, keeper, report, members, helpers, row, tally)))
 }
 
 /// What was seen of a heap that is over.
@@ -165,9 +163,7 @@ pub fn run<R: Threads + Wait + Sync>(
         helpers,
     } = opened;
     let tally = Tally::new(row.meets);
-    let played = play(
-        rt, &standing, keeper, report, members, helpers, row, &tally,
-    )?;
+    let played = play(rt, &standing, keeper, report, members, helpers, row, &tally)?;
     let Some(kept) = played else {
         return Ok(None);
     };
