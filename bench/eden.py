@@ -4,8 +4,8 @@
 
 PROGRAM is crates/riptide/out/riptide where none is given; of several each has its rows, and they run in turn, so that a
 program with Eden cycles and one whose cycles are all full are timed in one run. Each workload is run TIMES times (21), and
-medians are printed. A second mutator has no calls, so that a thread is started. Times are told by bench/freezes.c, which gcc
-builds. It asks for two processors.
+medians are printed. A second mutator asks for each collection too, and in the first workload has as many calls, which do nothing,
+so that a thread is started in each part. Times are told by bench/freezes.c, which gcc builds. It asks for two processors.
 
 In the first workload a chain of 5,120 cells is held all the time, ten times as many as are new where a cycle begins. Then come
 16 cycles, which begin by themselves. Before each, 512 cells are born in a chain, and the last one's is dropped; while it marks,
@@ -67,10 +67,10 @@ def walks(puts):
     return chain("r0", OLD) + (["collect", "move r1 r0"] + step * OLD) * WALKS
 
 
-def write(path, head, ops):
+def write(path, head, ops, others):
     with open(path, "w") as file:
         file.write(HEAD + head)
-        for script in (ops, []):
+        for script in (ops, others):
             file.write("\n[[mutator]]\nops = [\n" + ",\n".join(f'"{op}"' for op in script) + "\n]\n")
 
 
@@ -115,7 +115,8 @@ def main():
         new, old, puts = ["alloc r0 0"], ["alloc r0 0", "collect"], ["put r0 1 r0"] * PUTS
         for path, head, ops in zip(paths, [triggered] * 2 + [whole] * 6, [
                 set_up(), set_up() + cycles(), new, new + puts, old, old + puts, walks(0), walks(1)]):
-            write(path, head, ops)
+            others = [op if op == "collect" else "drop r0" for op in ops if op == "collect" or head == triggered]
+            write(path, head, ops, others)
         rows = [[(pauses(program, *paths[:2], shim), put(program, *paths[2:4], PUTS, shim),
                   put(program, *paths[4:6], PUTS, shim), put(program, *paths[6:], OLD * WALKS, shim))
                  for program in programs] for _ in range(times)]

@@ -1,8 +1,9 @@
 /* What lies on a program's first thread between the end of one part and the start of the next: from where it joined the
  * last thread of a part to where it starts the first thread of the next, or writes. That is the part's freeze, with what
  * little stands around it. And what lies between: from where it starts the first thread of a part to where it joined the
- * last. Loaded before the C library, it prints at the end how many there were of each, their sum and the longest, in
- * microseconds; and before that each one in a line of its own, if FREEZES_EACH is in the environment. */
+ * last. A part for which no thread is started isn't told, and lies in the time of the freeze before it. Loaded before the
+ * C library, it prints at the end how many there were of each, their sum and the longest, in microseconds; and before that
+ * each one in a line of its own, if FREEZES_EACH is in the environment. */
 #define _GNU_SOURCE
 #include <dlfcn.h>
 #include <pthread.h>

@@ -13,7 +13,7 @@ longest of them.
 - In `full of dead cells` the chain dies before it is collected.
 - In `dead cells and arrays` 16,384 cells die, and with 4,096 of them the array of their property.
 
-A second mutator has no call, so that both programs start a thread for each part. It asks for two processors.
+A second mutator asks for each collection too, so that both programs start a thread for each part. It asks for two processors.
 """
 import os
 import re
@@ -69,7 +69,7 @@ WORKLOADS = [
 def write(path, ops):
     with open(path, "w") as file:
         file.write(HEAD)
-        for script in (ops, []):
+        for script in (ops, [op for op in ops if op == "collect"]):
             file.write("\n[[mutator]]\nops = [\n")
             file.writelines(f'"{op}",\n' for op in script)
             file.write("]\n")

@@ -82,11 +82,11 @@ SQUARES = [("keys", 14300, keys), ("turns", 16384, turns), ("pairs", 4000, pairs
 
 
 def write(path, blocks, operations):
-    """A second mutator has no operation: for it a thread is started, by which a freeze is told."""
+    """A second mutator asks for the collection too: for it a thread is started, by which a freeze is told."""
     with open(path, "w") as file:
         file.write(HEAD % blocks)
         file.writelines(f'  "{one}",\n' for one in operations)
-        file.write('  "collect",\n]\n\n[[mutator]]\nops = []\n')
+        file.write('  "collect",\n]\n\n[[mutator]]\nops = ["collect"]\n')
 
 
 def run(command, path, out, shim):

@@ -8,7 +8,7 @@ largest heap into one register, in one part; the cycle that begins by itself in 
 the last. In the second part it allocates 20,479 more, for which each block is swept, and in the third it retires. Each is
 run TIMES times (21). Of each freeze and each part the time is told by bench/freezes.c, which gcc builds: of the freeze after
 the first part, in which all cells die; of the last one, which sweeps all; of the first part and of the second. A second
-mutator has no calls, so that a thread is started.
+mutator has as many calls, which do nothing, so that a thread is started in each part.
 
 The columns are medians: the freeze in which the cells die, a cell of it, the longest freeze of the run, and an allocation of
 the first part and of the second; and from the two, what a block's sweep takes those that want it. Behind the table stands
@@ -43,8 +43,9 @@ ALL = re.compile(rb"(\d+) freezes, (\d+) microseconds in all, the longest (\d+)"
 def write(path):
     born = ['"table r0"' if cell >= 4 * CELLS // 5 else f'"alloc r0 {cell // (CELLS // 5)}"' for cell in range(CELLS)]
     with open(path, "w") as file:
-        file.write(HEAD + "\n[[mutator]]\nops = [\n" + ",\n".join(born + born[:-1] + ['"drop r0"'])
-                   + "\n]\n\n[[mutator]]\nops = []\n")
+        file.write(HEAD)
+        for script in (born + born[:-1] + ['"drop r0"'], ['"drop r0"'] * 2 * CELLS):
+            file.write("\n[[mutator]]\nops = [\n" + ",\n".join(script) + "\n]\n")
 
 
 def run(words, source, shim):

@@ -9,8 +9,8 @@ collection that is asked for, and of a run's longest one. At its end each says h
 with 1 where these numbers differ. With --write the table goes into docs/BENCH.md, between its marks.
 
 riptide's operations are told as the clock's time of its run, less that of a run of the same file that is refused for a last
-line that is no operation, once all of it was read; a second mutator without operations is there so that threads start, by
-which bench/freezes.c tells a freeze. So its operations have their lines of text in them, and the start of threads.
+line that is no operation, once all of it was read; another mutator asks for each collection too, so that a thread starts in
+each part, by which bench/freezes.c tells a freeze. So its operations have their lines of text in them, and the start of threads.
 """
 import os
 import re
@@ -35,12 +35,6 @@ strong = 256
 blocks = [64, 64, 64, 64, 0]
 period = 65536
 headroom = 1000000
-
-[[mutator]]
-ops = []
-
-[[mutator]]
-ops = [
 """
 CODES = {name: code for code, name in enumerate(["alloc", "get", "put", "move", "drop", "strong", "sget", "collect"])}
 
@@ -94,8 +88,10 @@ WORKLOADS = [("live heap", live_heap()), ("dead heap", dead_heap()), ("short liv
 def write_workload(path, ops):
     with open(path, "w") as file:
         file.write(HEAD)
-        file.writelines(f'  "{op}",\n' for op in ops)
-        file.write("]\n")
+        for script in ([op for op in ops if op == "collect"], ops):
+            file.write("\n[[mutator]]\nops = [\n")
+            file.writelines(f'  "{op}",\n' for op in script)
+            file.write("]\n")
 
 
 def write_calls(path, ops):

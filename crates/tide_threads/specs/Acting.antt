@@ -1,11 +1,12 @@
 -- Who acts in a part, and what participants have: the mutators among them their cursors, and each a note that is out.
-use Rattle.std.specs.Prelude.{ℕ, ◌+◌, Bool, true, false, List, [], ◌∷◌, Option, None, Some}
+use Rattle.std.specs.Prelude.{ℕ, ◌+◌, Bool, true, false, not, List, [], ◌∷◌, count_by, Option, None, Some}
 use Rattle.crossbeam_utils.specs.Padded.{padded_value}
 use Rattle.crossbeam_utils.specs.declared.cache_padded.CachePadded.{CachePadded}
 use Rattle.tide_heap.specs.Turns.{noted}
 use Rattle.tide_heap.specs.tide_core.declared.machine.view.View.{View}
 use Rattle.tide_periods.specs.declared.cursor.ScriptCursor.{ScriptCursor}
 use Rattle.tide_heap.specs.declared.steps.notes.Note.{Note}
+use Rattle.tide_heap.specs.declared.steps.notes.Ticket.{Ticket}
 use Rattle.tide_threads.specs.declared.participant.Participant.{Participant}
 use Rattle.tide_threads.specs.declared.worker.Worker.{Worker}
 use Rattle.tide_threads.specs.declared.worker.Worker.TheVariants.{Mutator, Visitor}
@@ -19,6 +20,21 @@ has_left (Visitor counting) = false
 abbrev pub is_silent : Worker → Bool
 is_silent (Mutator calling) = calling.cursor.retired
 is_silent (Visitor counting) = true
+
+-- who has something to do in the part of a ticket: a mutator that hasn't retired, which has a call to make, and a visitor
+-- where the ticket tells that a cycle marks; without a ticket nobody has
+abbrev pub is_busy_with : Option Ticket → Worker → Bool
+is_busy_with None worker = false
+is_busy_with (Some ticket) (Mutator calling) = not calling.cursor.retired
+is_busy_with (Some ticket) (Visitor counting) = ticket.seat.me.0.marks
+
+-- whether a participant has something to do with its ticket
+abbrev pub is_busy : Participant → Bool
+is_busy x = is_busy_with x.ticket x.worker
+
+-- how many participants have
+abbrev pub busy_in : List (CachePadded Participant) → ℕ
+busy_in participants = count_by (λ padded. is_busy (padded_value padded)) participants
 
 -- a mutator's cursor
 abbrev pub cursor_of : Worker → Option ScriptCursor

@@ -3,7 +3,7 @@ ghost use Rattle.std.specs.Prelude.{◌≡◌, ◌<◌, ◌+◌, ℕ, [], IfOk, 
 ghost use Rattle.tide_heap.specs.tide_core.machine.Frozen.{newcomer};
 ghost use Rattle.tide_heap.specs.tide_core.machine.World.{first_visitor};
 ghost use Rattle.tide_shape.specs.Lists.{lists_of};
-ghost use Rattle.tide_threads.specs.Acting.{cursor_of};
+ghost use Rattle.tide_threads.specs.Acting.{cursor_of, is_busy};
 ghost use Rattle.tide_threads.specs.Fresh.{IsFresh};
 ghost use Rattle.tide_threads.specs.Playing.{DidPart, HasMadePart, MayBeginPart, MayPlay};
 
@@ -59,6 +59,16 @@ impl Participant {
         ensures no_cursor { cursor_of result.worker ≡ None }
     {
         Participant::new(Worker::Visitor(CountingVisitor::new(pass, stack)))
+    }
+
+    /// Whether it has something to do with its ticket.
+    pub(crate) fn is_busy(&self) -> bool
+        ensures { result ≡ is_busy self.now }
+    {
+        match &self.ticket {
+            Some(ticket) => self.worker.is_busy_with(ticket),
+            None => false,
+        }
     }
 
     /// Who acted, when all is run.

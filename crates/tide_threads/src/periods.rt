@@ -136,8 +136,9 @@ pub(crate) fn close_run(on: OnThreads, log: CycleLog) -> Result<HeapRun, Memory>
 }
 
 /// Runs the scripts of a heap's mutators, on which nothing was run yet: in each part each mutator makes its calls, and
-/// each visitor its visits, on no more threads than `threads`. As far as there are as many as participants, each has
-/// one of its own; those that share one act in turn, so that none of them may be held until another has acted.
+/// each visitor its visits, on no more threads than `threads`, and where one alone has something to do on the caller's
+/// own. As far as there are as many as participants, each else has one of its own; those that share one act in turn, so
+/// that none of them may be held until another has acted.
 ///
 /// In the freeze after a part the cycle that marks goes on, and a whole one is run after a part in which a mutator
 /// asked for one, was first refused for room or, as the last, retired; else one begins where the trigger asks for it.

@@ -1,8 +1,9 @@
 //! A part on threads: each participant does its part on one of them. It opens no part and freezes none.
-ghost use Rattle.std.specs.Prelude.{◌≡◌, ℕ, All, IfOk, Some, false, slice_get};
+ghost use Rattle.std.specs.Prelude.{◌≡◌, ◌<◌, ◌≤◌, ℕ, All, IfOk, Some, false, length, max, min, slice_get};
 ghost use Rattle.crossbeam_utils.specs.Padded.{padded_value};
 ghost use Rattle.crossbeam_utils.specs.declared.cache_padded.CachePadded.{CachePadded};
 ghost use Rattle.tide_shape.specs.Lists.{lists_of};
+ghost use Rattle.tide_threads.specs.Acting.{busy_in, is_busy};
 ghost use Rattle.tide_threads.specs.Playing.{AllServed, Both, DidPart, MayHear, MayPlay, TookTurn};
 ghost use Rattle.tide_threads.specs.declared.participant.Participant.{Participant};
 
@@ -27,8 +28,29 @@ fn play_one<T: Turnstile>(padded: &mut CachePadded<Participant>, heap: &Heap<Sha
     participant.play_part(heap, turnstile);
 }
 
-/// The part of each participant, on as many threads as there are participants, and on no more than so many. Those of
-/// one thread do their parts in turn.
+/// Whether a participant has something to do with its ticket.
+fn is_busy(padded: &CachePadded<Participant>) -> bool
+    ensures { result ≡ is_busy (padded_value padded.now) }
+{
+    padded.is_busy()
+}
+
+/// On how many threads the part of each participant is played: on one, the caller's own, where at most one of them has
+/// something to do, and else on as many as there are participants, and on no more than so many.
+fn threads_for(participants: &[CachePadded<Participant>], threads: usize) -> usize
+    ensures alone { busy_in participants.now ≤ 1 → result ≡ 1 }
+    ensures beside { 1 < busy_in participants.now → result ≡ min (length participants.now) (max threads 1) }
+    ensures some { 0 < result }
+{
+    let busy = participants.iter().filter(|padded| is_busy(padded)).count();
+    if busy > 1 {
+        participants.len().min(threads.max(1))
+    } else {
+        1
+    }
+}
+
+/// The part of each participant, on no more than so many threads. Those of one thread do their parts in turn.
 fn play_all<R: Threads + Sync, T: Turnstile>(
     rt: &R,
     threads: usize,
@@ -41,20 +63,18 @@ fn play_all<R: Threads + Sync, T: Turnstile>(
     ensures did { Both (DidPart heap.now.table.shared.table_id heap.now.key.layout (lists_of heap.now.key.shapes))
         participants.old participants.new }
 {
-    let count = participants.len();
-    if count > 0 {
-        thread::for_each_mut(
-            rt,
-            participants,
-            count.min(threads.max(1)),
-            &|_, padded|
-                requires { MayPlay heap.now.table.shared.table_id heap.now.key.layout (lists_of heap.now.key.shapes)
-                    (padded_value padded.old) }
-                ensures { DidPart heap.entry.now.table.shared.table_id heap.entry.now.key.layout
-                    (lists_of heap.entry.now.key.shapes) (padded_value padded.old) (padded_value padded.new) }
-            { play_one(padded, heap, turnstile) },
-        );
-    }
+    let count = threads_for(participants, threads);
+    thread::for_each_mut(
+        rt,
+        participants,
+        count,
+        &|_, padded|
+            requires { MayPlay heap.now.table.shared.table_id heap.now.key.layout (lists_of heap.now.key.shapes)
+                (padded_value padded.old) }
+            ensures { DidPart heap.entry.now.table.shared.table_id heap.entry.now.key.layout
+                (lists_of heap.entry.now.key.shapes) (padded_value padded.old) (padded_value padded.new) }
+        { play_one(padded, heap, turnstile) },
+    );
 }
 
 /// Whether a participant stopped before its share was over, where memory served all of them.

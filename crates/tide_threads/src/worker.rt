@@ -1,7 +1,7 @@
 //! `Worker`: who acts in a part, a mutator with what it asks for, or a visitor. It knows no other.
-ghost use Rattle.std.specs.Prelude.{◌≡◌, IfOk};
+ghost use Rattle.std.specs.Prelude.{◌≡◌, IfOk, Some};
 ghost use Rattle.tide_shape.specs.Lists.{lists_of};
-ghost use Rattle.tide_threads.specs.Acting.{cursor_of, has_left, is_silent, races_of};
+ghost use Rattle.tide_threads.specs.Acting.{cursor_of, has_left, is_busy_with, is_silent, races_of};
 ghost use Rattle.tide_threads.specs.Playing.{HasDoneShare, MayBeginPart};
 
 use crate::calling::{CallingMutator, Played};
@@ -38,6 +38,17 @@ impl Worker {
         match self {
             Worker::Mutator(calling) => calling.cursor.has_retired(),
             Worker::Visitor(_) => true,
+        }
+    }
+
+    /// Whether it has something to do in the part of this ticket: a mutator that hasn't retired has a call to make, and a
+    /// visitor marks where a cycle does.
+    pub(crate) fn is_busy_with(&self, ticket: &Ticket) -> bool
+        ensures { result ≡ is_busy_with (Some ticket.now) self.now }
+    {
+        match self {
+            Worker::Mutator(calling) => !calling.cursor.has_retired(),
+            Worker::Visitor(_) => ticket.marking(),
         }
     }
 

@@ -48,8 +48,9 @@ pub(crate) fn heap_for(
 }
 
 /// Runs a workload on one heap, with a thread for each mutator and each visitor in each part as far as so many threads
-/// go, and else one for several. A cycle marks while calls go on between its pauses, and begins by itself where the
-/// workload's trigger asks for it; there may be up to 8 visitors, who mark beside the calls.
+/// go, and else one for several, or for all where one of them alone has something to do. A cycle marks while calls go on
+/// between its pauses, and begins by itself where the workload's trigger asks for it; there may be up to 8 visitors, who
+/// mark beside the calls.
 pub fn run<R: Threads + Sync, T: Turnstile>(
     rt: &R,
     threads: usize,
