@@ -1,8 +1,8 @@
 -- A keeper whose last turn answered that it is over has finished.
 use Rattle.std.proofs.Common.{◌∙◌, sym, subst, true≢false}
-use Rattle.tide_server.specs.Turned.{HasTurned}
-use Rattle.tide_server.specs.declared.turning.Turn.{Turn}
-use Rattle.tide_shape.specs.Lists.{lists_of}
+use Rattle.tide.specs.tide_server.Turned.{HasTurned}
+use Rattle.tide.specs.tide_server.declared.turning.Turn.{Turn}
+use Rattle.tide.specs.tide_shape.Lists.{lists_of}
 use Rattle.embed_standing.proofs.playing.keep.Goals.{in-Over, in-Spent}
 use Rattle.embed_standing.proofs.playing.keep.Goals as goal
 
