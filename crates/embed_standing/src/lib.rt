@@ -5,8 +5,8 @@
 //! does in its thread: a member makes its calls and leaves, a helper works until the end, and the keeper turns until it
 //! is over. `polling` has actors that wait in their own way, and `resting` a member that rests and wakes on another
 //! thread. `host` opens a heap and plays all of them at once, and `rows` has each row by its name. A program asks for
-//! one by its name: `check_standing(rt, rt.alloc(), "one_asks_in_its_second_call")`. It may touch shapes, settings,
-//! the start of a heap and a standing heap's calls, and nothing of the system but memory and threads.
+//! one by its name: `check_standing(rt, rt.alloc(), "one_asks_in_its_second_call")`. It may touch
+//! `tide` alone, and nothing of the system but memory and threads.
 #![tactic(auto)]
 
 mod script;

@@ -7,7 +7,7 @@ use std::alloc::Global;
 use std::marker::Sync;
 use std::sync::Wait;
 use std::thread::Threads;
-use tide_server::Report;
+use tide::Report;
 
 /// Whether the cycles of a report are numbered in turn, from 1 on.
 fn are_in_turn(report: &Report) -> bool {
