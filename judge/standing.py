@@ -122,11 +122,13 @@ class Tally(judge_threads.Tally):
 
     def count(self, work, text, way):
         super().count(work, text, way)
+        # where members rest, freezes come at other calls than in the model
+        del self.texts["calls that don't come one after another"]
         told, _, parts = way or ((), (), ())
         self.counts["parts"] += len(parts)
         self.counts["ends of cycles"] += text.count("\ncycle ")
-        self.counts["rests"] += text.count("\nrest\n")
-        self.counts["came early"] += text.count("\nearly\n")
+        self.counts["rests"] += len(re.findall(r"(?m)^rest$", text))
+        self.counts["came early"] += len(re.findall(r"(?m)^early$", text))
         for one in told:
             self.counts["shares of who lay in a bed"] += len(one.lay)
         for number, part in enumerate(parts, 1):

@@ -10,13 +10,17 @@
 #![tactic(auto)]
 
 mod hosts;
+// these stand on those listed before
+mod parts;
+mod sleeping;
 
-use hosts::{Asked, held, parked, started};
+use hosts::Asked;
+use parts::{parked, started};
+use sleeping::held;
 use std::alloc::Global;
-use std::env;
 use std::env::Args;
-use std::io;
 use std::process::ExitCode;
+use std::{env, io};
 
 /// The number in this place of the words, or 0.
 fn number_at(words: &[String], at: usize) -> u64 {
@@ -47,7 +51,11 @@ fn main(rt: HostRuntime) -> ExitCode {
         more: number_at(words, 4),
         rests: number_at(words, 5) == 1,
     };
-    let what = if words.len() > 1 { words[1].as_str() } else { "" };
+    let what = if words.len() > 1 {
+        words[1].as_str()
+    } else {
+        ""
+    };
     let took = match what {
         "parked" => parked(&rt, alloc, &asked),
         "started" => started(&rt, alloc, &asked),

@@ -32,9 +32,18 @@ pub struct Host<'h> {
 /// Who plays on a thread.
 #[derive(Drop)]
 pub enum Actor {
-    Keeper { keeper: Option<Keeper>, ends: Ends },
-    Helper { helper: Helper },
-    Member { member: Option<Member>, told: Told, draw: Draw },
+    Keeper {
+        keeper: Option<Keeper>,
+        ends: Ends,
+    },
+    Helper {
+        helper: Helper,
+    },
+    Member {
+        member: Option<Member>,
+        told: Told,
+        draw: Draw,
+    },
 }
 
 /// Waits a little: not at all, for some turns of others, or for some microseconds.

@@ -17,22 +17,22 @@ mod actors;
 use actors::{Actor, Host, play};
 use draw::Draw;
 use std::alloc::Global;
-use std::env;
 use std::env::Args;
-use std::io;
 use std::marker::Sync;
 use std::process::{Abort, ExitCode};
 use std::rt::Clock;
 use std::sync::Wait;
 use std::sync::atomic::AtomicBool;
-use std::thread;
 use std::thread::Threads;
+use std::{env, io, thread};
 use tide_heap::Layout;
 use tide_io::{Gathered, RealSink, RealSource, Sink, Source, read_up_to, write_all};
 use tide_server::{Beds, Keeper, Member, Opened, Standing, open};
 use tide_shape::Shapes;
 use tide_table::Start;
-use tide_workload::{MAX_BYTES, Workload, read, write_call, write_cycle, write_live, write_mutator};
+use tide_workload::{
+    MAX_BYTES, Workload, read, write_call, write_cycle, write_live, write_mutator,
+};
 use told::{Ends, Line, Told};
 
 /// What the words of the command line ask for.
@@ -95,11 +95,22 @@ fn cast(
     let keeps = asked.seconds == 0;
     let mut actors = Vec::new(alloc);
     let ends = Ends::new(alloc, keeps, Draw::new(asked.seed, 63)).ok()?;
-    actors.push(Actor::Keeper { keeper: Some(keeper), ends }).ok()?;
+    actors
+        .push(Actor::Keeper {
+            keeper: Some(keeper),
+            ends,
+        })
+        .ok()?;
     for member in members {
         let draw = Draw::new(asked.seed, member.number() as u64);
         let told = Told::new(alloc, keeps);
-        actors.push(Actor::Member { member: Some(member), told, draw }).ok()?;
+        actors
+            .push(Actor::Member {
+                member: Some(member),
+                told,
+                draw,
+            })
+            .ok()?;
     }
     for helper in helpers {
         actors.push(Actor::Helper { helper }).ok()?;
@@ -126,7 +137,12 @@ fn play_all<R: Clock + Print + Threads + Wait + Abort + Sync>(
         is_late: AtomicBool::new(asked.seconds == 0),
     };
     let count = actors.len();
-    thread::for_each_mut(rt, actors.as_mut_slice(), count, &|_, actor| play(rt, &host, actor));
+    thread::for_each_mut(
+        rt,
+        actors.as_mut_slice(),
+        count,
+        &|_, actor| play(rt, &host, actor),
+    );
     Some(())
 }
 
