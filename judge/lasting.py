@@ -6,9 +6,10 @@
 PROGRAM is that of judge/standing.py. MEMBERS (4) mutators in parts of 64 calls, beside two helpers, make cells, link them,
 store them behind handles, give them properties and let them go, again and again for SECONDS (3,600); cycles begin after each
 100 births. The first member now and then rests in a bed. The keeper empties its report after each turn. Each half minute a row
-is printed: how many parts there were, how many cycles ended in them, how many cells these freed, and how many kilobytes the
-process has in memory. The last line tells by how much that grew from the row after five minutes, or from the first one
-where there was no other, to the last one, and the status is 1 where it grew by more than a hundredth.
+is printed: how many parts there were, how many cycles ended in them, how many cells these freed, how many kilobytes the
+process has in memory, and how many of these are its own and no file's. The last line tells what these last ones were in the
+row after five minutes, or in the first one where there was no other, and in the last one; the status is 1 where they grew
+by more than a hundredth.
 """
 import random
 import re
@@ -40,9 +41,10 @@ def workload(members):
 
 
 def resident(process):
-    """How many kilobytes of a process are in memory."""
+    """How many kilobytes of a process are in memory, and how many of these are its own."""
     with open(f"/proc/{process}/status", encoding="utf-8") as status:
-        return int(re.search(r"VmRSS:\s+(\d+) kB", status.read())[1])
+        text = status.read()
+    return [int(re.search(name + r":\s+(\d+) kB", text)[1]) for name in ("VmRSS", "RssAnon")]
 
 
 def rows(process):
@@ -51,7 +53,7 @@ def rows(process):
     for line in process.stdout:
         told = re.fullmatch(r"seconds (\d+) parts (\d+) cycles (\d+) freed (\d+)\n", line)
         if told:
-            found.append((*map(int, told.groups()), resident(process.pid)))
+            found.append((*map(int, told.groups()), *resident(process.pid)))
             print("| " + " | ".join(map(str, found[-1])) + " |", flush=True)
     return found
 
@@ -59,8 +61,8 @@ def rows(process):
 def main():
     seconds, members = [int(word) for word in (sys.argv[2:] + ["3600", "4"][len(sys.argv) - 2:])[:2]]
     words = ["--visitors", "2", "--rests", "200", "--sleepers", "1", "--seconds", str(seconds), "--seed", "1"]
-    print("| Seconds | Parts | Cycles | Cells freed | Kilobytes in memory |")
-    print("|---|---|---|---|---|", flush=True)
+    print("| Seconds | Parts | Cycles | Cells freed | Kilobytes in memory | Of its own |")
+    print("|---|---|---|---|---|---|", flush=True)
     with tempfile.TemporaryFile("w+") as document:
         document.write(workload(members))
         document.seek(0)
@@ -69,8 +71,8 @@ def main():
     if process.wait() != 0:
         sys.exit(f"ended with status {process.returncode}")
     early = next((row for row in found if row[0] >= EARLY), found[0])
-    print(f"from {early[4]} kilobytes after {early[0]} seconds to {found[-1][4]} after {found[-1][0]}")
-    sys.exit(found[-1][4] > early[4] * 1.01)
+    print(f"from {early[-1]} kilobytes of its own after {early[0]} seconds to {found[-1][-1]} after {found[-1][0]}")
+    sys.exit(found[-1][-1] > early[-1] * 1.01)
 
 
 if __name__ == "__main__":
