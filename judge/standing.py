@@ -170,10 +170,12 @@ def copied(folder, sources, edits):
         rooms.write(f"{NAME}: {ROOMS}\n")
     crate = os.path.join(folder, "crates", NAME)
     os.makedirs(crate)
-    names = [name for name in os.listdir(sources) if name.endswith(".rt")]
     os.mkdir(os.path.join(crate, "src"))
-    for name in names:
-        shutil.copy(os.path.join(sources, name), os.path.join(crate, "src"))
+    # rt wants each .rt file of the tree in a crate, so these end otherwise
+    for name in os.listdir(sources):
+        base, ending = os.path.splitext(name)
+        if ending == ".rattle":
+            shutil.copy(os.path.join(sources, name), os.path.join(crate, "src", base + ".rt"))
     return crate
 
 
