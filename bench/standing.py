@@ -68,7 +68,8 @@ def parts(heap, pool, times):
 
 def sleepers(heap, times):
     """The table of calls beside a sleeper."""
-    print("\n| It sleeps, milliseconds | The longest call beside one that rests, milliseconds | Of all runs | Beside one that doesn't | Of all runs |")
+    columns = "The longest call beside one that rests, milliseconds | Of all runs | Beside one that doesn't | Of all runs"
+    print(f"\n| It sleeps, milliseconds | {columns} |")
     print("|---|---|---|---|---|")
     for sleep in MILLISECONDS:
         runs = [[microseconds(heap, "held", 4, sleep, SLEEPS, rests) / 1000 for rests in (1, 0)] for _ in range(times)]

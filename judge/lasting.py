@@ -29,10 +29,11 @@ def workload(members):
     """The document of a workload of so many mutators whose cells live for a while."""
     work, _ = judge_threads.aging(1)
     draw = random.Random("lasting")
-    work["blocks"], work["arrays"], work["period"], work["trigger"], work["headroom"] = [4, 1, 0, 0, 1], [2, 2, 0, 0, 0], 64, 100, 200
+    work |= {"strong": 2, "blocks": [4, 1, 0, 0, 1], "arrays": [2, 2, 0, 0, 0], "period": 64, "trigger": 100, "headroom": 200}
     ops = [op for number in range(1, 40) for script in judge_threads.aging(number)[0]["mutators"] for op in script]
-    ops = [op for op in ops if op[0] != "collect" and not (op[0] in ("strong", "sget") and op[1 + (op[0] == "sget")] > 1)]
-    work["strong"] = 2
+    # where these have the number of their handle
+    at = {"strong": 1, "sget": 2}
+    ops = [op for op in ops if op[0] != "collect" and (op[0] not in at or op[at[op[0]]] < work["strong"])]
     work["mutators"] = []
     for _ in range(members):
         first = draw.randrange(len(ops) - 2000)

@@ -40,7 +40,8 @@ if __name__ == "__main__" and sys.argv[1:] in ([], ["--help"]):
     sys.exit(print(__doc__.strip()) or len(sys.argv) < 2)
 
 HERE = os.path.dirname(os.path.realpath(__file__))
-NAME, ROOMS = "standing_driver", "tide_model tide_io tide_shape tide_text tide_workload tide_heap tide_table tide_report tide_server"
+NAME = "standing_driver"
+ROOMS = "tide_model tide_io tide_shape tide_text tide_workload tide_heap tide_table tide_report tide_server"
 
 
 class Member(judge_threads.Told):
@@ -169,8 +170,7 @@ def copied(folder, sources, edits):
     with open(os.path.join(folder, "crates.txt"), "a", encoding="utf-8") as rooms:
         rooms.write(f"{NAME}: {ROOMS}\n")
     crate = os.path.join(folder, "crates", NAME)
-    os.makedirs(crate)
-    os.mkdir(os.path.join(crate, "src"))
+    os.makedirs(os.path.join(crate, "src"))
     # rt wants each .rt file of the tree in a crate, so these end otherwise
     for name in os.listdir(sources):
         base, ending = os.path.splitext(name)
