@@ -17,7 +17,7 @@ mod block_bits;
 // these stand on those listed before
 mod greying;
 
-pub use block_bits::{live_bits, marked_bits};
+pub use block_bits::{is_blank, live_bits, marked_bits};
 pub use forms::{
     Colour, MAX_CELLS, Structure, array_word, claim_word, colour, colour_cycle, colour_word,
     is_marked_in, pair_word, phase_word, structure_word, val_word, word_array, word_claim,
