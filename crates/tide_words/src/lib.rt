@@ -23,10 +23,10 @@ pub use forms::{
     is_marked_in, pair_word, phase_word, structure_word, val_word, word_array, word_claim,
     word_pair, word_phase, word_structure, word_val,
 };
-pub use greying::{blacken, mark, mark_named};
+pub use greying::{blacken, mark, mark_by, mark_named, mark_named_by};
 pub use heap::{Fields, VecWords, Words, array_of, clear_bit, is_live, is_vacant, store_word};
 pub use marking::{
-    Constraint, Following, GreyList, Volatility, base_cycle, is_marked, note_at, put_note,
+    Constraint, Cycles, Following, GreyList, Volatility, base_cycle, is_marked, note_at, put_note,
     running_cycle, take_note,
 };
 pub use tide_block::{
