@@ -1,5 +1,5 @@
 -- The table has the width of each class.
-use Rattle.std.proofs.Common.{ℕ, zero, suc, ◌≡◌, ◌≤◌, ◌<◌, ◌∙◌, refl, arith, List, ◌∷◌, []}
+use Rattle.std.proofs.Common.{ℕ, zero, suc, ◌≡◌, ◌≤◌, ◌<◌, ◌∙◌, refl, ap, arith, List, ◌∷◌, []}
 use Rattle.std.specs.Prelude.{slice_index}
 use Rattle.tide_layout.specs.Slots.{width_of_class}
 use Rattle.tide_layout.proofs.sizes.width.Goals as goal
@@ -21,4 +21,4 @@ widths-are (suc (suc (suc (suc (suc (suc (suc (suc (suc zero))))))))) few = refl
 widths-are (suc (suc (suc (suc (suc (suc (suc (suc (suc (suc class)))))))))) few = absurd (omega (arith, few))
 
 pub returns-clause-width : goal.returns-clause-width
-returns-clause-width c = widths-are c.args.class c.requires
+returns-clause-width c = ap (slice_index widths) c.from.ensures ∙ widths-are c.args.class c.requires
