@@ -27,7 +27,7 @@ use Rattle.tide_posts.proofs.tide_heap.tide_freeze.BookLaws.{AddsEnds-same, Adds
 use Rattle.tide_posts.proofs.tide_heap.tide_freeze.QuietLaws.{HasFrozenWhole-quiet, kept_by_quiet}
 use Rattle.tide_posts.specs.Name.{places}
 use Rattle.tide_posts.specs.Posts.{TicketTells}
-use Rattle.tide_posts.specs.Schedule.{ArePeriodsWhere, IsLegalWhere, has_stop, have_stops}
+use Rattle.tide_posts.specs.Schedule.{ArePeriodsWhere, IsLegalWhere, have_stops}
 use Rattle.tide_posts.specs.Among.{Among, times}
 use Rattle.tide_posts.specs.tide_heap.Parties.{In}
 use Rattle.tide_posts.specs.tide_heap.Turns.{Freezes, open_entry, opened}

@@ -1,5 +1,5 @@
 -- A member that rests, by facts alone and as a member.
-use Rattle.std.proofs.Common.{◌≡◌, sym, subst, Bool, false}
+use Rattle.std.proofs.Common.{sym, subst, Bool}
 use Rattle.std.specs.Prelude.{MatchBool}
 use Rattle.atomic_table.specs.Seated.{TableId}
 use Rattle.tide_model.specs.Layout.{Layout}

@@ -1,5 +1,5 @@
 -- A member of a standing heap: a mutator between two of its calls.
-use Rattle.std.specs.Prelude.{ℕ, ◌≡◌, ◌<◌, ◌==◌, ◌&&◌, ◌||◌, ◌⊎◌, Bool, true, false, List, MatchBool, Option, Some}
+use Rattle.std.specs.Prelude.{ℕ, ◌≡◌, ◌<◌, ◌==◌, ◌&&◌, ◌||◌, ◌⊎◌, Bool, true, false, List, MatchBool, Option, Some, not}
 use Rattle.atomic_table.specs.Seated.{TableId}
 use Rattle.tide_posts.specs.tide_heap.tide_core.declared.machine.view.View.{View}
 use Rattle.tide_model.specs.Layout.{Layout}
@@ -31,6 +31,10 @@ MayEnd m = (m.left ≡ 0) ⊎ (m.ended ≡ true)
 -- it is in the midst of a part, and its share of that is over
 abbrev pub is_over : Member → Bool
 is_over m = m.works && ((m.left == 0) || m.ended)
+
+-- it begins a part before its next call: it is in the midst of none, or its share of that is over
+abbrev pub begins_next : Member → Bool
+begins_next m = not m.works || is_over m
 
 -- of a member what no beginning and no stop of a part changes
 pub record Calling : Type 0 where

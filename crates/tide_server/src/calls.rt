@@ -1,4 +1,5 @@
-//! The calls of a member that wait: each first begins the member's next part, where its share of the last one is over.
+//! The calls of a member that wait: each first begins the member's next part, where the member is in the midst of none,
+//! or its share of that is over.
 ghost use Rattle.std.specs.Prelude.{◌≡◌, ◌≢◌, ◌+◌, [], false, true, IfOk, IsOk, None, if◌then◌else◌};
 ghost use Rattle.tide_model.specs.Caller.{MakesCall};
 ghost use Rattle.tide_model.specs.Lawful.{FitsLayout};
@@ -9,7 +10,7 @@ ghost use Rattle.tide_model.specs.declared.op.Reply.TheVariants.{Done as IsDone}
 ghost use Rattle.tide_mutator.specs.calls.Called.{is_of_claims};
 ghost use Rattle.tide_mutator.specs.calls.Viewed.{view_of};
 ghost use Rattle.tide_mutator.specs.owed.Standing.{claims_of};
-ghost use Rattle.tide_server.specs.Members.{IsMemberOf, MayMake, Retries, is_over, caller_of};
+ghost use Rattle.tide_server.specs.Members.{IsMemberOf, MayMake, Retries, begins_next, is_over, caller_of};
 
 use crate::member::Member;
 use crate::parts::Offered;
@@ -32,6 +33,7 @@ impl Member {
         ensures same { caller_of self.new ≡ caller_of self.old }
         ensures seen { IsPrefix (view_of self.old.mutator).seen (view_of self.new.mutator).seen }
         ensures given { self.new.seat.seat.me.0.given ≡ self.old.seat.seat.me.0.given }
+        ensures took { self.new.seat.seat.me.0.taken ≡ self.old.seat.seat.me.0.taken + 1 }
     {
         for _ in rt.forever() {
             match self.offer(standing) {
@@ -44,7 +46,8 @@ impl Member {
         unreachable!()
     }
 
-    /// Goes on with its part, or begins the next one, where its share of the last one is over. It may wait for ever.
+    /// Goes on with its part, or begins the next one, where it is in the midst of none, or its share of that is over. It
+    /// may wait for ever.
     fn come_to_work<R: Wait, S: HeapShapes>(&mut self, rt: &R, standing: &Standing<S>)
         requires of { IsMemberOf standing.now.heap.key.layout standing.now.heap.table.shared.table_id
             standing.now.hands.shared.table_id self.old }
@@ -56,6 +59,8 @@ impl Member {
         ensures seen { IsPrefix (view_of self.old.mutator).seen (view_of self.new.mutator).seen }
         ensures posted { self.new.seat.seat.me.0.given
             ≡ self.old.seat.seat.me.0.given + (if is_over self.old then 1 else 0) }
+        ensures took { self.new.seat.seat.me.0.taken
+            ≡ self.old.seat.seat.me.0.taken + (if begins_next self.old then 1 else 0) }
     {
         if !self.works {
             self.begin_next(rt, standing);
@@ -67,8 +72,8 @@ impl Member {
         }
     }
 
-    /// Makes a call. Where its share of the part is over, it first hands its note in, and waits for the next ticket,
-    /// maybe for ever. It takes no memory.
+    /// Makes a call. Where its share of the part is over, it first hands its note in; then, or where it is in the midst of
+    /// no part, it waits for the next ticket, maybe for ever. It takes no memory.
     pub fn call<R: Wait, S: ShapeTable, T: Turnstile>(
         &mut self,
         rt: &R,
@@ -94,13 +99,15 @@ impl Member {
             claims_of (view_of self.new.mutator) ≡ claims_of (view_of self.old.mutator) }
         ensures posted { self.new.seat.seat.me.0.given
             ≡ self.old.seat.seat.me.0.given + (if is_over self.old then 1 else 0) }
+        ensures took { self.new.seat.seat.me.0.taken
+            ≡ self.old.seat.seat.me.0.taken + (if begins_next self.old then 1 else 0) }
     {
         self.come_to_work(rt, standing);
         Ok(self.make(standing, op, turnstile))
     }
 
-    /// Retires, and hands its last note in. Where its share of the part is over, it first hands that note in, and waits
-    /// for the next ticket, maybe for ever. No call may be made after it. It takes no memory.
+    /// Retires, and hands its last note in. Before that it begins a part where `call` does, and may wait for ever. No call
+    /// may be made after it. It takes no memory.
     pub fn leave<R: Wait, S: ShapeTable, T: Turnstile>(
         &mut self,
         rt: &R,
@@ -122,6 +129,8 @@ impl Member {
         ensures left { (view_of self.new.mutator).left ≡ true }
         ensures posted { self.new.seat.seat.me.0.given
             ≡ self.old.seat.seat.me.0.given + (if is_over self.old then 1 else 0) + 1 }
+        ensures took { self.new.seat.seat.me.0.taken
+            ≡ self.old.seat.seat.me.0.taken + (if begins_next self.old then 1 else 0) }
     {
         self.come_to_work(rt, standing);
         self.retire(standing, turnstile);

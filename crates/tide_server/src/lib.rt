@@ -2,8 +2,8 @@
 //! keeper freezes it between two parts.
 //!
 //! `open` makes of a started heap a `Standing`, which threads share, a `Member` for each mutator, a `Helper` for each
-//! visitor, and the `Keeper`. A member makes its calls: where its share of a part is over it hands its note in, and
-//! waits for the next ticket. A helper takes part in one part a call. `call`, `leave`, `work` and `turn` are loops over
+//! visitor, and the `Keeper`. A member makes its calls: where its share of a part is over, its next call first hands its
+//! note in and waits for the next ticket. A helper takes part in one part a call. `call`, `leave`, `work` and `turn` are loops over
 //! what waits for nobody: `Member::offer`, `make`, `hand_in` and `retire`, `Helper::try_work` and `Keeper::try_turn`.
 //!
 //! A member whose thread is to wait for something else, or to end, rests: it is a `Resting` then, in whose place

@@ -260,6 +260,7 @@ impl Member {
         ensures rests { self.new.works ≡ false }
         ensures left { (view_of self.new.mutator).left ≡ true }
         ensures posted { self.new.seat.seat.me.0.given ≡ self.old.seat.seat.me.0.given + 1 }
+        ensures took { self.new.seat.seat.me.0.taken ≡ self.old.seat.seat.me.0.taken }
     {
         self.mutator.retire(&standing.heap, turnstile);
         stop_and_post(&mut self.mutator, &mut self.seat, standing, false, false);

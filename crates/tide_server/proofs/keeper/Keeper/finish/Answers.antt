@@ -1,12 +1,10 @@
 -- The history that a finished keeper hands over, with who stopped early in which part.
 use Rattle.std.proofs.Common.{◌∙◌, sym, subst}
 use Rattle.tide_model.specs.Periods.{IsLegal}
-use Rattle.tide_model.specs.declared.entry.Event.{Event}
 use Rattle.tide_posts.proofs.Schedule.{legal_where_none}
 use Rattle.tide_posts.specs.Schedule.{IsLegalWhere}
 use Rattle.tide_sched.specs.Paces.{pace_of}
 use Rattle.tide_server.proofs.keeper.Keeper.finish.Goals as goal
-use Rattle.std.specs.Prelude.{List}
 
 pub returns-clause-where_early : goal.returns-clause-where_early
 returns-clause-where_early g c =

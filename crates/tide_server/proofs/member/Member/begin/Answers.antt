@@ -1,6 +1,5 @@
 -- A parked member begins the part of a ticket.
 use Rattle.std.proofs.Common.{ℕ, ◌<◌, ◌∙◌, ap, arith, refl, sym, subst, false}
-use Rattle.std.specs.Prelude.{is_some}
 use Rattle.tide_model.specs.Script.{retry_of}
 use Rattle.tide_mutator.specs.calls.Viewed.{view_of}
 use Rattle.tide_mutator.specs.owed.Standing.{claims_of}

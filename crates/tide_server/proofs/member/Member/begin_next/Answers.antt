@@ -15,4 +15,5 @@ loop-init g c = record {
   same = refl;
   seen = prefix_refl (view_of c.args.self.now.mutator).seen;
   given = refl;
+  taken = refl;
 }

@@ -1,6 +1,5 @@
 -- A member with calls left stops early, and is parked.
-use Rattle.std.proofs.Common.{ℕ, ◌≡◌, ◌+◌, ◌<◌, ◌∙◌, ap, arith, sym, subst, Bool, false, true, inl, inr}
-use Rattle.std.specs.Prelude.{is_some, ◌⊎◌}
+use Rattle.std.proofs.Common.{◌<◌, ◌∙◌, ap, arith, sym, subst, Bool, false, true}
 use Rattle.tide_model.specs.Script.{retry_of}
 use Rattle.tide_mutator.specs.calls.Viewed.{view_of}
 use Rattle.tide_mutator.specs.owed.Standing.{claims_of}

@@ -1,6 +1,6 @@
 -- A member that retires has made its last call, and its note says so.
 use Rattle.std.proofs.Common.{◌≡◌, ◌+◌, ◌<◌, ◌∙◌, ap, arith, sym, subst, ℕ, Bool, true, false, [], ◌∷◌, ◌++◌}
-use Rattle.std.specs.Prelude.{None, Option, Some, is_some}
+use Rattle.std.specs.Prelude.{None, Option, Some}
 use Rattle.tide_model.proofs.OwnCalls.{called, retry_of-push}
 use Rattle.tide_model.specs.Caller.{IsOwn, MakesCall}
 use Rattle.tide_model.specs.Layout.{Layout}
