@@ -3,20 +3,20 @@ use Rattle.std.proofs.Common.{ℕ, ◌≡◌, sym, ◌∙◌, ap, subst, Bool, t
 use Rattle.std.proofs.lemmas.Bool.{eqb-true}
 use Rattle.std.proofs.lemmas.List.Elements.{All-pop, filter_passes}
 use Rattle.std.specs.Prelude.{All, None, Option, Some, if◌then◌else◌}
-use Rattle.atomic_table.specs.Seated.{TableId}
-use Rattle.tide_model.proofs.OwnCalls.{called, retry_of-push}
-use Rattle.tide_model.specs.Caller.{IsOwn, MakesCall}
-use Rattle.tide_model.specs.History.{is_call_of}
-use Rattle.tide_model.specs.Layout.{Layout}
-use Rattle.tide_model.specs.Refused.{ShapeLists}
-use Rattle.tide_model.specs.Script.{is_full_reply, retry_after, retry_of}
-use Rattle.tide_model.specs.declared.entry.Event.{Event}
-use Rattle.tide_model.specs.declared.op.Op.{Op}
-use Rattle.tide_model.specs.declared.op.Reply.{Reply}
-use Rattle.tide_mutator.specs.calls.Viewed.{view_of}
-use Rattle.tide_server.proofs.Working.{owns}
-use Rattle.tide_server.specs.Members.{IsMemberOf}
-use Rattle.tide_server.specs.declared.member.Member.{Member}
+use Rattle.tide.specs.atomic_table.Seated.{TableId}
+use Rattle.tide.proofs.tide_model.OwnCalls.{called, retry_of-push}
+use Rattle.tide.specs.tide_model.Caller.{IsOwn, MakesCall}
+use Rattle.tide.specs.tide_model.History.{is_call_of}
+use Rattle.tide.specs.tide_model.Layout.{Layout}
+use Rattle.tide.specs.tide_model.Refused.{ShapeLists}
+use Rattle.tide.specs.tide_model.Script.{is_full_reply, retry_after, retry_of}
+use Rattle.tide.specs.tide_model.declared.entry.Event.{Event}
+use Rattle.tide.specs.tide_model.declared.op.Op.{Op}
+use Rattle.tide.specs.tide_model.declared.op.Reply.{Reply}
+use Rattle.tide.specs.tide_mutator.calls.Viewed.{view_of}
+use Rattle.tide.proofs.tide_server.Working.{owns}
+use Rattle.tide.specs.tide_server.Members.{IsMemberOf}
+use Rattle.tide.specs.tide_server.declared.member.Member.{Member}
 
 -- whose own calls end with a call made it
 pub caller_is : (who other : ℕ) (op : Op) (reply : Reply) (took : Option ℕ) (seen old mine : List Event) →

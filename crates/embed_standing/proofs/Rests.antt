@@ -1,13 +1,13 @@
 -- Who rests may wake, and make any call.
 use Rattle.std.proofs.Common.{◌≡◌, ◌∙◌, ap}
-use Rattle.atomic_table.specs.Seated.{TableId}
+use Rattle.tide.specs.atomic_table.Seated.{TableId}
 use Rattle.embed_standing.specs.Playing.{MayCall, MayWake}
-use Rattle.tide_model.specs.Layout.{Layout}
-use Rattle.tide_model.specs.Script.{retry_of}
-use Rattle.tide_server.specs.Members.{Calling, caller_of}
-use Rattle.tide_server.specs.Rests.{IsRestingOf}
-use Rattle.tide_server.specs.declared.member.Member.{Member}
-use Rattle.tide_server.specs.declared.resting.Resting.{Resting}
+use Rattle.tide.specs.tide_model.Layout.{Layout}
+use Rattle.tide.specs.tide_model.Script.{retry_of}
+use Rattle.tide.specs.tide_server.Members.{Calling, caller_of}
+use Rattle.tide.specs.tide_server.Rests.{IsRestingOf}
+use Rattle.tide.specs.tide_server.declared.member.Member.{Member}
+use Rattle.tide.specs.tide_server.declared.resting.Resting.{Resting}
 
 -- who is whom a member was that may make any call
 pub may_wake : (layout : Layout) (heap hands : TableId) (m : Member) (r : Resting) → MayCall layout heap hands m →

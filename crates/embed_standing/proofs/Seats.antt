@@ -2,19 +2,19 @@
 use Rattle.std.proofs.Common.{ℕ, suc, ◌≡◌, ap, List, [], ◌∷◌}
 use Rattle.std.proofs.lemmas.List.Elements.{All-cons, All-nil}
 use Rattle.std.specs.Prelude.{All}
-use Rattle.atomic_table.specs.Seated.{TableId}
+use Rattle.tide.specs.atomic_table.Seated.{TableId}
 use Rattle.embed_standing.specs.Playing.{MayCall}
-use Rattle.tide_model.specs.Layout.{Layout}
-use Rattle.tide_model.specs.Script.{retry_of}
-use Rattle.tide_mutator.specs.calls.Viewed.{view_of}
-use Rattle.tide_mutator.specs.owed.Standing.{claims_of}
-use Rattle.tide_heap.specs.tide_core.declared.machine.view.View.{View}
-use Rattle.tide_heap.specs.tide_core.machine.Frozen.{newcomer}
-use Rattle.tide_server.specs.Helpers.{IsHelperOf}
-use Rattle.tide_server.specs.Members.{IsMemberOf}
-use Rattle.tide_server.specs.Opened.{AreHelpers, AreMembers}
-use Rattle.tide_server.specs.declared.helper.Helper.{Helper}
-use Rattle.tide_server.specs.declared.member.Member.{Member}
+use Rattle.tide.specs.tide_model.Layout.{Layout}
+use Rattle.tide.specs.tide_model.Script.{retry_of}
+use Rattle.tide.specs.tide_mutator.calls.Viewed.{view_of}
+use Rattle.tide.specs.tide_mutator.owed.Standing.{claims_of}
+use Rattle.tide.specs.tide_heap.tide_core.declared.machine.view.View.{View}
+use Rattle.tide.specs.tide_heap.tide_core.machine.Frozen.{newcomer}
+use Rattle.tide.specs.tide_server.Helpers.{IsHelperOf}
+use Rattle.tide.specs.tide_server.Members.{IsMemberOf}
+use Rattle.tide.specs.tide_server.Opened.{AreHelpers, AreMembers}
+use Rattle.tide.specs.tide_server.declared.helper.Helper.{Helper}
+use Rattle.tide.specs.tide_server.declared.member.Member.{Member}
 
 module _ (layout : Layout) (heap hands : TableId) where
   -- a member that has made no call may make any

@@ -1,21 +1,21 @@
 -- What the actors of a row are between two calls, and which calls their scripts have.
 use Rattle.std.specs.Prelude.{◌≡◌, ◌≢◌, ◌≤◌, [], false, List, All, None}
-use Rattle.atomic_table.specs.Seated.{TableId}
-use Rattle.tide_model.specs.Lawful.{FitsLayout}
-use Rattle.tide_model.specs.Layout.{Layout}
-use Rattle.tide_model.specs.Script.{retry_of}
-use Rattle.tide_model.specs.declared.op.Op.{Op}
-use Rattle.tide_model.specs.declared.op.Op.TheVariants.{Retire}
-use Rattle.tide_mutator.specs.calls.Called.{is_of_claims}
-use Rattle.tide_mutator.specs.calls.Viewed.{view_of}
-use Rattle.tide_mutator.specs.owed.Standing.{claims_of}
-use Rattle.tide_server.specs.Helpers.{IsHelperOf}
-use Rattle.tide_server.specs.Keepers.{KeeperStands}
-use Rattle.tide_server.specs.Members.{IsMemberOf}
-use Rattle.tide_server.specs.declared.helper.Helper.{Helper}
-use Rattle.tide_server.specs.declared.keeper.Keeper.{Keeper}
-use Rattle.tide_server.specs.declared.member.Member.{Member}
-use Rattle.tide_server.specs.declared.resting.Resting.{Resting}
+use Rattle.tide.specs.atomic_table.Seated.{TableId}
+use Rattle.tide.specs.tide_model.Lawful.{FitsLayout}
+use Rattle.tide.specs.tide_model.Layout.{Layout}
+use Rattle.tide.specs.tide_model.Script.{retry_of}
+use Rattle.tide.specs.tide_model.declared.op.Op.{Op}
+use Rattle.tide.specs.tide_model.declared.op.Op.TheVariants.{Retire}
+use Rattle.tide.specs.tide_mutator.calls.Called.{is_of_claims}
+use Rattle.tide.specs.tide_mutator.calls.Viewed.{view_of}
+use Rattle.tide.specs.tide_mutator.owed.Standing.{claims_of}
+use Rattle.tide.specs.tide_server.Helpers.{IsHelperOf}
+use Rattle.tide.specs.tide_server.Keepers.{KeeperStands}
+use Rattle.tide.specs.tide_server.Members.{IsMemberOf}
+use Rattle.tide.specs.tide_server.declared.helper.Helper.{Helper}
+use Rattle.tide.specs.tide_server.declared.keeper.Keeper.{Keeper}
+use Rattle.tide.specs.tide_server.declared.member.Member.{Member}
+use Rattle.tide.specs.tide_server.declared.resting.Resting.{Resting}
 
 -- a layout with as many registers and strong handles as the scripts name
 pub record HasRoomForScripts (layout : Layout) : Type 0 where

@@ -1,11 +1,11 @@
 //! A host of a standing heap: it opens one, and the keeper plays beside the members and the helpers.
 ghost use Rattle.embed_standing.specs.Playing.{HasRoomForScripts, MayCall, MayPlay};
 ghost use Rattle.std.specs.Prelude.{◌≡◌, All, IfOk, IfSome, true};
-ghost use Rattle.tide_server.specs.Helpers.{IsHelperOf};
-ghost use Rattle.tide_server.specs.Keepers.{KeeperStands};
-ghost use Rattle.tide_server.specs.Turned.{IsFinished};
-ghost use Rattle.tide_shape.specs.Lists.{lists_of};
-ghost use Rattle.tide_text.specs.work.Work.{AreSettings};
+ghost use Rattle.tide.specs.tide_server.Helpers.{IsHelperOf};
+ghost use Rattle.tide.specs.tide_server.Keepers.{KeeperStands};
+ghost use Rattle.tide.specs.tide_server.Turned.{IsFinished};
+ghost use Rattle.tide.specs.tide_shape.Lists.{lists_of};
+ghost use Rattle.tide.specs.tide_text.work.Work.{AreSettings};
 
 use crate::others::play_others;
 use crate::playing::{Kept, keep};
@@ -16,12 +16,10 @@ use std::alloc::Global;
 use std::marker::Sync;
 use std::sync::Wait;
 use std::thread::{Threads, join};
-use tide_heap::Layout;
-use tide_model::Memory;
-use tide_server::{Helper, Keeper, Member, Opened, Report, Standing, open};
-use tide_shape::{Paths, Shapes};
-use tide_table::Start;
-use tide_text::Settings;
+use tide::{
+    Helper, Keeper, Layout, Member, Memory, Opened, Paths, Report, Settings, Shapes, Standing,
+    Start, open,
+};
 
 /// The keeper turns until no mutator is active, beside the members and the helpers.
 fn play_all<R: Threads + Wait + Sync>(

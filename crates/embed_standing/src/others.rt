@@ -1,7 +1,7 @@
 //! The members and the helpers of a row, each on a thread of its own.
 ghost use Rattle.embed_standing.specs.Playing.{HasRoomForScripts, MayCall};
 ghost use Rattle.std.specs.Prelude.{All};
-ghost use Rattle.tide_server.specs.Helpers.{IsHelperOf};
+ghost use Rattle.tide.specs.tide_server.Helpers.{IsHelperOf};
 
 use crate::playing::{play_helper, play_member};
 use crate::row::Row;
@@ -10,8 +10,7 @@ use std::marker::Sync;
 use std::sync::Wait;
 use std::thread;
 use std::thread::{Threads, join};
-use tide_server::{Helper, Member, Standing};
-use tide_shape::Shapes;
+use tide::{Helper, Member, Shapes, Standing};
 
 /// Each member makes its calls and leaves, on a thread of its own.
 fn play_members<R: Threads + Wait + Sync>(

@@ -1,28 +1,29 @@
 //! What each actor of a row does in its thread.
 ghost use Rattle.embed_standing.specs.Playing.{HasRoomForScripts, IsScriptCall, MayCall};
 ghost use Rattle.std.specs.Prelude.{◌≡◌, ◌≢◌, IfOk, Ok, OnErr, OnOk, false, true};
-ghost use Rattle.tide_model.specs.Caller.{MakesCall};
-ghost use Rattle.tide_model.specs.Lawful.{FitsLayout};
-ghost use Rattle.tide_model.specs.Script.{is_full_reply};
-ghost use Rattle.tide_model.specs.declared.op.Op.TheVariants.{Retire};
-ghost use Rattle.tide_mutator.specs.calls.Called.{is_of_claims};
-ghost use Rattle.tide_mutator.specs.calls.Viewed.{view_of};
-ghost use Rattle.tide_mutator.specs.owed.Standing.{claims_of};
-ghost use Rattle.tide_server.specs.Helpers.{IsHelperOf};
-ghost use Rattle.tide_server.specs.Keepers.{KeeperStands};
-ghost use Rattle.tide_server.specs.Members.{IsMemberOf, Retries};
-ghost use Rattle.tide_server.specs.Turned.{IsFinished};
-ghost use Rattle.tide_server.specs.declared.turning.Turn.TheVariants as Turn;
-ghost use Rattle.tide_shape.specs.Lists.{lists_of};
+ghost use Rattle.tide.specs.tide_model.Caller.{MakesCall};
+ghost use Rattle.tide.specs.tide_model.Lawful.{FitsLayout};
+ghost use Rattle.tide.specs.tide_model.Script.{is_full_reply};
+ghost use Rattle.tide.specs.tide_model.declared.op.Op.TheVariants.{Retire};
+ghost use Rattle.tide.specs.tide_mutator.calls.Called.{is_of_claims};
+ghost use Rattle.tide.specs.tide_mutator.calls.Viewed.{view_of};
+ghost use Rattle.tide.specs.tide_mutator.owed.Standing.{claims_of};
+ghost use Rattle.tide.specs.tide_server.Helpers.{IsHelperOf};
+ghost use Rattle.tide.specs.tide_server.Keepers.{KeeperStands};
+ghost use Rattle.tide.specs.tide_server.Members.{IsMemberOf, Retries};
+ghost use Rattle.tide.specs.tide_server.Turned.{IsFinished};
+ghost use Rattle.tide.specs.tide_server.declared.turning.Turn.TheVariants as Turn;
+ghost use Rattle.tide.specs.tide_shape.Lists.{lists_of};
 
 use crate::polling;
 use crate::row::Row;
 use crate::tally::Tally;
 use std::sync::Wait;
 use std::thread::yield_now;
-use tide_model::{FreePass, Memory, Op, Refusal, Reply, Turnstile};
-use tide_server::{Helper, Keeper, Member, Report, Standing, Turn, Worked};
-use tide_shape::Shapes;
+use tide::{
+    FreePass, Helper, Keeper, Member, Memory, Op, Refusal, Reply, Report, Shapes, Standing, Turn,
+    Turnstile, Worked,
+};
 
 /// Whether a reply is a refusal for want of room.
 fn is_full(reply: Reply) -> bool

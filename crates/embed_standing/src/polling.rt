@@ -1,21 +1,19 @@
 //! Members and helpers whose host waits in its own way: it tries again, and leaves the processor to others meanwhile.
 ghost use Rattle.std.specs.Prelude.{◌≡◌, ◌≢◌, false, true};
-ghost use Rattle.tide_model.specs.Caller.{MakesCall};
-ghost use Rattle.tide_model.specs.Lawful.{FitsLayout};
-ghost use Rattle.tide_model.specs.Prefix.{IsPrefix};
-ghost use Rattle.tide_model.specs.declared.op.Op.TheVariants.{Retire};
-ghost use Rattle.tide_mutator.specs.calls.Called.{is_of_claims};
-ghost use Rattle.tide_mutator.specs.calls.Viewed.{view_of};
-ghost use Rattle.tide_mutator.specs.owed.Standing.{claims_of};
-ghost use Rattle.tide_server.specs.Helpers.{IsHelperOf};
-ghost use Rattle.tide_server.specs.Members.{IsMemberOf, MayMake, Retries, caller_of};
-ghost use Rattle.tide_shape.specs.Lists.{lists_of};
+ghost use Rattle.tide.specs.tide_model.Caller.{MakesCall};
+ghost use Rattle.tide.specs.tide_model.Lawful.{FitsLayout};
+ghost use Rattle.tide.specs.tide_model.Prefix.{IsPrefix};
+ghost use Rattle.tide.specs.tide_model.declared.op.Op.TheVariants.{Retire};
+ghost use Rattle.tide.specs.tide_mutator.calls.Called.{is_of_claims};
+ghost use Rattle.tide.specs.tide_mutator.calls.Viewed.{view_of};
+ghost use Rattle.tide.specs.tide_mutator.owed.Standing.{claims_of};
+ghost use Rattle.tide.specs.tide_server.Helpers.{IsHelperOf};
+ghost use Rattle.tide.specs.tide_server.Members.{IsMemberOf, MayMake, Retries, caller_of};
+ghost use Rattle.tide.specs.tide_shape.Lists.{lists_of};
 
 use std::sync::Wait;
 use std::thread;
-use tide_model::{Op, Reply, Turnstile};
-use tide_server::{Helper, Member, Offered, Standing, Worked};
-use tide_shape::Shapes;
+use tide::{Helper, Member, Offered, Op, Reply, Shapes, Standing, Turnstile, Worked};
 
 /// Tries until a member may begin its next part, and begins that.
 fn begin_next<R: Wait>(rt: &R, standing: &Standing<Shapes>, member: &mut Member)

@@ -1,10 +1,10 @@
 //! A member that rests beside others, and wakes on a thread of its own.
 ghost use Rattle.embed_standing.specs.Playing.{HasRoomForScripts, MayCall, MayWake};
 ghost use Rattle.std.specs.Prelude.{◌≡◌, All, IfOk, IfSome, true};
-ghost use Rattle.tide_server.specs.Helpers.{IsHelperOf};
-ghost use Rattle.tide_server.specs.Keepers.{KeeperStands};
-ghost use Rattle.tide_server.specs.Turned.{IsFinished};
-ghost use Rattle.tide_shape.specs.Lists.{lists_of};
+ghost use Rattle.tide.specs.tide_server.Helpers.{IsHelperOf};
+ghost use Rattle.tide.specs.tide_server.Keepers.{KeeperStands};
+ghost use Rattle.tide.specs.tide_server.Turned.{IsFinished};
+ghost use Rattle.tide.specs.tide_shape.Lists.{lists_of};
 
 use crate::others::play_others;
 use crate::playing::{Kept, ask, keep};
@@ -13,9 +13,9 @@ use crate::tally::Tally;
 use std::marker::Sync;
 use std::sync::Wait;
 use std::thread::{Threads, join};
-use tide_model::{Memory, Op, Reply, Val};
-use tide_server::{Helper, Keeper, Member, Report, Resting, Standing, Turn};
-use tide_shape::Shapes;
+use tide::{
+    Helper, Keeper, Member, Memory, Op, Reply, Report, Resting, Shapes, Standing, Turn, Val,
+};
 
 /// A keeper that turned while a member rested.
 #[derive(Drop)]

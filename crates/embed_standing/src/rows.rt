@@ -3,11 +3,12 @@
 use crate::host::{Seen, run};
 use crate::row::Row;
 use crate::script::Script;
+use crate::sleeper::sleeper_finds_its_cell;
 use std::alloc::Global;
 use std::marker::Sync;
 use std::sync::Wait;
 use std::thread::Threads;
-use tide_server::Report;
+use tide::Report;
 
 /// Whether the cycles of a report are numbered in turn, from 1 on.
 fn are_in_turn(report: &Report) -> bool {
@@ -125,6 +126,7 @@ pub fn check_standing<R: Threads + Wait + Sync>(rt: &R, alloc: Global, name: &st
         "one_asks_in_its_second_call" => one_asks_in_its_second_call(rt, alloc),
         "two_first_calls_meet" => two_first_calls_meet(rt, alloc),
         "one_rests_beside_three" => one_rests_beside_three(rt, alloc),
+        "one_sleeps_in_a_bed" => sleeper_finds_its_cell(rt, alloc),
         _ => match long_row(name) {
             Some((row, parts)) => lasts(rt, alloc, &row, parts),
             None => None,

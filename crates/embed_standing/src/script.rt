@@ -1,9 +1,9 @@
 //! Which calls the members of a row make, and what they are answered.
 ghost use Rattle.embed_standing.specs.Playing.{HasRoomForScripts, IsScriptCall};
 ghost use Rattle.std.specs.Prelude.{◌<◌};
-ghost use Rattle.tide_model.specs.Layout.{Layout};
+ghost use Rattle.tide.specs.tide_model.Layout.{Layout};
 
-use tide_model::{Op, Reply, Val};
+use tide::{Op, Reply, Val};
 
 /// What the members of a row do.
 #[derive(Clone, Copy, PartialEq, Eq)]

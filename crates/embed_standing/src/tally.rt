@@ -2,7 +2,7 @@
 
 use std::sync::atomic::{AtomicU64, Ordering};
 use std::thread;
-use tide_model::{Place, Turnstile};
+use tide::{Place, Turnstile};
 
 /// How many turns a first call is held at most. In each the processor is left to others.
 const TURNS: u32 = 100_000_000;

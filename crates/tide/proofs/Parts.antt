@@ -3,18 +3,18 @@ use Rattle.std.proofs.Common.{ℕ, ◌≡◌, ◌<◌, ◌≤◌, refl, sym, ◌
 use Rattle.std.proofs.lemmas.Bool.{ne_eqb}
 use Rattle.std.specs.Prelude.{◌==◌, if◌then◌else◌}
 use Rattle.tide.specs.Parts.{HasDoneItsPart, IsIdle, IsIdleBefore, IsInPart}
-use Rattle.tide_heap.specs.Turns.{heard_view, note_of}
-use Rattle.tide_heap.proofs.tide_core.machine_laws.steps.Lists.{nothing_in}
-use Rattle.tide_heap.specs.tide_core.machine.Frozen.{newcomer}
-use Rattle.tide_heap.specs.tide_core.machine.Visiting.{FitsIn}
-use Rattle.tide_heap.specs.tide_core.declared.machine.view.View.{View}
-use Rattle.tide_heap.specs.tide_core.machine.kinds.Activate.{begun_view}
-use Rattle.tide_heap.specs.tide_core.machine.kinds.Split.{split_view}
-use Rattle.tide_heap.specs.tide_core.machine.kinds.StoreStopped.{stopped_view}
-use Rattle.tide_model.specs.Layout.{Layout}
-use Rattle.tide_mutator.specs.owed.Calling.{Kept, kept}
-use Rattle.tide_visitor.specs.Draining.{HasStopped}
-use Rattle.tide_visitor.specs.Visits.{visit_frame, IsVisitorOf}
+use Rattle.tide_server.specs.tide_heap.Turns.{heard_view, note_of}
+use Rattle.tide_server.proofs.tide_heap.tide_core.machine_laws.steps.Lists.{nothing_in}
+use Rattle.tide_server.specs.tide_heap.tide_core.machine.Frozen.{newcomer}
+use Rattle.tide_server.specs.tide_heap.tide_core.machine.Visiting.{FitsIn}
+use Rattle.tide_server.specs.tide_heap.tide_core.declared.machine.view.View.{View}
+use Rattle.tide_server.specs.tide_heap.tide_core.machine.kinds.Activate.{begun_view}
+use Rattle.tide_server.specs.tide_heap.tide_core.machine.kinds.Split.{split_view}
+use Rattle.tide_server.specs.tide_heap.tide_core.machine.kinds.StoreStopped.{stopped_view}
+use Rattle.tide_server.specs.tide_model.Layout.{Layout}
+use Rattle.tide_server.specs.tide_mutator.owed.Calling.{Kept, kept}
+use Rattle.tide_server.specs.tide_visitor.Draining.{HasStopped}
+use Rattle.tide_server.specs.tide_visitor.Visits.{visit_frame, IsVisitorOf}
 
 -- it has begun the ticket's part, and has done nothing there yet
 pub record HasBegun (who : ℕ) (t u : View) : Type 0 where

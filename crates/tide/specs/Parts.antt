@@ -1,6 +1,6 @@
 -- A participant between two parts and in one, and what its note of a part tells.
 use Rattle.std.specs.Prelude.{ℕ, ◌≡◌, ◌≤◌, ◌<◌, true, false}
-use Rattle.tide_heap.specs.tide_core.declared.machine.view.View.{View}
+use Rattle.tide_server.specs.tide_heap.tide_core.declared.machine.view.View.{View}
 
 -- the participant with this number stands after the part with that number, in which it began last, and hasn't left
 pub record IsIdle (who part : ℕ) (v : View) : Type 0 where

@@ -19,4 +19,4 @@ pub use name::HeapName;
 pub use tide_hands::{
     Found, HandTable, HandView, Hands, KeeperSeat, Keyed, MemberSeat, Parcel, Parcels, open_table,
 };
-pub use tide_heap::{Books, GreyList, Heap, HeapShapes, Layout, Note, Pacing, Pass, Ticket};
+pub use tide_heap::{Books, GreyList, Heap, HeapShapes, Layout, Note, Pacing, Pass, Ticket, fits};

@@ -16,7 +16,7 @@ use Rattle.tide_posts.specs.tide_heap.Turns.{opened}
 use Rattle.tide_posts.specs.tide_heap.tide_core.declared.machine.view.View.{View}
 use Rattle.tide_posts.specs.tide_heap.tide_freeze.Books.{AreBooks}
 use Rattle.tide_server.proofs.Tickets.{TicketTells-first}
-use Rattle.tide_server.proofs.Frozen.{KeeperStands-opened}
+use Rattle.tide_server.proofs.Freezes.{KeeperStands-opened}
 use Rattle.tide_server.specs.Keepers.{AreLeft, HasNoEnd, IsKeeperOf, KeeperStands, has_left, ticket_count, view_of}
 use Rattle.tide_server.specs.declared.keeper.Keeper.{Keeper}
 use Rattle.tide_table.proofs.Nexts.{HasOpenedNext-first}

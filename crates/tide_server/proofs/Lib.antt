@@ -1,3 +1,7 @@
+-- The rooms below that this one hands on.
+pub use Rattle.tide_model.proofs as tide_model
+pub use Rattle.tide_table.proofs as tide_table
+pub use Rattle.tide_posts.proofs.tide_heap
 pub mod Lists
 pub mod Notes
 pub mod Tickets
@@ -7,5 +11,5 @@ pub mod Noted
 pub mod Waiting
 pub mod Handing
 pub mod Ending
-pub mod Frozen
+pub mod Freezes
 pub mod First

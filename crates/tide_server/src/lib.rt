@@ -7,7 +7,8 @@
 //! nobody: `Member::offer`, `make`, `hand_in` and `retire`, `Helper::try_work` and `Keeper::try_turn`.
 //!
 //! It may touch the heap's collector, mutators and visitors by their calls, and hands tickets and notes over by
-//! `tide_hands`. It knows no step.
+//! `tide_hands`. It knows no step. What a program of one's own names of the rooms below it hands on, by which `tide`
+//! lists this room in place of them.
 #![tactic(auto)]
 
 mod helper;
@@ -37,6 +38,12 @@ pub use opening::{Opened, open};
 pub use parts::Offered;
 pub use resting::Resting;
 pub use standing::Standing;
+pub use tide_model::{FreePass, Memory, Op, Place, Refusal, Reply, Turnstile, Val};
+pub use tide_mutator::Mutator;
+pub use tide_posts::{Books, GreyList, Heap, HeapShapes, Layout, Note, Pacing, Pass, Ticket, fits};
 pub use tide_report::Report;
-pub use tide_table::Closed;
+pub use tide_shape::{Paths, ShapeTable, Shapes};
+pub use tide_table::{Closed, Collector, Frozen, NotOpened, Numbers, PeriodsSpent, Start};
+pub use tide_text::Settings;
+pub use tide_visitor::{Drained, Visitor};
 pub use turning::Turn;

@@ -1,9 +1,9 @@
 -- Why a heap that was just opened may be played on.
 use Rattle.std.proofs.Common.{◌≡◌, ◌∙◌, ◌<◌, ap, subst, sym, arith}
-use Rattle.atomic_table.specs.Seated.{TableId}
+use Rattle.tide.specs.atomic_table.Seated.{TableId}
 use Rattle.embed_standing.specs.Playing.{MayPlay}
 use Rattle.embed_standing.proofs.Seats.{all_may_call, all_may_work}
-use Rattle.tide_model.specs.Layout.{Layout}
+use Rattle.tide.specs.tide_model.Layout.{Layout}
 use Rattle.embed_standing.proofs.host.open_for.Goals as goal
 
 pub returns : goal.returns

@@ -1,8 +1,8 @@
 -- Where it is over the keeper has finished.
 use Rattle.std.proofs.Common.{◌≡◌, subst, true}
 use Rattle.std.specs.Prelude.{IfSome, Option}
-use Rattle.tide_server.specs.Turned.{IsFinished}
-use Rattle.tide_shape.specs.Lists.{lists_of}
+use Rattle.tide.specs.tide_server.Turned.{IsFinished}
+use Rattle.tide.specs.tide_shape.Lists.{lists_of}
 use Rattle.embed_standing.specs.declared.playing.Kept.{Kept}
 use Rattle.embed_standing.proofs.host.run.Goals as goal
 

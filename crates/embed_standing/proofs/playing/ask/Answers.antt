@@ -1,8 +1,8 @@
 -- What is to be tried again after each call.
 use Rattle.std.proofs.Common.{◌∙◌}
-use Rattle.tide_model.specs.Script.{retry_of}
-use Rattle.tide_mutator.specs.calls.Viewed.{view_of}
-use Rattle.tide_shape.specs.Lists.{lists_of}
+use Rattle.tide.specs.tide_model.Script.{retry_of}
+use Rattle.tide.specs.tide_mutator.calls.Viewed.{view_of}
+use Rattle.tide.specs.tide_shape.Lists.{lists_of}
 use Rattle.embed_standing.proofs.Calling.{full_is_tried, one_is_tried, other_is_settled, retry_called, tried_is_settled}
 use Rattle.embed_standing.proofs.playing.ask.Goals as goal
 

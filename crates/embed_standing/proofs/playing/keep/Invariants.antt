@@ -1,4 +1,4 @@
-use Rattle.tide_server.specs.Keepers.{KeeperStands}
+use Rattle.tide.specs.tide_server.Keepers.{KeeperStands}
 use Rattle.embed_standing.proofs.playing.keep.Given as goal
 
 abbrev pub invariant-loop : goal.invariant-loop

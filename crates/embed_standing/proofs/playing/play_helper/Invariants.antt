@@ -1,4 +1,4 @@
-use Rattle.tide_server.specs.Helpers.{IsHelperOf}
+use Rattle.tide.specs.tide_server.Helpers.{IsHelperOf}
 use Rattle.embed_standing.proofs.playing.play_helper.Given as goal
 
 abbrev pub invariant-loop : goal.invariant-loop

@@ -1,8 +1,8 @@
 -- It tries again, and stays what it was.
 use Rattle.std.proofs.Common.{◌∙◌, ap, refl}
-use Rattle.tide_model.specs.Prefix.{prefix_refl}
-use Rattle.tide_mutator.specs.calls.Viewed.{view_of}
-use Rattle.tide_server.specs.Members.{Calling}
+use Rattle.tide.specs.tide_model.Prefix.{prefix_refl}
+use Rattle.tide.specs.tide_mutator.calls.Viewed.{view_of}
+use Rattle.tide.specs.tide_server.Members.{Calling}
 use Rattle.embed_standing.proofs.polling.begin_next.Goals as goal
 
 pub offer-requires-clause-stays : goal.offer-requires-clause-stays

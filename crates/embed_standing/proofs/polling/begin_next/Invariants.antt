@@ -1,8 +1,8 @@
 -- It waits for its next ticket.
 use Rattle.std.proofs.Common.{◌≡◌, false}
-use Rattle.tide_model.specs.Prefix.{IsPrefix}
-use Rattle.tide_mutator.specs.calls.Viewed.{view_of}
-use Rattle.tide_server.specs.Members.{IsMemberOf, caller_of}
+use Rattle.tide.specs.tide_model.Prefix.{IsPrefix}
+use Rattle.tide.specs.tide_mutator.calls.Viewed.{view_of}
+use Rattle.tide.specs.tide_server.Members.{IsMemberOf, caller_of}
 use Rattle.embed_standing.proofs.polling.begin_next.Given as goal
 
 abbrev pub invariant-loop : goal.invariant-loop

@@ -1,10 +1,10 @@
 -- A call that may wait stands after what its caller had seen.
 use Rattle.std.proofs.Common.{◌∙◌, ap, sym, subst, ℕ}
-use Rattle.tide_model.specs.Caller.{MakesCall}
-use Rattle.tide_mutator.specs.calls.Viewed.{view_of}
-use Rattle.tide_server.proofs.Working.{MakesCall-later, owns}
-use Rattle.tide_server.specs.Members.{Calling}
-use Rattle.tide_shape.specs.Lists.{lists_of}
+use Rattle.tide.specs.tide_model.Caller.{MakesCall}
+use Rattle.tide.specs.tide_mutator.calls.Viewed.{view_of}
+use Rattle.tide.proofs.tide_server.Working.{MakesCall-later, owns}
+use Rattle.tide.specs.tide_server.Members.{Calling}
+use Rattle.tide.specs.tide_shape.Lists.{lists_of}
 use Rattle.embed_standing.proofs.polling.call.Goals as goal
 
 pub make-requires-clause-stays : goal.make-requires-clause-stays
@@ -14,7 +14,7 @@ pub make-requires-clause-retries : goal.make-requires-clause-retries
 make-requires-clause-retries g c κs within other pending =
     let same = c.come_to_work.ensures.same in
     c.requires.retries other
-    (sym (ap (λ (k : Calling). Rattle.tide_model.specs.Script.retry_of k.who k.mine) same) ∙ pending)
+    (sym (ap (λ (k : Calling). Rattle.tide.specs.tide_model.Script.retry_of k.who k.mine) same) ∙ pending)
 
 pub returns-clause-makes : goal.returns-clause-makes
 returns-clause-makes g c =

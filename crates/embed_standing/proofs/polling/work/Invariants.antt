@@ -1,5 +1,5 @@
 -- Nothing came yet.
-use Rattle.tide_server.specs.Helpers.{IsHelperOf}
+use Rattle.tide.specs.tide_server.Helpers.{IsHelperOf}
 use Rattle.embed_standing.proofs.polling.work.Given as goal
 
 abbrev pub invariant-loop : goal.invariant-loop

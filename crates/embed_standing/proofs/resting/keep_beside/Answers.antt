@@ -1,8 +1,8 @@
 -- The part is open still, or again, and who rests is who it was.
 use Rattle.std.proofs.Common.{subst}
-use Rattle.tide_server.specs.Turned.{HasTurned}
-use Rattle.tide_server.specs.declared.turning.Turn.{Turn}
-use Rattle.tide_shape.specs.Lists.{lists_of}
+use Rattle.tide.specs.tide_server.Turned.{HasTurned}
+use Rattle.tide.specs.tide_server.declared.turning.Turn.{Turn}
+use Rattle.tide.specs.tide_shape.Lists.{lists_of}
 use Rattle.embed_standing.proofs.Rests.{may_wake}
 use Rattle.embed_standing.proofs.resting.keep_beside.Goals as goal
 

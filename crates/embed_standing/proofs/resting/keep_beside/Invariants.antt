@@ -1,6 +1,6 @@
 -- The part is open, and who rests may wake.
 use Rattle.embed_standing.specs.Playing.{MayWake}
-use Rattle.tide_server.specs.Keepers.{KeeperStands}
+use Rattle.tide.specs.tide_server.Keepers.{KeeperStands}
 use Rattle.embed_standing.proofs.resting.keep_beside.Given as goal
 
 abbrev pub invariant-loop : goal.invariant-loop

@@ -7,7 +7,7 @@ use Rattle.tide_posts.specs.tide_heap.tide_freeze.declared.books.Books.{Books}
 use Rattle.tide_server.proofs.Ending.{is_forced-here}
 use Rattle.tide_server.proofs.First.{none_left}
 use Rattle.tide_server.proofs.Handing.{ends_are}
-use Rattle.tide_server.proofs.Frozen.{HasFinished-frozen, HasOpenedPart-frozen, HasSpentParts-frozen, MakesPeriod-frozen, period_is}
+use Rattle.tide_server.proofs.Freezes.{HasFinished-frozen, HasOpenedPart-frozen, HasSpentParts-frozen, MakesPeriod-frozen, period_is}
 use Rattle.tide_posts.specs.Among.{times}
 use Rattle.tide_posts.specs.Name.{Name, places}
 use Rattle.tide_posts.specs.tide_hands.declared.keeper.KeeperSeat.{KeeperSeat}

@@ -5,7 +5,7 @@ use Rattle.tide_posts.specs.Posts.{TicketTells}
 use Rattle.tide_posts.specs.tide_heap.tide_core.declared.machine.view.View.{View}
 use Rattle.tide_posts.specs.tide_heap.tide_core.machine.Frozen.{FrozenWith}
 use Rattle.tide_posts.specs.tide_heap.tide_words.heap.Heap.{heap_of}
-use Rattle.tide_server.proofs.Frozen.{TicketTells-opened}
+use Rattle.tide_server.proofs.Freezes.{TicketTells-opened}
 use Rattle.tide_table.proofs.Standing.{blacks_stay}
 use Rattle.tide_server.proofs.keeper.Keeper.open_next.Goals as goal
 
