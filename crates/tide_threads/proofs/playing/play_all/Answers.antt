@@ -16,18 +16,20 @@ for_each_mut-requires-clause-accepts g c κs within = λ i p below is. (
   search sendable depth 20,
 )
 
-pub returns-clause-did : goal.returns-clause-did
-returns-clause-did g c =
+pub returns : goal.returns
+returns g c =
     let key = c.args.heap.now.key in
     let id = c.args.heap.now.table.shared.table_id in
     let xs = c.args.participants.now in
     let ys = c.for_each_mut.new.s in
     record {
-      as_many = (let same = c.for_each_mut.auto.s in omega (arith, same));
-      each = λ who x y at_x at_y.
-          let k = (c.for_each_mut.ensures who x (slice_get_within xs who x at_x)).1 in
-          subst (λ (a : CachePadded Participant). DidPart id key.layout (lists_of key.shapes) (padded_value a) (padded_value y))
-          (k.argument_is ∙ get_or_from_slice_get xs who x x at_x)
-          (subst (λ (b : CachePadded Participant). DidPart id key.layout (lists_of key.shapes) (padded_value k.argument.now) (padded_value b))
-          (k.left ∙ get_or_from_slice_get ys who y x at_y) k.call);
+      did = record {
+        as_many = (let same = c.for_each_mut.auto.s in omega (arith, same));
+        each = λ who x y at_x at_y.
+            let k = (c.for_each_mut.ensures who x (slice_get_within xs who x at_x)).1 in
+            subst (λ (a : CachePadded Participant). DidPart id key.layout (lists_of key.shapes) (padded_value a) (padded_value y))
+            (k.argument_is ∙ get_or_from_slice_get xs who x x at_x)
+            (subst (λ (b : CachePadded Participant). DidPart id key.layout (lists_of key.shapes) (padded_value k.argument.now) (padded_value b))
+            (k.left ∙ get_or_from_slice_get ys who y x at_y) k.call);
+      };
     }
