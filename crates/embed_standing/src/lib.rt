@@ -17,6 +17,11 @@ mod row;
 // these stand on those listed before
 mod playing;
 // these stand on those listed before
+mod cells;
+mod early;
+// these stand on those listed before
+mod lying;
+// these stand on those listed before
 mod others;
 // these stand on those listed before
 mod resting;
