@@ -34,8 +34,8 @@ fn is_same_cell(born: Reply, seen: Reply) -> bool {
     }
 }
 
-/// Puts the cell in its register into that cell's own slot, and reads it from there. Says whether that is the cell which
-/// it had made, as it was answered then.
+/// Puts the cell in its register into that cell's own slot, and reads it from there. Says whether that is the cell
+/// which it had made, as it was answered then.
 pub fn finds_cell<R: Wait>(
     rt: &R,
     standing: &Standing<Shapes>,

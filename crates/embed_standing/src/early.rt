@@ -33,7 +33,8 @@ fn comes_early(standing: &Standing<Shapes>, member: &mut Member) -> bool
     false
 }
 
-/// Makes its calls, comes early to a freeze after each, and leaves. Says whether each was answered as the script has it.
+/// Makes its calls, comes early to a freeze after each, and leaves. Says whether each was answered as the script has
+/// it, and each freeze was wanted.
 pub fn come_early_after_each<R: Wait>(
     rt: &R,
     standing: &Standing<Shapes>,

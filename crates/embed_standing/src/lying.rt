@@ -128,7 +128,8 @@ fn stay_a_while<R: Wait>(rt: &R, time: u32, row: &Row, tally: &Tally) {
     }
 }
 
-/// Makes cells, rests in its bed for a while after each, and then finds it; at last it leaves. Says whether it found all.
+/// Makes cells, rests in its bed for a while after each, and then finds it; at last it leaves. Says whether it found
+/// all.
 pub fn rest_by_turns<'h, R: Wait>(
     rt: &R,
     standing: &'h Standing<Shapes>,

@@ -30,7 +30,7 @@ pub struct Row {
     /// How many newly born cells begin a cycle; 0 where none begins by itself.
     pub trigger: u32,
     pub script: Script,
-    /// How many calls each member makes before it leaves, but the second one. Where members rest by turns, how many cells.
+    /// How many calls each member makes before it leaves, but the second one; where all rest by turns, how many cells.
     pub calls: u32,
     /// How many the second one makes.
     pub second_calls: u32,
