@@ -181,11 +181,12 @@ pub ArePeriodsWhere-nobody : (pace : Pace) (layout : Layout) (history : List Eve
     (stops : List (List Bool)) × (have_stops layout stops ≡ false) × ArePeriodsWhere pace layout stops history
 ArePeriodsWhere-nobody pace layout _ periods.no_period = ([], refl, where_early.no_period)
 ArePeriodsWhere-nobody pace layout _ (periods.one_more before period are stands) =
-    let earlier = ArePeriodsWhere-nobody pace layout before are in
-    (earlier.0 ++ [] ∷ [],
-    have_stops-push layout earlier.0 [] ∙ or_from (have_stops layout earlier.0) (has_stop layout []) earlier.1
-    (has_stop-nobody layout [] (λ who. refl)),
-    where_early.one_more earlier.0 [] before period earlier.2 (StandsPeriodWhere-nobody pace layout before period stands))
+    let earlier = ArePeriodsWhere-nobody pace layout before are in (
+      earlier.0 ++ [] ∷ [],
+      have_stops-push layout earlier.0 [] ∙ or_from (have_stops layout earlier.0) (has_stop layout []) earlier.1
+          (has_stop-nobody layout [] (λ who. refl)),
+      where_early.one_more earlier.0 [] before period earlier.2 (StandsPeriodWhere-nobody pace layout before period stands),
+    )
 
 -- A history is legal just where it is legal with some stops of which there are none.
 pub legal_where_none : (pace : Pace) (layout : Layout) (shapes : ShapeLists) (history : List Event) →
@@ -196,13 +197,16 @@ legal_where_none pace layout shapes history = (there, back)
     there : IsLegal pace layout shapes history →
         (stops : List (List Bool)) × (have_stops layout stops ≡ false) × IsLegalWhere pace layout shapes stops history
     there legal =
-        let are = ArePeriodsWhere-nobody pace layout history legal.scheduled.periods in
-        (are.0, are.1, record {
-          lawful = legal.lawful;
-          periods = are.2;
-          ends = legal.scheduled.ends;
-          over = legal.scheduled.over;
-        })
+        let are = ArePeriodsWhere-nobody pace layout history legal.scheduled.periods in (
+          are.0,
+          are.1,
+          record {
+            lawful = legal.lawful;
+            periods = are.2;
+            ends = legal.scheduled.ends;
+            over = legal.scheduled.over;
+          },
+        )
 
     back : (stops : List (List Bool)) × (have_stops layout stops ≡ false) × IsLegalWhere pace layout shapes stops history →
         IsLegal pace layout shapes history

@@ -322,7 +322,7 @@ module _ (layout : Layout) (shapes : ShapeLists) (heap hands : TableId) (k : Kee
         ((place : ℕ) → has_left layout k.left place ≡ true → Among place final.seat.seat.me.0.free) →
         ((place : ℕ) → place < places layout → times place final.seat.seat.me.0.tickets
         ≡ times place k.seat.seat.me.0.tickets + (if has_left layout k.left place then 0 else 1)) →
-        final.seat.seat.me.0.notes ≡ k.seat.seat.me.0.notes → 
+        final.seat.seat.me.0.notes ≡ k.seat.seat.me.0.notes →
         MakesPeriod layout shapes k k.stopped w.seen → any_below (λ who. not (get_or k.left who false)) layout.mutators ≡ true →
         HasOpenedPart layout shapes heap hands k final report longer
     HasOpenedPart-frozen of none ended left stopped nobody no_end posted due tickets notes makes goes_on = record {

@@ -2,6 +2,7 @@ pub mod Lists
 pub mod Notes
 pub mod Tickets
 pub mod Working
+pub mod Lying
 pub mod Noted
 pub mod Waiting
 pub mod Handing

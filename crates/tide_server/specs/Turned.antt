@@ -27,13 +27,13 @@ use Rattle.tide_table.specs.Standing.{HasCollected}
 -- opened, is lawful, and its cycles end in time. `stopped` says whether some mutator has
 -- stopped early in one of the periods.
 pub record MakesPeriod (layout : Layout) (shapes : ShapeLists) (k : Keeper) (stopped : Bool) (after : List Event) : Type 0
-    where
-  pub grows : IsPrefix (view_of k).start after
-  pub lawful : IsLawful layout shapes after
-  pub stops : List (List Bool)
-  pub periods : ArePeriodsWhere (pace_of k.books.pacing) layout stops after
-  pub is_stopped : stopped ≡ have_stops layout stops
-  pub ends : Each (EndsInTime layout) after
+  where
+    pub grows : IsPrefix (view_of k).start after
+    pub lawful : IsLawful layout shapes after
+    pub stops : List (List Bool)
+    pub periods : ArePeriodsWhere (pace_of k.books.pacing) layout stops after
+    pub is_stopped : stopped ≡ have_stops layout stops
+    pub ends : Each (EndsInTime layout) after
 
 -- A freeze ended the keeper's open part and did what the schedule asks for, in which each mutator has so many calls
 -- next. The report has the ends that it entered.

@@ -2,7 +2,7 @@
 ghost use Rattle.std.specs.Prelude.{◌≡◌, IfErr, IfSome, false};
 ghost use Rattle.tide_mutator.specs.calls.Viewed.{view_of};
 ghost use Rattle.tide_server.specs.Members.{IsMemberOf};
-ghost use Rattle.tide_server.specs.Rests.{IsRestingOf};
+ghost use Rattle.tide_server.specs.Rests.{IsRestingOf, LiesThere};
 
 use crate::keeper::Keeper;
 use crate::member::Member;
@@ -18,7 +18,7 @@ use tide_posts::HeapShapes;
 struct Lying<'h, S: HeapShapes> {
     standing: &'h Standing<S>,
     resting: Resting,
-    ghost of: { IsRestingOf standing.now.heap.key.layout standing.now.heap.table.shared.table_id
+    ghost of: { LiesThere standing.now.heap.key.layout standing.now.heap.table.shared.table_id
         standing.now.hands.shared.table_id resting },
 }
 
@@ -91,7 +91,9 @@ impl<'h, S: HeapShapes> Beds<'h, S> {
     {
         let mut beds = self.beds.lock(rt);
         let Lying {
-            standing, resting, ..
+            standing,
+            resting,
+            ..
         } = beds.get_mut(number)?.take()?;
         self.woken.notify_all();
         Some(Woken {
@@ -103,26 +105,18 @@ impl<'h, S: HeapShapes> Beds<'h, S> {
 
 /// How many lie in these beds.
 fn lie_there<S: HeapShapes>(beds: &[Option<Lying<'_, S>>]) -> usize {
-    let mut count = 0usize;
-    for bed in beds {
-        if bed.is_some() {
-            count += 1;
-        }
-    }
-    count
+    beds.iter().filter(|bed| bed.is_some()).count()
 }
 
 impl Keeper {
     /// How many mutators have not left for good, as far as notes tell that are in.
     fn active_count<S: HeapShapes>(&self, standing: &Standing<S>) -> usize {
         let mutators = usize::from(standing.heap.layout().mutators());
-        let mut count = 0usize;
-        for place in 0..mutators {
-            if !self.left[place] {
-                count += 1;
-            }
-        }
-        count
+        self.left
+            .iter()
+            .take(mutators)
+            .filter(|has_left| !**has_left)
+            .count()
     }
 
     /// Begins and stops in the place of each that lies in a bed: so before each turn. Where all members lie there that

@@ -16,7 +16,10 @@ use crate::standing::Standing;
 use std::alloc::Global;
 use std::sync::atomic::AtomicBool;
 use tide_model::Memory;
-use tide_posts::{Books, GreyList, HandedIn, Heap, HeapName, HeapShapes, KeeperSeat, Pacing, Pass, Ticket, open_table};
+use tide_posts::{
+    Books, GreyList, HandedIn, Heap, HeapName, HeapShapes, KeeperSeat, Pacing, Pass, Ticket,
+    open_table,
+};
 use tide_shape::ShapeTable;
 use tide_table::Start;
 use tide_text::Settings;
