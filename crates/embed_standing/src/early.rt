@@ -20,7 +20,7 @@ fn comes_early(standing: &Standing<Shapes>, member: &mut Member) -> bool
     ensures may { MayCall standing.now.heap.key.layout standing.now.heap.table.shared.table_id
         standing.now.hands.shared.table_id member.new }
 {
-    for _turn in 0..TURNS {
+    for _ in 0..TURNS {
         if member.poll(standing) {
             if !member.works() || member.is_over() {
                 return false;

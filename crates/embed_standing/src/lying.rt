@@ -1,6 +1,9 @@
 //! Members that rest in beds: the keeper begins and stops in the place of each that lies there.
 ghost use Rattle.embed_standing.specs.Playing.{HasRoomForScripts, MayCall};
-ghost use Rattle.std.specs.Prelude.{IfSome};
+ghost use Rattle.std.specs.Prelude.{◌≡◌, [], IfSome, None, true};
+ghost use Rattle.tide_model.specs.Script.{retry_of};
+ghost use Rattle.tide_mutator.specs.calls.Viewed.{view_of};
+ghost use Rattle.tide_mutator.specs.owed.Standing.{claims_of};
 
 use crate::cells::{finds_cell, make_cell};
 use crate::row::Row;
@@ -8,23 +11,39 @@ use crate::tally::Tally;
 use std::marker::Sync;
 use std::sync::Wait;
 use std::thread::{Threads, join, yield_now};
+use tide_heap::Layout;
 use tide_model::{Memory, Reply};
 use tide_server::{Beds, Member, Standing, Woken};
 use tide_shape::Shapes;
 
-/// The member that lies in the bed of this number wakes, and may make any call of a script: it claims no cell, has
-/// nothing to try again, and its heap has room for scripts. `None` where that isn't so, or none lies there.
+/// Whether a member claims no cell and has nothing to try again.
+fn is_settled(member: &Member) -> bool
+    ensures bare { result ≡ true → claims_of (view_of member.now.mutator) ≡ [] }
+    ensures settled { result ≡ true →
+        retry_of (view_of member.now.mutator).who (view_of member.now.mutator).mine ≡ None }
+{
+    member.claims() == 0 && !member.retries()
+}
+
+/// Whether a layout has as many registers and strong handles as the scripts name.
+fn has_room_for_scripts(layout: &Layout) -> bool
+    ensures { result ≡ true → HasRoomForScripts layout.now }
+{
+    layout.registers() >= 4 && layout.strong() >= 2
+}
+
+/// The member that lies in the bed of this number wakes, and may make any call of a script. `None` where it may not, or
+/// none lies there.
 fn wake<'h, R: Wait>(rt: &R, beds: &Beds<'h, Shapes>, number: usize) -> Option<Woken<'h, Shapes>>
     ensures may { IfSome result (λ woken. MayCall woken.standing.now.heap.key.layout
         woken.standing.now.heap.table.shared.table_id woken.standing.now.hands.shared.table_id woken.member) }
     ensures room { IfSome result (λ woken. HasRoomForScripts woken.standing.now.heap.key.layout) }
 {
     let woken = beds.wake(rt, number)?;
-    if woken.member.retries() || woken.member.claims() > 0 {
+    if !is_settled(&woken.member) {
         return None;
     }
-    let layout = woken.standing.layout();
-    if layout.registers() < 4 || layout.strong() < 2 {
+    if !has_room_for_scripts(woken.standing.layout()) {
         return None;
     }
     Some(woken)
