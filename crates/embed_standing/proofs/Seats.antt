@@ -1,9 +1,9 @@
 -- What those may do who have just got a seat.
-use Rattle.std.proofs.Common.{ℕ, suc, ◌≡◌, ap, List, [], ◌∷◌}
-use Rattle.std.proofs.lemmas.List.Elements.{All-cons, All-nil}
-use Rattle.std.specs.Prelude.{All}
+use Rattle.std.proofs.Common.{ℕ, suc, ◌≡◌, ap, sym, subst, List, [], ◌∷◌}
+use Rattle.std.proofs.lemmas.List.Elements.{All-cons, All-map, All-nil}
+use Rattle.std.specs.Prelude.{All, IfSome, Option, Some, map}
 use Rattle.tide.specs.atomic_table.Seated.{TableId}
-use Rattle.embed_standing.specs.Playing.{MayCall}
+use Rattle.embed_standing.specs.Playing.{MayCall, MayEachCall}
 use Rattle.tide.specs.tide_model.Layout.{Layout}
 use Rattle.tide.specs.tide_model.Script.{retry_of}
 use Rattle.tide.specs.tide_mutator.calls.Viewed.{view_of}
@@ -39,3 +39,9 @@ module _ (layout : Layout) (heap hands : TableId) where
       All (IsHelperOf layout heap hands) hs
   all_may_work first [] are = All-nil (IsHelperOf layout heap hands)
   all_may_work first (h ∷ hs) are = All-cons (IsHelperOf layout heap hands) h hs are.0 (all_may_work (suc first) hs are.2)
+
+  -- and so may those that are each to be taken by its thread
+  pub each_may_call : (ms : List Member) (taken : List (Option Member)) → All (MayCall layout heap hands) ms →
+      taken ≡ map Some ms → MayEachCall layout heap hands taken
+  each_may_call ms taken may are = subst (MayEachCall layout heap hands) (sym are)
+      (All-map (λ (one : Option Member). IfSome one (MayCall layout heap hands)) Some ms may)
