@@ -16,7 +16,10 @@ use std::alloc::Global;
 use std::marker::Sync;
 use std::sync::Wait;
 use std::thread::{Threads, join};
-use tide::{Beds, Helper, Keeper, Layout, Member, Memory, Opened, Paths, Report, Settings, Shapes, Standing, Start, open};
+use tide::{
+    Beds, Helper, Keeper, Layout, Member, Memory, Opened, Paths, Report, Settings, Shapes,
+    Standing, Start, open,
+};
 
 /// The keeper turns until no mutator is active, beside the members and the helpers.
 fn play_all<'h, R: Threads + Wait + Sync>(

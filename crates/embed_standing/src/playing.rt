@@ -20,7 +20,10 @@ use crate::row::Row;
 use crate::tally::Tally;
 use std::sync::Wait;
 use std::thread::yield_now;
-use tide::{Beds, FreePass, Helper, Keeper, Member, Memory, Op, Refusal, Reply, Report, Shapes, Standing, Turn, Turnstile, Worked};
+use tide::{
+    Beds, FreePass, Helper, Keeper, Member, Memory, Op, Refusal, Reply, Report, Shapes, Standing,
+    Turn, Turnstile, Worked,
+};
 
 /// Whether a reply is a refusal for want of room.
 fn is_full(reply: Reply) -> bool

@@ -5,7 +5,6 @@ ghost use Rattle.tide.specs.tide_model.Layout.{Layout};
 
 use tide::{Op, Reply, Val};
 
-
 /// What the members of a row do.
 #[derive(Clone, Copy, PartialEq, Eq)]
 pub enum Script {
