@@ -1,5 +1,5 @@
 -- A member of a standing heap: a mutator between two of its calls.
-use Rattle.std.specs.Prelude.{ℕ, ◌≡◌, ◌<◌, ◌==◌, ◌&&◌, ◌||◌, ◌⊎◌, Bool, true, false, List, MatchBool, Some}
+use Rattle.std.specs.Prelude.{ℕ, ◌≡◌, ◌<◌, ◌==◌, ◌&&◌, ◌||◌, ◌⊎◌, Bool, true, false, List, MatchBool, Option, Some}
 use Rattle.atomic_table.specs.Seated.{TableId}
 use Rattle.tide_posts.specs.tide_heap.tide_core.declared.machine.view.View.{View}
 use Rattle.tide_model.specs.Layout.{Layout}
@@ -38,7 +38,7 @@ pub record Calling : Type 0 where
   pub mine : List Event
   pub claims : List ℕ
   pub has_left : Bool
-  pub retries : Bool
+  pub retry : Option Op
 
 -- that of a member
 abbrev pub caller_of : Member → Calling
@@ -47,7 +47,7 @@ caller_of m = record {
   mine = (view_of m.mutator).mine;
   claims = claims_of (view_of m.mutator);
   has_left = (view_of m.mutator).left;
-  retries = m.retries;
+  retry = m.retry;
 }
 
 -- the operation is the one that is to be tried again, if one is

@@ -24,6 +24,7 @@ impl Member {
         ensures same { caller_of self.new ≡ caller_of self.old }
         ensures seen { (view_of self.new.mutator).seen ≡ (view_of self.old.mutator).seen }
         ensures posted { self.new.seat.seat.me.0.given ≡ self.old.seat.seat.me.0.given + 1 }
+        ensures took { self.new.seat.seat.me.0.taken ≡ self.old.seat.seat.me.0.taken }
     {
         if self.is_over() {
             self.hand_in(standing);
@@ -43,6 +44,7 @@ impl Member {
         ensures seen { (view_of result.member.mutator).seen ≡ (view_of self.mutator).seen }
         ensures posted { result.member.seat.seat.me.0.given
             ≡ self.seat.seat.me.0.given + (if self.works then 1 else 0) }
+        ensures took { result.member.seat.seat.me.0.taken ≡ self.seat.seat.me.0.taken }
     {
         let mut member = self;
         if !member.works {
@@ -66,6 +68,8 @@ impl Resting {
         ensures seen { IsPrefix (view_of self.old.member.mutator).seen (view_of self.new.member.mutator).seen }
         ensures posted { self.new.member.seat.seat.me.0.given
             ≡ self.old.member.seat.seat.me.0.given + (if result then 1 else 0) }
+        ensures took { self.new.member.seat.seat.me.0.taken
+            ≡ self.old.member.seat.seat.me.0.taken + (if result then 1 else 0) }
     {
         // An end is posted to helpers alone.
         let Offered::Begun = self.member.offer(standing) else {

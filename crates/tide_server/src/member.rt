@@ -5,6 +5,7 @@ ghost use Rattle.tide_mutator.specs.owed.Standing.{claims_of};
 ghost use Rattle.tide_mutator.specs.calls.Viewed.{table_of, view_of};
 ghost use Rattle.tide_posts.specs.tide_heap.tide_core.machine.Frozen.{newcomer};
 
+use tide_model::Op;
 use tide_mutator::Mutator;
 use tide_posts::{HandedIn, HeapName, MemberSeat, Pass, Ticket};
 
@@ -15,8 +16,8 @@ pub struct Member {
     pub(crate) seat: MemberSeat<Ticket, HandedIn, HeapName>,
     /// How many calls it has left in its part.
     pub(crate) left: u32,
-    /// Its last call was refused for room a first time, and is to be tried again.
-    pub(crate) retries: bool,
+    /// The operation that is to be tried again: its last call was refused for room a first time.
+    pub(crate) retry: Option<Op>,
     /// Its last call ended its share.
     pub(crate) ended: bool,
     /// It has begun a part, and not handed its note in.
@@ -24,7 +25,7 @@ pub struct Member {
     ghost its: { (view_of mutator).who ≡ seat.place },
     ghost before: { (view_of mutator).period ≤ seat.seat.me.0.taken },
     ghost numbered: { works ≡ true → (view_of mutator).ticket ≡ seat.seat.me.0.taken },
-    ghost retries_is: { retries ≡ is_some (retry_of (view_of mutator).who (view_of mutator).mine) },
+    ghost retry_is: { retry ≡ retry_of (view_of mutator).who (view_of mutator).mine },
     ghost owes: { works ≡ true → seat.seat.me.0.due ≡ true },
 }
 
@@ -41,7 +42,7 @@ impl Member {
             mutator: Mutator::new(pass),
             seat,
             left: 0,
-            retries: false,
+            retry: None,
             ended: false,
             works: false,
         }
@@ -60,7 +61,14 @@ impl Member {
         ensures settled { result ≡ false →
             retry_of (view_of self.now.mutator).who (view_of self.now.mutator).mine ≡ None }
     {
-        self.retries
+        self.retry.is_some()
+    }
+
+    /// The operation that comes next, where its last call was refused for room a first time.
+    pub fn retry(&self) -> Option<Op>
+        ensures { result ≡ retry_of (view_of self.now.mutator).who (view_of self.now.mutator).mine }
+    {
+        self.retry
     }
 
     /// Whether it is in the midst of a part.

@@ -1,10 +1,10 @@
 //! A member's part, from its ticket to its note. It waits for nobody.
-ghost use Rattle.std.specs.Prelude.{◌≡◌, ◌≢◌, ◌≤◌, ◌<◌, ◌+◌, ◌&&◌, ◌||◌, [], None, not, true, false};
+ghost use Rattle.std.specs.Prelude.{◌≡◌, ◌≢◌, ◌≤◌, ◌<◌, ◌+◌, ◌||◌, [], None, is_some, true, false};
 ghost use Rattle.tide_model.specs.Lawful.{FitsLayout};
 ghost use Rattle.tide_model.specs.Caller.{MakesCall};
 ghost use Rattle.tide_model.specs.Periods.{open_count};
 ghost use Rattle.tide_model.specs.Prefix.{IsPrefix};
-ghost use Rattle.tide_model.specs.Script.{is_full_reply, retry_of};
+ghost use Rattle.tide_model.specs.Script.{retry_after, retry_of};
 ghost use Rattle.tide_model.specs.Share.{is_asked};
 ghost use Rattle.tide_model.specs.declared.op.Op.TheVariants.{Retire};
 ghost use Rattle.tide_model.specs.declared.op.Reply.TheVariants.{Done as IsDone};
@@ -37,18 +37,21 @@ pub enum Offered {
     Over,
 }
 
-/// Whether a reply is a first refusal for want of room: the operation wasn't to be tried again already.
-fn is_first_full(retries: bool, reply: Reply) -> bool
-    ensures { result ≡ (not retries && is_full_reply reply) }
+/// The operation that is to be tried again after a call: where it was refused for room a first time.
+fn retry_after(retry: Option<Op>, op: Op, reply: Reply) -> Option<Op>
+    ensures { result ≡ retry_after retry (op, reply) }
 {
-    !retries && matches!(reply, Reply::Refused(Refusal::Full { .. }))
+    match (retry, reply) {
+        (None, Reply::Refused(Refusal::Full { .. })) => Some(op),
+        _ => None,
+    }
 }
 
 /// Whether a call ends its mutator's share: a cycle was asked for, or it was refused for room a first time.
-fn ends(reply: Reply, is_first_full: bool) -> bool
-    ensures { result ≡ (is_asked reply || is_first_full) }
+fn ends(reply: Reply, retry: Option<Op>) -> bool
+    ensures { result ≡ (is_asked reply || is_some retry) }
 {
-    matches!(reply, Reply::Asked) || is_first_full
+    matches!(reply, Reply::Asked) || retry.is_some()
 }
 
 /// Stops a mutator, and posts its note, which tells that it made its share of the part.
@@ -175,6 +178,7 @@ impl Member {
         ensures same { caller_of self.new ≡ caller_of self.old }
         ensures seen { (view_of self.new.mutator).seen ≡ (view_of self.old.mutator).seen }
         ensures posted { self.new.seat.seat.me.0.given ≡ self.old.seat.seat.me.0.given + 1 }
+        ensures took { self.new.seat.seat.me.0.taken ≡ self.old.seat.seat.me.0.taken }
     {
         stop_and_post(
             &mut self.mutator,
@@ -199,6 +203,7 @@ impl Member {
         ensures same { caller_of self.new ≡ caller_of self.old }
         ensures seen { (view_of self.new.mutator).seen ≡ (view_of self.old.mutator).seen }
         ensures posted { self.new.seat.seat.me.0.given ≡ self.old.seat.seat.me.0.given + 1 }
+        ensures took { self.new.seat.seat.me.0.taken ≡ self.old.seat.seat.me.0.taken }
     {
         stop_and_post(&mut self.mutator, &mut self.seat, standing, false, true);
         self.works = false;
@@ -232,8 +237,8 @@ impl Member {
     {
         let reply = self.mutator.call(&standing.heap, op, turnstile);
         self.left -= 1;
-        self.retries = is_first_full(self.retries, reply);
-        self.ended = ends(reply, self.retries);
+        self.retry = retry_after(self.retry, op, reply);
+        self.ended = ends(reply, self.retry);
         reply
     }
 

@@ -37,7 +37,7 @@ invariant_of-self g c =
       its = ap (λ (x : View). x.who) first ∙ m.its;
       before = (let period = ap (λ (x : View). x.period) first in let before = m.before in omega (arith, period, before));
       numbered = λ _. ap (λ (x : View). x.ticket) first ∙ c.requires.ticket.part;
-      retries_is = m.retries_is ∙ ap (λ (x : View). is_some (retry_of x.who x.mine)) (sym first);
+      retry_is = m.retry_is ∙ ap (λ (x : View). retry_of x.who x.mine) (sym first);
       owes = λ _. c.requires.owes;
     }
 
@@ -77,4 +77,4 @@ returns-clause-same g c =
     let later = c.requires.later in
     let begun = parked.begun in
     let first = c.begin.ensures.begun ∙ begun_view-first v c.args.ticket.seat.me.0 (omega (arith, begun, later)) in
-    ap (λ (x : View). record { who = x.who; mine = x.mine; claims = claims_of x; has_left = x.left; retries = m.retries }) first
+    ap (λ (x : View). record { who = x.who; mine = x.mine; claims = claims_of x; has_left = x.left; retry = m.retry }) first

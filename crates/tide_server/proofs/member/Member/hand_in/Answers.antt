@@ -51,7 +51,7 @@ invariant_of-self g c =
           let taken = told.posted.1 in
           omega (arith, number, period, taken);
       numbered = λ is. absurd (cc);
-      retries_is = m.retries_is ∙ ap (λ (x : View). is_some (retry_of x.who x.mine)) (sym told.stopped);
+      retry_is = m.retry_is ∙ ap (λ (x : View). retry_of x.who x.mine) (sym told.stopped);
       owes = λ is. absurd (cc);
     }
 
@@ -73,7 +73,7 @@ returns-clause-of g c =
 pub returns-clause-same : goal.returns-clause-same
 returns-clause-same g c =
     let m = c.args.self.now in
-    ap (λ (x : View). record { who = x.who; mine = x.mine; claims = claims_of x; has_left = x.left; retries = m.retries })
+    ap (λ (x : View). record { who = x.who; mine = x.mine; claims = claims_of x; has_left = x.left; retry = m.retry })
     c.stop_and_post.ensures.stopped
 
 pub returns-clause-seen : goal.returns-clause-seen

@@ -1,8 +1,8 @@
 -- A member that is at work makes one more call.
-use Rattle.std.proofs.Common.{ℕ, ◌≡◌, ◌-◌, ◌<◌, ◌∙◌, ap, arith, sym, subst, Bool, not, ◌||◌, ◌&&◌, List, [], ◌∷◌, ◌++◌}
+use Rattle.std.proofs.Common.{ℕ, ◌≡◌, ◌-◌, ◌<◌, ◌∙◌, ap, arith, sym, subst, Bool, ◌||◌, List, [], ◌∷◌, ◌++◌}
 use Rattle.std.specs.Prelude.{is_some, MatchBool, Option}
-use Rattle.tide_model.proofs.OwnCalls.{called, is_some-flag, retry_after-flag, retry_of-push}
-use Rattle.tide_model.specs.Script.{is_full_reply, retry_after, retry_of}
+use Rattle.tide_model.proofs.OwnCalls.{called, retry_of-push}
+use Rattle.tide_model.specs.Script.{retry_after, retry_of}
 use Rattle.tide_model.specs.Share.{ends_share, is_asked}
 use Rattle.tide_model.specs.declared.entry.Event.{Event}
 use Rattle.tide_model.specs.declared.op.Op.{Op}
@@ -27,15 +27,12 @@ call-reply-requires-clause-few g c κs within takes =
     let left = c.requires.may.0 in
     omega (arith, born, count, few, left)
 
--- what is to be tried again, and whether the call ended the share, as the flags say
-flags : (pending : Option Op) (retries first ended : Bool) (op : Op) (reply : Reply) → retries ≡ is_some pending →
-    first ≡ (not retries && is_full_reply reply) → ended ≡ (is_asked reply || first) →
-    (first ≡ is_some (retry_after pending (op, reply))) × (ended ≡ ends_share pending (op, reply))
-flags pending retries first ended op reply same is ends =
-    let again : first ≡ is_some (retry_after pending (op, reply)) = is
-    ∙ sym (ap (λ (o : Option Op). is_some o) (retry_after-flag pending retries op reply same)
-    ∙ is_some-flag (not retries && is_full_reply reply) op) in
-    (again, ends ∙ ap (λ (b : Bool). is_asked reply || b) again)
+-- whether the call ended the share, as the flags say
+ended_is : (pending held after : Option Op) (ended : Bool) (op : Op) (reply : Reply) → held ≡ pending →
+    after ≡ retry_after held (op, reply) → ended ≡ (is_asked reply || is_some after) →
+    ended ≡ ends_share pending (op, reply)
+ended_is pending held after ended op reply same is ends = ends
+    ∙ ap (λ (o : Option Op). is_asked reply || is_some o) (is ∙ ap (λ (o : Option Op). retry_after o (op, reply)) same)
 
 pub invariant_of-self : goal.invariant_of-self
 invariant_of-self g c =
@@ -46,17 +43,16 @@ invariant_of-self g c =
     let reply = c.call-reply.result in
     let told = c.call-reply.ensures in
     let works = at_work m.works v m.left m.ended c.requires.of.stands c.requires.works in
-    let say = flags (retry_of v.who v.mine) m.retries c.is_first_full-self.result c.ends-self.result op reply m.retries_is
-    c.is_first_full-self.ensures c.ends-self.ensures in
     let who = ap (λ (k : Kept). k.who) told.kept in
     let left = c.requires.may.0 in
     record {
       its = who ∙ m.its;
       before = (let period = ap (λ (k : Kept). k.period) told.kept in let before = m.before in omega (arith, period, before));
       numbered = λ _. ap (λ (k : Kept). k.ticket) told.kept ∙ m.numbered c.requires.works;
-      retries_is = say.0 ∙ ap (λ (o : Option Op). is_some o) (sym (ap (λ (h : List Event). retry_of w.who h) told.makes.adds
+      retry_is = c.retry_after-self.ensures ∙ ap (λ (o : Option Op). retry_after o (op, reply)) m.retry_is
+          ∙ sym (ap (λ (h : List Event). retry_of w.who h) told.makes.adds
           ∙ ap (λ (n : ℕ). retry_of n (v.mine ++ called v.who op reply told.makes.took ∷ [])) who
-          ∙ retry_of-push v.who v.mine op reply told.makes.took));
+          ∙ retry_of-push v.who v.mine op reply told.makes.took);
       owes = λ _. m.owes c.requires.works;
     }
 
@@ -70,8 +66,8 @@ returns-clause-of g c =
     let op = c.args.op in
     let reply = c.call-reply.result in
     let works = at_work m.works v m.left m.ended of.stands c.requires.works in
-    let say = flags (retry_of v.who v.mine) m.retries c.is_first_full-self.result c.ends-self.result op reply m.retries_is
-    c.is_first_full-self.ensures c.ends-self.ensures in
+    let ended = ended_is (retry_of v.who v.mine) m.retry c.retry_after-self.result c.ends-self.result op reply m.retry_is
+    c.retry_after-self.ensures c.ends-self.ensures in
     let left = c.requires.may.0 in
     record {
       table = told.same.0 ∙ of.table;
@@ -80,7 +76,7 @@ returns-clause-of g c =
       is_mutator = subst (λ (n : ℕ). n < c.args.standing.now.heap.key.layout.mutators)
           (sym (ap (λ (k : Kept). k.who) told.kept)) of.is_mutator;
       stands = subst (λ (b : Bool). MatchBool b (IsAtWork w (m.left - 1) c.ends-self.result) (IsParked w)) (sym c.requires.works)
-          (subst (IsAtWork w (m.left - 1)) (sym say.1)
+          (subst (IsAtWork w (m.left - 1)) (sym ended)
           (IsAtWork-called c.args.standing.now.heap.key.layout (g.S.ShapeTable.lists c.args.standing.now.heap.key.shapes)
           v w m.left (m.left - 1) op reply (subst (IsAtWork v m.left) c.requires.may.1 works) (omega (arith, left))
           c.requires.retries told.kept told.births told.makes));

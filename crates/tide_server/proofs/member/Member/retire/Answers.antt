@@ -93,11 +93,8 @@ invariant_of-self g c =
           let taken = told.posted.1 in
           omega (arith, number, ticket, period, taken);
       numbered = λ is. absurd (cc);
-      retries_is = n.retries_is ∙ ap (λ (o : Option Op). is_some o)
-          c.requires.settled
-          ∙ sym (ap (λ (x : View). is_some (retry_of x.who x.mine)) told.stopped
-          ∙ ap (λ (o : Option Op). is_some o) (settled v w c.retire.result made.done made.makes.took who made.makes.adds
-          c.requires.settled));
+      retry_is = n.retry_is ∙ c.requires.settled ∙ sym (ap (λ (x : View). retry_of x.who x.mine) told.stopped
+          ∙ settled v w c.retire.result made.done made.makes.took who made.makes.adds c.requires.settled);
       owes = λ is. absurd (cc);
     }
 
