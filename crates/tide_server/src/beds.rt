@@ -88,13 +88,14 @@ impl<'h, S: HeapShapes> Beds<'h, S> {
             woken.standing.now.heap.table.shared.table_id woken.standing.now.hands.shared.table_id woken.member) }
         ensures stays { IfSome result (λ woken. (view_of woken.member.mutator).left ≡ false) }
         ensures parked { IfSome result (λ woken. woken.member.works ≡ false) }
+        ensures who { IfSome result (λ woken. (view_of woken.member.mutator).who ≡ number) }
     {
         let mut beds = self.beds.lock(rt);
-        let Lying {
-            standing,
-            resting,
-            ..
-        } = beds.get_mut(number)?.take()?;
+        let bed = beds.get_mut(number)?;
+        if bed.as_ref()?.resting.number() != number {
+            return None;
+        }
+        let Lying { standing, resting, .. } = bed.take()?;
         self.woken.notify_all();
         Some(Woken {
             standing,
