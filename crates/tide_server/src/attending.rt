@@ -55,7 +55,8 @@ impl Member {
 
 impl Resting {
     /// Begins the next part in its place, where the ticket of it lies there, and hands its note in, with all calls of
-    /// its share left. Says whether it did.
+    /// its share left. Says whether it did. Who has it calls this at once, since a ticket may lie there already, and
+    /// then before each turn of the keeper.
     pub fn attend<S: HeapShapes>(&mut self, standing: &Standing<S>) -> bool
         requires of { IsRestingOf standing.now.heap.key.layout standing.now.heap.table.shared.table_id
             standing.now.hands.shared.table_id self.old }

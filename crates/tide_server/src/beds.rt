@@ -36,7 +36,7 @@ pub struct Woken<'h, S: HeapShapes> {
     pub member: Member,
 }
 
-/// Beds in which members lie that rest, by their numbers. Threads share them by `&`.
+/// Beds in which members of one heap lie that rest, by their numbers. Threads share them by `&`.
 #[derive(Drop)]
 pub struct Beds<'h, S: HeapShapes> {
     beds: Mutex<Vec<Option<Lying<'h, S>>>>,

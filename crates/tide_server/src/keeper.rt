@@ -47,7 +47,8 @@ impl Keeper {
         }
     }
 
-    /// Whether some mutator has stopped early, as far as notes tell that are in: one came early to a freeze.
+    /// Whether some mutator has stopped early in a part so far, as far as notes tell that are in: it rested, or came
+    /// early to a freeze.
     pub fn has_stopped(&self) -> bool
         ensures { result ≡ self.now.stopped }
     {

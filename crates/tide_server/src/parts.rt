@@ -102,8 +102,9 @@ impl Member {
         self.works && (self.left == 0 || self.ended)
     }
 
-    /// Whether a freeze is wanted, as far as it can tell: another member has ended its share of the part early, and
-    /// waits. One load.
+    /// Whether a freeze is wanted, as far as it can tell: since the last one, some member handed its note in after a
+    /// call that asked for a cycle, or found no room a first time. Who has calls of its share left may come early then.
+    /// One load.
     pub fn poll<S: HeapShapes>(&self, standing: &Standing<S>) -> bool {
         standing.wanted.load(Ordering::SeqCst)
     }

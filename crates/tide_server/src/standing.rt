@@ -23,7 +23,7 @@ pub(crate) type HeapHands<S> = Table<
 pub struct Standing<S: HeapShapes> {
     pub(crate) heap: Heap<S>,
     pub(crate) hands: HeapHands<S>,
-    /// A member has ended its share of the part early, so that a freeze is wanted.
+    /// A member's last call ended its share of the part, so that a freeze is wanted.
     pub(crate) wanted: AtomicBool,
     ghost same: { hands.shared.key ≡ heap },
     ghost words: { hands.shared.table_id.words ≡ places heap.key.layout },
