@@ -95,7 +95,11 @@ impl<'h, S: HeapShapes> Beds<'h, S> {
         if bed.as_ref()?.resting.number() != number {
             return None;
         }
-        let Lying { standing, resting, .. } = bed.take()?;
+        let Lying {
+            standing,
+            resting,
+            ..
+        } = bed.take()?;
         self.woken.notify_all();
         Some(Woken {
             standing,

@@ -3,8 +3,12 @@
 //!
 //! `open` makes of a started heap a `Standing`, which threads share, a `Member` for each mutator, a `Helper` for each
 //! visitor, and the `Keeper`. A member makes its calls: where its share of a part is over it hands its note in, and
-//! waits for the next ticket. A helper takes part in one part a call. Each call that waits is a loop over what waits for
-//! nobody: `Member::offer`, `make`, `hand_in` and `retire`, `Helper::try_work` and `Keeper::try_turn`.
+//! waits for the next ticket. A helper takes part in one part a call. `call`, `leave`, `work` and `turn` are loops over
+//! what waits for nobody: `Member::offer`, `make`, `hand_in` and `retire`, `Helper::try_work` and `Keeper::try_turn`.
+//!
+//! A member whose thread is to wait for something else, or to end, rests: it is a `Resting` then, in whose place
+//! another begins and stops. It may lie in `Beds`: before each turn `Keeper::attend` begins and stops for all that lie
+//! there. Where all lie there that have not left, it first waits for one to wake.
 //!
 //! It may touch the heap's collector, mutators and visitors by their calls, and hands tickets and notes over by
 //! `tide_hands`. It knows no step. What a program of one's own names of the rooms below it hands on, by which `tide`
