@@ -3,9 +3,9 @@
 #
 #   bash bench/all.sh FOLDER
 #
-# It runs crates/riptide/out/riptide and crates/checks/out/checks, as the gate builds them. Each file begins with the
-# commit, the load of the machine and how much of its processors other work had before the script, and ends with the
-# load behind it: tables hold for a machine with nothing else to do.
+# It runs crates/riptide/out/riptide and crates/checks/out/checks, as the gate builds them, and for a standing heap a
+# program that it builds itself. Each file begins with the commit, the load of the machine and how much of its processors
+# other work had before the script, and ends with the load behind it: tables hold for a machine with nothing else to do.
 set -u
 [ "${1---help}" != --help ] || { sed -n '2,/^[^#]/s/^# \{0,1\}//p' "$0"; exit $(($# == 0)); }
 
@@ -45,6 +45,7 @@ table pauses python3 bench/pauses.py
 table eden python3 bench/eden.py
 table squares python3 bench/squares.py
 table visitors python3 bench/visitors.py crates/riptide/out/riptide 5
+table standing python3 bench/standing.py
 table peers python3 bench/peers/peers.py
 table sweeps python3 bench/sweeps.py
 table marking bash bench/marking.sh
