@@ -51,7 +51,7 @@ fn play_all<'h, R: Threads + Wait + Sync>(
             ensures { result.is_over ≡ true → IsFinished standing.entry.now.heap.key.layout
                 (lists_of standing.entry.now.heap.key.shapes) standing.entry.now.heap.table.shared.table_id
                 result.keeper }
-        { keep(rt, standing, keeper, report, beds, row.polls) },
+        { keep(rt, standing, keeper, report, beds, row.polls, tally) },
         || -> ()
             requires { HasRoomForScripts standing.now.heap.key.layout
                 × MayEachCall standing.now.heap.key.layout standing.now.heap.table.shared.table_id

@@ -46,12 +46,14 @@ fn wake<'h, R: Wait>(rt: &R, beds: &Beds<'h, Shapes>, number: usize) -> Option<W
     Some(woken)
 }
 
-/// A member makes a cell, and lies down in its bed with it. Answers what its call was answered.
+/// A member makes a cell and rests, and lies down in its bed with it once the keeper has gone round the beds so often.
+/// Answers what its call was answered.
 fn lie_down_with_a_cell<'h, R: Wait>(
     rt: &R,
     standing: &'h Standing<Shapes>,
     beds: &Beds<'h, Shapes>,
     mut member: Member,
+    rounds: u64,
     tally: &Tally,
 ) -> Result<Reply, Memory>
     requires may { MayCall standing.now.heap.key.layout standing.now.heap.table.shared.table_id
@@ -59,7 +61,9 @@ fn lie_down_with_a_cell<'h, R: Wait>(
     requires room { HasRoomForScripts standing.now.heap.key.layout }
 {
     let born = make_cell(rt, standing, &mut member, tally)?;
-    if beds.lay(rt, standing, member.rest(standing)).is_err() {
+    let resting = member.rest(standing);
+    tally.await_rounds(rt, rounds);
+    if beds.lay(rt, standing, resting).is_err() {
         tally.add_wrong();
     }
     Ok(born)
@@ -85,12 +89,14 @@ fn wake_and_leave<R: Wait>(
     Ok(is_found)
 }
 
-/// Lies down with a cell until the others have left, and then finds it and leaves. Says whether it found it.
+/// Lies down with a cell, behind so many rounds of the keeper, until the others have left. Then it finds it and leaves.
+/// Says whether it found it.
 pub fn lie_until_the_others_left<'h, R: Wait>(
     rt: &R,
     standing: &'h Standing<Shapes>,
     beds: &Beds<'h, Shapes>,
     member: Member,
+    rounds: u64,
     row: &Row,
     tally: &Tally,
 ) -> Result<bool, Memory>
@@ -99,7 +105,7 @@ pub fn lie_until_the_others_left<'h, R: Wait>(
     requires room { HasRoomForScripts standing.now.heap.key.layout }
 {
     let number = member.number();
-    let born = lie_down_with_a_cell(rt, standing, beds, member, tally)?;
+    let born = lie_down_with_a_cell(rt, standing, beds, member, rounds, tally)?;
     tally.await_left(rt, u64::from(row.members).saturating_sub(1));
     wake_and_leave(rt, beds, number, born, tally)
 }
@@ -124,7 +130,7 @@ pub fn lie_from_thread_to_thread<'h, R: Threads + Wait + Sync>(
             requires { HasRoomForScripts standing.now.heap.key.layout
                 × MayCall standing.now.heap.key.layout standing.now.heap.table.shared.table_id
                 standing.now.hands.shared.table_id member }
-        { lie_down_with_a_cell(rt, standing, beds, member, tally) },
+        { lie_down_with_a_cell(rt, standing, beds, member, 0, tally) },
         || {},
     );
     tally.await_parts(rt, 50);
@@ -163,7 +169,7 @@ pub fn rest_by_turns<'h, R: Wait>(
     let mut at = standing;
     let mut awake = member;
     for n in 0..row.calls {
-        let born = lie_down_with_a_cell(rt, at, beds, awake, tally)?;
+        let born = lie_down_with_a_cell(rt, at, beds, awake, 0, tally)?;
         stay_a_while(rt, n + 1, row, tally);
         let Some(woken) = wake(rt, beds, number) else {
             return Ok(false);

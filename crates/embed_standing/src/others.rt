@@ -30,8 +30,8 @@ fn play_as_the_row_has_it<'h, R: Threads + Wait + Sync>(
     requires room { HasRoomForScripts standing.now.heap.key.layout }
 {
     match row.rests {
-        Rests::UntilTheOthersLeft if row.is_last(who) => {
-            lie_until_the_others_left(rt, standing, beds, member, row, tally)
+        Rests::UntilTheOthersLeft(rounds) if row.is_last(who) => {
+            lie_until_the_others_left(rt, standing, beds, member, rounds, row, tally)
         }
         Rests::FromThreadToThread if row.is_last(who) => {
             lie_from_thread_to_thread(rt, standing, beds, member, tally)

@@ -198,6 +198,7 @@ fn next_turn<R: Wait>(
     report: &mut Report,
     beds: &Beds<'_, Shapes>,
     polls: bool,
+    tally: &Tally,
 ) -> Result<Turn, Memory>
     requires stands { KeeperStands standing.now.heap.key.layout standing.now.heap.table.shared.table_id
         standing.now.hands.shared.table_id keeper.old }
@@ -210,6 +211,7 @@ fn next_turn<R: Wait>(
 {
     if !polls {
         keeper.attend(rt, standing, beds);
+        tally.add_round();
         return keeper.turn(rt, standing, report);
     }
     for _ in rt.forever() {
@@ -229,6 +231,7 @@ pub fn keep<R: Wait>(
     mut report: Report,
     beds: &Beds<'_, Shapes>,
     polls: bool,
+    tally: &Tally,
 ) -> Kept
     requires stands { KeeperStands standing.now.heap.key.layout standing.now.heap.table.shared.table_id
         standing.now.hands.shared.table_id keeper }
@@ -237,7 +240,8 @@ pub fn keep<R: Wait>(
 {
     let mut turns = 0u64;
     for _ in rt.forever() {
-        let Ok(turn) = next_turn(rt, standing, &mut keeper, &mut report, beds, polls) else {
+        let next = next_turn(rt, standing, &mut keeper, &mut report, beds, polls, tally);
+        let Ok(turn) = next else {
             continue;
         };
         turns = turns.saturating_add(1);

@@ -168,7 +168,7 @@ fn keep_until_it_wakes<R: Threads + Wait + Sync>(
             ensures { result.is_over ≡ true → IsFinished standing.entry.now.heap.key.layout
                 (lists_of standing.entry.now.heap.key.shapes) standing.entry.now.heap.table.shared.table_id
                 result.keeper }
-        { keep(rt, standing, keeper, report, beds, false) },
+        { keep(rt, standing, keeper, report, beds, false, tally) },
         || -> ()
             requires { HasRoomForScripts standing.now.heap.key.layout
                 × MayWake standing.now.heap.key.layout standing.now.heap.table.shared.table_id

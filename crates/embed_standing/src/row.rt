@@ -10,8 +10,9 @@ pub enum Rests {
     Never,
     /// The last one makes a cell, rests in the keeper's hands for so many turns, and wakes on another thread.
     InTheKeepersHands(u64),
-    /// The last one makes a cell, and lies in its bed until the others have left.
-    UntilTheOthersLeft,
+    /// The last one makes a cell and rests, and once the keeper has gone round the beds so often, it lies in its bed
+    /// until the others have left.
+    UntilTheOthersLeft(u64),
     /// The last one makes a cell and lies down on one thread, and wakes on another.
     FromThreadToThread,
     /// Each makes cells, and lies in its bed for a while after each.

@@ -125,10 +125,14 @@ fn one_rests_beside_three<R: Threads + Wait + Sync>(rt: &R, alloc: Global) -> Op
 }
 
 /// The row of this name in which members lie in beds or one comes early, if there is one, and how many parts it has at
-/// least. Where one comes early, a period has more calls than it makes: no part ends before.
+/// least. Who lies down behind the keeper's second round finds its ticket there, and the keeper waits for its note.
+/// Where one comes early, a period has more calls than it makes: no part ends before.
 fn row_with_rests(name: &str) -> Option<(Row, u64)> {
     let (members, helpers, period, trigger, calls, second_calls, rests, parts) = match name {
-        "one_sleeps_beside_three" => (4, 1, 4, 1, 799, 799, Rests::UntilTheOthersLeft, 200),
+        "one_sleeps_beside_three" => (4, 1, 4, 1, 799, 799, Rests::UntilTheOthersLeft(0), 200),
+        "one_lies_down_behind_its_ticket" => {
+            (2, 1, 4, 8, 799, 799, Rests::UntilTheOthersLeft(2), 200)
+        }
         "one_wakes_on_another_thread" => (3, 1, 4, 8, 799, 799, Rests::FromThreadToThread, 200),
         "sixteen_rest_by_turns" => (16, 2, 4, 8, 304, 304, Rests::ByTurns, 304),
         "one_comes_early" => (2, 1, 65536, 0, 65536, 200, Rests::ComesEarly, 200),

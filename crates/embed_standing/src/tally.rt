@@ -32,6 +32,8 @@ pub struct Tally {
     left: AtomicU64,
     /// How often members lay down, all together.
     lain: AtomicU64,
+    /// How often the keeper has gone round the beds.
+    rounds: AtomicU64,
     /// Whether each of the first two members has come to its first call.
     come: [AtomicU64; 2],
 }
@@ -45,6 +47,7 @@ impl Tally {
             parts: AtomicU64::new(0),
             left: AtomicU64::new(0),
             lain: AtomicU64::new(0),
+            rounds: AtomicU64::new(0),
             come: [AtomicU64::new(0), AtomicU64::new(0)],
         }
     }
@@ -67,6 +70,11 @@ impl Tally {
     /// A member has lain down.
     pub fn add_lain(&self) {
         self.lain.fetch_add(1, Ordering::SeqCst);
+    }
+
+    /// The keeper has gone round the beds.
+    pub fn add_round(&self) {
+        self.rounds.fetch_add(1, Ordering::SeqCst);
     }
 
     /// Whether all ended as expected, as far as they have told.
@@ -92,6 +100,11 @@ impl Tally {
     /// Waits until members have lain down so often, all together.
     pub fn await_lain<R: Wait>(&self, rt: &R, times: u64) {
         await_count(rt, &self.lain, times);
+    }
+
+    /// Waits until the keeper has gone round the beds so often.
+    pub fn await_rounds<R: Wait>(&self, rt: &R, rounds: u64) {
+        await_count(rt, &self.rounds, rounds);
     }
 
     /// Waits until helpers took part in so many parts, all together.

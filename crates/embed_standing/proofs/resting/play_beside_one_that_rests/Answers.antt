@@ -10,4 +10,4 @@ play_while_it_rests-requires-clause-may g c κs within =
     let s = c.args.standing.now in
     (All-pop (λ (one : Option Member). IfSome one
     (MayCall s.heap.key.layout s.heap.table.shared.table_id s.hands.shared.table_id)) c.args.members.items
-    c.pop.new.self.items (Some (Some c.in-Some-Some.sleeper)) c.in-Some-Some.ensures.items c.requires.may).0
+    c.pop.new.self.items (Some c.in-Some-Some.field-0) c.in-Some-Some.ensures.items c.requires.may).0
