@@ -17,18 +17,24 @@ pub const PAIRS: u8 = 8;
 /// in a line with one that another thread stores or loads, wherever the heap begins.
 pub(crate) const GAP: u32 = 16;
 
+/// The widths of the classes, in their order.
+const WIDTHS: [u8; 10] = [2, 4, 8, 16, PAIRS, 4, 8, 16, 32, 64];
+
+/// The number of words of a cell or an array of a class from 0 to 9: its slots, a table's pairs or its elements.
+pub fn width(class: u8) -> u8
+    requires { class < 10 }
+    ensures width { result ≡ width_of_class class }
+    ensures few { result ≤ 64 }
+{
+    WIDTHS[usize::from(class)]
+}
+
 /// The number of inline slots of a cell of a class from 0 to 4. A table, which is of class 4, has none.
 pub fn slots(class: u8) -> u8
     requires { class ≤ 4 }
     ensures { result ≡ slots_of class }
 {
-    match class {
-        0 => 2,
-        1 => 4,
-        2 => 8,
-        3 => 16,
-        _ => 0,
-    }
+    if class == TABLE { 0 } else { width(class) }
 }
 
 /// The number of elements of an array of a class from 5 to 9.
@@ -37,26 +43,5 @@ pub fn array_capacity(class: u8) -> u8
     requires largest { class ≤ 9 }
     ensures { result ≡ array_capacity_of class }
 {
-    match class {
-        5 => 4,
-        6 => 8,
-        7 => 16,
-        8 => 32,
-        _ => 64,
-    }
-}
-
-/// The number of words of a cell or an array of a class from 0 to 9: its slots, a table's pairs or its elements.
-pub fn width(class: u8) -> u8
-    requires { class < 10 }
-    ensures width { result ≡ width_of_class class }
-    ensures few { result ≤ 64 }
-{
-    if class < TABLE {
-        slots(class)
-    } else if class == TABLE {
-        PAIRS
-    } else {
-        array_capacity(class)
-    }
+    width(class)
 }

@@ -1,5 +1,6 @@
 -- What marking keeps, and what a constraint promises.
 pub mod Colours
+pub mod Cycles
 pub mod Greyed
 pub mod Greys
 pub mod GreyWords

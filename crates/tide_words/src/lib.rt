@@ -17,16 +17,16 @@ mod block_bits;
 // these stand on those listed before
 mod greying;
 
-pub use block_bits::{live_bits, marked_bits};
+pub use block_bits::{is_blank, live_bits, marked_bits};
 pub use forms::{
     Colour, MAX_CELLS, Structure, array_word, claim_word, colour, colour_cycle, colour_word,
     is_marked_in, pair_word, phase_word, structure_word, val_word, word_array, word_claim,
     word_pair, word_phase, word_structure, word_val,
 };
-pub use greying::{blacken, mark, mark_named};
+pub use greying::{blacken, mark, mark_by, mark_named, mark_named_by};
 pub use heap::{Fields, VecWords, Words, array_of, clear_bit, is_live, is_vacant, store_word};
 pub use marking::{
-    Constraint, Following, GreyList, Volatility, base_cycle, is_marked, note_at, put_note,
+    Constraint, Cycles, Following, GreyList, Volatility, base_cycle, is_marked, note_at, put_note,
     running_cycle, take_note,
 };
 pub use tide_block::{
