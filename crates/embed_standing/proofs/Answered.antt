@@ -1,7 +1,7 @@
 -- What holds of an answer, where that is taken out of its `Result`.
-use Rattle.std.proofs.Common.{◌≡◌, refl, sym, subst, true≢false}
+use Rattle.std.proofs.Common.{◌≡◌, sym, subst, true≢false}
 use Rattle.std.proofs.lemmas.Option.{none-some, same_Some}
-use Rattle.std.specs.Prelude.{Err, IfOk, IfSome, IsOk, Ok, Result, Some}
+use Rattle.std.specs.Prelude.{Err, IfOk, IfSome, IsOk, None, Ok, Option, Result, Some}
 use Rattle.std.specs.Result.{result_ok}
 
 module _ {X E : Type 0} where
@@ -15,7 +15,8 @@ module _ {X E : Type 0} where
   taken (Ok y) P x is holds = subst P (sym (same_Some x y is)) holds
   taken (Err e) P x is holds = absurd (none-some x (sym is))
 
-  -- what holds of each that may be taken out holds where one is
-  pub if_taken : (r : Result X E) (P : X → Type 0) → ((x : X) → Some x ≡ result_ok r → P x) → IfSome (result_ok r) P
-  if_taken (Ok x) P holds = holds x refl
-  if_taken (Err e) P holds = tt
+  -- and what holds of each that may be taken out, holds where one is
+  pub if_taken : (r : Result X E) (o : Option X) {P : X → Type 0} → o ≡ result_ok r →
+      ((x : X) → Some x ≡ result_ok r → P x) → IfSome o P
+  if_taken r (Some x) is holds = holds x is
+  if_taken r None is holds = tt
