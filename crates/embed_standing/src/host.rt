@@ -22,10 +22,11 @@ use tide::{
 };
 
 /// The keeper turns until no mutator is active, beside the members and the helpers.
-fn play_all<'h, R: Threads + Wait + Sync>(
+fn play_all<'h, R: Threads + Wait + Sync, A: Fn(&Keeper) + Sync>(
     rt: &R,
     standing: &'h Standing<Shapes>,
     beds: &Beds<'h, Shapes>,
+    attend: &A,
     keeper: Keeper,
     report: Report,
     members: Vec<Option<Member>>,
@@ -33,6 +34,7 @@ fn play_all<'h, R: Threads + Wait + Sync>(
     row: &Row,
     tally: &Tally,
 ) -> Kept
+    requires rounds { (k : _) → A.pre attend.now k }
     requires stands { KeeperStands standing.now.heap.key.layout standing.now.heap.table.shared.table_id
         standing.now.hands.shared.table_id keeper }
     requires may { MayEachCall standing.now.heap.key.layout standing.now.heap.table.shared.table_id
@@ -46,12 +48,13 @@ fn play_all<'h, R: Threads + Wait + Sync>(
     let (kept, ()) = join(
         rt,
         || -> Kept
-            requires { KeeperStands standing.now.heap.key.layout standing.now.heap.table.shared.table_id
+            requires { ((k : _) → A.pre attend.now k)
+                × KeeperStands standing.now.heap.key.layout standing.now.heap.table.shared.table_id
                 standing.now.hands.shared.table_id keeper }
             ensures { result.is_over ≡ true → IsFinished standing.entry.now.heap.key.layout
                 (lists_of standing.entry.now.heap.key.shapes) standing.entry.now.heap.table.shared.table_id
                 result.keeper }
-        { keep(rt, standing, keeper, report, beds, row.polls, tally) },
+        { keep(rt, standing, keeper, report, attend, row.polls) },
         || -> ()
             requires { HasRoomForScripts standing.now.heap.key.layout
                 × MayEachCall standing.now.heap.key.layout standing.now.heap.table.shared.table_id
@@ -88,13 +91,17 @@ fn play<R: Threads + Wait + Sync>(
 {
     let members = to_be_taken(alloc, members)?;
     let beds = Beds::new(alloc, usize::from(row.members))?;
+    let attend = |keeper: &Keeper| {
+        keeper.attend(rt, standing, &beds);
+        tally.add_round();
+    };
     if let Rests::InTheKeepersHands(turns) = row.rests {
         return play_beside_one_that_rests(
-            rt, standing, &beds, keeper, report, members, helpers, turns, row, tally,
+            rt, standing, &beds, &attend, keeper, report, members, helpers, turns, row, tally,
         );
     }
     Ok(Some(play_all(
-        rt, standing, &beds, keeper, report, members, helpers, row, tally,
+        rt, standing, &beds, &attend, keeper, report, members, helpers, row, tally,
     )))
 }
 

@@ -21,8 +21,8 @@ use crate::tally::Tally;
 use std::sync::Wait;
 use std::thread::yield_now;
 use tide::{
-    Beds, FreePass, Helper, Keeper, Member, Memory, Op, Refusal, Reply, Report, Shapes, Standing,
-    Turn, Turnstile, Worked,
+    FreePass, Helper, Keeper, Member, Memory, Op, Refusal, Reply, Report, Shapes, Standing, Turn,
+    Turnstile, Worked,
 };
 
 /// Whether a reply is a refusal for want of room.
@@ -191,15 +191,15 @@ pub struct Kept {
 }
 
 /// Makes the next turn: the keeper attends to who lies in a bed and waits for the notes, or it polls for them.
-fn next_turn<R: Wait>(
+fn next_turn<R: Wait, A: Fn(&Keeper)>(
     rt: &R,
     standing: &Standing<Shapes>,
     keeper: &mut Keeper,
     report: &mut Report,
-    beds: &Beds<'_, Shapes>,
+    attend: &A,
     polls: bool,
-    tally: &Tally,
 ) -> Result<Turn, Memory>
+    requires rounds { (k : _) → A.pre attend.now k }
     requires stands { KeeperStands standing.now.heap.key.layout standing.now.heap.table.shared.table_id
         standing.now.hands.shared.table_id keeper.old }
     ensures opened { result ≡ Ok Turn.Opened → KeeperStands standing.now.heap.key.layout
@@ -210,8 +210,7 @@ fn next_turn<R: Wait>(
         standing.now.heap.table.shared.table_id standing.now.hands.shared.table_id keeper.new) }
 {
     if !polls {
-        keeper.attend(rt, standing, beds);
-        tally.add_round();
+        attend(&*keeper);
         return keeper.turn(rt, standing, report);
     }
     for _ in rt.forever() {
@@ -223,16 +222,17 @@ fn next_turn<R: Wait>(
     unreachable!()
 }
 
-/// The keeper turns until no part is opened any more. A turn for which memory was wanting it makes again.
-pub fn keep<R: Wait>(
+/// The keeper turns until no part is opened any more, and attends before each turn to who lies in a bed. A turn for
+/// which memory was wanting it makes again.
+pub fn keep<R: Wait, A: Fn(&Keeper)>(
     rt: &R,
     standing: &Standing<Shapes>,
     mut keeper: Keeper,
     mut report: Report,
-    beds: &Beds<'_, Shapes>,
+    attend: &A,
     polls: bool,
-    tally: &Tally,
 ) -> Kept
+    requires rounds { (k : _) → A.pre attend.now k }
     requires stands { KeeperStands standing.now.heap.key.layout standing.now.heap.table.shared.table_id
         standing.now.hands.shared.table_id keeper }
     ensures finished { result.is_over ≡ true → IsFinished standing.now.heap.key.layout
@@ -240,8 +240,7 @@ pub fn keep<R: Wait>(
 {
     let mut turns = 0u64;
     for _ in rt.forever() {
-        let next = next_turn(rt, standing, &mut keeper, &mut report, beds, polls, tally);
-        let Ok(turn) = next else {
+        let Ok(turn) = next_turn(rt, standing, &mut keeper, &mut report, attend, polls) else {
             continue;
         };
         turns = turns.saturating_add(1);

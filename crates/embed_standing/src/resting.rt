@@ -125,16 +125,17 @@ fn wake_and_leave<R: Wait>(rt: &R, standing: &Standing<Shapes>, resting: Resting
 
 /// The keeper makes so many turns while a member rests, and then until no mutator is active, while that one
 /// has woken on another thread.
-fn keep_until_it_wakes<R: Threads + Wait + Sync>(
+fn keep_until_it_wakes<R: Threads + Wait + Sync, A: Fn(&Keeper) + Sync>(
     rt: &R,
     standing: &Standing<Shapes>,
-    beds: &Beds<'_, Shapes>,
+    attend: &A,
     keeper: Keeper,
     report: Report,
     resting: Resting,
     turns: u64,
     tally: &Tally,
 ) -> Kept
+    requires rounds { (k : _) → A.pre attend.now k }
     requires stands { KeeperStands standing.now.heap.key.layout standing.now.heap.table.shared.table_id
         standing.now.hands.shared.table_id keeper }
     requires may { MayWake standing.now.heap.key.layout standing.now.heap.table.shared.table_id
@@ -163,12 +164,13 @@ fn keep_until_it_wakes<R: Threads + Wait + Sync>(
     let (kept, ()) = join(
         rt,
         || -> Kept
-            requires { KeeperStands standing.now.heap.key.layout standing.now.heap.table.shared.table_id
+            requires { ((k : _) → A.pre attend.now k)
+                × KeeperStands standing.now.heap.key.layout standing.now.heap.table.shared.table_id
                 standing.now.hands.shared.table_id keeper }
             ensures { result.is_over ≡ true → IsFinished standing.entry.now.heap.key.layout
                 (lists_of standing.entry.now.heap.key.shapes) standing.entry.now.heap.table.shared.table_id
                 result.keeper }
-        { keep(rt, standing, keeper, report, beds, false, tally) },
+        { keep(rt, standing, keeper, report, attend, false) },
         || -> ()
             requires { HasRoomForScripts standing.now.heap.key.layout
                 × MayWake standing.now.heap.key.layout standing.now.heap.table.shared.table_id
@@ -183,10 +185,11 @@ fn keep_until_it_wakes<R: Threads + Wait + Sync>(
 
 /// The keeper turns beside a member that rests and the others, until that one wakes, and then until no mutator is
 /// active.
-fn play_while_it_rests<'h, R: Threads + Wait + Sync>(
+fn play_while_it_rests<'h, R: Threads + Wait + Sync, A: Fn(&Keeper) + Sync>(
     rt: &R,
     standing: &'h Standing<Shapes>,
     beds: &Beds<'h, Shapes>,
+    attend: &A,
     keeper: Keeper,
     report: Report,
     members: Vec<Option<Member>>,
@@ -196,6 +199,7 @@ fn play_while_it_rests<'h, R: Threads + Wait + Sync>(
     row: &Row,
     tally: &Tally,
 ) -> Kept
+    requires rounds { (k : _) → A.pre attend.now k }
     requires stands { KeeperStands standing.now.heap.key.layout standing.now.heap.table.shared.table_id
         standing.now.hands.shared.table_id keeper }
     requires may { MayEachCall standing.now.heap.key.layout standing.now.heap.table.shared.table_id
@@ -212,6 +216,7 @@ fn play_while_it_rests<'h, R: Threads + Wait + Sync>(
         rt,
         || -> Kept
             requires { HasRoomForScripts standing.now.heap.key.layout
+                × ((k : _) → A.pre attend.now k)
                 × KeeperStands standing.now.heap.key.layout standing.now.heap.table.shared.table_id
                 standing.now.hands.shared.table_id keeper
                 × MayWake standing.now.heap.key.layout standing.now.heap.table.shared.table_id
@@ -219,7 +224,7 @@ fn play_while_it_rests<'h, R: Threads + Wait + Sync>(
             ensures { result.is_over ≡ true → IsFinished standing.entry.now.heap.key.layout
                 (lists_of standing.entry.now.heap.key.shapes) standing.entry.now.heap.table.shared.table_id
                 result.keeper }
-        { keep_until_it_wakes(rt, standing, beds, keeper, report, resting, turns, tally) },
+        { keep_until_it_wakes(rt, standing, attend, keeper, report, resting, turns, tally) },
         || -> ()
             requires { HasRoomForScripts standing.now.heap.key.layout
                 × MayEachCall standing.now.heap.key.layout standing.now.heap.table.shared.table_id
@@ -233,10 +238,11 @@ fn play_while_it_rests<'h, R: Threads + Wait + Sync>(
 
 /// The last member makes a cell, and rests with it; the keeper turns beside it and the others until it wakes, and then
 /// until no mutator is active. Without members nobody plays.
-pub fn play_beside_one_that_rests<'h, R: Threads + Wait + Sync>(
+pub fn play_beside_one_that_rests<'h, R: Threads + Wait + Sync, A: Fn(&Keeper) + Sync>(
     rt: &R,
     standing: &'h Standing<Shapes>,
     beds: &Beds<'h, Shapes>,
+    attend: &A,
     keeper: Keeper,
     report: Report,
     mut members: Vec<Option<Member>>,
@@ -245,6 +251,7 @@ pub fn play_beside_one_that_rests<'h, R: Threads + Wait + Sync>(
     row: &Row,
     tally: &Tally,
 ) -> Result<Option<Kept>, Memory>
+    requires rounds { (k : _) → A.pre attend.now k }
     requires stands { KeeperStands standing.now.heap.key.layout standing.now.heap.table.shared.table_id
         standing.now.hands.shared.table_id keeper }
     requires may { MayEachCall standing.now.heap.key.layout standing.now.heap.table.shared.table_id
@@ -261,6 +268,6 @@ pub fn play_beside_one_that_rests<'h, R: Threads + Wait + Sync>(
     };
     let resting = rest_with_a_cell(rt, standing, sleeper, tally)?;
     Ok(Some(play_while_it_rests(
-        rt, standing, beds, keeper, report, members, helpers, resting, turns, row, tally,
+        rt, standing, beds, attend, keeper, report, members, helpers, resting, turns, row, tally,
     )))
 }

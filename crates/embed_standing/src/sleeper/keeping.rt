@@ -6,7 +6,7 @@ ghost use Rattle.tide.specs.tide_server.Turned.{IsFinished};
 ghost use Rattle.tide.specs.tide_shape.Lists.{lists_of};
 
 use std::sync::Wait;
-use tide::{Beds, FreePass, Helper, Keeper, Report, Shapes, Standing, Turn, Worked};
+use tide::{FreePass, Helper, Keeper, Report, Shapes, Standing, Turn, Worked};
 
 /// Marks beside the members, until no part is opened any more.
 pub(crate) fn help<R: Wait>(rt: &R, standing: &Standing<Shapes>, helper: &mut Helper)
@@ -27,15 +27,16 @@ pub(crate) struct Kept {
     pub(crate) freed: u64,
 }
 
-/// Turns until no mutator is active, in the place too of who lies in a bed, and empties the report behind each turn. A
+/// Turns until no mutator is active, attends before each turn to who lies in a bed, and empties the report behind it. A
 /// turn for which memory was wanting it makes again. `None` where no more part can be opened.
-pub(crate) fn keep<R: Wait>(
+pub(crate) fn keep<R: Wait, A: Fn(&Keeper)>(
     rt: &R,
     standing: &Standing<Shapes>,
-    beds: &Beds<'_, Shapes>,
+    attend: &A,
     mut keeper: Keeper,
     mut report: Report,
 ) -> Option<Kept>
+    requires rounds { (k : _) → A.pre attend.now k }
     requires stands { KeeperStands standing.now.heap.key.layout standing.now.heap.table.shared.table_id
         standing.now.hands.shared.table_id keeper }
     ensures finished { IfSome result (λ kept. IsFinished standing.now.heap.key.layout
@@ -43,7 +44,7 @@ pub(crate) fn keep<R: Wait>(
 {
     let mut freed = 0u64;
     for _ in rt.forever() {
-        keeper.attend(rt, standing, beds);
+        attend(&keeper);
         let Ok(turn) = keeper.turn(rt, standing, &mut report) else {
             continue;
         };

@@ -10,7 +10,7 @@ use std::marker::Sync;
 use std::sync::Wait;
 use std::sync::atomic::{AtomicU64, Ordering};
 use std::thread::Threads;
-use tide::{Beds, Layout, Opened, Paths, Report, Settings, Shapes, Start, open};
+use tide::{Beds, Keeper, Layout, Opened, Paths, Report, Settings, Shapes, Start, open};
 
 /// Opens a heap of one block for four members and two helpers, whose cycles begin after 32 births.
 fn open_heap(alloc: Global) -> Option<Opened<Shapes>>
@@ -48,8 +48,9 @@ pub fn sleeper_finds_its_cell<R: Threads + Wait + Sync>(rt: &R, alloc: Global) -
         found: AtomicU64::new(0),
     };
     let beds = Beds::new(alloc, members.len()).ok()?;
+    let attend = |keeper: &Keeper| keeper.attend(rt, &standing, &beds);
     let kept = play(
-        rt, &standing, &beds, keeper, report, members, helpers, &told,
+        rt, &standing, &beds, &attend, keeper, report, members, helpers, &told,
     )?;
     drop(beds);
     let Kept { keeper, freed } = kept;

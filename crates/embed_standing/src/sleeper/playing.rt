@@ -92,19 +92,25 @@ fn play_others<'h, R: Threads + Wait + Sync>(
     );
 }
 
-/// The keeper turns beside all members and helpers.
-pub(crate) fn play<'h, R: Threads + Wait + Sync>(
+/// The keeper turns beside all members and helpers. It attends by a closure of a type of its own: of what a closure
+/// answers that holds beds, whose type names a lifetime, no clause tells.
+fn play_all<'h, R: Threads + Wait + Sync, A: Fn(&Keeper) + Sync>(
     rt: &R,
     standing: &'h Standing<Shapes>,
     beds: &Beds<'h, Shapes>,
+    attend: &A,
     keeper: Keeper,
     report: Report,
-    mut members: Vec<Member>,
+    sleeper: Member,
+    members: Vec<Member>,
     helpers: Vec<Helper>,
     told: &Told,
 ) -> Option<Kept>
+    requires rounds { (k : _) → A.pre attend.now k }
     requires stands { KeeperStands standing.now.heap.key.layout standing.now.heap.table.shared.table_id
         standing.now.hands.shared.table_id keeper }
+    requires sleeps { MayCall standing.now.heap.key.layout standing.now.heap.table.shared.table_id
+        standing.now.hands.shared.table_id sleeper }
     requires may { All (λ member. MayCall standing.now.heap.key.layout standing.now.heap.table.shared.table_id
         standing.now.hands.shared.table_id member) members.items }
     requires of { All (λ helper. IsHelperOf standing.now.heap.key.layout standing.now.heap.table.shared.table_id
@@ -112,16 +118,16 @@ pub(crate) fn play<'h, R: Threads + Wait + Sync>(
     ensures finished { IfSome result (λ kept. IsFinished standing.now.heap.key.layout
         (lists_of standing.now.heap.key.shapes) standing.now.heap.table.shared.table_id kept.keeper) }
 {
-    let sleeper = members.pop()?;
     let (kept, ()) = join(
         rt,
         || -> Option<Kept>
-            requires { KeeperStands standing.now.heap.key.layout standing.now.heap.table.shared.table_id
+            requires { ((k : _) → A.pre attend.now k)
+                × KeeperStands standing.now.heap.key.layout standing.now.heap.table.shared.table_id
                 standing.now.hands.shared.table_id keeper }
             ensures { IfSome result (λ kept. IsFinished standing.entry.now.heap.key.layout
                 (lists_of standing.entry.now.heap.key.shapes) standing.entry.now.heap.table.shared.table_id
                 kept.keeper) }
-        { keep(rt, standing, beds, keeper, report) },
+        { keep(rt, standing, attend, keeper, report) },
         || -> ()
             requires { MayCall standing.now.heap.key.layout standing.now.heap.table.shared.table_id
                 standing.now.hands.shared.table_id sleeper
@@ -132,4 +138,32 @@ pub(crate) fn play<'h, R: Threads + Wait + Sync>(
         { play_others(rt, standing, beds, sleeper, members, helpers, told) },
     );
     kept
+}
+
+/// All play, the last member as the one that sleeps. `None` where there is none, or no more part could be opened.
+pub(crate) fn play<'h, R: Threads + Wait + Sync, A: Fn(&Keeper) + Sync>(
+    rt: &R,
+    standing: &'h Standing<Shapes>,
+    beds: &Beds<'h, Shapes>,
+    attend: &A,
+    keeper: Keeper,
+    report: Report,
+    mut members: Vec<Member>,
+    helpers: Vec<Helper>,
+    told: &Told,
+) -> Option<Kept>
+    requires rounds { (k : _) → A.pre attend.now k }
+    requires stands { KeeperStands standing.now.heap.key.layout standing.now.heap.table.shared.table_id
+        standing.now.hands.shared.table_id keeper }
+    requires may { All (λ member. MayCall standing.now.heap.key.layout standing.now.heap.table.shared.table_id
+        standing.now.hands.shared.table_id member) members.items }
+    requires of { All (λ helper. IsHelperOf standing.now.heap.key.layout standing.now.heap.table.shared.table_id
+        standing.now.hands.shared.table_id helper) helpers.items }
+    ensures finished { IfSome result (λ kept. IsFinished standing.now.heap.key.layout
+        (lists_of standing.now.heap.key.shapes) standing.now.heap.table.shared.table_id kept.keeper) }
+{
+    let sleeper = members.pop()?;
+    play_all(
+        rt, standing, beds, attend, keeper, report, sleeper, members, helpers, told,
+    )
 }

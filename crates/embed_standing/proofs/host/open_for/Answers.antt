@@ -20,6 +20,6 @@ returns c =
           made.standing.hands.shared.table_id made.standing.heap.key.layout made.standing.heap.table.shared.table_id
           made.keeper made.members.items made.helpers.items (λ i. (sym did.heap i).key.layout)
           (λ i. (sym did.heap i).table.shared.table_id)
-          (record { registers = omega (arith, registers); strong = omega (arith, strong); }) (did.stands some)
+          (record { registers = omega (arith, registers); strong = omega (arith, strong) }) (did.stands some)
           did.members.1 did.helpers.1;
     }

@@ -21,7 +21,7 @@ returns c =
           opened.standing.hands.shared.table_id opened.standing.heap.key.layout
           opened.standing.heap.table.shared.table_id opened.keeper opened.members.items opened.helpers.items
           (λ i. (sym same i).key.layout) (λ i. (sym same i).table.shared.table_id)
-          (record { registers = omega (arith, registers); strong = omega (arith, strong); })
+          (record { registers = omega (arith, registers); strong = omega (arith, strong) })
           (taken c.open.result _ opened of c.open.ensures.stands some)
           (taken c.open.result _ opened of c.open.ensures.members).1
           (taken c.open.result _ opened of c.open.ensures.helpers).1);

@@ -4,10 +4,14 @@ use Rattle.std.specs.Prelude.{Some}
 use Rattle.embed_standing.specs.Playing.{MayCall}
 use Rattle.embed_standing.proofs.sleeper.playing.play.Goals as goal
 
-pub join-kept-requires-after_bounds : goal.join-kept-requires-after_bounds
-join-kept-requires-after_bounds g c =
+pub play_all-requires-clause-sleeps : goal.play_all-requires-clause-sleeps
+play_all-requires-clause-sleeps g c κs within =
     let s = c.args.standing.now in
-    let parts = All-pop (MayCall s.heap.key.layout s.heap.table.shared.table_id s.hands.shared.table_id)
-    c.args.members.items c.pop.new.self.items (Some c.in_ok-sleeper.sleeper) c.in_ok-sleeper.ensures.items
-    c.requires.may in
-    (c.requires.stands, (parts.1, parts.0, c.requires.of))
+    (All-pop (MayCall s.heap.key.layout s.heap.table.shared.table_id s.hands.shared.table_id) c.args.members.items
+    c.pop.new.self.items (Some c.in_ok-sleeper.sleeper) c.in_ok-sleeper.ensures.items c.requires.may).1
+
+pub play_all-requires-clause-may : goal.play_all-requires-clause-may
+play_all-requires-clause-may g c κs within =
+    let s = c.args.standing.now in
+    (All-pop (MayCall s.heap.key.layout s.heap.table.shared.table_id s.hands.shared.table_id) c.args.members.items
+    c.pop.new.self.items (Some c.in_ok-sleeper.sleeper) c.in_ok-sleeper.ensures.items c.requires.may).0

@@ -1,5 +1,0 @@
--- The keeper's thread ends as its closure has it.
-use Rattle.embed_standing.proofs.resting.keep_until_it_wakes.Goals as goal
-
-pub returns : goal.returns
-returns g c = record { finished = c.join-kept.ensures.first }
