@@ -8,7 +8,8 @@
 - A table with the columns Operation, Printed and Why has one row for each call of the workload that the link before it
   names, in order.
 - A block of ```console is what the command behind its `$` prints at the top of the repository.
-- A block of ```antt is lines of the last file of specs/ or proofs/ that the page names before it.
+- A block of ```antt is lines of the last file of specs/ or proofs/ that the page names before it, and one of ```rust in a
+  list is lines of the last file of src/.
 - A printed call, as `drop r2 = ok`, and a printed count, as `live 1`, is a line of some workload's text.
 - The blocks of docs/READING-A-RUN.md are the texts of three workloads, in order.
 - In docs/WHY.md a block of text says what tools/why.py prints of that page's workload with the lines that it begins with,
@@ -233,6 +234,17 @@ def definitions_differ(name):
             yield f"{name}: {file.relative_to(TOP)} doesn't have these lines:\n{shown}"
 
 
+def code_shown_differs(name):
+    """The lines of code that a page shows in a list, against the file that it names before them."""
+    file = None
+    shows = r"`(\w+/src/[\w/]+\.rt)`|^( +)```rust\n(.*?)^ +```$"
+    for path, indent, shown in re.findall(shows, (TOP / name).read_text(), re.S | re.M):
+        file = TOP / "crates" / path if path else file
+        lines = re.sub(f"^{indent}", "", shown, flags=re.M)
+        if shown and lines not in file.read_text():
+            yield f"{name}: {file.relative_to(TOP)} doesn't have these lines:\n{lines}"
+
+
 def anchors_of(page):
     """The anchors of a page's headings: what stands there in small letters, with a line for each space."""
     return {anchor_of(head) for head in re.findall(r"^#+ (.*)$", page.read_text(), re.M)}
@@ -298,7 +310,7 @@ def main():
     for message in (*paths_differ(), *walk, *mistakes_differ("docs/WHY.md"), *forms_differ("docs/WORKLOAD.md"), *schema_differs(), *version_differs()):
         differ = 1
         print(message)
-    for message in (message for name in CODE for differs in (code_differs, definitions_differ) for message in differs(name)):
+    for message in (message for name in CODE for differs in (code_differs, definitions_differ, code_shown_differs) for message in differs(name)):
         differ = 1
         print(message)
     for name in ("README.md", "docs/WORKLOAD.md"):

@@ -1,8 +1,8 @@
 -- What a call leaves of its member: its number, and what is to be tried again.
-use Rattle.std.proofs.Common.{ℕ, ◌≡◌, sym, ◌∙◌, ap, subst, Bool, true, false, List, [], ◌∷◌, ◌++◌}
+use Rattle.std.proofs.Common.{ℕ, ◌≡◌, refl, sym, ◌∙◌, ap, subst, Bool, true, false, true≢false, List, [], ◌∷◌, ◌++◌}
 use Rattle.std.proofs.lemmas.Bool.{eqb-true}
 use Rattle.std.proofs.lemmas.List.Elements.{All-pop, filter_passes}
-use Rattle.std.specs.Prelude.{All, None, Option, Some, if◌then◌else◌}
+use Rattle.std.specs.Prelude.{All, None, Option, Some, if◌then◌else◌, is_some}
 use Rattle.tide.specs.atomic_table.Seated.{TableId}
 use Rattle.tide.proofs.tide_model.OwnCalls.{called, retry_of-push}
 use Rattle.tide.specs.tide_model.Caller.{IsOwn, MakesCall}
@@ -69,3 +69,18 @@ op_in other (Some op) = op
 -- two that are to be tried again are the same
 pub one_is_tried : (retry : Option Op) (op other : Op) → retry ≡ Some op → retry ≡ Some other → op ≡ other
 one_is_tried retry op other is also = ap (op_in op) (sym is ∙ also)
+
+-- where nothing was to be tried again before a call, nothing else is after it
+pub call_is_tried : (retry : Option Op) (op other : Op) (reply : Reply) → retry ≡ None →
+    retry_after retry (op, reply) ≡ Some other → op ≡ other
+call_is_tried retry op other reply none is =
+    by_reply (is_full_reply reply) (sym (ap (λ (r : Option Op). retry_after r (op, reply)) none) ∙ is)
+  where
+    by_reply : (full : Bool) → if◌then◌else◌ {A = Option Op} full (Some op) None ≡ Some other → op ≡ other
+    by_reply true same = ap (op_in op) same
+    by_reply false same = absurd (true≢false (sym (ap is_some same)))
+
+-- what is there, where something is
+pub what_is_tried : (retry : Option Op) → is_some retry ≡ true → (op : Op) × (retry ≡ Some op)
+what_is_tried (Some op) is = (op, refl)
+what_is_tried None is = absurd (true≢false (sym is))

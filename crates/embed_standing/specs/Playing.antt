@@ -1,5 +1,5 @@
 -- What the actors of a row are between two calls, and which calls their scripts have.
-use Rattle.std.specs.Prelude.{◌≡◌, ◌≢◌, ◌≤◌, [], false, List, All, None}
+use Rattle.std.specs.Prelude.{◌≡◌, ◌≢◌, ◌≤◌, [], false, List, All, IfSome, None, Option}
 use Rattle.tide.specs.atomic_table.Seated.{TableId}
 use Rattle.tide.specs.tide_model.Lawful.{FitsLayout}
 use Rattle.tide.specs.tide_model.Layout.{Layout}
@@ -34,6 +34,10 @@ pub record MayCall (layout : Layout) (heap hands : TableId) (m : Member) : Type 
   pub stays : (view_of m.mutator).left ≡ false
   pub bare : claims_of (view_of m.mutator) ≡ []
   pub settled : retry_of (view_of m.mutator).who (view_of m.mutator).mine ≡ None
+
+-- members, of which each that wasn't taken yet may make any call
+abbrev pub MayEachCall : Layout → TableId → TableId → List (Option Member) → Type 0
+MayEachCall layout heap hands members = All (λ one. IfSome one (MayCall layout heap hands)) members
 
 -- a member that rests: it hasn't left, claims no cell, and has nothing to try again
 abbrev pub MayWake : Layout → TableId → TableId → Resting → Type 0

@@ -1,5 +1,5 @@
 //! A host of a standing heap: it opens one, and the keeper plays beside the members and the helpers.
-ghost use Rattle.embed_standing.specs.Playing.{HasRoomForScripts, MayCall, MayPlay};
+ghost use Rattle.embed_standing.specs.Playing.{HasRoomForScripts, MayCall, MayEachCall, MayPlay};
 ghost use Rattle.std.specs.Prelude.{◌≡◌, All, IfOk, IfSome, true};
 ghost use Rattle.tide.specs.tide_server.Helpers.{IsHelperOf};
 ghost use Rattle.tide.specs.tide_server.Keepers.{KeeperStands};
@@ -7,35 +7,38 @@ ghost use Rattle.tide.specs.tide_server.Turned.{IsFinished};
 ghost use Rattle.tide.specs.tide_shape.Lists.{lists_of};
 ghost use Rattle.tide.specs.tide_text.work.Work.{AreSettings};
 
-use crate::others::play_others;
+use crate::others::{play_others, to_be_taken};
 use crate::playing::{Kept, keep};
 use crate::resting::play_beside_one_that_rests;
-use crate::row::Row;
+use crate::row::{Rests, Row};
 use crate::tally::Tally;
 use std::alloc::Global;
 use std::marker::Sync;
 use std::sync::Wait;
 use std::thread::{Threads, join};
 use tide::{
-    Helper, Keeper, Layout, Member, Memory, Opened, Paths, Report, Settings, Shapes, Standing,
-    Start, open,
+    Beds, Helper, Keeper, Layout, Member, Memory, Opened, Paths, Report, Settings, Shapes,
+    Standing, Start, open,
 };
 
 /// The keeper turns until no mutator is active, beside the members and the helpers.
-fn play_all<R: Threads + Wait + Sync>(
+fn play_all<'h, R: Threads + Wait + Sync, A: Fn(&Keeper) + Sync>(
     rt: &R,
-    standing: &Standing<Shapes>,
+    standing: &'h Standing<Shapes>,
+    beds: &Beds<'h, Shapes>,
+    attend: &A,
     keeper: Keeper,
     report: Report,
-    members: Vec<Member>,
+    members: Vec<Option<Member>>,
     helpers: Vec<Helper>,
     row: &Row,
     tally: &Tally,
 ) -> Kept
+    requires rounds { (k : _) → A.pre attend.now k }
     requires stands { KeeperStands standing.now.heap.key.layout standing.now.heap.table.shared.table_id
         standing.now.hands.shared.table_id keeper }
-    requires may { All (λ member. MayCall standing.now.heap.key.layout standing.now.heap.table.shared.table_id
-        standing.now.hands.shared.table_id member) members.items }
+    requires may { MayEachCall standing.now.heap.key.layout standing.now.heap.table.shared.table_id
+        standing.now.hands.shared.table_id members.items }
     requires of { All (λ helper. IsHelperOf standing.now.heap.key.layout standing.now.heap.table.shared.table_id
         standing.now.hands.shared.table_id helper) helpers.items }
     requires room { HasRoomForScripts standing.now.heap.key.layout }
@@ -45,19 +48,20 @@ fn play_all<R: Threads + Wait + Sync>(
     let (kept, ()) = join(
         rt,
         || -> Kept
-            requires { KeeperStands standing.now.heap.key.layout standing.now.heap.table.shared.table_id
+            requires { ((k : _) → A.pre attend.now k)
+                × KeeperStands standing.now.heap.key.layout standing.now.heap.table.shared.table_id
                 standing.now.hands.shared.table_id keeper }
             ensures { result.is_over ≡ true → IsFinished standing.entry.now.heap.key.layout
                 (lists_of standing.entry.now.heap.key.shapes) standing.entry.now.heap.table.shared.table_id
                 result.keeper }
-        { keep(rt, standing, keeper, report, row.polls) },
+        { keep(rt, standing, keeper, report, attend, row.polls) },
         || -> ()
             requires { HasRoomForScripts standing.now.heap.key.layout
-                × All (λ member. MayCall standing.now.heap.key.layout standing.now.heap.table.shared.table_id
-                standing.now.hands.shared.table_id member) members.items
+                × MayEachCall standing.now.heap.key.layout standing.now.heap.table.shared.table_id
+                standing.now.hands.shared.table_id members.items
                 × All (λ helper. IsHelperOf standing.now.heap.key.layout standing.now.heap.table.shared.table_id
                 standing.now.hands.shared.table_id helper) helpers.items }
-        { play_others(rt, standing, members, helpers, row, tally) },
+        { play_others(rt, standing, beds, members, helpers, row, tally) },
     );
     kept
 }
@@ -65,6 +69,7 @@ fn play_all<R: Threads + Wait + Sync>(
 /// All play at once, one at rest where the row says so. `None` where one should rest and there is none.
 fn play<R: Threads + Wait + Sync>(
     rt: &R,
+    alloc: Global,
     standing: &Standing<Shapes>,
     keeper: Keeper,
     report: Report,
@@ -84,12 +89,20 @@ fn play<R: Threads + Wait + Sync>(
         IsFinished standing.now.heap.key.layout (lists_of standing.now.heap.key.shapes)
         standing.now.heap.table.shared.table_id kept.keeper)) }
 {
-    if row.rests > 0 {
+    let members = to_be_taken(alloc, members)?;
+    let beds = Beds::new(alloc, usize::from(row.members))?;
+    let attend = |keeper: &Keeper| {
+        keeper.attend(rt, standing, &beds);
+        tally.add_round();
+    };
+    if let Rests::InTheKeepersHands(turns) = row.rests {
         return play_beside_one_that_rests(
-            rt, standing, keeper, report, members, helpers, row, tally,
+            rt, standing, &beds, &attend, keeper, report, members, helpers, turns, row, tally,
         );
     }
-    Ok(Some(play_all(rt, standing, keeper, report, members, helpers, row, tally)))
+    Ok(Some(play_all(
+        rt, standing, &beds, &attend, keeper, report, members, helpers, row, tally,
+    )))
 }
 
 /// What was seen of a heap that is over.
@@ -116,7 +129,7 @@ fn settings_of(row: &Row) -> Settings
         weak: 2,
         blocks: [1, 1, 0, 0, 1],
         arrays: [1, 0, 0, 0, 0],
-        period: 4,
+        period: row.period,
         headroom: 100,
         trigger: row.trigger,
     }
@@ -161,7 +174,9 @@ pub fn run<R: Threads + Wait + Sync>(
         helpers,
     } = opened;
     let tally = Tally::new(row.meets);
-    let played = play(rt, &standing, keeper, report, members, helpers, row, &tally)?;
+    let played = play(
+        rt, alloc, &standing, keeper, report, members, helpers, row, &tally,
+    )?;
     let Some(kept) = played else {
         return Ok(None);
     };

@@ -86,8 +86,32 @@ pub fn ask<R: Wait, T: Turnstile>(
     Ok(reply)
 }
 
+/// Makes the call of the script with this number. Says whether it was answered as the script has it.
+pub fn ask_next<R: Wait>(
+    rt: &R,
+    standing: &Standing<Shapes>,
+    member: &mut Member,
+    who: usize,
+    n: u32,
+    row: &Row,
+    tally: &Tally,
+) -> Result<bool, Memory>
+    requires may { MayCall standing.now.heap.key.layout standing.now.heap.table.shared.table_id
+        standing.now.hands.shared.table_id member.old }
+    requires room { HasRoomForScripts standing.now.heap.key.layout }
+    ensures may { OnOk result (MayCall standing.now.heap.key.layout standing.now.heap.table.shared.table_id
+        standing.now.hands.shared.table_id member.new) }
+{
+    let op = row.script.call_of(who, n);
+    let reply = ask(rt, standing, member, op, tally, row.polls)?;
+    match row.script.reply_to(who, n) {
+        Some(wanted) => Ok(reply == wanted),
+        None => Ok(true),
+    }
+}
+
 /// Makes its calls, and leaves. Says whether each was answered as the script has it.
-fn make_calls<R: Wait>(
+pub fn make_calls<R: Wait>(
     rt: &R,
     standing: &Standing<Shapes>,
     member: &mut Member,
@@ -101,11 +125,8 @@ fn make_calls<R: Wait>(
 {
     let mut is_right = true;
     for n in 0..row.calls_of(who) {
-        let op = row.script.call_of(who, n);
-        let reply = ask(rt, standing, member, op, tally, row.polls)?;
-        if let Some(wanted) = row.script.reply_to(who, n) {
-            is_right = is_right && reply == wanted;
-        }
+        let is_answered = ask_next(rt, standing, member, who, n, row, tally)?;
+        is_right = is_right && is_answered;
     }
     if row.polls {
         polling::come_to_work(rt, standing, member);
@@ -114,24 +135,6 @@ fn make_calls<R: Wait>(
     }
     member.leave(rt, standing, tally)?;
     Ok(is_right)
-}
-
-/// A member makes its calls, leaves, and tells where one was answered otherwise.
-pub fn play_member<R: Wait>(
-    rt: &R,
-    standing: &Standing<Shapes>,
-    member: &mut Member,
-    who: usize,
-    row: &Row,
-    tally: &Tally,
-)
-    requires may { MayCall standing.now.heap.key.layout standing.now.heap.table.shared.table_id
-        standing.now.hands.shared.table_id member.old }
-    requires room { HasRoomForScripts standing.now.heap.key.layout }
-{
-    if make_calls(rt, standing, member, who, row, tally) != Ok(true) {
-        tally.add_wrong();
-    }
 }
 
 /// Takes part in one part, waiting as the row has it.
@@ -187,14 +190,16 @@ pub struct Kept {
     pub is_over: bool,
 }
 
-/// Makes the next turn: the keeper waits for the notes, or it polls for them.
-fn next_turn<R: Wait>(
+/// Makes the next turn: the keeper attends to who lies in a bed and waits for the notes, or it polls for them.
+fn next_turn<R: Wait, A: Fn(&Keeper)>(
     rt: &R,
     standing: &Standing<Shapes>,
     keeper: &mut Keeper,
     report: &mut Report,
+    attend: &A,
     polls: bool,
 ) -> Result<Turn, Memory>
+    requires rounds { (k : _) → A.pre attend.now k }
     requires stands { KeeperStands standing.now.heap.key.layout standing.now.heap.table.shared.table_id
         standing.now.hands.shared.table_id keeper.old }
     ensures opened { result ≡ Ok Turn.Opened → KeeperStands standing.now.heap.key.layout
@@ -205,6 +210,7 @@ fn next_turn<R: Wait>(
         standing.now.heap.table.shared.table_id standing.now.hands.shared.table_id keeper.new) }
 {
     if !polls {
+        attend(&*keeper);
         return keeper.turn(rt, standing, report);
     }
     for _ in rt.forever() {
@@ -216,14 +222,17 @@ fn next_turn<R: Wait>(
     unreachable!()
 }
 
-/// The keeper turns until no part is opened any more. A turn for which memory was wanting it makes again.
-pub fn keep<R: Wait>(
+/// The keeper turns until no part is opened any more, and attends before each turn to who lies in a bed. A turn for
+/// which memory was wanting it makes again.
+pub fn keep<R: Wait, A: Fn(&Keeper)>(
     rt: &R,
     standing: &Standing<Shapes>,
     mut keeper: Keeper,
     mut report: Report,
+    attend: &A,
     polls: bool,
 ) -> Kept
+    requires rounds { (k : _) → A.pre attend.now k }
     requires stands { KeeperStands standing.now.heap.key.layout standing.now.heap.table.shared.table_id
         standing.now.hands.shared.table_id keeper }
     ensures finished { result.is_over ≡ true → IsFinished standing.now.heap.key.layout
@@ -231,7 +240,7 @@ pub fn keep<R: Wait>(
 {
     let mut turns = 0u64;
     for _ in rt.forever() {
-        let Ok(turn) = next_turn(rt, standing, &mut keeper, &mut report, polls) else {
+        let Ok(turn) = next_turn(rt, standing, &mut keeper, &mut report, attend, polls) else {
             continue;
         };
         turns = turns.saturating_add(1);

@@ -1,21 +1,23 @@
 //! A member that rests beside others, and wakes on a thread of its own.
-ghost use Rattle.embed_standing.specs.Playing.{HasRoomForScripts, MayCall, MayWake};
+ghost use Rattle.embed_standing.specs.Playing.{HasRoomForScripts, MayCall, MayEachCall, MayWake};
 ghost use Rattle.std.specs.Prelude.{◌≡◌, All, IfOk, IfSome, true};
 ghost use Rattle.tide.specs.tide_server.Helpers.{IsHelperOf};
 ghost use Rattle.tide.specs.tide_server.Keepers.{KeeperStands};
 ghost use Rattle.tide.specs.tide_server.Turned.{IsFinished};
 ghost use Rattle.tide.specs.tide_shape.Lists.{lists_of};
 
+use crate::cells::{finds_cell, make_cell};
 use crate::others::play_others;
-use crate::playing::{Kept, ask, keep};
+use crate::playing::{Kept, keep};
 use crate::row::Row;
 use crate::tally::Tally;
 use std::marker::Sync;
 use std::sync::Wait;
 use std::thread::{Threads, join};
-use tide::{
-    Helper, Keeper, Member, Memory, Op, Reply, Report, Resting, Shapes, Standing, Turn, Val,
-};
+use tide::{Beds, Helper, Keeper, Member, Memory, Reply, Report, Resting, Shapes, Standing, Turn};
+
+/// What the first cell of the heap is answered to be.
+const FIRST_CELL: Reply = Reply::Born(0);
 
 /// A keeper that turned while a member rested.
 #[derive(Drop)]
@@ -42,15 +44,8 @@ pub fn rest_with_a_cell<R: Wait>(
     ensures may { IfOk result (MayWake standing.now.heap.key.layout standing.now.heap.table.shared.table_id
         standing.now.hands.shared.table_id) }
 {
-    let born = ask(
-        rt,
-        standing,
-        &mut member,
-        Op::Alloc { dst: 0, class: 0 },
-        tally,
-        false,
-    )?;
-    if born != Reply::Born(0) {
+    let born = make_cell(rt, standing, &mut member, tally)?;
+    if born != FIRST_CELL {
         tally.add_wrong();
     }
     Ok(member.rest(standing))
@@ -100,32 +95,21 @@ fn keep_beside<R: Wait>(
     }
 }
 
-/// Puts the cell in its register into that cell's own slot, reads it from there, and leaves. Says whether that is the
-/// cell which it had made before it rested.
+/// Wakes, looks for its cell, and leaves. Says whether it found it.
 fn finds_its_cell<R: Wait>(
     rt: &R,
     standing: &Standing<Shapes>,
-    member: &mut Member,
+    resting: Resting,
     tally: &Tally,
 ) -> Result<bool, Memory>
-    requires may { MayCall standing.now.heap.key.layout standing.now.heap.table.shared.table_id
-        standing.now.hands.shared.table_id member.old }
+    requires may { MayWake standing.now.heap.key.layout standing.now.heap.table.shared.table_id
+        standing.now.hands.shared.table_id resting }
     requires room { HasRoomForScripts standing.now.heap.key.layout }
 {
-    let put = Op::Put {
-        src: 0,
-        slot: 0,
-        val: 0,
-    };
-    let get = Op::Get {
-        dst: 1,
-        src: 0,
-        slot: 0,
-    };
-    ask(rt, standing, member, put, tally, false)?;
-    let seen = ask(rt, standing, member, get, tally, false)?;
+    let mut member = resting.wake();
+    let is_found = finds_cell(rt, standing, &mut member, FIRST_CELL, tally)?;
     member.leave(rt, standing, tally)?;
-    Ok(seen == Reply::Seen(Val::Cell(0)))
+    Ok(is_found)
 }
 
 /// Wakes, looks for its cell, and leaves.
@@ -134,23 +118,24 @@ fn wake_and_leave<R: Wait>(rt: &R, standing: &Standing<Shapes>, resting: Resting
         standing.now.hands.shared.table_id resting }
     requires room { HasRoomForScripts standing.now.heap.key.layout }
 {
-    let mut member = resting.wake();
-    if finds_its_cell(rt, standing, &mut member, tally) != Ok(true) {
+    if finds_its_cell(rt, standing, resting, tally) != Ok(true) {
         tally.add_wrong();
     }
 }
 
-/// The keeper turns while a member rests, as often as the row says, and then until no mutator is active, while that one
+/// The keeper makes so many turns while a member rests, and then until no mutator is active, while that one
 /// has woken on another thread.
-pub fn keep_until_it_wakes<R: Threads + Wait + Sync>(
+fn keep_until_it_wakes<R: Threads + Wait + Sync, A: Fn(&Keeper) + Sync>(
     rt: &R,
     standing: &Standing<Shapes>,
+    attend: &A,
     keeper: Keeper,
     report: Report,
     resting: Resting,
-    row: &Row,
+    turns: u64,
     tally: &Tally,
 ) -> Kept
+    requires rounds { (k : _) → A.pre attend.now k }
     requires stands { KeeperStands standing.now.heap.key.layout standing.now.heap.table.shared.table_id
         standing.now.hands.shared.table_id keeper }
     requires may { MayWake standing.now.heap.key.layout standing.now.heap.table.shared.table_id
@@ -159,7 +144,7 @@ pub fn keep_until_it_wakes<R: Threads + Wait + Sync>(
     ensures finished { result.is_over ≡ true → IsFinished standing.now.heap.key.layout
         (lists_of standing.now.heap.key.shapes) standing.now.heap.table.shared.table_id result.keeper }
 {
-    let attended = keep_beside(rt, standing, keeper, report, resting, row.rests);
+    let attended = keep_beside(rt, standing, keeper, report, resting, turns);
     let Attended {
         keeper,
         report,
@@ -179,12 +164,13 @@ pub fn keep_until_it_wakes<R: Threads + Wait + Sync>(
     let (kept, ()) = join(
         rt,
         || -> Kept
-            requires { KeeperStands standing.now.heap.key.layout standing.now.heap.table.shared.table_id
+            requires { ((k : _) → A.pre attend.now k)
+                × KeeperStands standing.now.heap.key.layout standing.now.heap.table.shared.table_id
                 standing.now.hands.shared.table_id keeper }
             ensures { result.is_over ≡ true → IsFinished standing.entry.now.heap.key.layout
                 (lists_of standing.entry.now.heap.key.shapes) standing.entry.now.heap.table.shared.table_id
                 result.keeper }
-        { keep(rt, standing, keeper, report, false) },
+        { keep(rt, standing, keeper, report, attend, false) },
         || -> ()
             requires { HasRoomForScripts standing.now.heap.key.layout
                 × MayWake standing.now.heap.key.layout standing.now.heap.table.shared.table_id
@@ -199,21 +185,25 @@ pub fn keep_until_it_wakes<R: Threads + Wait + Sync>(
 
 /// The keeper turns beside a member that rests and the others, until that one wakes, and then until no mutator is
 /// active.
-fn play_while_it_rests<R: Threads + Wait + Sync>(
+fn play_while_it_rests<'h, R: Threads + Wait + Sync, A: Fn(&Keeper) + Sync>(
     rt: &R,
-    standing: &Standing<Shapes>,
+    standing: &'h Standing<Shapes>,
+    beds: &Beds<'h, Shapes>,
+    attend: &A,
     keeper: Keeper,
     report: Report,
-    members: Vec<Member>,
+    members: Vec<Option<Member>>,
     helpers: Vec<Helper>,
     resting: Resting,
+    turns: u64,
     row: &Row,
     tally: &Tally,
 ) -> Kept
+    requires rounds { (k : _) → A.pre attend.now k }
     requires stands { KeeperStands standing.now.heap.key.layout standing.now.heap.table.shared.table_id
         standing.now.hands.shared.table_id keeper }
-    requires may { All (λ member. MayCall standing.now.heap.key.layout standing.now.heap.table.shared.table_id
-        standing.now.hands.shared.table_id member) members.items }
+    requires may { MayEachCall standing.now.heap.key.layout standing.now.heap.table.shared.table_id
+        standing.now.hands.shared.table_id members.items }
     requires of { All (λ helper. IsHelperOf standing.now.heap.key.layout standing.now.heap.table.shared.table_id
         standing.now.hands.shared.table_id helper) helpers.items }
     requires rests { MayWake standing.now.heap.key.layout standing.now.heap.table.shared.table_id
@@ -226,6 +216,7 @@ fn play_while_it_rests<R: Threads + Wait + Sync>(
         rt,
         || -> Kept
             requires { HasRoomForScripts standing.now.heap.key.layout
+                × ((k : _) → A.pre attend.now k)
                 × KeeperStands standing.now.heap.key.layout standing.now.heap.table.shared.table_id
                 standing.now.hands.shared.table_id keeper
                 × MayWake standing.now.heap.key.layout standing.now.heap.table.shared.table_id
@@ -233,34 +224,38 @@ fn play_while_it_rests<R: Threads + Wait + Sync>(
             ensures { result.is_over ≡ true → IsFinished standing.entry.now.heap.key.layout
                 (lists_of standing.entry.now.heap.key.shapes) standing.entry.now.heap.table.shared.table_id
                 result.keeper }
-        { keep_until_it_wakes(rt, standing, keeper, report, resting, row, tally) },
+        { keep_until_it_wakes(rt, standing, attend, keeper, report, resting, turns, tally) },
         || -> ()
             requires { HasRoomForScripts standing.now.heap.key.layout
-                × All (λ member. MayCall standing.now.heap.key.layout standing.now.heap.table.shared.table_id
-                standing.now.hands.shared.table_id member) members.items
+                × MayEachCall standing.now.heap.key.layout standing.now.heap.table.shared.table_id
+                standing.now.hands.shared.table_id members.items
                 × All (λ helper. IsHelperOf standing.now.heap.key.layout standing.now.heap.table.shared.table_id
                 standing.now.hands.shared.table_id helper) helpers.items }
-        { play_others(rt, standing, members, helpers, row, tally) },
+        { play_others(rt, standing, beds, members, helpers, row, tally) },
     );
     kept
 }
 
 /// The last member makes a cell, and rests with it; the keeper turns beside it and the others until it wakes, and then
 /// until no mutator is active. Without members nobody plays.
-pub fn play_beside_one_that_rests<R: Threads + Wait + Sync>(
+pub fn play_beside_one_that_rests<'h, R: Threads + Wait + Sync, A: Fn(&Keeper) + Sync>(
     rt: &R,
-    standing: &Standing<Shapes>,
+    standing: &'h Standing<Shapes>,
+    beds: &Beds<'h, Shapes>,
+    attend: &A,
     keeper: Keeper,
     report: Report,
-    mut members: Vec<Member>,
+    mut members: Vec<Option<Member>>,
     helpers: Vec<Helper>,
+    turns: u64,
     row: &Row,
     tally: &Tally,
 ) -> Result<Option<Kept>, Memory>
+    requires rounds { (k : _) → A.pre attend.now k }
     requires stands { KeeperStands standing.now.heap.key.layout standing.now.heap.table.shared.table_id
         standing.now.hands.shared.table_id keeper }
-    requires may { All (λ member. MayCall standing.now.heap.key.layout standing.now.heap.table.shared.table_id
-        standing.now.hands.shared.table_id member) members.items }
+    requires may { MayEachCall standing.now.heap.key.layout standing.now.heap.table.shared.table_id
+        standing.now.hands.shared.table_id members.items }
     requires of { All (λ helper. IsHelperOf standing.now.heap.key.layout standing.now.heap.table.shared.table_id
         standing.now.hands.shared.table_id helper) helpers.items }
     requires room { HasRoomForScripts standing.now.heap.key.layout }
@@ -268,11 +263,11 @@ pub fn play_beside_one_that_rests<R: Threads + Wait + Sync>(
         IsFinished standing.now.heap.key.layout (lists_of standing.now.heap.key.shapes)
         standing.now.heap.table.shared.table_id kept.keeper)) }
 {
-    let Some(sleeper) = members.pop() else {
+    let Some(Some(sleeper)) = members.pop() else {
         return Ok(None);
     };
     let resting = rest_with_a_cell(rt, standing, sleeper, tally)?;
     Ok(Some(play_while_it_rests(
-        rt, standing, keeper, report, members, helpers, resting, row, tally,
+        rt, standing, beds, attend, keeper, report, members, helpers, resting, turns, row, tally,
     )))
 }

@@ -3,27 +3,47 @@ ghost use Rattle.std.specs.Prelude.{◌≤◌, ◌<◌};
 
 use crate::script::Script;
 
+/// How members rest.
+#[derive(Clone, Copy, PartialEq, Eq)]
+pub enum Rests {
+    /// None does.
+    Never,
+    /// The last one makes a cell, rests in the keeper's hands for so many turns, and wakes on another thread.
+    InTheKeepersHands(u64),
+    /// The last one makes a cell and rests, and once the keeper has gone round the beds so often, it lies in its bed
+    /// until the others have left.
+    UntilTheOthersLeft(u64),
+    /// The last one makes a cell and lies down on one thread, and wakes on another.
+    FromThreadToThread,
+    /// Each makes cells, and lies in its bed for a while after each.
+    ByTurns,
+    /// None does, but the second one comes early to a freeze that is wanted, after each of its calls.
+    ComesEarly,
+}
+
 /// How many actors a heap has, what they do, and when a cycle begins by itself.
 #[derive(Clone, Copy)]
 pub struct Row {
     pub members: u8,
     pub helpers: u8,
+    /// How many calls each member has in a part.
+    pub period: u32,
     /// How many newly born cells begin a cycle; 0 where none begins by itself.
     pub trigger: u32,
     pub script: Script,
-    /// How many calls each member makes before it leaves, but the second one.
+    /// How many calls each member makes before it leaves, but the second one; where all rest by turns, how many cells.
     pub calls: u32,
     /// How many the second one makes.
     pub second_calls: u32,
     /// The first calls of two members are held until both have come.
     pub meets: bool,
-    /// How many turns the last member rests, before it leaves; 0 where none rests.
-    pub rests: u64,
+    pub rests: Rests,
     /// All actors wait in their own way: each tries again, and leaves the processor to others meanwhile.
     pub polls: bool,
     ghost some: { 0 < members },
     ghost few: { members ≤ 16 },
     ghost few_helpers: { helpers ≤ 8 },
+    ghost periods: { (4 ≤ period) × (period ≤ 65536) },
     ghost triggers: { trigger ≤ 1000000 },
 }
 
@@ -35,5 +55,10 @@ impl Row {
         } else {
             self.calls
         }
+    }
+
+    /// Whether this is the number of the last member.
+    pub fn is_last(&self, who: usize) -> bool {
+        who == usize::from(self.members).saturating_sub(1)
     }
 }

@@ -1,8 +1,9 @@
 //! Rows of a standing heap: what its actors are answered, and what its report tells.
 
 use crate::host::{Seen, run};
-use crate::row::Row;
+use crate::row::{Rests, Row};
 use crate::script::Script;
+use crate::sleeper::sleeper_finds_its_cell;
 use std::alloc::Global;
 use std::marker::Sync;
 use std::sync::Wait;
@@ -22,10 +23,10 @@ fn are_in_turn(report: &Report) -> bool {
 }
 
 /// Whether all went right, each helper took part in each part, the cycles are numbered in turn, and a mutator stopped
-/// early only where one rested.
+/// early exactly where one rested or came early.
 fn is_whole(row: &Row, seen: &Seen) -> bool {
     seen.is_right
-        && seen.stopped == (row.rests > 0)
+        && seen.stopped == (row.rests != Rests::Never)
         && seen.parts == seen.turns.saturating_mul(u64::from(row.helpers))
         && are_in_turn(&seen.report)
 }
@@ -41,12 +42,13 @@ fn one_asks_in_its_second_call<R: Threads + Wait + Sync>(rt: &R, alloc: Global) 
     let row = Row {
         members: 1,
         helpers: 0,
+        period: 4,
         trigger: 0,
         script: Script::BornAndAsked,
         calls: 2,
         second_calls: 0,
         meets: false,
-        rests: 0,
+        rests: Rests::Never,
         polls: false,
     };
     let seen = run(rt, alloc, &row).ok()??;
@@ -63,12 +65,13 @@ fn two_first_calls_meet<R: Threads + Wait + Sync>(rt: &R, alloc: Global) -> Opti
     let row = Row {
         members: 2,
         helpers: 1,
+        period: 4,
         trigger: 2,
         script: Script::LoopsApart,
         calls: 4,
         second_calls: 4,
         meets: true,
-        rests: 0,
+        rests: Rests::Never,
         polls: false,
     };
     let seen = run(rt, alloc, &row).ok()??;
@@ -90,12 +93,13 @@ fn long_row(name: &str) -> Option<(Row, u64)> {
     let row = Row {
         members,
         helpers,
+        period: 4,
         trigger,
         script,
         calls,
         second_calls,
         meets: false,
-        rests: 0,
+        rests: Rests::Never,
         polls: name == "all_wait_in_their_own_way",
     };
     Some((row, parts))
@@ -107,16 +111,50 @@ fn one_rests_beside_three<R: Threads + Wait + Sync>(rt: &R, alloc: Global) -> Op
     let row = Row {
         members: 4,
         helpers: 2,
+        period: 4,
         trigger: 8,
         script: Script::Births,
         calls: 3999,
         second_calls: 3999,
         meets: false,
-        rests: 600,
+        rests: Rests::InTheKeepersHands(600),
         polls: false,
     };
     let seen = run(rt, alloc, &row).ok()??;
     Some(is_whole(&row, &seen) && seen.turns > 600 && seen.report.cycles().len() > 4)
+}
+
+/// The row of this name in which members lie in beds or one comes early, if there is one, and how many parts it has at
+/// least. Who lies down behind the keeper's second round finds its ticket there, and the keeper waits for its note.
+/// Where one comes early, a period has more calls than it makes: no part ends before.
+fn row_with_rests(name: &str) -> Option<(Row, u64)> {
+    let (members, helpers, period, trigger, calls, second_calls, rests, parts) = match name {
+        "one_sleeps_beside_three" => (4, 1, 4, 1, 799, 799, Rests::UntilTheOthersLeft(0), 200),
+        "one_lies_down_behind_its_ticket" => {
+            (2, 1, 4, 8, 799, 799, Rests::UntilTheOthersLeft(2), 200)
+        }
+        "one_wakes_on_another_thread" => (3, 1, 4, 8, 799, 799, Rests::FromThreadToThread, 200),
+        "sixteen_rest_by_turns" => (16, 2, 4, 8, 304, 304, Rests::ByTurns, 304),
+        "one_comes_early" => (2, 1, 65536, 0, 65536, 200, Rests::ComesEarly, 200),
+        _ => return None,
+    };
+    let script = match rests {
+        Rests::ComesEarly => Script::OneAsks,
+        _ => Script::Births,
+    };
+    let row = Row {
+        members,
+        helpers,
+        period,
+        trigger,
+        script,
+        calls,
+        second_calls,
+        meets: false,
+        rests,
+        polls: false,
+    };
+    Some((row, parts))
 }
 
 /// Plays the row of this name, and answers whether all was as expected.
@@ -125,7 +163,8 @@ pub fn check_standing<R: Threads + Wait + Sync>(rt: &R, alloc: Global, name: &st
         "one_asks_in_its_second_call" => one_asks_in_its_second_call(rt, alloc),
         "two_first_calls_meet" => two_first_calls_meet(rt, alloc),
         "one_rests_beside_three" => one_rests_beside_three(rt, alloc),
-        _ => match long_row(name) {
+        "one_sleeps_in_a_bed" => sleeper_finds_its_cell(rt, alloc),
+        _ => match long_row(name).or(row_with_rests(name)) {
             Some((row, parts)) => lasts(rt, alloc, &row, parts),
             None => None,
         },

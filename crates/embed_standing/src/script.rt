@@ -18,6 +18,8 @@ pub enum Script {
     BornAndAsked,
     /// Each makes a cell of a class of its own that refers to itself, reads that, and lets it go.
     LoopsApart,
+    /// The first asks for cycles, and the others set a register.
+    OneAsks,
 }
 
 /// A call of a member that makes cells, links them and lets them go.
@@ -86,6 +88,8 @@ impl Script {
             Script::BornAndAsked => Op::Collect,
             Script::LoopsApart if who == 0 => loop_call(0, 0, n),
             Script::LoopsApart => loop_call(1, 3, n),
+            Script::OneAsks if who == 0 => Op::Collect,
+            Script::OneAsks => Op::Set { dst: 0, n },
         }
     }
 
@@ -99,6 +103,8 @@ impl Script {
             (Script::LoopsApart, 0) => Some(Reply::Born(cell)),
             (Script::LoopsApart, 2) => Some(Reply::Seen(Val::Cell(cell))),
             (Script::LoopsApart, _) => Some(Reply::Done),
+            (Script::OneAsks, _) if who == 0 => Some(Reply::Asked),
+            (Script::OneAsks, _) => Some(Reply::Done),
             _ => None,
         }
     }
