@@ -12,7 +12,8 @@ use std::sync::atomic::{AtomicU64, Ordering};
 use std::thread::Threads;
 use tide::{Beds, Keeper, Layout, Opened, Paths, Report, Settings, Shapes, Start, open};
 
-/// Opens a heap of one block for four members and two helpers, whose cycles begin after 32 births.
+/// Opens a heap of 64 cells of two slots, and 64 tables that nobody makes, for four members and two helpers. Its cycles
+/// begin after 32 births.
 fn open_heap(alloc: Global) -> Option<Opened<Shapes>>
     ensures opened { IfSome result (λ made. MayPlay made.standing.heap.key.layout
         made.standing.heap.table.shared.table_id made.standing.hands.shared.table_id made.keeper
