@@ -20,7 +20,7 @@ pub struct KeeperSeat<T, N, I> {
 }
 
 impl<T: Drop, N: Drop, I> KeeperSeat<T, N, I> {
-    /// Posts a ticket at a place, where one is due; else the ticket comes back. Who waits for it is woken.
+    /// Posts a ticket at a place, where one is due; else the ticket comes back. It wakes nobody.
     pub fn post_ticket<P: Parcels<T, N, I>, K: Keyed<I>>(
         &mut self,
         table: &HandTable<T, N, I, P, K>,
@@ -49,7 +49,6 @@ impl<T: Drop, N: Drop, I> KeeperSeat<T, N, I> {
                     Parcel::Ticket(ticket),
                     TICKET_LIES,
                 ));
-                table.wake_one(place);
                 None
             }
             NOTE_LIES => {
@@ -60,7 +59,7 @@ impl<T: Drop, N: Drop, I> KeeperSeat<T, N, I> {
         }
     }
 
-    /// Says at a place that no ticket comes any more, where one is due. Answers whether it was.
+    /// Says at a place that no ticket comes any more, where one is due. Answers whether it was. It wakes nobody.
     pub fn post_end<P: Parcels<T, N, I>, K: Keyed<I>>(
         &mut self,
         table: &HandTable<T, N, I, P, K>,
@@ -85,7 +84,6 @@ impl<T: Drop, N: Drop, I> KeeperSeat<T, N, I> {
         match look(table, &mut self.seat, place) {
             TICKET_DUE => {
                 drop(put(table, &mut self.seat, place, Parcel::Nothing, ENDED));
-                table.wake_one(place);
                 true
             }
             NOTE_LIES => {
@@ -94,6 +92,18 @@ impl<T: Drop, N: Drop, I> KeeperSeat<T, N, I> {
             }
             _ => false,
         }
+    }
+
+    /// Wakes the member that waits at a place, if it does: so behind each post there, where it may wait.
+    pub fn rouse<P: Parcels<T, N, I>, K: Keyed<I>>(
+        &self,
+        table: &HandTable<T, N, I, P, K>,
+        place: usize,
+    )
+        requires own { self.now.seat.table_id ≡ table.now.table_id }
+        requires within { place < table.now.table_id.words }
+    {
+        table.wake_one(place);
     }
 
     /// The note that lies at a place, with its flag, where one does. A ticket is due then.
@@ -143,8 +153,8 @@ impl<T: Drop, N: Drop, I> KeeperSeat<T, N, I> {
         requires own { self.now.seat.table_id ≡ table.now.table_id }
         requires within { place < table.now.table_id.words }
     {
-        // The member wakes who waits once its note lies there (`post_note`), and not where it takes its ticket. A word
-        // that was changed since it was seen is not parked on.
+        // Who posts a note wakes who waits (`rouse`), and who takes a ticket doesn't. A word that was changed since it
+        // was seen is not parked on.
         match table.peek(place) {
             TICKET_LIES => table.park(rt, place, TICKET_LIES as u32),
             NOTE_DUE => table.park(rt, place, NOTE_DUE as u32),

@@ -71,8 +71,8 @@ impl<T: Drop, N: Drop, I> MemberSeat<T, N, I> {
     )
         requires own { self.now.seat.table_id ≡ table.now.table_id }
     {
-        // Only the keeper changes the word at its turn, and it wakes who waits (`post_ticket`, `post_end`). A word that
-        // was changed since it was seen is not parked on.
+        // Only the keeper changes the word at its turn, and it wakes who waits (`rouse`). A word that was changed since
+        // it was seen is not parked on.
         match table.peek(self.place) {
             TICKET_DUE => table.park(rt, self.place, TICKET_DUE as u32),
             NOTE_LIES => table.park(rt, self.place, NOTE_LIES as u32),
@@ -121,7 +121,7 @@ impl<T: Drop, N: Drop, I> MemberSeat<T, N, I> {
         unreachable!()
     }
 
-    /// Posts the note that is due at its place. The keeper is woken.
+    /// Posts the note that is due at its place. It wakes nobody.
     pub fn post_note<P: Parcels<T, N, I>, K: Keyed<I>>(
         &mut self,
         table: &HandTable<T, N, I, P, K>,
@@ -148,6 +148,12 @@ impl<T: Drop, N: Drop, I> MemberSeat<T, N, I> {
             Parcel::Note(note, flag),
             NOTE_LIES,
         ));
-        table.wake_one(place);
+    }
+
+    /// Wakes the keeper, if it waits at its place: so behind each post, where it may wait.
+    pub fn rouse<P: Parcels<T, N, I>, K: Keyed<I>>(&self, table: &HandTable<T, N, I, P, K>)
+        requires own { self.now.seat.table_id ≡ table.now.table_id }
+    {
+        table.wake_one(self.place);
     }
 }

@@ -2,6 +2,7 @@
 pub use Rattle.tide_model.proofs as tide_model
 pub use Rattle.tide_table.proofs as tide_table
 pub use Rattle.tide_posts.proofs.tide_heap
+pub use Rattle.tide_posts.proofs.Openings
 pub mod Lists
 pub mod Notes
 pub mod Tickets

@@ -12,8 +12,9 @@ use crate::standing::Standing;
 use tide_posts::HeapShapes;
 
 impl Member {
-    /// Stops in the midst of its part, and posts its note, which tells whether calls of its share are left.
-    fn break_off<S: HeapShapes>(&mut self, standing: &Standing<S>)
+    /// Stops in the midst of its part, and posts its note, which tells whether calls of its share are left. It waits for
+    /// nobody and wakes nobody: where its keeper may wait, `rouse` follows.
+    pub fn break_off<S: HeapShapes>(&mut self, standing: &Standing<S>)
         requires of { IsMemberOf standing.now.heap.key.layout standing.now.heap.table.shared.table_id
             standing.now.hands.shared.table_id self.old }
         requires stays { (view_of self.old.mutator).left ≡ false }
@@ -27,10 +28,10 @@ impl Member {
         ensures took { self.new.seat.seat.me.0.taken ≡ self.old.seat.seat.me.0.taken }
     {
         if self.is_over() {
-            self.hand_in(standing);
+            self.stop_over(standing);
             return;
         }
-        self.come_early(standing);
+        self.stop_early(standing);
     }
 
     /// Rests. In the midst of a part it hands its note in before, with calls of its share left or not.
@@ -51,6 +52,7 @@ impl Member {
             return Resting::new(member);
         }
         member.break_off(standing);
+        member.rouse(standing);
         Resting::new(member)
     }
 }

@@ -134,6 +134,7 @@ impl Member {
     {
         self.come_to_work(rt, standing);
         self.retire(standing, turnstile);
+        self.rouse(standing);
         Ok(())
     }
 }

@@ -78,8 +78,8 @@ impl Helper {
     }
 
     /// Takes part in one part, where the ticket of it lies there: it visits as many cells as a mutator has calls, if a
-    /// cycle marks. Or says that no part is opened any more, or `None` where nothing lies there yet. It waits for nobody,
-    /// and takes no memory.
+    /// cycle marks. Or says that no part is opened any more, or `None` where nothing lies there yet. It waits for nobody
+    /// and wakes nobody, and takes no memory. Where its keeper may wait, `rouse` follows.
     pub fn try_work<S: ShapeTable, T: Turnstile>(
         &mut self,
         standing: &Standing<S>,
@@ -109,6 +109,14 @@ impl Helper {
         }
     }
 
+    /// Wakes the keeper, if it waits for its note.
+    pub fn rouse<S: HeapShapes>(&self, standing: &Standing<S>)
+        requires of { IsHelperOf standing.now.heap.key.layout standing.now.heap.table.shared.table_id
+            standing.now.hands.shared.table_id self.now }
+    {
+        self.seat.rouse(&standing.hands.shared);
+    }
+
     /// Takes part in one part, as soon as its ticket comes: it visits as many cells as a mutator has calls, if a cycle
     /// marks. Or says that no part is opened any more. It may wait for ever, and takes no memory.
     pub fn work<R: Wait, S: ShapeTable, T: Turnstile>(
@@ -131,6 +139,7 @@ impl Helper {
     {
         for _ in rt.forever() {
             if let Some(worked) = self.try_work(standing, turnstile) {
+                self.rouse(standing);
                 return Ok(worked);
             }
             self.seat.wait_for_turn(rt, &standing.hands.shared);

@@ -5,6 +5,8 @@
 //! visitor, and the `Keeper`. A member makes its calls: where its share of a part is over, its next call first hands its
 //! note in and waits for the next ticket. A helper takes part in one part a call. `call`, `leave`, `work` and `turn` are loops over
 //! what waits for nobody: `Member::offer`, `make`, `hand_in` and `retire`, `Helper::try_work` and `Keeper::try_turn`.
+//! `open`, `offer`, `make`, `break_off`, `retire`, `try_work` and `turn_with_room` wake nobody either: behind one of them
+//! `rouse` follows, where somebody may wait for what it posted.
 //!
 //! A member whose thread is to wait for something else, or to end, rests: it is a `Resting` then, in whose place
 //! another begins and stops. It may lie in `Beds`: before each turn `Keeper::attend` begins and stops for all that lie
@@ -24,6 +26,8 @@ mod helping;
 mod parts;
 mod posting;
 mod resting;
+// these stand on those listed before
+mod coming;
 // these stand on those listed before
 mod attending;
 mod calls;

@@ -165,8 +165,8 @@ impl Member {
         }
     }
 
-    /// Stops, where its share of the part is over, and posts its note.
-    pub fn hand_in<S: HeapShapes>(&mut self, standing: &Standing<S>)
+    /// Stops, where its share of the part is over, and posts its note. It wakes nobody.
+    pub(crate) fn stop_over<S: HeapShapes>(&mut self, standing: &Standing<S>)
         requires of { IsMemberOf standing.now.heap.key.layout standing.now.heap.table.shared.table_id
             standing.now.hands.shared.table_id self.old }
         requires stays { (view_of self.old.mutator).left ≡ false }
@@ -190,8 +190,8 @@ impl Member {
         self.works = false;
     }
 
-    /// Comes early to a freeze: it stops with calls of its share left, and posts its note, which tells so.
-    pub fn come_early<S: HeapShapes>(&mut self, standing: &Standing<S>)
+    /// Stops with calls of its share left, and posts its note, which tells so. It wakes nobody.
+    pub(crate) fn stop_early<S: HeapShapes>(&mut self, standing: &Standing<S>)
         requires of { IsMemberOf standing.now.heap.key.layout standing.now.heap.table.shared.table_id
             standing.now.hands.shared.table_id self.old }
         requires stays { (view_of self.old.mutator).left ≡ false }
@@ -242,8 +242,8 @@ impl Member {
         reply
     }
 
-    /// Retires with a call of its part, and hands its last note in. It waits for nobody, and takes no memory. No call may
-    /// be made after it.
+    /// Retires with a call of its part, and hands its last note in. It waits for nobody and wakes nobody, and takes no
+    /// memory. No call may be made after it. Where its keeper may wait, `rouse` follows.
     pub fn retire<S: ShapeTable, T: Turnstile>(&mut self, standing: &Standing<S>, turnstile: &T)
         requires of { IsMemberOf standing.now.heap.key.layout standing.now.heap.table.shared.table_id
             standing.now.hands.shared.table_id self.old }

@@ -7,7 +7,7 @@ use Rattle.tide_posts.proofs.Sharing.{HasShared-early}
 use Rattle.tide_posts.specs.Shares.{HasShared, IsSharing}
 use Rattle.tide_posts.specs.tide_heap.tide_core.declared.machine.view.View.{View}
 use Rattle.tide_server.proofs.Working.{IsParked-stopped, at_work}
-use Rattle.tide_server.proofs.member.Member.come_early.Goals as goal
+use Rattle.tide_server.proofs.member.Member.stop_early.Goals as goal
 
 pub stop_and_post-requires : goal.stop_and_post-requires
 stop_and_post-requires g c =

@@ -8,7 +8,7 @@ use Rattle.tide_posts.proofs.Sharing.{HasShared-over}
 use Rattle.tide_posts.specs.Shares.{HasShared}
 use Rattle.tide_posts.specs.tide_heap.tide_core.declared.machine.view.View.{View}
 use Rattle.tide_server.proofs.Working.{IsParked-stopped, at_work}
-use Rattle.tide_server.proofs.member.Member.hand_in.Goals as goal
+use Rattle.tide_server.proofs.member.Member.stop_over.Goals as goal
 
 -- who made fewer calls than its run has ended its share
 has_ended : (made left run : ℕ) (e : Bool) → made + left ≡ run → (left ≡ 0) ⊎ (e ≡ true) → made < run → e ≡ true
