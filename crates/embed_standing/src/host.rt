@@ -5,7 +5,6 @@ ghost use Rattle.tide.specs.tide_server.Helpers.{IsHelperOf};
 ghost use Rattle.tide.specs.tide_server.Keepers.{KeeperStands};
 ghost use Rattle.tide.specs.tide_server.Turned.{IsFinished};
 ghost use Rattle.tide.specs.tide_shape.Lists.{lists_of};
-ghost use Rattle.tide.specs.tide_text.work.Work.{AreSettings};
 
 use crate::others::{play_others, to_be_taken};
 use crate::playing::{Kept, keep};
@@ -17,8 +16,8 @@ use std::marker::Sync;
 use std::sync::Wait;
 use std::thread::{Threads, join};
 use tide::{
-    Beds, Helper, Keeper, Layout, Member, Memory, Opened, Paths, Report, Settings, Shapes,
-    Standing, Start, open,
+    Beds, Helper, Keeper, Layout, Member, Memory, Opened, Paths, Report, Shapes, Standing, Start,
+    open,
 };
 
 /// The keeper turns until no mutator is active, beside the members and the helpers.
@@ -119,22 +118,6 @@ pub struct Seen {
     pub stopped: bool,
 }
 
-/// The numbers of a row's schedule.
-fn settings_of(row: &Row) -> Settings
-    ensures { AreSettings result }
-{
-    Settings {
-        registers: 4,
-        strong: 2,
-        weak: 2,
-        blocks: [1, 1, 0, 0, 1],
-        arrays: [1, 0, 0, 0, 0],
-        period: row.period,
-        headroom: 100,
-        trigger: row.trigger,
-    }
-}
-
 /// Opens a heap for the actors of a row. `None` only where its shapes were refused.
 fn open_for(alloc: Global, row: &Row) -> Result<Option<Opened<Shapes>>, Memory>
     ensures opened { IfOk result (λ found. IfSome found (λ made. MayPlay made.standing.heap.key.layout
@@ -154,7 +137,7 @@ fn open_for(alloc: Global, row: &Row) -> Result<Option<Opened<Shapes>>, Memory>
         return Ok(None);
     };
     let start = Start::new(alloc, layout, shapes)?;
-    Ok(Some(open(alloc, start, settings_of(row))?))
+    Ok(Some(open(alloc, start, row.pacing)?))
 }
 
 /// Opens a heap, plays the row on it, and closes it. `None` where no heap was opened, or it wasn't over.

@@ -2,6 +2,7 @@
 ghost use Rattle.std.specs.Prelude.{◌≤◌, ◌<◌};
 
 use crate::script::Script;
+use tide::Pacing;
 
 /// How members rest.
 #[derive(Clone, Copy, PartialEq, Eq)]
@@ -21,15 +22,12 @@ pub enum Rests {
     ComesEarly,
 }
 
-/// How many actors a heap has, what they do, and when a cycle begins by itself.
+/// How many actors a heap has, how its parts and cycles are paced, and what the actors do.
 #[derive(Clone, Copy)]
 pub struct Row {
     pub members: u8,
     pub helpers: u8,
-    /// How many calls each member has in a part.
-    pub period: u32,
-    /// How many newly born cells begin a cycle; 0 where none begins by itself.
-    pub trigger: u32,
+    pub pacing: Pacing,
     pub script: Script,
     /// How many calls each member makes before it leaves, but the second one; where all rest by turns, how many cells.
     pub calls: u32,
@@ -43,8 +41,6 @@ pub struct Row {
     ghost some: { 0 < members },
     ghost few: { members ≤ 16 },
     ghost few_helpers: { helpers ≤ 8 },
-    ghost periods: { (4 ≤ period) × (period ≤ 65536) },
-    ghost triggers: { trigger ≤ 1000000 },
 }
 
 impl Row {

@@ -1,4 +1,5 @@
 //! Rows of a standing heap: what its actors are answered, and what its report tells.
+ghost use Rattle.std.specs.Prelude.{◌≤◌};
 
 use crate::host::{Seen, run};
 use crate::row::{Rests, Row};
@@ -8,7 +9,20 @@ use std::alloc::Global;
 use std::marker::Sync;
 use std::sync::Wait;
 use std::thread::Threads;
-use tide::Report;
+use tide::{Pacing, Report};
+
+/// Parts of so many calls, and pauses of four visits. A cycle stops all calls once a hundred cells were born in it.
+fn in_parts_of(calls: u32, trigger: u32) -> Pacing
+    requires least { 4 ≤ calls }
+    requires most { calls ≤ 65536 }
+{
+    Pacing {
+        calls,
+        visits: 4,
+        headroom: 100,
+        trigger,
+    }
+}
 
 /// Whether the cycles of a report are numbered in turn, from 1 on.
 fn are_in_turn(report: &Report) -> bool {
@@ -42,8 +56,7 @@ fn one_asks_in_its_second_call<R: Threads + Wait + Sync>(rt: &R, alloc: Global) 
     let row = Row {
         members: 1,
         helpers: 0,
-        period: 4,
-        trigger: 0,
+        pacing: in_parts_of(4, 0),
         script: Script::BornAndAsked,
         calls: 2,
         second_calls: 0,
@@ -65,8 +78,7 @@ fn two_first_calls_meet<R: Threads + Wait + Sync>(rt: &R, alloc: Global) -> Opti
     let row = Row {
         members: 2,
         helpers: 1,
-        period: 4,
-        trigger: 2,
+        pacing: in_parts_of(4, 2),
         script: Script::LoopsApart,
         calls: 4,
         second_calls: 4,
@@ -80,21 +92,22 @@ fn two_first_calls_meet<R: Threads + Wait + Sync>(rt: &R, alloc: Global) -> Opti
 
 /// The row of this name with many parts, if there is one, and how many it has at least.
 fn long_row(name: &str) -> Option<(Row, u64)> {
-    let (members, helpers, trigger, script, calls, second_calls, parts) = match name {
-        "cycles_begin_at_each_birth" => (2, 1, 1, Script::Births, 3999, 3999, 1000),
-        "one_leaves_in_its_first_part" => (4, 2, 8, Script::Births, 3999, 0, 1000),
-        "some_ask_for_cycles" => (4, 2, 8, Script::Asks, 3999, 0, 1000),
-        "all_wait_in_their_own_way" => (3, 2, 8, Script::Asks, 3999, 0, 1000),
-        "one_of_sixteen_leaves" => (16, 8, 0, Script::Sets, 1199, 0, 300),
-        "sixteen_beside_eight" => (16, 8, 0, Script::Sets, 1199, 1199, 300),
-        "sixteen_ask_beside_eight" => (16, 8, 4, Script::Asks, 1199, 1199, 300),
-        _ => return None,
-    };
+    let (members, helpers, calls_in_part, trigger, script, calls, second_calls, parts) =
+        match name {
+            "cycles_begin_at_each_birth" => (2, 1, 4, 1, Script::Births, 3999, 3999, 1000),
+            "one_leaves_in_its_first_part" => (4, 2, 4, 8, Script::Births, 3999, 0, 1000),
+            "some_ask_for_cycles" => (4, 2, 4, 8, Script::Asks, 3999, 0, 1000),
+            "all_wait_in_their_own_way" => (3, 2, 4, 8, Script::Asks, 3999, 0, 1000),
+            "one_of_sixteen_leaves" => (16, 8, 4, 0, Script::Sets, 1199, 0, 300),
+            "sixteen_beside_eight" => (16, 8, 4, 0, Script::Sets, 1199, 1199, 300),
+            "sixteen_ask_beside_eight" => (16, 8, 4, 4, Script::Asks, 1199, 1199, 300),
+            "pauses_shorter_than_parts" => (2, 1, 16, 8, Script::Births, 3999, 3999, 240),
+            _ => return None,
+        };
     let row = Row {
         members,
         helpers,
-        period: 4,
-        trigger,
+        pacing: in_parts_of(calls_in_part, trigger),
         script,
         calls,
         second_calls,
@@ -111,8 +124,7 @@ fn one_rests_beside_three<R: Threads + Wait + Sync>(rt: &R, alloc: Global) -> Op
     let row = Row {
         members: 4,
         helpers: 2,
-        period: 4,
-        trigger: 8,
+        pacing: in_parts_of(4, 8),
         script: Script::Births,
         calls: 3999,
         second_calls: 3999,
@@ -126,9 +138,9 @@ fn one_rests_beside_three<R: Threads + Wait + Sync>(rt: &R, alloc: Global) -> Op
 
 /// The row of this name in which members lie in beds or one comes early, if there is one, and how many parts it has at
 /// least. Who lies down behind the keeper's second round finds its ticket there, and the keeper waits for its note.
-/// Where one comes early, a period has more calls than it makes: no part ends before.
+/// Where one comes early, a part has more calls than it makes: no part ends before.
 fn row_with_rests(name: &str) -> Option<(Row, u64)> {
-    let (members, helpers, period, trigger, calls, second_calls, rests, parts) = match name {
+    let (members, helpers, calls_in_part, trigger, calls, second_calls, rests, parts) = match name {
         "one_sleeps_beside_three" => (4, 1, 4, 1, 799, 799, Rests::UntilTheOthersLeft(0), 200),
         "one_lies_down_behind_its_ticket" => {
             (2, 1, 4, 8, 799, 799, Rests::UntilTheOthersLeft(2), 200)
@@ -145,8 +157,7 @@ fn row_with_rests(name: &str) -> Option<(Row, u64)> {
     let row = Row {
         members,
         helpers,
-        period,
-        trigger,
+        pacing: in_parts_of(calls_in_part, trigger),
         script,
         calls,
         second_calls,

@@ -115,7 +115,8 @@ impl Engine {
         ensures fresh { IfSome result (λ engine. (view_of engine.realm).born ≡ 0) }
     {
         let pacing = Pacing {
-            period: 100,
+            calls: 100,
+            visits: 100,
             headroom: 1000,
             trigger,
         };

@@ -5,7 +5,6 @@ pub use Rattle.tide_server.specs.tide_model
 pub use Rattle.tide_server.specs.tide_shape
 pub use Rattle.tide_server.specs.tide_sched
 pub use Rattle.tide_server.specs.tide_report
-pub use Rattle.tide_server.specs.tide_text
 pub use Rattle.tide_grow_shape.specs as tide_grow_shape
 pub use Rattle.tide_server.specs.tide_heap
 pub use Rattle.tide_server.specs.tide_heap.tide_core

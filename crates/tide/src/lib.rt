@@ -19,8 +19,8 @@ pub use tide_grow_shape::{
 pub use tide_server::{
     Beds, Books, Closed, Collector, Drained, FreePass, Frozen, GreyList, Heap, HeapShapes, Helper,
     Keeper, Layout, Member, Memory, Mutator, NotOpened, Note, Numbers, Offered, Op, Opened, Pacing,
-    Pass, Paths, PeriodsSpent, Place, Refusal, Reply, Report, Resting, Settings, ShapeTable,
-    Shapes, Standing, Start, Ticket, Turn, Turnstile, Val, Visitor, Woken, Worked, fits, open,
+    Pass, Paths, PeriodsSpent, Place, Refusal, Reply, Report, Resting, ShapeTable, Shapes,
+    Standing, Start, Ticket, Turn, Turnstile, Val, Visitor, Woken, Worked, fits, open,
 };
 pub use tide_snapshot::{Snapshot, take as take_snapshot};
 pub use tide_weakref::{Range16, Realm, WeakRefused};

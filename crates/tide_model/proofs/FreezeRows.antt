@@ -18,7 +18,7 @@ use Rattle.tide_model.specs.Rows.{small}
 
 -- a period of 8, a cycle by itself after four births, and room for many
 abbrev pub pace : Pace
-pace = record { period = 8; headroom = 100; trigger = 4 }
+pace = record { calls = 8; visits = 8; headroom = 100; trigger = 4 }
 
 -- the same store with a visitor and a second mutator
 abbrev pub visited : Layout

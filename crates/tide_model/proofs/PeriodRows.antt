@@ -22,12 +22,12 @@ use Rattle.tide_model.proofs.PeriodTests.{Each-tested, EndsInTime-tested, IsSwep
 
 -- the shares of a period of 16 calls and a headroom of 32, once 0, 8, 16, 31, 32 and 40 cells were born
 pub shares_of_sixteen :
-    (mark_budget (record { period = 16; headroom = 32; trigger = 0 }) 0 ≡ 4)
-    × (call_quota (record { period = 16; headroom = 32; trigger = 0 }) 8 ≡ 12)
-    × (mark_budget (record { period = 16; headroom = 32; trigger = 0 }) 16 ≡ 8)
-    × (mark_budget (record { period = 16; headroom = 32; trigger = 0 }) 31 ≡ 16)
-    × (call_quota (record { period = 16; headroom = 32; trigger = 0 }) 31 ≡ 0)
-    × (mark_budget (record { period = 16; headroom = 32; trigger = 0 }) 40 ≡ 16)
+    (mark_budget (record { calls = 16; visits = 16; headroom = 32; trigger = 0 }) 0 ≡ 4)
+    × (call_quota (record { calls = 16; visits = 16; headroom = 32; trigger = 0 }) 8 ≡ 12)
+    × (mark_budget (record { calls = 16; visits = 16; headroom = 32; trigger = 0 }) 16 ≡ 8)
+    × (mark_budget (record { calls = 16; visits = 16; headroom = 32; trigger = 0 }) 31 ≡ 16)
+    × (call_quota (record { calls = 16; visits = 16; headroom = 32; trigger = 0 }) 31 ≡ 0)
+    × (mark_budget (record { calls = 16; visits = 16; headroom = 32; trigger = 0 }) 40 ≡ 16)
 shares_of_sixteen = (refl, refl, refl, refl, refl, refl)
 
 -- eight calls, and a cycle that begins by itself

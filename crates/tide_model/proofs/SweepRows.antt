@@ -22,7 +22,7 @@ use Rattle.tide_model.proofs.PeriodTests.{Each-tested, EndsInTime-tested, IsSwep
 
 -- a period of 4, a cycle by itself after three births, and room for many
 abbrev pub short : Pace
-short = record { period = 4; headroom = 100; trigger = 3 }
+short = record { calls = 4; visits = 4; headroom = 100; trigger = 3 }
 
 -- three cells are born and dropped, and a cycle that begins by itself frees them: nothing is swept in its freeze
 abbrev born_and_freed : Period

@@ -29,7 +29,7 @@ is_forced layout before part =
 
 -- how many calls each mutator has in the part that opens after a history
 abbrev pub next_run : Pace → Layout → List Event → ℕ
-next_run pace layout history = if marks_after layout history then call_quota pace (born_since is_begin history) else pace.period
+next_run pace layout history = if marks_after layout history then call_quota pace (born_since is_begin history) else pace.calls
 
 -- how many parts were opened
 abbrev pub open_count : List Event → ℕ

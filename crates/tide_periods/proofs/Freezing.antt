@@ -37,9 +37,9 @@ rests_after recorded settled rests = ap (λ (s : State). is_marking_phase s.phas
 
 -- so the next part has all calls of a period
 run_at_rest : (pace : Pace) (recorded : Recorded) → IsSettled recorded → recorded.state.phase ≡ idle →
-    pace.period ≡ next_run pace recorded.setting.layout recorded.history
+    pace.calls ≡ next_run pace recorded.setting.layout recorded.history
 run_at_rest pace recorded settled rests =
-    sym (ap (λ (b : Bool). if b then call_quota pace (born_since is_begin recorded.history) else pace.period) (rests_after recorded settled rests))
+    sym (ap (λ (b : Bool). if b then call_quota pace (born_since is_begin recorded.history) else pace.calls) (rests_after recorded settled rests))
 
 -- none is due by itself where the trigger is 0
 no_trigger : (pace : Pace) (layout : Layout) (history : List Event) → pace.trigger ≡ 0 → is_due pace layout history ≡ false
@@ -60,8 +60,8 @@ calls_of-sweeps who [] = refl
 calls_of-sweeps who (block ∷ blocks) = calls_of-sweeps who blocks
 
 -- a freeze that is one whole cycle
-pub RanFreeze-cycle : (old new : Recorded) (pace : Pace) → IsSettled old → old.state.phase ≡ idle → 0 < pace.period → RanCycle old new →
-    RanFreeze old new pace true pace.period
+pub RanFreeze-cycle : (old new : Recorded) (pace : Pace) → IsSettled old → old.state.phase ≡ idle → 0 < pace.calls → RanCycle old new →
+    RanFreeze old new pace true pace.calls
 RanFreeze-cycle old new pace recorded rests some ran = record {
   settled = ran.settled;
   same = ran.same;
@@ -103,8 +103,8 @@ RanFreeze-cycle old new pace recorded rests some ran = record {
     sweeps = map (λ block. plain (Sweep block)) ran.blocks
 
 -- a freeze in which nothing happens
-pub RanFreeze-rest : (old : Recorded) (pace : Pace) → IsSettled old → old.state.phase ≡ idle → 0 < pace.period → pace.trigger ≡ 0 →
-    RanFreeze old old pace false pace.period
+pub RanFreeze-rest : (old : Recorded) (pace : Pace) → IsSettled old → old.state.phase ≡ idle → 0 < pace.calls → pace.trigger ≡ 0 →
+    RanFreeze old old pace false pace.calls
 RanFreeze-rest old pace settled rests some none = record {
   settled = settled;
   same = refl;

@@ -102,5 +102,5 @@ HasRun-over setting pace scripts recorded cursors history report calls live ran 
     })
 
 -- before anything happened a part has all calls of a period
-pub run_of_nothing : (pace : Pace) (recorded : Recorded) → recorded.history ≡ [] → pace.period ≡ next_run pace recorded.setting.layout recorded.history
+pub run_of_nothing : (pace : Pace) (recorded : Recorded) → recorded.history ≡ [] → pace.calls ≡ next_run pace recorded.setting.layout recorded.history
 run_of_nothing pace recorded nothing = ap (next_run pace recorded.setting.layout) (sym nothing)

@@ -64,7 +64,7 @@ pub(crate) fn run_periods<T: Parts>(
     ensures same { OnOk result ((T.recorded parts.new).setting ≡ (T.recorded parts.old).setting) }
     ensures scripts { OnOk result (scripts_of (T.cursors parts.new) ≡ scripts_of (T.cursors parts.old)) }
 {
-    let mut run = pacing.period;
+    let mut run = pacing.calls;
     while !parts.are_all_retired() {
         run = run_period(parts, run, pacing, alloc)?;
     }

@@ -88,7 +88,7 @@ impl<S: Store + Drop> Recorder for Recording<S> {
         if is_forced {
             self.cycle(alloc)?;
         }
-        Ok(pacing.period)
+        Ok(pacing.calls)
     }
 
     fn live(&mut self) -> u32 {

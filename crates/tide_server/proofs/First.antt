@@ -53,10 +53,10 @@ ticket_count-first layout n = count_all (λ place. not (has_left layout (replica
     no_and false = refl
 
 module _ (layout : Layout) (shapes : ShapeLists) (heap hands : TableId) (k : Keeper) (start : View)
-    (started : IsStarted layout shapes start) (some : 0 < k.books.pacing.period)
-    (is : view_of k ≡ opened layout k.books.pacing.period start) where
+    (started : IsStarted layout shapes start) (some : 0 < k.books.pacing.calls)
+    (is : view_of k ≡ opened layout k.books.pacing.calls start) where
   abbrev run : ℕ
-  run = k.books.pacing.period
+  run = k.books.pacing.calls
 
   gone_is : (view_of k).gone ≡ []
   gone_is = ap (λ (v : View). v.gone) is ∙ started.gone

@@ -3,7 +3,6 @@ pub use Rattle.tide_model.specs as tide_model
 pub use Rattle.tide_shape.specs as tide_shape
 pub use Rattle.tide_sched.specs as tide_sched
 pub use Rattle.tide_report.specs as tide_report
-pub use Rattle.tide_text.specs as tide_text
 pub use Rattle.tide_table.specs as tide_table
 pub use Rattle.tide_mutator.specs as tide_mutator
 pub use Rattle.tide_visitor.specs as tide_visitor

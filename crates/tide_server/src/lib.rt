@@ -52,6 +52,5 @@ pub use tide_posts::{Books, GreyList, Heap, HeapShapes, Layout, Note, Pacing, Pa
 pub use tide_report::Report;
 pub use tide_shape::{Paths, ShapeTable, Shapes};
 pub use tide_table::{Closed, Collector, Frozen, NotOpened, Numbers, PeriodsSpent, Start};
-pub use tide_text::Settings;
 pub use tide_visitor::{Drained, Visitor};
 pub use turning::Turn;

@@ -7,7 +7,6 @@ ghost use Rattle.tide_posts.specs.Among.{Among};
 ghost use Rattle.tide_server.specs.Keepers.{IsKeeperOf, KeeperStands};
 ghost use Rattle.tide_server.specs.Opened.{AreHelpers, AreMembers};
 ghost use Rattle.tide_table.specs.Started.{ArePasses, IsStarted};
-ghost use Rattle.tide_text.specs.work.Work.{AreSettings};
 
 use crate::helper::Helper;
 use crate::keeper::Keeper;
@@ -22,7 +21,6 @@ use tide_posts::{
 };
 use tide_shape::ShapeTable;
 use tide_table::Start;
-use tide_text::Settings;
 
 /// A heap that stands, with the right to each of its seats.
 #[derive(Drop)]
@@ -131,13 +129,11 @@ fn seat_helpers<S: HeapShapes>(
 }
 
 /// Opens a heap that has just started, for the life of its host: the first part is open, and its tickets are posted.
-/// Of the settings it takes the numbers of the schedule: the layout is that of the start.
 pub fn open<S: ShapeTable + Drop>(
     alloc: Global,
     start: Start<S>,
-    settings: Settings,
+    pacing: Pacing,
 ) -> Result<Opened<S>, Memory>
-    requires settings { AreSettings settings }
     requires own { start.collector.seat.table_id ≡ start.heap.table.shared.table_id }
     requires started { IsStarted start.heap.key.layout (S.lists start.heap.key.shapes) start.collector.seat.me.0 }
     requires mutators { (vec_len start.mutators ≡ start.heap.key.layout.mutators)
@@ -151,11 +147,9 @@ pub fn open<S: ShapeTable + Drop>(
         start.heap.table.shared.table_id made.standing.hands.shared.table_id made.keeper) }
     ensures posted { IfOk result (λ made. made.keeper.seat.seat.me.0.given ≡ places start.heap.key.layout) }
     ensures opened { IfOk result (λ made. made.keeper.collector.seat.me.0
-        ≡ opened start.heap.key.layout settings.period start.collector.seat.me.0) }
+        ≡ opened start.heap.key.layout pacing.calls start.collector.seat.me.0) }
     ensures books { IfOk result (λ made. AreBooks start.heap.key.layout [] made.keeper.books) }
-    ensures pacing { IfOk result (λ made. (made.keeper.books.pacing.period ≡ settings.period)
-        × (made.keeper.books.pacing.headroom ≡ settings.headroom)
-        × (made.keeper.books.pacing.trigger ≡ settings.trigger)) }
+    ensures pacing { IfOk result (λ made. made.keeper.books.pacing ≡ pacing) }
     ensures members { IfOk result (λ made. (length made.members.items ≡ start.heap.key.layout.mutators)
         × AreMembers start.heap.key.layout start.heap.table.shared.table_id
         made.standing.hands.shared.table_id 0 made.members.items) }
@@ -169,17 +163,12 @@ pub fn open<S: ShapeTable + Drop>(
         mutators,
         visitors,
     } = start;
-    let pacing = Pacing {
-        period: settings.period,
-        headroom: settings.headroom,
-        trigger: settings.trigger,
-    };
     let books = Books::new(alloc, heap.layout(), pacing, 0, 0)?;
     let (standing, mut seat) = stand(alloc, heap)?;
     let members = seat_members(alloc, &standing, &mut seat, mutators)?;
     let helpers = seat_helpers(alloc, &standing, &mut seat, visitors)?;
     let mut keeper = Keeper::new(collector, seat, books);
-    keeper.open_first(&standing, settings.period);
+    keeper.open_first(&standing, pacing.calls);
     Ok(Opened {
         standing,
         keeper,

@@ -389,10 +389,10 @@ module _ (old new : Recorded) (run : ℕ) (ended : Bool) (ran : RanOpenedPart ol
       ∙ last_run-opened old.history (open_count old.history + 1) run
 
 -- each mutator has no more calls in a part than a period has
-pub next_run-most : (pace : Pace) (layout : Layout) (history : List Event) → next_run pace layout history ≤ pace.period
+pub next_run-most : (pace : Pace) (layout : Layout) (history : List Event) → next_run pace layout history ≤ pace.calls
 next_run-most pace layout history = step (marks_after layout history)
   where
-    step : (marks : Bool) → (if marks then call_quota pace (born_since is_begin history) else pace.period) ≤ pace.period
+    step : (marks : Bool) → (if marks then call_quota pace (born_since is_begin history) else pace.calls) ≤ pace.calls
     step true = omega arith
     step false = omega arith
 

@@ -78,7 +78,7 @@ pub(crate) fn run_periods<R: Threads + Sync, T: Turnstile>(
     requires cycles { (recorded_in on.old).cycles ≡ 0 }
     requires parts { (recorded_in on.old).parts ≡ 0 }
     requires room { total_left (recorded_in on.old) (cursors_on on.old) < 2 ^ 32 - 1 }
-    requires opens { MayOpenOn on.old on.old.books.pacing.period }
+    requires opens { MayOpenOn on.old on.old.books.pacing.calls }
     requires logged { log.old ≡ nothing }
     ensures logged { OnOk result (HasLogged (recorded_in on.new).history log.new) }
     ensures ran { OnOk result (RanAll (recorded_in on.new) (pace_on on.old) (cursors_on on.new)) }
@@ -87,7 +87,7 @@ pub(crate) fn run_periods<R: Threads + Sync, T: Turnstile>(
     ensures same { OnOk result (setting_in on.new ≡ setting_in on.old) }
     ensures scripts { OnOk result (scripts_of (cursors_on on.new) ≡ scripts_of (cursors_on on.old)) }
 {
-    let mut run = on.books.pacing.period;
+    let mut run = on.books.pacing.calls;
     while !on.are_all_retired() {
         run = run_period(rt, threads, turnstile, on, log, run)?;
     }
@@ -154,7 +154,7 @@ pub fn run_on_threads<R: Threads + Sync, T: Turnstile>(
     requires cursors { AreCursors (recorded_in on) (cursors_on on) }
     requires few { length (cursors_on on) ≤ 16 }
     requires short { All (λ ops. length ops ≤ 65536) (scripts_of (cursors_on on)) }
-    requires opens { MayOpenOn on on.books.pacing.period }
+    requires opens { MayOpenOn on on.books.pacing.calls }
     ensures ran { IfOk result (λ left. HasRun (setting_in on) (pace_on on) (scripts_of (cursors_on on))
         left.finished.kept.seat.me.0.seen left.finished.report (map (λ own. own.items) left.finished.calls.items)
         left.finished.live) }

@@ -34,7 +34,7 @@ pub fn run_with_snapshot<R: Threads + Sync, T: Turnstile>(
     requires cursors { AreCursors (recorded_in on) (cursors_on on) }
     requires few { length (cursors_on on) ≤ 16 }
     requires short { All (λ ops. length ops ≤ 65536) (scripts_of (cursors_on on)) }
-    requires opens { MayOpenOn on on.books.pacing.period }
+    requires opens { MayOpenOn on on.books.pacing.calls }
     ensures ran { IfOk result (λ left. HasRun (setting_in on) (pace_on on) (scripts_of (cursors_on on))
         left.0.finished.kept.seat.me.0.seen left.0.finished.report
         (map (λ own. own.items) left.0.finished.calls.items) left.0.finished.live) }

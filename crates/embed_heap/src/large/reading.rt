@@ -11,7 +11,8 @@ use tide::{Layout, Op, Pacing, Paths, Refusal, Reply, Shapes, Val};
 
 /// A cycle begins by itself once 4,000 cells were born since the last one ended: three of four are Eden cycles.
 const PACING: Pacing = Pacing {
-    period: 4_000,
+    calls: 4_000,
+    visits: 4_000,
     headroom: 1_000_000,
     trigger: 4_000,
 };

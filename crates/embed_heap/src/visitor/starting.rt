@@ -9,7 +9,8 @@ use tide::{Books, GreyList, Layout, Memory, Mutator, Pacing, Shapes, Start, Visi
 /// A cycle begins once four cells were born, and each freeze makes two cells black at least, of the ten calls and
 /// visits of a period.
 const PACING: Pacing = Pacing {
-    period: 10,
+    calls: 10,
+    visits: 10,
     headroom: 100,
     trigger: 4,
 };

@@ -10,7 +10,7 @@ use std::marker::Sync;
 use std::sync::Wait;
 use std::sync::atomic::{AtomicU64, Ordering};
 use std::thread::Threads;
-use tide::{Beds, Keeper, Layout, Opened, Paths, Report, Settings, Shapes, Start, open};
+use tide::{Beds, Keeper, Layout, Opened, Pacing, Paths, Report, Shapes, Start, open};
 
 /// Opens a heap of 64 cells of two slots, and 64 tables that nobody makes, for four members and two helpers. Its cycles
 /// begin after 32 births.
@@ -20,19 +20,15 @@ fn open_heap(alloc: Global) -> Option<Opened<Shapes>>
         made.members.items made.helpers.items) }
 {
     let layout = Layout::new([1, 0, 0, 0, 1], [0, 0, 0, 0, 0], 4, 2, 0, 4, 2);
-    let settings = Settings {
-        registers: 4,
-        strong: 2,
-        weak: 0,
-        blocks: [1, 0, 0, 0, 1],
-        arrays: [0, 0, 0, 0, 0],
-        period: 16,
+    let pacing = Pacing {
+        calls: 16,
+        visits: 16,
         headroom: 1000,
         trigger: 32,
     };
     let shapes = Shapes::new(alloc, &Paths::new(alloc)).ok()?;
     let start = Start::new(alloc, layout, shapes).ok()?;
-    open(alloc, start, settings).ok()
+    open(alloc, start, pacing).ok()
 }
 
 /// Plays, and closes the heap. Whether each member found each cell that it had made, and each cell was freed by then.

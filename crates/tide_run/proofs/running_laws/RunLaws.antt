@@ -157,23 +157,22 @@ few_of work scripts are =
     let few : length work.scripts ≤ 16 = are.few in omega (arith, count, few)
 
 -- the numbers of a workload's periods
-pace_of-work : (work : Work) (pacing : Pacing) → pacing.period ≡ work.settings.period → pacing.headroom ≡ work.settings.headroom →
-    pace_of pacing ≡ pace_of_work work pacing.trigger
-pace_of-work work pacing period headroom =
-    ap (λ (n : ℕ). record { period = n; headroom = pacing.headroom; trigger = pacing.trigger }) period
-    ∙ ap (λ (n : ℕ). record { period = work.settings.period; headroom = n; trigger = pacing.trigger }) headroom
+pace_of-work : (work : Work) (pacing : Pacing) → pacing.calls ≡ work.settings.period → pacing.visits ≡ work.settings.period →
+    pacing.headroom ≡ work.settings.headroom → pace_of pacing ≡ pace_of_work work pacing.trigger
+pace_of-work work pacing calls visits headroom =
+    λ i. record { calls = calls i; visits = visits i; headroom = headroom i; trigger = pacing.trigger }
 
 -- a run with a workload's numbers of a store of its layout and shapes is one of the workload
 pub HasLeft-ran : (work : Work) (pacing : Pacing) (visitors : ℕ) (ran : Finished Kept) (setting : Setting) (scripts : List (List Op)) →
     HasRun setting (pace_of pacing) scripts (history_of ran.kept) ran.report (map (λ own. own.items) ran.calls.items) ran.live →
-    setting ≡ setting_of_work work visitors → AreScripts work scripts → pacing.period ≡ work.settings.period → pacing.headroom ≡ work.settings.headroom →
-    HasLeft work pacing.trigger visitors ran
-HasLeft-ran work pacing visitors ran setting scripts has_run same are period headroom =
+    setting ≡ setting_of_work work visitors → AreScripts work scripts → pacing.calls ≡ work.settings.period → pacing.visits ≡ work.settings.period →
+    pacing.headroom ≡ work.settings.headroom → HasLeft work pacing.trigger visitors ran
+HasLeft-ran work pacing visitors ran setting scripts has_run same are calls visits headroom =
     let Has : Setting → Pace → List (List Op) → Type 0 =
     λ (s : Setting) (p : Pace) (l : List (List Op)). HasRun s p l (history_of ran.kept) ran.report (map (λ own. own.items) ran.calls.items) ran.live in
     record {
       within = subst (All (All (IsOperation (limits_of work)))) are.are are.within;
       has_run = subst (λ (s : Setting). Has s (pace_of_work work pacing.trigger) work.scripts) same
-          (subst (λ (p : Pace). Has setting p work.scripts) (pace_of-work work pacing period headroom)
+          (subst (λ (p : Pace). Has setting p work.scripts) (pace_of-work work pacing calls visits headroom)
           (subst (λ (l : List (List Op)). Has setting (pace_of pacing) l) are.are has_run));
     }

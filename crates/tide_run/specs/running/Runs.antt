@@ -55,7 +55,12 @@ pub record AreScripts (work : Work) (scripts : List (List Op)) : Type 0 where
 
 -- the numbers of a workload's periods, with this trigger
 abbrev pub pace_of_work : Work → ℕ → Pace
-pace_of_work work trigger = record { period = work.settings.period; headroom = work.settings.headroom; trigger = trigger }
+pace_of_work work trigger = record {
+  calls = work.settings.period;
+  visits = work.settings.period;
+  headroom = work.settings.headroom;
+  trigger = trigger;
+}
 
 -- A run of a workload with this trigger and so many visitors: its history is legal in the layout and with the shapes
 -- that the workload asks for, its keys have the workload's names, and each mutator asked for all that it was to ask

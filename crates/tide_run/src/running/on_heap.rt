@@ -31,7 +31,7 @@ pub(crate) fn heap_for(
     ensures cursors { IfOk result (λ on. AreCursors (recorded_in on) (cursors_on on)) }
     ensures scripts { IfOk result (λ on. AreScripts load.now (scripts_of (cursors_on on))) }
     ensures pacing { IfOk result (λ on. on.books.pacing ≡ pacing) }
-    ensures opens { IfOk result (λ on. MayOpenOn on on.books.pacing.period) }
+    ensures opens { IfOk result (λ on. MayOpenOn on on.books.pacing.calls) }
 {
     let shapes = shapes_from(alloc, load.paths())?;
     let scripts = copied_scripts(alloc, load)?;

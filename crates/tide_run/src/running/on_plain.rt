@@ -36,7 +36,8 @@ fn run_with<T: Recorder + Drop>(
     requires new { IsNew load.now (T.recorded recorder) }
     requires stands { T.stands recorder }
     requires scripts { AreScripts load.now (map (λ ops. ops.items) scripts.items) }
-    requires period { pacing.period ≡ load.now.settings.period }
+    requires calls { pacing.calls ≡ load.now.settings.period }
+    requires visits { pacing.visits ≡ load.now.settings.period }
     requires headroom { pacing.headroom ≡ load.now.settings.headroom }
     requires paces { T.paces pacing }
     ensures run { IfOk result (IsRunOf load.now pacing.trigger 0) }

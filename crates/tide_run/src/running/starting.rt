@@ -101,12 +101,14 @@ pub(crate) fn copied_scripts(alloc: Global, load: &Workload) -> Result<Vec<Vec<O
 /// The numbers of a workload's periods, with this trigger.
 pub(crate) fn pacing_with(settings: Settings, trigger: u32) -> Pacing
     requires settings { AreSettings settings }
-    ensures period { result.period ≡ settings.period }
+    ensures calls { result.calls ≡ settings.period }
+    ensures visits { result.visits ≡ settings.period }
     ensures headroom { result.headroom ≡ settings.headroom }
     ensures trigger { result.trigger ≡ trigger }
 {
     Pacing {
-        period: settings.period,
+        calls: settings.period,
+        visits: settings.period,
         headroom: settings.headroom,
         trigger,
     }

@@ -17,7 +17,7 @@ loop-pacing-init g c = record {
   cycles = omega arith;
   left = omega arith;
   run = run_of_nothing (pace_of c.args.pacing) (g.T.Parts.recorded c.args.parts.now) c.requires.nothing;
-  some = (let least = c.args.pacing.period_least in omega (arith, least));
+  some = (let least = c.args.pacing.calls_least in omega (arith, least));
 }
 
 pub run_period-requires-clause-goes_on : goal.run_period-requires-clause-goes_on

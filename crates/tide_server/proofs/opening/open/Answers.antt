@@ -35,12 +35,12 @@ returns-clause-stands g c = λ many.
     let same = c.in_ok-standing.ensures.heap in
     let nothing = c.new-keeper.ensures.nothing in
     let books = did.books ∙ c.new-keeper.ensures.books in
-    let period : k.books.pacing.period ≡ c.args.settings.period =
-    ap (λ (b : Books). b.pacing.period) books ∙ ap (λ (p : Pacing). p.period) c.in_ok-books.ensures.pacing in
-    let some : 0 < k.books.pacing.period = (let within = c.requires.settings.period in omega (arith, within, period)) in
+    let calls : k.books.pacing.calls ≡ c.args.pacing.calls =
+    ap (λ (b : Books). b.pacing.calls) books ∙ ap (λ (p : Pacing). p.calls) c.in_ok-books.ensures.pacing in
+    let some : 0 < k.books.pacing.calls = (let least = c.args.pacing.calls_least in omega (arith, least, calls)) in
     KeeperStands-first layout (g.S.ShapeTable.lists start.heap.key.shapes) start.heap.table.shared.table_id
     c.in_ok-standing.standing.hands.shared.table_id k start.collector.seat.me.0 c.requires.started some
-    (did.opened ∙ (λ i. opened (same i).key.layout (sym period i) (c.new-keeper.ensures.collector i).seat.me.0)) many
+    (did.opened ∙ (λ i. opened (same i).key.layout (sym calls i) (c.new-keeper.ensures.collector i).seat.me.0)) many
     (subst (AreBooks layout []) (sym books)
     (subst (λ (l : Layout). AreBooks l [] c.in_ok-books.books) c.layout.ensures c.in_ok-books.ensures.are))
     (record {

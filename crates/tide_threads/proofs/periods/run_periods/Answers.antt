@@ -26,7 +26,7 @@ loop-on-init g c = record {
   cycles = (let none = c.requires.cycles in omega (arith, none));
   left = (let none = c.requires.parts in omega (arith, none));
   run = run_of_nothing (pace_on c.args.on.now) (recorded_in c.args.on.now) c.requires.nothing;
-  some = (let least = c.args.on.now.books.pacing.period_least in omega (arith, least));
+  some = (let least = c.args.on.now.books.pacing.calls_least in omega (arith, least));
   opens = c.requires.opens;
   logged = subst (HasLogged (recorded_in c.args.on.now).history) (sym c.requires.logged)
       (subst (λ (h : List Event). HasLogged h nothing) (sym c.requires.nothing) HasLogged-nothing);

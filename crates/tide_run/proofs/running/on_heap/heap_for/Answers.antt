@@ -38,4 +38,4 @@ pub returns-clause-scripts : goal.returns-clause-scripts
 returns-clause-scripts c = subst (AreScripts c.args.load.now) (sym c.in_ok-on.ensures.scripts) c.in_ok-scripts.ensures
 
 pub returns-clause-opens : goal.returns-clause-opens
-returns-clause-opens c = c.in_ok-on.ensures.opens c.in_ok-on.on.books.pacing.period
+returns-clause-opens c = c.in_ok-on.ensures.opens c.in_ok-on.on.books.pacing.calls

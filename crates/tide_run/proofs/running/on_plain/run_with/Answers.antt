@@ -77,7 +77,7 @@ outcome_of-requires-clause-left g c =
           (g.T.Recorder.recorded c.args.recorder).setting (scripts_of parts.parts.cursors.items)
           (subst (λ (r : Recorded). HasRun r.setting (pace_of pacing) (scripts_of parts.parts.cursors.items) ran.kept.items ran.report (map (λ own. own.items) ran.calls.items) ran.live)
           parts.ensures.recorded c.in_ok-ran.ensures)
-          c.requires.new.setting (subst (AreScripts load) (sym parts.ensures.scripts) c.requires.scripts) c.requires.period c.requires.headroom),
+          c.requires.new.setting (subst (AreScripts load) (sym parts.ensures.scripts) c.requires.scripts) c.requires.calls c.requires.visits c.requires.headroom),
     )
 
 pub returns-clause-run : goal.returns-clause-run

@@ -59,7 +59,8 @@ outcome_of-outcome-requires-clause-left g c =
           (subst (λ (p : Pacing). HasRun (setting_in on.on) (pace_of p) (scripts_of (cursors_on on.on)) ran.kept.seat.me.0.seen
           ran.report (map (λ own. own.items) ran.calls.items) ran.live) on.ensures.pacing c.in_ok-left.ensures.ran)
           on.ensures.setting on.ensures.scripts
-          (pacing.ensures.period ∙ ap (λ (s : Settings). s.period) value) (pacing.ensures.headroom ∙ ap (λ (s : Settings). s.headroom) value)),
+          (pacing.ensures.calls ∙ ap (λ (s : Settings). s.period) value) (pacing.ensures.visits ∙ ap (λ (s : Settings). s.period) value)
+          (pacing.ensures.headroom ∙ ap (λ (s : Settings). s.headroom) value)),
     )
 
 pub returns-clause-run : goal.returns-clause-run
