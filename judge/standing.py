@@ -15,8 +15,8 @@ PROGRAM runs each mutator as a member on a thread of its own and each visitor as
 then a member rests in a bed between two calls, for no time, for some turns of others, or for up to 400 microseconds, while the
 keeper begins and stops in its place; and now and then it comes early to a freeze that is wanted. The workloads are drawn for
 the seeds FIRST (0) to FIRST + COUNT (200) - 1, of each four one plain one, one hostile, one growing and one aging one of
-judge_threads.py, with 1 to 6 mutators, 0 to 3 visitors and a period of 4 to 8: an `open` asks for 4 at least. Half of them
-have another number of visits for a pause, 4 to 64. Of five workloads one has no rests and nobody who comes early.
+judge_threads.py, with 1 to 6 mutators, 0 to 3 visitors and a period of 4 to 8: an `open` asks for 4 at least. For about
+half of them the visits of a pause are drawn too, 4 to 64. Of five workloads one has no rests and nobody who comes early.
 
 What is judged is what judge_threads.py says, and besides it what its text tells and that of `riptide` doesn't: in which part
 each call was made, where its member rested or came early, and by which turn each cycle ended. In each part a member has to
