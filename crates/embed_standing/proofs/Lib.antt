@@ -3,3 +3,4 @@ pub mod Answered
 pub mod Calling
 pub mod Rests
 pub mod Seats
+pub mod Shown

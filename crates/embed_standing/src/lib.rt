@@ -1,6 +1,7 @@
 //! Rows of a standing heap: a host whose members, helpers and keeper each have a thread of their own.
 //!
-//! `sleeper` is a host to copy, one member of which sleeps in a bed: docs/EMBED.md leads through it. Of the rows,
+//! `sleeper` is a host to copy, one member of which sleeps in a bed: docs/EMBED.md leads through it. `showing` has a
+//! keeper that shows what members hold, and `threads` and `filling` are a runtime's, over a `Host`. Of the other rows,
 //! `script` says which calls members make, and what those that are pinned are answered; `playing` has what each actor
 //! does in its thread. `polling` has actors that wait in their own way, `lying` members that rest in beds, `early` one
 //! that comes early to freezes, and `resting` one that rests in the keeper's hands and wakes on another thread. `host`
@@ -9,9 +10,12 @@
 //! but memory and threads.
 #![tactic(auto)]
 
+mod filling;
 mod script;
+mod showing;
 mod sleeper;
 mod tally;
+mod threads;
 // these stand on those listed before
 mod polling;
 mod row;

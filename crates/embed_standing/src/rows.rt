@@ -1,10 +1,13 @@
 //! Rows of a standing heap: what its actors are answered, and what its report tells.
 ghost use Rattle.std.specs.Prelude.{◌≤◌};
 
+use crate::filling::full_is_told_behind_a_cycle;
 use crate::host::{Seen, run};
 use crate::row::{Rests, Row};
 use crate::script::Script;
+use crate::showing::what_is_held_is_shown;
 use crate::sleeper::sleeper_finds_its_cell;
+use crate::threads::lists_are_handed_on;
 use std::alloc::Global;
 use std::marker::Sync;
 use std::sync::Wait;
@@ -175,6 +178,9 @@ pub fn check_standing<R: Threads + Wait + Sync>(rt: &R, alloc: Global, name: &st
         "two_first_calls_meet" => two_first_calls_meet(rt, alloc),
         "one_rests_beside_three" => one_rests_beside_three(rt, alloc),
         "one_sleeps_in_a_bed" => sleeper_finds_its_cell(rt, alloc),
+        "what_is_held_is_shown" => what_is_held_is_shown(rt, alloc).ok(),
+        "lists_are_handed_on" => lists_are_handed_on(rt, alloc),
+        "full_is_told_behind_a_cycle" => full_is_told_behind_a_cycle(rt, alloc),
         _ => match long_row(name).or(row_with_rests(name)) {
             Some((row, parts)) => lasts(rt, alloc, &row, parts),
             None => None,

@@ -1,6 +1,14 @@
 -- The definitions that the clauses of the calls cite, each under the name of its room; and what a caller says of a
 -- participant.
+pub mod Asking
+pub mod Counted
+pub mod Hosts
+pub mod Keyed
 pub mod Parts
+pub mod Registers
+pub mod Sizes
+pub mod Stacks
+pub mod Threads
 pub use Rattle.tide_server.specs.tide_model
 pub use Rattle.tide_server.specs.tide_shape
 pub use Rattle.tide_server.specs.tide_sched
@@ -18,5 +26,7 @@ pub use Rattle.tide_weakref.specs as tide_weakref
 pub use Rattle.tide_server.specs.tide_posts
 pub use Rattle.tide_server.specs as tide_server
 pub use Rattle.tide_server.specs.atomic_table
-pub use Rattle.tide_snapshot.specs as tide_snapshot
-pub use Rattle.tide_snapshot.specs.tide_retained
+pub use Rattle.tide_server.specs.tide_snapshot
+pub use Rattle.tide_server.specs.tide_snapshot.tide_retained
+pub use Rattle.tide_server.specs.tide_snapshot.tide_io
+pub use Rattle.tide_server.specs.tide_snapshot.tide_text

@@ -2,6 +2,7 @@
 pub use Rattle.tide_hands.specs as tide_hands
 pub use Rattle.tide_hands.specs.Among
 pub use Rattle.tide_heap.specs as tide_heap
+pub mod FullCycles
 pub mod Name
 pub mod Openings
 pub mod Posts

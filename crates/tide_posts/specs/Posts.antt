@@ -5,15 +5,17 @@ use Rattle.tide_model.specs.Freeze.{marks_after}
 use Rattle.tide_model.specs.Layout.{Layout}
 use Rattle.tide_posts.specs.Name.{Name, who_at}
 use Rattle.tide_posts.specs.Openings.{IsOpening}
+use Rattle.tide_posts.specs.Schedule.{OpensPart}
 use Rattle.tide_posts.specs.Shares.{HasMarked, HasShared}
 use Rattle.tide_posts.specs.declared.handed.HandedIn.{HandedIn}
 use Rattle.tide_heap.specs.declared.steps.notes.Note.{Note}
 use Rattle.tide_heap.specs.declared.steps.notes.Ticket.{Ticket}
 
--- A ticket tells the history as it was when its part was opened, in which each mutator has some calls, and whether a
--- cycle marks.
+-- A ticket tells the history as it was when its part was opened, behind whole periods. In the part each mutator has some
+-- calls; and it tells whether a cycle marks.
 pub record TicketTells (layout : Layout) (u : View) : Type 0 where
   pub opening : IsOpening u.period u.run u.seen
+  pub periods : OpensPart layout u.seen
   pub some : 0 < u.run
   pub marking : u.marks ≡ marks_after layout u.seen
 

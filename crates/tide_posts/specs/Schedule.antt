@@ -14,6 +14,7 @@ use Rattle.tide_model.specs.Layout.{Layout}
 use Rattle.tide_model.specs.Numbers.{any_below}
 use Rattle.tide_model.specs.Pace.{Pace}
 use Rattle.tide_model.specs.Periods.{EndsInTime, Period, after_part, after_period, is_forced, is_over, next_run, opened}
+use Rattle.tide_model.specs.Prefix.{IsPrefix}
 use Rattle.tide_model.specs.Refused.{ShapeLists}
 use Rattle.tide_model.specs.Script.{calls_of, retry_of}
 use Rattle.tide_model.specs.Share.{HasCallLeft, has_ended}
@@ -54,6 +55,23 @@ pub data ArePeriodsWhere (pace : Pace) (layout : Layout) : List (List Bool) → 
   one_more : (stops : List (List Bool)) (early : List Bool) (before : List Event) (period : Period) →
       ArePeriodsWhere pace layout stops before → StandsPeriodWhere pace layout early before period →
       ArePeriodsWhere pace layout (stops ++ early ∷ []) (after_period pace layout before period)
+
+-- the history is whole periods of some pace, and ends with the opening of one part more
+pub record OpensPart (layout : Layout) (told : List Event) : Type 0 where
+  pub pace : Pace
+  pub stops : List (List Bool)
+  pub before : List Event
+  pub periods : ArePeriodsWhere pace layout stops before
+  pub is : told ≡ opened pace layout before
+
+-- behind the one history, in the other, whole periods of some pace end, and one part more is opened
+pub record OpensLater (layout : Layout) (old new : List Event) : Type 0 where
+  pub pace : Pace
+  pub stops : List (List Bool)
+  pub before : List Event
+  pub periods : ArePeriodsWhere pace layout stops before
+  pub had : IsPrefix old before
+  pub opens : IsPrefix (opened pace layout before) new
 
 -- the history is lawful, and periods until no mutator is active, and its cycles end in time
 pub record IsLegalWhere (pace : Pace) (layout : Layout) (shapes : ShapeLists) (stops : List (List Bool))

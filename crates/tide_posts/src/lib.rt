@@ -9,6 +9,7 @@
 #![tactic(auto)]
 
 mod handed;
+pub mod laws;
 mod name;
 // these stand on those listed before
 mod facts;

@@ -27,7 +27,7 @@ use Rattle.tide_posts.proofs.tide_heap.tide_freeze.BookLaws.{AddsEnds-same, Adds
 use Rattle.tide_posts.proofs.tide_heap.tide_freeze.QuietLaws.{HasFrozenWhole-quiet, kept_by_quiet}
 use Rattle.tide_posts.specs.Name.{places}
 use Rattle.tide_posts.specs.Posts.{TicketTells}
-use Rattle.tide_posts.specs.Schedule.{ArePeriodsWhere, IsLegalWhere, have_stops}
+use Rattle.tide_posts.specs.Schedule.{ArePeriodsWhere, IsLegalWhere, OpensPart, have_stops}
 use Rattle.tide_posts.specs.Among.{Among, times}
 use Rattle.tide_posts.specs.tide_heap.Parties.{In}
 use Rattle.tide_posts.specs.tide_heap.Turns.{Freezes, open_entry, opened}
@@ -49,7 +49,6 @@ use Rattle.tide_server.specs.declared.keeper.Keeper.{Keeper}
 use Rattle.tide_table.proofs.Nexts.{AddsEnds-next, HasOpenedNext-by}
 use Rattle.tide_table.proofs.Standing.{marks_still, no_ends, no_opens}
 use Rattle.tide_table.proofs.VisitsTold.{HasTold, HasTold-nothing}
-use Rattle.tide_table.specs.declared.collector.Collector.{Collector}
 use Rattle.tide_table.specs.Standing.{HasOpenedNext, RunsWith, StandsStill}
 
 -- an opening begins no cycle and ends none
@@ -60,8 +59,8 @@ marks_after-opened layout run v =
 
 -- the part that was opened has its number, its run, and whether a cycle marks
 pub TicketTells-opened : (layout : Layout) (shapes : ShapeLists) (v : View) (run : ℕ) → StandsStill layout shapes v →
-    0 < run → TicketTells layout (opened layout run v)
-TicketTells-opened layout shapes v run still some = record {
+    0 < run → OpensPart layout (opened layout run v).seen → TicketTells layout (opened layout run v)
+TicketTells-opened layout shapes v run still some periods = record {
   opening = record {
     before = v.seen;
     is = refl;
@@ -70,6 +69,7 @@ TicketTells-opened layout shapes v run still some = record {
         let number = still.period in
         omega (arith, counted, number);
   };
+  periods = periods;
   some = some;
   marking = sym (marks_still layout shapes v still) ∙ sym (marks_after-opened layout run v);
 }
@@ -219,6 +219,16 @@ module _ (layout : Layout) (shapes : ShapeLists) (heap hands : TableId) (k : Kee
     ends = did.collected.still.ends;
   }
 
+  -- behind which the next part is opened
+  pub OpensPart-frozen : MakesPeriod layout shapes k k.stopped w.seen → OpensPart layout (opened layout run w).seen
+  OpensPart-frozen makes = record {
+    pace = pace;
+    stops = makes.stops;
+    before = w.seen;
+    periods = makes.periods;
+    is = λ i. w.seen ++ plain (Open (did.collected.still.period i + 1) (did.collected.next i)) ∷ [];
+  }
+
   -- no cycle ends in a running part
   ends_is : ends_in layout u.seen ≡ ends_in layout v.start
   ends_is = ap (ends_in layout) seen_is ∙ ends_in-part layout v.start froze.part (no_ends froze.part froze.of_part)
@@ -228,16 +238,17 @@ module _ (layout : Layout) (shapes : ShapeLists) (heap hands : TableId) (k : Kee
       (AddsEnds-same layout v.start u.seen report report ends_is refl refl) did.told
 
   -- where all have left the history is finished
-  pub HasFinished-frozen : (final : Keeper) → final.collector ≡ new.collector → final.books.pacing ≡ k.books.pacing →
-      final.stopped ≡ k.stopped → new.collector.seat.table_id ≡ heap → MakesPeriod layout shapes k k.stopped w.seen →
+  pub HasFinished-frozen : (final : Keeper) → view_of final ≡ w → final.books.pacing ≡ k.books.pacing →
+      final.stopped ≡ k.stopped → final.collector.seat.table_id ≡ heap → MakesPeriod layout shapes k k.stopped w.seen →
       any_below (λ who. not (get_or k.left who false)) layout.mutators ≡ false → HasPostedEnds layout k final →
       HasFinished layout shapes heap k final report longer
   HasFinished-frozen final same pacing stopped table makes over posted = record {
     grows = subst (IsPrefix v.start) (sym seen_now) begun_is;
+    parts = ap open_count seen_now ∙ sym did.collected.still.period ∙ period_is;
     finished = record {
-      table = ap (λ (c : Collector). c.seat.table_id) same ∙ table;
-      frozen = ap (λ (c : Collector). c.seat.me.0.frozen) same ∙ did.collected.still.frozen;
-      gone = λ i below. subst (In i) (sym (ap (λ (c : Collector). c.seat.me.0.gone) same ∙ gone_is))
+      table = table;
+      frozen = ap (λ (x : View). x.frozen) same ∙ did.collected.still.frozen;
+      gone = λ i below. subst (In i) (sym (ap (λ (x : View). x.gone) same ∙ gone_is))
           ((stands.left.known i below).0 (left_all i below));
       stops = makes.stops;
       legal = subst (λ (p : Pacing). IsLegalWhere (pace_of p) layout shapes makes.stops (view_of final).seen) (sym pacing)
@@ -254,7 +265,7 @@ module _ (layout : Layout) (shapes : ShapeLists) (heap hands : TableId) (k : Kee
   }
     where
       seen_now : (view_of final).seen ≡ w.seen
-      seen_now = ap (λ (c : Collector). c.seat.me.0.seen) same
+      seen_now = ap (λ (x : View). x.seen) same
 
       left_all : (i : ℕ) → i < layout.mutators → get_or k.left i false ≡ true
       left_all i below = of_not (get_or k.left i false)
@@ -293,7 +304,7 @@ module _ (layout : Layout) (shapes : ShapeLists) (heap hands : TableId) (k : Kee
         (record new.books { report = longer }) v u w x stands.runs froze did.collected
         (record { are = record { births = did.are.births; room = did.are.room }; pacing = refl; told = did.told }) is_opened later
 
-    start_is : x.start ≡ opened_history pace layout w.seen
+    pub start_is : x.start ≡ opened_history pace layout w.seen
     start_is = ap (λ (y : View). y.start) is_opened
         ∙ (λ i. w.seen ++ plain (Open (did.collected.still.period i + 1) (did.collected.next i)) ∷ [])
 

@@ -2,6 +2,7 @@
 pub use Rattle.tide_model.proofs as tide_model
 pub use Rattle.tide_table.proofs as tide_table
 pub use Rattle.tide_posts.proofs.tide_heap
+pub use Rattle.tide_posts.proofs.FullCycles
 pub use Rattle.tide_posts.proofs.Openings
 pub mod Lists
 pub mod Notes
@@ -14,3 +15,4 @@ pub mod Handing
 pub mod Ending
 pub mod Freezes
 pub mod First
+pub mod GoneOn

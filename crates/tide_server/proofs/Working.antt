@@ -1,15 +1,19 @@
 -- A member's part by its view: it begins, makes its calls, and stops.
 use Rattle.std.proofs.Common.{ℕ, ◌≡◌, ◌+◌, ◌≤◌, ◌<◌, refl, sym, ◌∙◌, ap, subst, arith, Bool, true, false, List, [], ◌∷◌, ◌++◌, inl, inr}
 use Rattle.std.proofs.lemmas.Bool.{cases_Bool}
-use Rattle.std.specs.Prelude.{MatchBool}
+use Rattle.std.specs.Prelude.{MatchBool, ◌&&◌, ◌||◌, not}
 use Rattle.tide_model.proofs.OwnCalls.{called}
+use Rattle.tide_model.proofs.PeriodLaws.{open_count-prefix}
+use Rattle.tide_model.proofs.Prefixes.{prefix_before, prefix_of_prefix}
 use Rattle.tide_model.specs.Caller.{IsOwn, MakesCall}
 use Rattle.tide_model.specs.Layout.{Layout}
-use Rattle.tide_model.specs.Periods.{open_count}
-use Rattle.tide_model.specs.Prefix.{IsPrefix, prefix_trans}
+use Rattle.tide_model.specs.History.{plain}
+use Rattle.tide_model.specs.Periods.{next_run, open_count}
+use Rattle.tide_model.specs.Prefix.{IsPrefix, prefix_refl, prefix_trans}
 use Rattle.tide_model.specs.Refused.{ShapeLists}
 use Rattle.tide_model.specs.Script.{retry_of}
 use Rattle.tide_model.specs.Share.{ends_share}
+use Rattle.tide_model.specs.declared.entry.Entry.TheVariants.{Open}
 use Rattle.tide_model.specs.declared.entry.Event.{Event}
 use Rattle.tide_model.specs.declared.op.Op.{Op}
 use Rattle.tide_model.specs.declared.op.Reply.{Reply}
@@ -17,6 +21,7 @@ use Rattle.tide_mutator.specs.owed.Calling.{Kept, kept}
 use Rattle.tide_posts.proofs.Sharing.{IsSharing-more, IsSharing-nothing, seen_of_ticket}
 use Rattle.tide_posts.proofs.tide_heap.Newcomers.{begun_view-first}
 use Rattle.tide_posts.specs.Posts.{TicketTells}
+use Rattle.tide_posts.specs.Schedule.{OpensLater, OpensPart}
 use Rattle.tide_posts.specs.Shares.{IsSharing}
 use Rattle.tide_posts.specs.tide_heap.Parties.{longer}
 use Rattle.tide_posts.specs.tide_heap.Turns.{heard_view}
@@ -25,7 +30,8 @@ use Rattle.tide_posts.specs.tide_heap.tide_core.machine.kinds.Activate.{begun_vi
 use Rattle.tide_posts.specs.tide_heap.tide_core.machine.kinds.Split.{split_view}
 use Rattle.tide_posts.specs.tide_heap.tide_core.machine.kinds.StoreStopped.{stopped_view}
 use Rattle.tide_server.specs.AtWork.{IsAtWork, IsParked}
-use Rattle.tide_server.specs.Members.{Retries}
+use Rattle.tide_server.specs.Members.{Retries, begins_next, is_over}
+use Rattle.tide_server.specs.declared.member.Member.{Member}
 
 module _ (works : Bool) (v : View) (left : ℕ) (ended : Bool)
     (stands : MatchBool works (IsAtWork v left ended) (IsParked v)) where
@@ -64,6 +70,50 @@ IsAtWork-begun layout v t w is parked later tells few told own =
       born = omega arith;
       visits = refl;
     }
+
+-- a later part is opened then
+pub opens_later : (layout : Layout) (v t : View) (seen : List Event) → IsParked v → v.period < t.period →
+    TicketTells layout t → IsPrefix v.seen seen → IsPrefix t.seen seen → OpensLater layout v.seen seen
+opens_later layout v t seen parked later tells had told = record {
+  pace = whole.pace;
+  stops = whole.stops;
+  before = whole.before;
+  periods = whole.periods;
+  had = elim (prefix_of_prefix v.seen t.seen seen had told) [
+    | inl shorter ↦ elim (prefix_before v.seen whole.before opening (subst (IsPrefix v.seen) whole.is shorter)) [
+      | inl less ↦ less
+      | inr same ↦ absurd (not_before (subst (IsPrefix t.seen) (whole.is ∙ sym same) (prefix_refl t.seen)))
+    ]
+    | inr longer ↦ absurd (not_before longer)
+  ];
+  opens = subst (λ (l : List Event). IsPrefix l seen) whole.is told;
+}
+  where
+    whole : OpensPart layout t.seen
+    whole = tells.periods
+
+    opening : Event
+    opening = plain (Open (open_count whole.before + 1) (next_run whole.pace layout whole.before))
+
+    not_before : IsPrefix t.seen v.seen → ⊥
+    not_before longer =
+        let more = open_count-prefix t.seen v.seen longer in
+        let few = parked.opens in
+        let count = tells.opening.count in
+        omega (arith, more, few, count, later)
+
+or_true : (b : Bool) → (b || true) ≡ true
+or_true true = refl
+or_true false = refl
+
+-- a share is over where the last call ended it
+pub over_where_ended : (works none ended : Bool) → works ≡ true → ended ≡ true → (works && (none || ended)) ≡ true
+over_where_ended works none ended working over =
+    ap (λ (b : Bool). b && (none || ended)) working ∙ ap (λ (b : Bool). none || b) over ∙ or_true none
+
+-- whose share is over begins the next part before its next call
+pub begins_where_over : (m : Member) → is_over m ≡ true → begins_next m ≡ true
+begins_where_over m over = ap (λ (b : Bool). not m.works || b) over ∙ or_true (not m.works)
 
 -- it makes one more call
 pub IsAtWork-called : (layout : Layout) (shapes : ShapeLists) (v w : View) (left now : ℕ) (op : Op) (reply : Reply) →

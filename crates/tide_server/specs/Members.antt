@@ -1,11 +1,14 @@
 -- A member of a standing heap: a mutator between two of its calls.
-use Rattle.std.specs.Prelude.{ℕ, ◌≡◌, ◌<◌, ◌==◌, ◌&&◌, ◌||◌, ◌⊎◌, Bool, true, false, List, MatchBool, Option, Some, not}
+use Rattle.std.specs.Prelude.{ℕ, ◌≡◌, ◌<◌, ◌==◌, ◌&&◌, ◌||◌, ◌⊎◌, Bool, true, false, List, MatchBool, Option, Some, is_some, not}
 use Rattle.atomic_table.specs.Seated.{TableId}
 use Rattle.tide_posts.specs.tide_heap.tide_core.declared.machine.view.View.{View}
 use Rattle.tide_model.specs.Layout.{Layout}
+use Rattle.tide_model.specs.Periods.{open_count}
 use Rattle.tide_model.specs.Script.{retry_of}
+use Rattle.tide_model.specs.Share.{is_asked}
 use Rattle.tide_model.specs.declared.entry.Event.{Event}
 use Rattle.tide_model.specs.declared.op.Op.{Op}
+use Rattle.tide_model.specs.declared.op.Reply.{Reply}
 use Rattle.tide_mutator.specs.calls.Viewed.{table_of, view_of}
 use Rattle.tide_mutator.specs.owed.Standing.{claims_of}
 use Rattle.tide_server.specs.AtWork.{IsAtWork, IsParked}
@@ -35,6 +38,15 @@ is_over m = m.works && ((m.left == 0) || m.ended)
 -- it begins a part before its next call: it is in the midst of none, or its share of that is over
 abbrev pub begins_next : Member → Bool
 begins_next m = not m.works || is_over m
+
+-- the number of the last part that it has seen opened: after a call, of the part in which that call stands
+abbrev pub last_part : Member → ℕ
+last_part m = open_count (view_of m.mutator).seen
+
+-- where its last call, which got this reply, asked for a cycle or is to be tried again, its share of its part is over
+abbrev pub StopsAfter : Reply → Member → Type 0
+StopsAfter reply m =
+    (is_asked reply || is_some (retry_of (view_of m.mutator).who (view_of m.mutator).mine)) ≡ true → is_over m ≡ true
 
 -- of a member what no beginning and no stop of a part changes
 pub record Calling : Type 0 where

@@ -1,23 +1,23 @@
 -- What a turn of a standing heap's keeper makes of the history, and what it answers.
-use Rattle.std.specs.Prelude.{ℕ, ◌≡◌, ◌↔◌, ◌+◌, ◌-◌, ◌<◌, ◌≤◌, ◌^◌, true, false, Bool, List}
+use Rattle.std.specs.Prelude.{ℕ, ◌≡◌, ◌↔◌, ◌+◌, ◌-◌, ◌<◌, ◌≤◌, ◌^◌, true, false, Bool, List, if◌then◌else◌, replicate}
 use Rattle.atomic_table.specs.Seated.{TableId}
 use Rattle.tide_model.specs.Each.{Each}
 use Rattle.tide_model.specs.Lawful.{IsLawful}
 use Rattle.tide_model.specs.Layout.{Layout}
-use Rattle.tide_model.specs.Periods.{EndsInTime, is_over, opened}
+use Rattle.tide_model.specs.Periods.{EndsInTime, is_over, open_count, opened}
 use Rattle.tide_model.specs.Prefix.{IsPrefix}
 use Rattle.tide_model.specs.Refused.{ShapeLists}
 use Rattle.tide_model.specs.declared.entry.Event.{Event}
-use Rattle.tide_posts.specs.Among.{Among}
+use Rattle.tide_posts.specs.Among.{Among, times}
 use Rattle.tide_posts.specs.Name.{places}
 use Rattle.tide_posts.specs.Schedule.{ArePeriodsWhere, IsLegalWhere, have_stops}
 use Rattle.tide_posts.specs.tide_heap.Parties.{In}
 use Rattle.tide_posts.specs.tide_heap.tide_freeze.Books.{AddsEnds, AreBooks}
-use Rattle.tide_posts.specs.tide_heap.Turns.{Freezes}
+use Rattle.tide_posts.specs.tide_heap.Turns.{Freezes, opened as opened_view}
 use Rattle.tide_posts.specs.tide_heap.tide_core.declared.machine.view.View.{View}
 use Rattle.tide_report.specs.Reports.{Reported}
 use Rattle.tide_sched.specs.Paces.{pace_of}
-use Rattle.tide_server.specs.Keepers.{KeeperStands, ticket_count, view_of}
+use Rattle.tide_server.specs.Keepers.{HasNoEnd, KeeperStands, has_left, ticket_count, view_of}
 use Rattle.tide_server.specs.declared.keeper.Keeper.{Keeper}
 use Rattle.tide_server.specs.declared.turning.Turn.{Turn}
 use Rattle.tide_server.specs.declared.turning.Turn.TheVariants.{Opened, Over, Spent}
@@ -75,10 +75,11 @@ pub record HasPostedEnds (layout : Layout) (old new : Keeper) : Type 0 where
   pub over : 0 < layout.visitors → new.seat.seat.me.0.over ≡ true
   pub posted : new.seat.seat.me.0.given ≡ old.seat.seat.me.0.given + layout.visitors
 
--- no mutator is active any more, and the history is finished
+-- no mutator is active any more, and the history is finished with the part that was open
 pub record HasFinished (layout : Layout) (shapes : ShapeLists) (heap : TableId) (old new : Keeper)
     (report longer : Reported) : Type 0 where
   pub grows : IsPrefix (view_of old).start (view_of new).seen
+  pub parts : open_count (view_of new).seen ≡ (view_of old).period
   pub finished : IsFinished layout shapes heap new
   pub posted : HasPostedEnds layout old new
   pub told : AddsEnds layout (view_of old).start (view_of new).seen report longer
@@ -106,3 +107,30 @@ pub record IsWaiting (layout : Layout) (heap hands : TableId) (old new : Keeper)
   pub period : (view_of new).period ≡ (view_of old).period
   pub pacing : new.books.pacing ≡ old.books.pacing
   pub posted : new.seat.seat.me.0.given ≡ old.seat.seat.me.0.given
+
+-- The next part of a frozen heap was opened, in which each mutator has so many calls: no note of it is in, and a ticket
+-- was posted at each place whose participant hasn't left.
+pub record HasOpenedNextPart (layout : Layout) (run : ℕ) (old new : Keeper) : Type 0 where
+  pub opened : view_of new ≡ opened_view layout run (view_of old)
+  pub later : (view_of old).period + 1 < 2 ^ 32
+  pub none : (new.next ≡ 0) × (new.ended ≡ false) × (new.early ≡ replicate 16 false)
+  pub same : (new.left ≡ old.left) × (new.stopped ≡ old.stopped)
+  pub posted : new.seat.seat.me.0.given ≡ old.seat.seat.me.0.given + ticket_count layout old.left
+  pub tickets : (place : ℕ) → place < places layout → times place new.seat.seat.me.0.tickets
+      ≡ times place old.seat.seat.me.0.tickets + (if has_left layout old.left place then 0 else 1)
+  pub notes : new.seat.seat.me.0.notes ≡ old.seat.seat.me.0.notes
+  pub due : (place : ℕ) → has_left layout old.left place ≡ true → Among place new.seat.seat.me.0.free
+  pub no_end : HasNoEnd new
+
+-- no next part was opened, and the ends were posted
+pub record HasClosedParts (layout : Layout) (old new : Keeper) : Type 0 where
+  pub view : view_of new ≡ view_of old
+  pub stopped : new.stopped ≡ old.stopped
+  pub posted : HasPostedEnds layout old new
+
+-- how the keeper of a frozen heap went on, by whether some mutator is active
+abbrev pub HasGoneOn : Layout → ℕ → Bool → Keeper → Keeper → Turn → Type 0
+HasGoneOn layout run goes_on old new Opened = (goes_on ≡ true) × HasOpenedNextPart layout run old new
+HasGoneOn layout run goes_on old new Over = (goes_on ≡ false) × HasClosedParts layout old new
+HasGoneOn layout run goes_on old new Spent =
+    (goes_on ≡ true) × ((view_of old).period ≡ 2 ^ 32 - 1) × HasClosedParts layout old new

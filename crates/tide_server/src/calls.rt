@@ -1,6 +1,6 @@
 //! The calls of a member that wait: each first begins the member's next part, where the member is in the midst of none,
 //! or its share of that is over.
-ghost use Rattle.std.specs.Prelude.{◌≡◌, ◌≢◌, ◌+◌, [], false, true, IfOk, IsOk, None, if◌then◌else◌};
+ghost use Rattle.std.specs.Prelude.{◌≡◌, ◌≢◌, ◌+◌, ◌<◌, [], false, true, IfOk, IsOk, None, if◌then◌else◌};
 ghost use Rattle.tide_model.specs.Caller.{MakesCall};
 ghost use Rattle.tide_model.specs.Lawful.{FitsLayout};
 ghost use Rattle.tide_model.specs.Prefix.{IsPrefix};
@@ -10,7 +10,8 @@ ghost use Rattle.tide_model.specs.declared.op.Reply.TheVariants.{Done as IsDone}
 ghost use Rattle.tide_mutator.specs.calls.Called.{is_of_claims};
 ghost use Rattle.tide_mutator.specs.calls.Viewed.{view_of};
 ghost use Rattle.tide_mutator.specs.owed.Standing.{claims_of};
-ghost use Rattle.tide_server.specs.Members.{IsMemberOf, MayMake, Retries, begins_next, is_over, caller_of};
+ghost use Rattle.tide_posts.specs.Schedule.{OpensLater};
+ghost use Rattle.tide_server.specs.Members.{IsMemberOf, MayMake, Retries, StopsAfter, begins_next, caller_of, is_over, last_part};
 
 use crate::member::Member;
 use crate::parts::Offered;
@@ -32,6 +33,8 @@ impl Member {
         ensures works { (self.new.works ≡ true) × MayMake self.new }
         ensures same { caller_of self.new ≡ caller_of self.old }
         ensures seen { IsPrefix (view_of self.old.mutator).seen (view_of self.new.mutator).seen }
+        ensures later { OpensLater standing.now.heap.key.layout (view_of self.old.mutator).seen
+            (view_of self.new.mutator).seen }
         ensures given { self.new.seat.seat.me.0.given ≡ self.old.seat.seat.me.0.given }
         ensures took { self.new.seat.seat.me.0.taken ≡ self.old.seat.seat.me.0.taken + 1 }
     {
@@ -57,6 +60,8 @@ impl Member {
         ensures works { (self.new.works ≡ true) × MayMake self.new }
         ensures same { caller_of self.new ≡ caller_of self.old }
         ensures seen { IsPrefix (view_of self.old.mutator).seen (view_of self.new.mutator).seen }
+        ensures later { begins_next self.old ≡ true → OpensLater standing.now.heap.key.layout (view_of self.old.mutator).seen
+            (view_of self.new.mutator).seen }
         ensures posted { self.new.seat.seat.me.0.given
             ≡ self.old.seat.seat.me.0.given + (if is_over self.old then 1 else 0) }
         ensures took { self.new.seat.seat.me.0.taken
@@ -94,6 +99,10 @@ impl Member {
             (S.lists standing.now.heap.key.shapes) (view_of self.old.mutator).who op reply
             (view_of self.old.mutator).seen (view_of self.new.mutator).seen
             (view_of self.old.mutator).mine (view_of self.new.mutator).mine) }
+        ensures later { begins_next self.old ≡ true → last_part self.old < last_part self.new }
+        ensures periods { begins_next self.old ≡ true → OpensLater standing.now.heap.key.layout (view_of self.old.mutator).seen
+            (view_of self.new.mutator).seen }
+        ensures over { IfOk result (λ reply. StopsAfter reply self.new) }
         ensures stays { (view_of self.new.mutator).left ≡ false }
         ensures claims { is_of_claims op ≡ false →
             claims_of (view_of self.new.mutator) ≡ claims_of (view_of self.old.mutator) }

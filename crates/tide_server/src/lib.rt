@@ -5,7 +5,7 @@
 //! visitor, and the `Keeper`. A member makes its calls: where its share of a part is over, its next call first hands its
 //! note in and waits for the next ticket. A helper takes part in one part a call. `call`, `leave`, `work` and `turn` are loops over
 //! what waits for nobody: `Member::offer`, `make`, `hand_in` and `retire`, `Helper::try_work` and `Keeper::try_turn`.
-//! `open`, `offer`, `make`, `break_off`, `retire`, `try_work` and `turn_with_room` wake nobody either: behind one of them
+//! `open`, `offer`, `make`, `break_off`, `retire`, `try_work`, `turn_with_room` and `turn_and_snapshot` wake nobody either: behind one of them
 //! `rouse` follows, where somebody may wait for what it posted.
 //!
 //! A member whose thread is to wait for something else, or to end, rests: it is a `Resting` then, in whose place
@@ -32,11 +32,14 @@ mod coming;
 mod attending;
 mod calls;
 mod finishing;
+mod freezing;
 mod opening;
 mod taking;
 // these stand on those listed before
 mod beds;
 mod turning;
+// these stand on those listed before
+mod looking;
 
 pub use beds::{Beds, Woken};
 pub use helper::{Helper, Worked};
@@ -51,6 +54,10 @@ pub use tide_mutator::Mutator;
 pub use tide_posts::{Books, GreyList, Heap, HeapShapes, Layout, Note, Pacing, Pass, Ticket, fits};
 pub use tide_report::Report;
 pub use tide_shape::{Paths, ShapeTable, Shapes};
+pub use tide_snapshot::{
+    Failed, Keys, MAX_KEY_BYTES, MAX_KEYS, MemSink, RealSink, Sink, Snapshot, is_key,
+    take as take_snapshot,
+};
 pub use tide_table::{Closed, Collector, Frozen, NotOpened, Numbers, PeriodsSpent, Start};
 pub use tide_visitor::{Drained, Visitor};
 pub use turning::Turn;

@@ -12,10 +12,11 @@ ghost use Rattle.tide_mutator.specs.calls.Called.{is_of_claims};
 ghost use Rattle.tide_mutator.specs.calls.Viewed.{table_of, view_of};
 ghost use Rattle.tide_mutator.specs.owed.Standing.{claims_of};
 ghost use Rattle.tide_posts.specs.Posts.{IsTicketFor};
+ghost use Rattle.tide_posts.specs.Schedule.{OpensLater};
 ghost use Rattle.tide_posts.specs.Shares.{HasShared};
 ghost use Rattle.tide_posts.specs.tide_heap.tide_core.machine.kinds.Split.{split_view};
 ghost use Rattle.tide_posts.specs.tide_heap.tide_core.machine.kinds.StoreStopped.{stopped_view};
-ghost use Rattle.tide_server.specs.Members.{IsMemberOf, MayEnd, MayMake, Retries, caller_of, is_over};
+ghost use Rattle.tide_server.specs.Members.{IsMemberOf, MayEnd, MayMake, Retries, StopsAfter, caller_of, is_over};
 ghost use Rattle.tide_server.specs.declared.parts.Offered.TheVariants as offered;
 
 use crate::member::Member;
@@ -129,6 +130,8 @@ impl Member {
         ensures begun { (self.new.works ≡ true) × MayMake self.new }
         ensures same { caller_of self.new ≡ caller_of self.old }
         ensures seen { IsPrefix (view_of self.old.mutator).seen (view_of self.new.mutator).seen }
+        ensures later { OpensLater standing.now.heap.key.layout (view_of self.old.mutator).seen
+            (view_of self.new.mutator).seen }
         ensures seat { self.new.seat ≡ self.old.seat }
     {
         self.left = ticket.run();
@@ -150,6 +153,8 @@ impl Member {
         ensures given { self.new.seat.seat.me.0.given ≡ self.old.seat.seat.me.0.given }
         ensures begun { result ≡ offered.Begun → (self.new.works ≡ true) × MayMake self.new
             × (self.new.seat.seat.me.0.taken ≡ self.old.seat.seat.me.0.taken + 1) }
+        ensures later { result ≡ offered.Begun → OpensLater standing.now.heap.key.layout (view_of self.old.mutator).seen
+            (view_of self.new.mutator).seen }
         ensures not_yet { result ≢ offered.Begun → (self.new.works ≡ false) × (self.new.mutator ≡ self.old.mutator)
             × (self.new.seat.seat.me.0.taken ≡ self.old.seat.seat.me.0.taken) }
         ensures over { result ≡ offered.Over → self.new.seat.seat.me.0.over ≡ true }
@@ -230,6 +235,7 @@ impl Member {
             (view_of self.old.mutator).who op result (view_of self.old.mutator).seen (view_of self.new.mutator).seen
             (view_of self.old.mutator).mine (view_of self.new.mutator).mine }
         ensures works { self.new.works ≡ true }
+        ensures over { StopsAfter result self.new }
         ensures stays { (view_of self.new.mutator).left ≡ false }
         ensures claims { is_of_claims op ≡ false →
             claims_of (view_of self.new.mutator) ≡ claims_of (view_of self.old.mutator) }

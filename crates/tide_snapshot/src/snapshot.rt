@@ -13,6 +13,7 @@ ghost use Rattle.tide_retained.specs.Contents.{is_kept, HasKeysOf};
 ghost use Rattle.tide_retained.specs.Holding.{HasShapes, IsSnapshotOf};
 ghost use Rattle.tide_retained.specs.Path.{IsDistanceOf};
 ghost use Rattle.tide_snapshot.specs.Line.{AreLinesIn, IsLineIn};
+ghost use Rattle.tide_snapshot.specs.Written.{HasNamedKeys};
 
 use crate::writing::{names_of, write_all_lines, write_cell_line};
 use std::alloc::Global;
@@ -21,7 +22,7 @@ use tide_io::{Failed, Sink};
 use tide_model::Memory;
 use tide_retained::Retained;
 use tide_shape::ShapeTable;
-use tide_text::Workload;
+use tide_text::{Keys, Workload};
 use tide_words::{Layout, Words};
 
 /// What a heap held at one moment, and a shortest path to each cell that was retained.
@@ -114,5 +115,18 @@ impl Snapshot {
         ensures cause { HasCause (K.faults out.old) (K.faults out.new) result }
     {
         write_all_lines(out, names_of(load), &self.retained)
+    }
+
+    /// Writes the lines of all cells that were live, in rising order, with names of a caller's own: each key that a cell
+    /// has is named. It takes no memory.
+    pub fn write_lines_named<K: Sink>(&self, out: &mut K, names: &Keys) -> Result<(), Failed>
+        requires named { HasNamedKeys (length names.now) self.now }
+        ensures whole { OnOk result ((text : List ℕ) × AreLinesIn self.now names.now text
+            × Appends (K.held out.old) (K.held out.new) text) }
+        ensures part { OnErr result ((text : List ℕ) × AreLinesIn self.now names.now text
+            × AppendsPart (K.held out.old) (K.held out.new) text) }
+        ensures cause { HasCause (K.faults out.old) (K.faults out.new) result }
+    {
+        write_all_lines(out, names, &self.retained)
     }
 }

@@ -34,6 +34,7 @@ post_ticket-requires-clause-ticket g c =
       part = omega (arith, next, were, none, period);
       tells = subst (TicketTells layout) (sym told.1) record {
         opening = tells.opening;
+        periods = tells.periods;
         some = tells.some;
         marking = tells.marking;
       };

@@ -38,7 +38,7 @@ hand_out-requires-clause-tells g c =
     let key = c.args.standing.now.heap.key in
     subst (TicketTells key.layout) (sym c.in-Ok.ensures.opened)
     (TicketTells-opened key.layout (g.S.HeapShapes.lists key.shapes) c.args.self.now.collector.seat.me.0 c.args.run
-    c.requires.still c.requires.some)
+    c.requires.still c.requires.some c.requires.periods)
 
 pub hand_out-requires-clause-rounds : goal.hand_out-requires-clause-rounds
 hand_out-requires-clause-rounds g c = λ place below isnt.

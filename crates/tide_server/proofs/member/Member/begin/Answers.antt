@@ -5,7 +5,7 @@ use Rattle.tide_mutator.specs.calls.Viewed.{view_of}
 use Rattle.tide_mutator.specs.owed.Standing.{claims_of}
 use Rattle.tide_posts.proofs.tide_heap.Newcomers.{begun_view-first}
 use Rattle.tide_posts.specs.tide_heap.tide_core.declared.machine.view.View.{View}
-use Rattle.tide_server.proofs.Working.{IsAtWork-begun, at_rest}
+use Rattle.tide_server.proofs.Working.{IsAtWork-begun, at_rest, opens_later}
 use Rattle.tide_server.specs.AtWork.{IsAtWork}
 use Rattle.tide_server.proofs.member.Member.begin.Goals as goal
 
@@ -77,3 +77,11 @@ returns-clause-same g c =
     let begun = parked.begun in
     let first = c.begin.ensures.begun ∙ begun_view-first v c.args.ticket.seat.me.0 (omega (arith, begun, later)) in
     ap (λ (x : View). record { who = x.who; mine = x.mine; claims = claims_of x; has_left = x.left; retry = m.retry }) first
+
+pub returns-clause-later : goal.returns-clause-later
+returns-clause-later g c =
+    let m = c.args.self.now in
+    let v = view_of m.mutator in
+    opens_later c.args.standing.now.heap.key.layout v c.args.ticket.seat.me.0 (view_of c.begin.new.self).seen
+    (at_rest m.works v m.left m.ended c.requires.of.stands c.requires.parked) c.requires.later c.requires.ticket.tells
+    c.begin.ensures.earlier c.begin.ensures.told

@@ -14,6 +14,7 @@ loop-init g c = record {
   parked = c.requires.parked;
   same = refl;
   seen = prefix_refl (view_of c.args.self.now.mutator).seen;
+  still = refl;
   given = refl;
   taken = refl;
 }

@@ -11,6 +11,7 @@ invariant-loop g l = record {
   parked : l.self.works ≡ false;
   same : caller_of l.self ≡ caller_of l.initial.self;
   seen : IsPrefix (view_of l.initial.self.mutator).seen (view_of l.self.mutator).seen;
+  still : (view_of l.self.mutator).seen ≡ (view_of l.initial.self.mutator).seen;
   given : l.self.seat.seat.me.0.given ≡ l.initial.self.seat.seat.me.0.given;
   taken : l.self.seat.seat.me.0.taken ≡ l.initial.self.seat.seat.me.0.taken;
 }

@@ -1,7 +1,9 @@
 -- A call that may wait stands after what its caller had seen.
-use Rattle.std.proofs.Common.{◌∙◌, ap, sym, subst, ℕ}
+use Rattle.std.proofs.Common.{◌∙◌, ap, arith, sym, subst, ℕ}
+use Rattle.tide_model.proofs.PeriodLaws.{open_count-prefix}
 use Rattle.tide_model.specs.Caller.{MakesCall}
 use Rattle.tide_mutator.specs.calls.Viewed.{view_of}
+use Rattle.tide_posts.proofs.FullCycles.{OpensLater-more, later_number}
 use Rattle.tide_server.proofs.Working.{MakesCall-later, owns}
 use Rattle.tide_server.specs.Members.{Calling}
 use Rattle.tide_server.proofs.member.Member.call.Goals as goal
@@ -31,3 +33,17 @@ returns-clause-makes g c =
 
 pub returns-clause-claims : goal.returns-clause-claims
 returns-clause-claims g c isnt = c.make.ensures.claims isnt ∙ ap (λ (k : Calling). k.claims) c.come_to_work.ensures.same
+
+pub returns-clause-periods : goal.returns-clause-periods
+returns-clause-periods g c begins =
+    let mid = view_of c.come_to_work.new.self.mutator in
+    OpensLater-more c.args.standing.now.heap.key.layout (view_of c.args.self.now.mutator).seen mid.seen
+    (c.come_to_work.ensures.later begins) (view_of c.make.new.self.mutator).seen c.make.ensures.makes.seen
+
+pub returns-clause-later : goal.returns-clause-later
+returns-clause-later g c begins =
+    let mid = view_of c.come_to_work.new.self.mutator in
+    let later = later_number c.args.standing.now.heap.key.layout (view_of c.args.self.now.mutator).seen mid.seen
+    (c.come_to_work.ensures.later begins) in
+    let more = open_count-prefix mid.seen (view_of c.make.new.self.mutator).seen c.make.ensures.makes.seen in
+    omega (arith, later, more)

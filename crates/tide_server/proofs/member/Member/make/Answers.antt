@@ -1,6 +1,6 @@
 -- A member that is at work makes one more call.
 use Rattle.std.proofs.Common.{ℕ, ◌≡◌, ◌-◌, ◌<◌, ◌∙◌, ap, arith, sym, subst, Bool, ◌||◌, List, [], ◌∷◌, ◌++◌}
-use Rattle.std.specs.Prelude.{is_some, MatchBool, Option}
+use Rattle.std.specs.Prelude.{is_some, ◌==◌, MatchBool, Option}
 use Rattle.tide_model.proofs.OwnCalls.{called, retry_of-push}
 use Rattle.tide_model.specs.Script.{retry_after, retry_of}
 use Rattle.tide_model.specs.Share.{ends_share, is_asked}
@@ -9,7 +9,8 @@ use Rattle.tide_model.specs.declared.op.Op.{Op}
 use Rattle.tide_model.specs.declared.op.Reply.{Reply}
 use Rattle.tide_mutator.specs.calls.Viewed.{view_of}
 use Rattle.tide_mutator.specs.owed.Calling.{Kept}
-use Rattle.tide_server.proofs.Working.{IsAtWork-called, at_work}
+use Rattle.tide_posts.specs.tide_heap.tide_core.declared.machine.view.View.{View}
+use Rattle.tide_server.proofs.Working.{IsAtWork-called, at_work, over_where_ended}
 use Rattle.tide_server.specs.AtWork.{IsAtWork, IsParked}
 use Rattle.tide_server.proofs.member.Member.make.Goals as goal
 
@@ -34,6 +35,15 @@ ended_is : (pending held after : Option Op) (ended : Bool) (op : Op) (reply : Re
 ended_is pending held after ended op reply same is ends = ends
     ∙ ap (λ (o : Option Op). is_asked reply || is_some o) (is ∙ ap (λ (o : Option Op). retry_after o (op, reply)) same)
 
+-- what is to be tried again after it
+retry_now : (v w : View) (held : Option Op) (op : Op) (reply : Reply) (took : Option ℕ) → held ≡ retry_of v.who v.mine →
+    w.who ≡ v.who → w.mine ≡ v.mine ++ called v.who op reply took ∷ [] →
+    retry_after held (op, reply) ≡ retry_of w.who w.mine
+retry_now v w held op reply took same who adds = ap (λ (o : Option Op). retry_after o (op, reply)) same
+    ∙ sym (ap (λ (h : List Event). retry_of w.who h) adds
+    ∙ ap (λ (n : ℕ). retry_of n (v.mine ++ called v.who op reply took ∷ [])) who
+    ∙ retry_of-push v.who v.mine op reply took)
+
 pub invariant_of-self : goal.invariant_of-self
 invariant_of-self g c =
     let m = c.args.self.now in
@@ -49,10 +59,8 @@ invariant_of-self g c =
       its = who ∙ m.its;
       before = (let period = ap (λ (k : Kept). k.period) told.kept in let before = m.before in omega (arith, period, before));
       numbered = λ _. ap (λ (k : Kept). k.ticket) told.kept ∙ m.numbered c.requires.works;
-      retry_is = c.retry_after-self.ensures ∙ ap (λ (o : Option Op). retry_after o (op, reply)) m.retry_is
-          ∙ sym (ap (λ (h : List Event). retry_of w.who h) told.makes.adds
-          ∙ ap (λ (n : ℕ). retry_of n (v.mine ++ called v.who op reply told.makes.took ∷ [])) who
-          ∙ retry_of-push v.who v.mine op reply told.makes.took);
+      retry_is = c.retry_after-self.ensures
+          ∙ retry_now v w m.retry op reply told.makes.took m.retry_is who told.makes.adds;
       owes = λ _. m.owes c.requires.works;
     }
 
@@ -81,3 +89,15 @@ returns-clause-of g c =
           v w m.left (m.left - 1) op reply (subst (IsAtWork v m.left) c.requires.may.1 works) (omega (arith, left))
           c.requires.retries told.kept told.births told.makes));
     }
+
+pub returns-clause-over : goal.returns-clause-over
+returns-clause-over g c stops =
+    let m = c.args.self.now in
+    let v = view_of m.mutator in
+    let w = view_of c.call-reply.new.self in
+    let reply = c.call-reply.result in
+    let told = c.call-reply.ensures in
+    let retry = c.retry_after-self.ensures ∙ retry_now v w m.retry c.args.op reply told.makes.took m.retry_is
+    (ap (λ (k : Kept). k.who) told.kept) told.makes.adds in
+    over_where_ended m.works (m.left - 1 == 0) c.ends-self.result c.requires.works
+    (c.ends-self.ensures ∙ ap (λ (o : Option Op). is_asked reply || is_some o) retry ∙ stops)
