@@ -287,6 +287,7 @@ def paths_differ():
     """The links of all pages, the files that they name by a crate's folder, and the crates that they name."""
     folders = [TOP / "crates", *(TOP / "crates").iterdir()]
     known = {folder.name for folder in folders}
+    known |= set(re.findall(r"\btide_\w+", (TOP / "crates" / "tide_c" / "tide.h").read_text()))
     pages = [TOP / "README.md", *(TOP / "docs").glob("*.md"), *(TOP / "crates").glob("*/README.md")]
     for page in sorted(pages):
         text = page.read_text()

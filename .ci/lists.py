@@ -38,7 +38,7 @@ from pathlib import Path
 
 TOP = Path(__file__).resolve().parent.parent
 TOP_CRATE, TOP_CALL, PROGRAM = "tide_run", "riptide", "riptide"
-MOST_WAYS, MOST_WAYS_OF_PROGRAM = 26_000, 1_500
+MOST_WAYS, MOST_WAYS_OF_PROGRAM = 28_600, 1_500
 NAME = re.compile(r"[^\W\d][\w'-]*|◌\S+◌")
 USE = re.compile(r"^(?:unfoldable )?(pub )?use (Rattle\.[\w.]+?)\.?\{([^}]*)\}", re.M)
 GHOST_USE = re.compile(r"ghost use (Rattle\.[\w.]+?)\.?\{([^}]*)\}")

@@ -1,0 +1,14 @@
+-- The party that was behind the handle has done it, and is behind it again.
+use Rattle.std.proofs.Common.{◌∙◌, ap, sym}
+use Rattle.std.specs.Prelude.{Some}
+use Rattle.tide_c.proofs.Exported.{through}
+use Rattle.tide_c.specs.Calls.{HasAnswered}
+use Rattle.tide_c.specs.Statuses.{AsMember}
+use Rattle.tide_c.specs.declared.party.Party.{Party}
+use Rattle.tide_c.proofs.exports.tide_call.Goals as goal
+
+pub returns-clause-called : goal.returns-clause-called
+returns-clause-called c =
+    through (AsMember (HasAnswered c.args.operation.now c.args.answer.now c.call-status.new.answer)) c.args.member.now.value c.put.new.handle.value c.code-2.result c.deref_mut.result.now
+    c.call-status.new.self c.call-status.result (c.in-Some.ensures.value ∙ ap (λ (p : Party). Some p) (sym c.deref_mut.ensures.value))
+    c.put.ensures c.code-2.ensures c.call-status.ensures.called

@@ -1,0 +1,9 @@
+-- Who came so far is in a box.
+use Rattle.std.specs.Arc.{arc_value}
+use Rattle.std.specs.List.{AllZip}
+use Rattle.tide_c.specs.Opened.{HasPlace, parties_in}
+use Rattle.tide_c.proofs.opening.box_helpers.Given as goal
+
+abbrev pub invariant-loop-helper : goal.invariant-loop-helper
+invariant-loop-helper l = AllZip (HasPlace (arc_value l.shared).heap.key.layout (arc_value l.shared).heap.table.shared.table_id
+    (arc_value l.shared).hands.shared.table_id) l.yielded (parties_in l.boxes.items)
