@@ -2,4 +2,5 @@
 pub mod Few
 pub mod Rows
 pub mod Statistics
+pub mod Sums
 pub mod Told

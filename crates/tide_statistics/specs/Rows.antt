@@ -8,6 +8,7 @@ use Rattle.tide_model.specs.declared.entry.Event.{Event}
 use Rattle.tide_model.specs.History.{plain}
 use Rattle.tide_statistics.specs.declared.log.CycleStatistics.{CycleStatistics}
 use Rattle.tide_statistics.specs.Statistics.{statistics_in}
+use Rattle.tide_statistics.specs.Sums.{HasSummed}
 use Rattle.tide_statistics.specs.Told.{TellsFreeze}
 
 -- An Eden cycle begins behind part 1, once two cells were born, and ends behind part 2, in which one was. Another cell
@@ -30,10 +31,28 @@ its_cycles =
 pub statistics_of_eden_then_full : statistics_in eden_then_full ≡ its_cycles
 statistics_of_eden_then_full = refl
 
--- nothing is told of a cycle that hasn't ended
-pub statistics_of_one_that_marks :
-    statistics_in (plain (Open 1 4) ∷ plain (Call 0 (Alloc 0 0) (Born 0)) ∷ plain (Begin 1 false) ∷ plain (Pause 1) ∷ []) ≡ []
+-- what is summed up over it
+pub sums_of_eden_then_full : HasSummed eden_then_full
+    (record { full_cycles = 1; eden_cycles = 1; paused = 3; visited = 1; born = 4; begun = 2; is_full = true })
+sums_of_eden_then_full = record { full_cycles = refl; eden_cycles = refl; paused = refl; visited = refl; born = refl; begun = refl; is_full = refl }
+
+-- a cycle that hasn't ended
+abbrev pub one_that_marks : List Event
+one_that_marks = plain (Open 1 4) ∷ plain (Call 0 (Alloc 0 0) (Born 0)) ∷ plain (Begin 1 false) ∷ plain (Pause 1) ∷ []
+
+-- nothing is told of it
+pub statistics_of_one_that_marks : statistics_in one_that_marks ≡ []
 statistics_of_one_that_marks = refl
+
+-- and it isn't summed up as one that ended, but its pause and the birth before it are
+pub sums_of_one_that_marks : HasSummed one_that_marks
+    (record { full_cycles = 0; eden_cycles = 0; paused = 1; visited = 0; born = 1; begun = 1; is_full = false })
+sums_of_one_that_marks = record { full_cycles = refl; eden_cycles = refl; paused = refl; visited = refl; born = refl; begun = refl; is_full = refl }
+
+-- its Eden cycle is not summed up as a full one
+pub eden_is_not_full : HasSummed eden_then_full
+    (record { full_cycles = 2; eden_cycles = 0; paused = 3; visited = 1; born = 4; begun = 2; is_full = true }) → ⊥
+eden_is_not_full has = let clash : 2 ≡ 1 = has.full_cycles in omega (arith, clash)
 
 -- a history up to the freeze behind its second part, and that freeze, in which a cycle ends
 abbrev pub before_the_freeze : List Event

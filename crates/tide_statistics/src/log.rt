@@ -107,11 +107,11 @@ impl CycleLog {
     }
 
     /// A visitor told that it made so many cells black for the cycle that began last.
-    pub fn visit(&mut self, visits: u32)
+    pub fn visit(&mut self, visits: u64)
         requires few { self.old.visited + visits < 2 ^ 64 }
         ensures { self.new ≡ record self.old { visited = self.old.visited + visits } }
     {
-        self.visited += u64::from(visits);
+        self.visited += visits;
     }
 
     /// The cycle that began last ended, once so many cells were born in it.

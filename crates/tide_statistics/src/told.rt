@@ -79,7 +79,7 @@ fn since_end_after(told: Option<PauseTold>, since_end: u32) -> u32
 /// cells were born since the last end, and since the cycle that marks began.
 pub fn tell_freeze(
     log: &mut CycleLog,
-    visited: u32,
+    visited: u64,
     told: FreezeTold,
     since_end: u32,
     in_cycle: u32,

@@ -16,11 +16,11 @@ use Rattle.tide_heap.specs.tide_words.heap.Heap.{heap_of}
 use Rattle.tide_heap.specs.tide_words.marking.Colours.{is_marking}
 
 -- what the numbers told come to
-length-visits_told : (visited : List NotedVisits) (from count : ℕ) → length (visits_told visited from count) ≡ count
+pub length-visits_told : (visited : List NotedVisits) (from count : ℕ) → length (visits_told visited from count) ≡ count
 length-visits_told visited from zero = refl
 length-visits_told visited from (suc count) = ap suc (length-visits_told visited (from + 1) count)
 
-sum-visits_told : (visited : List NotedVisits) (from count : ℕ) → sum (visits_told visited from count) ≡ visits_left visited from count
+pub sum-visits_told : (visited : List NotedVisits) (from count : ℕ) → sum (visits_told visited from count) ≡ visits_left visited from count
 sum-visits_told visited from zero = refl
 sum-visits_told visited from (suc count) =
     sum_by-cons (λ (k : ℕ). k) (visits_in (told_by (first_visitor + from) visited)) (visits_told visited (from + 1) count)

@@ -1,6 +1,6 @@
 //! What the collector tells of a heap that stands still: whether a cycle marks, how many cells visitors told to have made
 //! black in the part, and how many the last two pauses. It marks nothing and enters nothing but pauses.
-ghost use Rattle.std.specs.Prelude.{◌≡◌, ◌≤◌, ◌^◌, true};
+ghost use Rattle.std.specs.Prelude.{◌≡◌, true};
 ghost use Rattle.tide_heap.specs.Turns.{entered_with};
 ghost use Rattle.tide_model.specs.Freeze.{marks_after};
 ghost use Rattle.tide_model.specs.History.{plain};
@@ -49,15 +49,14 @@ impl Collector {
     }
 
     /// How many cells all visitors together told to have made black in a part of a cycle, before that is entered.
-    pub fn visits_told<S: HeapShapes>(&self, heap: &Heap<S>) -> u32
+    pub fn visits_told<S: HeapShapes>(&self, heap: &Heap<S>) -> u64
         requires told { AreTold heap.now.key.layout self.now.seat.me.0.run self.now.seat.me.0.visited }
-        requires few { self.now.seat.me.0.run ≤ 2 ^ 16 }
         ensures { result ≡ unentered self.now.seat.me.0.visited }
     {
         let visitors = usize::from(heap.layout().visitors());
         let mut visits = 0;
         for visitor in 0..visitors {
-            visits += self.visits[visitor];
+            visits += u64::from(self.visits[visitor]);
         }
         visits
     }

@@ -1,6 +1,5 @@
 -- Lemmas of this crate.
 pub mod Acting
-pub mod Counting
 pub mod Ending
 pub mod Freezes
 pub mod Fresh

@@ -2,18 +2,39 @@
 use Rattle.std.proofs.Common.{ℕ, ◌≡◌, ◌+◌, ◌∙◌, sym, ap, subst, true, List, [], ◌∷◌, ◌++◌}
 use Rattle.std.specs.Prelude.{if◌then◌else◌}
 use Rattle.tide_heap.specs.Turns.{Freezes, open_entry, opened}
+use Rattle.tide_heap.specs.tide_freeze.Books.{AreBooks}
 use Rattle.tide_heap.specs.tide_core.declared.machine.view.View.{View}
 use Rattle.tide_model.specs.Layout.{Layout}
 use Rattle.tide_model.specs.Each.{Each}
 use Rattle.tide_model.specs.Periods.{EndsInTime, open_count}
 use Rattle.tide_model.specs.Refused.{ShapeLists}
 use Rattle.tide_model.specs.declared.entry.Event.{Event}
+use Rattle.tide_report.specs.Ends.{TellsEnds}
 use Rattle.tide_sched.specs.Paces.{last_run}
+use Rattle.tide_shape.specs.Lists.{lists_of}
 use Rattle.tide_table.proofs.Nexts.{RunsPart-opened}
 use Rattle.tide_table.proofs.Telling.{MayEnterVisits-froze}
 use Rattle.tide_table.specs.Standing.{MayEnterVisits, RunsPart, StandsStill}
 use Rattle.tide_table.specs.VisitsTold.{CountsTold, HaveTold, most_visits}
+use Rattle.tide_table.specs.declared.collector.Collector.{Collector}
 use Rattle.tide_threads.proofs.Taking.{TookNotes}
+use Rattle.tide_threads.specs.OnThreads.{Stands}
+use Rattle.tide_threads.specs.Playing.{AllStandBy}
+use Rattle.tide_threads.specs.declared.on_threads.OnThreads.{OnThreads}
+
+-- what the collector reads leaves all as it was
+pub Stands-read : (o : OnThreads) (collector : Collector) → collector.seat.table_id ≡ o.collector.seat.table_id →
+    collector.seat.me.0 ≡ o.collector.seat.me.0 → Stands o → Stands (record o { collector = collector })
+Stands-read o collector own same stands =
+    let layout = o.heap.key.layout in
+    let seen = sym same in record {
+      of_heap = own ∙ stands.of_heap;
+      still = subst (StandsStill layout (lists_of o.heap.key.shapes)) seen stands.still;
+      books = subst (λ (v : View). AreBooks layout v.seen o.books) seen stands.books;
+      told = subst (λ (v : View). TellsEnds layout v.seen o.books.report) seen stands.told;
+      all = subst (λ (v : View). AllStandBy o.heap.table.shared.table_id layout v o.participants.items) seen stands.all;
+      no_calls = stands.no_calls;
+    }
 
 -- a part runs once it was opened, and while its notes are taken in
 pub RunsPart-taken : (layout : Layout) (shapes : ShapeLists) (v0 v1 v2 : View) (run : ℕ) → StandsStill layout shapes v0 →

@@ -1,8 +1,7 @@
 -- The definitions of this crate, and those of the log of cycles, which this one hands on.
-pub use Rattle.tide_statistics.specs as tide_statistics
+pub use Rattle.tide_table.specs.tide_statistics
 pub mod Acting
 pub mod Fresh
-pub mod Logging
 pub mod Marking
 pub mod OnThreads
 pub mod Parked

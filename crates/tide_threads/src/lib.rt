@@ -5,10 +5,9 @@
 //! share of calls or of visits, and stops; the collector opens the part and hands tickets out before, and takes notes
 //! in and freezes after, and the log of cycles is told of each freeze. `OnThreads` is a heap with its participants,
 //! which `run_on_threads` runs until all mutators have retired; `run_with_snapshot` takes a snapshot of it then.
-//! `tide_run` runs workloads by these. It may touch the heap with its collector, mutators and visitors, snapshots of it,
-//! shapes, the schedule, the report, the log of cycles (`tide_statistics`), which it hands on, the cursors and laws of
-//! `tide_periods`, and threads. What a call does, and what a visit or a freeze marks, is decided there. It knows no
-//! text and no option.
+//! `tide_run` runs workloads by these. It may touch the heap with its collector, mutators and visitors, snapshots of
+//! it, shapes, the schedule, the report, the log of cycles, which it hands on, the cursors and laws of `tide_periods`,
+//! and threads. What a call does, and what a visit or a freeze marks, is decided there. It knows no text and no option.
 #![tactic(auto)]
 
 mod contents;
@@ -38,5 +37,5 @@ mod with_snapshot;
 pub use on_threads::OnThreads;
 pub use participant::Participant;
 pub use periods::{HeapRun, run_on_threads};
-pub use tide_statistics::{CycleLog, CycleStatistics};
+pub use tide_table::{CycleLog, CycleStatistics};
 pub use with_snapshot::run_with_snapshot;

@@ -24,7 +24,7 @@ ghost use Rattle.tide_threads.specs.OnThreads.{cursors_on, pace_on, recorded_in,
 ghost use Rattle.tide_threads.specs.OnThreads.{MayEnterOn, MayOpenOn, Stands};
 ghost use Rattle.tide_threads.specs.declared.participant.Participant.{Participant};
 
-use crate::contents::{count_live, snapshot_of};
+use crate::contents::snapshot_of;
 use crate::part::run_whole_part;
 use crate::participant::Participant;
 use crate::worker::Worker;
@@ -39,7 +39,7 @@ use tide_report::Report;
 use tide_sched::Pacing;
 use tide_shape::Shapes;
 use tide_snapshot::Snapshot;
-use tide_table::{Closed, Collector, Heap, Pass, Start};
+use tide_table::{Closed, Collector, Heap, Pass, Start, count_live};
 
 /// A heap on which mutators and visitors act on threads: the collector, a participant for each of them, and the books
 /// of its freezes.
@@ -318,7 +318,7 @@ impl OnThreads {
         ensures cursors { cursors_on self.new ≡ cursors_on self.old }
         ensures stands { Stands self.new }
     {
-        count_live(&self.heap, &mut self.collector)
+        count_live(&mut self.collector, &self.heap)
     }
 
     /// A snapshot of what the heap holds.

@@ -10,8 +10,8 @@ ghost use Rattle.tide_periods.specs.Periods.{RanAll, RanPeriod};
 ghost use Rattle.tide_periods.specs.Recorded.{IsSettled};
 ghost use Rattle.tide_periods.specs.Run.{HasRun};
 ghost use Rattle.tide_report.specs.Ends.{TellsEnds};
-ghost use Rattle.tide_statistics.specs.Few.{AreFew};
-ghost use Rattle.tide_statistics.specs.Statistics.{HasLogged, nothing, statistics_in};
+ghost use Rattle.tide_table.specs.tide_statistics.Few.{AreFew};
+ghost use Rattle.tide_table.specs.tide_statistics.Statistics.{HasLogged, nothing, statistics_in};
 ghost use Rattle.tide_threads.specs.OnThreads.{cursors_on, pace_on, recorded_in, setting_in, setting_left};
 ghost use Rattle.tide_threads.specs.OnThreads.{MayOpenOn, Stands};
 
@@ -22,8 +22,7 @@ use std::thread::Threads;
 use tide_model::{Memory, Turnstile};
 use tide_periods::Finished;
 use tide_shape::Shapes;
-use tide_statistics::CycleLog;
-use tide_table::Closed;
+use tide_table::{Closed, CycleLog};
 
 /// Opens a part in which each mutator has so many calls, runs it, and freezes. Answers how many it has in the next one.
 fn run_period<R: Threads + Sync, T: Turnstile>(

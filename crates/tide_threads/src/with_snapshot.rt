@@ -7,7 +7,7 @@ ghost use Rattle.tide_periods.specs.Run.{HasRun};
 ghost use Rattle.tide_retained.specs.Contents.{HasKeysOf};
 ghost use Rattle.tide_retained.specs.Holding.{IsSnapshotOf};
 ghost use Rattle.tide_shape.specs.Lists.{lists_of};
-ghost use Rattle.tide_statistics.specs.Statistics.{statistics_in};
+ghost use Rattle.tide_table.specs.tide_statistics.Statistics.{statistics_in};
 ghost use Rattle.tide_threads.specs.OnThreads.{cursors_on, pace_on, recorded_in, setting_in, setting_left};
 ghost use Rattle.tide_threads.specs.OnThreads.{MayOpenOn, Stands};
 
@@ -18,7 +18,7 @@ use std::marker::Sync;
 use std::thread::Threads;
 use tide_model::{Memory, Turnstile};
 use tide_snapshot::Snapshot;
-use tide_statistics::CycleLog;
+use tide_table::CycleLog;
 
 /// Runs the scripts of a heap's mutators as `run_on_threads` does, and takes a snapshot of what the heap holds at the
 /// end.

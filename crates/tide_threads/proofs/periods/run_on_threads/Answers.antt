@@ -9,7 +9,7 @@ use Rattle.tide_periods.specs.Asking.{scripts_of}
 use Rattle.tide_periods.specs.Recorded.{Recorded}
 use Rattle.tide_periods.specs.Store.{Setting}
 use Rattle.tide_report.specs.Ends.{TellsEnds}
-use Rattle.tide_statistics.specs.Statistics.{Logged, statistics_in}
+use Rattle.tide_table.specs.tide_statistics.Statistics.{Logged, statistics_in}
 use Rattle.tide_threads.specs.OnThreads.{cursors_on, pace_on, recorded_in, setting_in}
 use Rattle.tide_threads.proofs.Fresh.{IsSettled-fresh}
 use Rattle.tide_threads.proofs.periods.run_on_threads.Goals as goal

@@ -11,9 +11,9 @@ use Rattle.tide_periods.specs.Part.{AreCursors}
 use Rattle.tide_periods.specs.Periods.{RanFreeze}
 use Rattle.tide_sched.specs.Paces.{pace_of}
 use Rattle.tide_sched.specs.declared.pacing.Pacing.{Pacing}
-use Rattle.tide_statistics.proofs.FewLaws.{AreFew-opened}
-use Rattle.tide_statistics.specs.Few.{AreFewIn}
-use Rattle.tide_statistics.specs.Statistics.{HasLogged}
+use Rattle.tide_table.proofs.tide_statistics.FewLaws.{AreFew-opened}
+use Rattle.tide_table.specs.tide_statistics.Few.{AreFewIn}
+use Rattle.tide_table.specs.tide_statistics.Statistics.{HasLogged}
 use Rattle.tide_threads.proofs.Logs.{HasLogged-parted, last_run-parted, next_run-most}
 use Rattle.tide_threads.specs.OnThreads.{cursors_on, pace_on, recorded_in}
 use Rattle.tide_threads.proofs.periods.run_period.Goals as goal

@@ -7,10 +7,10 @@ use Rattle.tide_periods.specs.Periods.{RanPeriod}
 use Rattle.tide_model.specs.declared.entry.Event.{Event}
 use Rattle.tide_sched.specs.Paces.{pace_of}
 use Rattle.tide_sched.specs.declared.pacing.Pacing.{Pacing}
-use Rattle.tide_statistics.proofs.FewLaws.{AreFew-nothing}
-use Rattle.tide_statistics.proofs.LogLaws.{HasLogged-nothing}
-use Rattle.tide_statistics.specs.Few.{AreFew}
-use Rattle.tide_statistics.specs.Statistics.{HasLogged, nothing}
+use Rattle.tide_table.proofs.tide_statistics.FewLaws.{AreFew-nothing}
+use Rattle.tide_table.proofs.tide_statistics.LogLaws.{HasLogged-nothing}
+use Rattle.tide_table.specs.tide_statistics.Few.{AreFew}
+use Rattle.tide_table.specs.tide_statistics.Statistics.{HasLogged, nothing}
 use Rattle.tide_threads.specs.OnThreads.{cursors_on, pace_on, recorded_in, setting_in}
 use Rattle.tide_threads.proofs.periods.run_periods.Goals as goal
 

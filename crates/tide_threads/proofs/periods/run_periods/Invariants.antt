@@ -5,8 +5,8 @@ use Rattle.tide_periods.specs.Asking.{scripts_of}
 use Rattle.tide_periods.specs.Left.{total_left}
 use Rattle.tide_periods.specs.Part.{AreCursors}
 use Rattle.tide_periods.specs.Recorded.{IsSettled}
-use Rattle.tide_statistics.specs.Few.{AreFew}
-use Rattle.tide_statistics.specs.Statistics.{HasLogged}
+use Rattle.tide_table.specs.tide_statistics.Few.{AreFew}
+use Rattle.tide_table.specs.tide_statistics.Statistics.{HasLogged}
 use Rattle.tide_threads.specs.OnThreads.{MayOpenOn, Stands, cursors_on, pace_on, recorded_in, setting_in}
 use Rattle.tide_threads.proofs.periods.run_periods.Given as goal
 

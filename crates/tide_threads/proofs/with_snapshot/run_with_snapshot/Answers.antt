@@ -13,7 +13,7 @@ use Rattle.tide_report.specs.Ends.{TellsEnds}
 use Rattle.tide_model.specs.History.{state_after}
 use Rattle.tide_retained.specs.Contents.{HasKeysOf}
 use Rattle.tide_retained.specs.Holding.{IsSnapshotOf}
-use Rattle.tide_statistics.specs.Statistics.{Logged, statistics_in}
+use Rattle.tide_table.specs.tide_statistics.Statistics.{Logged, statistics_in}
 use Rattle.tide_threads.specs.OnThreads.{cursors_on, pace_on, recorded_in, setting_in}
 use Rattle.tide_threads.proofs.Fresh.{IsSettled-fresh}
 use Rattle.tide_threads.proofs.with_snapshot.run_with_snapshot.Goals as goal

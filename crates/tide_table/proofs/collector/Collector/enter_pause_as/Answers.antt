@@ -1,6 +1,6 @@
 -- Why a pause keeps the rule, and the numbers of the last two.
 use Rattle.std.proofs.Common.{subst, ap, ◌∙◌, sym, refl}
-use Rattle.std.specs.Prelude.{ℕ, ◌≡◌, false}
+use Rattle.std.specs.Prelude.{◌≡◌, false}
 use Rattle.std.specs.Prelude.{◌%◌, ◌^◌}
 use Rattle.tide_model.specs.History.{is_call_of, is_open}
 use Rattle.tide_model.specs.Lawful.{Stands}

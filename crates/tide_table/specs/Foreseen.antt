@@ -1,8 +1,8 @@
 -- What a freeze did, worked out from what is known before and after it.
-use Rattle.std.specs.Prelude.{ℕ, ◌≡◌, ◌<◌, ◌+◌, ◌^◌, ◌&&◌, ◌||◌, Bool, true, false, not, List, [], sum, Option, None, Some, if◌then◌else◌}
+use Rattle.std.specs.Prelude.{ℕ, ◌≡◌, ◌+◌, ◌&&◌, ◌||◌, Bool, true, not, List, [], sum, Option, None, Some, if◌then◌else◌}
+use Rattle.tide_heap.specs.tide_core.declared.machine.view.View.{View}
 use Rattle.tide_model.specs.Cycle.{begin_count}
 use Rattle.tide_model.specs.Freeze.{begins_full, marks_after}
-use Rattle.tide_model.specs.History.{is_begin}
 use Rattle.tide_model.specs.Layout.{Layout}
 use Rattle.tide_model.specs.Pace.{Pace, is_triggered}
 use Rattle.tide_model.specs.Since.{born_since, is_end}
@@ -10,9 +10,7 @@ use Rattle.tide_model.specs.declared.entry.Event.{Event}
 use Rattle.tide_statistics.specs.declared.told.FreezeTold.{FreezeTold}
 use Rattle.tide_statistics.specs.declared.told.PauseTold.{PauseTold}
 use Rattle.tide_table.specs.VisitsTold.{visits_told}
-use Rattle.tide_threads.specs.OnThreads.{pace_on, recorded_in, setting_in}
-use Rattle.tide_threads.specs.declared.logging.Foreseen.{Foreseen}
-use Rattle.tide_threads.specs.declared.on_threads.OnThreads.{OnThreads}
+use Rattle.tide_table.specs.declared.foreseeing.Foreseen.{Foreseen}
 
 -- how the cycle that marked went on, if one did
 abbrev pub on_of : Bool → PauseTold → Option PauseTold
@@ -39,28 +37,12 @@ abbrev pub began_in : Pace → Layout → List Event → Bool → Option Bool
 began_in pace layout here is_forced =
     begun_of is_forced (marks_after layout here) (is_triggered pace.trigger (born_since is_end here)) (begin_count here + 1)
 
--- whether a cycle marks
-abbrev pub marks_on : OnThreads → Bool
-marks_on o = marks_after (setting_in o).layout (recorded_in o).history
-
--- the cycle that begins in the freeze that follows, if one does
-abbrev pub began_on : OnThreads → Bool → Option Bool
-began_on o is_forced = began_in (pace_on o) (setting_in o).layout (recorded_in o).history is_forced
-
--- how many cells each visitor made black in a part, if a cycle marks
-abbrev pub visits_noted : OnThreads → List ℕ
-visits_noted o =
-    if marks_on o then visits_told o.collector.seat.me.0.visited 0 (setting_in o).layout.visitors else []
-
--- how many that are together
-abbrev pub visits_on : OnThreads → ℕ
-visits_on o = sum (visits_noted o)
+-- how many cells each visitor's note told, if a cycle marks
+abbrev pub visits_noted : Layout → View → List ℕ
+visits_noted layout v = if marks_after layout v.seen then visits_told v.visited 0 layout.visitors else []
 
 -- this is what is known of a freeze before it
-pub record HasForeseen (o : OnThreads) (is_forced : Bool) (foreseen : Foreseen) : Type 0 where
-  pub marked : foreseen.marked ≡ marks_on o
-  pub visited : foreseen.visited ≡ visits_on o
-  pub few : foreseen.visited < 2 ^ 32
-  pub since_end : foreseen.since_end ≡ born_since is_end (recorded_in o).history
-  pub in_cycle : foreseen.in_cycle ≡ born_since is_begin (recorded_in o).history
-  pub begun : foreseen.begun ≡ began_on o is_forced
+pub record HasForeseen (pace : Pace) (layout : Layout) (v : View) (is_forced : Bool) (foreseen : Foreseen) : Type 0 where
+  pub marked : foreseen.marked ≡ marks_after layout v.seen
+  pub visited : foreseen.visited ≡ sum (visits_noted layout v)
+  pub begun : foreseen.begun ≡ began_in pace layout v.seen is_forced
